@@ -1,0 +1,23 @@
+//! The values of Bildschirmtext, CEPT profile 1: positions, glyphs, attributes, cells, looks, commands,
+//! items and strokes, with their ranges and their equality. It knows no byte stream, no state and no screen.
+#![tactic(auto)]
+
+mod attribute;
+mod cell;
+mod command;
+mod glyph;
+mod item;
+mod look;
+mod memory;
+mod position;
+mod stroke;
+
+pub use attribute::{Attr, Class, Flash, Full, Pen, Size};
+pub use cell::{Cell, Marker, RowCells, What};
+pub use command::{C1Set, Command, Form, Up};
+pub use glyph::{Glyph, SetId};
+pub use item::{Item, Reason, Said};
+pub use look::{Inks, Look, Paint, Part, Pattern, Rgb, Shape};
+pub use memory::NoMemory;
+pub use position::Pos;
+pub use stroke::Stroke;
