@@ -1,0 +1,26 @@
+-- Valid signs (ISO 2022 code positions 2/0 to 7/15, ISO 6937 accents; that the space is one sign and that set S has no
+-- accents of its own is this profile's own).
+use Rattle.std.specs.Prelude.{ℕ, ◌≡◌, ◌≤◌, ◌<◌, ◌⊎◌}
+use Rattle.cept_codes.specs.declared.glyph.SetId.{SetId}
+use Rattle.cept_codes.specs.declared.glyph.SetId.TheVariants.{P, S, M, N, D}
+use Rattle.cept_codes.specs.declared.glyph.Glyph.{Glyph}
+
+-- no accent, or an accent of set S on a sign of set P
+abbrev pub IsValidAccent : SetId → ℕ → Type 0
+IsValidAccent P accent = (accent ≡ 0) ⊎ ((0x40 ≤ accent) × (accent ≤ 0x4F))
+IsValidAccent S accent = accent ≡ 0
+IsValidAccent M accent = accent ≡ 0
+IsValidAccent N accent = accent ≡ 0
+IsValidAccent D accent = accent ≡ 0
+
+-- the codes of a set: the space is of set P, and the accents of set S are no signs
+abbrev pub IsCodeOf : SetId → ℕ → Type 0
+IsCodeOf P code = (0x20 ≤ code) × (code ≤ 0x7F)
+IsCodeOf S code = (0x21 ≤ code) × (code ≤ 0x7F) × ((code < 0x40) ⊎ (0x4F < code))
+IsCodeOf M code = (0x21 ≤ code) × (code ≤ 0x7F)
+IsCodeOf N code = (0x21 ≤ code) × (code ≤ 0x7F)
+IsCodeOf D code = (0x21 ≤ code) × (code ≤ 0x7F)
+
+pub record IsValidGlyph (g : Glyph) : Type 0 where
+  pub code : IsCodeOf g.set g.code
+  pub accent : IsValidAccent g.set g.accent

@@ -1,0 +1,98 @@
+-- Valid colours, patterns and looks, and the look of a screen on which nothing was written.
+use Rattle.std.specs.Prelude.{ℕ, ◌≡◌, ◌≤◌, ◌*◌, ◌+◌, ◌/◌, ◌%◌, ◌^◌, Bool, false, List, drop, slice_index, IsTrue, ◌==◌, ◌&&◌, ◌||◌, if◌then◌else◌}
+use Rattle.std.specs.List.{AllByRecursion}
+use Rattle.cept_codes.specs.declared.look.Rgb.{Rgb}
+use Rattle.cept_codes.specs.declared.look.Paint.{Paint}
+use Rattle.cept_codes.specs.declared.look.Paint.TheVariants as paints
+use Rattle.cept_codes.specs.declared.look.Pattern.{Pattern}
+use Rattle.cept_codes.specs.declared.look.Inks.{Inks}
+use Rattle.cept_codes.specs.declared.look.Shape.{Shape}
+use Rattle.cept_codes.specs.declared.look.Shape.TheVariants as shapes
+use Rattle.cept_codes.specs.declared.look.Part.{Part}
+use Rattle.cept_codes.specs.declared.look.Look.{Look}
+use Rattle.cept_codes.specs.declared.attribute.Flash.TheVariants as flashes
+use Rattle.cept_codes.specs.Glyph.{IsValidGlyph}
+
+pub record IsValidRgb (c : Rgb) : Type 0 where
+  pub r : c.r ≤ 15
+  pub g : c.g ≤ 15
+  pub b : c.b ≤ 15
+
+abbrev pub IsValidPaint : Paint → Type 0
+IsValidPaint (paints.Ink c) = IsValidRgb c
+IsValidPaint paints.Video = Unit {0}
+
+-- the six sizes of a pattern, width by height
+abbrev pub is_pattern_size : ℕ → ℕ → Bool
+is_pattern_size w h = ((w == 12) && (h == 12)) || ((w == 12) && (h == 10)) || ((w == 6) && (h == 12)) || ((w == 6) && (h == 10)) || ((w == 6) && (h == 5)) || ((w == 6) && (h == 6))
+
+-- a pattern has one, two or four planes
+abbrev pub is_plane_count : ℕ → Bool
+is_plane_count n = (n == 1) || (n == 2) || (n == 4)
+
+-- the bit of this number in a row of words of 64 bits, the lowest bit of a word first
+abbrev pub bit_of : List ℕ → ℕ → ℕ
+bit_of words n = (slice_index words (n / 64) / 2 ^ (n % 64)) % 2
+
+-- the pixel of plane p, line y and column x
+abbrev pub pixel : Pattern → ℕ → ℕ → ℕ → ℕ
+pixel pattern p y x = bit_of pattern.bits ((p * pattern.h + y) * pattern.w + x)
+
+-- one of the sizes, one of the counts of planes, and no bit set behind the last pixel
+pub record IsValidPattern (p : Pattern) : Type 0 where
+  pub size : IsTrue (is_pattern_size p.w p.h)
+  pub planes : IsTrue (is_plane_count p.planes)
+  pub clear : (n : ℕ) → p.w * p.h * p.planes ≤ n → bit_of p.bits n ≡ 0
+
+-- how many inks stand beside a pattern of so many planes
+abbrev pub ink_count : ℕ → ℕ
+ink_count planes = if planes == 1 then 0 else if planes == 2 then 4 else 16
+
+-- the paint that fills the unused inks
+abbrev pub black : Paint
+black = paints.Ink (record { r = 0; g = 0; b = 0 })
+
+abbrev pub white : Paint
+white = paints.Ink (record { r = 15; g = 15; b = 15 })
+
+pub record IsValidInks (inks : Inks) (planes : ℕ) : Type 0 where
+  pub count : inks.count ≡ ink_count planes
+  pub paints : AllByRecursion IsValidPaint inks.paints
+  pub unused : AllByRecursion (λ paint. paint ≡ black) (drop inks.count inks.paints)
+
+abbrev pub IsValidShape : Shape → Type 0
+IsValidShape shapes.Space = Unit {0}
+IsValidShape (shapes.Char g) = IsValidGlyph g
+IsValidShape (shapes.Drcs pattern inks) = IsValidPattern pattern × IsValidInks inks pattern.planes
+
+-- which quarter, half or whole of a shape is shown
+pub record IsPart (dy dx w h : ℕ) : Type 0 where
+  pub down : dy ≤ 1
+  pub right : dx ≤ 1
+  pub wide : (1 ≤ w) × (w ≤ 2)
+  pub high : (1 ≤ h) × (h ≤ 2)
+
+abbrev pub IsValidPart : Part → Type 0
+IsValidPart p = IsPart p.dy p.dx p.w p.h
+
+pub record IsValidLook (l : Look) : Type 0 where
+  pub shape : IsValidShape l.shape
+  pub part : IsPart l.dy l.dx l.w l.h
+  pub fore : IsValidPaint l.fore
+  pub back : IsValidPaint l.back
+
+-- a space, white on black, steady, with no attribute
+abbrev pub blank_look : Look
+blank_look = record {
+  shape = shapes.Space;
+  dy = 0;
+  dx = 0;
+  w = 1;
+  h = 1;
+  fore = white;
+  back = black;
+  flash = flashes.Steady;
+  conceal = false;
+  lined = false;
+  boxed = false;
+}

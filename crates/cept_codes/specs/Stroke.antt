@@ -1,0 +1,28 @@
+-- Valid strokes.
+use Rattle.std.specs.Prelude.{ℕ, ◌≤◌, ◌≡◌, ◌⊎◌}
+use Rattle.cept_codes.specs.declared.stroke.Stroke.{Stroke}
+use Rattle.cept_codes.specs.declared.stroke.Stroke.TheVariants as strokes
+use Rattle.cept_codes.specs.Attribute.{IsEntry, IsValidAttr}
+use Rattle.cept_codes.specs.Cell.{IsValidCell}
+use Rattle.cept_codes.specs.Command.{IsArea}
+use Rattle.cept_codes.specs.Look.{IsValidPaint, IsValidPattern}
+use Rattle.cept_codes.specs.Place.{OnScreen}
+
+-- a row of the screen
+abbrev pub IsRow : ℕ → Type 0
+IsRow r = (1 ≤ r) × (r ≤ 24)
+
+abbrev pub IsValidStroke : Stroke → Type 0
+IsValidStroke (strokes.Put p cell) = OnScreen p.row p.column × IsValidCell cell
+IsValidStroke (strokes.Erase r from) = OnScreen r from
+IsValidStroke strokes.Wipe = Unit {0}
+IsValidStroke (strokes.Shift a b way) = IsArea a b
+IsValidStroke (strokes.RowAttr r attr) = IsRow r × IsValidAttr attr
+IsValidStroke (strokes.ScreenAttr attr) = IsValidAttr attr
+IsValidStroke strokes.ScreenClear = Unit {0}
+IsValidStroke (strokes.Colour i paint) = IsEntry i × IsValidPaint paint
+IsValidStroke (strokes.Dclut i v) = (i ≤ 3) × IsEntry v
+IsValidStroke strokes.ColourDefaults = Unit {0}
+IsValidStroke strokes.DrcsClear = Unit {0}
+IsValidStroke (strokes.Drcs code pattern) = (0x21 ≤ code) × (code ≤ 0x7E) × IsValidPattern pattern
+IsValidStroke (strokes.Format rows) = (rows ≡ 24) ⊎ (rows ≡ 20)
