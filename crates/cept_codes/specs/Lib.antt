@@ -4,5 +4,6 @@ pub mod Command
 pub mod Glyph
 pub mod Look
 pub mod Place
+pub mod Same
 pub mod Stroke
 pub mod Table

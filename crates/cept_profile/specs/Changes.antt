@@ -1,0 +1,40 @@
+-- Changes: the places at which two grids of looks differ, and the painting of places.
+use Rattle.std.specs.Prelude.{Bool, not, false, List, [], ◌∷◌, map, filter, slice_index_or, if◌then◌else◌}
+use Rattle.std.specs.List.{range_with_len}
+use Rattle.cept_codes.specs.declared.command.Command.{Command}
+use Rattle.cept_codes.specs.declared.look.Look.{Look}
+use Rattle.cept_codes.specs.Look.{blank_look}
+use Rattle.cept_codes.specs.Place.{Place, place_of}
+use Rattle.cept_codes.specs.Same.{same_look}
+use Rattle.cept_codes.specs.Table.{table, at}
+use Rattle.cept_profile.specs.Cells.{is_at}
+use Rattle.cept_profile.specs.Look.{grid}
+use Rattle.std.specs.Prelude.{◌++◌}
+
+-- the look of a grid at a place
+abbrev pub look_at : List (List Look) → Place → Look
+look_at g p = at blank_look g p.row p.column
+
+-- for each place in reading order, whether it is marked where the looks of g and of h differ
+unfoldable pub differences : List (List Look) → List (List Look) → List Bool
+differences g h = map (λ n. not (same_look (look_at g (place_of n)) (look_at h (place_of n)))) (range_with_len 0 960)
+
+-- the marked places in reading order, each with its look in g
+unfoldable pub listed : List Bool → List (List Look) → List (Place × Look)
+listed marks g = map (λ n. (place_of n, look_at g (place_of n))) (filter (λ n. slice_index_or marks n false) (range_with_len 0 960))
+
+-- the places at which g and h differ, in reading order, each with its look in h
+abbrev pub changed : List (List Look) → List (List Look) → List (Place × Look)
+changed g h = listed (differences g h) h
+
+-- a grid with one place painted, and with several painted one after the other
+abbrev pub painted : List (List Look) → Place → Look → List (List Look)
+painted g p l = table (λ r c. if is_at p r c then l else at blank_look g r c)
+
+unfoldable pub painted_all : List (List Look) → List (Place × Look) → List (List Look)
+painted_all g [] = g
+painted_all g (x ∷ xs) = painted_all (painted g x.0 x.1) xs
+
+-- what one more command changes
+abbrev pub changes : List Command → Command → List (Place × Look)
+changes history command = changed (grid history) (grid (history ++ command ∷ []))

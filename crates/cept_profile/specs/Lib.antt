@@ -1,0 +1,7 @@
+pub mod Cells
+pub mod Changes
+pub mod Control
+pub mod Look
+pub mod State
+pub mod Strokes
+pub mod Valid

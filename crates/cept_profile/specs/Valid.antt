@@ -1,0 +1,58 @@
+-- Valid states: every valid command keeps them valid.
+use Rattle.std.specs.Prelude.{ℕ, ◌≡◌, ◌≤◌, ◌<◌, ◌⊎◌, IfSome, false, List}
+use Rattle.std.specs.List.{AllByRecursion}
+use Rattle.cept_codes.specs.declared.cell.What.TheVariants as whats
+use Rattle.cept_codes.specs.declared.command.Command.{Command}
+use Rattle.cept_codes.specs.declared.look.Look.{Look}
+use Rattle.cept_codes.specs.Attribute.{IsValidPen}
+use Rattle.cept_codes.specs.Cell.{IsValidCell, blank}
+use Rattle.cept_codes.specs.Command.{IsArea, IsValidCommand}
+use Rattle.cept_codes.specs.Glyph.{IsValidGlyph}
+use Rattle.cept_codes.specs.Look.{IsValidLook, blank_look}
+use Rattle.cept_codes.specs.Place.{OnScreen}
+use Rattle.cept_codes.specs.Table.{IsTable, at}
+use Rattle.cept_profile.specs.Control.{Sets, Working, ControlState}
+use Rattle.cept_profile.specs.State.{Page, State}
+
+-- a list of valid commands
+abbrev pub AllValid : List Command → Type 0
+AllValid history = AllByRecursion IsValidCommand history
+
+pub record AreValidSets (s : Sets) : Type 0 where
+  pub left : s.left ≤ 3
+  pub right : (1 ≤ s.right) × (s.right ≤ 3)
+  pub single : IfSome s.single (λ g. (2 ≤ g) × (g ≤ 3))
+
+pub record IsValidWorking (w : Working) : Type 0 where
+  pub place : OnScreen w.row w.column
+  pub sets : AreValidSets w.sets
+  pub accent : IfSome w.accent (λ code. (0x40 ≤ code) × (code ≤ 0x4F))
+  pub last : IfSome w.last IsValidGlyph
+  pub pen : IsValidPen w.pen
+  pub fast : w.fast ≤ 3
+  pub step : (w.step ≡ 1) ⊎ (w.step ≡ 2)
+  pub table : w.table ≤ 3
+
+pub record IsValidControl (s : ControlState) : Type 0 where
+  pub working : IsValidWorking s.working
+  pub rows : (s.rows ≡ 24) ⊎ (s.rows ≡ 20)
+  pub within : s.working.row ≤ s.rows
+  pub area : IfSome s.area (λ a. IsArea a.0 a.1)
+  pub kept : IfSome s.kept IsValidWorking
+
+-- 24 rows of 40 valid cells, the blank ones unprotected
+pub record IsValidPage (p : Page) : Type 0 where
+  pub table : IsTable p.cells
+  pub cells : (r c : ℕ) → OnScreen r c → IsValidCell (at blank p.cells r c)
+  pub free : (r c : ℕ) → OnScreen r c → (at blank p.cells r c).what ≡ whats.Blank → (at blank p.cells r c).protected ≡ false
+
+-- a valid page and valid control, and nothing past the format
+pub record IsValidState (s : State) : Type 0 where
+  pub page : IsValidPage s.page
+  pub control : IsValidControl s.control
+  pub past : (r c : ℕ) → OnScreen r c → s.control.rows < r → at blank s.page.cells r c ≡ blank
+
+-- a grid of 24 rows of 40 valid looks
+pub record IsValidGrid (g : List (List Look)) : Type 0 where
+  pub table : IsTable g
+  pub looks : (r c : ℕ) → OnScreen r c → IsValidLook (at blank_look g r c)

@@ -1,0 +1,3 @@
+//! The meaning of the profile: control, strokes, cells, looks and changes after any list of commands, and the laws that
+//! these definitions obey. It has no code that computes a page and knows no bytes.
+#![tactic(auto)]
