@@ -2,7 +2,9 @@
 //! counted. It knows no page, no command and no screen.
 #![tactic(auto)]
 
+mod calls;
 mod fault;
+mod rack;
 mod shelf;
 mod sink;
 
