@@ -17,6 +17,17 @@ pub record ShelfState : Type 0 where
   -- how many calls failed
   pub faults : ℕ
 
+-- a shelf that tells that it has no file
+abbrev pub empty_shelf : ShelfState
+empty_shelf = record {
+  files = Some (λ _. None);
+  selected = Some None;
+  left = Some [];
+  taken = 0;
+  missed = 0;
+  faults = 0;
+}
+
 -- the bytes that the shelf tells under a name
 abbrev pub bytes_under : ShelfState → List ℕ → Option (List ℕ)
 bytes_under s name = option_and_then (λ (files : List ℕ → Option (List ℕ)). files name) s.files

@@ -1,5 +1,5 @@
 -- A sink: bytes are put at its end, and flushed.
-use Rattle.std.specs.Prelude.{◌≡◌, ℕ, ◌≤◌, Bool, true, false, List, take, length, Option, Result, OnOk, OnErr, IfOk}
+use Rattle.std.specs.Prelude.{◌≡◌, ℕ, ◌<◌, ◌≤◌, Bool, true, false, List, [], take, length, Option, Result, OnOk, OnErr, IfOk}
 use Rattle.std.specs.Io.KnownBytes.{append_known}
 
 -- what a sink means
@@ -24,3 +24,9 @@ pub record Flushes {X E : Type 0} (old : SinkState) (result : Result X E) (new :
   pub bytes : new.bytes ≡ old.bytes
   pub flushed : OnOk result (new.unflushed ≡ false)
   pub failed : OnErr result (new.unflushed ≡ old.unflushed)
+
+-- these bytes were put, in one call or several; unflushed stays where there are none
+pub record PutsPart (old : SinkState) (part : List ℕ) (new : SinkState) : Type 0 where
+  pub bytes : new.bytes ≡ append_known old.bytes part
+  pub unflushed : 0 < length part → new.unflushed ≡ true
+  pub unflushed_stays : part ≡ [] → new.unflushed ≡ old.unflushed

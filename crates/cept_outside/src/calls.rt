@@ -10,7 +10,7 @@ pub struct Calls {
 }
 
 impl Calls {
-    ghost use Rattle.cept_outside.specs.Calls.{reached_by, FailsNext, with_number};
+    ghost use Rattle.cept_outside.specs.Calls.{reached, with_number};
 
     /// No call was made, and no number is kept.
     pub fn new() -> Calls
@@ -25,11 +25,12 @@ impl Calls {
 
     /// Counts a call, and says whether it is to fail.
     pub fn next(&mut self) -> bool
-        ensures fails { IsTrue result ↔ FailsNext self.old }
+        ensures fails { IsTrue result ↔ Contains self.old.numbers.items (self.old.count + 1) }
         ensures count { self.new.count ≡ min (self.old.count + 1) (2 ^ 64 - 1) }
         ensures numbers { self.new.numbers.items ≡ self.old.numbers.items }
-        ensures later { reached_by self.old ≤ reached_by self.new }
-        ensures rose { IsTrue result → reached_by self.old + 1 ≤ reached_by self.new }
+        ensures later { reached self.old.numbers.items self.old.count ≤ reached self.new.numbers.items self.new.count }
+        ensures rose { IsTrue result → reached self.old.numbers.items self.old.count + 1
+            ≤ reached self.new.numbers.items self.new.count }
     {
         self.count = self.count.saturating_add(1);
         is_kept(self.numbers.as_slice(), self.count)
