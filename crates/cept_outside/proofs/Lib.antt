@@ -1,0 +1,4 @@
+pub mod Reached
+pub mod Chosen
+pub mod Added
+pub mod HasPut
