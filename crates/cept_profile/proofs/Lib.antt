@@ -1,0 +1,4 @@
+pub mod Tables
+pub mod Control
+pub mod Cells
+pub mod State
