@@ -2,3 +2,4 @@ pub mod Tables
 pub mod Control
 pub mod Cells
 pub mod State
+pub mod Worked
