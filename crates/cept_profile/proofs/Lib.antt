@@ -1,4 +1,3 @@
-pub mod Tables
 pub mod Control
 pub mod Cells
 pub mod Changes
