@@ -13,7 +13,7 @@ use Rattle.cept_codes.specs.Place.{Place, OnScreen, number, place_of}
 use Rattle.cept_codes.specs.Same.{same_look}
 use Rattle.cept_codes.specs.Table.{table, at, IsTable}
 use Rattle.cept_profile.specs.Cells.{is_at}
-use Rattle.cept_profile.specs.Changes.{look_at, differences, listed, changed, painted, painted_all, AreChanges}
+use Rattle.cept_profile.specs.Changes.{look_at, differences, listed, changed, painted, painted_all, IsBefore, AreChanges}
 use Rattle.cept_profile.proofs.Looks.{same_look-true, same_look-refl}
 use Rattle.cept_profile.proofs.Painting.{names, AreLooksOf, at-painted_all, IsTable-painted_all}
 use Rattle.cept_codes.proofs.Tables.{same_tables}
@@ -112,3 +112,104 @@ painted_all-changed g h is_g is_h =
     at-painted_all g h (changed g h) (AreLooksOf-changed g h) r c on
     ∙ ap (λ named. cond named (at blank_look h r c) (at blank_look g r c)) (names-changed g h r c on)
     ∙ chosen (at blank_look g r c) (at blank_look h r c))
+
+-- ---- what the list of changes holds
+
+-- the marked numbers below 960
+marked : List (List Look) → List (List Look) → List ℕ
+marked g h = filter (λ n. get_or (differences g h) n false) (range_with_len 0 960)
+
+changed-marked : (g h : List (List Look)) → changed g h ≡ map (entry h) (marked g h)
+unfolding listed marked
+changed-marked g h = refl
+
+-- what holds of each entry, by the numbers
+All-entries : (P : Place × Look → Type 0) (g h : List (List Look)) → All (λ n. P (entry h n)) (marked g h) → All P (changed g h)
+All-entries P g h all = subst (λ xs. All P xs) (sym (changed-marked g h)) (All-map P (entry h) (marked g h) all)
+
+below_960 : All (λ n. n < 960) (range_with_len 0 960)
+below_960 k d here = let lt : k < 960 = omega (arith, length-range_with_len 0 960) in omega (arith, get_or-range_with_len 0 960 k d lt)
+
+marked-below : (g h : List (List Look)) → All (λ n. n < 960) (marked g h)
+unfolding marked
+marked-below g h = All-filter (λ n. get_or (differences g h) n false) (λ n. n < 960) (range_with_len 0 960) below_960
+
+marked-marked : (g h : List (List Look)) → All (λ n. get_or (differences g h) n false ≡ true) (marked g h)
+unfolding marked
+marked-marked g h = filter_passes (λ n. get_or (differences g h) n false) (range_with_len 0 960)
+
+-- where no equality is seen there is none
+pub differ_from_test : (a b : Look) → not (same_look a b) ≡ true → a ≢ b
+differ_from_test a b e same = false≢true (sym (not-true (same_look a b) e) ∙ ap (λ l. same_look a l) (sym same) ∙ same_look-refl a)
+
+on_screen-changed : (g h : List (List Look)) → All (λ x. OnScreen x.0.row x.0.column) (changed g h)
+on_screen-changed g h = All-entries (λ x. OnScreen x.0.row x.0.column) g h (λ k d here. OnScreen-place_of (get_or (marked g h) k d) (marked-below g h k d here))
+
+new_looks-changed : (g h : List (List Look)) → All (λ x. x.1 ≡ look_at h x.0) (changed g h)
+new_looks-changed g h = All-entries (λ x. x.1 ≡ look_at h x.0) g h (λ k d here. refl)
+
+differ-changed : (g h : List (List Look)) → All (λ x. look_at g x.0 ≢ look_at h x.0) (changed g h)
+differ-changed g h = All-entries (λ x. look_at g x.0 ≢ look_at h x.0) g h (λ k d here.
+    let n : ℕ = get_or (marked g h) k d in
+    differ_from_test (look_at g (place_of n)) (look_at h (place_of n)) (sym (differences-at g h n (marked-below g h k d here)) ∙ marked-marked g h k d here))
+
+rising : AllPairs (λ n m. n < m) (range_with_len 0 960)
+rising i j d lt here =
+    let below : j < 960 = omega (arith, length-range_with_len 0 960) in
+    let above : i < 960 = omega arith in
+    omega (arith, get_or-range_with_len 0 960 i d above, get_or-range_with_len 0 960 j d below)
+
+marked-rising : (g h : List (List Look)) → AllPairs (λ n m. n < m) (marked g h)
+unfolding marked
+marked-rising g h = AllPairs-filter (λ n m. n < m) (λ n. get_or (differences g h) n false) (range_with_len 0 960) rising
+
+in_order-entries : (h : List (List Look)) (ns : List ℕ) → AllPairs (λ n m. n < m) ns → AllPairs (λ x y. IsBefore x.0 y.0) (map (entry h) ns)
+in_order-entries h ns up i j d lt here =
+    let here_n : j < length ns = omega (arith, length-map ns (entry h)) in
+    let above_n : i < length ns = omega arith in
+    let less : get_or ns i 0 < get_or ns j 0 = up i j 0 lt here_n in
+    let first : get_or (map (entry h) ns) i d ≡ entry h (get_or ns i 0) = get_or-map (entry h) ns i 0 d above_n in
+    let second : get_or (map (entry h) ns) j d ≡ entry h (get_or ns j 0) = get_or-map (entry h) ns j 0 d here_n in
+    let first_number : number (get_or (map (entry h) ns) i d).0.row (get_or (map (entry h) ns) i d).0.column ≡ get_or ns i 0 =
+        ap (λ (x : Place × Look). number x.0.row x.0.column) first ∙ number-place_of (get_or ns i 0) in
+    let second_number : number (get_or (map (entry h) ns) j d).0.row (get_or (map (entry h) ns) j d).0.column ≡ get_or ns j 0 =
+        ap (λ (x : Place × Look). number x.0.row x.0.column) second ∙ number-place_of (get_or ns j 0) in
+    omega (arith, less, first_number, second_number)
+
+in_order-changed : (g h : List (List Look)) → AllPairs (λ x y. IsBefore x.0 y.0) (changed g h)
+in_order-changed g h = subst (λ xs. AllPairs (λ (x : Place × Look) (y : Place × Look). IsBefore x.0 y.0) xs) (sym (changed-marked g h)) (in_order-entries h (marked g h) (marked-rising g h))
+
+-- places in one row and one column are one place
+same_place : (p q : Place) → p.row ≡ q.row → p.column ≡ q.column → p ≡ q
+same_place p q row column = λ i. let here : Place = record { row = row i; column = column i } in here
+
+-- an entry with the look of the grid at its place, which is this place
+entry-named : (h : List (List Look)) (x : Place × Look) (p : Place) → x.1 ≡ look_at h x.0 → is_at x.0 p.row p.column ≡ true → x ≡ (p, look_at h p)
+entry-named h x p is here =
+    let both = and_parts (eqb x.0.row p.row) (eqb x.0.column p.column) here in
+    let place : x.0 ≡ p = same_place x.0 p (eqb-true x.0.row p.row both.0) (eqb-true x.0.column p.column both.1) in
+    let look : x.1 ≡ look_at h p = is ∙ ap (λ q. look_at h q) place in
+    λ i. (place i, look i)
+
+-- a named place is there
+pub Contains-named : (h : List (List Look)) (xs : List (Place × Look)) (p : Place) → AreLooksOf h xs → names xs p.row p.column ≡ true → Contains xs (p, look_at h p)
+Contains-named h [] p are named = absurd (false≢true named)
+Contains-named h (x ∷ xs) p are named = elim (or_cases (is_at x.0 p.row p.column) (names xs p.row p.column) named) [
+      inl here ↦ (0, omega arith, entry-named h x p are.0 here)
+    | inr later ↦ Contains-append_right (x ∷ []) xs (p, look_at h p) (Contains-named h xs p are.1 later)
+    ]
+
+each-changed : (g h : List (List Look)) (p : Place) → OnScreen p.row p.column → Contains (changed g h) (p, look_at h p) ⊎ (look_at g p ≡ look_at h p)
+each-changed g h p on = elim (cases_Bool (same_look (look_at g p) (look_at h p))) [
+      inl same ↦ inr (same_look-true (look_at g p) (look_at h p) same)
+    | inr other ↦ inl (Contains-named h (changed g h) p (AreLooksOf-changed g h) (names-changed g h p.row p.column on ∙ not_from_false (same_look (look_at g p) (look_at h p)) other))
+    ]
+
+pub AreChanges-changed : (g h : List (List Look)) → AreChanges g h (changed g h)
+AreChanges-changed g h = record {
+  on_screen = on_screen-changed g h;
+  new_looks = new_looks-changed g h;
+  differ = differ-changed g h;
+  in_order = in_order-changed g h;
+  each = each-changed g h;
+}
