@@ -2,7 +2,7 @@
 use Rattle.std.proofs.Common.{◌≡◌, ◌≢◌, ℕ, ◌+◌, ◌*◌, ◌-◌, ◌/◌, ◌%◌, ◌<◌, ◌≤◌, ◌⊎◌, suc, zero, Bool, true, false, not, ◌&&◌, ◌||◌, cond, eqb, List, [], ◌∷◌, ◌++◌, map, length, get_or, refl, sym, ◌∙◌, ap, subst, inl, inr, ⊎_elim, arith, add-suc}
 use Rattle.std.specs.List.{range_with_len, filter, All, AllByRecursion, AllPairs, Contains}
 use Rattle.std.proofs.lemmas.Bool.{cases_Bool, cases_eq, and_parts, and_from, eq-eqb, eqb-true, ne_eqb, and_left, cond-true, cond-false, false≢true, or_parts, or_cases, not-true, not_from_false, not_from_true, false_from_ne_true}
-use Rattle.std.proofs.lemmas.List.Elements.{All-filter, All-map, All-from_get_or, All-from_recursion, recursion_from_All, filter_passes, Contains-append_right}
+use Rattle.std.proofs.lemmas.List.Elements.{All-filter, All-map, All-from_get_or, All-from_recursion, recursion_from_All, filter_passes, Contains-append_right, All-head}
 use Rattle.std.proofs.lemmas.List.Kept.{AllPairs-filter}
 use Rattle.std.proofs.lemmas.List.{get_or-map, length-map}
 use Rattle.std.proofs.lemmas.List.FromFn.{get_or-map-range_with_len, get_or-range_with_len, length-range_with_len}
@@ -15,7 +15,7 @@ use Rattle.cept_codes.specs.Table.{table, at, IsTable}
 use Rattle.cept_profile.specs.Cells.{is_at}
 use Rattle.cept_profile.specs.Changes.{look_at, differences, listed, changed, painted, painted_all, IsBefore, AreChanges}
 use Rattle.cept_profile.proofs.Looks.{same_look-true, same_look-refl}
-use Rattle.cept_profile.proofs.Painting.{names, AreLooksOf, at-painted_all, IsTable-painted_all}
+use Rattle.cept_profile.proofs.Painted.{names, AreLooksOf, at-painted_all, IsTable-painted_all, place-is_at}
 use Rattle.cept_codes.proofs.Tables.{same_tables}
 
 -- a number is that of a place just if the place is in that row and column
@@ -179,15 +179,10 @@ in_order-entries h ns up i j d lt here =
 in_order-changed : (g h : List (List Look)) → AllPairs (λ x y. IsBefore x.0 y.0) (changed g h)
 in_order-changed g h = subst (λ xs. AllPairs (λ (x : Place × Look) (y : Place × Look). IsBefore x.0 y.0) xs) (sym (changed-marked g h)) (in_order-entries h (marked g h) (marked-rising g h))
 
--- places in one row and one column are one place
-same_place : (p q : Place) → p.row ≡ q.row → p.column ≡ q.column → p ≡ q
-same_place p q row column = λ i. let here : Place = record { row = row i; column = column i } in here
-
 -- an entry with the look of the grid at its place, which is this place
 entry-named : (h : List (List Look)) (x : Place × Look) (p : Place) → x.1 ≡ look_at h x.0 → is_at x.0 p.row p.column ≡ true → x ≡ (p, look_at h p)
 entry-named h x p is here =
-    let both = and_parts (eqb x.0.row p.row) (eqb x.0.column p.column) here in
-    let place : x.0 ≡ p = same_place x.0 p (eqb-true x.0.row p.row both.0) (eqb-true x.0.column p.column both.1) in
+    let place : x.0 ≡ p = place-is_at x.0 p here in
     let look : x.1 ≡ look_at h p = is ∙ ap (λ q. look_at h q) place in
     λ i. (place i, look i)
 
@@ -213,3 +208,11 @@ AreChanges-changed g h = record {
   in_order = in_order-changed g h;
   each = each-changed g h;
 }
+
+-- what differs from itself is nowhere
+none_differ : (g : List (List Look)) (xs : List (Place × Look)) → All (λ x. look_at g x.0 ≢ look_at g x.0) xs → xs ≡ []
+none_differ g [] differ = refl
+none_differ g (x ∷ xs) differ = absurd (All-head (λ y. look_at g y.0 ≢ look_at g y.0) x xs differ refl)
+
+pub changed-same : (g : List (List Look)) → changed g g ≡ []
+changed-same g = none_differ g (changed g g) (differ-changed g g)

@@ -2,6 +2,6 @@ pub mod Control
 pub mod Cells
 pub mod Changes
 pub mod Looks
-pub mod Painting
+pub mod Painted
 pub mod State
 pub mod Worked

@@ -3,5 +3,7 @@
 #![tactic(auto)]
 
 mod one_more;
+mod painting;
 
 pub use one_more::one_more_command;
+pub use painting::painting_the_changes;

@@ -1,7 +1,8 @@
 -- Painting places of a grid.
-use Rattle.std.proofs.Common.{◌≡◌, ℕ, ◌+◌, ◌*◌, ◌-◌, ◌/◌, ◌%◌, ◌<◌, ◌≤◌, suc, zero, Bool, true, false, not, ◌&&◌, ◌||◌, cond, eqb, List, [], ◌∷◌, ◌++◌, map, get_or, refl, sym, ◌∙◌, ap, inl, inr, ⊎_elim, arith}
-use Rattle.std.specs.List.{range_with_len, filter, All, AllByRecursion}
-use Rattle.std.proofs.lemmas.Bool.{cases_Bool, and_parts, and_from, eq-eqb, eqb-true, cond-true, cond-false, false≢true, or_parts}
+use Rattle.std.proofs.Common.{◌≡◌, ◌≢◌, ℕ, ◌+◌, ◌*◌, ◌-◌, ◌/◌, ◌%◌, ◌<◌, ◌≤◌, suc, zero, Bool, true, false, not, ◌&&◌, ◌||◌, cond, eqb, List, [], ◌∷◌, ◌++◌, map, get_or, refl, sym, ◌∙◌, ap, inl, inr, ⊎_elim, arith}
+use Rattle.std.specs.List.{All, AllByRecursion}
+use Rattle.std.proofs.lemmas.List.Elements.{All-head, All-tail}
+use Rattle.std.proofs.lemmas.Bool.{cases_Bool, and_parts, and_from, eq-eqb, eqb-true, cond-true, cond-false, false≢true, or_parts, or_from, false_from_ne_true, true_from_ne_false}
 use Rattle.cept_codes.specs.declared.look.Look.{Look}
 use Rattle.cept_codes.specs.Look.{blank_look}
 use Rattle.cept_codes.specs.Place.{Place, OnScreen, number, place_of}
@@ -65,3 +66,22 @@ at-painted_all-other g (x ∷ xs) r c on not_named =
     at-painted_all-other (painted g x.0 x.1) xs r c on both.1
     ∙ at-painted g x.0 x.1 r c on
     ∙ cond-false (is_at x.0 r c) x.1 (at blank_look g r c) both.0
+
+-- places in one row and one column are one place
+pub same_place : (p q : Place) → p.row ≡ q.row → p.column ≡ q.column → p ≡ q
+same_place p q row column = λ i. let here : Place = record { row = row i; column = column i } in here
+
+pub place-is_at : (p q : Place) → is_at p q.row q.column ≡ true → p ≡ q
+place-is_at p q e =
+    let both = and_parts (eqb p.row q.row) (eqb p.column q.column) e in
+    same_place p q (eqb-true p.row q.row both.0) (eqb-true p.column q.column both.1)
+
+-- a place that no entry has isn't named
+pub names-other : (xs : List (Place × Look)) (p : Place) → All (λ x. x.0 ≢ p) xs → names xs p.row p.column ≡ false
+names-other [] p others = refl
+names-other (x ∷ xs) p others =
+    ap (λ v. v || names xs p.row p.column) (false_from_ne_true (is_at x.0 p.row p.column) (λ e. All-head (λ y. y.0 ≢ p) x xs others (place-is_at x.0 p e)))
+    ∙ names-other xs p (All-tail (λ y. y.0 ≢ p) x xs others)
+
+pub look_at-painted_all : (g : List (List Look)) (xs : List (Place × Look)) (p : Place) → OnScreen p.row p.column → All (λ x. x.0 ≢ p) xs → look_at (painted_all g xs) p ≡ look_at g p
+look_at-painted_all g xs p on others = at-painted_all-other g xs p.row p.column on (names-other xs p others)
