@@ -4,4 +4,5 @@ pub mod Changes
 pub mod Looks
 pub mod Painted
 pub mod State
+pub mod ValidControl
 pub mod Worked
