@@ -5,4 +5,7 @@ pub mod Looks
 pub mod Painted
 pub mod State
 pub mod ValidControl
+pub mod ValidLook
+pub mod ValidPage
+pub mod ValidState
 pub mod Worked
