@@ -1,3 +1,4 @@
 pub mod Events
+pub mod Run
 pub mod Told
 pub mod Words
