@@ -1,0 +1,119 @@
+-- Bytes that wait.
+use Rattle.std.proofs.Common.{◌≡◌, ℕ, ◌+◌, ◌-◌, ◌<◌, ◌≤◌, suc, true, false, eqb, List, [], ◌∷◌, ◌++◌, length, refl, sym, ap, ◌∙◌, arith}
+use Rattle.std.proofs.lemmas.List.{length-append}
+use Rattle.std.proofs.lemmas.Bool.{eqb-true, eqb-false}
+use Rattle.cept_codes.specs.declared.command.Command.TheVariants.{Graphic}
+use Rattle.cept_codes.specs.declared.item.Said.TheVariants.{Command as Says}
+use Rattle.cept_parser.specs.declared.context.Context.{Context}
+use Rattle.cept_parser.specs.Context.{start}
+use Rattle.cept_parser.specs.Grammar.{is_plain, is_empty, unit}
+use Rattle.cept_parser.specs.Items.{Reading, before, waiting, read, reading, items, closing, said_at_end}
+use Rattle.cept_parser.specs.State.{ParserState, Leads, IsIdle, reading_with, state_after, pending_reading}
+use Rattle.cept_parser.specs.Valid.{AreValid, AreMeasured}
+use Rattle.cept_parser.specs.Waits.{Waits}
+use Rattle.cept_parser.proofs.GrammarLaws.{fits_small, fits_one, plain_sign, plain_ends}
+use Rattle.cept_parser.proofs.ValidLaws.{start_valid}
+use Rattle.cept_parser.proofs.Longest.{waits_fits, front_none}
+use Rattle.cept_parser.proofs.Going.{read_append, read_place, read_waits}
+use Rattle.cept_parser.proofs.Steps.{read_nil, read_unit}
+use Rattle.cept_parser.proofs.Sound.{read_sound, bytes_more, end_sound}
+
+empty_length : (p : List ℕ) → eqb (length p) 0 ≡ true → is_empty p ≡ true
+empty_length [] e = refl
+empty_length (a ∷ p) e = absurd (eqb-false-zero _ e)
+  where
+    eqb-false-zero : (n : ℕ) → eqb (suc n) 0 ≡ true → ⊥
+    eqb-false-zero n e = let q : suc n ≡ 0 = eqb-true (suc n) 0 e in omega arith
+
+some_length : (p : List ℕ) → eqb (length p) 0 ≡ false → is_empty p ≡ false
+some_length [] e = absurd (eqb-false 0 0 e refl)
+some_length (a ∷ p) e = refl
+
+-- bytes that wait are at most 99
+pub waits_small : (x : Context) (place : ℕ) (p : List ℕ) → Waits x place p → length p ≤ 99
+waits_small x place p w = omega (arith, fits_small x p (waits_fits x p w.waits))
+
+-- no bytes wait
+pub none_waits : Waits start 0 []
+none_waits =
+    record { waits = front_none start [] (omega arith); counted = omega arith; context = start_valid; bytes = tt }
+
+-- what a reading leaves waits
+pub reading_waits : (x : Context) (place at : ℕ) (p : List ℕ) (c : ℕ) → Waits x place p → at ≡ place - length p → c < 256 → let r = read x at (p ++ c ∷ []) in Waits r.context (place + 1) r.pending
+reading_waits x place at p c w e l =
+    let s = read_sound x at (p ++ c ∷ []) w.context (bytes_more p c w.bytes l) in
+    let q = read_place x at (p ++ c ∷ []) in
+    let n = length-append p (c ∷ []) in
+    let k = w.counted in
+    record { waits = read_waits x at (p ++ c ∷ []); counted = omega arith; context = s.context; bytes = s.bytes }
+
+-- what the end of the input adds is valid and has its length
+pub closing_sound : (x : Context) (place at : ℕ) (p : List ℕ) → Waits x place p → let r : Reading = record { items = []; context = x; at = at; pending = p } in AreValid (closing r) × AreMeasured (closing r)
+unfolding closing
+closing_sound x place at [] w = (tt, tt)
+closing_sound x place at (a ∷ p) w =
+    let s = end_sound x (a ∷ p) w.context w.bytes (waits_fits x (a ∷ p) w.waits) in
+    ((s.0, tt), ((omega arith, s.1), tt))
+
+-- nothing is added where nothing is pending
+pub closing_none : (r : Reading) → eqb (length r.pending) 0 ≡ true → closing r ≡ []
+unfolding closing
+closing_none r e = rw (empty_length r.pending e) refl
+
+pub closing_one : (r : Reading) → eqb (length r.pending) 0 ≡ false → closing r ≡ record { at = r.at; len = length r.pending; what = said_at_end (unit r.context r.pending) } ∷ []
+unfolding closing
+closing_one r e = rw (some_length r.pending e) refl
+
+-- at the end of the input nothing waits any more
+pub ended_waits : (x : Context) (place : ℕ) (p : List ℕ) → Waits x place p → Waits x place []
+ended_waits x place p w =
+    record { waits = front_none x [] (omega arith); counted = omega arith; context = w.context; bytes = tt }
+
+-- where bytes lead to a state, their pending bytes stand there
+leads_at : (b : List ℕ) (s : ParserState) → Leads b s → s.place - length s.pending ≡ (reading b).at
+leads_at b s l =
+    let q : (reading b).at + length (reading b).pending ≡ 0 + length b = read_place start 0 b in
+    let p : length s.pending ≡ length (reading b).pending = ap length l.pending in
+    omega (arith, l.place)
+
+reading_leads : (b : List ℕ) (s : ParserState) (byte : ℕ) → Leads b s → reading_with s byte ≡ (let r = reading b in read r.context r.at (r.pending ++ byte ∷ []))
+reading_leads b s byte l =
+    let at : s.place - length s.pending ≡ (reading b).at = leads_at b s l in
+    ap (λ (n : ℕ). read s.context n (s.pending ++ byte ∷ [])) at ∙ ap (λ (y : Context). read y (reading b).at (s.pending ++ byte ∷ [])) l.context ∙ ap (λ (q : List ℕ). read (reading b).context (reading b).at (q ++ byte ∷ [])) l.pending
+
+whole_leads : (b : List ℕ) (s : ParserState) (byte : ℕ) → Leads b s → reading (b ++ byte ∷ []) ≡ before (items b) (reading_with s byte)
+whole_leads b s byte l = read_append start 0 b (byte ∷ []) ∙ ap (before (items b)) (sym (reading_leads b s byte l))
+
+-- the items of bytes that lead to a state and one more
+pub items_lead : (b : List ℕ) (s : ParserState) (byte : ℕ) → Leads b s → items (b ++ byte ∷ []) ≡ items b ++ (reading_with s byte).items
+items_lead b s byte l = ap (λ (r : Reading). r.items) (whole_leads b s byte l)
+
+-- bytes that lead to a state lead with one more to the state after it
+pub leads_on : (b : List ℕ) (s : ParserState) (byte : ℕ) → Leads b s → Leads (b ++ byte ∷ []) (state_after s byte)
+leads_on b s byte l =
+    let e = whole_leads b s byte l in
+    let n = length-append b (byte ∷ []) in
+    record { place = omega (arith, l.place); context = ap (λ (r : Reading). r.context) (sym e); pending = ap (λ (r : Reading). r.pending) (sym e); running = l.running }
+
+-- what the end of the input adds to bytes that lead to a state
+pub closing_leads : (b : List ℕ) (s : ParserState) → Leads b s → closing (reading b) ≡ closing (pending_reading s)
+unfolding closing
+closing_leads b s l =
+    let at : s.place - length s.pending ≡ (reading b).at = leads_at b s l in
+    let by = λ (y : Context) (n : ℕ) (q : List ℕ). closing (record { items = []; context = y; at = n; pending = q }) in
+    sym (ap (λ (y : Context). by y (s.place - length s.pending) s.pending) l.context ∙ ap (λ (n : ℕ). by (reading b).context n s.pending) at ∙ ap (λ (q : List ℕ). by (reading b).context (reading b).at q) l.pending)
+
+-- a plain byte where nothing is pending and plain bytes are signs
+pub sign_reading : (s : ParserState) (byte : ℕ) → IsIdle s → is_plain byte ≡ true → reading_with s byte ≡ before (record { at = s.place; len = 1; what = Says (Graphic byte) } ∷ []) (waiting s.context (s.place + 1) [])
+sign_reading s byte i p =
+    let u = plain_sign s.context byte i.text p in
+    let one : read s.context s.place (byte ∷ []) ≡ before (record { at = s.place; len = 1; what = Says (Graphic byte) } ∷ []) (read s.context (s.place + 1) []) = read_unit s.context s.place (byte ∷ []) [] _ u (fits_one s.context byte) (plain_ends s.context byte i.text p) in
+    let at : s.place - length s.pending ≡ s.place = rw i.pending (omega arith) in
+    ap (λ (n : ℕ). read s.context n (s.pending ++ byte ∷ [])) at ∙ ap (λ (q : List ℕ). read s.context s.place (q ++ byte ∷ [])) i.pending ∙ one ∙ ap (before (record { at = s.place; len = 1; what = Says (Graphic byte) } ∷ [])) (read_nil s.context (s.place + 1))
+
+-- and the state after it
+pub sign_state : (s : ParserState) (byte : ℕ) → IsIdle s → is_plain byte ≡ true → record { place = s.place + 1; context = s.context; pending = s.pending; finished = s.finished } ≡ state_after s byte
+sign_state s byte i p =
+    let after : Reading → ParserState = λ r. record { place = s.place + 1; context = r.context; pending = r.pending; finished = s.finished } in
+    let left : List ℕ → ParserState = λ q. record { place = s.place + 1; context = s.context; pending = q; finished = s.finished } in
+    ap left i.pending ∙ ap after (sym (sign_reading s byte i p))

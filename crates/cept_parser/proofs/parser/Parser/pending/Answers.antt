@@ -1,0 +1,8 @@
+use Rattle.std.proofs.Common.{arith}
+use Rattle.cept_parser.proofs.Waiting.{waits_small}
+use Rattle.cept_parser.proofs.parser.Parser.pending.Goals as goal
+
+pub returns-clause-few : goal.returns-clause-few
+returns-clause-few c =
+    let w = waits_small _ _ _ c.self.invariant in
+    omega (arith, c.len.ensures.value)

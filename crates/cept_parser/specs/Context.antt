@@ -1,0 +1,18 @@
+-- The context in which bytes are read: the mode, the kind of colours, and the form of downloaded patterns.
+use Rattle.cept_codes.specs.declared.command.Form.{Form}
+use Rattle.cept_parser.specs.declared.context.Mode.{Mode}
+use Rattle.cept_parser.specs.declared.context.Mode.TheVariants.{Text}
+use Rattle.cept_parser.specs.declared.context.ColourKind.TheVariants.{ColourTable}
+use Rattle.cept_parser.specs.declared.context.Context.{Context}
+
+-- patterns of 12 by 10 pixels in one plane
+abbrev pub start_form : Form
+start_form = record { w = 12; h = 10; planes = 1 }
+
+-- the context before the first byte
+abbrev pub start : Context
+start = record { mode = Text; kind = ColourTable; form = start_form }
+
+-- the context in another mode
+abbrev pub with_mode : Context → Mode → Context
+with_mode x m = record { mode = m; kind = x.kind; form = x.form }

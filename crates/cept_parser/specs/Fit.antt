@@ -1,0 +1,17 @@
+-- How bytes stand to the grammar, in one word.
+use Rattle.std.specs.Prelude.{ℕ, Bool, true, false, List, if◌then◌else◌, Option, Some, None}
+use Rattle.cept_parser.specs.declared.context.Context.{Context}
+use Rattle.cept_parser.specs.declared.context.Closed.{Closed}
+use Rattle.cept_parser.specs.declared.fit.Fit.{Fit}
+use Rattle.cept_parser.specs.declared.fit.Fit.TheVariants.{Misfit, Open, Whole, Longer}
+use Rattle.cept_parser.specs.Grammar.{unit, fits, grows}
+
+-- the word for bytes that fit or not, grow or not, and wholly are this
+abbrev pub fit_by : Bool → Bool → Option Closed → Fit
+fit_by false more whole = Misfit
+fit_by true more None = Open
+fit_by true more (Some c) = if more then Longer c else Whole c
+
+-- how these bytes stand to the grammar
+abbrev pub fit : Context → List ℕ → Fit
+fit x u = fit_by (fits x u) (grows x u) (unit x u)

@@ -1,0 +1,115 @@
+-- The items of bytes: found on the whole list, by the longest beginning that fits.
+use Rattle.std.specs.Prelude.{ℕ, zero, suc, ◌+◌, Bool, true, false, not, ◌&&◌, ◌||◌, List, [], ◌∷◌, ◌++◌, length, take, drop, if◌then◌else◌, ◌==◌, Option, Some, None}
+use Rattle.cept_codes.specs.declared.command.Command.{Command}
+use Rattle.cept_codes.specs.declared.item.Item.{Item}
+use Rattle.cept_codes.specs.declared.item.Reason.TheVariants.{Truncated}
+use Rattle.cept_codes.specs.declared.item.Said.{Said}
+use Rattle.cept_codes.specs.declared.item.Said.TheVariants.{Command as Says, Refused}
+use Rattle.cept_parser.specs.declared.context.Mode.TheVariants.{Text}
+use Rattle.cept_parser.specs.declared.context.Context.{Context}
+use Rattle.cept_parser.specs.declared.context.Closed.{Closed}
+use Rattle.cept_parser.specs.Context.{start, with_mode}
+use Rattle.cept_parser.specs.Grammar.{unit, fits, grows, is_empty, interruption}
+
+-- the length of the longest beginning that fits, of those of at most n bytes
+unfoldable pub longest_within : Context → List ℕ → ℕ → ℕ
+longest_within x b zero = 0
+longest_within x b (suc n) = if fits x (take (suc n) b) then suc n else longest_within x b n
+
+-- the length of the longest beginning that fits
+unfoldable pub longest : Context → List ℕ → ℕ
+longest x b = longest_within x b (length b)
+
+-- the first item of bytes: what it says, its length, and the context behind it
+pub record Front : Type 0 where
+  pub said : Said
+  pub size : ℕ
+  pub next : Context
+
+abbrev pub is_refusal : Said → Bool
+is_refusal (Says c) = false
+is_refusal (Refused r) = true
+
+-- the first item, where the longest beginning that fits has this length, is all of the bytes or not, grows or not,
+-- and wholly is this. All of the bytes wait where they are no whole unit yet, or a unit that grows
+unfoldable pub front_of : Context → ℕ → Bool → Bool → Option Closed → Option Front
+front_of x size all more (Some c) =
+    if is_refusal c.said || not (all && more) then Some (record { said = c.said; size = size; next = c.next }) else None
+front_of x size all more None =
+    if all then None else Some (record { said = Refused interruption; size = size; next = with_mode x Text })
+
+-- the first item of bytes, none where they wait for more
+unfoldable pub front : Context → List ℕ → Option Front
+front x b =
+    let n = longest x b in
+    let u = take n b in
+    front_of x n (n == length b) (grows x u) (unit x u)
+
+-- what bytes say: their items, and behind these the context, the place and the bytes that are pending
+pub record Reading : Type 0 where
+  pub items : List Item
+  pub context : Context
+  pub at : ℕ
+  pub pending : List ℕ
+
+-- the item of a front at this place
+abbrev pub item_of : ℕ → Front → Item
+item_of at f = record { at = at; len = f.size; what = f.said }
+
+-- a reading with items before it
+abbrev pub before : List Item → Reading → Reading
+before is r = record { items = is ++ r.items; context = r.context; at = r.at; pending = r.pending }
+
+-- bytes of which none is an item yet
+abbrev pub waiting : Context → ℕ → List ℕ → Reading
+waiting x at b = record { items = []; context = x; at = at; pending = b }
+
+-- the reading that begins with this first item, and goes on as told behind it
+unfoldable pub read_by : (Context → ℕ → List ℕ → Reading) → Context → ℕ → List ℕ → Option Front → Reading
+read_by more x at b None = waiting x at b
+read_by more x at b (Some f) = before (item_of at f ∷ []) (more f.next (at + f.size) (drop f.size b))
+
+-- the reading of bytes that stand at this place, up to so many items
+unfoldable pub read_within : ℕ → Context → ℕ → List ℕ → Reading
+read_within zero x at b = waiting x at b
+read_within (suc n) x at b = read_by (read_within n) x at b (front x b)
+
+-- the reading of bytes that stand at this place: there are at most as many items as bytes
+abbrev pub read : Context → ℕ → List ℕ → Reading
+read x at b = read_within (length b) x at b
+
+-- the reading of all bytes from the first on
+abbrev pub reading : List ℕ → Reading
+reading b = read start 0 b
+
+-- the items of bytes after which more may come
+abbrev pub items : List ℕ → List Item
+items b = (reading b).items
+
+-- what pending bytes say at the end of the input: their command where they are a unit, else they are truncated
+unfoldable pub said_at_end : Option Closed → Said
+said_at_end (Some c) = c.said
+said_at_end None = Refused Truncated
+
+-- the items that the end of the input adds
+unfoldable pub closing : Reading → List Item
+closing r =
+    if is_empty r.pending then [] else
+    record { at = r.at; len = length r.pending; what = said_at_end (unit r.context r.pending) } ∷ []
+
+-- the items of bytes that end here
+abbrev pub closed_items : List ℕ → List Item
+closed_items b = items b ++ closing (reading b)
+
+-- the commands among items, in order
+unfoldable pub commands_of : List Item → List Command
+commands_of [] = []
+commands_of (i ∷ is) = with_command i.what (commands_of is)
+  where
+    with_command : Said → List Command → List Command
+    with_command (Says c) cs = c ∷ cs
+    with_command (Refused r) cs = cs
+
+-- the commands of bytes that end here
+abbrev pub commands : List ℕ → List Command
+commands b = commands_of (closed_items b)

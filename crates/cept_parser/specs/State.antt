@@ -1,0 +1,42 @@
+-- What a parser is: the number of bytes pushed, the context, the bytes that are pending, and whether the input ended.
+use Rattle.std.specs.Prelude.{◌≡◌, ℕ, ◌+◌, ◌-◌, Bool, true, false, List, [], ◌∷◌, ◌++◌, length}
+use Rattle.cept_parser.specs.declared.context.Mode.TheVariants.{Text}
+use Rattle.cept_parser.specs.declared.context.Context.{Context}
+use Rattle.cept_parser.specs.Items.{Reading, read, reading}
+
+pub record ParserState : Type 0 where
+  pub place : ℕ
+  pub context : Context
+  pub pending : List ℕ
+  pub finished : Bool
+
+-- bytes lead to a state: as many bytes were pushed, and their reading leaves its context and its pending bytes
+pub record Leads (b : List ℕ) (s : ParserState) : Type 0 where
+  pub place : s.place ≡ length b
+  pub context : s.context ≡ (reading b).context
+  pub pending : s.pending ≡ (reading b).pending
+  pub running : s.finished ≡ false
+
+-- the reading of the pending bytes and one more
+abbrev pub reading_with : ParserState → ℕ → Reading
+reading_with s byte = read s.context (s.place - length s.pending) (s.pending ++ byte ∷ [])
+
+-- the state after one byte more
+abbrev pub state_after : ParserState → ℕ → ParserState
+state_after s byte =
+    let r = reading_with s byte in
+    record { place = s.place + 1; context = r.context; pending = r.pending; finished = s.finished }
+
+-- the reading of the pending bytes alone, which has no items
+abbrev pub pending_reading : ParserState → Reading
+pending_reading s =
+    record { items = []; context = s.context; at = s.place - length s.pending; pending = s.pending }
+
+-- the state after the end of the input: nothing is pending
+abbrev pub finished_state : ParserState → ParserState
+finished_state s = record { place = s.place; context = s.context; pending = []; finished = true }
+
+-- nothing is pending, and plain bytes are signs
+pub record IsIdle (s : ParserState) : Type 0 where
+  pub pending : s.pending ≡ []
+  pub text : s.context.mode ≡ Text

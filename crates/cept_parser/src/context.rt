@@ -1,0 +1,64 @@
+ghost use Rattle.std.specs.Prelude.{◌≡◌, ◌↔◌, IsTrue};
+
+use cept_codes::{Form, Said};
+
+/// What plain bytes, 2/0 to 7/15, are read as.
+#[derive(Clone, Copy, Debug, PartialEq, Eq)]
+pub enum Mode {
+    /// Signs.
+    Text,
+    /// Colours for the table, the next for this entry: 0 to 31, or 32 behind the last.
+    TableRun(u8),
+    /// Values of the DCLUT, the next for this place: 0 to 3, or 4 behind the last.
+    DclutRun(u8),
+    /// Patterns, the next for this code: 2/1 to 7/14, or 7/15 behind the last.
+    DrcsRun(u8),
+    /// Bytes that are passed over.
+    Skip,
+}
+
+impl Mode {
+    /// Plain bytes are signs.
+    pub(crate) fn is_text(self) -> bool
+        ensures { IsTrue result ↔ (self ≡ Mode.Text) }
+    {
+        matches!(self, Mode::Text)
+    }
+}
+
+/// What colour units define: entries of the colour table, or the look-up table of downloaded patterns (DCLUT).
+#[derive(Clone, Copy, Debug, PartialEq, Eq)]
+pub enum ColourKind {
+    ColourTable,
+    LookUpTable,
+}
+
+/// How bytes are read: the mode, the kind of colours, and the form of downloaded patterns.
+#[derive(Clone, Copy, Debug, PartialEq, Eq)]
+pub struct Context {
+    pub mode: Mode,
+    pub kind: ColourKind,
+    pub form: Form,
+}
+
+impl Context {
+    ghost use Rattle.cept_parser.specs.Context.{with_mode};
+
+    /// The same context in another mode.
+    pub(crate) fn with_mode(self, mode: Mode) -> Context
+        ensures { result ≡ with_mode self mode }
+    {
+        Context {
+            mode,
+            kind: self.kind,
+            form: self.form,
+        }
+    }
+}
+
+/// What whole bytes say, a command or a refusal, and the context behind them.
+#[derive(Clone, Copy, Debug, PartialEq, Eq)]
+pub struct Closed {
+    pub said: Said,
+    pub next: Context,
+}

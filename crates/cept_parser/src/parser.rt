@@ -1,0 +1,310 @@
+ghost use Rattle.std.specs.Prelude.{◌≡◌, ◌≤◌, ◌<◌, ◌+◌, ◌^◌, ◌-◌, ℕ, List, [], ◌∷◌, ◌++◌, length, true, false, if◌then◌else◌, IsTrue};
+ghost use Rattle.std.specs.Option.{option_to_list};
+ghost use Rattle.arrayvec.specs.ArrayVec.{array_vec_len};
+ghost use Rattle.cept_parser.specs.Context.{start};
+ghost use Rattle.cept_parser.specs.Grammar.{is_plain, unit, fits};
+ghost use Rattle.cept_parser.specs.Items.{read, items, closed_items, closing, said_at_end};
+ghost use Rattle.cept_parser.specs.Valid.{AreValid, AreMeasured};
+ghost use Rattle.cept_parser.specs.Waits.{Waits, cut};
+
+use crate::context::{ColourKind, Context, Mode};
+use crate::fit::{Fit, cut, fit_of, is_plain};
+use arrayvec::ArrayVec;
+use cept_codes::{Command, Form, Item, Reason, Said};
+use std::marker::Model;
+
+/// The context before the first byte.
+fn start() -> Context
+    ensures { result ≡ start }
+{
+    Context {
+        mode: Mode::Text,
+        kind: ColourKind::ColourTable,
+        form: Form {
+            w: 12,
+            h: 10,
+            planes: 1,
+        },
+    }
+}
+
+/// Takes an item off bytes that fit and stand at this place, if they are one.
+fn settle(context: &mut Context, bytes: &mut ArrayVec<u8, 100>, at: u64) -> Option<Item>
+    requires { fits context.old bytes.old.items ≡ true }
+    ensures item { option_to_list result ≡ (read context.old at bytes.old.items).items }
+    ensures context { context.new ≡ (read context.old at bytes.old.items).context }
+    ensures pending { bytes.new.items ≡ (read context.old at bytes.old.items).pending }
+{
+    match fit_of(context, bytes.as_slice()) {
+        Fit::Whole(closed) => {
+            let len = bytes.len() as u8;
+            bytes.clear();
+            *context = closed.next;
+            Some(Item {
+                at,
+                len,
+                what: closed.said,
+            })
+        }
+        Fit::Longer(_) => None,
+        Fit::Open => None,
+        Fit::Misfit => None,
+    }
+}
+
+/// Puts a byte behind bytes if it fits there.
+fn append(context: &Context, bytes: &mut ArrayVec<u8, 100>, byte: u8) -> bool
+    requires { array_vec_len bytes.old < 100 }
+    ensures fits { result ≡ fits context.now (bytes.old.items ++ byte ∷ []) }
+    ensures bytes { bytes.new.items ≡ (if result then bytes.old.items ++ byte ∷ [] else bytes.old.items) }
+{
+    bytes.push(byte);
+    match fit_of(context, bytes.as_slice()) {
+        Fit::Misfit => {
+            bytes.pop();
+            false
+        }
+        Fit::Open => true,
+        Fit::Whole(_) => true,
+        Fit::Longer(_) => true,
+    }
+}
+
+/// Makes bytes at this place, behind which the next byte doesn't fit, an item.
+fn take_cut(context: &mut Context, bytes: &mut ArrayVec<u8, 100>, at: u64) -> Item
+    requires { fits context.old bytes.old.items ≡ true }
+    ensures item { result ≡ record { at = at; len = length bytes.old.items; what = (cut context.old (unit context.old bytes.old.items)).said } }
+    ensures context { context.new ≡ (cut context.old (unit context.old bytes.old.items)).next }
+    ensures pending { bytes.new.items ≡ [] }
+{
+    let closed = cut(context, bytes.as_slice());
+    let len = bytes.len() as u8;
+    bytes.clear();
+    *context = closed.next;
+    Item {
+        at,
+        len,
+        what: closed.said,
+    }
+}
+
+/// What bytes say at the end of the input: their command where they are a unit, else they are truncated.
+fn said_at_end(context: &Context, bytes: &[u8]) -> Said
+    requires { fits context.now bytes.now ≡ true }
+    ensures { result ≡ said_at_end (unit context.now bytes.now) }
+{
+    match fit_of(context, bytes) {
+        Fit::Whole(closed) => closed.said,
+        Fit::Longer(closed) => closed.said,
+        Fit::Open => Said::Refused(Reason::Truncated),
+        Fit::Misfit => Said::Refused(Reason::Truncated),
+    }
+}
+
+/// The list of an item, if there is one.
+fn listed(item: Option<Item>) -> ArrayVec<Item, 2>
+    ensures { result.items ≡ option_to_list item }
+{
+    let mut items = ArrayVec::new();
+    if let Some(item) = item {
+        items.push(item);
+    }
+    items
+}
+
+/// The list of an item and a second one, if there is one.
+fn listed_behind(first: Item, second: Option<Item>) -> ArrayVec<Item, 2>
+    ensures { result.items ≡ first ∷ option_to_list second }
+{
+    let mut items = ArrayVec::new();
+    items.push(first);
+    if let Some(item) = second {
+        items.push(item);
+    }
+    items
+}
+
+/// Takes the items off bytes that wait at this place and one byte more.
+fn feed(
+    context: &mut Context,
+    bytes: &mut ArrayVec<u8, 100>,
+    at: u64,
+    byte: u8,
+) -> ArrayVec<Item, 2>
+    requires waits { Waits context.old (at + length bytes.old.items) bytes.old.items }
+    requires few { at + length bytes.old.items < 2 ^ 33 }
+    ensures items { result.items ≡ (read context.old at (bytes.old.items ++ byte ∷ [])).items }
+    ensures context { context.new ≡ (read context.old at (bytes.old.items ++ byte ∷ [])).context }
+    ensures pending { bytes.new.items ≡ (read context.old at (bytes.old.items ++ byte ∷ [])).pending }
+{
+    if append(context, bytes, byte) {
+        return listed(settle(context, bytes, at));
+    }
+    let item = take_cut(context, bytes, at);
+    let from = at + u64::from(item.len);
+    bytes.push(byte);
+    let next = settle(context, bytes, from);
+    listed_behind(item, next)
+}
+
+/// The stream of bytes, read one at a time.
+#[derive(Drop)]
+pub struct Parser {
+    place: u64,
+    context: Context,
+    bytes: ArrayVec<u8, 100>,
+    finished: bool,
+}
+
+impl Model for Parser {
+    ghost use Rattle.cept_parser.specs.State.{ParserState};
+
+    ghost Value = { ParserState };
+
+    ghost use Rattle.cept_parser.specs.Waits.{Waits};
+
+    ghost view = { λ p. record { place = p.place; context = p.context; pending = p.bytes.items; finished = p.finished } };
+
+    ghost invariant = { λ p. Waits p.context p.place p.bytes.items };
+}
+
+impl Parser {
+    ghost use Rattle.cept_parser.specs.State.{ParserState, Leads, reading_with, state_after, IsIdle, pending_reading, finished_state};
+
+    /// A parser before the first byte.
+    pub fn new() -> Parser
+        ensures { Leads [] result }
+    {
+        Parser {
+            place: 0,
+            context: start(),
+            bytes: ArrayVec::new(),
+            finished: false,
+        }
+    }
+
+    /// The number of bytes pushed.
+    pub fn place(&self) -> u64
+        ensures { result ≡ self.now.place }
+    {
+        self.place
+    }
+
+    /// The number of bytes that are no item yet, at most 99.
+    pub fn pending(&self) -> usize
+        ensures pending { result ≡ length self.now.pending }
+        ensures few { result ≤ 99 }
+    {
+        self.bytes.len()
+    }
+
+    /// Nothing is pending, and plain bytes are signs.
+    fn is_idle(&self) -> bool
+        ensures { IsTrue result → IsIdle self.now }
+    {
+        self.bytes.is_empty() && self.context.mode.is_text()
+    }
+
+    /// Reads one byte more: a sign, where plain bytes are signs and nothing is pending.
+    fn read_sign(&mut self, byte: u8) -> ArrayVec<Item, 2>
+        requires idle { IsIdle self.old }
+        requires plain { is_plain byte ≡ true }
+        requires few { self.old.place < 2 ^ 32 }
+        ensures items { result.items ≡ (reading_with self.old byte).items }
+        ensures state { self.new ≡ state_after self.old byte }
+        ensures few_pending { length self.new.pending ≤ 99 }
+        ensures valid { AreValid result.items }
+        ensures measured { AreMeasured result.items }
+    {
+        let at = self.place;
+        self.place += 1;
+        listed(Some(Item {
+            at,
+            len: 1,
+            what: Said::Command(Command::Graphic(byte)),
+        }))
+    }
+
+    /// Reads one byte more.
+    fn read_byte(&mut self, byte: u8) -> ArrayVec<Item, 2>
+        requires { self.old.place < 2 ^ 32 }
+        ensures items { result.items ≡ (reading_with self.old byte).items }
+        ensures state { self.new ≡ state_after self.old byte }
+        ensures few_pending { length self.new.pending ≤ 99 }
+        ensures valid { AreValid result.items }
+        ensures measured { AreMeasured result.items }
+    {
+        if self.is_idle() && is_plain(byte) {
+            return self.read_sign(byte);
+        }
+        self.read_other(byte)
+    }
+
+    /// Reads one byte more, whichever it is.
+    fn read_other(&mut self, byte: u8) -> ArrayVec<Item, 2>
+        requires { self.old.place < 2 ^ 32 }
+        ensures items { result.items ≡ (reading_with self.old byte).items }
+        ensures state { self.new ≡ state_after self.old byte }
+        ensures few_pending { length self.new.pending ≤ 99 }
+        ensures valid { AreValid result.items }
+        ensures measured { AreMeasured result.items }
+    {
+        let at = self.place - self.bytes.len() as u64;
+        let items = feed(&mut self.context, &mut self.bytes, at, byte);
+        self.place += 1;
+        items
+    }
+
+    /// Reads one byte more, and answers the items that it closes, in order. The caller pushes at most 2^32 bytes, and none
+    /// after `finish`.
+    pub fn push(&mut self, byte: u8) -> ArrayVec<Item, 2>
+        requires running { self.old.finished ≡ false }
+        requires few { self.old.place < 2 ^ 32 }
+
+        // Whatever bytes led here, the items of these and this byte are the items before and then those answered.
+        ensures items { (b : List ℕ) → Leads b self.old → items (b ++ byte ∷ []) ≡ items b ++ result.items }
+        ensures leads { (b : List ℕ) → Leads b self.old → Leads (b ++ byte ∷ []) self.new }
+
+        // The same of what is pending, where nobody knows the bytes before.
+        ensures answer { result.items ≡ (reading_with self.old byte).items }
+        ensures state { self.new ≡ state_after self.old byte }
+        ensures place { self.new.place ≡ self.old.place + 1 }
+        ensures still_running { self.new.finished ≡ false }
+
+        ensures few_pending { length self.new.pending ≤ 99 }
+        ensures valid { AreValid result.items }
+        ensures measured { AreMeasured result.items }
+    {
+        self.read_byte(byte)
+    }
+
+    /// Closes the input: what is pending is an item, its command where the bytes are a whole unit, else truncated.
+    pub fn finish(&mut self) -> ArrayVec<Item, 2>
+        requires { self.old.finished ≡ false }
+        ensures closed { (b : List ℕ) → Leads b self.old → closed_items b ≡ items b ++ result.items }
+        ensures answer { result.items ≡ closing (pending_reading self.old) }
+        ensures state { self.new ≡ finished_state self.old }
+        ensures valid { AreValid result.items }
+        ensures measured { AreMeasured result.items }
+    {
+        let item = self.last_item();
+        self.bytes.clear();
+        self.finished = true;
+        listed(item)
+    }
+
+    /// What is pending, as an item at the end of the input.
+    fn last_item(&self) -> Option<Item>
+        ensures { option_to_list result ≡ closing (pending_reading self.now) }
+    {
+        if self.bytes.is_empty() {
+            return None;
+        }
+        let len = self.bytes.len() as u8;
+        Some(Item {
+            at: self.place - u64::from(len),
+            len,
+            what: said_at_end(&self.context, self.bytes.as_slice()),
+        })
+    }
+}
