@@ -3,6 +3,8 @@ pub mod Cells
 pub mod Changes
 pub mod Looks
 pub mod Painted
+pub mod Protected
+pub mod Start
 pub mod State
 pub mod ValidControl
 pub mod ValidLook
