@@ -2,10 +2,10 @@
 use Rattle.std.proofs.Common.{◌≡◌, ◌≢◌, ℕ, ◌+◌, ◌*◌, ◌-◌, ◌/◌, ◌%◌, ◌<◌, ◌≤◌, ◌⊎◌, suc, zero, Bool, true, false, not, ◌&&◌, ◌||◌, cond, eqb, List, [], ◌∷◌, ◌++◌, map, length, get_or, refl, sym, ◌∙◌, ap, subst, inl, inr, ⊎_elim, arith, add-suc}
 use Rattle.std.specs.List.{range_with_len, filter, All, AllByRecursion, AllPairs, Contains}
 use Rattle.std.proofs.lemmas.Bool.{cases_Bool, cases_eq, and_parts, and_from, eq-eqb, eqb-true, ne_eqb, and_left, cond-true, cond-false, false≢true, or_parts, or_cases, not-true, not_from_false, not_from_true, false_from_ne_true}
-use Rattle.std.proofs.lemmas.List.Elements.{All-filter, All-map, All-from_get_or, All-from_recursion, recursion_from_All, filter_passes, Contains-append_right, All-head}
+use Rattle.std.proofs.lemmas.List.Elements.{All-filter, All-map, All-from_get_or, All-from_recursion, recursion_from_All, filter_passes, Contains-append_right, All-head, All-contains}
 use Rattle.std.proofs.lemmas.List.Kept.{AllPairs-filter}
 use Rattle.std.proofs.lemmas.List.{get_or-map, length-map}
-use Rattle.std.proofs.lemmas.List.FromFn.{get_or-map-range_with_len, get_or-range_with_len, length-range_with_len}
+use Rattle.std.proofs.lemmas.List.FromFn.{get_or-map-range_with_len, get_or-range_with_len, length-range_with_len, length-map-range_with_len}
 use Rattle.cept_codes.specs.declared.look.Look.{Look}
 use Rattle.cept_codes.proofs.Places.{number-place_of, OnScreen-place_of, number-lt, row-place_of, column-place_of}
 use Rattle.cept_codes.specs.Look.{blank_look}
@@ -17,6 +17,7 @@ use Rattle.cept_profile.specs.Changes.{look_at, differences, listed, changed, pa
 use Rattle.cept_profile.proofs.Looks.{same_look-true, same_look-refl}
 use Rattle.cept_profile.proofs.Painted.{names, AreLooksOf, at-painted_all, IsTable-painted_all, place-is_at}
 use Rattle.cept_codes.proofs.Tables.{same_tables}
+use Rattle.cept_profile.proofs.Rising.{same_rising}
 
 -- a number is that of a place just if the place is in that row and column
 pub is_at-place_of : (n r c : ℕ) → OnScreen r c → n ≡ number r c → is_at (place_of n) r c ≡ true
@@ -82,14 +83,19 @@ pub differences-at : (g h : List (List Look)) (n : ℕ) → n < 960 → get_or (
 unfolding differences
 differences-at g h n below = get_or-map-range_with_len (λ k. not (same_look (look_at g (place_of k)) (look_at h (place_of k)))) 0 960 n n false below (omega arith)
 
+-- the mark of the place in row r and column c
+pub differences-number : (g h : List (List Look)) (r c : ℕ) → OnScreen r c → get_or (differences g h) (number r c) false ≡ differ_at g h r c
+differences-number g h r c on =
+    differences-at g h (number r c) (number-lt r c on)
+    ∙ ap (λ l. not (same_look l (look_at h (place_of (number r c))))) (look_at-number g r c on)
+    ∙ ap (λ l. not (same_look (at blank_look g r c) l)) (look_at-number h r c on)
+
 -- just the places that differ are named
 pub names-changed : (g h : List (List Look)) (r c : ℕ) → OnScreen r c → names (changed g h) r c ≡ differ_at g h r c
 unfolding listed
 names-changed g h r c on =
     names-listed_within (λ n. get_or (differences g h) n false) h 0 960 r c on (omega arith) (omega (arith, number-lt r c on))
-    ∙ differences-at g h (number r c) (number-lt r c on)
-    ∙ ap (λ l. not (same_look l (look_at h (place_of (number r c))))) (look_at-number g r c on)
-    ∙ ap (λ l. not (same_look (at blank_look g r c) l)) (look_at-number h r c on)
+    ∙ differences-number g h r c on
 
 AreLooksOf-entries : (h : List (List Look)) (ns : List ℕ) → AreLooksOf h (map (entry h) ns)
 AreLooksOf-entries h [] = tt
@@ -216,3 +222,29 @@ none_differ g (x ∷ xs) differ = absurd (All-head (λ y. look_at g y.0 ≢ look
 
 pub changed-same : (g : List (List Look)) → changed g g ≡ []
 changed-same g = none_differ g (changed g g) (differ-changed g g)
+
+-- ---- the list of changes is the only such list
+
+-- what one list of changes names, another names too
+named_by_both : (g h : List (List Look)) (xs ys : List (Place × Look)) → AreChanges g h xs → AreChanges g h ys → (x : Place × Look) → Contains xs x → Contains ys x
+named_by_both g h xs ys are_x are_y x there =
+    let on : OnScreen x.0.row x.0.column = All-contains (λ y. OnScreen y.0.row y.0.column) xs x are_x.on_screen there in
+    let look : x.1 ≡ look_at h x.0 = All-contains (λ y. y.1 ≡ look_at h y.0) xs x are_x.new_looks there in
+    let other : look_at g x.0 ≢ look_at h x.0 = All-contains (λ y. look_at g y.0 ≢ look_at h y.0) xs x are_x.differ there in
+    elim (are_y.each x.0 on) [
+      inl named ↦ let at_x : (x.0, look_at h x.0) ≡ x = λ i. (x.0, sym look i) in subst (Contains ys) at_x named
+    | inr same ↦ absurd (other same)
+    ]
+
+pub changed_is : (g h : List (List Look)) (xs : List (Place × Look)) → AreChanges g h xs → xs ≡ changed g h
+changed_is g h xs are =
+    same_rising (λ (x : Place × Look). number x.0.row x.0.column) xs (changed g h) are.in_order (in_order-changed g h)
+    (named_by_both g h xs (changed g h) are (AreChanges-changed g h))
+    (named_by_both g h (changed g h) xs (AreChanges-changed g h) are)
+
+-- ---- marks
+
+pub length-differences : (g h : List (List Look)) → length (differences g h) ≡ 960
+unfolding differences
+length-differences g h = length-map-range_with_len (λ k. not (same_look (look_at g (place_of k)) (look_at h (place_of k)))) 0 960
+

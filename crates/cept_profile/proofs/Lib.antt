@@ -4,6 +4,7 @@ pub mod Changes
 pub mod Looks
 pub mod Painted
 pub mod Protected
+pub mod Rising
 pub mod Start
 pub mod State
 pub mod ValidControl

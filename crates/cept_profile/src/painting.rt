@@ -7,10 +7,11 @@ ghost use Rattle.cept_codes.specs.Place.{Place, OnScreen};
 ghost use Rattle.cept_codes.specs.Table.{IsTable};
 ghost use Rattle.cept_profile.specs.Changes.{changed, look_at, painted_all, AreChanges};
 
-/// The changes from one grid to another name each place that differs, once and in reading order. Painted over the first grid they
+/// The changes from one grid to another name each place that differs, once and in reading order, and no other list does. Painted over the first grid they
 /// give the second; a place that isn't painted keeps its look, and lists may be painted in parts.
 pub fn painting_the_changes()
     ensures are_changes { (g h : List (List Look)) → AreChanges g h (changed g h) }
+    ensures no_others { (g h : List (List Look)) (xs : List (Place × Look)) → AreChanges g h xs → xs ≡ changed g h }
     ensures no_changes { (g : List (List Look)) → changed g g ≡ [] }
     ensures gives { (g h : List (List Look)) → IsTable g → IsTable h → painted_all g (changed g h) ≡ h }
     ensures others_stay {
