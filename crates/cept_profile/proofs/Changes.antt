@@ -6,6 +6,7 @@ use Rattle.std.proofs.lemmas.List.Elements.{All-filter, All-map, All-from_get_or
 use Rattle.std.proofs.lemmas.List.Kept.{AllPairs-filter}
 use Rattle.std.proofs.lemmas.List.{get_or-map, length-map}
 use Rattle.std.proofs.lemmas.List.FromFn.{get_or-map-range_with_len, get_or-range_with_len, length-range_with_len, length-map-range_with_len}
+use Rattle.cept_codes.specs.declared.command.Command.{Command}
 use Rattle.cept_codes.specs.declared.look.Look.{Look}
 use Rattle.cept_codes.proofs.Places.{number-place_of, OnScreen-place_of, number-lt, row-place_of, column-place_of}
 use Rattle.cept_codes.specs.Look.{blank_look}
@@ -13,10 +14,12 @@ use Rattle.cept_codes.specs.Place.{Place, OnScreen, number, place_of}
 use Rattle.cept_codes.specs.Same.{same_look}
 use Rattle.cept_codes.specs.Table.{table, at, IsTable}
 use Rattle.cept_profile.specs.Cells.{is_at}
-use Rattle.cept_profile.specs.Changes.{look_at, differences, listed, changed, painted, painted_all, IsBefore, AreChanges}
+use Rattle.cept_profile.specs.Changes.{look_at, differences, listed, changed, changes, painted, painted_all, IsBefore, AreChanges}
+use Rattle.cept_profile.specs.Look.{look, grid}
+use Rattle.cept_profile.specs.State.{page}
 use Rattle.cept_profile.proofs.Looks.{same_look-true, same_look-refl}
 use Rattle.cept_profile.proofs.Painted.{names, AreLooksOf, at-painted_all, IsTable-painted_all, place-is_at}
-use Rattle.cept_codes.proofs.Tables.{same_tables}
+use Rattle.cept_codes.proofs.Tables.{IsTable-table, same_tables}
 use Rattle.cept_profile.proofs.Rising.{same_rising}
 
 -- a number is that of a place just if the place is in that row and column
@@ -248,3 +251,9 @@ pub length-differences : (g h : List (List Look)) → length (differences g h) �
 unfolding differences
 length-differences g h = length-map-range_with_len (λ k. not (same_look (look_at g (place_of k)) (look_at h (place_of k)))) 0 960
 
+
+-- ---- one more command
+
+pub painted_all-changes : (history : List Command) (command : Command) → painted_all (grid history) (changes history command) ≡ grid (history ++ command ∷ [])
+painted_all-changes history command =
+    painted_all-changed (grid history) (grid (history ++ command ∷ [])) (IsTable-table (look (page history))) (IsTable-table (look (page (history ++ command ∷ []))))

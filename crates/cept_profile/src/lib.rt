@@ -10,6 +10,6 @@ mod validity;
 
 pub use first_grid::the_first_grid;
 pub use one_more::{looking_back_is_drawing, one_more_command, one_more_command_by_parts};
-pub use painting::painting_the_changes;
+pub use painting::{each_command_is_shown, painting_the_changes};
 pub use protected_cells::protection;
 pub use validity::{looks_are_valid, strokes_are_valid, validity_is_kept};
