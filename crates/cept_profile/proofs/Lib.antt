@@ -1,7 +1,6 @@
 pub mod Control
 pub mod Cells
 pub mod Changes
-pub mod Looks
 pub mod Painted
 pub mod Protected
 pub mod Rising

@@ -1,15 +1,15 @@
 -- The state and the grid before any command.
-use Rattle.std.proofs.Common.{◌≡◌, ℕ, List, [], refl, ap}
+use Rattle.std.proofs.Common.{◌≡◌, [], refl, ap}
 use Rattle.cept_codes.specs.declared.cell.Cell.{Cell}
 use Rattle.cept_codes.specs.declared.look.Look.{Look}
 use Rattle.cept_codes.specs.Cell.{blank}
 use Rattle.cept_codes.specs.Look.{blank_look}
-use Rattle.cept_codes.specs.Table.{table, at}
+use Rattle.cept_codes.specs.Table.{table}
 use Rattle.cept_codes.proofs.Tables.{at-table, same_table}
 use Rattle.cept_profile.specs.Cells.{cell_back}
 use Rattle.cept_profile.specs.Control.{initial}
 use Rattle.cept_profile.specs.Look.{shape_of, look, looks_of, grid}
-use Rattle.cept_profile.specs.State.{Page, State, page, state, blank_page}
+use Rattle.cept_profile.specs.State.{page, state, blank_page}
 
 pub page-none : page [] ≡ blank_page
 unfolding cell_back

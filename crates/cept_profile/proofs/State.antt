@@ -1,12 +1,12 @@
 -- One more command: the state after it is made of the state before it.
-use Rattle.std.proofs.Common.{◌≡◌, List, [], ◌∷◌, ◌++◌, reverse, refl, sym, ◌∙◌, ap}
+use Rattle.std.proofs.Common.{◌≡◌, List, [], ◌∷◌, ◌++◌, reverse, sym, ◌∙◌, ap}
 use Rattle.cept_codes.specs.declared.cell.Cell.{Cell}
 use Rattle.cept_codes.specs.declared.command.Command.{Command}
 use Rattle.cept_codes.specs.declared.stroke.Stroke.{Stroke}
 use Rattle.cept_codes.specs.Command.{IsValidCommand}
 use Rattle.cept_codes.specs.Table.{table}
-use Rattle.cept_profile.specs.Cells.{cell_back, struck_all}
-use Rattle.cept_profile.specs.Control.{ControlState, control, control_after}
+use Rattle.cept_profile.specs.Cells.{cell_back}
+use Rattle.cept_profile.specs.Control.{ControlState, control}
 use Rattle.cept_profile.specs.State.{Page, State, page, state, blank_page, drawn, after}
 use Rattle.cept_profile.specs.Strokes.{strokes_back, strokes_of, strokes_in}
 use Rattle.cept_profile.specs.Valid.{AllValid}

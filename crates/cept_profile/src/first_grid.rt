@@ -10,5 +10,4 @@ ghost use Rattle.cept_profile.specs.State.{blank_page, state};
 pub fn the_first_grid()
     ensures state { state [] ≡ record { page = blank_page; control = initial } }
     ensures grid { grid [] ≡ table (λ r c. blank_look) }
-{
-}
+{}

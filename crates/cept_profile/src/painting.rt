@@ -16,22 +16,14 @@ pub fn painting_the_changes()
     ensures no_others { (g h : List (List Look)) (xs : List (Place × Look)) → AreChanges g h xs → xs ≡ changed g h }
     ensures no_changes { (g : List (List Look)) → changed g g ≡ [] }
     ensures gives { (g h : List (List Look)) → IsTable g → IsTable h → painted_all g (changed g h) ≡ h }
-    ensures others_stay {
-        (g : List (List Look)) (xs : List (Place × Look)) (p : Place) → OnScreen p.row p.column
-            → All (λ x. x.0 ≢ p) xs → look_at (painted_all g xs) p ≡ look_at g p
-    }
-    ensures in_parts {
-        (g : List (List Look)) (xs ys : List (Place × Look))
-            → painted_all g (xs ++ ys) ≡ painted_all (painted_all g xs) ys
-    }
-{
-}
+    ensures others_stay { (g : List (List Look)) (xs : List (Place × Look)) (p : Place) → OnScreen p.row p.column
+        → All (λ x. x.0 ≢ p) xs → look_at (painted_all g xs) p ≡ look_at g p }
+    ensures in_parts { (g : List (List Look)) (xs ys : List (Place × Look))
+        → painted_all g (xs ++ ys) ≡ painted_all (painted_all g xs) ys }
+{}
 
 /// What one more command changes, painted over the grid before it, gives the grid after it.
 pub fn each_command_is_shown()
-    ensures {
-        (history : List Command) (command : Command)
-            → painted_all (grid history) (changes history command) ≡ grid (history ++ command ∷ [])
-    }
-{
-}
+    ensures { (history : List Command) (command : Command)
+        → painted_all (grid history) (changes history command) ≡ grid (history ++ command ∷ []) }
+{}
