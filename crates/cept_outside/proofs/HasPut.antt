@@ -3,13 +3,13 @@ use Rattle.std.proofs.Common.{◌≡◌, ℕ, ◌+◌, ◌-◌, ◌<◌, ◌≤�
 use Rattle.std.specs.Io.KnownBytes.{append_known}
 use Rattle.std.proofs.lemmas.List.{drop-drop, take_all}
 use Rattle.std.proofs.Math.Seq.{take-add}
-use Rattle.cept_outside.specs.SinkState.{SinkState, Puts, PutsPart}
+use Rattle.cept_outside.specs.SinkState.{SinkState, Puts, Gains}
 
 -- what isn't left of the text was put
 pub record HasPut (text rest : List ℕ) (old now : SinkState) : Type 0 where
   pub within : length rest ≤ length text
   pub behind : rest ≡ drop (length text - length rest) text
-  pub put : PutsPart old (take (length text - length rest) text) now
+  pub put : Gains old (take (length text - length rest) text) now
   pub later : old.faults ≤ now.faults
   pub nothing : text ≡ [] → now ≡ old
 
@@ -18,8 +18,11 @@ append_known_twice None a b = refl
 append_known_twice (Some xs) a b = ap Some (append_assoc xs a b)
 
 module _ (text rest next : List ℕ) (n done : ℕ) (within : n ≤ length rest) (behind : rest ≡ drop done text) (is : next ≡ take (length rest - n) (drop n rest)) where
+  all_left : next ≡ drop n rest
+  all_left = is ∙ take_all _ (drop n rest) (omega (arith, length-drop n rest))
+
   left_is : next ≡ drop (done + n) text
-  left_is = ?
+  left_is = all_left ∙ ap (drop n) behind ∙ drop-drop n done text
 
   length_is : length next + n ≡ length rest
   length_is = omega (arith, ap length all_left, length-drop n rest)

@@ -2,3 +2,4 @@ pub mod Reached
 pub mod Chosen
 pub mod Added
 pub mod HasPut
+pub mod HandedOn

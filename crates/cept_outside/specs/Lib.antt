@@ -9,3 +9,6 @@ pub mod Sound
 pub mod QuietShelf
 pub mod MemSink
 pub mod QuietSink
+pub mod FileShelf
+pub mod StdSink
+pub mod Untold

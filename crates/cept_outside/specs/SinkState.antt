@@ -26,7 +26,7 @@ pub record Flushes {X E : Type 0} (old : SinkState) (result : Result X E) (new :
   pub failed : OnErr result (new.unflushed ≡ old.unflushed)
 
 -- these bytes were put, in one call or several; unflushed stays where there are none
-pub record PutsPart (old : SinkState) (part : List ℕ) (new : SinkState) : Type 0 where
+pub record Gains (old : SinkState) (part : List ℕ) (new : SinkState) : Type 0 where
   pub bytes : new.bytes ≡ append_known old.bytes part
   pub unflushed : 0 < length part → new.unflushed ≡ true
   pub unflushed_stays : part ≡ [] → new.unflushed ≡ old.unflushed

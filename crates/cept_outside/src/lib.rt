@@ -4,6 +4,7 @@
 
 mod calls;
 mod fault;
+mod file_shelf;
 mod mem_shelf;
 mod mem_sink;
 mod putting;
@@ -12,9 +13,11 @@ mod quiet_sink;
 mod rack;
 mod shelf;
 mod sink;
+mod std_sink;
 mod steps;
 
 pub use fault::{Failed, WriteFault};
+pub use file_shelf::FileShelf;
 pub use mem_shelf::MemShelf;
 pub use mem_sink::MemSink;
 pub use putting::put_all;
@@ -22,4 +25,5 @@ pub use quiet_shelf::QuietShelf;
 pub use quiet_sink::QuietSink;
 pub use shelf::Shelf;
 pub use sink::Sink;
+pub use std_sink::StdSink;
 pub use steps::Steps;
