@@ -27,6 +27,10 @@ use Rattle.cept_codes.specs.declared.item.Reason.{Reason}
 use Rattle.cept_codes.specs.declared.item.Said.{Said}
 use Rattle.cept_codes.specs.declared.item.Item.{Item}
 use Rattle.cept_codes.specs.declared.stroke.Stroke.{Stroke}
+use Rattle.cept_codes.specs.declared.memory.NoMemory.{NoMemory}
+use Rattle.cept_codes.specs.Place.{Place}
+use Rattle.cept_codes.specs.contracts.memory.NoMemoryPartialEq.TheImpl.{ghosts as no_memory_comparison}
+use Rattle.cept_codes.specs.contracts.position.PosPartialEq.TheImpl.{ghosts as place_comparison}
 use Rattle.cept_codes.specs.contracts.glyph.SetIdPartialEq.TheImpl.{ghosts as set_comparison}
 use Rattle.cept_codes.specs.contracts.glyph.GlyphPartialEq.TheImpl.{ghosts as glyph_comparison}
 use Rattle.cept_codes.specs.contracts.attribute.SizePartialEq.TheImpl.{ghosts as size_comparison}
@@ -135,3 +139,9 @@ same_item = item_comparison.eq
 
 abbrev pub same_stroke : Stroke → Stroke → Bool
 same_stroke = stroke_comparison.eq
+
+abbrev pub same_place : Place → Place → Bool
+same_place = place_comparison.eq
+
+abbrev pub same_no_memory : NoMemory → NoMemory → Bool
+same_no_memory = no_memory_comparison.eq
