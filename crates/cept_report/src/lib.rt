@@ -4,3 +4,6 @@
 mod line;
 mod lines;
 mod look;
+mod put;
+
+pub use put::{put_changes, put_refusal};
