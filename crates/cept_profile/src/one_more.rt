@@ -1,4 +1,4 @@
-//! Laws of the state: one more command needs only the state before it, and looking back shows what drawing forwards makes.
+//! Laws of the state: one more command needs only the state before it, and looking back shows what drawing makes.
 ghost use Rattle.std.specs.Prelude.{◌≡◌, List, [], ◌∷◌, ◌++◌};
 ghost use Rattle.cept_codes.specs.declared.command.Command.{Command};
 ghost use Rattle.cept_codes.specs.Command.{IsValidCommand};
@@ -7,7 +7,8 @@ ghost use Rattle.cept_profile.specs.State.{after, blank_page, drawn, page, state
 ghost use Rattle.cept_profile.specs.Strokes.{strokes_in, strokes_of};
 ghost use Rattle.cept_profile.specs.Valid.{AllValid};
 
-/// The state after one more command is made of the state before it and of that command: no other part of the history counts.
+/// The state after one more command is made of the state before it and of that command: no other part of the history
+/// counts.
 pub fn one_more_command()
     ensures { (history : List Command) (command : Command) → AllValid history → IsValidCommand command
         → state (history ++ command ∷ []) ≡ after (state history) command }
@@ -23,7 +24,8 @@ pub fn one_more_command_by_parts()
         → page (history ++ command ∷ []) ≡ drawn (page history) (strokes_of (control history) command) }
 {}
 
-/// The page whose cells are asked of the strokes from the last backwards is the blank page with all strokes drawn in order.
+/// The page whose cells are asked of the strokes from the last backwards is the blank page with all strokes drawn in
+/// order.
 pub fn looking_back_is_drawing()
     ensures { (history : List Command) → page history ≡ drawn blank_page (strokes_in history) }
 {}

@@ -10,8 +10,8 @@ ghost use Rattle.cept_profile.specs.Cells.{seen, struck_all};
 
 use cept_codes::Stroke;
 
-/// A cell that is put stands at its place where the cell there wasn't protected, and no other place changes. A protected cell changes
-/// only by `Wipe`.
+/// A cell that is put stands at its place where the cell there wasn't protected, and no other place changes. A protected
+/// cell changes only by `Wipe`.
 pub fn protection()
     ensures written { (p : Place) (cell : Cell) (was : ℕ → ℕ → Cell) → (was p.row p.column).protected ≡ false
         → seen (Stroke.Put p cell) was p.row p.column ≡ cell }
@@ -19,6 +19,7 @@ pub fn protection()
         → seen (Stroke.Put p cell) was q.row q.column ≡ was q.row q.column }
     ensures stays { (stroke : Stroke) (was : ℕ → ℕ → Cell) (r c : ℕ) → IsTrue (was r c).protected
         → (stroke ≡ Stroke.Wipe) ⊎ (seen stroke was r c ≡ was r c) }
-    ensures stays_on { (cells : List (List Cell)) (strokes : List Stroke) (r c : ℕ) → OnScreen r c → IsTrue (at blank cells r c).protected
+    ensures stays_on { (cells : List (List Cell)) (strokes : List Stroke) (r c : ℕ) → OnScreen r c
+        → IsTrue (at blank cells r c).protected
         → Contains strokes Stroke.Wipe ⊎ (at blank (struck_all cells strokes) r c ≡ at blank cells r c) }
 {}

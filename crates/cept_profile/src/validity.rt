@@ -1,4 +1,4 @@
-//! Laws of valid states: the initial state is valid, and valid commands keep it valid, with valid strokes and valid looks.
+//! Laws of valid states: the initial state is valid, and valid commands keep it valid, with valid strokes and looks.
 ghost use Rattle.std.specs.Prelude.{◌≤◌, List, [], length};
 ghost use Rattle.std.specs.List.{AllByRecursion};
 ghost use Rattle.cept_codes.specs.declared.command.Command.{Command};
@@ -10,10 +10,12 @@ ghost use Rattle.cept_profile.specs.State.{Page, State, state, after};
 ghost use Rattle.cept_profile.specs.Strokes.{strokes_of};
 ghost use Rattle.cept_profile.specs.Valid.{AllValid, IsValidControl, IsValidGrid, IsValidPage, IsValidState};
 
-/// The state is valid at the start and after any list of valid commands, since each valid command keeps a valid state valid.
+/// The state is valid at the start and after any list of valid commands, since each valid command keeps a valid state
+/// valid.
 pub fn validity_is_kept()
     ensures start { IsValidState (state []) }
-    ensures kept { (s : State) (command : Command) → IsValidState s → IsValidCommand command → IsValidState (after s command) }
+    ensures kept { (s : State) (command : Command) → IsValidState s → IsValidCommand command
+        → IsValidState (after s command) }
     ensures always { (history : List Command) → AllValid history → IsValidState (state history) }
 {}
 
