@@ -16,6 +16,9 @@ mod sink;
 mod std_sink;
 mod steps;
 
+#[cfg(test)]
+mod tests;
+
 pub use fault::{Failed, WriteFault};
 pub use file_shelf::FileShelf;
 pub use mem_shelf::MemShelf;
