@@ -11,3 +11,4 @@ pub mod ValidLook
 pub mod ValidPage
 pub mod ValidState
 pub mod Worked
+pub mod Listed
