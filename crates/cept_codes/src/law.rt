@@ -1,8 +1,8 @@
 //! Laws of the definitions: functions that do nothing, and whose clauses say what holds of the words that clauses use.
 ghost use Rattle.std.specs.Prelude.{◌≡◌, ℕ, ◌<◌, ◌&&◌, ◌⊎◌, ◌↔◌, ◌==◌, if◌then◌else◌, ◌-◌, List, [], slice_index_or, slice_set};
-ghost use Rattle.cept_codes.specs.Attribute.{unset};
-ghost use Rattle.cept_codes.specs.Cell.{blank};
-ghost use Rattle.cept_codes.specs.Look.{black, white, blank_look};
+ghost use Rattle.cept_codes.specs.Attribute.{IsValidPen, unset};
+ghost use Rattle.cept_codes.specs.Cell.{IsValidCell, blank};
+ghost use Rattle.cept_codes.specs.Look.{IsValidPaint, IsValidLook, black, white, blank_look};
 ghost use Rattle.cept_codes.specs.Place.{Place, OnScreen, number, place_of};
 ghost use Rattle.cept_codes.specs.Table.{table, at, IsTable};
 
@@ -17,6 +17,15 @@ pub fn constants_are_the_words()
     ensures black_paint { Paint.BLACK ≡ black }
     ensures white_paint { Paint.WHITE ≡ white }
     ensures blank_look { Look.BLANK ≡ blank_look }
+{}
+
+/// The words for what is blank, unset, black and white are valid values.
+pub fn constants_are_valid()
+    ensures blank_cell { IsValidCell blank }
+    ensures unset_pen { IsValidPen unset }
+    ensures black_paint { IsValidPaint black }
+    ensures white_paint { IsValidPaint white }
+    ensures blank_look { IsValidLook blank_look }
 {}
 
 /// A table is what it shows at each place: reading the table of a function gives the function, tables that agree at

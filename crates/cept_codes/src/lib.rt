@@ -24,7 +24,7 @@ pub use equality::{
 };
 pub use glyph::{Glyph, SetId};
 pub use item::{Item, Reason, Said};
-pub use law::{constants_are_the_words, reading_order, tables_are_by_place};
+pub use law::{constants_are_the_words, constants_are_valid, reading_order, tables_are_by_place};
 pub use look::{Inks, Look, Paint, Part, Pattern, Rgb, Shape, looks_are_same};
 pub use memory::NoMemory;
 pub use position::Pos;
