@@ -1,0 +1,8 @@
+//! The screen: it applies commands to a page and its control, marks the places whose look changes and paints them on
+//! a glass. It knows no bytes and keeps no history.
+#![tactic(auto)]
+
+mod control;
+mod marks;
+
+pub use marks::Marks;
