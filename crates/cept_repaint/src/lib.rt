@@ -3,6 +3,7 @@
 #![tactic(auto)]
 
 mod control;
+mod grid;
 mod marks;
 
 pub use marks::Marks;
