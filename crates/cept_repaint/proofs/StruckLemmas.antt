@@ -1,15 +1,16 @@
 -- What a write of the grid's rows makes of the table of cells, against what a stroke makes of it.
-use Rattle.std.proofs.Common.{◌≡◌, ℕ, ◌+◌, ◌<◌, ◌&&◌, ◌==◌, not, Bool, true, false, cond, List, [], ◌++◌, get_or, set, take, length, refl, sym, ap, ◌∙◌, inl, inr, subst, arith}
+use Rattle.std.proofs.Common.{◌≡◌, ℕ, ◌+◌, ◌<◌, ◌≤◌, ◌&&◌, ◌==◌, not, Bool, true, false, cond, List, [], ◌++◌, get_or, set, take, drop, length, refl, sym, ap, ◌∙◌, inl, inr, subst, arith}
 use Rattle.std.proofs.lemmas.Bool.{and_parts, eqb-true}
-use Rattle.std.proofs.lemmas.List.{ext_get_or, take_at}
+use Rattle.std.proofs.lemmas.List.{ext_get_or, take_at, at_drop_more, at_drop_all}
 use Rattle.cept_codes.specs.declared.cell.Cell.{Cell}
+use Rattle.cept_codes.specs.declared.stroke.Stroke.{Stroke}
 use Rattle.cept_codes.specs.declared.stroke.Stroke.TheVariants as strokes
 use Rattle.cept_codes.specs.Cell.{blank}
 use Rattle.cept_codes.specs.Place.{Place, OnScreen}
 use Rattle.cept_codes.specs.Table.{table, row_of, at, IsTable}
-use Rattle.cept_codes.proofs.Tables.{set_is, same_table, table_is, length-table, get_or-table}
+use Rattle.cept_codes.proofs.Tables.{table-at, set_is, same_table, table_is, length-table, get_or-table}
 use Rattle.cept_repaint.specs.declared.grid.TheConstants.{BLANK_ROW}
-use Rattle.cept_profile.specs.Cells.{is_at, seen, struck}
+use Rattle.cept_profile.specs.Cells.{is_at, seen, struck, struck_all}
 
 -- a place written, where it is free to be written
 free_choice : {X : Type 0} (here protected : Bool) (x y : X) → (here ≡ true → protected ≡ false) → cond here x y ≡ cond (here && not protected) x y
@@ -57,3 +58,29 @@ struck-wipe rows rest old lent now n is same long en all_blank =
     ext_get_or [] rows (table f) (long ∙ whole ∙ sym (length-table f)) (λ i below.
     let last : i < 24 = omega (arith, below, long, whole) in
     all_blank i [] (omega (arith, last, whole)) ∙ blank_row ∙ sym (get_or-table f i (i + 1) [] last refl))
+
+-- a stroke that writes no cell
+pub struck-other : {now : List (List Cell)} → IsTable now → (stroke : Stroke) → ((p : Place) (cell : Cell) → stroke ≡ strokes.Put p cell → ⊥) → (stroke ≡ strokes.Wipe → ⊥) → now ≡ struck now stroke
+struck-other is (strokes.Put p cell) no_put no_wipe = absurd (no_put p cell refl)
+struck-other is strokes.Wipe no_put no_wipe = absurd (no_wipe refl)
+struck-other is (strokes.Erase r from) no_put no_wipe = sym (table-at is blank)
+struck-other is (strokes.Shift a b way) no_put no_wipe = sym (table-at is blank)
+struck-other is (strokes.RowAttr r attr) no_put no_wipe = sym (table-at is blank)
+struck-other is (strokes.ScreenAttr attr) no_put no_wipe = sym (table-at is blank)
+struck-other is strokes.ScreenClear no_put no_wipe = sym (table-at is blank)
+struck-other is (strokes.Colour i paint) no_put no_wipe = sym (table-at is blank)
+struck-other is (strokes.Dclut i v) no_put no_wipe = sym (table-at is blank)
+struck-other is strokes.ColourDefaults no_put no_wipe = sym (table-at is blank)
+struck-other is strokes.DrcsClear no_put no_wipe = sym (table-at is blank)
+struck-other is (strokes.Drcs code pattern) no_put no_wipe = sym (table-at is blank)
+struck-other is (strokes.Format rows) no_put no_wipe = sym (table-at is blank)
+
+-- the strokes that are left of a list, one stroke on and at the end
+pub struck_all-drop : (cells now : List (List Cell)) (xs : List Stroke) (i : ℕ) (x : Stroke) → i < length xs → x ≡ get_or xs i x → now ≡ struck cells x → struck_all now (drop (i + 1) xs) ≡ struck_all cells (drop i xs)
+unfolding struck_all
+struck_all-drop cells now xs i x below item struck_once =
+    ap (λ (t : List (List Cell)). struck_all t (drop (i + 1) xs)) (struck_once ∙ ap (λ (stroke : Stroke). struck cells stroke) item) ∙ sym (at_drop_more (struck_all cells) xs i x below)
+
+pub struck_all-drop_all : (cells : List (List Cell)) (xs : List Stroke) (i : ℕ) → length xs ≤ i → struck_all cells (drop i xs) ≡ cells
+unfolding struck_all
+struck_all-drop_all cells xs i past = at_drop_all (struck_all cells) xs i past

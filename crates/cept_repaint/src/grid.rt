@@ -1,4 +1,4 @@
-ghost use Rattle.std.specs.Prelude.{◌≡◌, ℕ, ◌<◌, Bool, false, not, List, length, slice_index_or, IfOk};
+ghost use Rattle.std.specs.Prelude.{◌≡◌, ℕ, ◌-◌, ◌<◌, ◌≤◌, Bool, false, not, List, length, slice_index_or, IfOk};
 ghost use Rattle.cept_codes.specs.declared.cell.Cell.{Cell};
 ghost use Rattle.cept_codes.specs.Cell.{blank};
 ghost use Rattle.cept_codes.specs.Table.{table, at, IsTable};
@@ -66,6 +66,30 @@ impl Grid {
             self.rows[usize::from(place.row()) - 1][usize::from(place.col()) - 1] = cell;
         }
         free
+    }
+
+    /// The cells of a row, from the left.
+    pub(crate) fn row(&self, row: u8) -> &[Cell; 40]
+        requires from_top { 1 ≤ row }
+        requires to_bottom { row ≤ 24 }
+        ensures cells { (d : List Cell) → result.now ≡ slice_index_or self.now (row - 1) d }
+        ensures columns { length result.now ≡ 40 }
+    {
+        &self.rows[usize::from(row) - 1]
+    }
+
+    /// Changes the cells as a stroke does.
+    pub(crate) fn strike(&mut self, stroke: &Stroke)
+        ensures { self.new ≡ struck self.old stroke.now }
+    {
+        let _rows = &self.rows;
+        match stroke {
+            Stroke::Put(place, cell) => {
+                let _ = self.put(*place, *cell);
+            }
+            Stroke::Wipe => self.wipe(),
+            _ => {}
+        }
     }
 
     /// Makes every cell blank and unprotected.

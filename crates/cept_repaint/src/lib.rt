@@ -5,5 +5,6 @@
 mod control;
 mod grid;
 mod marks;
+mod page;
 
 pub use marks::Marks;
