@@ -3,8 +3,14 @@
 #![tactic(auto)]
 
 mod control;
+mod glass;
 mod grid;
 mod marks;
 mod page;
+mod screen;
+mod steps;
 
+pub use glass::Glass;
 pub use marks::Marks;
+pub use screen::Screen;
+pub use steps::Steps;
