@@ -1,7 +1,23 @@
 //! Laws of the definitions: functions that do nothing, and whose clauses say what holds of the words that clauses use.
 ghost use Rattle.std.specs.Prelude.{◌≡◌, ℕ, ◌<◌, ◌&&◌, ◌⊎◌, ◌↔◌, ◌==◌, if◌then◌else◌, ◌-◌, List, [], slice_index_or, slice_set};
+ghost use Rattle.cept_codes.specs.Attribute.{unset};
+ghost use Rattle.cept_codes.specs.Cell.{blank};
+ghost use Rattle.cept_codes.specs.Look.{black, white, blank_look};
 ghost use Rattle.cept_codes.specs.Place.{Place, OnScreen, number, place_of};
 ghost use Rattle.cept_codes.specs.Table.{table, at, IsTable};
+
+use crate::attribute::Pen;
+use crate::cell::Cell;
+use crate::look::{Look, Paint};
+
+/// The constants of code are the words of clauses.
+pub fn constants_are_the_words()
+    ensures blank_cell { Cell.BLANK ≡ blank }
+    ensures unset_pen { Pen.UNSET ≡ unset }
+    ensures black_paint { Paint.BLACK ≡ black }
+    ensures white_paint { Paint.WHITE ≡ white }
+    ensures blank_look { Look.BLANK ≡ blank_look }
+{}
 
 /// A table is what it shows at each place: reading the table of a function gives the function, tables that agree at
 /// each place are the same, and each is the table of what is read in it.
