@@ -1,5 +1,11 @@
-pub mod Tables
 pub mod Control
 pub mod Cells
+pub mod Changes
+pub mod Looks
+pub mod Painted
 pub mod State
+pub mod ValidControl
+pub mod ValidLook
+pub mod ValidPage
+pub mod ValidState
 pub mod Worked

@@ -3,5 +3,9 @@
 #![tactic(auto)]
 
 mod one_more;
+mod painting;
+mod validity;
 
 pub use one_more::one_more_command;
+pub use painting::painting_the_changes;
+pub use validity::{looks_are_valid, strokes_are_valid, validity_is_kept};
