@@ -1,1 +1,3 @@
+pub mod LookLemmas
+pub mod RefreshLemmas
 pub mod StruckLemmas

@@ -9,18 +9,6 @@ use arrayvec::ArrayVec;
 use cept_codes::{Cell, Command, Glyph, Pen, Pos, SetId, Stroke, What};
 use std::marker::Model;
 
-/// A pen in which no class is set.
-const UNSET: Pen = Pen {
-    fore: None,
-    back: None,
-    flash: None,
-    conceal: None,
-    lined: None,
-    boxed: None,
-    size: None,
-    invert: None,
-};
-
 /// The state of control as far as commands that are built change it: the position and the last sign written.
 #[derive(Drop)]
 pub(crate) struct Control {
@@ -174,7 +162,7 @@ fn sign_cell(glyph: Glyph) -> Cell
     ensures { result ≡ cell_of initial glyph }
 {
     Cell {
-        what: What::Parallel(glyph, UNSET),
+        what: What::Parallel(glyph, Pen::UNSET),
         protected: false,
     }
 }

@@ -4,18 +4,12 @@ ghost use Rattle.cept_codes.specs.Cell.{blank};
 ghost use Rattle.cept_codes.specs.Table.{table, at, IsTable};
 ghost use Rattle.cept_profile.specs.Cells.{struck};
 
-use cept_codes::{Cell, NoMemory, Pos, Stroke, What};
+use cept_codes::{Cell, NoMemory, Pos, Stroke};
 use std::alloc::Global;
 use std::marker::Model;
 
-/// A cell into which nothing was written.
-const BLANK: Cell = Cell {
-    what: What::Blank,
-    protected: false,
-};
-
-/// A row of such cells.
-const BLANK_ROW: [Cell; 40] = [BLANK; 40];
+/// A row into which nothing was written.
+const BLANK_ROW: [Cell; 40] = [Cell::BLANK; 40];
 
 /// The cells of the screen: 24 rows of 40.
 #[derive(Drop)]

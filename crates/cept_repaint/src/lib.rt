@@ -5,8 +5,10 @@
 mod control;
 mod glass;
 mod grid;
+mod looks;
 mod marks;
 mod page;
+mod refresh;
 mod screen;
 mod steps;
 

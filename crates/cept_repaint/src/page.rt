@@ -6,28 +6,9 @@ ghost use Rattle.cept_profile.specs.Look.{look, shape_of, shape_of_sign};
 ghost use Rattle.cept_profile.specs.State.{page, drawn};
 
 use crate::grid::Grid;
-use cept_codes::{Cell, Flash, Glyph, Look, NoMemory, Paint, Pos, Rgb, Shape, Stroke, What};
+use cept_codes::{Cell, Glyph, Look, NoMemory, Pos, Shape, Stroke, What};
 use std::alloc::Global;
 use std::marker::Model;
-
-/// The look of a place on which nothing was written.
-pub(crate) const BLANK_LOOK: Look = Look {
-    shape: Shape::Space,
-    dy: 0,
-    dx: 0,
-    w: 1,
-    h: 1,
-    fore: Paint::Ink(Rgb {
-        r: 15,
-        g: 15,
-        b: 15,
-    }),
-    back: Paint::Ink(Rgb { r: 0, g: 0, b: 0 }),
-    flash: Flash::Steady,
-    conceal: false,
-    lined: false,
-    boxed: false,
-};
 
 /// What strokes change: the cells of the screen.
 #[derive(Drop)]
@@ -75,7 +56,7 @@ impl Page {
         ensures { result ≡ row_of (look self.now row) }
     {
         let cells = self.grid.row(row);
-        let mut looks = [BLANK_LOOK; 40];
+        let mut looks = [Look::BLANK; 40];
         for i in 0..40usize {
             looks[i] = look_of(&cells[i]);
         }
@@ -94,7 +75,7 @@ fn look_of(cell: &Cell) -> Look
     };
     Look {
         shape,
-        ..BLANK_LOOK
+        ..Look::BLANK
     }
 }
 

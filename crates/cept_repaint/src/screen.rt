@@ -11,6 +11,7 @@ ghost use Rattle.cept_repaint.specs.Kept.{cell_at};
 
 use crate::control::Control;
 use crate::glass::Glass;
+use crate::looks::Looks;
 use crate::marks::Marks;
 use crate::page::Page;
 use crate::steps::Steps;
@@ -25,7 +26,7 @@ use std::sync::ledger::Ledger;
 pub struct Screen {
     page: Page,
     control: Control,
-    looks: Vec<[Look; 40]>,
+    looks: Looks,
     strokes: ArrayVec<Stroke, 128>,
 }
 
@@ -37,7 +38,7 @@ impl Model for Screen {
 
     ghost view = { λ s. record { page = s.page; control = s.control } };
 
-    ghost invariant = { λ s. IsKept (record { page = s.page; control = s.control }) s.looks.items };
+    ghost invariant = { λ s. IsKept (record { page = s.page; control = s.control }) s.looks };
 }
 
 impl Screen {
@@ -46,7 +47,7 @@ impl Screen {
         ensures look { result ≡ look_at (looks_of self.now.page) at }
         ensures valid { IsValidLook result }
     {
-        self.looks[usize::from(at.row()) - 1][usize::from(at.col()) - 1]
+        self.looks.get(at)
     }
 
     /// The cell at a place.
