@@ -57,9 +57,9 @@ pub RowSoFar-more : {i : ℕ} {fresh was now : List Look} {before marks : List B
 RowSoFar-more {i} {fresh} {was} {now} {before} {marks} {k} m on column next after e f =
     let d : Bool = differ (get_or was k blank_look) (get_or fresh k blank_look) in
     let by_was : after ≡ cond d (set marks (40 * i + k) true) marks =
-        f ∙ ap (λ (x : Look). cond (differ x (get_or fresh k blank_look)) (set marks (40 * i + k) true) marks) (m.left k (omega arith)) in
+    f ∙ ap (λ (x : Look). cond (differ x (get_or fresh k blank_look)) (set marks (40 * i + k) true) marks) (m.left k (omega arith)) in
     let other : (n : ℕ) → n ≢ 40 * i + k → is_marked after n ≡ is_marked marks n =
-        λ n ne. ap (λ (l : List Bool). is_marked l n) by_was ∙ flag_other d marks (40 * i + k) n ne in
+    λ n ne. ap (λ (l : List Bool). is_marked l n) by_was ∙ flag_other d marks (40 * i + k) n ne in
     record {
       long = ap length e ∙ length-set now k (get_or fresh k blank_look) ∙ m.long;
       places = ap length by_was ∙ flag_length d marks (40 * i + k) ∙ m.places;

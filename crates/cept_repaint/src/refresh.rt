@@ -11,7 +11,12 @@ use std::sync::ledger::Ledger;
 
 /// Resolves all rows of the page from the top, one tick each. Stores the looks that differ from the kept ones, and marks
 /// their places and no others.
-pub(crate) fn refresh<L: Ledger>(page: &Page, looks: &mut Looks, marks: &mut Marks, steps: &mut Steps<L>)
+pub(crate) fn refresh<L: Ledger>(
+    page: &Page,
+    looks: &mut Looks,
+    marks: &mut Marks,
+    steps: &mut Steps<L>,
+)
     requires { IsTable looks.old }
     ensures looks { looks.new ≡ looks_of page.now }
     ensures marks { marks.new ≡ differences looks.old (looks_of page.now) }
