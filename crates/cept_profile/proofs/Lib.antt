@@ -1,8 +1,10 @@
 pub mod Control
 pub mod Cells
 pub mod Changes
-pub mod Looks
 pub mod Painted
+pub mod Protected
+pub mod Rising
+pub mod Start
 pub mod State
 pub mod ValidControl
 pub mod ValidLook

@@ -1,13 +1,13 @@
 -- Valid control: the initial state is valid, and every valid command keeps it valid.
-use Rattle.std.proofs.Common.{◌≡◌, ℕ, ◌+◌, ◌<◌, ◌≤◌, ◌⊎◌, min, Bool, true, false, cond, eqb, leb, ltb, Option, Some, None, inl, inr, refl, arith}
+use Rattle.std.proofs.Common.{ℕ, ◌+◌, ◌≤◌, min, cond, eqb, leb, ltb, Option, Some, None, inl, refl, arith}
 use Rattle.std.specs.Prelude.{IfSome}
-use Rattle.std.proofs.lemmas.Bool.{cond_both, eqb-true, eqb-false, ltb-true, leb-true, leb-false}
+use Rattle.std.proofs.lemmas.Bool.{cond_both, eqb-false, ltb-true, leb-true}
 use Rattle.cept_codes.specs.declared.command.Command.{Command}
 use Rattle.cept_codes.specs.declared.command.Command.TheVariants as commands
 use Rattle.cept_codes.specs.declared.glyph.Glyph.{Glyph}
 use Rattle.cept_codes.specs.declared.glyph.SetId.TheVariants as sets
 use Rattle.cept_codes.specs.Attribute.{IsValidPen, unset}
-use Rattle.cept_codes.specs.Command.{IsArea, IsGraphic, IsValidCommand}
+use Rattle.cept_codes.specs.Command.{IsGraphic, IsValidCommand}
 use Rattle.cept_codes.specs.Glyph.{IsValidGlyph}
 use Rattle.cept_codes.specs.Place.{OnScreen}
 use Rattle.cept_profile.specs.Control.{Working, ControlState, initial, initial_sets, initial_working, moved_to, run_ended, pen_unset, row_below, moved_on, sign_of, written, working_after, control_after}
@@ -96,10 +96,10 @@ IsWithin-moved_on s n is =
     let bounds = rows-bounds s is in
     cond_both (leb (w.column + n) 40) (moved_to w.row (w.column + n) w) (cond s.wrap (moved_to (row_below s w.row) 1 w) (moved_to w.row 40 w)) (IsWithin s.rows)
     (λ e. let within = leb-true (w.column + n) 40 e in
-        IsWithin-moved_to s.rows w.row (w.column + n) w (IsWithin-control s is) (record { from_top = on.from_top; to_bottom = on.to_bottom; from_left = omega arith; to_right = within }) is.within)
+    IsWithin-moved_to s.rows w.row (w.column + n) w (IsWithin-control s is) (record { from_top = on.from_top; to_bottom = on.to_bottom; from_left = omega arith; to_right = within }) is.within)
     (λ e. cond_both s.wrap (moved_to (row_below s w.row) 1 w) (moved_to w.row 40 w) (IsWithin s.rows)
-        (λ wraps. IsWithin-moved_to s.rows (row_below s w.row) 1 w (IsWithin-control s is) (OnScreen-row_below s w.row 1 is (record { from_top = on.from_top; to_bottom = on.to_bottom; from_left = omega arith; to_right = omega arith }) is.within) (row_below-within s w.row on.from_top is.within))
-        (λ stays. IsWithin-moved_to s.rows w.row 40 w (IsWithin-control s is) (record { from_top = on.from_top; to_bottom = on.to_bottom; from_left = omega arith; to_right = omega arith }) is.within))
+    (λ wraps. IsWithin-moved_to s.rows (row_below s w.row) 1 w (IsWithin-control s is) (OnScreen-row_below s w.row 1 is (record { from_top = on.from_top; to_bottom = on.to_bottom; from_left = omega arith; to_right = omega arith }) is.within) (row_below-within s w.row on.from_top is.within))
+    (λ stays. IsWithin-moved_to s.rows w.row 40 w (IsWithin-control s is) (record { from_top = on.from_top; to_bottom = on.to_bottom; from_left = omega arith; to_right = omega arith }) is.within))
 
 -- the sign of a graphic byte is a sign
 pub IsValidGlyph-sign_of : (byte : ℕ) → IsGraphic byte → IfSome (sign_of byte) IsValidGlyph

@@ -1,20 +1,19 @@
 -- Valid looks: those of a valid page.
-use Rattle.std.proofs.Common.{◌≡◌, ℕ, ◌<◌, ◌≤◌, ◌&&◌, eqb, List, sym, subst, arith}
+use Rattle.std.proofs.Common.{◌&&◌, eqb, List, sym, subst, arith}
 use Rattle.std.proofs.lemmas.Bool.{cond_both}
 use Rattle.cept_codes.specs.declared.cell.What.{What}
 use Rattle.cept_codes.specs.declared.cell.What.TheVariants as whats
 use Rattle.cept_codes.specs.declared.command.Command.{Command}
 use Rattle.cept_codes.specs.declared.glyph.Glyph.{Glyph}
-use Rattle.cept_codes.specs.declared.look.Look.{Look}
 use Rattle.cept_codes.specs.declared.look.Shape.{Shape}
 use Rattle.cept_codes.specs.declared.look.Shape.TheVariants as shapes
 use Rattle.cept_codes.specs.Cell.{IsValidWhat, blank}
 use Rattle.cept_codes.specs.Glyph.{IsValidGlyph}
-use Rattle.cept_codes.specs.Look.{IsValidRgb, IsValidPaint, IsPart, IsValidShape, IsValidLook, white, black, blank_look}
-use Rattle.cept_codes.specs.Table.{table, at}
+use Rattle.cept_codes.specs.Look.{IsValidPaint, IsValidShape, IsValidLook, white, black, blank_look}
+use Rattle.cept_codes.specs.Table.{at}
 use Rattle.cept_codes.proofs.Tables.{at-table, IsTable-table}
 use Rattle.cept_profile.specs.Look.{shape_of, shape_of_sign, look, looks_of, grid}
-use Rattle.cept_profile.specs.State.{Page, page, state}
+use Rattle.cept_profile.specs.State.{Page, page}
 use Rattle.cept_profile.specs.Valid.{AllValid, IsValidPage, IsValidGrid}
 use Rattle.cept_profile.proofs.ValidState.{IsValidState-state}
 

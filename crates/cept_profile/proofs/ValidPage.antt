@@ -1,5 +1,5 @@
 -- Valid pages: the strokes of a valid command in a valid state keep them valid.
-use Rattle.std.proofs.Common.{◌≡◌, ℕ, ◌<◌, ◌≤◌, Bool, true, false, not, ◌&&◌, cond, eqb, Option, Some, None, List, [], ◌∷◌, length, refl, sym, ◌∙◌, ap, subst, arith}
+use Rattle.std.proofs.Common.{◌≡◌, ℕ, ◌<◌, ◌≤◌, false, not, ◌&&◌, eqb, Option, Some, None, List, [], ◌∷◌, length, refl, sym, ◌∙◌, subst, arith}
 use Rattle.std.specs.List.{AllByRecursion}
 use Rattle.std.specs.Prelude.{IfSome}
 use Rattle.std.proofs.lemmas.Bool.{cond_both, and_parts, eqb-true}
@@ -20,9 +20,8 @@ use Rattle.cept_codes.specs.Table.{table, at, IsTable}
 use Rattle.cept_codes.proofs.Tables.{at-table, IsTable-table}
 use Rattle.cept_profile.specs.Cells.{is_at, seen, struck, struck_all}
 use Rattle.cept_profile.specs.Control.{ControlState, sign_of}
-use Rattle.cept_profile.specs.State.{Page, drawn}
-use Rattle.cept_profile.specs.Strokes.{cell_of, write_of, strokes_of}
-use Rattle.cept_profile.specs.Valid.{IsValidControl, IsValidPage}
+use Rattle.cept_profile.specs.Strokes.{write_of, strokes_of}
+use Rattle.cept_profile.specs.Valid.{IsValidControl}
 use Rattle.cept_profile.proofs.ValidControl.{IsValidGlyph-sign_of}
 
 -- ---- cells, place by place
@@ -67,8 +66,8 @@ AreValidCells-put rows p cell was is place within valid_cell free_cell = record 
   valid = λ r c on. cond_both (is_at p r c && not (was r c).protected) cell (was r c) IsValidCell (λ e. valid_cell) (λ e. is.valid r c on);
   free = λ r c on. cond_both (is_at p r c && not (was r c).protected) cell (was r c) IsFree (λ e. free_cell) (λ e. is.free r c on);
   past = λ r c on behind. cond_both (is_at p r c && not (was r c).protected) cell (was r c) (λ x. x ≡ blank)
-    (λ e. let row = eqb-true p.row r (and_parts (eqb p.row r) (eqb p.column c) (and_parts (is_at p r c) (not (was r c).protected) e).0).0 in absurd (omega arith))
-    (λ e. is.past r c on behind);
+      (λ e. let row = eqb-true p.row r (and_parts (eqb p.row r) (eqb p.column c) (and_parts (is_at p r c) (not (was r c).protected) e).0).0 in absurd (omega arith))
+      (λ e. is.past r c on behind);
 }
 
 pub AreValidCells-seen : (rows : ℕ) (stroke : Stroke) (was : ℕ → ℕ → Cell) → AreValidCells rows was → IsSafe rows stroke → AreValidCells rows (seen stroke was)

@@ -1,13 +1,11 @@
 -- Valid states: the initial state is valid, and every valid command keeps it valid.
-use Rattle.std.proofs.Common.{◌≡◌, ℕ, ◌<◌, ◌≤◌, List, [], ◌∷◌, ◌++◌, reverse, refl, sym, ◌∙◌, ap, subst, arith}
+use Rattle.std.proofs.Common.{List, [], ◌∷◌, ◌++◌, reverse, sym, ◌∙◌, ap, subst}
 use Rattle.std.specs.List.{AllByRecursion}
 use Rattle.std.proofs.lemmas.List.{reverse-append, reverse-reverse}
 use Rattle.cept_codes.specs.declared.command.Command.{Command}
-use Rattle.cept_codes.specs.declared.stroke.Stroke.{Stroke}
 use Rattle.cept_codes.specs.Cell.{blank}
 use Rattle.cept_codes.specs.Command.{IsValidCommand}
 use Rattle.cept_codes.specs.Stroke.{IsValidStroke}
-use Rattle.cept_codes.specs.Table.{table, at}
 use Rattle.cept_profile.specs.Cells.{cell_back}
 use Rattle.cept_profile.specs.Control.{ControlState}
 use Rattle.cept_profile.specs.State.{State, state, after}
@@ -15,7 +13,7 @@ use Rattle.cept_profile.specs.Strokes.{strokes_of}
 use Rattle.cept_profile.specs.Valid.{AllValid, IsValidControl, IsValidState}
 use Rattle.cept_profile.proofs.State.{state-one_more}
 use Rattle.cept_profile.proofs.ValidControl.{IsValidControl-initial, IsValidControl-control_after}
-use Rattle.cept_profile.proofs.ValidPage.{IsSafe, IsValidStroke-safe, IsSafe-strokes_of, AreValidCells, AreValidCells-blank, AreValidTables, AreValidTables-table, AreValidTables-struck_all}
+use Rattle.cept_profile.proofs.ValidPage.{IsSafe, IsValidStroke-safe, IsSafe-strokes_of, AreValidCells-blank, AreValidTables, AreValidTables-table, AreValidTables-struck_all}
 
 -- a valid state is valid control with valid cells of its format
 pub IsValidState-parts : (s : State) → IsValidControl s.control → AreValidTables s.control.rows s.page.cells → IsValidState s

@@ -1,8 +1,7 @@
 -- Worked cases: what the definitions give for short lists of commands, by computing.
-use Rattle.std.proofs.Common.{◌≡◌, ℕ, List, [], ◌∷◌, Some, None, true, false, refl}
+use Rattle.std.proofs.Common.{◌≡◌, ℕ, [], ◌∷◌, Some, false, refl}
 use Rattle.cept_codes.specs.declared.cell.Cell.{Cell}
 use Rattle.cept_codes.specs.declared.cell.What.TheVariants as whats
-use Rattle.cept_codes.specs.declared.command.Command.{Command}
 use Rattle.cept_codes.specs.declared.command.Command.TheVariants.{Graphic, Position, Clear, Return, Down, Repeat}
 use Rattle.cept_codes.specs.declared.glyph.Glyph.{Glyph}
 use Rattle.cept_codes.specs.declared.glyph.SetId.TheVariants.{P}
@@ -11,12 +10,10 @@ use Rattle.cept_codes.specs.declared.look.Shape.TheVariants as shapes
 use Rattle.cept_codes.specs.Attribute.{unset}
 use Rattle.cept_codes.specs.Cell.{blank}
 use Rattle.cept_codes.specs.Look.{blank_look}
-use Rattle.cept_codes.specs.Place.{Place}
 use Rattle.cept_codes.specs.Table.{row_of, table, at}
 use Rattle.cept_profile.specs.Cells.{cell_back}
 use Rattle.cept_profile.specs.Changes.{differences, listed, changes}
 use Rattle.cept_profile.specs.Control.{ControlState, initial, initial_working, moved_to, control}
-use Rattle.cept_profile.specs.Look.{grid}
 use Rattle.cept_profile.specs.State.{page}
 
 abbrev pub sign : ℕ → Glyph

@@ -14,7 +14,7 @@ use Rattle.cept_profile.specs.Look.{grid}
 abbrev pub look_at : List (List Look) → Place → Look
 look_at g p = at blank_look g p.row p.column
 
--- for each place in reading order, whether it is marked where the looks of g and of h differ
+-- for each place in reading order, whether the looks of g and of h differ there: the marks
 unfoldable pub differences : List (List Look) → List (List Look) → List Bool
 differences g h = map (λ n. not (same_look (look_at g (place_of n)) (look_at h (place_of n)))) (range_with_len 0 960)
 
