@@ -6,18 +6,16 @@ use Rattle.cept_codes.specs.Look.{blank_look}
 use Rattle.cept_codes.specs.Place.{Place, OnScreen}
 use Rattle.cept_codes.specs.Same.{same_look}
 use Rattle.cept_codes.specs.Table.{row_of, IsTable}
+use Rattle.cept_codes.proofs.Equal.{look_decides}
 use Rattle.cept_codes.proofs.Tables.{set_is}
 use Rattle.cept_profile.specs.Changes.{painted}
 use Rattle.cept_repaint.specs.declared.looks.TheConstants.{BLANK_ROW}
 use Rattle.cept_repaint.specs.Kept.{differ}
 
-same_look-true : (a b : Look) → same_look a b ≡ true → a ≡ b
-same_look-true a b e = ?
-
 -- looks that don't differ are the same
 pub same_from_differ : (a b : Look) → differ a b ≡ false → a ≡ b
 unfolding differ
-same_from_differ a b e = same_look-true a b (not-false (same_look a b) e)
+same_from_differ a b e = (look_decides a b).0 (not-false (same_look a b) e)
 
 -- a row of blank looks
 pub blank_look_row : BLANK_ROW ≡ row_of (λ _. blank_look)
