@@ -1,3 +1,4 @@
+pub mod FlagLemmas
 pub mod LookLemmas
 pub mod RefreshLemmas
 pub mod StruckLemmas

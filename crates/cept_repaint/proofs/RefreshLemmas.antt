@@ -1,11 +1,20 @@
 -- Looks replaced where they differ, and their places marked: column by column, and row by row.
-use Rattle.std.proofs.Common.{◌≡◌, ◌≢◌, ℕ, ◌+◌, ◌-◌, ◌*◌, ◌<◌, ◌≤◌, ◌||◌, Bool, true, false, cond, List, get_or, set, length, refl, sym, ap, subst, ◌∙◌, inl, inr, arith}
+use Rattle.std.proofs.Common.{◌≡◌, ◌≢◌, ℕ, ◌+◌, ◌-◌, ◌*◌, ◌<◌, ◌≤◌, ◌||◌, Bool, true, false, not, cond, List, [], get_or, set, length, refl, sym, ap, subst, ◌∙◌, inl, inr, arith}
 use Rattle.std.proofs.lemmas.List.{length-set, get_or-set_same, get_or-set_other, ext_get_or}
-use Rattle.std.proofs.lemmas.Bool.{cases_eq}
+use Rattle.std.proofs.lemmas.List.FromFn.{fill_by_all}
+use Rattle.std.proofs.lemmas.Bool.{cases_eq, cases_lt}
 use Rattle.cept_codes.specs.declared.look.Look.{Look}
 use Rattle.cept_codes.specs.Look.{blank_look}
+use Rattle.cept_codes.specs.Place.{OnScreen, place_of}
+use Rattle.cept_codes.specs.Same.{same_look}
+use Rattle.cept_codes.specs.Table.{at, row_of, IsTable}
+use Rattle.cept_codes.proofs.Tables.{length-row_of, get_or-row_of, at-table, RowsMade, RowsMade-none, RowsMade-more, RowsMade-all}
+use Rattle.cept_profile.specs.Changes.{look_at, differences}
+use Rattle.cept_profile.specs.Look.{look, looks_of}
+use Rattle.cept_profile.specs.State.{Page}
 use Rattle.cept_repaint.specs.Kept.{differ}
-use Rattle.cept_repaint.specs.Marks.{is_marked}
+use Rattle.cept_repaint.specs.Marks.{is_marked, unmarked}
+use Rattle.cept_repaint.proofs.FlagLemmas.{length-unmarked, is_marked-unmarked}
 
 -- a claim by cases of whether two numbers are equal
 by_eq : {P : Type 0} (a b : ℕ) → (a ≡ b → P) → (a ≢ b → P) → P
@@ -82,3 +91,56 @@ RowSoFar-more {i} {fresh} {was} {now} {before} {marks} {k} m on column next afte
 -- a whole row
 pub RowSoFar-all : {i : ℕ} {fresh was now : List Look} {before marks : List Bool} {k : ℕ} → RowSoFar i fresh was now before marks k → length fresh ≡ 40 → 40 ≤ k → now ≡ fresh
 RowSoFar-all {fresh = fresh} {now = now} m long whole = ext_get_or blank_look now fresh (m.long ∙ sym long) (λ j below. m.done j (omega (arith, m.long)))
+
+-- the first n rows are those of the page and their places marked where they differed; below them all is as it was
+pub record RowsSoFar (p : Page) (was now : List (List Look)) (marks : List Bool) (n : ℕ) : Type 0 where
+  pub rows : RowsMade blank_look (look p) (at blank_look was) now n
+  pub places : length marks ≡ 960
+  pub marked : (m : ℕ) → m < 40 * n → is_marked marks m ≡ differ (look_at was (place_of m)) (look_at (looks_of p) (place_of m))
+  pub free : (m : ℕ) → 40 * n ≤ m → is_marked marks m ≡ false
+
+pub RowsSoFar-none : (p : Page) (was : List (List Look)) (marks : List Bool) → IsTable was → marks ≡ unmarked → RowsSoFar p was was marks 0
+RowsSoFar-none p was marks is e = record {
+  rows = RowsMade-none is blank_look (look p) (at blank_look was) (λ r c on. refl);
+  places = ap length e ∙ length-unmarked;
+  marked = λ m none. absurd (omega arith);
+  free = λ m _. ap (λ (l : List Bool). is_marked l m) e ∙ is_marked-unmarked m;
+}
+
+-- a place of the row with index n, by its column
+row_marked : {p : Page} {was now : List (List Look)} {marks : List Bool} {n : ℕ} → RowsSoFar p was now marks n → n < 24 → (fresh : List Look) (after : List Bool) → ((c : ℕ) → 1 ≤ c → c ≤ 40 → get_or fresh (c - 1) blank_look ≡ look p (n + 1) c) → (m k : ℕ) → m ≡ 40 * n + k → k < 40 → is_marked after m ≡ (is_marked marks m || differ (get_or (get_or now n []) k blank_look) (get_or fresh k blank_look)) → is_marked after m ≡ differ (look_at was (place_of m)) (look_at (looks_of p) (place_of m))
+row_marked {p} {was} {now} {marks} {n} s row fresh after reads m k e column here =
+    let on : OnScreen (n + 1) (k + 1) = record { from_top = omega arith; to_bottom = omega arith; from_left = omega arith; to_right = omega arith } in
+    let ei : (n + 1) - 1 ≡ n = omega arith in
+    let ej : (k + 1) - 1 ≡ k = omega arith in
+    let er : (place_of m).row ≡ n + 1 = omega arith in
+    let ec : (place_of m).column ≡ k + 1 = omega arith in
+    let at_place : (t : List (List Look)) → look_at t (place_of m) ≡ at blank_look t (n + 1) (k + 1) = λ t. ap (λ r. at blank_look t r (place_of m).column) er ∙ ap (λ c. at blank_look t (n + 1) c) ec in
+    let by_index : at blank_look now (n + 1) (k + 1) ≡ get_or (get_or now n []) k blank_look = ap (λ i. get_or (get_or now i []) ((k + 1) - 1) blank_look) ei ∙ ap (λ j. get_or (get_or now n []) j blank_look) ej in
+    let old : get_or (get_or now n []) k blank_look ≡ look_at was (place_of m) = sym by_index ∙ s.rows.left (n + 1) (k + 1) on (omega arith) ∙ sym (at_place was) in
+    let new : get_or fresh k blank_look ≡ look_at (looks_of p) (place_of m) = ap (λ j. get_or fresh j blank_look) (sym ej) ∙ reads (k + 1) (omega arith) (omega arith) ∙ sym (at-table (look p) blank_look (n + 1) (k + 1) on) ∙ sym (at_place (looks_of p)) in
+    here ∙ ap (λ b. b || differ (get_or (get_or now n []) k blank_look) (get_or fresh k blank_look)) (s.free m (omega arith)) ∙ ap (λ (l : Look). differ l (get_or fresh k blank_look)) old ∙ ap (λ (l : Look). differ (look_at was (place_of m)) l) new
+
+pub RowsSoFar-more : {p : Page} {was now : List (List Look)} {marks : List Bool} {n : ℕ} → RowsSoFar p was now marks n → n < 24 → (fresh : List Look) (next : List (List Look)) (after : List Bool) → fresh ≡ row_of (look p (n + 1)) → next ≡ set now n fresh → length after ≡ 960 → ((m : ℕ) → m < 40 * n → is_marked after m ≡ is_marked marks m) → ((m : ℕ) → 40 * (n + 1) ≤ m → is_marked after m ≡ is_marked marks m) → ((k : ℕ) → k < 40 → is_marked after (40 * n + k) ≡ (is_marked marks (40 * n + k) || differ (get_or (get_or now n []) k blank_look) (get_or fresh k blank_look))) → RowsSoFar p was next after (n + 1)
+RowsSoFar-more {p} {was} {now} {marks} {n} m row fresh next after e f places above below here =
+    let long : length fresh ≡ 40 = ap length e ∙ length-row_of (look p (n + 1)) in
+    let reads : (c : ℕ) → 1 ≤ c → c ≤ 40 → get_or fresh (c - 1) blank_look ≡ look p (n + 1) c =
+    λ c from to. ap (λ (l : List Look). get_or l (c - 1) blank_look) e ∙ get_or-row_of (look p (n + 1)) (c - 1) c blank_look (omega arith) (omega arith) in
+    record {
+      rows = subst (λ (t : List (List Look)). RowsMade blank_look (look p) (at blank_look was) t (n + 1)) (sym f) (RowsMade-more m.rows n (n + 1) fresh row refl refl long reads);
+      places = places;
+      marked = λ q left.
+          elim (cases_lt q (40 * n)) [
+            | inl up ↦ above q up ∙ m.marked q up
+            | inr not_up ↦ let whole : 40 * n + (q - 40 * n) ≡ q = omega arith in row_marked m row fresh after reads q (q - 40 * n) (sym whole) (omega arith) (subst (λ x. is_marked after x ≡ (is_marked marks x || differ (get_or (get_or now n []) (q - 40 * n) blank_look) (get_or fresh (q - 40 * n) blank_look))) whole (here (q - 40 * n) (omega arith)))
+          ];
+      free = λ q past. below q past ∙ m.free q (omega arith);
+    }
+
+pub RowsSoFar-looks : {p : Page} {was now : List (List Look)} {marks : List Bool} {n : ℕ} → RowsSoFar p was now marks n → 24 ≤ n → now ≡ looks_of p
+RowsSoFar-looks m whole = RowsMade-all m.rows whole
+
+pub RowsSoFar-marks : {p : Page} {was now : List (List Look)} {marks : List Bool} {n : ℕ} → RowsSoFar p was now marks n → 24 ≤ n → marks ≡ differences was (looks_of p)
+unfolding differences differ
+RowsSoFar-marks {p} {was} {now} {marks} m whole =
+    fill_by_all (λ k. not (same_look (look_at was (place_of k)) (look_at (looks_of p) (place_of k)))) marks 960 false m.places (λ k below. m.marked k (omega arith))

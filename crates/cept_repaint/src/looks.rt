@@ -1,5 +1,6 @@
 ghost use Rattle.std.specs.Prelude.{◌≡◌, ℕ, ◌+◌, ◌*◌, ◌<◌, ◌≤◌, ◌||◌, true, false, [], length, slice_index_or, slice_set, if◌then◌else◌, IfOk};
 ghost use Rattle.cept_codes.specs.Look.{blank_look};
+ghost use Rattle.cept_codes.specs.Place.{OnScreen};
 ghost use Rattle.cept_codes.specs.Table.{table, IsTable};
 ghost use Rattle.cept_profile.specs.Changes.{look_at, painted};
 ghost use Rattle.cept_repaint.specs.Kept.{differ};
@@ -47,6 +48,7 @@ impl Looks {
     pub(crate) fn get(&self, place: Pos) -> Look
         ensures look { result ≡ look_at self.now place }
         ensures whole { IsTable self.now }
+        ensures on_screen { OnScreen place.row place.column }
     {
         self.rows[usize::from(place.row()) - 1][usize::from(place.col()) - 1]
     }
