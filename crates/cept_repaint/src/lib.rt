@@ -8,6 +8,7 @@ mod grid;
 mod looks;
 mod marks;
 mod page;
+mod painting;
 mod refresh;
 mod screen;
 mod steps;

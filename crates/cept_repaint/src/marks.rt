@@ -73,7 +73,7 @@ impl Marks {
 }
 
 /// The number of a place in reading order.
-fn number_of(at: Pos) -> usize
+pub(crate) fn number_of(at: Pos) -> usize
     ensures number { result ≡ number at.row at.column }
     ensures below { result < 960 }
 {
