@@ -1,0 +1,5 @@
+pub mod Reached
+pub mod Chosen
+pub mod Added
+pub mod HasPut
+pub mod HandedOn
