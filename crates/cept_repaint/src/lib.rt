@@ -11,9 +11,7 @@ mod page;
 mod painting;
 mod refresh;
 mod screen;
-mod steps;
 
 pub use glass::Glass;
 pub use marks::Marks;
 pub use screen::Screen;
-pub use steps::Steps;

@@ -6,7 +6,7 @@ ghost use Rattle.cept_profile.specs.Look.{looks_of};
 use crate::looks::Looks;
 use crate::marks::Marks;
 use crate::page::Page;
-use crate::steps::Steps;
+use cept_outside::Steps;
 use std::sync::ledger::Ledger;
 
 /// Resolves all rows of the page from the top, one tick each. Stores the looks that differ from the kept ones, and marks
