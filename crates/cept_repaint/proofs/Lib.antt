@@ -1,0 +1,6 @@
+pub mod FlagLemmas
+pub mod LookLemmas
+pub mod PaintLemmas
+pub mod RefreshLemmas
+pub mod StateLemmas
+pub mod StruckLemmas

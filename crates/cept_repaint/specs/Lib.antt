@@ -1,0 +1,3 @@
+pub mod GlassState
+pub mod Kept
+pub mod Marks

@@ -1,0 +1,17 @@
+//! The screen: it applies commands to a page and its control, marks the places whose look changes and paints them on
+//! a glass. It knows no bytes and keeps no history.
+#![tactic(auto)]
+
+mod control;
+mod glass;
+mod grid;
+mod looks;
+mod marks;
+mod page;
+mod painting;
+mod refresh;
+mod screen;
+
+pub use glass::Glass;
+pub use marks::Marks;
+pub use screen::Screen;
