@@ -1,5 +1,5 @@
 -- The list of marked places as it is told from the front: the places with numbers below a bound.
-use Rattle.std.proofs.Common.{◌≡◌, ℕ, ◌+◌, ◌-◌, ◌<◌, ◌≤◌, zero, suc, Bool, true, false, cond, List, [], ◌∷◌, ◌++◌, map, refl, sym, ◌∙◌, ap, arith, append-nil, add-zero, add-one}
+use Rattle.std.proofs.Common.{◌≡◌, ℕ, ◌+◌, ◌-◌, ◌<◌, ◌≤◌, zero, suc, Bool, true, false, cond, List, [], ◌∷◌, ◌++◌, map, refl, sym, ◌∙◌, ap, arith, append-nil, add-zero, add-one, append_assoc}
 use Rattle.std.specs.List.{range_with_len, filter}
 use Rattle.std.specs.Prelude.{slice_index_or}
 use Rattle.std.proofs.lemmas.List.{map-append}
@@ -63,3 +63,11 @@ pub listed_below-next : (marks : List Bool) (g : List (List Look)) (from n : ℕ
 listed_below-next marks g from n h none here =
     listed_below-more marks g n ∙ ap (λ b. listed_below marks g n ++ cond b ((place_of n, look_at g (place_of n)) ∷ []) []) here
     ∙ ap (λ front. front ++ (place_of n, look_at g (place_of n)) ∷ []) (listed_below-unmarked marks g from n h none)
+
+-- the list up to one bound begins the list up to a later one
+pub listed_below-rest : (marks : List Bool) (g : List (List Look)) (n d : ℕ) → (rest : List (Place × Look)) × (listed_below marks g (n + d) ≡ listed_below marks g n ++ rest)
+listed_below-rest marks g n zero = ([], ap (listed_below marks g) (add-zero n) ∙ sym (append-nil _))
+listed_below-rest marks g n (suc d) =
+    let before = listed_below-rest marks g n d in
+    let last = cond (slice_index_or marks (n + d) false) ((place_of (n + d), look_at g (place_of (n + d))) ∷ []) [] in
+    (before.0 ++ last, ap (listed_below marks g) (let e : n + suc d ≡ (n + d) + 1 = omega arith in e) ∙ listed_below-more marks g (n + d) ∙ ap (λ front. front ++ last) before.1 ∙ append_assoc (listed_below marks g n) before.0 last)

@@ -49,8 +49,10 @@ pub fn put_changes<T: Sink>(
 {
     let mut from = 0u16;
     while let Some(at) = marks.next_from(from) {
-        put_all(sink, change_line(label, at, &screen.look(at)).as_slice())?;
-        from = number_of(at) + 1;
+        match put_all(sink, change_line(label, at, &screen.look(at)).as_slice()) {
+            Ok(()) => from = number_of(at) + 1,
+            Err(fault) => return Err(fault),
+        }
     }
     Ok(())
 }
