@@ -16,7 +16,7 @@ mod stroke;
 pub use attribute::{Attr, Class, Flash, Full, Pen, Size};
 pub use cell::{Cell, Marker, RowCells, What};
 pub use command::{C1Set, Command, Form, Up};
-pub use glyph::{Glyph, SetId};
+pub use glyph::{Glyph, Read, SetId};
 pub use item::{Item, Reason, Said};
 pub use law::{constants_are_the_words, reading_order, tables_are_by_place};
 pub use look::{Inks, Look, Paint, Part, Pattern, Rgb, Shape};
