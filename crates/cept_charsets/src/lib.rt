@@ -8,6 +8,9 @@ mod sets;
 mod supplementary;
 
 pub use cept_codes::Read;
-pub use law::{designating_leaves_the_other_sets, runs_take_left_bytes, sets_stay_valid, single_shifts_are_spent};
+pub use law::{
+    designating_leaves_the_other_sets, runs_take_left_bytes, sets_stay_valid,
+    single_shifts_are_spent,
+};
 pub use rendition::{Text4, unicode_of};
 pub use sets::Sets;
