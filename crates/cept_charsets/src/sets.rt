@@ -37,7 +37,8 @@ impl Sets {
 
     /// G0 is P, G1 is M, G2 is S and G3 is N; G0 is locked to the left and G2 to the right.
     pub fn new() -> Sets
-        ensures { result ≡ initial_sets }
+        ensures initial { result ≡ initial_sets }
+        ensures valid { AreValidSets result }
     {
         Sets {
             g0: SetId::P,
@@ -82,7 +83,7 @@ impl Sets {
         self.right = g;
     }
 
-    /// The next graphic byte is of G2 or G3.
+    /// Shifts the next graphic byte to G2 or G3. A shift that waits is replaced.
     pub fn single(&mut self, g: u8)
         requires { (2 ≤ g) × (g ≤ 3) }
         ensures shifted { self.new ≡ shifted self.old g }

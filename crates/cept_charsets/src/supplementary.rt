@@ -1,8 +1,8 @@
 ghost use Rattle.std.specs.Prelude.{◌≡◌, ◌/◌, ◌<◌};
 ghost use Rattle.cept_charsets.specs.Rendition.{supplementary};
 
-#[tactic(auto, unfolding(crate::specs::Rendition::supplementary_rows))]
 /// A code of set `S` in Unicode: U+FFFD where the set leaves it unassigned.
+#[tactic(auto, unfolding(crate::specs::Rendition::supplementary_rows))]
 pub fn supplementary(code: u8) -> char
     ensures point { result ≡ supplementary code }
     ensures small { result < 0x1_0000 }
