@@ -1,5 +1,5 @@
 -- Tables of 24 rows of 40: made of a function, read by row and column from 1, compared place by place, written at a place.
-use Rattle.std.proofs.Common.{◌≡◌, ◌≢◌, inl, inr, ℕ, ◌+◌, ◌-◌, ◌<◌, ◌≤◌, ◌==◌, ◌&&◌, cond, true, false, List, [], length, get_or, set, map, ◌++◌, ◌∷◌, refl, sym, ap, ◌∙◌, arith}
+use Rattle.std.proofs.Common.{◌≡◌, ◌≢◌, inl, inr, ℕ, ◌+◌, ◌-◌, ◌<◌, ◌≤◌, ◌==◌, ◌&&◌, cond, true, false, List, [], length, get_or, set, map, replicate, ◌++◌, ◌∷◌, refl, sym, ap, ◌∙◌, arith}
 use Rattle.std.specs.List.{range_with_len}
 use Rattle.std.proofs.lemmas.Bool.{cases_eq}
 use Rattle.std.proofs.lemmas.Bool.Decides.{nat_tests}
@@ -30,6 +30,11 @@ row_is f xs d long same =
     let last : i < 40 = omega (arith, below, long) in
     let back : (i + 1) - 1 ≡ i = omega arith in
     ap (λ k. get_or xs k d) (sym back) ∙ same (i + 1) (omega arith) (omega arith) ∙ sym (get_or-row_of f i (i + 1) d last refl))
+
+-- a row of one value, as an array constant `[x; 40]` is
+pub row_of_same : {X : Type 0} (x : X) → replicate 40 x ≡ row_of (λ c. x)
+unfolding row_of
+row_of_same x = refl
 
 -- ---- a table
 
@@ -153,6 +158,11 @@ set_is {X} {t} is d x i j r c row e on er ec read =
     (λ (h : r ≢ q).
     let no : (r == q) ≡ false = grind (arith, nat_tests) in
     at-set_row_other t i (set row j x) d q k at_place.from_top (λ e2. h (omega arith)) ∙ sym (ap (λ b. cond (b && (c == k)) x (at d t q k)) no)))
+
+-- the same where the table t is what a struct holds and now is what clauses see of it
+pub set_is_now : {X : Type 0} {t now : List (List X)} → IsTable t → t ≡ now → (d x : X) (i j r c : ℕ) (row e : List X) → OnScreen r c → i + 1 ≡ r → j + 1 ≡ c → row ≡ get_or t i e → set t i (set row j x) ≡ table (λ q k. cond ((r == q) && (c == k)) x (at d now q k))
+set_is_now {X} {t} {now} is seen d x i j r c row e on er ec read =
+    set_is is d x i j r c row e on er ec read ∙ ap (λ (u : List (List X)). table (λ q k. cond ((r == q) && (c == k)) x (at d u q k))) seen
 
 pub IsTable-set : {X : Type 0} {t : List (List X)} → IsTable t → (i j : ℕ) (row e : List X) (x : X) → row ≡ get_or t i e → i < 24 → IsTable (set t i (set row j x))
 IsTable-set {X} {t} is i j row e x read below =

@@ -1,14 +1,20 @@
 //! Laws of the definitions: functions that do nothing, and whose clauses say what holds of the words that clauses use.
-ghost use Rattle.std.specs.Prelude.{◌≡◌, ℕ, ◌<◌, ◌&&◌, ◌⊎◌, ◌↔◌, ◌==◌, if◌then◌else◌, ◌-◌, List, [], slice_index_or, slice_set};
+ghost use Rattle.std.specs.Prelude.{◌≡◌, ℕ, ◌<◌, ◌&&◌, ◌⊎◌, ◌↔◌, ◌==◌, if◌then◌else◌, ◌-◌, List, [], slice_index_or, slice_set, IsTrue};
 ghost use Rattle.cept_codes.specs.Attribute.{unset};
 ghost use Rattle.cept_codes.specs.Cell.{blank};
 ghost use Rattle.cept_codes.specs.Look.{black, white, blank_look};
+ghost use Rattle.cept_codes.specs.Same.{same_look, same_shape, same_paint, same_pattern, same_inks};
+ghost use Rattle.cept_codes.specs.declared.look.Look.{Look};
+ghost use Rattle.cept_codes.specs.declared.look.Shape.{Shape};
+ghost use Rattle.cept_codes.specs.declared.look.Paint.{Paint};
+ghost use Rattle.cept_codes.specs.declared.look.Pattern.{Pattern};
+ghost use Rattle.cept_codes.specs.declared.look.Inks.{Inks};
 ghost use Rattle.cept_codes.specs.Place.{Place, OnScreen, number, place_of};
 ghost use Rattle.cept_codes.specs.Table.{table, at, IsTable};
 
 use crate::attribute::Pen;
 use crate::cell::Cell;
-use crate::look::{Look, Paint};
+use crate::look::{Inks, Look, Paint, Pattern, Shape};
 
 /// The constants of code are the words of clauses.
 pub fn constants_are_the_words()
@@ -37,4 +43,13 @@ pub fn reading_order()
     ensures placed { (p : Place) → OnScreen p.row p.column → place_of (number p.row p.column) ≡ p }
     ensures below { (r c : ℕ) → OnScreen r c → number r c < 960 }
     ensures ordered { (r c q k : ℕ) → OnScreen r c → OnScreen q k → number r c < number q k ↔ ((r < q) ⊎ ((r ≡ q) × (c < k))) }
+{}
+
+/// Two looks compare as equal exactly where they are the same, and so do what they are made of.
+pub fn looks_compare_by_their_fields()
+    ensures paint { (a b : Paint) → IsTrue (same_paint a b) ↔ (a ≡ b) }
+    ensures pattern { (a b : Pattern) → IsTrue (same_pattern a b) ↔ (a ≡ b) }
+    ensures inks { (a b : Inks) → IsTrue (same_inks a b) ↔ (a ≡ b) }
+    ensures shape { (a b : Shape) → IsTrue (same_shape a b) ↔ (a ≡ b) }
+    ensures look { (a b : Look) → IsTrue (same_look a b) ↔ (a ≡ b) }
 {}

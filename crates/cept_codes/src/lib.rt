@@ -18,8 +18,10 @@ pub use cell::{Cell, Marker, RowCells, What};
 pub use command::{C1Set, Command, Form, Up};
 pub use glyph::{Glyph, Read, SetId};
 pub use item::{Item, Reason, Said};
-pub use law::{constants_are_the_words, reading_order, tables_are_by_place};
-pub use look::{Inks, Look, Paint, Part, Pattern, Rgb, Shape};
+pub use law::{
+    constants_are_the_words, looks_compare_by_their_fields, reading_order, tables_are_by_place,
+};
+pub use look::{Inks, Look, Paint, Part, Pattern, Rgb, Shape, looks_are_same};
 pub use memory::NoMemory;
 pub use position::Pos;
 pub use stroke::Stroke;

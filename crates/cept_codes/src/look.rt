@@ -1,3 +1,6 @@
+ghost use Rattle.std.specs.Prelude.{◌≡◌, ◌↔◌, IsTrue};
+ghost use Rattle.cept_codes.specs.Same.{same_look};
+
 use crate::attribute::Flash;
 use crate::glyph::Glyph;
 
@@ -94,4 +97,12 @@ impl Look {
         lined: false,
         boxed: false,
     };
+}
+
+/// Whether two looks are the same in all that is seen.
+pub fn looks_are_same(a: &Look, b: &Look) -> bool
+    ensures compared { result ≡ same_look a.now b.now }
+    ensures same { IsTrue result ↔ (a.now ≡ b.now) }
+{
+    a == b
 }
