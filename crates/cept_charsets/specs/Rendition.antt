@@ -1,6 +1,5 @@
 -- The rendition of signs in Unicode. It is this project's own. The marks are those of the accents of ISO 6937.
-use Rattle.std.specs.Prelude.{ℕ, ◌+◌, ◌-◌, Bool, ◌&&◌, Option, Some, None, List, [], ◌∷◌, length, slice_index, encode_utf8_all, nat_lt, nat_le, ◌==◌, if◌then◌else◌}
-use Rattle.std.specs.Option.{option_to_list}
+use Rattle.std.specs.Prelude.{ℕ, ◌+◌, ◌-◌, Bool, ◌&&◌, Option, Some, None, List, [], ◌∷◌, length, slice_index, option_to_list, encode_utf8_all, nat_lt, nat_le, ◌==◌, if◌then◌else◌}
 use Rattle.cept_codes.specs.declared.glyph.Glyph.{Glyph}
 use Rattle.cept_codes.specs.declared.glyph.SetId.{SetId}
 use Rattle.cept_codes.specs.declared.glyph.SetId.TheVariants.{P, S, M, N, D}
