@@ -17,3 +17,10 @@ pub struct Glyph {
     pub code: u8,
     pub accent: u8,
 }
+
+/// What a graphic byte gives: a sign, or an accent 40 to 4F that waits for its sign.
+#[derive(Clone, Copy, Debug, PartialEq, Eq)]
+pub enum Read {
+    Glyph(Glyph),
+    Accent(u8),
+}
