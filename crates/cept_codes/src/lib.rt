@@ -17,16 +17,12 @@ mod stroke;
 pub use attribute::{Attr, Class, Flash, Full, Pen, Size};
 pub use cell::{Cell, Marker, RowCells, What};
 pub use command::{C1Set, Command, Form, Up};
-<<<<<<< HEAD
 pub use equality::{
     cells_compare_by_their_fields, commands_compare_by_their_fields, looks_compare_by_their_fields,
     pens_compare_by_their_fields, places_compare_by_row_and_column,
     strokes_compare_by_their_fields, want_of_memory_is_one,
 };
-pub use glyph::{Glyph, SetId};
-=======
 pub use glyph::{Glyph, Read, SetId};
->>>>>>> 36bb6999adfbd84906d2fac473d9ac60f2091120
 pub use item::{Item, Reason, Said};
 pub use law::{constants_are_the_words, constants_are_valid, reading_order, tables_are_by_place};
 pub use look::{Inks, Look, Paint, Part, Pattern, Rgb, Shape, looks_are_same};
