@@ -1,3 +1,5 @@
 pub mod GlassState
+pub mod GridGlass
 pub mod Kept
 pub mod Marks
+pub mod ValidGrid

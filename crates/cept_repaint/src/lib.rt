@@ -5,6 +5,7 @@
 mod control;
 mod glass;
 mod grid;
+mod grid_glass;
 mod looks;
 mod marks;
 mod page;
@@ -13,5 +14,6 @@ mod refresh;
 mod screen;
 
 pub use glass::Glass;
+pub use grid_glass::GridGlass;
 pub use marks::Marks;
 pub use screen::Screen;
