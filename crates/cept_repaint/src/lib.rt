@@ -12,8 +12,10 @@ mod page;
 mod painting;
 mod refresh;
 mod screen;
+mod tape_glass;
 
 pub use glass::Glass;
 pub use grid_glass::GridGlass;
 pub use marks::Marks;
 pub use screen::Screen;
+pub use tape_glass::TapeGlass;
