@@ -13,6 +13,8 @@ mod painting;
 mod refresh;
 mod screen;
 mod tape_glass;
+#[cfg(test)]
+mod tests;
 
 pub use glass::Glass;
 pub use grid_glass::GridGlass;
