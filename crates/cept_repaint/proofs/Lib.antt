@@ -1,4 +1,5 @@
 pub mod FlagLemmas
+pub mod GridLemmas
 pub mod LookLemmas
 pub mod PaintLemmas
 pub mod RefreshLemmas

@@ -5,13 +5,19 @@
 mod control;
 mod glass;
 mod grid;
+mod grid_glass;
 mod looks;
 mod marks;
 mod page;
 mod painting;
 mod refresh;
 mod screen;
+mod tape_glass;
+#[cfg(test)]
+mod tests;
 
 pub use glass::Glass;
+pub use grid_glass::GridGlass;
 pub use marks::Marks;
 pub use screen::Screen;
+pub use tape_glass::TapeGlass;
