@@ -2,11 +2,13 @@
 use Rattle.std.proofs.Common.{◌≡◌, Bool, true, false, cond, List, [], ◌∷◌, ◌++◌, ◌||◌, refl, sym, ap, ◌∙◌, append_assoc, append-nil}
 use Rattle.cept_codes.specs.declared.command.Command.{Command}
 use Rattle.cept_codes.specs.declared.item.Item.{Item}
+use Rattle.cept_codes.specs.declared.item.Reason.{Reason}
 use Rattle.cept_codes.specs.declared.item.Said.{Said}
 use Rattle.cept_codes.specs.declared.item.Said.TheVariants as said
 use Rattle.cept_parser.specs.Items.{commands_of, command_said}
 use Rattle.cept_tool.specs.declared.words.Order.{Order}
 use Rattle.cept_tool.specs.declared.words.Order.TheVariants as orders
+use Rattle.cept_tool.specs.Words.{is_painting}
 use Rattle.cept_tool.specs.Events.{applied, item_text, item_paints, told_behind, painted_behind, has_refusal, is_refused}
 
 -- one item more
@@ -43,3 +45,29 @@ has_refusal-more (j ∷ is) i = ap (λ t. is_refused j.what || t) (has_refusal-m
 pub commands_of-more : (items : List Item) (i : Item) → commands_of (items ++ i ∷ []) ≡ commands_of items ++ command_said i.what
 commands_of-more [] i = append-nil _
 commands_of-more (j ∷ is) i = ap (λ t. command_said j.what ++ t) (commands_of-more is i) ∙ sym (append_assoc (command_said j.what) (commands_of is) (command_said i.what))
+
+-- nothing was applied before the first item
+pub applied-nothing : (order : Order) → applied order [] ≡ []
+applied-nothing orders.Changes = refl
+
+-- what was applied after one item more
+pub applied-more : (order : Order) (items : List Item) (i : Item) → applied order (items ++ i ∷ []) ≡ applied order items ++ cond (is_painting order) (command_said i.what) []
+applied-more orders.Changes items i = commands_of-more items i
+
+-- a command is applied
+pub applied-command : (order : Order) (items : List Item) (i : Item) (command : Command) → is_painting order ≡ true → i.what ≡ said.Command command → applied order (items ++ i ∷ []) ≡ applied order items ++ command ∷ []
+applied-command order items i command painting is =
+    applied-more order items i ∙ ap (λ b. applied order items ++ cond b (command_said i.what) []) painting ∙ ap (λ s. applied order items ++ command_said s) is
+
+-- a refusal leaves what was applied
+pub applied-refused : (order : Order) (items : List Item) (i : Item) (reason : Reason) → i.what ≡ said.Refused reason → applied order (items ++ i ∷ []) ≡ applied order items
+applied-refused order items i reason is =
+    applied-more order items i ∙ ap (λ s. applied order items ++ cond (is_painting order) (command_said s) []) is ∙ nothing (is_painting order)
+  where
+    nothing : (b : Bool) → applied order items ++ cond b [] [] ≡ applied order items
+    nothing true = append-nil _
+    nothing false = append-nil _
+
+-- each order applies the commands
+pub always_painting : (order : Order) → is_painting order ≡ true
+always_painting orders.Changes = refl

@@ -75,7 +75,10 @@ impl Decoder {
         ensures cause { HasCause (T.state sink.old).faults (T.state sink.new).faults result }
     {
         for byte in piece {
-            self.read_byte(*byte, sink, glass, steps)?;
+            match self.read_byte(*byte, sink, glass, steps) {
+                Ok(()) => {}
+                Err(fault) => return Err(fault),
+            }
         }
         Ok(())
     }

@@ -1,4 +1,4 @@
-ghost use Rattle.std.specs.Prelude.{◌≡◌, ◌∷◌, [], ◌++◌, List, IfOk, OnOk};
+ghost use Rattle.std.specs.Prelude.{◌≡◌, ◌∷◌, [], ◌++◌, List, IfOk, OnOk, true};
 ghost use Rattle.std.specs.List.{AllByRecursion};
 ghost use Rattle.std.specs.Io.KnownBytes.{append_known};
 ghost use Rattle.cept_codes.specs.Command.{IsValidCommand, IsValidSaid};
@@ -129,7 +129,10 @@ impl Desk {
         ensures cause { HasCause (T.state sink.old).faults (T.state sink.new).faults result }
     {
         for item in items {
-            self.tell_item(item, sink, glass, steps)?;
+            match self.tell_item(item, sink, glass, steps) {
+                Ok(()) => {}
+                Err(fault) => return Err(fault),
+            }
         }
         Ok(())
     }

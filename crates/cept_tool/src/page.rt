@@ -77,8 +77,9 @@ pub fn read_page<F: Shelf, T: Sink, G: Glass, L: Ledger>(
             };
         }
         let fitting = (count as u64).min(LIMIT - place);
-        if decoder.read_piece(&piece[..fitting as usize], sink, glass, steps).is_err() {
-            return Err(Stop::WriteFault);
+        match decoder.read_piece(&piece[..fitting as usize], sink, glass, steps) {
+            Ok(()) => {}
+            Err(_) => return Err(Stop::WriteFault),
         }
         if fitting < count as u64 {
             return Err(Stop::TooLong);

@@ -63,44 +63,52 @@ impl Status {
 /// Selects a page, tells it to its end and flushes. Answers whether an item was refused.
 fn tell_page<F: Shelf, T: Sink, G: Glass, L: Ledger>(
     decoder: &mut Decoder,
-    page: &str,
+    page: &String,
     shelf: &mut F,
     sink: &mut T,
     glass: &mut G,
-    steps: &mut Steps<L>,
+    blank: Blank,
 ) -> Result<bool, Stop>
-    requires { HasRead decoder.old [] }
+    requires fresh { HasRead decoder.old [] }
+    requires name { blank.name ≡ L.name }
+    requires parts { blank.parts ≡ L.parts }
+    requires some { 0 < blank.parts }
     ensures files { KeepsFiles (F.state shelf.old) (F.state shelf.new) }
-    ensures missed { IsSome (bytes_under (F.state shelf.old) page.now) → (F.state shelf.new).missed ≡ (F.state shelf.old).missed }
+    ensures missed { IsSome (bytes_under (F.state shelf.old) (string_bytes page.now)) → (F.state shelf.new).missed ≡ (F.state shelf.old).missed }
     ensures shelf_faults { (F.state shelf.old).faults ≤ (F.state shelf.new).faults }
     ensures sink_faults { (T.state sink.old).faults ≤ (T.state sink.new).faults }
 
     ensures short { OnOk result ((F.state shelf.new).taken ≤ 2 ^ 24) }
     ensures flushed { OnOk result ((T.state sink.new).unflushed ≡ false) }
-    ensures refused { IfOk result (λ refused. (bytes : List ℕ) → Holds (F.state shelf.old) page.now bytes
+    ensures refused { IfOk result (λ refused. (bytes : List ℕ) → Holds (F.state shelf.old) (string_bytes page.now) bytes
         → refused ≡ has_refusal (closed_items bytes)) }
-    ensures reports { OnOk result ((bytes : List ℕ) → Holds (F.state shelf.old) page.now bytes
-        → Reports (record { order = decoder.old.desk.order; page = page.now }) bytes (T.state sink.old) (T.state sink.new) (G.state glass.old) (G.state glass.new)) }
+    ensures reports { OnOk result ((bytes : List ℕ) → Holds (F.state shelf.old) (string_bytes page.now) bytes
+        → Reports (record { order = decoder.old.desk.order; page = string_bytes page.now }) bytes (T.state sink.old) (T.state sink.new) (G.state glass.old) (G.state glass.new)) }
 
     ensures read_fault { result ≡ Err Stop.ReadFault → Rose (F.state shelf.old).faults (F.state shelf.new).faults }
     ensures read_fault_short { result ≡ Err Stop.ReadFault → (F.state shelf.new).taken ≤ 2 ^ 24 }
-    ensures read_fault_told { result ≡ Err Stop.ReadFault → (bytes : List ℕ) → Holds (F.state shelf.old) page.now bytes
+    ensures read_fault_told { result ≡ Err Stop.ReadFault → (bytes : List ℕ) → Holds (F.state shelf.old) (string_bytes page.now) bytes
         → HasTold decoder.old.desk.order (items (take (F.state shelf.new).taken bytes)) (T.state sink.old) (T.state sink.new) (G.state glass.old) (G.state glass.new) }
 
     ensures too_long { result ≡ Err Stop.TooLong → 2 ^ 24 < (F.state shelf.new).taken }
-    ensures too_long_told { result ≡ Err Stop.TooLong → (bytes : List ℕ) → Holds (F.state shelf.old) page.now bytes
+    ensures too_long_told { result ≡ Err Stop.TooLong → (bytes : List ℕ) → Holds (F.state shelf.old) (string_bytes page.now) bytes
         → HasTold decoder.old.desk.order (items (take (2 ^ 24) bytes)) (T.state sink.old) (T.state sink.new) (G.state glass.old) (G.state glass.new) }
 
     ensures write_fault { result ≡ Err Stop.WriteFault → Rose (T.state sink.old).faults (T.state sink.new).faults }
 {
-    if shelf.select(page).is_err() {
-        return Err(Stop::ReadFault);
+    match shelf.select(page.as_str()) {
+        Ok(()) => {}
+        Err(_) => return Err(Stop::ReadFault),
     }
-    read_page(decoder, shelf, sink, glass, steps)?;
-    if sink.flush().is_err() {
-        return Err(Stop::WriteFault);
+    let mut steps = Steps::<L>::new(blank);
+    match read_page(decoder, shelf, sink, glass, &mut steps) {
+        Ok(()) => {}
+        Err(stop) => return Err(stop),
     }
-    Ok(decoder.desk.refused)
+    match sink.flush() {
+        Ok(()) => Ok(decoder.desk.refused),
+        Err(_) => Err(Stop::WriteFault),
+    }
 }
 
 /// Runs the program on its words, those after the program's name, over a shelf, a sink and a glass.
@@ -153,8 +161,9 @@ pub fn run<F: Shelf, T: Sink, G: Glass>(
         Some((order, page)) => match Decoder::new(alloc, order) {
             Err(_) => Status::NoMemory,
             Ok(mut decoder) => {
-                let mut steps = Steps::<Brand>::new(Blank::new(1));
-                match tell_page(&mut decoder, page, shelf, sink, glass, &mut steps) {
+                // No step is counted: the ledger is a blank one.
+                let blank = Blank::new(1);
+                match tell_page::<F, T, G, Brand>(&mut decoder, page, shelf, sink, glass, blank) {
                     Ok(refused) => Status::of_whole(refused),
                     Err(stop) => Status::of_stop(stop),
                 }

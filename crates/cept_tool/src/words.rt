@@ -22,13 +22,13 @@ fn order_of(word: &str) -> Option<Order>
 
 /// What the words ask for and the name of the page, where they are a form.
 #[tactic(auto, unfolding(crate::specs::Words::form_of))]
-pub fn form_of(words: &[String]) -> Option<(Order, &str)>
-    ensures { option_map (λ form. record { order = form.0; page = form.1.now }) result ≡ form_of (map string_bytes words.now) }
+pub fn form_of(words: &[String]) -> Option<(Order, &String)>
+    ensures { option_map (λ form. record { order = form.0; page = string_bytes form.1.now }) result ≡ form_of (map string_bytes words.now) }
 {
     match words {
         [word, page] if !page.is_empty() => {
             let order = order_of(word.as_str())?;
-            Some((order, page.as_str()))
+            Some((order, page))
         }
         _ => None,
     }

@@ -1,0 +1,88 @@
+-- A page that is taken piece by piece.
+use Rattle.std.proofs.Common.{◌≡◌, ℕ, ◌+◌, ◌-◌, ◌<◌, ◌≤◌, Option, Some, None, Result, Err, List, [], ◌∷◌, ◌++◌, length, take, drop, refl, sym, ◌∙◌, ap, subst, arith, append_assoc, append-nil, take-take, take-append-drop}
+use Rattle.std.specs.Io.KnownBytes.{prepend_known, append_known}
+use Rattle.std.proofs.lemmas.List.{drop-drop, take_all, drop_at, length-take-le, take-append-le}
+use Rattle.std.proofs.Math.Seq.{take-add}
+use Rattle.cept_codes.specs.declared.item.Item.{Item}
+use Rattle.cept_outside.specs.ShelfState.{ShelfState, KeepsFiles}
+use Rattle.cept_outside.specs.SinkState.{SinkState}
+use Rattle.cept_parser.specs.Items.{items, closed_items}
+use Rattle.cept_repaint.specs.GlassState.{GlassState}
+use Rattle.cept_tool.specs.declared.decoder.Decoder.{Decoder}
+use Rattle.cept_tool.specs.declared.page.Stop.{Stop}
+use Rattle.cept_tool.specs.declared.words.Order.{Order}
+use Rattle.cept_tool.specs.declared.words.Order.TheVariants as orders
+use Rattle.cept_tool.specs.Events.{report, told_behind}
+use Rattle.cept_tool.specs.Run.{Reports}
+use Rattle.cept_tool.specs.Told.{HasRead, HasTold}
+use Rattle.cept_tool.specs.Words.{Form}
+use Rattle.cept_tool.proofs.Standing.{HasTold-order, HasTold-start}
+
+-- so many bytes of the page were taken, read and told
+pub record HasCome (page : List ℕ) (place : ℕ) (shelf : ShelfState) (decoder : Decoder) (order : Order) (sink now : SinkState) (glass shown : GlassState) : Type 0 where
+  pub left : shelf.left ≡ Some (drop place page)
+  pub read : HasRead decoder (take place page)
+  pub told : HasTold order (items (take place page)) sink now glass shown
+
+-- what is told to be left, where it is told that these bytes were before it
+left_behind : (known : Option (List ℕ)) (whole piece : List ℕ) → Some whole ≡ prepend_known piece known → (rest : List ℕ) × (known ≡ Some rest) × (whole ≡ piece ++ rest)
+left_behind None whole piece e = cc
+left_behind (Some rest) whole piece e = (rest, refl, let same : whole ≡ piece ++ rest = cc in same)
+
+-- the bytes of one piece more: what is left, and the front of the page with a part of the piece
+pub left_more : (page piece : List ℕ) (place n : ℕ) (known : Option (List ℕ)) → Some (drop place page) ≡ prepend_known (take n piece) known → n ≤ length piece → known ≡ Some (drop (place + n) page)
+left_more page piece place n known e h =
+    let behind = left_behind known (drop place page) (take n piece) e in
+    behind.1 ∙ ap Some (sym (drop_at (take n piece) behind.0 n (length-take-le n piece h)) ∙ ap (drop n) (sym behind.2) ∙ drop-drop n place page)
+
+pub front_with : (page piece : List ℕ) (place n m : ℕ) (known : Option (List ℕ)) → Some (drop place page) ≡ prepend_known (take n piece) known → n ≤ length piece → m ≤ n
+    → take place page ++ take m piece ≡ take (place + m) page
+front_with page piece place n m known e h le =
+    let behind = left_behind known (drop place page) (take n piece) e in
+    let part : take m (drop place page) ≡ take m piece =
+    ap (take m) behind.2 ∙ take-append-le m (take n piece) behind.0 (omega (arith, length-take-le n piece h)) ∙ take-take m n piece le in
+    ap (λ l. take place page ++ l) (sym part) ∙ sym (take-add place m page)
+
+-- a piece, or the part of it that fits, was read and told
+pub HasCome-piece : (page piece : List ℕ) (place n m : ℕ) (before : ShelfState) (known : Option (List ℕ)) (decoder new : Decoder) (order : Order) (sink now next : SinkState) (glass shown seen : GlassState)
+    → HasCome page place before decoder order sink now glass shown → before.left ≡ prepend_known (take n piece) known → n ≤ length piece → m ≤ n → decoder.desk.order ≡ order
+    → ((bytes : List ℕ) → HasRead decoder bytes → HasRead new (bytes ++ take m piece))
+    → ((bytes : List ℕ) (first : SinkState) (start : GlassState) → HasRead decoder bytes → HasTold decoder.desk.order (items bytes) first now start shown → HasTold decoder.desk.order (items (bytes ++ take m piece)) first next start seen)
+    → HasRead new (take (place + m) page) × HasTold order (items (take (place + m) page)) sink next glass seen
+HasCome-piece page piece place n m before known decoder new order sink now next glass shown seen come moved h le same read told =
+    let front = front_with page piece place n m known (sym come.left ∙ moved) h le in
+    (
+      subst (HasRead new) front (read _ come.read),
+      HasTold-order _ _ _ _ _ _ _ _ same (ap items front) (told _ sink glass come.read (HasTold-order _ _ _ _ _ _ _ _ (sym same) refl come.told)),
+    )
+
+-- all of the page has come
+pub all_come : (page : List ℕ) (place : ℕ) → drop place page ≡ [] → take place page ≡ page
+all_come page place e = sym (append-nil _) ∙ ap (λ l. take place page ++ l) (sym e) ∙ take-append-drop place page
+
+-- the files stayed twice
+pub KeepsFiles-more : (a b c : ShelfState) → KeepsFiles a b → KeepsFiles b c → KeepsFiles a c
+KeepsFiles-more a b c h k = record {
+  files = k.files ∙ h.files;
+  tells_selected = k.tells_selected ∙ h.tells_selected;
+  tells_left = k.tells_left ∙ h.tells_left;
+}
+
+report-is : (order : Order) (page : List ℕ) → report order page ≡ told_behind order [] (closed_items page)
+report-is orders.Changes page = append-nil _
+
+-- a page that was told to its end, and then flushed, is reported
+pub Reports-told : (form : Form) (page : List ℕ) (sink now flushed : SinkState) (glass shown : GlassState) → HasTold form.order (closed_items page) sink now glass shown → flushed.bytes ≡ now.bytes → Reports form page sink flushed glass shown
+Reports-told form page sink now flushed glass shown told same = record {
+  put = same ∙ told.put ∙ ap (append_known sink.bytes) (sym (report-is form.order page));
+  painted = told.painted;
+  grid = told.grid;
+}
+
+-- of no bytes nothing was told
+pub HasTold-untaken : (order : Order) (page : List ℕ) (taken : ℕ) (sink : SinkState) (glass : GlassState) → taken ≡ 0 → HasTold order (items (take taken page)) sink sink glass glass
+HasTold-untaken order page taken sink glass e = HasTold-order _ _ _ _ _ _ _ _ refl (ap (λ k. items (take k page)) (sym e)) (HasTold-start order sink glass)
+
+-- why a page isn't read to its end, whatever is answered otherwise
+pub same_stop : {X Y : Type 0} {a b : Stop} → Err {T = X} {E = Stop} a ≡ Err b → Err {T = Y} {E = Stop} a ≡ Err b
+same_stop e = cc

@@ -1,0 +1,19 @@
+use Rattle.std.proofs.Common.{◌≡◌, ◌≤◌, ◌+◌, ℕ, false, List, ◌++◌, take}
+use Rattle.cept_outside.specs.SinkState.{SinkState}
+use Rattle.cept_parser.specs.Items.{items}
+use Rattle.cept_repaint.specs.GlassState.{GlassState}
+use Rattle.cept_tool.specs.Told.{HasRead, HasTold}
+use Rattle.cept_tool.proofs.decoder.Decoder.read_piece.Given as goal
+
+-- the bytes so far were read
+abbrev pub invariant-loop-byte : goal.invariant-loop-byte
+invariant-loop-byte g l = record {
+  order : l.self.desk.order ≡ l.fn.self.desk.order;
+  place : l.self.parser.place ≡ l.fn.self.parser.place + l.byte-index;
+  running : l.self.parser.finished ≡ false;
+  read : (bytes : List ℕ) → HasRead l.fn.self bytes → HasRead l.self (bytes ++ take l.byte-index l.piece);
+  told : (bytes : List ℕ) (before : SinkState) (shown : GlassState) → HasRead l.fn.self bytes
+      → HasTold l.fn.self.desk.order (items bytes) before (g.T.Sink.state l.fn.sink) shown (g.G.Glass.state l.fn.glass)
+      → HasTold l.fn.self.desk.order (items (bytes ++ take l.byte-index l.piece)) before (g.T.Sink.state l.sink) shown (g.G.Glass.state l.glass);
+  later : (g.T.Sink.state l.fn.sink).faults ≤ (g.T.Sink.state l.sink).faults;
+}

@@ -1,0 +1,6 @@
+use Rattle.std.proofs.Common.{refl}
+use Rattle.cept_tool.proofs.Standing.{Stands-nothing}
+use Rattle.cept_tool.proofs.desk.Desk.new.Goals as goal
+
+pub returns-clause-stands : goal.returns-clause-stands
+returns-clause-stands c = Stands-nothing _ c.in_ok-new.ensures refl

@@ -1,0 +1,20 @@
+use Rattle.std.proofs.Common.{◌≡◌, ◌≤◌, List, ◌++◌, take, drop}
+use Rattle.std.specs.List.{AllByRecursion}
+use Rattle.cept_codes.specs.Command.{IsValidSaid}
+use Rattle.cept_codes.specs.declared.item.Item.{Item}
+use Rattle.cept_outside.specs.SinkState.{SinkState}
+use Rattle.cept_repaint.specs.GlassState.{GlassState}
+use Rattle.cept_tool.specs.Told.{Stands, HasTold}
+use Rattle.cept_tool.proofs.desk.Desk.tell_items.Given as goal
+
+-- the items so far were told
+abbrev pub invariant-loop-item : goal.invariant-loop-item
+invariant-loop-item g l = record {
+  order : l.self.order ≡ l.fn.self.order;
+  valid : AllByRecursion (λ (i : Item). IsValidSaid i.what) (drop l.item-index l.items);
+  stands : (earlier : List Item) → Stands l.fn.self earlier → Stands l.self (earlier ++ take l.item-index l.items);
+  told : (earlier : List Item) (before : SinkState) (shown : GlassState) → Stands l.fn.self earlier
+      → HasTold l.fn.self.order earlier before (g.T.Sink.state l.fn.sink) shown (g.G.Glass.state l.fn.glass)
+      → HasTold l.fn.self.order (earlier ++ take l.item-index l.items) before (g.T.Sink.state l.sink) shown (g.G.Glass.state l.glass);
+  later : (g.T.Sink.state l.fn.sink).faults ≤ (g.T.Sink.state l.sink).faults;
+}

@@ -1,0 +1,17 @@
+use Rattle.std.proofs.Common.{◌≡◌, refl}
+use Rattle.cept_tool.proofs.Reading.{Reports-told, HasTold-untaken, same_stop}
+use Rattle.cept_tool.proofs.run.tell_page.Goals as goal
+
+pub returns-in-Err-clause-read_fault_told : goal.returns-in-Err-clause-read_fault_told
+returns-in-Err-clause-read_fault_told g c = λ e bytes holds. HasTold-untaken _ bytes _ _ _ c.select.ensures.selects.taken
+
+pub returns-in-Err-read_page-clause-read_fault_told :
+    goal.returns-in-Err-read_page-clause-read_fault_told
+returns-in-Err-read_page-clause-read_fault_told g c = λ e bytes holds. c.in-Err-read_page.ensures.read_fault_told (same_stop e) bytes (c.in-Ok.ensures.selects.found bytes holds).1
+
+pub returns-in-Err-read_page-clause-too_long_told :
+    goal.returns-in-Err-read_page-clause-too_long_told
+returns-in-Err-read_page-clause-too_long_told g c = λ e bytes holds. c.in-Err-read_page.ensures.too_long_told (same_stop e) bytes (c.in-Ok.ensures.selects.found bytes holds).1
+
+pub returns-in-Ok-flush-clause-reports : goal.returns-in-Ok-flush-clause-reports
+returns-in-Ok-flush-clause-reports g c = λ bytes holds. Reports-told _ bytes _ _ _ _ _ (c.in-Ok-read_page.ensures.told bytes (c.in-Ok.ensures.selects.found bytes holds).1) c.flush.ensures.flushes.bytes
