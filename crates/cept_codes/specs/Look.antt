@@ -80,6 +80,7 @@ pub record IsPart (dy dx w h : ℕ) : Type 0 where
   pub wide : (1 ≤ w) × (w ≤ 2)
   pub high : (1 ≤ h) × (h ≤ 2)
 
+-- the same of a part by itself
 abbrev pub IsValidPart : Part → Type 0
 IsValidPart p = IsPart p.dy p.dx p.w p.h
 

@@ -29,7 +29,7 @@ pub fn constants_are_valid()
 {}
 
 /// A table is what it shows at each place: reading the table of a function gives the function, tables that agree at
-/// each place are the same, and each is the table of what is read in it.
+/// each place are the same, each is the table of what is read in it, and writing into a row changes one place alone.
 pub fn tables_are_by_place<X>()
     ensures read { (f : ℕ → ℕ → X) (d : X) (r c : ℕ) → OnScreen r c → at d (table f) r c ≡ f r c }
     ensures whole { (f : ℕ → ℕ → X) → IsTable (table f) }
@@ -45,5 +45,5 @@ pub fn reading_order()
     ensures on_screen { (n : ℕ) → n < 960 → OnScreen (place_of n).row (place_of n).column }
     ensures placed { (p : Place) → OnScreen p.row p.column → place_of (number p.row p.column) ≡ p }
     ensures below { (r c : ℕ) → OnScreen r c → number r c < 960 }
-    ensures ordered { (r c q k : ℕ) → OnScreen r c → OnScreen q k → number r c < number q k ↔ ((r < q) ⊎ ((r ≡ q) × (c < k))) }
+    ensures ordered { (r c q k : ℕ) → OnScreen r c → OnScreen q k → ((number r c < number q k) ↔ ((r < q) ⊎ ((r ≡ q) × (c < k)))) }
 {}
