@@ -1,5 +1,5 @@
 -- Valid paints, and that valid grids and paints are facts with one proof at most, which a glass may keep beside them.
-use Rattle.std.specs.Prelude.{ℕ, ◌≡◌, ◌≤◌, ◌<◌, ◌⊎◌, List, drop}
+use Rattle.std.specs.Prelude.{ℕ, ◌<◌, ◌⊎◌, List}
 use Rattle.std.specs.List.{AllByRecursion, AllByRecursion-prop}
 use Rattle.std.proofs.Props.{props}
 use Rattle.std.proofs.Common.{ap, inl, inr, arith}
@@ -14,7 +14,7 @@ use Rattle.cept_codes.specs.declared.look.Shape.{Shape}
 use Rattle.cept_codes.specs.declared.look.Shape.TheVariants as shapes
 use Rattle.cept_codes.specs.declared.look.Look.{Look}
 use Rattle.cept_codes.specs.Glyph.{IsValidAccent, IsCodeOf, IsValidGlyph}
-use Rattle.cept_codes.specs.Look.{IsValidPaint, IsValidPattern, IsValidInks, IsValidShape, IsPart, IsValidLook, black}
+use Rattle.cept_codes.specs.Look.{IsValidPaint, IsValidPattern, IsValidInks, IsValidShape, IsValidLook}
 use Rattle.cept_codes.specs.Place.{Place, OnScreen}
 use Rattle.cept_profile.specs.Valid.{IsValidGrid}
 
