@@ -72,6 +72,17 @@ at_is {X} {t} is d i j r c row x on er ec e f =
     let long : length row ≡ 40 = ap length row_in ∙ is.columns (r - 1) [] (omega (arith, on)) in
     f ∙ get_or_default row j x d (omega (arith, on, long)) ∙ ap (λ k. get_or row k d) ej ∙ ap (λ (l : List X). get_or l (c - 1) d) row_in
 
+-- what a row read from a table is: forty long, and at the index k what stands in column k + 1
+pub length_row : {X : Type 0} {t : List (List X)} → IsTable t → (i : ℕ) (row e : List X) → i < 24 → row ≡ get_or t i e → length row ≡ 40
+length_row is i row e below read = ap length read ∙ is.columns i e below
+
+pub row_at : {X : Type 0} {t : List (List X)} → IsTable t → (d : X) (i r k : ℕ) (row e : List X) → i < 24 → i + 1 ≡ r → row ≡ get_or t i e → get_or row k d ≡ at d t r (k + 1)
+row_at {X} {t} is d i r k row e below er read =
+    let row_in : row ≡ get_or t i [] = read ∙ get_or_default t i e [] (omega (arith, below, is.rows)) in
+    let ei : i ≡ r - 1 = omega arith in
+    let ek : k ≡ (k + 1) - 1 = omega arith in
+    ap (λ (l : List X). get_or l k d) (row_in ∙ ap (λ n. get_or t n []) ei) ∙ ap (λ n. get_or (get_or t (r - 1) []) n d) ek
+
 -- two tables with the same rows are the same
 pub same_rows : {X : Type 0} {t u : List (List X)} → IsTable t → IsTable u → ((i : ℕ) → i < 24 → get_or t i [] ≡ get_or u i []) → t ≡ u
 same_rows {t = t} {u = u} is ut same = ext_get_or [] t u (is.rows ∙ sym ut.rows) (λ i below. same i (omega (arith, below, is.rows)))
@@ -211,6 +222,11 @@ RowsMade-more {X} {d} {f} {g} {t} {n} m i r row below ei er long same = record {
       (λ (ne : q ≢ r). at-set_row_other t i row d q c on.from_top (λ h. ne (omega arith)) ∙ m.made q c on (omega arith));
   left = λ q c on more. at-set_row_other t i row d q c on.from_top (λ h. omega arith) ∙ m.left q c on (omega arith);
 }
+
+-- the same where the row is known whole, as an array constant is (`row_of_same`)
+pub RowsMade-more_row : {X : Type 0} {d : X} {f g : ℕ → ℕ → X} {t : List (List X)} {n : ℕ} → RowsMade d f g t n → (i r : ℕ) (row : List X) → n < 24 → i ≡ n → n + 1 ≡ r → row ≡ row_of (f r) → RowsMade d f g (set t i row) (n + 1)
+RowsMade-more_row {X} {d} {f} m i r row below ei er same =
+    RowsMade-more m i r row below ei er (ap length same ∙ length-row_of (f r)) (λ c a b. ap (λ (l : List X). get_or l (c - 1) d) same ∙ get_or-row_of (f r) (c - 1) c d (omega arith) (omega arith))
 
 pub RowsMade-all : {X : Type 0} {d : X} {f g : ℕ → ℕ → X} {t : List (List X)} {n : ℕ} → RowsMade d f g t n → 24 ≤ n → t ≡ table f
 RowsMade-all {d = d} {f = f} m whole = table_is m.is f d (λ r c on. m.made r c on (omega (arith, on)))

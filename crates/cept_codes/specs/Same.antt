@@ -1,4 +1,4 @@
--- Equality: what `==` answers on the values of this crate.
+-- Equality: what `==` answers on the values of this crate. That it says whether the two are the same is a law of `equality`.
 use Rattle.std.specs.Prelude.{Bool}
 use Rattle.cept_codes.specs.declared.glyph.SetId.{SetId}
 use Rattle.cept_codes.specs.declared.glyph.Glyph.{Glyph}
@@ -27,6 +27,10 @@ use Rattle.cept_codes.specs.declared.item.Reason.{Reason}
 use Rattle.cept_codes.specs.declared.item.Said.{Said}
 use Rattle.cept_codes.specs.declared.item.Item.{Item}
 use Rattle.cept_codes.specs.declared.stroke.Stroke.{Stroke}
+use Rattle.cept_codes.specs.declared.memory.NoMemory.{NoMemory}
+use Rattle.cept_codes.specs.Place.{Place}
+use Rattle.cept_codes.specs.contracts.memory.NoMemoryPartialEq.TheImpl.{ghosts as no_memory_comparison}
+use Rattle.cept_codes.specs.contracts.position.PosPartialEq.TheImpl.{ghosts as place_comparison}
 use Rattle.cept_codes.specs.contracts.glyph.SetIdPartialEq.TheImpl.{ghosts as set_comparison}
 use Rattle.cept_codes.specs.contracts.glyph.GlyphPartialEq.TheImpl.{ghosts as glyph_comparison}
 use Rattle.cept_codes.specs.contracts.attribute.SizePartialEq.TheImpl.{ghosts as size_comparison}
@@ -55,12 +59,11 @@ use Rattle.cept_codes.specs.contracts.item.SaidPartialEq.TheImpl.{ghosts as said
 use Rattle.cept_codes.specs.contracts.item.ItemPartialEq.TheImpl.{ghosts as item_comparison}
 use Rattle.cept_codes.specs.contracts.stroke.StrokePartialEq.TheImpl.{ghosts as stroke_comparison}
 
-abbrev pub same_set : SetId → SetId → Bool
-same_set = set_comparison.eq
+-- what `==` answers on places
+abbrev pub same_place : Place → Place → Bool
+same_place = place_comparison.eq
 
-abbrev pub same_glyph : Glyph → Glyph → Bool
-same_glyph = glyph_comparison.eq
-
+-- on attributes and pens
 abbrev pub same_size : Size → Size → Bool
 same_size = size_comparison.eq
 
@@ -79,6 +82,13 @@ same_pen = pen_comparison.eq
 abbrev pub same_full : Full → Full → Bool
 same_full = full_comparison.eq
 
+-- on signs, cells and rows of cells
+abbrev pub same_set : SetId → SetId → Bool
+same_set = set_comparison.eq
+
+abbrev pub same_glyph : Glyph → Glyph → Bool
+same_glyph = glyph_comparison.eq
+
 abbrev pub same_marker : Marker → Marker → Bool
 same_marker = marker_comparison.eq
 
@@ -91,6 +101,7 @@ same_cell = cell_comparison.eq
 abbrev pub same_row : RowCells → RowCells → Bool
 same_row = row_comparison.eq
 
+-- on colours, patterns and looks
 abbrev pub same_rgb : Rgb → Rgb → Bool
 same_rgb = rgb_comparison.eq
 
@@ -112,6 +123,7 @@ same_part = part_comparison.eq
 abbrev pub same_look : Look → Look → Bool
 same_look = look_comparison.eq
 
+-- on commands and items
 abbrev pub same_c1_set : C1Set → C1Set → Bool
 same_c1_set = c1_set_comparison.eq
 
@@ -133,5 +145,10 @@ same_said = said_comparison.eq
 abbrev pub same_item : Item → Item → Bool
 same_item = item_comparison.eq
 
+-- on strokes
 abbrev pub same_stroke : Stroke → Stroke → Bool
 same_stroke = stroke_comparison.eq
+
+-- on the want of memory
+abbrev pub same_no_memory : NoMemory → NoMemory → Bool
+same_no_memory = no_memory_comparison.eq
