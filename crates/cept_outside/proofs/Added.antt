@@ -1,12 +1,12 @@
 -- A file added under a name, in the place of the one with that name or behind the others.
-use Rattle.std.proofs.Common.{◌≡◌, ℕ, ◌<◌, Bool, true, false, cond, List, [], ◌∷◌, ◌++◌, length, set, get_or, Option, Some, None, option_map, slice_get, find, position, string_bytes, bytes_eq, refl, sym, ap, subst, ◌∙◌, arith, option_and_then}
+use Rattle.std.proofs.Common.{◌≡◌, ℕ, ◌<◌, Bool, true, false, cond, List, [], ◌∷◌, ◌++◌, length, set, get_or, Option, Some, None, option_map, find, position, string_bytes, bytes_eq, refl, sym, ap, subst, ◌∙◌}
 use Rattle.std.specs.List.{position_or_len}
 use Rattle.std.specs.Option.{option_or}
-use Rattle.std.proofs.lemmas.List.Folds.{find_at, find-set, find_past, find-append}
+use Rattle.std.proofs.lemmas.List.Folds.{find-set, find_past, find-append}
 use Rattle.std.proofs.lemmas.Option.{slice_get-get_or, cond_some}
 use Rattle.std.proofs.lemmas.Slice.Eq.{bytes_eq-Decides}
 use Rattle.cept_outside.specs.declared.rack.StoredFile.{StoredFile}
-use Rattle.cept_outside.specs.Files.{has_name, bytes_of, chosen}
+use Rattle.cept_outside.specs.Files.{has_name, bytes_of}
 use Rattle.cept_outside.proofs.Chosen.{chosen_is, found_name}
 
 abbrev bytes_if_found : Option StoredFile → Option (List ℕ)

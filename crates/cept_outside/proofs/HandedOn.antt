@@ -1,5 +1,5 @@
 -- Bytes that are held back, as the writer takes some of them.
-use Rattle.std.proofs.Common.{◌≡◌, ℕ, ◌+◌, ◌-◌, ◌≤◌, List, ◌++◌, length, take, drop, Option, sym, ap, subst, ◌∙◌, length-drop, arith}
+use Rattle.std.proofs.Common.{◌≡◌, ℕ, ◌+◌, ◌-◌, List, ◌++◌, length, take, drop, Option, sym, ap, subst, ◌∙◌, length-drop, arith}
 use Rattle.std.specs.Io.KnownBytes.{append_known, Keeps, Appends}
 use Rattle.std.proofs.KnownBytes.{Keeps-trans, append_known-moved}
 use Rattle.std.proofs.lemmas.List.{take-append-drop, drop-drop, take_all}

@@ -1,8 +1,9 @@
 -- A text that is put piece by piece.
-use Rattle.std.proofs.Common.{◌≡◌, ℕ, ◌+◌, ◌-◌, ◌<◌, ◌≤◌, List, [], ◌∷◌, ◌++◌, length, take, drop, Option, Some, None, Result, Ok, refl, sym, ap, subst, ◌∙◌, append_assoc, length-drop, length-take, arith}
+use Rattle.std.proofs.Common.{◌≡◌, ℕ, ◌+◌, ◌-◌, ◌≤◌, List, [], ◌++◌, length, take, drop, Ok, sym, ap, ◌∙◌, length-drop, length-take, arith}
 use Rattle.std.specs.Io.KnownBytes.{append_known}
 use Rattle.std.proofs.lemmas.List.{drop-drop, take_all}
 use Rattle.std.proofs.Math.Seq.{take-add}
+use Rattle.cept_outside.proofs.Known.{append_known-append_known}
 use Rattle.cept_outside.specs.SinkState.{SinkState, Puts, Gains}
 
 -- what isn't left of the text was put
@@ -12,10 +13,6 @@ pub record HasPut (text rest : List ℕ) (old now : SinkState) : Type 0 where
   pub put : Gains old (take (length text - length rest) text) now
   pub later : old.faults ≤ now.faults
   pub nothing : text ≡ [] → now ≡ old
-
-append_known_twice : (known : Option (List ℕ)) (a b : List ℕ) → append_known (append_known known a) b ≡ append_known known (a ++ b)
-append_known_twice None a b = refl
-append_known_twice (Some xs) a b = ap Some (append_assoc xs a b)
 
 module _ (text rest next : List ℕ) (n done : ℕ) (within : n ≤ length rest) (behind : rest ≡ drop done text) (is : next ≡ take (length rest - n) (drop n rest)) where
   all_left : next ≡ drop n rest
@@ -40,7 +37,7 @@ HasPut-more text rest next n old mid new is so_far puts later =
       within = omega (arith, so_far.within);
       behind = left_is text rest next n done puts.within so_far.behind is ∙ ap (λ m. drop m text) (sym more);
       put = record {
-        bytes = puts.appended ∙ ap (λ b. append_known b (take n rest)) so_far.put.bytes ∙ append_known_twice old.bytes (take done text) (take n rest) ∙ ap (append_known old.bytes) front;
+        bytes = puts.appended ∙ ap (λ b. append_known b (take n rest)) so_far.put.bytes ∙ append_known-append_known old.bytes (take done text) (take n rest) ∙ ap (append_known old.bytes) front;
         unflushed = λ _. puts.unflushed;
         unflushed_stays = λ e. absurd (omega (arith, ap length e, length-take (length text - length next) text, puts.some, so_far.within));
       };

@@ -3,3 +3,4 @@ pub mod Chosen
 pub mod Added
 pub mod HasPut
 pub mod HandedOn
+pub mod Known

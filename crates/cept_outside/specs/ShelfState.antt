@@ -1,5 +1,5 @@
 -- A shelf: files under names, one of them selected at a time, whose bytes are taken from the front.
-use Rattle.std.specs.Prelude.{◌≡◌, ℕ, ◌+◌, ◌-◌, ◌^◌, ◌≤◌, min, Bool, true, List, [], take, drop, length, Option, Some, None, option_and_then, is_some, IsSome, Result, OnOk, OnErr, IfOk}
+use Rattle.std.specs.Prelude.{◌≡◌, ℕ, ◌+◌, ◌-◌, ◌^◌, ◌≤◌, min, true, List, [], take, drop, length, Option, Some, None, option_and_then, is_some, IsSome, Result, OnOk, OnErr, IfOk}
 use Rattle.std.specs.Io.KnownBytes.{prepend_known}
 
 -- what a shelf means

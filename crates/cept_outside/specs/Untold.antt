@@ -1,5 +1,5 @@
 -- A shelf that tells nothing is told soundly.
-use Rattle.std.specs.Prelude.{◌≡◌, ℕ, List, Option, Some, None, refl}
+use Rattle.std.specs.Prelude.{ℕ, List, Option, Some, None, refl}
 use Rattle.std.proofs.lemmas.Option.{none-some}
 use Rattle.cept_outside.specs.FileShelf.{untold_shelf}
 use Rattle.cept_outside.specs.ShelfState.{IsSound}

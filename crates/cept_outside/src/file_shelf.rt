@@ -19,7 +19,9 @@ pub struct FileShelf<'a, R: Files> {
 
 impl<'a, R: Files> FileShelf<'a, R> {
     /// No file is selected.
-    pub fn new(files: &'a R) -> FileShelf<'a, R> {
+    pub fn new(files: &'a R) -> FileShelf<'a, R>
+        ensures { ⟦<FileShelf<'a, R> as Shelf>⟧.state result ≡ untold_shelf 0 0 }
+    {
         FileShelf {
             files,
             selected: None,

@@ -15,7 +15,6 @@ mod shelf;
 mod sink;
 mod std_sink;
 mod steps;
-
 #[cfg(test)]
 mod tests;
 

@@ -39,7 +39,13 @@ fn puts_to_standard_output(rt: HostRuntime) {
 
 #[test]
 fn faults_are_named(rt: HostRuntime) -> Result<(), Fail> {
-    assert_eq!(rt; Failed.to_string(rt.alloc())?.as_str(), "the outside failed");
-    assert_eq!(rt; WriteFault.to_string(rt.alloc())?.as_str(), "the sink failed");
+    assert_eq!(rt;
+        Failed.to_string(rt.alloc())?.as_str(),
+        "the outside failed"
+    );
+    assert_eq!(rt;
+        WriteFault.to_string(rt.alloc())?.as_str(),
+        "the sink failed"
+    );
     Ok(())
 }

@@ -1,5 +1,5 @@
 use Rattle.std.proofs.Common.{ap, sym, refl, ◌∙◌, position}
-use Rattle.cept_outside.specs.Files.{has_name, bytes_of}
+use Rattle.cept_outside.specs.Files.{has_name}
 use Rattle.cept_outside.proofs.Chosen.{place_there}
 use Rattle.cept_outside.proofs.Added.{bytes_of_pushed, bytes_of_set}
 use Rattle.cept_outside.proofs.rack.put_file.Goals as goal

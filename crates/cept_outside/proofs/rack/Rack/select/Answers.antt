@@ -1,4 +1,4 @@
-use Rattle.std.proofs.Common.{◌≡◌, sym, ap, ◌∙◌, position}
+use Rattle.std.proofs.Common.{sym, ap, ◌∙◌, position}
 use Rattle.cept_outside.specs.Files.{has_name}
 use Rattle.cept_outside.proofs.Chosen.{is_found, place_there, chosen_named, chosen_found, chosen_absent}
 use Rattle.cept_outside.proofs.rack.Rack.select.Goals as goal
