@@ -58,7 +58,8 @@ impl Glass for TapeGlass {
     ghost state = { tape_glass_state };
 
     fn paint(&mut self, at: Pos, screen: &Screen)
-        ensures paints { Paints (tape_glass_state self.old) at (look_at (looks_of screen.now.page) at) (tape_glass_state self.new) }
+        ensures paints { Paints (tape_glass_state self.old)
+            at (look_at (looks_of screen.now.page) at) (tape_glass_state self.new) }
         ensures tape { tape_of self.new ≡ taped (tape_of self.old) at (look_at (looks_of screen.now.page) at) }
     {
         self.glass.paint(at, screen);
