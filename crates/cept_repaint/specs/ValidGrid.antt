@@ -1,5 +1,5 @@
--- That a grid is valid is a fact with one proof at most, which a glass may keep beside its grid.
-use Rattle.std.specs.Prelude.{ℕ, ◌≡◌, ◌≤◌, ◌<◌, ◌⊎◌, List, drop}
+-- Valid paints, and that valid grids and paints are facts with one proof at most, which a glass may keep beside them.
+use Rattle.std.specs.Prelude.{ℕ, ◌<◌, ◌⊎◌, List}
 use Rattle.std.specs.List.{AllByRecursion, AllByRecursion-prop}
 use Rattle.std.proofs.Props.{props}
 use Rattle.std.proofs.Common.{ap, inl, inr, arith}
@@ -14,8 +14,16 @@ use Rattle.cept_codes.specs.declared.look.Shape.{Shape}
 use Rattle.cept_codes.specs.declared.look.Shape.TheVariants as shapes
 use Rattle.cept_codes.specs.declared.look.Look.{Look}
 use Rattle.cept_codes.specs.Glyph.{IsValidAccent, IsCodeOf, IsValidGlyph}
-use Rattle.cept_codes.specs.Look.{IsValidPaint, IsValidPattern, IsValidInks, IsValidShape, IsPart, IsValidLook, black}
+use Rattle.cept_codes.specs.Look.{IsValidPaint, IsValidPattern, IsValidInks, IsValidShape, IsValidLook}
+use Rattle.cept_codes.specs.Place.{Place, OnScreen}
 use Rattle.cept_profile.specs.Valid.{IsValidGrid}
+
+-- each paint is a valid look at a place of the screen
+abbrev pub IsValidPaintAt : Place × Look → Type 0
+IsValidPaintAt paint = OnScreen paint.0.row paint.0.column × IsValidLook paint.1
+
+abbrev pub AreValidPaints : List (Place × Look) → Type 0
+AreValidPaints paints = AllByRecursion IsValidPaintAt paints
 
 -- one of two facts that exclude each other
 either-prop : {A B : Type 0} → IsProp A → IsProp B → (A → B → ⊥) → IsProp (A ⊎ B)
@@ -64,3 +72,9 @@ IsValidLook-prop l = hlevel (props, IsValidShape-prop, IsValidPaint-prop)
 
 pub IsValidGrid-prop : (g : List (List Look)) → IsProp (IsValidGrid g)
 IsValidGrid-prop g = hlevel (props, IsValidLook-prop)
+
+IsValidPaintAt-prop : (paint : Place × Look) → IsProp (IsValidPaintAt paint)
+IsValidPaintAt-prop paint = hlevel (props, IsValidLook-prop)
+
+pub AreValidPaints-prop : (paints : List (Place × Look)) → IsProp (AreValidPaints paints)
+AreValidPaints-prop paints = AllByRecursion-prop IsValidPaintAt IsValidPaintAt-prop paints

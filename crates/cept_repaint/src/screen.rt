@@ -69,11 +69,14 @@ impl Screen {
         steps: &mut Steps<L>,
     )
         requires { IsValidCommand command }
-        ensures goes_on { (history : List Command) → AllValid history → self.old ≡ state history → self.new ≡ state (history ++ command ∷ []) }
+        ensures goes_on { (history : List Command) → AllValid history → self.old ≡ state history
+            → self.new ≡ state (history ++ command ∷ []) }
         ensures after { self.new ≡ after self.old command }
         ensures marks { marks.new ≡ differences (looks_of self.old.page) (looks_of self.new.page) }
-        ensures shown { (G.state glass.new).grid ≡ painted_all (G.state glass.old).grid (changed (looks_of self.old.page) (looks_of self.new.page)) }
-        ensures told { Lists (G.state glass.old).paints (changed (looks_of self.old.page) (looks_of self.new.page)) (G.state glass.new).paints }
+        ensures shown { (G.state glass.new).grid ≡ painted_all (G.state glass.old).grid
+            (changed (looks_of self.old.page) (looks_of self.new.page)) }
+        ensures told { Lists (G.state glass.old).paints
+            (changed (looks_of self.old.page) (looks_of self.new.page)) (G.state glass.new).paints }
         ensures cost { steps.new ≤ steps.old + 24 }
     {
         self.write(command, marks, steps);

@@ -5,6 +5,7 @@ ghost use Rattle.cept_profile.specs.Changes.{look_at};
 ghost use Rattle.cept_profile.specs.Look.{looks_of};
 ghost use Rattle.cept_repaint.specs.GlassState.{Paints};
 ghost use Rattle.cept_repaint.specs.Tape.{taped};
+ghost use Rattle.cept_repaint.specs.ValidGrid.{AreValidPaints, AreValidPaints-prop};
 
 use crate::glass::Glass;
 use crate::grid_glass::GridGlass;
@@ -21,6 +22,7 @@ pub struct TapeGlass {
     over: bool,
     ghost fits: { vec_len paints ≤ room },
     ghost taken: { room ≤ vec_capacity paints },
+    ghost valid: { AreValidPaints paints.items } by { AreValidPaints-prop paints.items },
 }
 
 impl TapeGlass {
@@ -43,7 +45,8 @@ impl TapeGlass {
 
     /// The first paints in their order, as many as there is room for.
     pub fn paints(&self) -> &[(Pos, Look)]
-        ensures { result.now ≡ (tape_of self.now).kept }
+        ensures kept { result.now ≡ (tape_of self.now).kept }
+        ensures valid { AreValidPaints result.now }
     {
         self.paints.as_slice()
     }
@@ -55,7 +58,8 @@ impl Glass for TapeGlass {
     ghost state = { tape_glass_state };
 
     fn paint(&mut self, at: Pos, screen: &Screen)
-        ensures paints { Paints (tape_glass_state self.old) at (look_at (looks_of screen.now.page) at) (tape_glass_state self.new) }
+        ensures paints { Paints (tape_glass_state self.old)
+            at (look_at (looks_of screen.now.page) at) (tape_glass_state self.new) }
         ensures tape { tape_of self.new ≡ taped (tape_of self.old) at (look_at (looks_of screen.now.page) at) }
     {
         self.glass.paint(at, screen);
