@@ -1,19 +1,21 @@
 -- A page that is taken piece by piece.
-use Rattle.std.proofs.Common.{◌≡◌, ℕ, ◌+◌, ◌-◌, ◌<◌, ◌≤◌, Option, Some, None, Result, Err, List, [], ◌∷◌, ◌++◌, length, take, drop, refl, sym, ◌∙◌, ap, subst, arith, append_assoc, append-nil, take-take, take-append-drop}
+use Rattle.std.proofs.Common.{◌≡◌, ℕ, ◌+◌, ◌≤◌, Option, Some, None, Result, Err, List, [], ◌++◌, length, take, drop, refl, sym, ◌∙◌, ap, subst, arith, append-nil, take-take, take-append-drop}
 use Rattle.std.specs.Io.KnownBytes.{prepend_known, append_known}
-use Rattle.std.proofs.lemmas.List.{drop-drop, take_all, drop_at, length-take-le, take-append-le}
+use Rattle.std.proofs.lemmas.List.{drop-drop, drop_at, length-take-le, take-append-le}
 use Rattle.std.proofs.Math.Seq.{take-add}
-use Rattle.cept_codes.specs.declared.item.Item.{Item}
 use Rattle.cept_outside.specs.ShelfState.{ShelfState, KeepsFiles}
 use Rattle.cept_outside.specs.SinkState.{SinkState}
 use Rattle.cept_parser.specs.Items.{items, closed_items}
 use Rattle.cept_repaint.specs.GlassState.{GlassState}
 use Rattle.cept_tool.specs.declared.decoder.Decoder.{Decoder}
 use Rattle.cept_tool.specs.declared.page.Stop.{Stop}
+use Rattle.cept_tool.specs.declared.page.Stop.TheVariants as stops
+use Rattle.cept_tool.specs.declared.run.Status.{Status}
+use Rattle.cept_tool.specs.declared.run.Status.TheVariants as statuses
 use Rattle.cept_tool.specs.declared.words.Order.{Order}
 use Rattle.cept_tool.specs.declared.words.Order.TheVariants as orders
 use Rattle.cept_tool.specs.Events.{report, told_behind}
-use Rattle.cept_tool.specs.Run.{Reports}
+use Rattle.cept_tool.specs.Run.{Reports, status_of}
 use Rattle.cept_tool.specs.Told.{HasRead, HasTold}
 use Rattle.cept_tool.specs.Words.{Form}
 use Rattle.cept_tool.proofs.Standing.{HasTold-order, HasTold-start}
@@ -50,8 +52,7 @@ pub HasCome-piece : (page piece : List ℕ) (place n m : ℕ) (before : ShelfSta
     → ((bytes : List ℕ) (first : SinkState) (start : GlassState) → HasRead decoder bytes → HasTold decoder.desk.order (items bytes) first now start shown → HasTold decoder.desk.order (items (bytes ++ take m piece)) first next start seen)
     → HasRead new (take (place + m) page) × HasTold order (items (take (place + m) page)) sink next glass seen
 HasCome-piece page piece place n m before known decoder new order sink now next glass shown seen come moved h le same read told =
-    let front = front_with page piece place n m known (sym come.left ∙ moved) h le in
-    (
+    let front = front_with page piece place n m known (sym come.left ∙ moved) h le in (
       subst (HasRead new) front (read _ come.read),
       HasTold-order _ _ _ _ _ _ _ _ same (ap items front) (told _ sink glass come.read (HasTold-order _ _ _ _ _ _ _ _ (sym same) refl come.told)),
     )
@@ -83,6 +84,22 @@ Reports-told form page sink now flushed glass shown told same = record {
 pub HasTold-untaken : (order : Order) (page : List ℕ) (taken : ℕ) (sink : SinkState) (glass : GlassState) → taken ≡ 0 → HasTold order (items (take taken page)) sink sink glass glass
 HasTold-untaken order page taken sink glass e = HasTold-order _ _ _ _ _ _ _ _ refl (ap (λ k. items (take k page)) (sym e)) (HasTold-start order sink glass)
 
--- why a page isn't read to its end, whatever is answered otherwise
-pub same_stop : {X Y : Type 0} {a b : Stop} → Err {T = X} {E = Stop} a ≡ Err b → Err {T = Y} {E = Stop} a ≡ Err b
-same_stop e = cc
+-- why a page isn't read to its end, whatever would be answered otherwise
+pub same_stop : {X Y : Type 0} {a b : Stop} → ◌≡◌ {A = Result X Stop} (Err a) (Err b) → ◌≡◌ {A = Result Y Stop} (Err a) (Err b)
+same_stop {X} {Y} {a} {b} e = let same : a ≡ b = cc in ap Err same
+
+-- the form that the words are, with the order of the desk
+pub same_form : (form : Form) (order desk : Order) (name : List ℕ) → desk ≡ order → ◌≡◌ {A = Option Form} (Some (record { order = order; page = name })) (Some form) → ◌≡◌ {A = Form} (record { order = desk; page = name }) form
+same_form form order desk name e f =
+    let named : ◌≡◌ {A = Form} (record { order = order; page = name }) form = cc in
+    ap (λ (o : Order). let r : Form = record { order = o; page = name } in r) e ∙ named
+
+pub read_fault_stop : (stop : Stop) (status : Status) → status ≡ status_of stop → status ≡ statuses.ReadFault → stop ≡ stops.ReadFault
+read_fault_stop stops.ReadFault status is e = refl
+read_fault_stop stops.WriteFault status is e = cc
+read_fault_stop stops.TooLong status is e = cc
+
+pub too_long_stop : (stop : Stop) (status : Status) → status ≡ status_of stop → status ≡ statuses.TooLong → stop ≡ stops.TooLong
+too_long_stop stops.ReadFault status is e = cc
+too_long_stop stops.WriteFault status is e = cc
+too_long_stop stops.TooLong status is e = refl

@@ -88,9 +88,9 @@ Lists-nothing told = record { told = λ now is. (now, is, sym (append-nil now)) 
 Lists-more : (a b c : Option (List (Place × Look))) (xs ys : List (Place × Look)) → Lists a xs b → Lists b ys c → Lists a (xs ++ ys) c
 Lists-more a b c xs ys first second = record {
   told = λ now is.
-    let s = second.told now is in
-    let f = first.told s.0 s.1 in
-    (f.0, f.1, s.2 ∙ ap (λ l. l ++ ys) f.2 ∙ append_assoc f.0 xs ys);
+      let s = second.told now is in
+      let f = first.told s.0 s.1 in
+      (f.0, f.1, s.2 ∙ ap (λ l. l ++ ys) f.2 ∙ append_assoc f.0 xs ys);
 }
 
 -- before the first item nothing was told
@@ -114,7 +114,7 @@ HasTold-command order items i command before mid now glass shown next painting i
     ap (item_paints order history) is ∙ ap (λ b. cond b (changes history command) []) painting in
     record {
       put = put ∙ ap (λ known. append_known known (command_text order i.at history command)) told.put ∙ append_known-twice before.bytes (told_behind order [] items) _
-        ∙ ap (append_known before.bytes) (ap (λ t. told_behind order [] items ++ t) (sym text) ∙ sym (told_behind-more order [] items i));
+          ∙ ap (append_known before.bytes) (ap (λ t. told_behind order [] items ++ t) (sym text) ∙ sym (told_behind-more order [] items i));
       painted = subst (λ (l : List (Place × Look)). Lists glass.paints l next.paints) (ap (λ t. painted_behind order [] items ++ t) (sym paints) ∙ sym (painted_behind-more order [] items i)) (Lists-more _ _ _ _ _ told.painted painted);
       grid = λ start. grid_is ∙ ap (λ g. painted_all g (changes history command)) (told.grid start) ∙ painted_all-changes history command ∙ ap grid (sym (applied-command order items i command painting is));
     }
@@ -128,7 +128,7 @@ HasTold-refused order items i reason before mid now glass shown is put told =
     let paints : item_paints order history i.what ≡ [] = ap (item_paints order history) is in
     record {
       put = put ∙ ap (λ known. append_known known (refusal_text order i.at i.len reason)) told.put ∙ append_known-twice before.bytes (told_behind order [] items) _
-        ∙ ap (append_known before.bytes) (ap (λ t. told_behind order [] items ++ t) (sym text) ∙ sym (told_behind-more order [] items i));
+          ∙ ap (append_known before.bytes) (ap (λ t. told_behind order [] items ++ t) (sym text) ∙ sym (told_behind-more order [] items i));
       painted = subst (λ (l : List (Place × Look)). Lists glass.paints l shown.paints) (sym (append-nil _) ∙ ap (λ t. painted_behind order [] items ++ t) (sym paints) ∙ sym (painted_behind-more order [] items i)) told.painted;
       grid = λ start. told.grid start ∙ ap grid (sym (applied-refused order items i reason is));
     }

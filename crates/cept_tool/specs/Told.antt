@@ -1,12 +1,12 @@
 -- What stands and what was told after some items.
-use Rattle.std.specs.Prelude.{◌≡◌, ℕ, Bool, true, false, List, [], Option, Some, None, if◌then◌else◌}
+use Rattle.std.specs.Prelude.{◌≡◌, ℕ, List, []}
 use Rattle.std.specs.Io.KnownBytes.{append_known}
 use Rattle.cept_codes.specs.declared.item.Item.{Item}
 use Rattle.cept_outside.specs.SinkState.{SinkState}
 use Rattle.cept_parser.specs.Items.{items}
 use Rattle.cept_parser.specs.State.{Leads}
 use Rattle.cept_profile.specs.Look.{grid}
-use Rattle.cept_profile.specs.State.{State, state}
+use Rattle.cept_profile.specs.State.{state}
 use Rattle.cept_profile.specs.Valid.{AllValid}
 use Rattle.cept_repaint.specs.GlassState.{GlassState, Lists}
 use Rattle.cept_tool.specs.declared.decoder.Decoder.{Decoder}

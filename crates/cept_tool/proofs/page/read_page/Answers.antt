@@ -1,8 +1,8 @@
 use Rattle.std.proofs.Common.{◌≡◌, refl, sym, ◌∙◌, ap, subst, arith, List, ℕ, ◌+◌, ◌^◌, take, drop, Some}
 use Rattle.std.proofs.lemmas.List.{length-take-le}
 use Rattle.cept_parser.specs.Items.{items, closed_items}
-use Rattle.cept_tool.specs.Told.{Stands, HasRead}
-use Rattle.cept_tool.proofs.Reading.{HasCome, HasCome-piece, left_more, all_come, KeepsFiles-more}
+use Rattle.cept_tool.specs.Told.{Stands}
+use Rattle.cept_tool.proofs.Reading.{HasCome-piece, left_more, all_come, KeepsFiles-more}
 use Rattle.cept_tool.proofs.Standing.{HasTold-order, HasTold-start}
 use Rattle.cept_tool.proofs.page.read_page.Goals as goal
 
@@ -55,11 +55,11 @@ loop-count-preserved g c =
       shelf_faults = omega (arith, c.take.ensures.cause.later);
       sink_faults = omega (arith, c.read_piece.ensures.cause.later);
       come = λ page is.
-        let come = so_far.come page is in
-        let more = HasCome-piece page c.take.new.into c.loop-count.place c.in-Ok.count c.min-fitting.result _ _ _ _ _ _ _ _ _ _ _ come c.in-Ok.ensures.takes.moved c.in-Ok.ensures.takes.within (omega arith) so_far.order c.in-Ok-read_piece.ensures.read c.in-Ok-read_piece.ensures.told in
-        record {
-          left = left_more page c.take.new.into c.loop-count.place c.in-Ok.count _ (sym come.left ∙ c.in-Ok.ensures.takes.moved) c.in-Ok.ensures.takes.within ∙ ap (λ k. Some (drop (c.loop-count.place + k) page)) (sym all);
-          read = more.0;
-          told = more.1;
-        };
+          let come = so_far.come page is in
+          let more = HasCome-piece page c.take.new.into c.loop-count.place c.in-Ok.count c.min-fitting.result _ _ _ _ _ _ _ _ _ _ _ come c.in-Ok.ensures.takes.moved c.in-Ok.ensures.takes.within (omega arith) so_far.order c.in-Ok-read_piece.ensures.read c.in-Ok-read_piece.ensures.told in
+          record {
+            left = left_more page c.take.new.into c.loop-count.place c.in-Ok.count _ (sym come.left ∙ c.in-Ok.ensures.takes.moved) c.in-Ok.ensures.takes.within ∙ ap (λ k. Some (drop (c.loop-count.place + k) page)) (sym all);
+            read = more.0;
+            told = more.1;
+          };
     }

@@ -1,4 +1,5 @@
-use Rattle.std.proofs.Common.{◌≡◌, refl}
+use Rattle.std.proofs.Common.{sym, subst, List, ℕ}
+use Rattle.cept_outside.specs.ShelfState.{Holds}
 use Rattle.cept_tool.proofs.Reading.{Reports-told, HasTold-untaken, same_stop}
 use Rattle.cept_tool.proofs.run.tell_page.Goals as goal
 
@@ -7,11 +8,17 @@ returns-in-Err-clause-read_fault_told g c = λ e bytes holds. HasTold-untaken _ 
 
 pub returns-in-Err-read_page-clause-read_fault_told :
     goal.returns-in-Err-read_page-clause-read_fault_told
-returns-in-Err-read_page-clause-read_fault_told g c = λ e bytes holds. c.in-Err-read_page.ensures.read_fault_told (same_stop e) bytes (c.in-Ok.ensures.selects.found bytes holds).1
+returns-in-Err-read_page-clause-read_fault_told g c = λ e bytes holds.
+    let named = subst (λ (name : List ℕ). Holds (g.F.Shelf.state c.args.shelf.now) name bytes) (sym c.as_str.ensures.value) holds in
+    c.in-Err-read_page.ensures.read_fault_told (same_stop e) bytes (c.in-Ok.ensures.selects.found bytes named).1
 
 pub returns-in-Err-read_page-clause-too_long_told :
     goal.returns-in-Err-read_page-clause-too_long_told
-returns-in-Err-read_page-clause-too_long_told g c = λ e bytes holds. c.in-Err-read_page.ensures.too_long_told (same_stop e) bytes (c.in-Ok.ensures.selects.found bytes holds).1
+returns-in-Err-read_page-clause-too_long_told g c = λ e bytes holds.
+    let named = subst (λ (name : List ℕ). Holds (g.F.Shelf.state c.args.shelf.now) name bytes) (sym c.as_str.ensures.value) holds in
+    c.in-Err-read_page.ensures.too_long_told (same_stop e) bytes (c.in-Ok.ensures.selects.found bytes named).1
 
 pub returns-in-Ok-flush-clause-reports : goal.returns-in-Ok-flush-clause-reports
-returns-in-Ok-flush-clause-reports g c = λ bytes holds. Reports-told _ bytes _ _ _ _ _ (c.in-Ok-read_page.ensures.told bytes (c.in-Ok.ensures.selects.found bytes holds).1) c.flush.ensures.flushes.bytes
+returns-in-Ok-flush-clause-reports g c = λ bytes holds.
+    let named = subst (λ (name : List ℕ). Holds (g.F.Shelf.state c.args.shelf.now) name bytes) (sym c.as_str.ensures.value) holds in
+    Reports-told _ bytes _ _ _ _ _ (c.in-Ok-read_page.ensures.told bytes (c.in-Ok.ensures.selects.found bytes named).1) c.flush.ensures.flushes.bytes

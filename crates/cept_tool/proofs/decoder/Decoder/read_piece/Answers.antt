@@ -1,4 +1,4 @@
-use Rattle.std.proofs.Common.{◌≡◌, refl, sym, ◌∙◌, ap, subst, arith}
+use Rattle.std.proofs.Common.{refl, sym, ◌∙◌, ap, subst, arith}
 use Rattle.cept_parser.specs.Items.{items}
 use Rattle.cept_tool.specs.Told.{HasRead}
 use Rattle.cept_tool.proofs.Standing.{HasTold-order, front_more, front_all}
@@ -13,7 +13,7 @@ loop-byte-preserved g c =
       running = c.read_byte.ensures.place.1;
       read = λ bytes read. subst (HasRead c.read_byte.new.self) (front_more bytes c.args.piece.now c.loop-byte.byte-index 0 c.loop-byte-test.true) (c.in-Ok.ensures.read _ (so_far.read bytes read));
       told = λ bytes before shown read told. HasTold-order _ _ _ _ _ _ _ _ so_far.order (ap items (front_more bytes c.args.piece.now c.loop-byte.byte-index 0 c.loop-byte-test.true))
-        (c.in-Ok.ensures.told _ before shown (so_far.read bytes read) (HasTold-order _ _ _ _ _ _ _ _ (sym so_far.order) refl (so_far.told bytes before shown read told)));
+          (c.in-Ok.ensures.told _ before shown (so_far.read bytes read) (HasTold-order _ _ _ _ _ _ _ _ (sym so_far.order) refl (so_far.told bytes before shown read told)));
       later = omega (arith, c.read_byte.ensures.cause.later);
     }
 

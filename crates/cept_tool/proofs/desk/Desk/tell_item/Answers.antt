@@ -1,4 +1,4 @@
-use Rattle.std.proofs.Common.{◌≡◌, subst, sym, refl}
+use Rattle.std.proofs.Common.{subst}
 use Rattle.std.proofs.lemmas.Result.{on_ok_weaker}
 use Rattle.cept_codes.specs.Command.{IsValidSaid}
 use Rattle.cept_tool.proofs.Items.{always_painting}

@@ -1,7 +1,7 @@
-use Rattle.std.proofs.Common.{◌≡◌, refl, sym, ◌∙◌, ap, subst, arith, List}
+use Rattle.std.proofs.Common.{refl, sym, ◌∙◌, subst, arith}
 use Rattle.cept_codes.specs.Command.{IsValidSaid}
 use Rattle.cept_codes.specs.declared.item.Item.{Item}
-use Rattle.cept_tool.specs.Told.{Stands, HasTold}
+use Rattle.cept_tool.specs.Told.{Stands}
 use Rattle.cept_tool.proofs.Standing.{HasTold-order, front_more, front_all, AllByRecursion-next, AllByRecursion-rest}
 use Rattle.cept_tool.proofs.desk.Desk.tell_items.Goals as goal
 
@@ -16,7 +16,7 @@ loop-item-preserved g c =
       valid = AllByRecursion-rest (λ (i : Item). IsValidSaid i.what) c.args.items.now c.loop-item.item-index c.loop-item-test.true so_far.valid;
       stands = λ earlier stands. subst (Stands c.tell_item.new.self) (front_more earlier c.args.items.now c.loop-item.item-index _ c.loop-item-test.true) (c.tell_item.ensures.stands _ (so_far.stands earlier stands));
       told = λ earlier before shown stands told. HasTold-order _ _ _ _ _ _ _ _ so_far.order (front_more earlier c.args.items.now c.loop-item.item-index _ c.loop-item-test.true)
-        (c.in-Ok.ensures.told _ before shown (so_far.stands earlier stands) (HasTold-order _ _ _ _ _ _ _ _ (sym so_far.order) refl (so_far.told earlier before shown stands told)));
+          (c.in-Ok.ensures.told _ before shown (so_far.stands earlier stands) (HasTold-order _ _ _ _ _ _ _ _ (sym so_far.order) refl (so_far.told earlier before shown stands told)));
       later = omega (arith, c.tell_item.ensures.cause.later);
     }
 
