@@ -6,6 +6,8 @@ mod decoder;
 mod desk;
 mod page;
 mod run;
+#[cfg(test)]
+mod tests;
 mod words;
 
 use cept_outside::{FileShelf, StdSink};
