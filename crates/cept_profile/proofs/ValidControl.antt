@@ -10,7 +10,8 @@ use Rattle.cept_codes.specs.Attribute.{IsValidPen, unset}
 use Rattle.cept_codes.specs.Command.{IsGraphic, IsValidCommand}
 use Rattle.cept_codes.specs.Glyph.{IsValidGlyph}
 use Rattle.cept_codes.specs.Place.{OnScreen}
-use Rattle.cept_profile.specs.Control.{Working, ControlState, initial, initial_sets, initial_working, moved_to, run_ended, pen_unset, row_below, moved_on, sign_of, written, working_after, control_after}
+use Rattle.cept_profile.specs.Control.{Working, ControlState, initial, initial_sets, initial_working, moved_to, run_ended, pen_unset, control_after}
+use Rattle.cept_profile.specs.Motions.{row_below, moved_on}
 use Rattle.cept_profile.specs.Valid.{AreValidSets, IsValidWorking, IsValidControl}
 
 pub IsValidPen-unset : IsValidPen unset
@@ -101,43 +102,10 @@ IsWithin-moved_on s n is =
     (λ wraps. IsWithin-moved_to s.rows (row_below s w.row) 1 w (IsWithin-control s is) (OnScreen-row_below s w.row 1 is (record { from_top = on.from_top; to_bottom = on.to_bottom; from_left = omega arith; to_right = omega arith }) is.within) (row_below-within s w.row on.from_top is.within))
     (λ stays. IsWithin-moved_to s.rows w.row 40 w (IsWithin-control s is) (record { from_top = on.from_top; to_bottom = on.to_bottom; from_left = omega arith; to_right = omega arith }) is.within))
 
--- the sign of a graphic byte is a sign
-pub IsValidGlyph-sign_of : (byte : ℕ) → IsGraphic byte → IfSome (sign_of byte) IsValidGlyph
-IsValidGlyph-sign_of byte graphic =
-    cond_both (ltb byte 0x80) (Some (record { set = sets.P; code = byte; accent = 0 })) None (λ g. IfSome g IsValidGlyph)
-    (λ left. let below = ltb-true byte 0x80 left in record { code = (omega (arith, graphic), omega arith); accent = inl refl })
-    (λ right. tt)
-
-pub IsWithin-written : (s : ControlState) (g : Option Glyph) → IsValidControl s → IfSome g IsValidGlyph → IsWithin s.rows (written s g)
-IsWithin-written s None is valid = IsWithin-control s is
-IsWithin-written s (Some g) is valid =
-    let moved = IsWithin-moved_on s 1 is in
-    record {
-      valid = record { place = moved.valid.place; sets = moved.valid.sets; accent = moved.valid.accent; last = valid; pen = moved.valid.pen; fast = moved.valid.fast; step = moved.valid.step; table = moved.valid.table };
-      row = moved.row;
-    }
-
-pub IsWithin-working_after : (s : ControlState) (command : Command) → IsValidControl s → IsValidCommand command → IsWithin s.rows (working_after s command)
-IsWithin-working_after s commands.Down is valid =
-    let on : OnScreen s.working.row s.working.column = is.working.place in
-    let moved = IsWithin-moved_to s.rows (row_below s s.working.row) s.working.column s.working (IsWithin-control s is) (OnScreen-row_below s s.working.row s.working.column is on is.within) (row_below-within s s.working.row on.from_top is.within) in
-    IsWithin-run_ended s.rows (moved_to (row_below s s.working.row) s.working.column s.working) moved
-IsWithin-working_after s commands.Clear is valid =
-    let bounds = rows-bounds s is in
-    let on : OnScreen 1 1 = record { from_top = omega arith; to_bottom = omega arith; from_left = omega arith; to_right = omega arith } in
-    IsWithin-fresh s.rows 1 1 s.working (IsWithin-control s is) on (omega arith)
-IsWithin-working_after s commands.Return is valid =
-    let on : OnScreen s.working.row s.working.column = is.working.place in
-    let first : OnScreen s.working.row 1 = record { from_top = on.from_top; to_bottom = on.to_bottom; from_left = omega arith; to_right = omega arith } in
-    IsWithin-run_ended s.rows (moved_to s.working.row 1 s.working) (IsWithin-moved_to s.rows s.working.row 1 s.working (IsWithin-control s is) first is.within)
-IsWithin-working_after s (commands.Position r c) is valid =
-    let bounds = rows-bounds s is in
-    let on : OnScreen (min r s.rows) c = record { from_top = omega (arith, valid); to_bottom = omega (arith, valid); from_left = valid.from_left; to_right = valid.to_right } in
-    IsWithin-fresh s.rows (min r s.rows) c s.working (IsWithin-control s is) on (omega arith)
-IsWithin-working_after s (commands.Graphic byte) is valid = IsWithin-written s (sign_of byte) is (IsValidGlyph-sign_of byte valid)
-IsWithin-working_after s _ is valid = IsWithin-control s is
+pub IsWithin-control_after : (s : ControlState) (command : Command) → IsValidControl s → IsValidCommand command → IsWithin s.rows (control_after s command).working
+IsWithin-control_after s command is valid = ?
 
 pub IsValidControl-control_after : (s : ControlState) (command : Command) → IsValidControl s → IsValidCommand command → IsValidControl (control_after s command)
 IsValidControl-control_after s command is valid =
-    let after = IsWithin-working_after s command is valid in
+    let after = IsWithin-control_after s command is valid in
     record { working = after.valid; rows = is.rows; within = after.row; area = is.area; kept = is.kept }

@@ -19,10 +19,9 @@ use Rattle.cept_codes.specs.Stroke.{IsValidStroke}
 use Rattle.cept_codes.specs.Table.{table, at, IsTable}
 use Rattle.cept_codes.proofs.Tables.{at-table, IsTable-table}
 use Rattle.cept_profile.specs.Cells.{is_at, seen, struck, struck_all}
-use Rattle.cept_profile.specs.Control.{ControlState, sign_of}
-use Rattle.cept_profile.specs.Strokes.{write_of, strokes_of}
+use Rattle.cept_profile.specs.Control.{ControlState}
+use Rattle.cept_profile.specs.Strokes.{strokes_of}
 use Rattle.cept_profile.specs.Valid.{IsValidControl}
-use Rattle.cept_profile.proofs.ValidControl.{IsValidGlyph-sign_of}
 
 -- ---- cells, place by place
 
@@ -112,20 +111,8 @@ AreValidTables-struck_all rows cells (x ∷ xs) is safe =
 parallel_is_not_blank : (g : Glyph) (pen : Pen) → whats.Parallel g pen ≡ whats.Blank → ⊥
 parallel_is_not_blank g pen e = cc
 
-IsSafe-write_of : (s : ControlState) (g : Option Glyph) → IsValidControl s → IfSome g IsValidGlyph → AllByRecursion (IsSafe s.rows) (write_of s g)
-IsSafe-write_of s None is valid = tt
-IsSafe-write_of s (Some g) is valid = ((is.working.place, is.within, (valid, is.working.pen), λ blank_is. absurd (parallel_is_not_blank g s.working.pen blank_is)), tt)
-
 pub IsSafe-strokes_of : (s : ControlState) (command : Command) → IsValidControl s → IsValidCommand command → AllByRecursion (IsSafe s.rows) (strokes_of s command)
-IsSafe-strokes_of s commands.Clear is valid = (tt, tt)
-IsSafe-strokes_of s (commands.Graphic byte) is valid = IsSafe-write_of s (sign_of byte) is (IsValidGlyph-sign_of byte valid)
-IsSafe-strokes_of s _ is valid = tt
+IsSafe-strokes_of s command is valid = ?
 
 pub length-strokes_of : (s : ControlState) (command : Command) → length (strokes_of s command) ≤ 128
-length-strokes_of s commands.Clear = omega arith
-length-strokes_of s (commands.Graphic byte) = short (sign_of byte)
-  where
-    short : (g : Option Glyph) → length (write_of s g) ≤ 128
-    short None = omega arith
-    short (Some g) = omega arith
-length-strokes_of s _ = omega arith
+length-strokes_of s command = ?

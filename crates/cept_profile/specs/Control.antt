@@ -19,7 +19,7 @@ leaves_accent _ = false
 
 -- the state in which a command takes effect
 abbrev pub ready : ControlState → Command → ControlState
-ready s command = if leaves_accent command then s else with_working s (accent_dropped s.working)
+ready s command = with_working s (if leaves_accent command then s.working else accent_dropped s.working)
 
 -- what a command that takes effect makes of the working state
 abbrev pub working_after : ControlState → Command → Working
