@@ -1,13 +1,13 @@
-// A library with one function.
+//! Control: what each command makes of the state beside the page, and the strokes that it makes. It knows no bytes, sees no
+//! cell and no look, and keeps no history.
 #![tactic(auto)]
 
-ghost use Rattle.std.specs.Prelude.{◌≡◌};
-ghost use Rattle.cept_control.specs.Echo.{echo_of};
+mod control;
+mod graphic;
+mod kept;
+mod motion;
+mod pen;
+mod shift;
 
-// The `ensures` clause is the contract: what `echo` returns is `echo_of` of its argument, a definition
-// in `specs/Echo.antt`, which a caller's clause can cite too.
-pub fn echo(x: usize) -> usize
-    ensures { result ≡ echo_of x }
-{
-    x
-}
+pub use cept_codes::Stroke;
+pub use control::Control;

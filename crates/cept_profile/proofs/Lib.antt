@@ -1,8 +1,10 @@
 pub mod Control
+pub mod Copies
 pub mod Cells
 pub mod Changes
 pub mod Painted
 pub mod Protected
+pub mod Reading
 pub mod Rising
 pub mod Start
 pub mod State
