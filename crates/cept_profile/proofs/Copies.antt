@@ -26,3 +26,10 @@ pub length-copies : (n : ℕ) (s : ControlState) (g : Glyph) → length (copies 
 unfolding copies
 length-copies zero s g = refl
 length-copies (suc n) s g = omega (arith, length-copies n s g, length-append (copies n s g) (write_of (behind_copies n s g) g))
+
+-- copies change the working state alone
+pub with_working-behind_copies : (n : ℕ) (s : ControlState) (g : Glyph) → with_working s (behind_copies n s g).working ≡ behind_copies n s g
+unfolding behind_copies
+with_working-behind_copies zero s g = refl
+with_working-behind_copies (suc n) s g =
+    ap (λ (t : ControlState). with_working t (written (behind_copies n s g) g)) (with_working-behind_copies n s g)
