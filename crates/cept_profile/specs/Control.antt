@@ -1,7 +1,7 @@
 -- Control: what each command makes of the state of the decoder beside the page (T/CD 6-1, the C0 control functions; code
 -- extension after ISO 2022). What ends a mosaic run, unsets the pen or drops an accent is this profile's own. Until a command
 -- is built it only drops a waiting accent.
-use Rattle.std.specs.Prelude.{ℕ, Bool, true, false, List, [], ◌∷◌, reverse, min, if◌then◌else◌}
+use Rattle.std.specs.Prelude.{Bool, true, false, List, [], ◌∷◌, reverse, min, if◌then◌else◌}
 use Rattle.cept_codes.specs.declared.command.Command.{Command}
 use Rattle.cept_codes.specs.declared.command.Command.TheVariants as commands
 use Rattle.cept_profile.specs.Motions.{row_below, row_above, moved_on, moved_back}

@@ -1,6 +1,6 @@
 -- Writing: signs, the accents that wait for them, and how often a sign is written (ISO 6937, accents before their sign; T/CD 6-1,
 -- RPT). The sizes aren't built, so each sign moves on by one column.
-use Rattle.std.specs.Prelude.{ℕ, Bool, zero, suc, Option, Some, None, List, [], ◌∷◌, ◌++◌}
+use Rattle.std.specs.Prelude.{ℕ, zero, suc, Option, Some, None, List, [], ◌∷◌, ◌++◌}
 use Rattle.cept_codes.specs.declared.attribute.Pen.{Pen}
 use Rattle.cept_codes.specs.declared.cell.Cell.{Cell}
 use Rattle.cept_codes.specs.declared.cell.What.{What}

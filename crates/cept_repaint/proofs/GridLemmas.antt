@@ -1,5 +1,5 @@
 -- Valid grids: the blank one, and a grid with a valid look painted.
-use Rattle.std.proofs.Common.{◌≡◌, ℕ, Bool, true, false, cond, List, sym, subst}
+use Rattle.std.proofs.Common.{ℕ, Bool, true, false, cond, List, sym, subst}
 use Rattle.cept_codes.specs.declared.look.Look.{Look}
 use Rattle.cept_codes.specs.declared.look.Shape.TheVariants as shapes
 use Rattle.cept_codes.specs.Look.{blank_look, IsValidLook}

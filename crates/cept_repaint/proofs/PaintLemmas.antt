@@ -1,10 +1,10 @@
 -- Marked places painted one after the other, in reading order.
-use Rattle.std.proofs.Common.{◌≡◌, ℕ, ◌+◌, ◌-◌, ◌<◌, ◌≤◌, suc, zero, Bool, true, false, cond, Option, Some, List, [], ◌∷◌, ◌++◌, map, refl, sym, ap, subst, ◌∙◌, append_assoc, arith, add-one, add-suc, add-zero}
+use Rattle.std.proofs.Common.{◌≡◌, ℕ, ◌+◌, ◌-◌, ◌<◌, ◌≤◌, suc, zero, Bool, true, false, cond, Option, List, [], ◌∷◌, ◌++◌, map, refl, sym, ap, subst, ◌∙◌, append_assoc, arith, add-zero}
 use Rattle.std.specs.List.{range_with_len, filter}
 use Rattle.std.proofs.lemmas.List.{append-nil, map-append, map-id}
 use Rattle.std.proofs.lemmas.List.FromFn.{filter_of_map_range_with_len_more}
 use Rattle.cept_codes.specs.declared.look.Look.{Look}
-use Rattle.cept_codes.specs.Place.{Place, OnScreen, number, place_of}
+use Rattle.cept_codes.specs.Place.{Place, number, place_of}
 use Rattle.cept_codes.proofs.Places.{place_of-number, number-lt}
 use Rattle.cept_profile.specs.Changes.{look_at, listed, painted, painted_all}
 use Rattle.cept_profile.proofs.Painted.{painted_all-append}

@@ -1,6 +1,6 @@
 -- That a grid is valid is a fact with one proof at most, which a glass may keep beside its grid.
-use Rattle.std.specs.Prelude.{ℕ, ◌≡◌, ◌≤◌, ◌<◌, ◌⊎◌, List, drop}
-use Rattle.std.specs.List.{AllByRecursion, AllByRecursion-prop}
+use Rattle.std.specs.Prelude.{ℕ, ◌<◌, ◌⊎◌, List}
+use Rattle.std.specs.List.{AllByRecursion-prop}
 use Rattle.std.proofs.Props.{props}
 use Rattle.std.proofs.Common.{ap, inl, inr, arith}
 use Rattle.cept_codes.specs.declared.glyph.SetId.{SetId}
@@ -14,7 +14,7 @@ use Rattle.cept_codes.specs.declared.look.Shape.{Shape}
 use Rattle.cept_codes.specs.declared.look.Shape.TheVariants as shapes
 use Rattle.cept_codes.specs.declared.look.Look.{Look}
 use Rattle.cept_codes.specs.Glyph.{IsValidAccent, IsCodeOf, IsValidGlyph}
-use Rattle.cept_codes.specs.Look.{IsValidPaint, IsValidPattern, IsValidInks, IsValidShape, IsPart, IsValidLook, black}
+use Rattle.cept_codes.specs.Look.{IsValidPaint, IsValidPattern, IsValidInks, IsValidShape, IsValidLook}
 use Rattle.cept_profile.specs.Valid.{IsValidGrid}
 
 -- one of two facts that exclude each other

@@ -1,5 +1,4 @@
 use Rattle.std.proofs.Common.{arith}
-use Rattle.cept_codes.proofs.Tables.{length-row_of}
 use Rattle.cept_repaint.proofs.RefreshLemmas.{RowsSoFar-none, RowsSoFar-more, RowsSoFar-looks, RowsSoFar-marks}
 use Rattle.cept_repaint.proofs.refresh.refresh.Goals as goal
 

@@ -1,6 +1,5 @@
-use Rattle.std.proofs.Common.{◌≡◌, ◌∙◌, List, drop, sym, ap, arith}
+use Rattle.std.proofs.Common.{◌∙◌, List, sym, ap, arith}
 use Rattle.cept_codes.specs.declared.cell.Cell.{Cell}
-use Rattle.cept_profile.specs.Cells.{struck_all}
 use Rattle.cept_profile.specs.State.{Page}
 use Rattle.cept_repaint.proofs.StruckLemmas.{struck_all-drop, struck_all-drop_all}
 use Rattle.cept_repaint.proofs.page.Page.draw_all.Goals as goal

@@ -1,4 +1,4 @@
-use Rattle.std.proofs.Common.{refl, ap, List}
+use Rattle.std.proofs.Common.{ap, List}
 use Rattle.cept_codes.specs.declared.cell.Cell.{Cell}
 use Rattle.cept_profile.specs.Cells.{cell_back}
 use Rattle.cept_profile.specs.State.{Page}

@@ -1,9 +1,6 @@
-use Rattle.std.proofs.Common.{◌≡◌, List, [], refl, sym, ap, subst, ◌∙◌}
-use Rattle.cept_codes.specs.Look.{blank_look}
-use Rattle.cept_codes.specs.Table.{table}
-use Rattle.cept_profile.specs.Control.{ControlState, control}
+use Rattle.std.proofs.Common.{◌≡◌, [], sym, ap, subst, ◌∙◌}
 use Rattle.cept_profile.specs.Look.{looks_of}
-use Rattle.cept_profile.specs.State.{Page, State, page, state}
+use Rattle.cept_profile.specs.State.{Page, State, state}
 use Rattle.cept_profile.specs.Valid.{IsValidState}
 use Rattle.cept_profile.proofs.ValidState.{IsValidState-start}
 use Rattle.cept_repaint.proofs.StateLemmas.{looks_of-start, same_state}
