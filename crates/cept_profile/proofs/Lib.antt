@@ -1,4 +1,5 @@
 pub mod Control
+pub mod ControlSettings
 pub mod Copies
 pub mod Cells
 pub mod Changes
