@@ -15,13 +15,17 @@ use Rattle.cept_profile.specs.Sets.{set_in}
 
 -- ---- services
 
--- a service runs: a break began it, and neither an end nor full defaults came since
+-- what ends a service that runs; full defaults end it without closing it
+abbrev pub ends_service : Command → Bool
+ends_service commands.ServiceEnd = true
+ends_service (commands.FullDefaults set) = true
+ends_service _ = false
+
+-- a service runs: a break began it, and nothing ended it since
 abbrev pub is_running : List Command → Bool
 is_running [] = false
 is_running (commands.ServiceBreak row ∷ earlier) = true
-is_running (commands.ServiceEnd ∷ earlier) = false
-is_running (commands.FullDefaults set ∷ earlier) = false
-is_running (_ ∷ earlier) = is_running earlier
+is_running (command ∷ earlier) = not (ends_service command) && is_running earlier
 
 abbrev mutual
   -- the commands without each closed service, from the break that begins it to the end that closes it

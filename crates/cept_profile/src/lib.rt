@@ -2,6 +2,7 @@
 //! these definitions obey. It has no code that computes a page and knows no bytes.
 #![tactic(auto)]
 
+mod accents;
 mod control_settings;
 mod first_grid;
 mod one_more;
@@ -9,7 +10,8 @@ mod painting;
 mod protected_cells;
 mod validity;
 
-pub use control_settings::settings_look_back;
+pub use accents::{accents_wait, single_shifts_wait};
+pub use control_settings::{closed_services_are_left_out, settings_look_back};
 pub use first_grid::the_first_grid;
 pub use one_more::{looking_back_is_drawing, one_more_command, one_more_command_by_parts};
 pub use painting::{each_command_is_shown, painting_the_changes};
