@@ -8,6 +8,8 @@ mod kept;
 mod motion;
 mod pen;
 mod shift;
+#[cfg(test)]
+mod tests;
 
 pub use cept_codes::Stroke;
 pub use control::Control;

@@ -49,9 +49,7 @@ impl Control {
         ensures { self.new ≡ obeyed self.old Command.Home }
     {
         let _rows = self.rows;
-        self.move_to(1, 1);
-        self.end_run();
-        self.unset_pen();
+        self.start_at(1, 1);
     }
 
     pub(crate) fn clear(&mut self, strokes: &mut ArrayVec<Stroke, 128>)
@@ -67,9 +65,7 @@ impl Control {
         requires { OnScreen row column }
         ensures { self.new ≡ obeyed self.old (Command.Position row column) }
     {
-        self.move_to(row.min(self.rows), column);
-        self.end_run();
-        self.unset_pen();
+        self.start_at(row.min(self.rows), column);
     }
 
     /// Some columns on, past the last one into the row below.
@@ -95,6 +91,17 @@ impl Control {
         } else if self.wrap {
             self.move_to(self.row_above(), 40);
         }
+    }
+
+    /// At another position, with no run and no attribute set.
+    fn start_at(&mut self, row: u8, column: u8)
+        requires on_screen { OnScreen row column }
+        requires within { row ≤ self.old.rows }
+        ensures { self.new ≡ with_working self.old (pen_unset (run_ended (moved_to row column self.old.working))) }
+    {
+        self.move_to(row, column);
+        self.end_run();
+        self.unset_pen();
     }
 
     fn move_to(&mut self, row: u8, column: u8)
