@@ -1,10 +1,8 @@
 -- Settings of control: a command sets what looking back says that it sets, and nothing else.
-use Rattle.std.proofs.Common.{◌≡◌, ℕ, ◌+◌, ◌-◌, ◌≤◌, zero, suc, Bool, true, false, not, cond, eqb, leb, Option, Some, None, unwrap_or, List, [], ◌∷◌, filter, reverse, refl, sym, ◌∙◌, ap, subst, arith}
-use Rattle.std.specs.List.{AllByRecursion}
+use Rattle.std.proofs.Common.{◌≡◌, ℕ, ◌+◌, ◌-◌, ◌≤◌, zero, suc, Bool, true, false, not, cond, eqb, leb, Option, Some, None, unwrap_or, List, [], ◌∷◌, reverse, refl, sym, ◌∙◌, ap, arith}
 use Rattle.std.proofs.lemmas.Bool.{cond_both}
 use Rattle.cept_codes.specs.declared.attribute.Attr.{Attr}
 use Rattle.cept_codes.specs.declared.attribute.Attr.TheVariants as attrs
-use Rattle.cept_codes.specs.declared.attribute.Pen.{Pen}
 use Rattle.cept_codes.specs.declared.command.C1Set.{C1Set}
 use Rattle.cept_codes.specs.declared.command.C1Set.TheVariants as c1sets
 use Rattle.cept_codes.specs.declared.command.Command.{Command}
@@ -14,13 +12,13 @@ use Rattle.cept_codes.specs.declared.glyph.Read.{Read}
 use Rattle.cept_codes.specs.declared.glyph.Read.TheVariants as reads
 use Rattle.cept_codes.specs.declared.glyph.SetId.{SetId}
 use Rattle.cept_codes.specs.Command.{IsValidCommand}
-use Rattle.cept_profile.specs.Control.{Working, ControlState, initial, with_working, moved_to, accent_dropped, leaves_accent, ready, obeyed, control_after, control_back, control}
+use Rattle.cept_profile.specs.Control.{Working, ControlState, with_working, moved_to, accent_dropped, leaves_accent, ready, obeyed, control_back, control}
 use Rattle.cept_profile.specs.ControlSettings.{outer_back, is_unbuilt, counted, c1_said, table_said, protect_said, set_said, left_said, right_said, fore_in, back_in, conceal_in, lined_in, boxed_in, size_in, invert_in, parallel_said, class_said, rows_said, wrap_said, implicit_said, created_back, area_said, Settings, settings_of, settings_back, settings}
 use Rattle.cept_profile.specs.Motions.{row_below, row_above, moved_on, moved_back}
 use Rattle.cept_profile.specs.Pens.{attribute_of, with_any, is_flash, coded, flashing, revealed}
 use Rattle.cept_profile.specs.Sets.{designated}
 use Rattle.cept_profile.specs.Valid.{AllValid}
-use Rattle.cept_profile.specs.Writing.{written, behind_copies, repeated, behind_read, taken, with_taken}
+use Rattle.cept_profile.specs.Writing.{behind_copies, repeated, behind_read, taken, with_taken}
 use Rattle.cept_profile.proofs.Copies.{with_working-behind_copies}
 use Rattle.cept_profile.proofs.ValidState.{AllByRecursion-reverse}
 

@@ -1,7 +1,6 @@
 -- Copies of a sign: one more, and how many strokes they make.
-use Rattle.std.proofs.Common.{◌≡◌, ℕ, ◌+◌, zero, suc, List, [], ◌∷◌, ◌++◌, length, refl, sym, ◌∙◌, ap, subst, arith, length-append, add-one}
+use Rattle.std.proofs.Common.{◌≡◌, ℕ, ◌+◌, zero, suc, [], ◌++◌, length, refl, ap, arith, length-append, add-one}
 use Rattle.cept_codes.specs.declared.glyph.Glyph.{Glyph}
-use Rattle.cept_codes.specs.declared.stroke.Stroke.{Stroke}
 use Rattle.cept_profile.specs.Control.{ControlState, with_working}
 use Rattle.cept_profile.specs.Writing.{behind_copies, copies, write_of, written}
 

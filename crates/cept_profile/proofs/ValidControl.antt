@@ -1,5 +1,5 @@
 -- Valid control: the initial state is valid, and every valid command keeps it valid.
-use Rattle.std.proofs.Common.{◌≡◌, ℕ, ◌+◌, ◌-◌, ◌*◌, ◌≤◌, zero, suc, Bool, true, false, min, cond, eqb, leb, ltb, Option, Some, None, inl, inr, refl, subst, arith}
+use Rattle.std.proofs.Common.{◌≡◌, ℕ, ◌+◌, ◌-◌, ◌≤◌, zero, suc, Bool, true, false, min, cond, eqb, leb, ltb, Option, Some, None, inl, inr, refl, subst, arith}
 use Rattle.std.specs.Prelude.{IfSome}
 use Rattle.std.proofs.lemmas.Bool.{cond_both, eqb-false, ltb-true, leb-true}
 use Rattle.std.proofs.lemmas.Bool.Decides.{nat_tests}
@@ -19,7 +19,7 @@ use Rattle.cept_codes.specs.Attribute.{IsValidAttr, IsValidPen, unset}
 use Rattle.cept_codes.specs.Command.{IsGraphic, IsValidCommand}
 use Rattle.cept_codes.specs.Glyph.{IsCodeOf, IsValidGlyph}
 use Rattle.cept_codes.specs.Place.{OnScreen}
-use Rattle.cept_profile.specs.Control.{Working, ControlState, initial, initial_sets, initial_working, with_working, moved_to, with_sets, run_ended, pen_unset, accent_dropped, leaves_accent, ready, working_after, obeyed, control_after}
+use Rattle.cept_profile.specs.Control.{Working, ControlState, initial, initial_sets, initial_working, with_working, moved_to, with_sets, run_ended, pen_unset, accent_dropped, leaves_accent, ready, working_after, control_after}
 use Rattle.cept_profile.specs.Motions.{row_below, row_above, moved_on, moved_back}
 use Rattle.cept_profile.specs.Pens.{attribute_of, with_attribute, with_any, is_flash, coded, fast_after, flash_of, flashing, revealed}
 use Rattle.cept_profile.specs.Sets.{Sets, IsAccent, IsValidRead, code_of, designated, locked_left, locked_right, set_of, shifted, unshifted}

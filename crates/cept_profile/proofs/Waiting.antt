@@ -1,5 +1,5 @@
 -- Accents and single shifts: how long they wait.
-use Rattle.std.proofs.Common.{◌≡◌, ℕ, ◌+◌, ◌-◌, ◌⊎◌, zero, suc, Bool, true, false, cond, eqb, leb, Option, Some, None, inl, inr, refl, sym, ◌∙◌, ap}
+use Rattle.std.proofs.Common.{◌≡◌, ℕ, ◌+◌, ◌-◌, zero, suc, false, cond, eqb, leb, Option, Some, None, refl, sym, ap}
 use Rattle.std.proofs.lemmas.Bool.{cond_both, false≢true}
 use Rattle.cept_codes.specs.declared.command.C1Set.{C1Set}
 use Rattle.cept_codes.specs.declared.command.C1Set.TheVariants as c1sets
@@ -8,10 +8,10 @@ use Rattle.cept_codes.specs.declared.command.Command.TheVariants as commands
 use Rattle.cept_codes.specs.declared.glyph.Glyph.{Glyph}
 use Rattle.cept_codes.specs.declared.glyph.Read.{Read}
 use Rattle.cept_codes.specs.declared.glyph.Read.TheVariants as reads
-use Rattle.cept_profile.specs.Control.{Working, ControlState, moved_to, accent_dropped, leaves_accent, ready, working_after, control_after}
+use Rattle.cept_profile.specs.Control.{Working, ControlState, moved_to, accent_dropped, leaves_accent, ready, control_after}
 use Rattle.cept_profile.specs.Motions.{row_below, row_above, moved_on, moved_back}
 use Rattle.cept_profile.specs.Pens.{coded, flashing, revealed}
-use Rattle.cept_profile.specs.Writing.{written, behind_copies, repeated, accented, behind_read, taken, with_taken}
+use Rattle.cept_profile.specs.Writing.{behind_copies, repeated, accented, behind_read, taken, with_taken}
 
 -- what moves leaves the accent and the sets
 moved_on-accent : (s : ControlState) (n : ℕ) (w : Working) → (moved_on s n w).accent ≡ w.accent

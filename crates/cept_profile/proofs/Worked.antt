@@ -2,12 +2,10 @@
 use Rattle.std.proofs.Common.{◌≡◌, ℕ, List, [], ◌∷◌, Some, None, true, false, length, drop, refl}
 use Rattle.cept_codes.specs.declared.cell.Cell.{Cell}
 use Rattle.cept_codes.specs.declared.cell.What.TheVariants as whats
-use Rattle.cept_codes.specs.declared.attribute.Flash.TheVariants.{Plain, Steady, Inverted, Fast1, Fast2, Fast3}
-use Rattle.cept_codes.specs.declared.attribute.Pen.{Pen}
-use Rattle.cept_codes.specs.declared.command.Command.{Command}
+use Rattle.cept_codes.specs.declared.attribute.Flash.TheVariants.{Fast1, Fast2, Fast3}
 use Rattle.cept_codes.specs.declared.command.Command.TheVariants.{Nul, CursorOn, Graphic, Position, Clear, Home, Return, Back, Down, Up, Single, LockRight, Designate, Repeat, C1, FlashMode, StopConceal, Cancel}
 use Rattle.cept_codes.specs.declared.glyph.Glyph.{Glyph}
-use Rattle.cept_codes.specs.declared.glyph.SetId.TheVariants.{P, S, N, M}
+use Rattle.cept_codes.specs.declared.glyph.SetId.TheVariants.{P, S}
 use Rattle.cept_codes.specs.declared.look.Look.{Look}
 use Rattle.cept_codes.specs.declared.look.Shape.TheVariants as shapes
 use Rattle.cept_codes.specs.declared.stroke.Stroke.{Stroke}

@@ -1,5 +1,5 @@
 -- Worked cases of looking back: services, and settings of commands that aren't built yet, by computing.
-use Rattle.std.proofs.Common.{◌≡◌, ℕ, List, [], ◌∷◌, Some, None, true, false, refl}
+use Rattle.std.proofs.Common.{◌≡◌, [], ◌∷◌, Some, None, false, refl}
 use Rattle.cept_codes.specs.declared.command.C1Set.TheVariants.{Serial, Parallel}
 use Rattle.cept_codes.specs.declared.command.Command.TheVariants.{Graphic, C1, DesignateC1, Table, StopConceal, Home, Designate, AreaCreate, AreaDelete, Format, ServiceBreak, ServiceEnd, FullDefaults, ControlDefaults}
 use Rattle.cept_codes.specs.declared.glyph.SetId.TheVariants.{P, N}

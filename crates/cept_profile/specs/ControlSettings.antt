@@ -9,7 +9,7 @@ use Rattle.cept_codes.specs.declared.command.C1Set.TheVariants as c1sets
 use Rattle.cept_codes.specs.declared.command.Command.{Command}
 use Rattle.cept_codes.specs.declared.command.Command.TheVariants as commands
 use Rattle.cept_codes.specs.declared.glyph.SetId.{SetId}
-use Rattle.cept_profile.specs.Control.{ControlState, Sets, initial_sets}
+use Rattle.cept_profile.specs.Control.{ControlState, initial_sets}
 use Rattle.cept_profile.specs.Pens.{attribute_of}
 use Rattle.cept_profile.specs.Sets.{set_in}
 
