@@ -1,4 +1,6 @@
+pub mod Waiting
 pub mod Control
+pub mod ControlSettings
 pub mod Copies
 pub mod Cells
 pub mod Changes
@@ -6,6 +8,7 @@ pub mod Painted
 pub mod Protected
 pub mod Reading
 pub mod Rising
+pub mod Services
 pub mod Start
 pub mod State
 pub mod ValidControl
@@ -14,3 +17,4 @@ pub mod ValidPage
 pub mod ValidState
 pub mod Worked
 pub mod Listed
+pub mod WorkedSettings

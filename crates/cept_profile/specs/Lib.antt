@@ -1,6 +1,7 @@
 pub mod Cells
 pub mod Changes
 pub mod Control
+pub mod ControlSettings
 pub mod Look
 pub mod Motions
 pub mod Pens
