@@ -1,9 +1,14 @@
+pub mod Waiting
 pub mod Control
+pub mod ControlSettings
+pub mod Copies
 pub mod Cells
 pub mod Changes
 pub mod Painted
 pub mod Protected
+pub mod Reading
 pub mod Rising
+pub mod Services
 pub mod Start
 pub mod State
 pub mod ValidControl
@@ -12,3 +17,4 @@ pub mod ValidPage
 pub mod ValidState
 pub mod Worked
 pub mod Listed
+pub mod WorkedSettings

@@ -1,5 +1,5 @@
 -- Valid pages: the strokes of a valid command in a valid state keep them valid.
-use Rattle.std.proofs.Common.{◌≡◌, ℕ, ◌<◌, ◌≤◌, false, not, ◌&&◌, eqb, Option, Some, None, List, [], ◌∷◌, length, refl, sym, ◌∙◌, subst, arith}
+use Rattle.std.proofs.Common.{◌≡◌, ℕ, ◌<◌, ◌≤◌, zero, suc, false, not, ◌&&◌, eqb, Option, Some, None, List, [], ◌∷◌, ◌++◌, length, refl, sym, ◌∙◌, subst, arith}
 use Rattle.std.specs.List.{AllByRecursion}
 use Rattle.std.specs.Prelude.{IfSome}
 use Rattle.std.proofs.lemmas.Bool.{cond_both, and_parts, eqb-true}
@@ -11,7 +11,12 @@ use Rattle.cept_codes.specs.declared.command.Command.TheVariants as commands
 use Rattle.cept_codes.specs.declared.glyph.Glyph.{Glyph}
 use Rattle.cept_codes.specs.declared.stroke.Stroke.{Stroke}
 use Rattle.cept_codes.specs.declared.stroke.Stroke.TheVariants as strokes
-use Rattle.cept_codes.specs.Cell.{IsValidCell, blank}
+use Rattle.cept_codes.specs.declared.command.C1Set.{C1Set}
+use Rattle.cept_codes.specs.declared.command.C1Set.TheVariants as c1sets
+use Rattle.cept_codes.specs.declared.glyph.Read.{Read}
+use Rattle.cept_codes.specs.declared.glyph.Read.TheVariants as reads
+use Rattle.cept_codes.specs.Attribute.{IsValidPen}
+use Rattle.cept_codes.specs.Cell.{IsValidCell, IsValidWhat, blank}
 use Rattle.cept_codes.specs.Command.{IsValidCommand}
 use Rattle.cept_codes.specs.Glyph.{IsValidGlyph}
 use Rattle.cept_codes.specs.Place.{Place, OnScreen}
@@ -19,10 +24,13 @@ use Rattle.cept_codes.specs.Stroke.{IsValidStroke}
 use Rattle.cept_codes.specs.Table.{table, at, IsTable}
 use Rattle.cept_codes.proofs.Tables.{at-table, IsTable-table}
 use Rattle.cept_profile.specs.Cells.{is_at, seen, struck, struck_all}
-use Rattle.cept_profile.specs.Control.{ControlState, sign_of}
-use Rattle.cept_profile.specs.Strokes.{write_of, strokes_of}
+use Rattle.cept_profile.specs.Control.{ControlState, ready}
+use Rattle.cept_profile.specs.Sets.{IsValidRead}
+use Rattle.cept_profile.specs.Strokes.{strokes_when, strokes_of}
 use Rattle.cept_profile.specs.Valid.{IsValidControl}
-use Rattle.cept_profile.proofs.ValidControl.{IsValidGlyph-sign_of}
+use Rattle.cept_profile.specs.Writing.{accented, behind_copies, content, copies, read_of, repeat_of, taken, write_of}
+use Rattle.cept_profile.proofs.Copies.{length-copies}
+use Rattle.cept_profile.proofs.ValidControl.{IsValidControl-behind_copies, IsValidControl-ready, IsValidGlyph-accented, IsValidRead-taken, rows-behind_copies}
 
 -- ---- cells, place by place
 
@@ -112,20 +120,64 @@ AreValidTables-struck_all rows cells (x ∷ xs) is safe =
 parallel_is_not_blank : (g : Glyph) (pen : Pen) → whats.Parallel g pen ≡ whats.Blank → ⊥
 parallel_is_not_blank g pen e = cc
 
-IsSafe-write_of : (s : ControlState) (g : Option Glyph) → IsValidControl s → IfSome g IsValidGlyph → AllByRecursion (IsSafe s.rows) (write_of s g)
-IsSafe-write_of s None is valid = tt
-IsSafe-write_of s (Some g) is valid = ((is.working.place, is.within, (valid, is.working.pen), λ blank_is. absurd (parallel_is_not_blank g s.working.pen blank_is)), tt)
+serial_is_not_blank : (g : Glyph) → whats.Serial g ≡ whats.Blank → ⊥
+serial_is_not_blank g e = cc
+
+-- what a sign makes is valid, and no blank cell
+IsValidWhat-content : (c1 : C1Set) (g : Glyph) (pen : Pen) → IsValidGlyph g → IsValidPen pen → IsValidWhat (content c1 g pen)
+IsValidWhat-content c1sets.Parallel g pen sign valid = (sign, valid)
+IsValidWhat-content c1sets.Serial g pen sign valid = sign
+
+content_is_not_blank : (c1 : C1Set) (g : Glyph) (pen : Pen) → content c1 g pen ≡ whats.Blank → ⊥
+content_is_not_blank c1sets.Parallel g pen e = parallel_is_not_blank g pen e
+content_is_not_blank c1sets.Serial g pen e = serial_is_not_blank g e
+
+pub IsSafe-write_of : (s : ControlState) (g : Glyph) → IsValidControl s → IsValidGlyph g → AllByRecursion (IsSafe s.rows) (write_of s g)
+IsSafe-write_of s g is valid =
+    ((is.working.place, is.within, IsValidWhat-content s.working.c1 g s.working.pen valid is.working.pen, λ blank_is. absurd (content_is_not_blank s.working.c1 g s.working.pen blank_is)), tt)
+
+IsSafe-read_of : (s : ControlState) (read : Read) → IsValidControl s → IsValidRead read → AllByRecursion (IsSafe s.rows) (read_of s read)
+IsSafe-read_of s (reads.Accent code) is valid = tt
+IsSafe-read_of s (reads.Glyph g) is valid =
+    IsSafe-write_of s (accented g.set g.code s.working.accent) is (IsValidGlyph-accented g.set g.code s.working.accent valid.code is.working.accent)
+
+pub AllByRecursion-append : {X : Type 0} (P : X → Type 0) (xs ys : List X) → AllByRecursion P xs → AllByRecursion P ys → AllByRecursion P (xs ++ ys)
+AllByRecursion-append P [] ys all more = more
+AllByRecursion-append P (x ∷ xs) ys all more = (all.0, AllByRecursion-append P xs ys all.1 more)
+
+IsSafe-copies : (n : ℕ) (s : ControlState) (g : Glyph) → IsValidControl s → IsValidGlyph g → AllByRecursion (IsSafe s.rows) (copies n s g)
+unfolding copies
+IsSafe-copies zero s g is valid = tt
+IsSafe-copies (suc n) s g is valid =
+    AllByRecursion-append (IsSafe s.rows) (copies n s g) (write_of (behind_copies n s g) g) (IsSafe-copies n s g is valid)
+    (subst (λ (rows : ℕ). AllByRecursion (IsSafe rows) (write_of (behind_copies n s g) g)) (rows-behind_copies n s g) (IsSafe-write_of (behind_copies n s g) g (IsValidControl-behind_copies n s g is valid) valid))
+
+IsSafe-repeat_of : (n : ℕ) (s : ControlState) (last : Option Glyph) → IsValidControl s → IfSome last IsValidGlyph → AllByRecursion (IsSafe s.rows) (repeat_of n s last)
+IsSafe-repeat_of n s None is valid = tt
+IsSafe-repeat_of n s (Some g) is valid = IsSafe-copies n s g is valid
+
+IsSafe-strokes_when : (s : ControlState) (command : Command) → IsValidControl s → IsValidCommand command → AllByRecursion (IsSafe s.rows) (strokes_when s command)
+IsSafe-strokes_when s commands.Clear is valid = (tt, tt)
+IsSafe-strokes_when s (commands.Graphic byte) is valid = IsSafe-read_of s (taken s byte).read is (IsValidRead-taken s byte valid)
+IsSafe-strokes_when s (commands.Repeat n) is valid = IsSafe-repeat_of n s s.working.last is is.working.last
+IsSafe-strokes_when s _ is valid = tt
 
 pub IsSafe-strokes_of : (s : ControlState) (command : Command) → IsValidControl s → IsValidCommand command → AllByRecursion (IsSafe s.rows) (strokes_of s command)
-IsSafe-strokes_of s commands.Clear is valid = (tt, tt)
-IsSafe-strokes_of s (commands.Graphic byte) is valid = IsSafe-write_of s (sign_of byte) is (IsValidGlyph-sign_of byte valid)
-IsSafe-strokes_of s _ is valid = tt
+IsSafe-strokes_of s command is valid = IsSafe-strokes_when (ready s command) command (IsValidControl-ready s command is) valid
 
-pub length-strokes_of : (s : ControlState) (command : Command) → length (strokes_of s command) ≤ 128
-length-strokes_of s commands.Clear = omega arith
-length-strokes_of s (commands.Graphic byte) = short (sign_of byte)
-  where
-    short : (g : Option Glyph) → length (write_of s g) ≤ 128
-    short None = omega arith
-    short (Some g) = omega arith
-length-strokes_of s _ = omega arith
+length-read_of : (s : ControlState) (read : Read) → length (read_of s read) ≤ 128
+length-read_of s (reads.Accent code) = omega arith
+length-read_of s (reads.Glyph g) = omega arith
+
+length-repeat_of : (n : ℕ) (s : ControlState) (last : Option Glyph) → n ≤ 63 → length (repeat_of n s last) ≤ 128
+length-repeat_of n s None low = omega arith
+length-repeat_of n s (Some g) low = omega (arith, length-copies n s g)
+
+length-strokes_when : (s : ControlState) (command : Command) → IsValidCommand command → length (strokes_when s command) ≤ 128
+length-strokes_when s commands.Clear valid = omega arith
+length-strokes_when s (commands.Graphic byte) valid = length-read_of s (taken s byte).read
+length-strokes_when s (commands.Repeat n) valid = length-repeat_of n s s.working.last valid
+length-strokes_when s _ valid = omega arith
+
+pub length-strokes_of : (s : ControlState) (command : Command) → IsValidCommand command → length (strokes_of s command) ≤ 128
+length-strokes_of s command valid = length-strokes_when (ready s command) command valid

@@ -1,5 +1,5 @@
 -- Valid states: the initial state is valid, and every valid command keeps it valid.
-use Rattle.std.proofs.Common.{List, [], ◌∷◌, ◌++◌, reverse, sym, ◌∙◌, ap, subst}
+use Rattle.std.proofs.Common.{List, [], ◌∷◌, reverse, sym, ◌∙◌, ap, subst}
 use Rattle.std.specs.List.{AllByRecursion}
 use Rattle.std.proofs.lemmas.List.{reverse-append, reverse-reverse}
 use Rattle.cept_codes.specs.declared.command.Command.{Command}
@@ -13,7 +13,7 @@ use Rattle.cept_profile.specs.Strokes.{strokes_of}
 use Rattle.cept_profile.specs.Valid.{AllValid, IsValidControl, IsValidState}
 use Rattle.cept_profile.proofs.State.{state-one_more}
 use Rattle.cept_profile.proofs.ValidControl.{IsValidControl-initial, IsValidControl-control_after}
-use Rattle.cept_profile.proofs.ValidPage.{IsSafe, IsValidStroke-safe, IsSafe-strokes_of, AreValidCells-blank, AreValidTables, AreValidTables-table, AreValidTables-struck_all}
+use Rattle.cept_profile.proofs.ValidPage.{AllByRecursion-append, IsSafe, IsValidStroke-safe, IsSafe-strokes_of, AreValidCells-blank, AreValidTables, AreValidTables-table, AreValidTables-struck_all}
 
 -- a valid state is valid control with valid cells of its format
 pub IsValidState-parts : (s : State) → IsValidControl s.control → AreValidTables s.control.rows s.page.cells → IsValidState s
@@ -36,10 +36,6 @@ IsValidState-after s command is valid =
     (AreValidTables-struck_all s.control.rows s.page.cells (strokes_of s.control command) (AreValidTables-state s is) (IsSafe-strokes_of s.control command is.control valid))
 
 -- ---- lists of valid commands
-
-AllByRecursion-append : {X : Type 0} (P : X → Type 0) (xs ys : List X) → AllByRecursion P xs → AllByRecursion P ys → AllByRecursion P (xs ++ ys)
-AllByRecursion-append P [] ys all more = more
-AllByRecursion-append P (x ∷ xs) ys all more = (all.0, AllByRecursion-append P xs ys all.1 more)
 
 pub AllByRecursion-reverse : {X : Type 0} (P : X → Type 0) (xs : List X) → AllByRecursion P xs → AllByRecursion P (reverse xs)
 AllByRecursion-reverse P [] all = tt

@@ -1,8 +1,13 @@
 pub mod Cells
 pub mod Changes
 pub mod Control
+pub mod ControlSettings
 pub mod Look
+pub mod Motions
+pub mod Pens
 pub mod Sets
 pub mod State
 pub mod Strokes
 pub mod Valid
+pub mod Working
+pub mod Writing

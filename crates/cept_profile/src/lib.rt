@@ -2,12 +2,16 @@
 //! these definitions obey. It has no code that computes a page and knows no bytes.
 #![tactic(auto)]
 
+mod accents;
+mod control_settings;
 mod first_grid;
 mod one_more;
 mod painting;
 mod protected_cells;
 mod validity;
 
+pub use accents::{accents_wait, single_shifts_wait};
+pub use control_settings::{closed_services_are_left_out, settings_look_back};
 pub use first_grid::the_first_grid;
 pub use one_more::{looking_back_is_drawing, one_more_command, one_more_command_by_parts};
 pub use painting::{each_command_is_shown, painting_the_changes};

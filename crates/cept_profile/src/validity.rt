@@ -23,7 +23,8 @@ pub fn validity_is_kept()
 pub fn strokes_are_valid()
     ensures valid { (s : ControlState) (command : Command) → IsValidControl s → IsValidCommand command
         → AllByRecursion IsValidStroke (strokes_of s command) }
-    ensures few { (s : ControlState) (command : Command) → length (strokes_of s command) ≤ 128 }
+    ensures few { (s : ControlState) (command : Command) → IsValidCommand command
+        → length (strokes_of s command) ≤ 128 }
 {}
 
 /// The looks of a valid page are valid, and so is the grid after any list of valid commands.

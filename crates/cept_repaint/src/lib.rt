@@ -2,7 +2,6 @@
 //! a glass. It knows no bytes and keeps no history.
 #![tactic(auto)]
 
-mod control;
 mod glass;
 mod grid;
 mod grid_glass;

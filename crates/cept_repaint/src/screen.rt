@@ -10,7 +10,6 @@ ghost use Rattle.cept_profile.specs.Valid.{AllValid, IsValidState};
 ghost use Rattle.cept_repaint.specs.GlassState.{Lists};
 ghost use Rattle.cept_repaint.specs.Kept.{cell_at};
 
-use crate::control::Control;
 use crate::glass::Glass;
 use crate::looks::Looks;
 use crate::marks::Marks;
@@ -19,6 +18,7 @@ use crate::painting::paint_marked;
 use crate::refresh::refresh;
 use arrayvec::ArrayVec;
 use cept_codes::{Cell, Command, Look, NoMemory, Pos, Stroke};
+use cept_control::Control;
 use cept_outside::Steps;
 use std::alloc::Global;
 use std::marker::Model;
@@ -90,7 +90,7 @@ impl Screen {
         ensures marks { marks.new ≡ differences (looks_of self.old.page) (looks_of self.new.page) }
         ensures cost { steps.new ≤ steps.old + 24 }
     {
-        self.control.step(command, &mut self.strokes);
+        self.control.step_into(command, &mut self.strokes);
         self.page.draw_all(self.strokes.as_slice());
         refresh(&self.page, &mut self.looks, marks, steps);
     }

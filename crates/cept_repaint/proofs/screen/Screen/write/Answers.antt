@@ -12,4 +12,4 @@ refresh-requires g c =
 
 pub invariant_of-self : goal.invariant_of-self
 invariant_of-self g c =
-    IsKept-after c.self.invariant c.args.command c.requires c.draw_all.new.self c.step.new.self c.refresh.new.looks c.as_slice.result.now (c.as_slice.ensures.value ∙ c.step.ensures.strokes) c.draw_all.ensures c.step.ensures.state c.refresh.ensures.looks
+    IsKept-after c.self.invariant c.args.command c.requires c.draw_all.new.self c.step_into.new.self c.refresh.new.looks c.as_slice.result.now (c.as_slice.ensures.value ∙ c.step_into.ensures.strokes) c.draw_all.ensures c.step_into.ensures.state c.refresh.ensures.looks

@@ -1,0 +1,168 @@
+ghost use Rattle.std.specs.Prelude.{◌≡◌, ◌≤◌, IfSome};
+ghost use Rattle.cept_codes.specs.Attribute.{IsValidAttr, IsValidPen};
+ghost use Rattle.cept_codes.specs.Command.{IsC1};
+ghost use Rattle.cept_profile.specs.Control.{obeyed};
+ghost use Rattle.cept_profile.specs.Pens.{attribute_of, fast_after, fast_before, fast_flash, flash_of, next_fast, with_any, with_attribute};
+
+use crate::control::Control;
+use cept_codes::{Attr, C1Set, Command, Flash, Pen};
+
+/// Pens: attributes under the parallel set.
+impl Control {
+    pub(crate) fn c1_code(&mut self, n: u8)
+        requires { IsC1 n }
+        ensures { self.new ≡ obeyed self.old (Command.C1 n) }
+    {
+        match self.c1 {
+            C1Set::Parallel => {
+                self.pen = with_any(attribute_of(self.table, n), self.pen);
+                if n == 8 || n == 9 {
+                    self.fast = 0;
+                }
+            }
+            C1Set::Serial => {}
+        }
+    }
+
+    pub(crate) fn flash_mode(&mut self, mode: u8)
+        requires { mode ≤ 6 }
+        ensures { self.new ≡ obeyed self.old (Command.FlashMode mode) }
+    {
+        match self.c1 {
+            C1Set::Parallel => {
+                let flash = flash_of(mode, self.fast);
+                self.pen = with_attribute(Attr::Flash(flash), self.pen);
+                self.fast = fast_after(mode, self.fast);
+            }
+            C1Set::Serial => {}
+        }
+    }
+
+    pub(crate) fn stop_conceal(&mut self)
+        ensures { self.new ≡ obeyed self.old Command.StopConceal }
+    {
+        match self.c1 {
+            C1Set::Parallel => self.pen = with_attribute(Attr::Conceal(false), self.pen),
+            C1Set::Serial => {}
+        }
+    }
+}
+
+/// The attribute of a C1 code with a colour table.
+fn attribute_of(table: u8, n: u8) -> Option<Attr>
+    requires table { table ≤ 3 }
+    requires code { IsC1 n }
+    ensures attribute { result ≡ attribute_of table n }
+    ensures valid { IfSome result IsValidAttr }
+{
+    match n {
+        0..=7 => Some(Attr::Fore(8 * table + n)),
+        8 => Some(Attr::Flash(Flash::Plain)),
+        9 => Some(Attr::Flash(Flash::Steady)),
+        10 => Some(Attr::Boxed(false)),
+        11 => Some(Attr::Boxed(true)),
+        16..=23 => Some(Attr::Back(8 * table + (n - 16))),
+        24 => Some(Attr::Conceal(true)),
+        25 => Some(Attr::Lined(false)),
+        26 => Some(Attr::Lined(true)),
+        28 => Some(Attr::Invert(false)),
+        29 => Some(Attr::Invert(true)),
+        30 => Some(Attr::NoBack),
+        31 => Some(Attr::Conceal(false)),
+        _ => None,
+    }
+}
+
+/// A pen with the attribute set, if there is one.
+fn with_any(attribute: Option<Attr>, pen: Pen) -> Pen
+    requires pen { IsValidPen pen }
+    requires attribute { IfSome attribute IsValidAttr }
+    ensures pen { result ≡ with_any attribute pen }
+    ensures valid { IsValidPen result }
+{
+    match attribute {
+        Some(attribute) => with_attribute(attribute, pen),
+        None => pen,
+    }
+}
+
+/// A pen with the attribute set.
+fn with_attribute(attribute: Attr, pen: Pen) -> Pen
+    requires pen { IsValidPen pen }
+    requires attribute { IsValidAttr attribute }
+    ensures pen { result ≡ with_attribute attribute pen }
+    ensures valid { IsValidPen result }
+{
+    let mut pen = pen;
+    match attribute {
+        Attr::Fore(entry) => pen.fore = Some(entry),
+        Attr::Back(entry) => pen.back = Some(entry),
+        Attr::NoBack => pen.back = None,
+        Attr::Flash(flash) => pen.flash = Some(flash),
+        Attr::Conceal(on) => pen.conceal = Some(on),
+        Attr::Lined(on) => pen.lined = Some(on),
+        Attr::Boxed(on) => pen.boxed = Some(on),
+        Attr::Size(size) => pen.size = Some(size),
+        Attr::Invert(on) => pen.invert = Some(on),
+    }
+    pen
+}
+
+/// The flash of a flash mode.
+fn flash_of(mode: u8, fast: u8) -> Flash
+    requires mode { mode ≤ 6 }
+    requires fast { fast ≤ 3 }
+    ensures { result ≡ flash_of mode fast }
+{
+    match mode {
+        0 => Flash::Inverted,
+        1 => Flash::Reduced,
+        _ => fast_flash(fast_after(mode, fast)),
+    }
+}
+
+/// The fast flash of this number.
+fn fast_flash(number: u8) -> Flash
+    ensures { result ≡ fast_flash number }
+{
+    match number {
+        1 => Flash::Fast1,
+        2 => Flash::Fast2,
+        _ => Flash::Fast3,
+    }
+}
+
+/// The number of the fast flash that a flash mode leaves in force, 0 for none.
+fn fast_after(mode: u8, fast: u8) -> u8
+    requires mode { mode ≤ 6 }
+    requires fast { fast ≤ 3 }
+    ensures fast { result ≡ fast_after mode fast }
+    ensures in_range { result ≤ 3 }
+{
+    match mode {
+        2 => 1,
+        3 => 2,
+        4 => 3,
+        5 => next_fast(fast),
+        6 => fast_before(fast),
+        _ => 0,
+    }
+}
+
+/// The next number in the circle 1, 2, 3.
+fn next_fast(fast: u8) -> u8
+    requires { fast ≤ 3 }
+    ensures next { result ≡ next_fast fast }
+    ensures in_range { result ≤ 3 }
+{
+    if fast == 3 { 1 } else { fast + 1 }
+}
+
+/// The number before in the circle 1, 2, 3.
+fn fast_before(fast: u8) -> u8
+    requires { fast ≤ 3 }
+    ensures before { result ≡ fast_before fast }
+    ensures in_range { result ≤ 3 }
+{
+    if fast <= 1 { 3 } else { fast - 1 }
+}

@@ -1,0 +1,36 @@
+ghost use Rattle.std.specs.Prelude.{◌≡◌, ◌≤◌};
+ghost use Rattle.cept_profile.specs.Control.{obeyed};
+
+use crate::control::Control;
+use cept_codes::{Command, SetId};
+
+/// Shifts and designations.
+impl Control {
+    pub(crate) fn lock_left(&mut self, g: u8)
+        requires { g ≤ 3 }
+        ensures { self.new ≡ obeyed self.old (Command.LockLeft g) }
+    {
+        self.sets.lock_left(g);
+    }
+
+    pub(crate) fn lock_right(&mut self, g: u8)
+        requires { (1 ≤ g) × (g ≤ 3) }
+        ensures { self.new ≡ obeyed self.old (Command.LockRight g) }
+    {
+        self.sets.lock_right(g);
+    }
+
+    pub(crate) fn single(&mut self, g: u8)
+        requires { (2 ≤ g) × (g ≤ 3) }
+        ensures { self.new ≡ obeyed self.old (Command.Single g) }
+    {
+        self.sets.single(g);
+    }
+
+    pub(crate) fn designate(&mut self, g: u8, set: SetId)
+        requires { g ≤ 3 }
+        ensures { self.new ≡ obeyed self.old (Command.Designate g set) }
+    {
+        self.sets.designate(g, set);
+    }
+}

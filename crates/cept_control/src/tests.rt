@@ -1,0 +1,78 @@
+use crate::control::Control;
+use cept_codes::{Cell, Command, Glyph, Pen, Pos, SetId, Stroke, What};
+
+/// The sign is put at this place, with the pen.
+fn put(place: Option<Pos>, code: u8, accent: u8, pen: Pen) -> Option<Stroke> {
+    let glyph = Glyph {
+        set: SetId::P,
+        code,
+        accent,
+    };
+    let cell = Cell {
+        what: What::Parallel(glyph, pen),
+        protected: false,
+    };
+    place.map(|at| Stroke::Put(at, cell))
+}
+
+#[test]
+fn an_accent_goes_with_the_sign_after_it(rt: HostRuntime) {
+    let mut control = Control::new();
+    assert_eq!(rt; control.step(Command::Single(2)).len(), 0);
+    assert_eq!(rt; control.step(Command::Graphic(0x48)).len(), 0);
+    let strokes = control.step(Command::Graphic(0x61));
+    assert_eq!(rt;
+        strokes.first().copied(),
+        put(Pos::new(1, 1), 0x61, 0x48, Pen::UNSET)
+    );
+}
+
+#[test]
+fn return_drops_an_accent(rt: HostRuntime) {
+    let mut control = Control::new();
+    assert_eq!(rt; control.step(Command::Graphic(0xC8)).len(), 0);
+    assert_eq!(rt; control.step(Command::Return).len(), 0);
+    let strokes = control.step(Command::Graphic(0x61));
+    assert_eq!(rt;
+        strokes.first().copied(),
+        put(Pos::new(1, 1), 0x61, 0, Pen::UNSET)
+    );
+}
+
+#[test]
+fn copies_go_on_in_the_row_below(rt: HostRuntime) {
+    let mut control = Control::new();
+    assert_eq!(rt; control.step(Command::Graphic(0x41)).len(), 1);
+    let strokes = control.step(Command::Repeat(63));
+    assert_eq!(rt; strokes.len(), 63);
+    assert_eq!(rt;
+        strokes.first().copied(),
+        put(Pos::new(1, 2), 0x41, 0, Pen::UNSET)
+    );
+    assert_eq!(rt;
+        strokes.last().copied(),
+        put(Pos::new(2, 24), 0x41, 0, Pen::UNSET)
+    );
+    assert_eq!(rt; Some(control.active()), Pos::new(2, 25));
+}
+
+#[test]
+fn a_sign_takes_the_pen(rt: HostRuntime) {
+    let mut control = Control::new();
+    assert_eq!(rt; control.step(Command::C1(21)).len(), 0);
+    let strokes = control.step(Command::Graphic(0x41));
+    let magenta = Pen {
+        back: Some(5),
+        ..Pen::UNSET
+    };
+    assert_eq!(rt;
+        strokes.first().copied(),
+        put(Pos::new(1, 1), 0x41, 0, magenta)
+    );
+    assert_eq!(rt; control.step(Command::Home).len(), 0);
+    let strokes = control.step(Command::Graphic(0x41));
+    assert_eq!(rt;
+        strokes.first().copied(),
+        put(Pos::new(1, 1), 0x41, 0, Pen::UNSET)
+    );
+}

@@ -1,0 +1,65 @@
+-- Worked cases of looking back: services, and settings of commands that aren't built yet, by computing.
+use Rattle.std.proofs.Common.{◌≡◌, [], ◌∷◌, Some, None, false, refl}
+use Rattle.cept_codes.specs.declared.command.C1Set.TheVariants.{Serial, Parallel}
+use Rattle.cept_codes.specs.declared.command.Command.TheVariants.{Graphic, C1, DesignateC1, Table, StopConceal, Home, Designate, AreaCreate, AreaDelete, Format, ServiceBreak, ServiceEnd, FullDefaults, ControlDefaults}
+use Rattle.cept_codes.specs.declared.glyph.SetId.TheVariants.{P, N}
+use Rattle.cept_profile.specs.ControlSettings.{outer, c1_back, set_back, class_back, fore_in, back_in, conceal_in, rows_back, area_back, settings}
+
+-- ---- services, in their order
+
+pub closed_service_is_left_out : outer (C1 1 ∷ ServiceBreak 24 ∷ C1 2 ∷ ServiceEnd ∷ C1 3 ∷ []) ≡ C1 1 ∷ C1 3 ∷ []
+closed_service_is_left_out = refl
+
+-- the first of two breaks begins the service
+pub second_break_begins_none : outer (C1 1 ∷ ServiceBreak 24 ∷ C1 2 ∷ ServiceBreak 24 ∷ C1 3 ∷ ServiceEnd ∷ []) ≡ C1 1 ∷ []
+second_break_begins_none = refl
+
+pub open_service_stays : outer (C1 1 ∷ ServiceBreak 24 ∷ C1 2 ∷ []) ≡ C1 1 ∷ ServiceBreak 24 ∷ C1 2 ∷ []
+open_service_stays = refl
+
+-- full defaults end a service without closing it, so that the end closes none
+pub full_defaults_close_none : outer (ServiceBreak 24 ∷ FullDefaults Serial ∷ ServiceEnd ∷ []) ≡ ServiceBreak 24 ∷ FullDefaults Serial ∷ ServiceEnd ∷ []
+full_defaults_close_none = refl
+
+pub two_services : outer (ServiceBreak 24 ∷ C1 1 ∷ ServiceEnd ∷ C1 2 ∷ ServiceBreak 24 ∷ ServiceEnd ∷ ServiceEnd ∷ []) ≡ C1 2 ∷ ServiceEnd ∷ []
+two_services = refl
+
+-- ---- settings, the newest command first
+
+pub table_that_holds_there : class_back fore_in (Table 1 ∷ C1 3 ∷ Table 2 ∷ []) ≡ Some 19
+table_that_holds_there = refl
+
+pub serial_code_sets_no_pen : class_back fore_in (C1 3 ∷ DesignateC1 Serial ∷ C1 4 ∷ []) ≡ Some 4
+serial_code_sets_no_pen = refl
+
+pub break_makes_parallel : c1_back (ServiceBreak 24 ∷ DesignateC1 Serial ∷ []) ≡ Parallel
+break_makes_parallel = refl
+
+pub background_is_taken_away : class_back back_in (C1 30 ∷ C1 21 ∷ []) ≡ None
+background_is_taken_away = refl
+
+pub concealing_stops : class_back conceal_in (StopConceal ∷ C1 24 ∷ []) ≡ Some false
+concealing_stops = refl
+
+pub defaults_designate : set_back 1 (ControlDefaults Parallel ∷ Designate 1 N ∷ []) ≡ set_back 1 []
+defaults_designate = refl
+
+pub last_designation : set_back 1 (Designate 2 P ∷ Designate 1 N ∷ Designate 1 P ∷ []) ≡ N
+last_designation = refl
+
+pub rows_of_the_format : rows_back (ServiceBreak 24 ∷ Format 20 false ∷ []) ≡ 20
+rows_of_the_format = refl
+
+pub area_deleted_by_its_rows : area_back (AreaDelete 2 9 ∷ AreaCreate 2 9 ∷ AreaCreate 3 4 ∷ []) ≡ None
+area_deleted_by_its_rows = refl
+
+pub area_outlives_other_rows : area_back (AreaDelete 3 4 ∷ AreaCreate 2 9 ∷ AreaCreate 3 4 ∷ []) ≡ Some (2, 9)
+area_outlives_other_rows = refl
+
+-- ---- what isn't built sets nothing
+
+pub unbuilt_services_leave_nothing_out : (settings (ServiceBreak 24 ∷ C1 2 ∷ ServiceEnd ∷ [])).fore ≡ Some 2
+unbuilt_services_leave_nothing_out = refl
+
+pub home_unsets : (settings (C1 2 ∷ Graphic 0x41 ∷ Home ∷ [])).fore ≡ None
+home_unsets = refl

@@ -1,0 +1,77 @@
+-- The state of control: what the decoder keeps beside the page. Which state there is, and what ends a mosaic run or unsets
+-- the pen, is this profile's own.
+use Rattle.std.specs.Prelude.{ℕ, Bool, true, false, Option, None}
+use Rattle.cept_codes.specs.declared.attribute.Pen.{Pen}
+use Rattle.cept_codes.specs.declared.command.C1Set.{C1Set}
+use Rattle.cept_codes.specs.declared.command.C1Set.TheVariants as c1sets
+use Rattle.cept_codes.specs.declared.glyph.Glyph.{Glyph}
+use Rattle.cept_codes.specs.Attribute.{unset}
+pub use Rattle.cept_profile.specs.Sets.{Sets, initial_sets}
+
+-- the state that a break of the service keeps
+pub record Working : Type 0 where
+  pub row : ℕ
+  pub column : ℕ
+  pub c1 : C1Set
+  pub sets : Sets
+  pub accent : Option ℕ  -- an accent that waits for its sign
+  pub last : Option Glyph  -- the last sign written
+  pub pen : Pen
+  pub fast : ℕ  -- the fast flash in force, 0 for none
+  pub run : Bool  -- left bytes are mosaics
+  pub step : ℕ  -- how far a sign moves on under the serial set
+  pub table : ℕ  -- the colour table
+  pub protect : Bool  -- written cells become protected
+
+-- the whole state of control
+pub record ControlState : Type 0 where
+  pub working : Working
+  pub rows : ℕ
+  pub wrap : Bool
+  pub area : Option (ℕ × ℕ)
+  pub implicit : Bool
+  pub kept : Option Working
+
+abbrev pub initial_working : Working
+initial_working = record {
+  row = 1;
+  column = 1;
+  c1 = c1sets.Parallel;
+  sets = initial_sets;
+  accent = None;
+  last = None;
+  pen = unset;
+  fast = 0;
+  run = false;
+  step = 1;
+  table = 0;
+  protect = false;
+}
+
+-- the state at the start
+abbrev pub initial : ControlState
+initial = record { working = initial_working; rows = 24; wrap = true; area = None; implicit = false; kept = None }
+
+-- the state with this working state
+abbrev pub with_working : ControlState → Working → ControlState
+with_working s w = record s { working = w }
+
+-- the state at another place
+abbrev pub moved_to : ℕ → ℕ → Working → Working
+moved_to r c w = record w { row = r; column = c }
+
+-- the state with other sets
+abbrev pub with_sets : Sets → Working → Working
+with_sets sets w = record w { sets = sets }
+
+-- the mosaic run is over
+abbrev pub run_ended : Working → Working
+run_ended w = record w { run = false; step = 1 }
+
+-- no class of the pen is set
+abbrev pub pen_unset : Working → Working
+pen_unset w = record w { pen = unset; fast = 0 }
+
+-- no accent waits
+abbrev pub accent_dropped : Working → Working
+accent_dropped w = record w { accent = None }
