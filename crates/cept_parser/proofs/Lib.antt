@@ -1,4 +1,6 @@
 pub mod Choices
+pub mod Links
+pub mod UnitLaws
 pub mod GrammarLaws
 pub mod ValidLaws
 pub mod Longest
@@ -6,3 +8,5 @@ pub mod Going
 pub mod Steps
 pub mod Sound
 pub mod Waiting
+pub mod Parts
+pub mod Sequences

@@ -6,7 +6,8 @@ use Rattle.cept_codes.specs.declared.command.Command.TheVariants.{Graphic}
 use Rattle.cept_codes.specs.declared.item.Said.TheVariants.{Command as Says}
 use Rattle.cept_parser.specs.declared.context.Context.{Context}
 use Rattle.cept_parser.specs.Context.{start}
-use Rattle.cept_parser.specs.Grammar.{is_plain, is_empty, unit}
+use Rattle.cept_parser.specs.Bytes.{is_plain, is_empty}
+use Rattle.cept_parser.specs.Grammar.{unit}
 use Rattle.cept_parser.specs.Items.{Reading, before, waiting, read, reading, items, closing, said_at_end}
 use Rattle.cept_parser.specs.State.{ParserState, Leads, IsIdle, reading_with, state_after, pending_reading}
 use Rattle.cept_parser.specs.Valid.{AreValid, AreMeasured}

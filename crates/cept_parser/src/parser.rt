@@ -1,32 +1,18 @@
 ghost use Rattle.std.specs.Prelude.{◌≡◌, ◌≤◌, ◌<◌, ◌+◌, ◌^◌, ◌-◌, ℕ, List, [], ◌∷◌, ◌++◌, length, true, false, if◌then◌else◌, IsTrue};
 ghost use Rattle.std.specs.Option.{option_to_list};
 ghost use Rattle.arrayvec.specs.ArrayVec.{array_vec_len};
-ghost use Rattle.cept_parser.specs.Context.{start};
-ghost use Rattle.cept_parser.specs.Grammar.{is_plain, unit, fits};
+ghost use Rattle.cept_parser.specs.Bytes.{is_plain};
+ghost use Rattle.cept_parser.specs.Grammar.{unit, fits};
 ghost use Rattle.cept_parser.specs.Items.{read, items, closed_items, closing, said_at_end};
 ghost use Rattle.cept_parser.specs.Valid.{AreValid, AreMeasured};
 ghost use Rattle.cept_parser.specs.Waits.{Waits, cut};
 
-use crate::context::{ColourKind, Context, Mode};
-use crate::fit::{Fit, cut, fit_of, is_plain};
+use crate::bytes::is_plain;
+use crate::context::Context;
+use crate::fit::{Fit, cut, fit_of};
 use arrayvec::ArrayVec;
-use cept_codes::{Command, Form, Item, Reason, Said};
+use cept_codes::{Command, Item, Reason, Said};
 use std::marker::Model;
-
-/// The context before the first byte.
-fn start() -> Context
-    ensures { result ≡ start }
-{
-    Context {
-        mode: Mode::Text,
-        kind: ColourKind::ColourTable,
-        form: Form {
-            w: 12,
-            h: 10,
-            planes: 1,
-        },
-    }
-}
 
 /// Takes an item off bytes that fit and stand at this place, if they are one.
 fn settle(context: &mut Context, bytes: &mut ArrayVec<u8, 100>, at: u64) -> Option<Item>
@@ -177,7 +163,7 @@ impl Parser {
     {
         Parser {
             place: 0,
-            context: start(),
+            context: Context::start(),
             bytes: ArrayVec::new(),
             finished: false,
         }
