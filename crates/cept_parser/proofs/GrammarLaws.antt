@@ -14,6 +14,7 @@ use Rattle.cept_parser.specs.Units.{begins_us, us_grows}
 use Rattle.cept_parser.specs.Runs.{run_unit, begins_run, begins_pattern, run_grows}
 use Rattle.cept_parser.specs.Grammar.{begins_escape, unit, fits, grows}
 use Rattle.cept_parser.specs.Items.{is_refusal}
+use Rattle.cept_parser.specs.Beginning.{IsCommandUnit}
 use Rattle.cept_parser.proofs.Choices.{each_test}
 use Rattle.cept_parser.proofs.Links.{IsCommand, Links, links_test, complete_links, first_links, plain_links, Closes, closes_test, none_closes, complete_closes, plain_closes, Short, empty_short, plain_short, sequence_short}
 use Rattle.cept_parser.proofs.UnitLaws.{us_links, csi_links, escape_links, run_links, us_closes, csi_closes, escape_closes, run_closes, us_short, escape_short, run_short}
@@ -64,18 +65,20 @@ pub plain_fits : (x : Context) (u : List ℕ) (c : ℕ) → is_plain c ≡ true 
 plain_fits x u c = (links x u c).opens
 
 -- a byte that fits behind a whole unit makes a whole unit again
-pub whole_again : (x : Context) (u : List ℕ) (c : ℕ) (o : Closed) → unit x u ≡ Some o → fits x (u ++ c ∷ []) ≡ true → (w : Closed) × (unit x (u ++ c ∷ []) ≡ Some w) × (is_refusal w.said ≡ false)
-whole_again x u c o e h = let a = (links x u c).again o e h in (a.whole, a.is, a.command)
+pub whole_again : (x : Context) (u : List ℕ) (c : ℕ) (o : Closed) → unit x u ≡ Some o → fits x (u ++ c ∷ []) ≡ true → IsCommandUnit x (u ++ c ∷ [])
+whole_again x u c o e h =
+    let a = (links x u c).again o e h in
+    record { whole = a.whole; is = a.is; command = a.command }
 
-grows_run : (x : Context) (a : ℕ) (u : List ℕ) → is_plain a ≡ true → grows x (a ∷ u) ≡ run_grows x.mode x a u
+pub grows_run : (x : Context) (a : ℕ) (u : List ℕ) → is_plain a ≡ true → grows x (a ∷ u) ≡ run_grows x.mode x a u
 unfolding grows
 grows_run x a u p = rw p refl
 
-grows_us : (x : Context) (a : ℕ) (u : List ℕ) → is_plain a ≡ false → eqb a 0x1F ≡ true → grows x (a ∷ u) ≡ us_grows u
+pub grows_us : (x : Context) (a : ℕ) (u : List ℕ) → is_plain a ≡ false → eqb a 0x1F ≡ true → grows x (a ∷ u) ≡ us_grows u
 unfolding grows
 grows_us x a u p e = rw (p, e) refl
 
-grows_other : (x : Context) (a : ℕ) (u : List ℕ) → is_plain a ≡ false → eqb a 0x1F ≡ false → grows x (a ∷ u) ≡ false
+pub grows_other : (x : Context) (a : ℕ) (u : List ℕ) → is_plain a ≡ false → eqb a 0x1F ≡ false → grows x (a ∷ u) ≡ false
 unfolding grows
 grows_other x a u p e = rw (p, e) refl
 
@@ -100,13 +103,21 @@ whole_ends x u o c = (closes x u c).end o
 pub refused_ends : (x : Context) (u : List ℕ) (o : Closed) → unit x u ≡ Some o → is_refusal o.said ≡ true → grows x u ≡ false
 refused_ends x u = (closes x u 0).kept
 
--- what fits has at most ten bytes
+-- what fits has at most ten bytes, as long as there are no patterns
 pub fits_small : (x : Context) (u : List ℕ) → fits x u ≡ true → length u ≤ 10
 unfolding fits
 fits_small x [] h = omega arith
 fits_small x (a ∷ u) h =
     let P : Bool → Type 0 = λ f. f ≡ true → suc (length u) ≤ 10 in
     each_test P (is_plain a) (λ _ e. let s = run_short x.mode x a u e in omega arith) (λ _. each_test P (eqb a 0x12) (λ _ e. let s = plain_short u e in omega arith) (λ _. each_test P (eqb a 0x1B) (λ _ e. let s = escape_short u e in omega arith) (λ _. each_test P (eqb a 0x9B) (λ _ e. let s = sequence_short 0x40 7 u e in omega arith) (λ _. each_test P (eqb a 0x1F) (λ _ e. let s = us_short u e in omega arith) (λ _ e. let s = empty_short u e in omega arith))))) h
+
+-- what fits and isn't whole has at most ten bytes
+pub open_small : (x : Context) (u : List ℕ) → fits x u ≡ true → unit x u ≡ None → length u ≤ 10
+open_small x u h e = fits_small x u h
+
+-- a refused shape has at most ten bytes
+pub refused_small : (x : Context) (u : List ℕ) (o : Closed) → unit x u ≡ Some o → is_refusal o.said ≡ true → length u ≤ 10
+refused_small x u o e r = fits_small x u (whole_fits x u o e)
 
 -- a plain byte in mode Text is a sign, and leaves the context as it is
 pub plain_sign : (x : Context) (a : ℕ) → x.mode ≡ Text → is_plain a ≡ true → unit x (a ∷ []) ≡ Some (record { said = Says (Graphic a); next = x })
@@ -116,39 +127,3 @@ plain_sign x a t p = rw (p, t) refl
 pub plain_ends : (x : Context) (a : ℕ) → x.mode ≡ Text → is_plain a ≡ true → grows x (a ∷ []) ≡ false
 unfolding grows run_grows
 plain_ends x a t p = rw (p, t) refl
-
--- what fits is the beginning of what is whole: where it isn't whole yet, 7/15 goes on fitting until it is
-pub record IsBeginning (x : Context) (u : List ℕ) : Type 0 where
-  pub rest : List ℕ
-  pub whole : Closed
-  pub is : unit x (u ++ rest) ≡ Some whole
-
-cases_unit : (o : Option Closed) → (o ≡ None) ⊎ ((w : Closed) × (o ≡ Some w))
-cases_unit None = inl refl
-cases_unit (Some w) = inr (w, refl)
-
-whole_beginning : (x : Context) (u : List ℕ) (w : Closed) → unit x u ≡ Some w → IsBeginning x u
-whole_beginning x u w e =
-    record { rest = []; whole = w; is = subst (λ (v : List ℕ). unit x v ≡ Some w) (sym (append-nil u)) e }
-
-longer_beginning : (x : Context) (u : List ℕ) (c : ℕ) → IsBeginning x (u ++ c ∷ []) → IsBeginning x u
-longer_beginning x u c b =
-    record { rest = c ∷ b.rest; whole = b.whole; is = subst (λ (v : List ℕ). unit x v ≡ Some b.whole) (append_assoc u (c ∷ []) b.rest) b.is }
-
-beginning : (n : ℕ) (x : Context) (u : List ℕ) → 10 < length u + n → fits x u ≡ true → IsBeginning x u
-beginning zero x u l h = let s = fits_small x u h in absurd (omega arith)
-beginning (suc n) x u l h =
-    let m : length (u ++ 0x7F ∷ []) ≡ length u + 1 = length-append u (0x7F ∷ []) in
-    let longer : unit x u ≡ None → IsBeginning x u = λ e.
-    longer_beginning x u 0x7F (beginning n x (u ++ 0x7F ∷ []) (omega arith) (plain_fits x u 0x7F refl h e)) in
-    elim (cases_unit (unit x u)) [ inl e ↦ longer e | inr p ↦ whole_beginning x u p.0 p.1 ]
-
--- what fits is the beginning of what is whole
-pub fits_beginning : (x : Context) (u : List ℕ) → fits x u ≡ true → IsBeginning x u
-fits_beginning x u h = beginning 11 x u (omega arith) h
-
--- and the other way round
-pub beginning_fits : (x : Context) (u s : List ℕ) → fits x (u ++ s) ≡ true → fits x u ≡ true
-beginning_fits x u [] h = subst (λ (v : List ℕ). fits x v ≡ true) (append-nil u) h
-beginning_fits x u (c ∷ s) h =
-    fits_front x u c (beginning_fits x (u ++ c ∷ []) s (subst (λ (v : List ℕ). fits x v ≡ true) (sym (append_assoc u (c ∷ []) s)) h))

@@ -3,6 +3,7 @@ pub mod Links
 pub mod UnitLaws
 pub mod GrammarLaws
 pub mod ValidLaws
+pub mod Beginnings
 pub mod Longest
 pub mod Going
 pub mod Steps

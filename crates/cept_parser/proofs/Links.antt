@@ -1,6 +1,7 @@
 -- What a byte more has to do with what was before, for the small forms of which the units are made.
-use Rattle.std.proofs.Common.{◌≡◌, ℕ, zero, suc, ◌+◌, ◌<◌, ◌≤◌, Bool, true, false, ◌&&◌, cond, eqb, List, [], ◌∷◌, ◌++◌, length, Option, Some, None, refl, sym, ap, ◌∙◌, subst, arith}
-use Rattle.std.proofs.lemmas.Bool.{both_ways}
+use Rattle.std.proofs.Common.{◌≡◌, ℕ, zero, suc, ◌+◌, ◌<◌, ◌≤◌, Bool, true, false, ◌&&◌, cond, eqb, List, [], ◌∷◌, ◌++◌, length, Option, Some, None, refl, sym, ap, ◌∙◌, ◌||◌, ◌⊎◌, inl, inr, subst, arith}
+use Rattle.std.proofs.lemmas.Bool.{both_ways, cases_Bool, eq-eqb}
+use Rattle.std.specs.List.{list_any}
 use Rattle.cept_parser.specs.declared.context.Closed.{Closed}
 use Rattle.cept_parser.specs.Bytes.{between, is_plain, is_empty, contains, complete, begins_plain, with_plain, begins_sequence, is_sequence, are_options, are_options_left, with_options}
 use Rattle.cept_parser.specs.Items.{is_refusal}
@@ -125,6 +126,44 @@ options_end (p ∷ parts) [] c g = absurd cc
 options_end [] (a ∷ u) c g = refl
 options_end (p ∷ parts) (a ∷ u) c g =
     same_test (λ (s t : Bool). s ≡ false → t ≡ false) (contains p a) (λ _. options_end parts u c) (λ _. options_end parts (a ∷ u) c) g
+
+-- every part has a byte
+abbrev pub HaveBytes : List (List ℕ) → Type 0
+HaveBytes [] = Unit {0}
+HaveBytes ([] ∷ parts) = ⊥
+HaveBytes ((b ∷ bs) ∷ parts) = (b < 256) × HaveBytes parts
+
+-- a byte of a part that is left fits behind optional parts
+pub record IsContinuedBy (parts : List (List ℕ)) (u : List ℕ) : Type 0 where
+  pub byte : ℕ
+  pub small : byte < 256
+  pub fit : are_options parts (u ++ byte ∷ []) ≡ true
+
+pub options_continued : (parts : List (List ℕ)) (u : List ℕ) → HaveBytes parts → are_options parts u ≡ true → are_options_left parts u ≡ true → IsContinuedBy parts u
+unfolding are_options are_options_left
+options_continued [] [] h e g = absurd cc
+options_continued ([] ∷ parts) [] h e g = absurd h
+options_continued ((b ∷ bs) ∷ parts) [] h e g =
+    record { byte = b; small = h.0; fit = ap (λ (t : Bool). cond (t || list_any (λ c. eqb c b) bs) true (are_options parts (b ∷ []))) (eq-eqb b b refl) }
+options_continued [] (a ∷ u) h e g = absurd cc
+options_continued ([] ∷ parts) (a ∷ u) h e g = absurd h
+options_continued ((b ∷ bs) ∷ parts) (a ∷ u) h e g =
+    let p : List ℕ = b ∷ bs in
+    let here : contains p a ≡ true → IsContinuedBy (p ∷ parts) (a ∷ u) = λ t.
+      let n = options_continued parts u h.1 (rw t at e) (rw t at g) in
+      record { byte = n.byte; small = n.small; fit = rw t n.fit } in
+    let later : contains p a ≡ false → IsContinuedBy (p ∷ parts) (a ∷ u) = λ t.
+      let n = options_continued parts (a ∷ u) h.1 (rw t at e) (rw t at g) in
+      record { byte = n.byte; small = n.small; fit = rw t n.fit } in
+    elim (cases_Bool (contains p a)) [ inl t ↦ here t | inr t ↦ later t ]
+
+-- optional parts that say something are in order
+pub options_whole : (parts : List (List ℕ)) (u : List ℕ) (k w : Closed) → with_options parts u k ≡ Some w → are_options parts u ≡ true
+options_whole parts u k w e = go (are_options parts u) e
+  where
+    go : (b : Bool) → cond b (Some k) None ≡ Some w → b ≡ true
+    go true e = refl
+    go false e = absurd cc
 
 -- what is said where bytes are whole
 pub record Closes (o : Option Closed) (g f' : Bool) : Type 0 where

@@ -27,7 +27,7 @@ read_whole x at u o e =
     read_step x at u _ e ∙ ap (λ (v : List ℕ). before (record { at = at; len = length u; what = o.said } ∷ []) (read o.next (at + length u) v)) (drop_all (length u) u (omega arith)) ∙ ap (before (record { at = at; len = length u; what = o.said } ∷ [])) (read_nil o.next (at + length u))
 
 -- a command or a refusal that nothing continues is an item at once
-closes_now : (x : Context) (n : ℕ) (all : Bool) (o : Closed) → front_of x n all false (Some o) ≡ Some (record { said = o.said; size = n; next = o.next })
+pub closes_now : (x : Context) (n : ℕ) (all : Bool) (o : Closed) → front_of x n all false (Some o) ≡ Some (record { said = o.said; size = n; next = o.next })
 unfolding front_of
 closes_now x n true o = closes_go (is_refusal o.said) _
   where

@@ -23,7 +23,7 @@ use Rattle.cept_parser.specs.Grammar.{repeat, csi_unit, escape_unit, unit, fits}
 use Rattle.cept_parser.specs.Items.{is_refusal}
 use Rattle.cept_parser.specs.Valid.{IsValidContext, IsValidMode, AreBytes}
 use Rattle.cept_parser.proofs.Choices.{each_test}
-use Rattle.cept_parser.proofs.GrammarLaws.{fits_small, whole_fits}
+use Rattle.cept_parser.proofs.GrammarLaws.{fits_small}
 
 -- a closed unit says something valid, and the context behind it is valid
 pub record IsValidClosed (o : Closed) : Type 0 where
@@ -378,11 +378,3 @@ unit_valid x (a ∷ u) o v b e =
 -- what fits has at most a hundred bytes
 pub fits_hundred : (x : Context) (u : List ℕ) → IsValidContext x → fits x u ≡ true → length u ≤ 100
 fits_hundred x u v h = omega (arith, fits_small x u h)
-
--- what fits and isn't whole has at most ten bytes
-pub open_small : (x : Context) (u : List ℕ) → fits x u ≡ true → unit x u ≡ None → length u ≤ 10
-open_small x u h e = fits_small x u h
-
--- a refused shape has at most ten bytes
-pub refused_small : (x : Context) (u : List ℕ) (o : Closed) → unit x u ≡ Some o → is_refusal o.said ≡ true → length u ≤ 10
-refused_small x u o e r = fits_small x u (whole_fits x u o e)

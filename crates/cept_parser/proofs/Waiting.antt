@@ -1,23 +1,26 @@
 -- Bytes that wait.
-use Rattle.std.proofs.Common.{◌≡◌, ℕ, ◌+◌, ◌-◌, ◌<◌, ◌≤◌, suc, true, false, eqb, List, [], ◌∷◌, ◌++◌, length, refl, sym, ap, ◌∙◌, arith}
+use Rattle.std.proofs.Common.{◌≡◌, ℕ, ◌+◌, ◌-◌, ◌<◌, ◌≤◌, suc, Bool, true, false, eqb, Some, None, ◌⊎◌, inl, inr, List, [], ◌∷◌, ◌++◌, length, refl, sym, ap, ◌∙◌, arith}
 use Rattle.std.proofs.lemmas.List.{length-append}
-use Rattle.std.proofs.lemmas.Bool.{eqb-true, eqb-false}
+use Rattle.std.proofs.lemmas.Bool.{eqb-true, eqb-false, cases_Bool}
 use Rattle.cept_codes.specs.declared.command.Command.TheVariants.{Graphic}
 use Rattle.cept_codes.specs.declared.item.Said.TheVariants.{Command as Says}
 use Rattle.cept_parser.specs.declared.context.Context.{Context}
+use Rattle.cept_parser.specs.declared.context.Closed.{Closed}
 use Rattle.cept_parser.specs.Context.{start}
 use Rattle.cept_parser.specs.Bytes.{is_plain, is_empty}
-use Rattle.cept_parser.specs.Grammar.{unit}
-use Rattle.cept_parser.specs.Items.{Reading, before, waiting, read, reading, items, closing, said_at_end}
+use Rattle.cept_parser.specs.Grammar.{unit, fits, grows}
+use Rattle.cept_parser.specs.Items.{front_of, front, Reading, before, waiting, read, reading, items, closing, said_at_end}
 use Rattle.cept_parser.specs.State.{ParserState, Leads, IsIdle, reading_with, state_after, pending_reading}
+use Rattle.cept_parser.specs.Beginning.{IsContinued}
 use Rattle.cept_parser.specs.Valid.{AreValid, AreMeasured}
 use Rattle.cept_parser.specs.Waits.{Waits}
-use Rattle.cept_parser.proofs.GrammarLaws.{fits_small, fits_one, plain_sign, plain_ends}
-use Rattle.cept_parser.proofs.ValidLaws.{start_valid}
-use Rattle.cept_parser.proofs.Longest.{waits_fits, front_none}
+use Rattle.cept_parser.proofs.GrammarLaws.{fits_one, plain_fits, plain_sign, plain_ends}
+use Rattle.cept_parser.proofs.ValidLaws.{start_valid, fits_hundred}
+use Rattle.cept_parser.proofs.Beginnings.{grows_continued}
+use Rattle.cept_parser.proofs.Longest.{waits_fits, front_none, front_fitting}
 use Rattle.cept_parser.proofs.Going.{read_append, read_place, read_waits}
-use Rattle.cept_parser.proofs.Steps.{read_nil, read_unit}
-use Rattle.cept_parser.proofs.Sound.{read_sound, bytes_more, end_sound}
+use Rattle.cept_parser.proofs.Steps.{read_nil, read_unit, closes_now}
+use Rattle.cept_parser.proofs.Sound.{read_sound, bytes_more, end_sound, cases_closed}
 
 empty_length : (p : List ℕ) → eqb (length p) 0 ≡ true → is_empty p ≡ true
 empty_length [] e = refl
@@ -30,9 +33,28 @@ some_length : (p : List ℕ) → eqb (length p) 0 ≡ false → is_empty p ≡ f
 some_length [] e = absurd (eqb-false 0 0 e refl)
 some_length (a ∷ p) e = refl
 
+waits_open : (x : Context) (p : List ℕ) → fits x p ≡ true → unit x p ≡ None → IsContinued x p
+waits_open x p h e = record { byte = 0x7F; small = omega arith; fit = plain_fits x p 0x7F refl h e }
+
+waits_whole : (x : Context) (p : List ℕ) (o : Closed) → front x p ≡ None → fits x p ≡ true → unit x p ≡ Some o → IsContinued x p
+waits_whole x p o w h e =
+    let closes : grows x p ≡ false → front x p ≡ Some (record { said = o.said; size = length p; next = o.next }) = λ g.
+      front_fitting x p h ∙ ap (λ (b : Bool). front_of x (length p) true b (unit x p)) g ∙ ap (front_of x (length p) true false) e ∙ closes_now x (length p) true o in
+    let never : grows x p ≡ false → IsContinued x p = λ g. let s = closes g in absurd cc in
+    elim (cases_Bool (grows x p)) [ inl g ↦ grows_continued x p o e g | inr g ↦ never g ]
+
+-- a byte fits behind bytes that wait
+pub waits_continued : (x : Context) (p : List ℕ) → front x p ≡ None → IsContinued x p
+waits_continued x p w =
+    let h = waits_fits x p w in
+    elim (cases_closed (unit x p)) [ inl e ↦ waits_open x p h e | inr q ↦ waits_whole x p q.0 w h q.1 ]
+
 -- bytes that wait are at most 99
 pub waits_small : (x : Context) (place : ℕ) (p : List ℕ) → Waits x place p → length p ≤ 99
-waits_small x place p w = omega (arith, fits_small x p (waits_fits x p w.waits))
+waits_small x place p w = 
+    let c = waits_continued x p w.waits in
+    let h : length (p ++ c.byte ∷ []) ≤ 100 = fits_hundred x (p ++ c.byte ∷ []) w.context c.fit in
+    omega (arith, length-append p (c.byte ∷ []))
 
 -- no bytes wait
 pub none_waits : Waits start 0 []

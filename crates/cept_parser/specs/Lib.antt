@@ -9,5 +9,6 @@ pub mod Grammar
 pub mod Items
 pub mod Valid
 pub mod State
+pub mod Beginning
 pub mod Fit
 pub mod Waits
