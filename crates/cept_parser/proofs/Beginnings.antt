@@ -35,7 +35,7 @@ beginning zero x u l h =
 beginning (suc n) x u l h =
     let m : length (u ++ 0x7F ∷ []) ≡ length u + 1 = length-append u (0x7F ∷ []) in
     let longer : unit x u ≡ None → IsBeginning x u = λ e.
-      longer_beginning x u 0x7F (omega arith) (beginning n x (u ++ 0x7F ∷ []) (omega arith) (plain_fits x u 0x7F refl h e)) in
+    longer_beginning x u 0x7F (omega arith) (beginning n x (u ++ 0x7F ∷ []) (omega arith) (plain_fits x u 0x7F refl h e)) in
     elim (cases_unit (unit x u)) [ inl e ↦ longer e | inr p ↦ whole_beginning x u p.0 p.1 ]
 
 -- what fits is the beginning of what is whole

@@ -150,11 +150,11 @@ options_continued ([] ∷ parts) (a ∷ u) h e g = absurd h
 options_continued ((b ∷ bs) ∷ parts) (a ∷ u) h e g =
     let p : List ℕ = b ∷ bs in
     let here : contains p a ≡ true → IsContinuedBy (p ∷ parts) (a ∷ u) = λ t.
-      let n = options_continued parts u h.1 (rw t at e) (rw t at g) in
-      record { byte = n.byte; small = n.small; fit = rw t n.fit } in
+    let n = options_continued parts u h.1 (rw t at e) (rw t at g) in
+    record { byte = n.byte; small = n.small; fit = rw t n.fit } in
     let later : contains p a ≡ false → IsContinuedBy (p ∷ parts) (a ∷ u) = λ t.
-      let n = options_continued parts (a ∷ u) h.1 (rw t at e) (rw t at g) in
-      record { byte = n.byte; small = n.small; fit = rw t n.fit } in
+    let n = options_continued parts (a ∷ u) h.1 (rw t at e) (rw t at g) in
+    record { byte = n.byte; small = n.small; fit = rw t n.fit } in
     elim (cases_Bool (contains p a)) [ inl t ↦ here t | inr t ↦ later t ]
 
 -- optional parts that say something are in order

@@ -39,7 +39,7 @@ waits_open x p h e = record { byte = 0x7F; small = omega arith; fit = plain_fits
 waits_whole : (x : Context) (p : List ℕ) (o : Closed) → front x p ≡ None → fits x p ≡ true → unit x p ≡ Some o → IsContinued x p
 waits_whole x p o w h e =
     let closes : grows x p ≡ false → front x p ≡ Some (record { said = o.said; size = length p; next = o.next }) = λ g.
-      front_fitting x p h ∙ ap (λ (b : Bool). front_of x (length p) true b (unit x p)) g ∙ ap (front_of x (length p) true false) e ∙ closes_now x (length p) true o in
+    front_fitting x p h ∙ ap (λ (b : Bool). front_of x (length p) true b (unit x p)) g ∙ ap (front_of x (length p) true false) e ∙ closes_now x (length p) true o in
     let never : grows x p ≡ false → IsContinued x p = λ g. let s = closes g in absurd cc in
     elim (cases_Bool (grows x p)) [ inl g ↦ grows_continued x p o e g | inr g ↦ never g ]
 
@@ -51,7 +51,7 @@ waits_continued x p w =
 
 -- bytes that wait are at most 99
 pub waits_small : (x : Context) (place : ℕ) (p : List ℕ) → Waits x place p → length p ≤ 99
-waits_small x place p w = 
+waits_small x place p w =
     let c = waits_continued x p w.waits in
     let h : length (p ++ c.byte ∷ []) ≤ 100 = fits_hundred x (p ++ c.byte ∷ []) w.context c.fit in
     omega (arith, length-append p (c.byte ∷ []))

@@ -16,8 +16,7 @@ ghost use Rattle.cept_parser.specs.Valid.{IsValidContext, AreBytes};
 pub fn beginnings()
     ensures fits { (x : Context) (u : List ℕ) → (fits x u ≡ true) ↔ IsBeginning x u }
     ensures grows { (x : Context) (u : List ℕ) (o : Closed) → unit x u ≡ Some o → (grows x u ≡ true) ↔ IsContinued x u }
-{
-}
+{}
 
 /// What a byte does behind bytes.
 pub fn further_bytes()
@@ -35,35 +34,30 @@ pub fn further_bytes()
 
     // No byte fits behind a refused shape.
     ensures refused { (x : Context) (u : List ℕ) (o : Closed) (c : ℕ) → unit x u ≡ Some o → is_refusal o.said ≡ true → fits x (u ++ c ∷ []) ≡ false }
-{
-}
+{}
 
 /// What fits has few bytes.
 pub fn lengths()
     ensures fits { (x : Context) (u : List ℕ) → IsValidContext x → fits x u ≡ true → length u ≤ 100 }
     ensures incomplete { (x : Context) (u : List ℕ) → fits x u ≡ true → unit x u ≡ None → length u ≤ 10 }
     ensures refused { (x : Context) (u : List ℕ) (o : Closed) → unit x u ≡ Some o → is_refusal o.said ≡ true → length u ≤ 10 }
-{
-}
+{}
 
 /// Every unit says a valid command, and no unit or refused shape leads out of the valid contexts.
 pub fn contexts()
     ensures start { IsValidContext start }
     ensures said { (x : Context) (u : List ℕ) (o : Closed) → IsValidContext x → AreBytes u → unit x u ≡ Some o → IsValidSaid o.said }
     ensures next { (x : Context) (u : List ℕ) (o : Closed) → IsValidContext x → AreBytes u → unit x u ≡ Some o → IsValidContext o.next }
-{
-}
+{}
 
 /// Reading goes on from what is pending: bytes in two parts read as the first part, and then as what it left pending
 /// with the second part.
 pub fn reading_goes_on()
     ensures parts { (x : Context) (at : ℕ) (b s : List ℕ) → let r = read x at b in read x at (b ++ s) ≡ before r.items (read r.context r.at (r.pending ++ s)) }
     ensures bytes { (b s : List ℕ) → let r = reading b in items (b ++ s) ≡ r.items ++ (read r.context r.at (r.pending ++ s)).items }
-{
-}
+{}
 
 /// A whole unit that nothing continues, followed by anything, reads as that unit and then the rest.
 pub fn unit_then_rest()
     ensures { (x : Context) (at : ℕ) (u s : List ℕ) (o : Closed) → unit x u ≡ Some o → grows x u ≡ false → read x at (u ++ s) ≡ before (record { at = at; len = length u; what = o.said } ∷ []) (read o.next (at + length u) s) }
-{
-}
+{}
