@@ -9,6 +9,7 @@ use Rattle.cept_codes.specs.declared.attribute.Full.{Full}
 abbrev pub IsEntry : ℕ → Type 0
 IsEntry e = e < 32
 
+-- an entry, or any value of its class
 abbrev pub IsValidAttr : Attr → Type 0
 IsValidAttr (Fore e) = IsEntry e
 IsValidAttr (Back e) = IsEntry e
@@ -20,10 +21,12 @@ IsValidAttr (Boxed b) = Unit {0}
 IsValidAttr (Size s) = Unit {0}
 IsValidAttr (Invert b) = Unit {0}
 
+-- the colours that are set are entries
 pub record IsValidPen (p : Pen) : Type 0 where
   pub fore : IfSome p.fore IsEntry
   pub back : IfSome p.back IsEntry
 
+-- both colours are entries
 pub record IsValidFull (f : Full) : Type 0 where
   pub fore : IsEntry f.fore
   pub back : IsEntry f.back

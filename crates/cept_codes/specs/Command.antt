@@ -4,6 +4,7 @@ use Rattle.std.specs.Prelude.{ℕ, ◌≤◌, ◌<◌, ◌≡◌, ◌≢◌, ◌
 use Rattle.cept_codes.specs.declared.command.Command.{Command}
 use Rattle.cept_codes.specs.declared.command.Command.TheVariants as commands
 use Rattle.cept_codes.specs.declared.command.Form.{Form}
+use Rattle.cept_codes.specs.declared.item.Item.{Item}
 use Rattle.cept_codes.specs.declared.item.Said.{Said}
 use Rattle.cept_codes.specs.declared.item.Said.TheVariants as said
 use Rattle.cept_codes.specs.Look.{IsValidRgb, IsValidPattern, is_pattern_size, is_plane_count}
@@ -25,10 +26,12 @@ IsScreenC1 n = IsC1 n × ((n < 12) ⊎ (15 < n))
 abbrev pub IsArea : ℕ → ℕ → Type 0
 IsArea a b = (1 ≤ a) × (a ≤ b) × (b ≤ 24)
 
+-- a size and a count of planes that patterns have
 pub record IsValidForm (f : Form) : Type 0 where
   pub size : IsTrue (is_pattern_size f.w f.h)
   pub planes : IsTrue (is_plane_count f.planes)
 
+-- each number in the range that its unit of bytes gives
 abbrev pub IsValidCommand : Command → Type 0
 IsValidCommand commands.Nul = Unit {0}
 IsValidCommand commands.Skipped = Unit {0}
@@ -81,3 +84,7 @@ IsValidCommand (commands.ControlDefaults s) = Unit {0}
 abbrev pub IsValidSaid : Said → Type 0
 IsValidSaid (said.Command c) = IsValidCommand c
 IsValidSaid (said.Refused r) = Unit {0}
+
+-- where an item stands and how long it is, is free
+abbrev pub IsValidItem : Item → Type 0
+IsValidItem item = IsValidSaid item.what

@@ -21,6 +21,7 @@ IsCodeOf M code = (0x21 ≤ code) × (code ≤ 0x7F)
 IsCodeOf N code = (0x21 ≤ code) × (code ≤ 0x7F)
 IsCodeOf D code = (0x21 ≤ code) × (code ≤ 0x7F)
 
+-- a code of its set, and an accent that its set takes
 pub record IsValidGlyph (g : Glyph) : Type 0 where
   pub code : IsCodeOf g.set g.code
   pub accent : IsValidAccent g.set g.accent

@@ -3,6 +3,7 @@ pub mod Cell
 pub mod Command
 pub mod Glyph
 pub mod Look
+pub mod Memory
 pub mod Place
 pub mod Same
 pub mod Stroke

@@ -1,5 +1,5 @@
 -- Valid colours, patterns and looks, and the look of a screen on which nothing was written.
-use Rattle.std.specs.Prelude.{ℕ, ◌≡◌, ◌≤◌, ◌*◌, ◌+◌, ◌/◌, ◌%◌, ◌^◌, Bool, false, List, drop, slice_index, IsTrue, ◌==◌, ◌&&◌, ◌||◌, if◌then◌else◌}
+use Rattle.std.specs.Prelude.{ℕ, ◌≡◌, ◌≤◌, ◌<◌, ◌*◌, ◌+◌, ◌/◌, ◌%◌, ◌^◌, Bool, false, List, drop, length, slice_index, IsTrue, ◌==◌, ◌&&◌, ◌||◌, if◌then◌else◌}
 use Rattle.std.specs.List.{AllByRecursion}
 use Rattle.cept_codes.specs.declared.look.Rgb.{Rgb}
 use Rattle.cept_codes.specs.declared.look.Paint.{Paint}
@@ -13,11 +13,13 @@ use Rattle.cept_codes.specs.declared.look.Look.{Look}
 use Rattle.cept_codes.specs.declared.attribute.Flash.TheVariants as flashes
 use Rattle.cept_codes.specs.Glyph.{IsValidGlyph}
 
+-- each part is of four bits
 pub record IsValidRgb (c : Rgb) : Type 0 where
   pub r : c.r ≤ 15
   pub g : c.g ≤ 15
   pub b : c.b ≤ 15
 
+-- what lies behind the screen is always valid
 abbrev pub IsValidPaint : Paint → Type 0
 IsValidPaint (paints.Ink c) = IsValidRgb c
 IsValidPaint paints.Video = Unit {0}
@@ -38,34 +40,40 @@ bit_of words n = (slice_index words (n / 64) / 2 ^ (n % 64)) % 2
 abbrev pub pixel : Pattern → ℕ → ℕ → ℕ → ℕ
 pixel pattern p y x = bit_of pattern.bits ((p * pattern.h + y) * pattern.w + x)
 
--- one of the sizes, one of the counts of planes, and no bit set behind the last pixel
+-- one of the sizes, one of the counts of planes, nine words of 64 bits, and no bit set behind the last pixel
 pub record IsValidPattern (p : Pattern) : Type 0 where
   pub size : IsTrue (is_pattern_size p.w p.h)
   pub planes : IsTrue (is_plane_count p.planes)
+  pub words : length p.bits ≡ 9
+  pub fits : (k : ℕ) → slice_index p.bits k < 2 ^ 64
   pub clear : (n : ℕ) → p.w * p.h * p.planes ≤ n → bit_of p.bits n ≡ 0
 
 -- how many inks stand beside a pattern of so many planes
 abbrev pub ink_count : ℕ → ℕ
 ink_count planes = if planes == 1 then 0 else if planes == 2 then 4 else 16
 
--- the paint that fills the unused inks
+-- no red, no green and no blue, which also fills the unused inks
 abbrev pub black : Paint
 black = paints.Ink (record { r = 0; g = 0; b = 0 })
 
+-- all of red, green and blue
 abbrev pub white : Paint
 white = paints.Ink (record { r = 15; g = 15; b = 15 })
 
+-- sixteen valid inks beside a pattern of so many planes, those behind the count black
 pub record IsValidInks (inks : Inks) (planes : ℕ) : Type 0 where
   pub count : inks.count ≡ ink_count planes
+  pub places : length inks.paints ≡ 16
   pub paints : AllByRecursion IsValidPaint inks.paints
   pub unused : AllByRecursion (λ paint. paint ≡ black) (drop inks.count inks.paints)
 
+-- a pattern stands with the inks of its planes
 abbrev pub IsValidShape : Shape → Type 0
 IsValidShape shapes.Space = Unit {0}
 IsValidShape (shapes.Char g) = IsValidGlyph g
 IsValidShape (shapes.Drcs pattern inks) = IsValidPattern pattern × IsValidInks inks pattern.planes
 
--- which quarter, half or whole of a shape is shown
+-- which quarter, half or whole of a shape is shown: so far down and right, of one so wide and high
 pub record IsPart (dy dx w h : ℕ) : Type 0 where
   pub down : dy ≤ 1
   pub right : dx ≤ 1
@@ -75,6 +83,7 @@ pub record IsPart (dy dx w h : ℕ) : Type 0 where
 abbrev pub IsValidPart : Part → Type 0
 IsValidPart p = IsPart p.dy p.dx p.w p.h
 
+-- a valid shape, a part of it, and two valid paints
 pub record IsValidLook (l : Look) : Type 0 where
   pub shape : IsValidShape l.shape
   pub part : IsPart l.dy l.dx l.w l.h

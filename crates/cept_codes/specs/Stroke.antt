@@ -1,4 +1,4 @@
--- Valid strokes.
+-- Valid strokes: changes of places, rows and entries that there are, to valid values (strokes are this profile's own).
 use Rattle.std.specs.Prelude.{ℕ, ◌≤◌, ◌≡◌, ◌⊎◌}
 use Rattle.cept_codes.specs.declared.stroke.Stroke.{Stroke}
 use Rattle.cept_codes.specs.declared.stroke.Stroke.TheVariants as strokes
@@ -12,6 +12,7 @@ use Rattle.cept_codes.specs.Place.{OnScreen}
 abbrev pub IsRow : ℕ → Type 0
 IsRow r = (1 ≤ r) × (r ≤ 24)
 
+-- each number names what there is, and each value is valid
 abbrev pub IsValidStroke : Stroke → Type 0
 IsValidStroke (strokes.Put p cell) = OnScreen p.row p.column × IsValidCell cell
 IsValidStroke (strokes.Erase r from) = OnScreen r from

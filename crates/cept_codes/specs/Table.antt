@@ -10,7 +10,7 @@ row_of f = map f (range_with_len 1 40)
 unfoldable pub table : {X : Type 0} → (ℕ → ℕ → X) → List (List X)
 table f = map (λ r. row_of (f r)) (range_with_len 1 24)
 
--- what stands in this row and column, and the default outside
+-- what stands in this row and column, from 1 each, and the default past the last
 abbrev pub at : {X : Type 0} → X → List (List X) → ℕ → ℕ → X
 at default t r c = slice_index_or (slice_index_or t (r - 1) []) (c - 1) default
 

@@ -72,3 +72,17 @@ pub struct Full {
     pub size: Size,
     pub invert: bool,
 }
+
+impl Pen {
+    /// The pen in which no class is set.
+    pub const UNSET: Pen = Pen {
+        fore: None,
+        back: None,
+        flash: None,
+        conceal: None,
+        lined: None,
+        boxed: None,
+        size: None,
+        invert: None,
+    };
+}

@@ -39,3 +39,11 @@ pub struct Cell {
 pub struct RowCells {
     pub cells: [Cell; 40],
 }
+
+impl Cell {
+    /// The cell into which nothing is written, and which is free.
+    pub const BLANK: Cell = Cell {
+        what: What::Blank,
+        protected: false,
+    };
+}

@@ -5,8 +5,10 @@
 mod attribute;
 mod cell;
 mod command;
+mod equality;
 mod glyph;
 mod item;
+mod law;
 mod look;
 mod memory;
 mod position;
@@ -15,9 +17,15 @@ mod stroke;
 pub use attribute::{Attr, Class, Flash, Full, Pen, Size};
 pub use cell::{Cell, Marker, RowCells, What};
 pub use command::{C1Set, Command, Form, Up};
-pub use glyph::{Glyph, SetId};
+pub use equality::{
+    cells_compare_by_their_fields, commands_compare_by_their_fields, looks_compare_by_their_fields,
+    pens_compare_by_their_fields, places_compare_by_row_and_column,
+    strokes_compare_by_their_fields, want_of_memory_is_one,
+};
+pub use glyph::{Glyph, Read, SetId};
 pub use item::{Item, Reason, Said};
-pub use look::{Inks, Look, Paint, Part, Pattern, Rgb, Shape};
+pub use law::{constants_are_the_words, constants_are_valid, reading_order, tables_are_by_place};
+pub use look::{Inks, Look, Paint, Part, Pattern, Rgb, Shape, looks_are_same};
 pub use memory::NoMemory;
 pub use position::Pos;
 pub use stroke::Stroke;

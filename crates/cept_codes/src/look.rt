@@ -1,3 +1,6 @@
+ghost use Rattle.std.specs.Prelude.{◌≡◌, ◌↔◌, IsTrue};
+ghost use Rattle.cept_codes.specs.Same.{same_look};
+
 use crate::attribute::Flash;
 use crate::glyph::Glyph;
 
@@ -65,4 +68,41 @@ pub struct Look {
     pub conceal: bool,
     pub lined: bool,
     pub boxed: bool,
+}
+
+impl Paint {
+    /// No red, no green and no blue.
+    pub const BLACK: Paint = Paint::Ink(Rgb { r: 0, g: 0, b: 0 });
+
+    /// All of red, green and blue.
+    pub const WHITE: Paint = Paint::Ink(Rgb {
+        r: 15,
+        g: 15,
+        b: 15,
+    });
+}
+
+impl Look {
+    /// A space, white on black, steady, with no attribute.
+    pub const BLANK: Look = Look {
+        shape: Shape::Space,
+        dy: 0,
+        dx: 0,
+        w: 1,
+        h: 1,
+        fore: Paint::WHITE,
+        back: Paint::BLACK,
+        flash: Flash::Steady,
+        conceal: false,
+        lined: false,
+        boxed: false,
+    };
+}
+
+/// Whether two looks are the same in all that is seen.
+pub fn looks_are_same(a: &Look, b: &Look) -> bool
+    ensures compared { result ≡ same_look a.now b.now }
+    ensures same { IsTrue result ↔ (a.now ≡ b.now) }
+{
+    a == b
 }

@@ -1,3 +1,6 @@
+ghost use Rattle.std.specs.Prelude.{◌≡◌};
+ghost use Rattle.cept_codes.specs.Memory.{no_memory};
+
 use std::alloc::{AllocError, AllocFailed};
 use thiserror::Error;
 
@@ -7,13 +10,30 @@ use thiserror::Error;
 pub struct NoMemory;
 
 impl From<AllocError> for NoMemory {
+    ghost from_gives = { λ _ e. e ≡ no_memory };
+
     fn from(_error: AllocError) -> NoMemory {
         NoMemory
     }
 }
 
 impl<T: Drop> From<AllocFailed<T>> for NoMemory {
+    ghost from_gives = { λ _ e. e ≡ no_memory };
+
     fn from(_error: AllocFailed<T>) -> NoMemory {
         NoMemory
+    }
+}
+
+#[cfg(test)]
+mod tests {
+    use super::*;
+    use std::test::Fail;
+
+    #[test]
+    fn prints_out_of_memory(rt: HostRuntime) -> Result<(), Fail> {
+        let text = format!(in rt.alloc(); "{}", NoMemory)?;
+        assert_eq!(rt; text.as_str(), "out of memory");
+        Ok(())
     }
 }

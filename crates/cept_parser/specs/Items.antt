@@ -1,5 +1,6 @@
 -- The items of bytes: found on the whole list, by the longest beginning that fits.
 use Rattle.std.specs.Prelude.{ℕ, zero, suc, ◌+◌, Bool, true, false, not, ◌&&◌, ◌||◌, List, [], ◌∷◌, ◌++◌, length, take, drop, if◌then◌else◌, ◌==◌, Option, Some, None}
+use Rattle.std.specs.List.{flat_map}
 use Rattle.cept_codes.specs.declared.command.Command.{Command}
 use Rattle.cept_codes.specs.declared.item.Item.{Item}
 use Rattle.cept_codes.specs.declared.item.Reason.TheVariants.{Interrupted, Truncated}
@@ -102,14 +103,14 @@ closing r =
 abbrev pub closed_items : List ℕ → List Item
 closed_items b = items b ++ closing (reading b)
 
+-- the command that is said, if one is
+abbrev pub command_said : Said → List Command
+command_said (Says c) = c ∷ []
+command_said (Refused r) = []
+
 -- the commands among items, in order
-unfoldable pub commands_of : List Item → List Command
-commands_of [] = []
-commands_of (i ∷ is) = with_command i.what (commands_of is)
-  where
-    with_command : Said → List Command → List Command
-    with_command (Says c) cs = c ∷ cs
-    with_command (Refused r) cs = cs
+abbrev pub commands_of : List Item → List Command
+commands_of is = flat_map (λ i. command_said i.what) is
 
 -- the commands of bytes that end here
 abbrev pub commands : List ℕ → List Command

@@ -1,21 +1,20 @@
 -- Changes: the places at which two grids of looks differ, and the painting of places.
-use Rattle.std.specs.Prelude.{Bool, not, false, List, [], ◌∷◌, map, filter, slice_index_or, if◌then◌else◌}
-use Rattle.std.specs.List.{range_with_len}
+use Rattle.std.specs.Prelude.{◌≡◌, ◌≢◌, ◌<◌, ◌⊎◌, Bool, not, false, List, [], ◌∷◌, ◌++◌, map, filter, slice_index_or, if◌then◌else◌}
+use Rattle.std.specs.List.{range_with_len, All, AllPairs, Contains}
 use Rattle.cept_codes.specs.declared.command.Command.{Command}
 use Rattle.cept_codes.specs.declared.look.Look.{Look}
 use Rattle.cept_codes.specs.Look.{blank_look}
-use Rattle.cept_codes.specs.Place.{Place, place_of}
+use Rattle.cept_codes.specs.Place.{Place, OnScreen, number, place_of}
 use Rattle.cept_codes.specs.Same.{same_look}
 use Rattle.cept_codes.specs.Table.{table, at}
 use Rattle.cept_profile.specs.Cells.{is_at}
 use Rattle.cept_profile.specs.Look.{grid}
-use Rattle.std.specs.Prelude.{◌++◌}
 
 -- the look of a grid at a place
 abbrev pub look_at : List (List Look) → Place → Look
 look_at g p = at blank_look g p.row p.column
 
--- for each place in reading order, whether it is marked where the looks of g and of h differ
+-- for each place in reading order, whether the looks of g and of h differ there: the marks
 unfoldable pub differences : List (List Look) → List (List Look) → List Bool
 differences g h = map (λ n. not (same_look (look_at g (place_of n)) (look_at h (place_of n)))) (range_with_len 0 960)
 
@@ -38,3 +37,16 @@ painted_all g (x ∷ xs) = painted_all (painted g x.0 x.1) xs
 -- what one more command changes
 abbrev pub changes : List Command → Command → List (Place × Look)
 changes history command = changed (grid history) (grid (history ++ command ∷ []))
+
+-- the place comes before the other in reading order
+abbrev pub IsBefore : Place → Place → Type 0
+IsBefore p q = number p.row p.column < number q.row q.column
+
+-- the list names each place at which the looks of g and of h differ, with its look in h, and no other place; it names each once,
+-- in reading order
+pub record AreChanges (g h : List (List Look)) (xs : List (Place × Look)) : Type 0 where
+  pub on_screen : All (λ x. OnScreen x.0.row x.0.column) xs
+  pub new_looks : All (λ x. x.1 ≡ look_at h x.0) xs
+  pub differ : All (λ x. look_at g x.0 ≢ look_at h x.0) xs
+  pub in_order : AllPairs (λ x y. IsBefore x.0 y.0) xs
+  pub each : (p : Place) → OnScreen p.row p.column → Contains xs (p, look_at h p) ⊎ (look_at g p ≡ look_at h p)

@@ -8,19 +8,9 @@ use Rattle.cept_codes.specs.declared.command.C1Set.TheVariants as c1sets
 use Rattle.cept_codes.specs.declared.command.Command.{Command}
 use Rattle.cept_codes.specs.declared.command.Command.TheVariants as commands
 use Rattle.cept_codes.specs.declared.glyph.Glyph.{Glyph}
-use Rattle.cept_codes.specs.declared.glyph.SetId.{SetId}
 use Rattle.cept_codes.specs.declared.glyph.SetId.TheVariants as sets
 use Rattle.cept_codes.specs.Attribute.{unset}
-
--- the sets G0 to G3, the ones that left and right bytes take, and a single shift that waits
-pub record Sets : Type 0 where
-  pub g0 : SetId
-  pub g1 : SetId
-  pub g2 : SetId
-  pub g3 : SetId
-  pub left : ℕ
-  pub right : ℕ
-  pub single : Option ℕ
+pub use Rattle.cept_profile.specs.Sets.{Sets, initial_sets}
 
 -- the state that a break of the service keeps
 pub record Working : Type 0 where
@@ -45,9 +35,6 @@ pub record ControlState : Type 0 where
   pub area : Option (ℕ × ℕ)
   pub implicit : Bool
   pub kept : Option Working
-
-abbrev pub initial_sets : Sets
-initial_sets = record { g0 = sets.P; g1 = sets.M; g2 = sets.S; g3 = sets.N; left = 0; right = 2; single = None }
 
 abbrev pub initial_working : Working
 initial_working = record {

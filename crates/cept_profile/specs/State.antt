@@ -3,6 +3,7 @@ use Rattle.std.specs.Prelude.{List, reverse}
 use Rattle.cept_codes.specs.declared.cell.Cell.{Cell}
 use Rattle.cept_codes.specs.declared.command.Command.{Command}
 use Rattle.cept_codes.specs.declared.stroke.Stroke.{Stroke}
+use Rattle.cept_codes.specs.Cell.{blank}
 use Rattle.cept_codes.specs.Table.{table}
 use Rattle.cept_profile.specs.Cells.{cell_back, struck_all}
 use Rattle.cept_profile.specs.Control.{ControlState, control, control_after}
@@ -15,6 +16,10 @@ pub record Page : Type 0 where
 pub record State : Type 0 where
   pub page : Page
   pub control : ControlState
+
+-- nothing is written
+abbrev pub blank_page : Page
+blank_page = record { cells = table (λ r c. blank) }
 
 -- the page that the commands leave: each cell by looking back over all strokes
 abbrev pub page : List Command → Page

@@ -11,7 +11,8 @@ use Rattle.cept_codes.specs.Glyph.{IsValidGlyph}
 use Rattle.cept_codes.specs.Look.{IsValidLook, blank_look}
 use Rattle.cept_codes.specs.Place.{OnScreen}
 use Rattle.cept_codes.specs.Table.{IsTable, at}
-use Rattle.cept_profile.specs.Control.{Sets, Working, ControlState}
+use Rattle.cept_profile.specs.Control.{Working, ControlState}
+use Rattle.cept_profile.specs.Sets.{Sets}
 use Rattle.cept_profile.specs.State.{Page, State}
 
 -- a list of valid commands

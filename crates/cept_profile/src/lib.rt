@@ -1,3 +1,15 @@
 //! The meaning of the profile: control, strokes, cells, looks and changes after any list of commands, and the laws that
 //! these definitions obey. It has no code that computes a page and knows no bytes.
 #![tactic(auto)]
+
+mod first_grid;
+mod one_more;
+mod painting;
+mod protected_cells;
+mod validity;
+
+pub use first_grid::the_first_grid;
+pub use one_more::{looking_back_is_drawing, one_more_command, one_more_command_by_parts};
+pub use painting::{each_command_is_shown, painting_the_changes};
+pub use protected_cells::protection;
+pub use validity::{looks_are_valid, strokes_are_valid, validity_is_kept};

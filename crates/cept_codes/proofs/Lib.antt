@@ -1,0 +1,4 @@
+pub mod Equal
+pub mod Places
+pub mod Tables
+pub mod Tests

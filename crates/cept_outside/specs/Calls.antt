@@ -1,0 +1,14 @@
+-- Calls that are to fail: they are numbered from 1 as they are made, and some numbers are kept.
+use Rattle.std.specs.Prelude.{ℕ, ◌+◌, ◌-◌, ◌^◌, min, List, [], ◌∷◌, ◌++◌, length, nat_le, nat_lt, count_by, if◌then◌else◌}
+
+-- how many of the numbers are reached: the count of calls is at least that number
+abbrev pub reached : List ℕ → ℕ → ℕ
+reached numbers count = count_by (λ n. nat_le n count) numbers
+
+-- the reached numbers and the faults of another kind, up to the greatest u64
+abbrev pub faults_of : List ℕ → ℕ → ℕ → ℕ
+faults_of numbers count others = min (reached numbers count + others) (2 ^ 64 - 1)
+
+-- the numbers kept after one more: at most 16
+abbrev pub with_number : List ℕ → ℕ → List ℕ
+with_number numbers number = if nat_lt (length numbers) 16 then numbers ++ number ∷ [] else numbers

@@ -1,0 +1,11 @@
+-- Faults of the outside: they are counted, and no call answers a failure without one.
+use Rattle.std.specs.Prelude.{ℕ, ◌+◌, ◌-◌, ◌^◌, ◌≤◌, min, Result, OnErr}
+
+-- a count of faults rose, or it stands at the greatest u64
+abbrev pub Rose : ℕ → ℕ → Type 0
+Rose before now = min (before + 1) (2 ^ 64 - 1) ≤ now
+
+-- the count of faults before a call and after it: it never falls, and a failure is answered only where it rose
+pub record HasCause {X E : Type 0} (before now : ℕ) (result : Result X E) : Type 0 where
+  pub later : before ≤ now
+  pub failed : OnErr result (Rose before now)

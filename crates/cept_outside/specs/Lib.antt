@@ -1,0 +1,14 @@
+pub mod Causes
+pub mod ShelfState
+pub mod SinkState
+pub mod Calls
+pub mod Files
+pub mod Rack
+pub mod MemShelf
+pub mod Sound
+pub mod QuietShelf
+pub mod MemSink
+pub mod QuietSink
+pub mod FileShelf
+pub mod StdSink
+pub mod Untold

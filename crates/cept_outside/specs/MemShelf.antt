@@ -1,0 +1,18 @@
+-- A shelf in memory, whose calls fail where they are told to and at unknown names.
+use Rattle.std.specs.Prelude.{ℕ, List}
+use Rattle.cept_outside.specs.declared.mem_shelf.MemShelf.{MemShelf}
+use Rattle.cept_outside.specs.Calls.{faults_of}
+use Rattle.cept_outside.specs.Rack.{told}
+use Rattle.cept_outside.specs.ShelfState.{ShelfState}
+
+-- how many calls were made
+abbrev pub mem_shelf_count : MemShelf → ℕ
+mem_shelf_count shelf = shelf.calls.count
+
+-- the numbers of the calls that are to fail
+abbrev pub mem_shelf_numbers : MemShelf → List ℕ
+mem_shelf_numbers shelf = shelf.calls.numbers.items
+
+-- it tells all; its faults are the numbers that are reached, and the files missed
+abbrev pub mem_shelf_state : MemShelf → ShelfState
+mem_shelf_state shelf = told shelf.rack shelf.missed (faults_of shelf.calls.numbers.items shelf.calls.count shelf.missed)

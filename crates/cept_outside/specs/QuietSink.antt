@@ -1,0 +1,12 @@
+-- A sink that counts its bytes and never fails.
+use Rattle.std.specs.Prelude.{ℕ, None}
+use Rattle.cept_outside.specs.declared.quiet_sink.QuietSink.{QuietSink}
+use Rattle.cept_outside.specs.SinkState.{SinkState}
+
+-- how many bytes were put, up to the greatest u64
+abbrev pub quiet_sink_count : QuietSink → ℕ
+quiet_sink_count sink = sink.count
+
+-- it tells no bytes, and counts no fault
+abbrev pub quiet_sink_state : QuietSink → SinkState
+quiet_sink_state sink = record { bytes = None; unflushed = sink.unflushed; faults = 0 }

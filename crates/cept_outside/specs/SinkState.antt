@@ -1,0 +1,32 @@
+-- A sink: bytes are put at its end, and flushed.
+use Rattle.std.specs.Prelude.{◌≡◌, ℕ, ◌<◌, ◌≤◌, Bool, true, false, List, [], take, length, Option, Result, OnOk, OnErr, IfOk}
+use Rattle.std.specs.Io.KnownBytes.{append_known}
+
+-- what a sink means
+pub record SinkState : Type 0 where
+  -- the bytes put, where they are told
+  pub bytes : Option (List ℕ)
+  -- bytes were put since the last flush that succeeded
+  pub unflushed : Bool
+  -- how many calls failed
+  pub faults : ℕ
+
+-- the front of the piece is appended, at least a byte; a failure appends nothing
+pub record Puts {E : Type 0} (old : SinkState) (piece : List ℕ) (result : Result ℕ E) (new : SinkState) : Type 0 where
+  pub some : IfOk result (λ n. 1 ≤ n)
+  pub within : IfOk result (λ n. n ≤ length piece)
+  pub appended : IfOk result (λ n. new.bytes ≡ append_known old.bytes (take n piece))
+  pub unflushed : OnOk result (new.unflushed ≡ true)
+  pub failed : OnErr result ((new.bytes ≡ old.bytes) × (new.unflushed ≡ old.unflushed))
+
+-- nothing is appended, and after a success nothing is unflushed
+pub record Flushes {X E : Type 0} (old : SinkState) (result : Result X E) (new : SinkState) : Type 0 where
+  pub bytes : new.bytes ≡ old.bytes
+  pub flushed : OnOk result (new.unflushed ≡ false)
+  pub failed : OnErr result (new.unflushed ≡ old.unflushed)
+
+-- these bytes were put, in one call or several; unflushed stays where there are none
+pub record Gains (old : SinkState) (part : List ℕ) (new : SinkState) : Type 0 where
+  pub bytes : new.bytes ≡ append_known old.bytes part
+  pub unflushed : 0 < length part → new.unflushed ≡ true
+  pub unflushed_stays : part ≡ [] → new.unflushed ≡ old.unflushed

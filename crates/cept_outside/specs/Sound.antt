@@ -1,0 +1,37 @@
+-- A rack of files is told soundly.
+use Rattle.std.proofs.Common.{◌≡◌, ℕ, ◌≤◌, List, [], Option, Some, None, option_map, unwrap_or, string_bytes, refl, drop, length, zero, suc, sym, ap, subst}
+use Rattle.std.proofs.Math.Nat.{not-suc-le-zero}
+use Rattle.std.proofs.lemmas.Option.{none-some, same_Some}
+use Rattle.cept_outside.specs.declared.rack.StoredFile.{StoredFile}
+use Rattle.cept_outside.specs.declared.rack.Rack.{Rack}
+use Rattle.cept_outside.specs.Files.{bytes_of, chosen}
+use Rattle.cept_outside.specs.Rack.{told}
+use Rattle.cept_outside.specs.ShelfState.{IsSound}
+
+abbrev bytes_if : Option StoredFile → List ℕ
+bytes_if o = unwrap_or (option_map (λ (file : StoredFile). file.bytes.items) o) []
+
+abbrev name_if : Option StoredFile → Option (List ℕ)
+name_if o = option_map (λ (file : StoredFile). string_bytes file.name) o
+
+left_is : (files : List StoredFile) (at : ℕ) (o : Option StoredFile) → ((file : StoredFile) → o ≡ Some file → bytes_of files (string_bytes file.name) ≡ Some file.bytes.items)
+    → (name : List ℕ) → name_if o ≡ Some name → (bytes : List ℕ) × (bytes_of files name ≡ Some bytes) × (drop at (bytes_if o) ≡ drop at bytes)
+left_is files at None named name e = absurd (none-some name e)
+left_is files at (Some file) named name e =
+    (file.bytes.items, subst (λ n. bytes_of files n ≡ Some file.bytes.items) (same_Some (string_bytes file.name) name e) (named file refl), refl)
+
+nothing_is : (at : ℕ) (o : Option StoredFile) → at ≤ length (bytes_if o) → name_if o ≡ None → (drop at (bytes_if o) ≡ []) × (at ≡ 0)
+nothing_is zero None within e = (refl, refl)
+nothing_is (suc n) None within e = absurd (not-suc-le-zero within)
+nothing_is at (Some file) within e = absurd (none-some (string_bytes file.name) (sym e))
+
+pub told_sound : (rack : Rack) (missed faults : ℕ) → IsSound (told rack missed faults)
+told_sound rack missed faults = record {
+  together = refl;
+  left = λ name e _.
+      let l = left_is rack.files.items rack.at (chosen rack.files.items rack.selected) rack.named name (same_Some (name_if (chosen rack.files.items rack.selected)) (Some name) e) in
+      (l.0, l.1, ap Some l.2);
+  nothing = λ e.
+      let n = nothing_is rack.at (chosen rack.files.items rack.selected) rack.within (same_Some (name_if (chosen rack.files.items rack.selected)) None e) in
+      (ap Some n.0, n.1);
+}

@@ -1,0 +1,12 @@
+-- A shelf that tells nothing is told soundly.
+use Rattle.std.specs.Prelude.{◌≡◌, ℕ, List, Option, Some, None, refl}
+use Rattle.std.proofs.lemmas.Option.{none-some}
+use Rattle.cept_outside.specs.FileShelf.{untold_shelf}
+use Rattle.cept_outside.specs.ShelfState.{IsSound}
+
+pub untold_sound : (taken faults : ℕ) → IsSound (untold_shelf taken faults)
+untold_sound taken faults = record {
+  together = refl;
+  left = λ name e _. absurd (none-some (Some name) e);
+  nothing = λ e. absurd (none-some {A = Option (List ℕ)} None e);
+}

@@ -1,0 +1,31 @@
+//! The outside of the decoder: a shelf that files are taken from, a sink that bytes are put into, and steps that are
+//! counted. It knows no page, no command and no screen.
+#![tactic(auto)]
+
+mod calls;
+mod fault;
+mod file_shelf;
+mod mem_shelf;
+mod mem_sink;
+mod putting;
+mod quiet_shelf;
+mod quiet_sink;
+mod rack;
+mod shelf;
+mod sink;
+mod std_sink;
+mod steps;
+#[cfg(test)]
+mod tests;
+
+pub use fault::{Failed, WriteFault};
+pub use file_shelf::FileShelf;
+pub use mem_shelf::MemShelf;
+pub use mem_sink::MemSink;
+pub use putting::put_all;
+pub use quiet_shelf::QuietShelf;
+pub use quiet_sink::QuietSink;
+pub use shelf::Shelf;
+pub use sink::Sink;
+pub use std_sink::StdSink;
+pub use steps::Steps;

@@ -1,0 +1,121 @@
+ghost use Rattle.std.specs.Prelude.{◌≡◌, ℕ, ◌+◌, ◌-◌, ◌^◌, ◌<◌, ◌≤◌, ◌⊎◌, ◌↔◌, min, List, [], length, Some, false, nat_lt, IsErr, IfOk, OnErr, Contains, vec_len, vec_capacity, if◌then◌else◌};
+ghost use Rattle.cept_outside.specs.Causes.{HasCause};
+ghost use Rattle.cept_outside.specs.Calls.{faults_of, with_number};
+ghost use Rattle.cept_outside.specs.SinkState.{Puts, Flushes};
+
+use crate::calls::Calls;
+use crate::fault::Failed;
+use crate::sink::Sink;
+use cept_codes::NoMemory;
+use std::alloc::Global;
+
+/// A list of bytes, told, with room for so many. A put into a full list fails, and so does a call whose number was given
+/// to `fail_at`, counted from 1 over `put` and `flush`. No other call fails.
+#[derive(Drop)]
+pub struct MemSink {
+    bytes: Vec<u8>,
+    room: usize,
+    unflushed: bool,
+    refused: u64,
+    calls: Calls,
+    ghost reserved: { room ≤ vec_capacity bytes },
+    ghost within: { vec_len bytes ≤ room },
+}
+
+impl MemSink {
+    ghost use Rattle.cept_outside.specs.MemSink.{mem_sink_state, mem_sink_room, mem_sink_count, mem_sink_numbers, mem_sink_refused};
+
+    /// An empty list with room for so many bytes, whose calls don't fail.
+    pub fn new(alloc: Global, room: u32) -> Result<MemSink, NoMemory>
+        ensures state { IfOk result (λ sink. mem_sink_state sink ≡ record { bytes = Some []; unflushed = false; faults = 0 }) }
+        ensures room { IfOk result (λ sink. mem_sink_room sink ≡ room) }
+        ensures count { IfOk result (λ sink. mem_sink_count sink ≡ 0) }
+        ensures numbers { IfOk result (λ sink. mem_sink_numbers sink ≡ []) }
+        ensures refused { IfOk result (λ sink. mem_sink_refused sink ≡ 0) }
+    {
+        let room = room as usize;
+        Ok(MemSink {
+            bytes: Vec::with_capacity(alloc, room)?,
+            room,
+            unflushed: false,
+            refused: 0,
+            calls: Calls::new(),
+        })
+    }
+
+    /// Lets the call with this number fail, counted from 1 over `put` and `flush`. Sixteen numbers are kept, and
+    /// further ones are ignored.
+    pub fn fail_at(&mut self, call: u32)
+        ensures numbers { mem_sink_numbers self.new ≡ with_number (mem_sink_numbers self.old) call }
+        ensures count { mem_sink_count self.new ≡ mem_sink_count self.old }
+        ensures room { mem_sink_room self.new ≡ mem_sink_room self.old }
+        ensures refused { mem_sink_refused self.new ≡ mem_sink_refused self.old }
+        ensures others { mem_sink_state self.new ≡ record (mem_sink_state self.old)
+            { faults = faults_of (mem_sink_numbers self.new) (mem_sink_count self.new) (mem_sink_refused self.new) } }
+    {
+        self.calls.keep(call);
+    }
+
+    /// The bytes that were put.
+    pub fn bytes(&self) -> &[u8]
+        ensures { (mem_sink_state self.now).bytes ≡ Some result.now }
+    {
+        self.bytes.as_slice()
+    }
+}
+
+impl Sink for MemSink {
+    ghost use Rattle.cept_outside.specs.MemSink.{mem_sink_state, mem_sink_room, mem_sink_count, mem_sink_numbers, mem_sink_refused};
+
+    ghost state = { mem_sink_state };
+
+    fn put(&mut self, piece: &[u8]) -> Result<usize, Failed>
+        requires { 0 < length piece.now }
+        ensures puts { Puts (mem_sink_state self.old) piece.now result (mem_sink_state self.new) }
+        ensures cause { HasCause (mem_sink_state self.old).faults (mem_sink_state self.new).faults result }
+
+        // It fails exactly so, and appends as much as there is room for.
+        ensures fails { (bytes : List ℕ) → (mem_sink_state self.old).bytes ≡ Some bytes → IsErr result
+            ↔ (Contains (mem_sink_numbers self.old) (mem_sink_count self.old + 1) ⊎ (mem_sink_room self.old ≤ length bytes)) }
+        ensures most { (bytes : List ℕ) → (mem_sink_state self.old).bytes ≡ Some bytes
+            → IfOk result (λ n. n ≡ min (mem_sink_room self.old - length bytes) (length piece.now)) }
+        ensures refused { (bytes : List ℕ) → (mem_sink_state self.old).bytes ≡ Some bytes
+            → mem_sink_refused self.new ≡ (if nat_lt (length bytes) (mem_sink_room self.old) then mem_sink_refused self.old
+            else min (mem_sink_refused self.old + 1) (2 ^ 64 - 1)) }
+        ensures room { mem_sink_room self.new ≡ mem_sink_room self.old }
+        ensures count { mem_sink_count self.new ≡ min (mem_sink_count self.old + 1) (2 ^ 64 - 1) }
+        ensures numbers { mem_sink_numbers self.new ≡ mem_sink_numbers self.old }
+    {
+        let fails = self.calls.next();
+        let free = self.room - self.bytes.len();
+        if free == 0 {
+            self.refused = self.refused.saturating_add(1);
+            return Err(Failed);
+        }
+        if fails {
+            return Err(Failed);
+        }
+        let count = free.min(piece.len());
+        self.bytes.extend_from_slice(&piece[..count]).unwrap();
+        self.unflushed = true;
+        Ok(count)
+    }
+
+    fn flush(&mut self) -> Result<(), Failed>
+        ensures flushes { Flushes (mem_sink_state self.old) result (mem_sink_state self.new) }
+        ensures cause { HasCause (mem_sink_state self.old).faults (mem_sink_state self.new).faults result }
+
+        // It fails exactly so.
+        ensures fails { IsErr result ↔ Contains (mem_sink_numbers self.old) (mem_sink_count self.old + 1) }
+        ensures refused { mem_sink_refused self.new ≡ mem_sink_refused self.old }
+        ensures room { mem_sink_room self.new ≡ mem_sink_room self.old }
+        ensures count { mem_sink_count self.new ≡ min (mem_sink_count self.old + 1) (2 ^ 64 - 1) }
+        ensures numbers { mem_sink_numbers self.new ≡ mem_sink_numbers self.old }
+    {
+        if self.calls.next() {
+            return Err(Failed);
+        }
+        self.unflushed = false;
+        Ok(())
+    }
+}

@@ -1,0 +1,258 @@
+-- The list of changes: which places it names, and that painting it gives the new grid.
+use Rattle.std.proofs.Common.{◌≡◌, ◌≢◌, ℕ, ◌+◌, ◌/◌, ◌%◌, ◌<◌, ◌≤◌, ◌⊎◌, suc, zero, Bool, true, false, not, ◌&&◌, ◌||◌, cond, eqb, List, [], ◌∷◌, ◌++◌, map, length, get_or, refl, sym, ◌∙◌, ap, subst, inl, inr, arith}
+use Rattle.std.specs.List.{range_with_len, filter, All, AllPairs, Contains}
+use Rattle.std.proofs.lemmas.Bool.{cases_Bool, cases_eq, and_parts, and_from, eq-eqb, eqb-true, cond-true, cond-false, false≢true, or_cases, not-true, not_from_false, not_from_true, false_from_ne_true}
+use Rattle.std.proofs.lemmas.List.Elements.{All-filter, All-map, filter_passes, Contains-append_right, All-head, All-contains}
+use Rattle.std.proofs.lemmas.List.Kept.{AllPairs-filter}
+use Rattle.std.proofs.lemmas.List.{get_or-map, length-map}
+use Rattle.std.proofs.lemmas.List.FromFn.{get_or-map-range_with_len, get_or-range_with_len, length-range_with_len, length-map-range_with_len}
+use Rattle.cept_codes.specs.declared.command.Command.{Command}
+use Rattle.cept_codes.specs.declared.look.Look.{Look}
+use Rattle.cept_codes.proofs.Places.{number-place_of, OnScreen-place_of, number-lt, row-place_of, column-place_of}
+use Rattle.cept_codes.specs.Look.{blank_look}
+use Rattle.cept_codes.specs.Place.{Place, OnScreen, number, place_of}
+use Rattle.cept_codes.specs.Same.{same_look}
+use Rattle.cept_codes.specs.Table.{at, IsTable}
+use Rattle.cept_profile.specs.Cells.{is_at}
+use Rattle.cept_profile.specs.Changes.{look_at, differences, listed, changed, changes, painted_all, IsBefore, AreChanges}
+use Rattle.cept_profile.specs.Look.{look, grid}
+use Rattle.cept_profile.specs.State.{page}
+use Rattle.cept_codes.proofs.Equal.{look_decides}
+use Rattle.cept_profile.proofs.Painted.{names, AreLooksOf, at-painted_all, IsTable-painted_all, place-is_at}
+use Rattle.cept_codes.proofs.Tables.{IsTable-table, same_tables}
+use Rattle.cept_profile.proofs.Rising.{same_rising}
+
+-- a number is that of a place just if the place is in that row and column
+pub is_at-place_of : (n r c : ℕ) → OnScreen r c → n ≡ number r c → is_at (place_of n) r c ≡ true
+is_at-place_of n r c on e = and_from (eqb (n / 40 + 1) r) (eqb (n % 40 + 1) c) (eq-eqb (n / 40 + 1) r (omega arith)) (eq-eqb (n % 40 + 1) c (omega arith))
+
+pub is_at-place_of_other : (n r c : ℕ) → OnScreen r c → (n ≡ number r c → ⊥) → is_at (place_of n) r c ≡ false
+is_at-place_of_other n r c on other =
+    false_from_ne_true (is_at (place_of n) r c) (λ e.
+    let both = and_parts (eqb (n / 40 + 1) r) (eqb (n % 40 + 1) c) e in
+    let row : n / 40 + 1 ≡ r = eqb-true (n / 40 + 1) r both.0 in
+    let column : n % 40 + 1 ≡ c = eqb-true (n % 40 + 1) c both.1 in
+    other (omega arith))
+
+-- the entry of a place, by its number
+abbrev pub entry : List (List Look) → ℕ → Place × Look
+entry h n = (place_of n, look_at h (place_of n))
+
+-- one more number, which stands in the list where it is marked
+names-one_more : (marked : Bool) (h : List (List Look)) (a : ℕ) (rest : List ℕ) (r c : ℕ) → names (map (entry h) (cond marked (a ∷ rest) rest)) r c ≡ ((marked && is_at (place_of a) r c) || names (map (entry h) rest) r c)
+names-one_more true h a rest r c = refl
+names-one_more false h a rest r c = refl
+
+-- a mark at a place that is this one, or isn't
+neither : (m : Bool) {x y : Bool} → x ≡ false → y ≡ false → ((m && x) || y) ≡ false
+neither true {x} {y} ex ey = ap (λ v. v || y) ex ∙ ey
+neither false ex ey = ey
+
+only_here : (m : Bool) {x y : Bool} → x ≡ true → y ≡ false → ((m && x) || y) ≡ m
+only_here true {x} {y} ex ey = ap (λ v. v || y) ex
+only_here false ex ey = ey
+
+only_later : (m : Bool) {x y z : Bool} → x ≡ false → y ≡ z → ((m && x) || y) ≡ z
+only_later true {x} {y} ex ey = ap (λ v. v || y) ex ∙ ey
+only_later false ex ey = ey
+
+-- in bounds that the number lies below there is no such place
+names-listed_above : (marks : ℕ → Bool) (h : List (List Look)) (a n r c : ℕ) → OnScreen r c → number r c < a → names (map (entry h) (filter marks (range_with_len a n))) r c ≡ false
+names-listed_above marks h a zero r c on low = refl
+names-listed_above marks h a (suc n) r c on low =
+    let here : is_at (place_of a) r c ≡ false = is_at-place_of_other a r c on (λ e. absurd (omega arith)) in
+    let rest : names (map (entry h) (filter marks (range_with_len (a + 1) n))) r c ≡ false = names-listed_above marks h (a + 1) n r c on (omega arith) in
+    names-one_more (marks a) h a (filter marks (range_with_len (a + 1) n)) r c ∙ neither (marks a) here rest
+
+-- whether this place is named is whether it is marked
+names-listed_within : (marks : ℕ → Bool) (h : List (List Look)) (a n r c : ℕ) → OnScreen r c → a ≤ number r c → number r c < a + n → names (map (entry h) (filter marks (range_with_len a n))) r c ≡ marks (number r c)
+names-listed_within marks h a zero r c on low high = absurd (omega arith)
+names-listed_within marks h a (suc n) r c on low high =
+    names-one_more (marks a) h a (filter marks (range_with_len (a + 1) n)) r c ∙ elim (cases_eq a (number r c)) [
+      | inl e ↦ only_here (marks a) (is_at-place_of a r c on e) (names-listed_above marks h (a + 1) n r c on (omega arith)) ∙ ap marks e
+      | inr other ↦ only_later (marks a) (is_at-place_of_other a r c on other) (names-listed_within marks h (a + 1) n r c on (omega arith) (omega arith))
+    ]
+
+-- the looks of a grid at the place with the number of row r and column c
+pub look_at-number : (g : List (List Look)) (r c : ℕ) → OnScreen r c → look_at g (place_of (number r c)) ≡ at blank_look g r c
+look_at-number g r c on =
+    ap (λ r'. at blank_look g r' (place_of (number r c)).column) (row-place_of r c on) ∙ ap (λ c'. at blank_look g r c') (column-place_of r c on)
+
+-- whether the looks at this place differ
+abbrev pub differ_at : List (List Look) → List (List Look) → ℕ → ℕ → Bool
+differ_at g h r c = not (same_look (at blank_look g r c) (at blank_look h r c))
+
+pub differences-at : (g h : List (List Look)) (n : ℕ) → n < 960 → get_or (differences g h) n false ≡ not (same_look (look_at g (place_of n)) (look_at h (place_of n)))
+unfolding differences
+differences-at g h n below = get_or-map-range_with_len (λ k. not (same_look (look_at g (place_of k)) (look_at h (place_of k)))) 0 960 n n false below (omega arith)
+
+-- the mark of the place in row r and column c
+pub differences-number : (g h : List (List Look)) (r c : ℕ) → OnScreen r c → get_or (differences g h) (number r c) false ≡ differ_at g h r c
+differences-number g h r c on =
+    differences-at g h (number r c) (number-lt r c on)
+    ∙ ap (λ l. not (same_look l (look_at h (place_of (number r c))))) (look_at-number g r c on)
+    ∙ ap (λ l. not (same_look (at blank_look g r c) l)) (look_at-number h r c on)
+
+-- just the places that differ are named
+pub names-changed : (g h : List (List Look)) (r c : ℕ) → OnScreen r c → names (changed g h) r c ≡ differ_at g h r c
+unfolding listed
+names-changed g h r c on =
+    names-listed_within (λ n. get_or (differences g h) n false) h 0 960 r c on (omega arith) (omega (arith, number-lt r c on))
+    ∙ differences-number g h r c on
+
+AreLooksOf-entries : (h : List (List Look)) (ns : List ℕ) → AreLooksOf h (map (entry h) ns)
+AreLooksOf-entries h [] = tt
+AreLooksOf-entries h (n ∷ ns) = (refl, AreLooksOf-entries h ns)
+
+pub AreLooksOf-changed : (g h : List (List Look)) → AreLooksOf h (changed g h)
+unfolding listed
+AreLooksOf-changed g h = AreLooksOf-entries h (filter (λ n. get_or (differences g h) n false) (range_with_len 0 960))
+
+-- a choice between looks that are the same where no difference is seen
+chosen : (old new : Look) → cond (not (same_look old new)) new old ≡ new
+chosen old new = elim (cases_Bool (same_look old new)) [
+  | inl same ↦ cond-false (not (same_look old new)) new old (not_from_true (same_look old new) same) ∙ (look_decides old new).0 same
+  | inr other ↦ cond-true (not (same_look old new)) new old (not_from_false (same_look old new) other)
+]
+
+pub painted_all-changed : (g h : List (List Look)) → IsTable g → IsTable h → painted_all g (changed g h) ≡ h
+painted_all-changed g h is_g is_h =
+    same_tables (IsTable-painted_all g (changed g h) is_g) is_h blank_look (λ r c on.
+    at-painted_all g h (changed g h) (AreLooksOf-changed g h) r c on
+    ∙ ap (λ named. cond named (at blank_look h r c) (at blank_look g r c)) (names-changed g h r c on)
+    ∙ chosen (at blank_look g r c) (at blank_look h r c))
+
+-- ---- what the list of changes holds
+
+-- the marked numbers below 960
+marked : List (List Look) → List (List Look) → List ℕ
+marked g h = filter (λ n. get_or (differences g h) n false) (range_with_len 0 960)
+
+changed-marked : (g h : List (List Look)) → changed g h ≡ map (entry h) (marked g h)
+unfolding listed marked
+changed-marked g h = refl
+
+-- what holds of each entry, by the numbers
+All-entries : (P : Place × Look → Type 0) (g h : List (List Look)) → All (λ n. P (entry h n)) (marked g h) → All P (changed g h)
+All-entries P g h all = subst (λ xs. All P xs) (sym (changed-marked g h)) (All-map P (entry h) (marked g h) all)
+
+below_960 : All (λ n. n < 960) (range_with_len 0 960)
+below_960 k d here = let lt : k < 960 = omega (arith, length-range_with_len 0 960) in omega (arith, get_or-range_with_len 0 960 k d lt)
+
+marked-below : (g h : List (List Look)) → All (λ n. n < 960) (marked g h)
+unfolding marked
+marked-below g h = All-filter (λ n. get_or (differences g h) n false) (λ n. n < 960) (range_with_len 0 960) below_960
+
+marked-marked : (g h : List (List Look)) → All (λ n. get_or (differences g h) n false ≡ true) (marked g h)
+unfolding marked
+marked-marked g h = filter_passes (λ n. get_or (differences g h) n false) (range_with_len 0 960)
+
+-- where no equality is seen there is none
+pub differ_from_test : (a b : Look) → not (same_look a b) ≡ true → a ≢ b
+differ_from_test a b e same = false≢true (sym (not-true (same_look a b) e) ∙ (look_decides a b).1 same)
+
+on_screen-changed : (g h : List (List Look)) → All (λ x. OnScreen x.0.row x.0.column) (changed g h)
+on_screen-changed g h = All-entries (λ x. OnScreen x.0.row x.0.column) g h (λ k d here. OnScreen-place_of (get_or (marked g h) k d) (marked-below g h k d here))
+
+new_looks-changed : (g h : List (List Look)) → All (λ x. x.1 ≡ look_at h x.0) (changed g h)
+new_looks-changed g h = All-entries (λ x. x.1 ≡ look_at h x.0) g h (λ k d here. refl)
+
+differ-changed : (g h : List (List Look)) → All (λ x. look_at g x.0 ≢ look_at h x.0) (changed g h)
+differ-changed g h = All-entries (λ x. look_at g x.0 ≢ look_at h x.0) g h (λ k d here.
+    let n : ℕ = get_or (marked g h) k d in
+    differ_from_test (look_at g (place_of n)) (look_at h (place_of n)) (sym (differences-at g h n (marked-below g h k d here)) ∙ marked-marked g h k d here))
+
+rising : AllPairs (λ n m. n < m) (range_with_len 0 960)
+rising i j d lt here =
+    let below : j < 960 = omega (arith, length-range_with_len 0 960) in
+    let above : i < 960 = omega arith in
+    omega (arith, get_or-range_with_len 0 960 i d above, get_or-range_with_len 0 960 j d below)
+
+marked-rising : (g h : List (List Look)) → AllPairs (λ n m. n < m) (marked g h)
+unfolding marked
+marked-rising g h = AllPairs-filter (λ n m. n < m) (λ n. get_or (differences g h) n false) (range_with_len 0 960) rising
+
+in_order-entries : (h : List (List Look)) (ns : List ℕ) → AllPairs (λ n m. n < m) ns → AllPairs (λ x y. IsBefore x.0 y.0) (map (entry h) ns)
+in_order-entries h ns up i j d lt here =
+    let here_n : j < length ns = omega (arith, length-map ns (entry h)) in
+    let above_n : i < length ns = omega arith in
+    let less : get_or ns i 0 < get_or ns j 0 = up i j 0 lt here_n in
+    let first : get_or (map (entry h) ns) i d ≡ entry h (get_or ns i 0) = get_or-map (entry h) ns i 0 d above_n in
+    let second : get_or (map (entry h) ns) j d ≡ entry h (get_or ns j 0) = get_or-map (entry h) ns j 0 d here_n in
+    let first_number : number (get_or (map (entry h) ns) i d).0.row (get_or (map (entry h) ns) i d).0.column ≡ get_or ns i 0 =
+    ap (λ (x : Place × Look). number x.0.row x.0.column) first ∙ number-place_of (get_or ns i 0) in
+    let second_number : number (get_or (map (entry h) ns) j d).0.row (get_or (map (entry h) ns) j d).0.column ≡ get_or ns j 0 =
+    ap (λ (x : Place × Look). number x.0.row x.0.column) second ∙ number-place_of (get_or ns j 0) in
+    omega (arith, less, first_number, second_number)
+
+in_order-changed : (g h : List (List Look)) → AllPairs (λ x y. IsBefore x.0 y.0) (changed g h)
+in_order-changed g h = subst (λ xs. AllPairs (λ (x : Place × Look) (y : Place × Look). IsBefore x.0 y.0) xs) (sym (changed-marked g h)) (in_order-entries h (marked g h) (marked-rising g h))
+
+-- an entry with the look of the grid at its place, which is this place
+entry-named : (h : List (List Look)) (x : Place × Look) (p : Place) → x.1 ≡ look_at h x.0 → is_at x.0 p.row p.column ≡ true → x ≡ (p, look_at h p)
+entry-named h x p is here =
+    let place : x.0 ≡ p = place-is_at x.0 p here in
+    let look : x.1 ≡ look_at h p = is ∙ ap (λ q. look_at h q) place in
+    λ i. (place i, look i)
+
+-- a named place is there
+pub Contains-named : (h : List (List Look)) (xs : List (Place × Look)) (p : Place) → AreLooksOf h xs → names xs p.row p.column ≡ true → Contains xs (p, look_at h p)
+Contains-named h [] p are named = absurd (false≢true named)
+Contains-named h (x ∷ xs) p are named = elim (or_cases (is_at x.0 p.row p.column) (names xs p.row p.column) named) [
+  | inl here ↦ (0, omega arith, entry-named h x p are.0 here)
+  | inr later ↦ Contains-append_right (x ∷ []) xs (p, look_at h p) (Contains-named h xs p are.1 later)
+]
+
+each-changed : (g h : List (List Look)) (p : Place) → OnScreen p.row p.column → Contains (changed g h) (p, look_at h p) ⊎ (look_at g p ≡ look_at h p)
+each-changed g h p on = elim (cases_Bool (same_look (look_at g p) (look_at h p))) [
+  | inl same ↦ inr ((look_decides (look_at g p) (look_at h p)).0 same)
+  | inr other ↦ inl (Contains-named h (changed g h) p (AreLooksOf-changed g h) (names-changed g h p.row p.column on ∙ not_from_false (same_look (look_at g p) (look_at h p)) other))
+]
+
+pub AreChanges-changed : (g h : List (List Look)) → AreChanges g h (changed g h)
+AreChanges-changed g h = record {
+  on_screen = on_screen-changed g h;
+  new_looks = new_looks-changed g h;
+  differ = differ-changed g h;
+  in_order = in_order-changed g h;
+  each = each-changed g h;
+}
+
+-- what differs from itself is nowhere
+none_differ : (g : List (List Look)) (xs : List (Place × Look)) → All (λ x. look_at g x.0 ≢ look_at g x.0) xs → xs ≡ []
+none_differ g [] differ = refl
+none_differ g (x ∷ xs) differ = absurd (All-head (λ y. look_at g y.0 ≢ look_at g y.0) x xs differ refl)
+
+pub changed-same : (g : List (List Look)) → changed g g ≡ []
+changed-same g = none_differ g (changed g g) (differ-changed g g)
+
+-- ---- the list of changes is the only such list
+
+-- what one list of changes names, another names too
+named_by_both : (g h : List (List Look)) (xs ys : List (Place × Look)) → AreChanges g h xs → AreChanges g h ys → (x : Place × Look) → Contains xs x → Contains ys x
+named_by_both g h xs ys are_x are_y x there =
+    let on : OnScreen x.0.row x.0.column = All-contains (λ y. OnScreen y.0.row y.0.column) xs x are_x.on_screen there in
+    let look : x.1 ≡ look_at h x.0 = All-contains (λ y. y.1 ≡ look_at h y.0) xs x are_x.new_looks there in
+    let other : look_at g x.0 ≢ look_at h x.0 = All-contains (λ y. look_at g y.0 ≢ look_at h y.0) xs x are_x.differ there in
+    elim (are_y.each x.0 on) [
+      | inl named ↦ let at_x : (x.0, look_at h x.0) ≡ x = λ i. (x.0, sym look i) in subst (Contains ys) at_x named
+      | inr same ↦ absurd (other same)
+    ]
+
+pub changed_is : (g h : List (List Look)) (xs : List (Place × Look)) → AreChanges g h xs → xs ≡ changed g h
+changed_is g h xs are =
+    same_rising (λ (x : Place × Look). number x.0.row x.0.column) xs (changed g h) are.in_order (in_order-changed g h)
+    (named_by_both g h xs (changed g h) are (AreChanges-changed g h))
+    (named_by_both g h (changed g h) xs (AreChanges-changed g h) are)
+
+-- ---- marks
+
+pub length-differences : (g h : List (List Look)) → length (differences g h) ≡ 960
+unfolding differences
+length-differences g h = length-map-range_with_len (λ k. not (same_look (look_at g (place_of k)) (look_at h (place_of k)))) 0 960
+
+-- ---- one more command
+
+pub painted_all-changes : (history : List Command) (command : Command) → painted_all (grid history) (changes history command) ≡ grid (history ++ command ∷ [])
+painted_all-changes history command =
+    painted_all-changed (grid history) (grid (history ++ command ∷ [])) (IsTable-table (look (page history))) (IsTable-table (look (page (history ++ command ∷ []))))

@@ -1,0 +1,14 @@
+pub mod Control
+pub mod Cells
+pub mod Changes
+pub mod Painted
+pub mod Protected
+pub mod Rising
+pub mod Start
+pub mod State
+pub mod ValidControl
+pub mod ValidLook
+pub mod ValidPage
+pub mod ValidState
+pub mod Worked
+pub mod Listed

@@ -1,0 +1,13 @@
+//! Law of the start: before any command nothing is written and each place has the blank look.
+ghost use Rattle.std.specs.Prelude.{◌≡◌, []};
+ghost use Rattle.cept_codes.specs.Look.{blank_look};
+ghost use Rattle.cept_codes.specs.Table.{table};
+ghost use Rattle.cept_profile.specs.Control.{initial};
+ghost use Rattle.cept_profile.specs.Look.{grid};
+ghost use Rattle.cept_profile.specs.State.{blank_page, state};
+
+/// Before any command control is initial, each cell is blank and each place has the blank look.
+pub fn the_first_grid()
+    ensures state { state [] ≡ record { page = blank_page; control = initial } }
+    ensures grid { grid [] ≡ table (λ r c. blank_look) }
+{}

@@ -1,0 +1,7 @@
+use Rattle.std.proofs.Common.{refl}
+use Rattle.cept_repaint.specs.Marks.{unmarked}
+use Rattle.cept_repaint.proofs.marks.Marks.clear.Goals as goal
+
+pub returns : goal.returns
+unfolding unmarked
+returns c = refl

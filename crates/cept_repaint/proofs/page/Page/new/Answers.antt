@@ -1,0 +1,9 @@
+use Rattle.std.proofs.Common.{refl, ap, List}
+use Rattle.cept_codes.specs.declared.cell.Cell.{Cell}
+use Rattle.cept_profile.specs.Cells.{cell_back}
+use Rattle.cept_profile.specs.State.{Page}
+use Rattle.cept_repaint.proofs.page.Page.new.Goals as goal
+
+pub returns : goal.returns
+unfolding cell_back
+returns c = ap (λ (t : List (List Cell)). let p : Page = record { cells = t } in p) c.in_ok-grid.ensures

@@ -1,0 +1,18 @@
+use Rattle.std.proofs.Common.{◌≡◌, List, [], refl, sym, ap, subst, ◌∙◌}
+use Rattle.cept_codes.specs.Look.{blank_look}
+use Rattle.cept_codes.specs.Table.{table}
+use Rattle.cept_profile.specs.Control.{ControlState, control}
+use Rattle.cept_profile.specs.Look.{looks_of}
+use Rattle.cept_profile.specs.State.{Page, State, page, state}
+use Rattle.cept_profile.specs.Valid.{IsValidState}
+use Rattle.cept_profile.proofs.ValidState.{IsValidState-start}
+use Rattle.cept_repaint.proofs.StateLemmas.{looks_of-start, same_state}
+use Rattle.cept_repaint.proofs.screen.Screen.new.Goals as goal
+
+pub invariant_of-result : goal.invariant_of-result
+invariant_of-result c =
+    let at_start : (let s : State = record { page = c.in_ok-page.page; control = c.new-3.result } in s) ≡ state [] = same_state _ _ _ _ c.in_ok-page.ensures c.new-3.ensures.start in
+    record {
+      valid = subst (λ (s : State). IsValidState s) (sym at_start) IsValidState-start;
+      looks = c.in_ok-looks.ensures ∙ sym looks_of-start ∙ ap (λ (p : Page). looks_of p) (sym c.in_ok-page.ensures);
+    }

@@ -1,0 +1,7 @@
+pub mod GlassState
+pub mod GridGlass
+pub mod Kept
+pub mod Marks
+pub mod Tape
+pub mod TapeGlass
+pub mod ValidGrid

@@ -1,0 +1,18 @@
+-- Marks: a flag for each place of the screen, in reading order.
+use Rattle.std.specs.Prelude.{ℕ, ◌≡◌, ◌≤◌, ◌<◌, Bool, true, false, List, replicate, slice_index_or}
+use Rattle.cept_codes.specs.Place.{Place, OnScreen, number}
+
+-- the place with this number in reading order is marked
+abbrev pub is_marked : List Bool → ℕ → Bool
+is_marked marks n = slice_index_or marks n false
+
+-- no place is marked
+unfoldable pub unmarked : List Bool
+unmarked = replicate 960 false
+
+-- the first marked place with a number of at least `from`
+pub record IsFirstFrom (marks : List Bool) (from : ℕ) (place : Place) : Type 0 where
+  pub on_screen : OnScreen place.row place.column
+  pub at_least : from ≤ number place.row place.column
+  pub marked : is_marked marks (number place.row place.column) ≡ true
+  pub first : (n : ℕ) → from ≤ n → n < number place.row place.column → is_marked marks n ≡ false

@@ -1,0 +1,18 @@
+-- Tapes: the first paints of a glass, as many as there is room for.
+use Rattle.std.specs.Prelude.{ℕ, Bool, true, Option, Some, None, List, [], ◌∷◌, ◌++◌, length, nat_lt, if◌then◌else◌}
+use Rattle.cept_codes.specs.declared.look.Look.{Look}
+use Rattle.cept_codes.specs.Place.{Place}
+
+-- the paints kept, how many there is room for, and whether more than these were made
+pub record Tape : Type 0 where
+  pub kept : List (Place × Look)
+  pub room : ℕ
+  pub over : Bool
+
+-- the tape after one more paint
+abbrev pub taped : Tape → Place → Look → Tape
+taped t p l = if nat_lt (length t.kept) t.room then record t { kept = t.kept ++ (p, l) ∷ [] } else record t { over = true }
+
+-- all paints, as long as there was room for them
+abbrev pub told : Tape → Option (List (Place × Look))
+told t = if t.over then None else Some t.kept

@@ -1,0 +1,12 @@
+-- What a glass with a tape shows and tells.
+use Rattle.cept_repaint.specs.declared.tape_glass.TapeGlass.{TapeGlass}
+use Rattle.cept_repaint.specs.GlassState.{GlassState}
+use Rattle.cept_repaint.specs.GridGlass.{grid_glass_state}
+use Rattle.cept_repaint.specs.Tape.{Tape, told}
+
+abbrev pub tape_of : TapeGlass → Tape
+tape_of glass = record { kept = glass.paints.items; room = glass.room; over = glass.over }
+
+-- the grid, and the list of the tape
+abbrev pub tape_glass_state : TapeGlass → GlassState
+tape_glass_state glass = record { grid = (grid_glass_state glass.glass).grid; paints = told (tape_of glass) }

@@ -1,0 +1,23 @@
+//! The screen: it applies commands to a page and its control, marks the places whose look changes and paints them on
+//! a glass. It knows no bytes and keeps no history.
+#![tactic(auto)]
+
+mod control;
+mod glass;
+mod grid;
+mod grid_glass;
+mod looks;
+mod marks;
+mod page;
+mod painting;
+mod refresh;
+mod screen;
+mod tape_glass;
+#[cfg(test)]
+mod tests;
+
+pub use glass::Glass;
+pub use grid_glass::GridGlass;
+pub use marks::Marks;
+pub use screen::Screen;
+pub use tape_glass::TapeGlass;

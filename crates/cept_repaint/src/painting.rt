@@ -1,0 +1,20 @@
+ghost use Rattle.std.specs.Prelude.{◌≡◌, ◌+◌};
+ghost use Rattle.cept_profile.specs.Changes.{listed, painted_all};
+ghost use Rattle.cept_profile.specs.Look.{looks_of};
+ghost use Rattle.cept_repaint.specs.GlassState.{Lists};
+
+use crate::glass::Glass;
+use crate::marks::{Marks, number_of};
+use crate::screen::Screen;
+
+/// Paints the marked places in reading order, each once, with the screen's look.
+pub(crate) fn paint_marked<G: Glass>(screen: &Screen, glass: &mut G, marks: &Marks)
+    ensures shown { (G.state glass.new).grid ≡ painted_all (G.state glass.old).grid (listed marks.now (looks_of screen.now.page)) }
+    ensures told { Lists (G.state glass.old).paints (listed marks.now (looks_of screen.now.page)) (G.state glass.new).paints }
+{
+    let mut from = 0;
+    while let Some(place) = marks.next_from(from) {
+        glass.paint(place, screen);
+        from = number_of(place) as u16 + 1;
+    }
+}

@@ -1,0 +1,118 @@
+ghost use Rattle.std.specs.Prelude.{◌≡◌, ◌≤◌, ◌+◌, List, [], ◌∷◌, ◌++◌, IfOk};
+ghost use Rattle.cept_codes.specs.declared.command.Command.{Command};
+ghost use Rattle.cept_codes.specs.Cell.{IsValidCell};
+ghost use Rattle.cept_codes.specs.Command.{IsValidCommand};
+ghost use Rattle.cept_codes.specs.Look.{IsValidLook};
+ghost use Rattle.cept_profile.specs.Changes.{look_at, differences, changed, painted_all};
+ghost use Rattle.cept_profile.specs.Look.{looks_of};
+ghost use Rattle.cept_profile.specs.State.{state, after};
+ghost use Rattle.cept_profile.specs.Valid.{AllValid, IsValidState};
+ghost use Rattle.cept_repaint.specs.GlassState.{Lists};
+ghost use Rattle.cept_repaint.specs.Kept.{cell_at};
+
+use crate::control::Control;
+use crate::glass::Glass;
+use crate::looks::Looks;
+use crate::marks::Marks;
+use crate::page::Page;
+use crate::painting::paint_marked;
+use crate::refresh::refresh;
+use arrayvec::ArrayVec;
+use cept_codes::{Cell, Command, Look, NoMemory, Pos, Stroke};
+use cept_outside::Steps;
+use std::alloc::Global;
+use std::marker::Model;
+use std::sync::ledger::Ledger;
+
+/// A decoder's screen: its page, its control, and the looks of all places.
+#[derive(Drop)]
+pub struct Screen {
+    page: Page,
+    control: Control,
+    looks: Looks,
+    strokes: ArrayVec<Stroke, 128>,
+}
+
+impl Model for Screen {
+    ghost use Rattle.cept_profile.specs.State.{State};
+    ghost use Rattle.cept_repaint.specs.Kept.{IsKept};
+
+    ghost Value = { State };
+
+    ghost view = { λ s. record { page = s.page; control = s.control } };
+
+    ghost invariant = { λ s. IsKept (record { page = s.page; control = s.control }) s.looks };
+}
+
+impl Screen {
+    /// The screen at the start.
+    pub fn new(alloc: Global) -> Result<Screen, NoMemory>
+        ensures { IfOk result (λ screen. screen ≡ state []) }
+    {
+        let page = Page::new(alloc)?;
+        let looks = Looks::new(alloc)?;
+        Ok(Screen {
+            page,
+            control: Control::new(),
+            looks,
+            strokes: ArrayVec::new(),
+        })
+    }
+
+    /// Applies a command: makes its strokes, marks exactly the places whose look changes, and paints each of them once, in
+    /// reading order, with its new look. Takes no memory.
+    pub fn apply<G: Glass, L: Ledger>(
+        &mut self,
+        command: Command,
+        glass: &mut G,
+        marks: &mut Marks,
+        steps: &mut Steps<L>,
+    )
+        requires { IsValidCommand command }
+        ensures goes_on { (history : List Command) → AllValid history → self.old ≡ state history → self.new ≡ state (history ++ command ∷ []) }
+        ensures after { self.new ≡ after self.old command }
+        ensures marks { marks.new ≡ differences (looks_of self.old.page) (looks_of self.new.page) }
+        ensures shown { (G.state glass.new).grid ≡ painted_all (G.state glass.old).grid (changed (looks_of self.old.page) (looks_of self.new.page)) }
+        ensures told { Lists (G.state glass.old).paints (changed (looks_of self.old.page) (looks_of self.new.page)) (G.state glass.new).paints }
+        ensures cost { steps.new ≤ steps.old + 24 }
+    {
+        self.write(command, marks, steps);
+        paint_marked(self, glass, marks);
+    }
+
+    /// Makes the strokes of a command, and marks the places whose look changes.
+    fn write<L: Ledger>(&mut self, command: Command, marks: &mut Marks, steps: &mut Steps<L>)
+        requires { IsValidCommand command }
+        ensures after { self.new ≡ after self.old command }
+        ensures marks { marks.new ≡ differences (looks_of self.old.page) (looks_of self.new.page) }
+        ensures cost { steps.new ≤ steps.old + 24 }
+    {
+        self.control.step(command, &mut self.strokes);
+        self.page.draw_all(self.strokes.as_slice());
+        refresh(&self.page, &mut self.looks, marks, steps);
+    }
+
+    /// The look at a place.
+    pub fn look(&self, at: Pos) -> Look
+        ensures look { result ≡ look_at (looks_of self.now.page) at }
+        ensures valid { IsValidLook result }
+    {
+        self.looks.get(at)
+    }
+
+    /// The cell at a place.
+    pub fn cell(&self, at: Pos) -> Cell
+        ensures cell { result ≡ cell_at self.now.page at }
+        ensures valid { IsValidCell result }
+    {
+        self.page.cell(at)
+    }
+
+    /// How many rows the page has, 24 or 20.
+    pub fn rows(&self) -> u8
+        ensures rows { result ≡ self.now.control.rows }
+        ensures valid { IsValidState self.now }
+    {
+        self.control.rows()
+    }
+}

@@ -1,0 +1,116 @@
+-- A text that is put line by line.
+use Rattle.std.proofs.Common.{◌≡◌, ℕ, ◌+◌, ◌-◌, ◌<◌, ◌≤◌, Bool, true, false, Option, Some, None, List, [], ◌∷◌, ◌++◌, length, take, refl, sym, ◌∙◌, ap, subst, arith, append_assoc, append-nil, length-append}
+use Rattle.std.specs.Io.KnownBytes.{append_known}
+use Rattle.std.proofs.Math.Seq.{take-append-add}
+use Rattle.std.proofs.lemmas.List.{take-append-le}
+use Rattle.cept_codes.specs.declared.look.Look.{Look}
+use Rattle.cept_codes.specs.Place.{Place, number, place_of}
+use Rattle.cept_codes.proofs.Places.{place_of-number, number-lt}
+use Rattle.cept_outside.specs.SinkState.{SinkState, Gains}
+use Rattle.cept_profile.specs.Changes.{look_at, listed}
+use Rattle.cept_profile.proofs.Listed.{listed_below, listed-is_below, listed_below-next, listed_below-unmarked, listed_below-rest}
+use Rattle.cept_repaint.specs.Marks.{is_marked, IsFirstFrom}
+use Rattle.cept_report.specs.Text.{change_line, change_lines}
+
+-- the lines of one place more
+pub change_lines-more : (label : ℕ) (xs : List (Place × Look)) (p : Place) (l : Look) → change_lines label (xs ++ (p, l) ∷ []) ≡ change_lines label xs ++ change_line label p l
+unfolding change_lines
+change_lines-more label [] p l = append-nil _
+change_lines-more label (x ∷ xs) p l =
+    ap (λ rest. change_line label x.0 x.1 ++ rest) (change_lines-more label xs p l) ∙ sym (append_assoc (change_line label x.0 x.1) (change_lines label xs) (change_line label p l))
+
+pub change_lines-append : (label : ℕ) (xs ys : List (Place × Look)) → change_lines label (xs ++ ys) ≡ change_lines label xs ++ change_lines label ys
+unfolding change_lines
+change_lines-append label [] ys = refl
+change_lines-append label (x ∷ xs) ys =
+    ap (λ rest. change_line label x.0 x.1 ++ rest) (change_lines-append label xs ys) ∙ sym (append_assoc (change_line label x.0 x.1) (change_lines label xs) (change_lines label ys))
+
+append_known-twice : (known : Option (List ℕ)) (a b : List ℕ) → append_known (append_known known a) b ≡ append_known known (a ++ b)
+append_known-twice None a b = refl
+append_known-twice (Some xs) a b = ap Some (append_assoc xs a b)
+
+append_known-nothing : (known : Option (List ℕ)) → append_known known [] ≡ known
+append_known-nothing None = refl
+append_known-nothing (Some xs) = ap Some (append-nil xs)
+
+-- nothing was put
+pub Gains-nothing : (s : SinkState) → Gains s [] s
+Gains-nothing s = record { bytes = sym (append_known-nothing s.bytes); unflushed = λ h. absurd (omega arith); unflushed_stays = λ _. refl }
+
+is_unflushed : (s t u : SinkState) (a b : List ℕ) → Gains s a t → Gains t b u → 0 < length (a ++ b) → u.unflushed ≡ true
+is_unflushed s t u [] [] ga gb h = absurd (omega arith)
+is_unflushed s t u (x ∷ a) [] ga gb h = gb.unflushed_stays refl ∙ ga.unflushed (omega arith)
+is_unflushed s t u a (x ∷ b) ga gb h = gb.unflushed (omega arith)
+
+stays_unflushed : (s t u : SinkState) (a b : List ℕ) → Gains s a t → Gains t b u → a ++ b ≡ [] → u.unflushed ≡ s.unflushed
+stays_unflushed s t u [] [] ga gb h = gb.unflushed_stays refl ∙ ga.unflushed_stays refl
+stays_unflushed s t u [] (x ∷ b) ga gb h = cc
+stays_unflushed s t u (x ∷ a) b ga gb h = cc
+
+-- a part was put, and then another
+pub Gains-more : (s t u : SinkState) (a b : List ℕ) → Gains s a t → Gains t b u → Gains s (a ++ b) u
+Gains-more s t u a b ga gb =
+    record {
+      bytes = gb.bytes ∙ ap (λ known. append_known known b) ga.bytes ∙ append_known-twice s.bytes a b;
+      unflushed = is_unflushed s t u a b ga gb;
+      unflushed_stays = stays_unflushed s t u a b ga gb;
+    }
+
+-- a part of one line more is a part of the whole text
+pub Gains-part : (s t u : SinkState) (whole done line rest : List ℕ) → whole ≡ (done ++ line) ++ rest → Gains s done t → (n : ℕ) × (n < length line) × Gains t (take n line) u
+    → (n : ℕ) × (n < length whole) × Gains s (take n whole) u
+Gains-part s t u whole done line rest is gs part =
+    let n = part.0 in
+    let e : take (length done + n) whole ≡ done ++ take n line =
+    ap (take (length done + n)) (is ∙ append_assoc done line rest) ∙ take-append-add done (line ++ rest) n ∙ ap (λ l. done ++ l) (take-append-le n line rest (omega (arith, part.1))) in (
+      length done + n,
+      (let below : length done + n < length whole = omega (arith, part.1, ap length is, length-append (done ++ line) rest, length-append done line) in below),
+      subst (λ (l : List ℕ). Gains s l u) (sym e) (Gains-more s t u done (take n line) gs part.2),
+    )
+
+-- the lines up to the first marked place behind a bound
+lines-next : (marks : List Bool) (g : List (List Look)) (label from : ℕ) (p : Place) → IsFirstFrom marks from p
+    → change_lines label (listed_below marks g (number p.row p.column + 1)) ≡ change_lines label (listed_below marks g from) ++ change_line label p (look_at g p)
+lines-next marks g label from p first =
+    let n = number p.row p.column in
+    let here : place_of n ≡ p = place_of-number p first.on_screen in
+    ap (change_lines label) (listed_below-next marks g from n first.at_least first.first first.marked ∙ ap (λ (q : Place). listed_below marks g from ++ (q, look_at g q) ∷ []) here)
+    ∙ change_lines-more label (listed_below marks g from) p (look_at g p)
+
+-- the line of the next marked place was put
+pub Gains-next : (s t u : SinkState) (marks : List Bool) (g : List (List Look)) (label from : ℕ) (p : Place) (line : List ℕ) → IsFirstFrom marks from p → line ≡ change_line label p (look_at g p)
+    → Gains s (change_lines label (listed_below marks g from)) t → Gains t line u → Gains s (change_lines label (listed_below marks g (number p.row p.column + 1))) u
+Gains-next s t u marks g label from p line first is before now =
+    subst (λ (l : List ℕ). Gains s l u) (ap (λ l. change_lines label (listed_below marks g from) ++ l) is ∙ sym (lines-next marks g label from p first)) (Gains-more s t u _ line before now)
+
+-- the text of all marked places goes on behind the next one
+text-goes_on : (marks : List Bool) (g : List (List Look)) (label from : ℕ) (p : Place) → IsFirstFrom marks from p
+    → (rest : List ℕ) × (change_lines label (listed marks g) ≡ (change_lines label (listed_below marks g from) ++ change_line label p (look_at g p)) ++ rest)
+text-goes_on marks g label from p first =
+    let n = number p.row p.column in
+    let below : n + 1 ≤ 960 = omega (arith, number-lt p.row p.column first.on_screen) in
+    let others = listed_below-rest marks g (n + 1) (960 - (n + 1)) in
+    let all : listed marks g ≡ listed_below marks g (n + 1) ++ others.0 =
+    listed-is_below marks g ∙ ap (listed_below marks g) (let e : 960 ≡ (n + 1) + (960 - (n + 1)) = omega arith in e) ∙ others.1 in (
+      change_lines label others.0,
+      ap (change_lines label) all ∙ change_lines-append label (listed_below marks g (n + 1)) others.0 ∙ ap (λ l. l ++ change_lines label others.0) (lines-next marks g label from p first),
+    )
+
+-- a part of the next line was put
+pub Gains-failed : (s t u : SinkState) (marks : List Bool) (g : List (List Look)) (label from : ℕ) (p : Place) (line : List ℕ) → IsFirstFrom marks from p → line ≡ change_line label p (look_at g p)
+    → Gains s (change_lines label (listed_below marks g from)) t → (n : ℕ) × (n < length line) × Gains t (take n line) u
+    → (n : ℕ) × (n < length (change_lines label (listed marks g))) × Gains s (take n (change_lines label (listed marks g))) u
+Gains-failed s t u marks g label from p line first is before part =
+    let more = text-goes_on marks g label from p first in
+    Gains-part s t u _ (change_lines label (listed_below marks g from)) line more.0 (more.1 ∙ ap (λ l. (change_lines label (listed_below marks g from) ++ l) ++ more.0) (sym is)) before part
+
+-- no further place is marked
+pub Gains-all : (s t : SinkState) (marks : List Bool) (g : List (List Look)) (label from : ℕ) → from ≤ 960 → ((n : ℕ) → from ≤ n → is_marked marks n ≡ false)
+    → Gains s (change_lines label (listed_below marks g from)) t → Gains s (change_lines label (listed marks g)) t
+Gains-all s t marks g label from within none before =
+    subst (λ (xs : List (Place × Look)). Gains s (change_lines label xs) t) (sym (listed-is_below marks g ∙ listed_below-unmarked marks g from 960 within (λ k low _. none k low))) before
+
+-- before the first place nothing is listed
+pub Gains-none : (s : SinkState) (marks : List Bool) (g : List (List Look)) (label : ℕ) → Gains s (change_lines label (listed_below marks g 0)) s
+unfolding listed_below change_lines
+Gains-none s marks g label = Gains-nothing s

@@ -1,0 +1,85 @@
+ghost use Rattle.std.specs.Prelude.{◌≡◌, ◌+◌, ◌≤◌, ◌<◌, ◌∷◌, [], ◌++◌, length, decimal};
+ghost use Rattle.arrayvec.specs.ArrayVec.{array_vec_len};
+ghost use Rattle.cept_codes.specs.Look.{IsValidLook};
+ghost use Rattle.cept_report.specs.Text.{reason_number, reason_name, change_line, refusal_line};
+
+use crate::line::{Line, add_byte, add_number, add_text};
+use crate::look::add_look;
+use cept_codes::{Look, Pos, Reason};
+
+/// The line of a changed place.
+pub fn change_line(label: u64, at: Pos, look: &Look) -> Line
+    requires { IsValidLook look.now }
+    ensures { result.items ≡ change_line label at look.now }
+{
+    let mut line = Line::new();
+    add_number(&mut line, label);
+    add_byte(&mut line, b' ');
+    add_number(&mut line, u64::from(at.row()));
+    add_byte(&mut line, b' ');
+    add_number(&mut line, u64::from(at.col()));
+    add_byte(&mut line, b' ');
+    add_look(&mut line, look);
+    add_byte(&mut line, b'\n');
+    line
+}
+
+#[tactic(auto, unfolding(crate::specs::Text::reason_number))]
+fn number_of(reason: Reason) -> u8
+    ensures { result ≡ reason_number reason }
+{
+    match reason {
+        Reason::UnassignedControl => 1,
+        Reason::UnknownEscape => 2,
+        Reason::UnknownCsi => 3,
+        Reason::UnknownUnit => 4,
+        Reason::BadParameter => 5,
+        Reason::Interrupted => 6,
+        Reason::Truncated => 7,
+        Reason::NotBuilt => 8,
+    }
+}
+
+#[tactic(auto, unfolding(crate::specs::Text::reason_name))]
+fn add_name(line: &mut Line, reason: Reason)
+    requires { array_vec_len line.old + 17 ≤ 256 }
+    ensures text { line.new.items ≡ line.old.items ++ reason_name reason }
+    ensures len { array_vec_len line.new ≤ array_vec_len line.old + 17 }
+{
+    match reason {
+        Reason::UnassignedControl => add_text(line, b"UnassignedControl"),
+        Reason::UnknownEscape => add_text(line, b"UnknownEscape"),
+        Reason::UnknownCsi => add_text(line, b"UnknownCsi"),
+        Reason::UnknownUnit => add_text(line, b"UnknownUnit"),
+        Reason::BadParameter => add_text(line, b"BadParameter"),
+        Reason::Interrupted => add_text(line, b"Interrupted"),
+        Reason::Truncated => add_text(line, b"Truncated"),
+        Reason::NotBuilt => add_text(line, b"NotBuilt"),
+    }
+}
+
+fn add_reason(line: &mut Line, reason: Reason)
+    requires { array_vec_len line.old + 38 ≤ 256 }
+    ensures text { line.new.items ≡ line.old.items ++ (decimal (reason_number reason) ++ 32 ∷ reason_name reason) }
+    ensures len { array_vec_len line.new ≤ array_vec_len line.old + 38 }
+{
+    add_number(line, u64::from(number_of(reason)));
+    add_byte(line, b' ');
+    add_name(line, reason);
+}
+
+/// The line of refused bytes.
+pub fn refusal_line(place: u64, size: u8, reason: Reason) -> Line
+    ensures { result.items ≡ refusal_line place size reason }
+{
+    let mut line = Line::new();
+    add_byte(&mut line, b'!');
+    add_byte(&mut line, b' ');
+    add_number(&mut line, place);
+    add_byte(&mut line, b' ');
+    add_number(&mut line, u64::from(size));
+    add_byte(&mut line, b' ');
+    add_reason(&mut line, reason);
+    add_byte(&mut line, b'\n');
+    line
+}

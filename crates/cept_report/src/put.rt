@@ -1,0 +1,58 @@
+ghost use Rattle.std.specs.Prelude.{◌≡◌, ◌<◌, ℕ, length, take, OnOk, OnErr};
+ghost use Rattle.cept_codes.specs.Place.{number};
+ghost use Rattle.cept_outside.specs.Causes.{HasCause};
+ghost use Rattle.cept_outside.specs.SinkState.{Gains};
+ghost use Rattle.cept_profile.specs.Changes.{listed};
+ghost use Rattle.cept_profile.specs.Look.{looks_of};
+ghost use Rattle.cept_report.specs.Text.{change_lines, refusal_line};
+
+use crate::lines::{change_line, refusal_line};
+use cept_codes::{Pos, Reason};
+use cept_outside::{Sink, WriteFault, put_all};
+use cept_repaint::{Marks, Screen};
+
+/// Puts the line of refused bytes: the place of the first, their number, and the reason. After `WriteFault` a part of it was
+/// put, from its front on, and not the whole.
+pub fn put_refusal<T: Sink>(
+    sink: &mut T,
+    at: u64,
+    len: u8,
+    reason: Reason,
+) -> Result<(), WriteFault>
+    ensures whole { OnOk result (Gains (T.state sink.old) (refusal_line at len reason) (T.state sink.new)) }
+    ensures part { OnErr result ((n : ℕ) × (n < length (refusal_line at len reason)) × Gains (T.state sink.old) (take n (refusal_line at len reason)) (T.state sink.new)) }
+    ensures cause { HasCause (T.state sink.old).faults (T.state sink.new).faults result }
+{
+    put_all(sink, refusal_line(at, len, reason).as_slice())
+}
+
+/// The number of a place in reading order, from 0.
+fn number_of(at: Pos) -> u16
+    ensures number { result ≡ number at.row at.column }
+    ensures below { result < 960 }
+{
+    40 * (u16::from(at.row()) - 1) + (u16::from(at.col()) - 1)
+}
+
+/// Puts a line for each marked place in reading order: the label, the place, and its look on the screen. After `WriteFault` a
+/// part of the text was put, from its front on, and not the whole.
+pub fn put_changes<T: Sink>(
+    sink: &mut T,
+    label: u64,
+    marks: &Marks,
+    screen: &Screen,
+) -> Result<(), WriteFault>
+    ensures whole { OnOk result (Gains (T.state sink.old) (change_lines label (listed marks.now (looks_of screen.now.page))) (T.state sink.new)) }
+    ensures part { OnErr result ((n : ℕ) × (n < length (change_lines label (listed marks.now (looks_of screen.now.page))))
+        × Gains (T.state sink.old) (take n (change_lines label (listed marks.now (looks_of screen.now.page)))) (T.state sink.new)) }
+    ensures cause { HasCause (T.state sink.old).faults (T.state sink.new).faults result }
+{
+    let mut from = 0u16;
+    while let Some(at) = marks.next_from(from) {
+        match put_all(sink, change_line(label, at, &screen.look(at)).as_slice()) {
+            Ok(()) => from = number_of(at) + 1,
+            Err(fault) => return Err(fault),
+        }
+    }
+    Ok(())
+}

@@ -1,0 +1,4 @@
+pub mod Events
+pub mod Run
+pub mod Told
+pub mod Words

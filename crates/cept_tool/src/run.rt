@@ -1,0 +1,164 @@
+ghost use Rattle.std.specs.Prelude.{◌≡◌, ◌≢◌, ◌+◌, ◌-◌, ◌^◌, ◌<◌, ◌≤◌, ◌↔◌, ◌⊎◌, IfOk, OnOk, ◌∷◌, [], ◌++◌, ℕ, List, false, true, length, take, map, Some, None, IsSome, IsTrue, is_some, string_bytes};
+ghost use Rattle.cept_outside.specs.Causes.{Rose};
+ghost use Rattle.cept_outside.specs.ShelfState.{Holds, KeepsFiles, bytes_under};
+ghost use Rattle.cept_parser.specs.Items.{items, closed_items};
+ghost use Rattle.cept_tool.specs.Events.{has_refusal};
+ghost use Rattle.cept_tool.specs.Run.{IsWhole, IsUntouched, Reports, status_of};
+ghost use Rattle.cept_tool.specs.Told.{HasRead, HasTold};
+ghost use Rattle.cept_tool.specs.Words.{Form, form_of};
+
+use crate::decoder::Decoder;
+use crate::page::{Stop, read_page};
+use crate::words::{Order, form_of};
+use cept_outside::{Shelf, Sink, Steps};
+use cept_repaint::Glass;
+use std::alloc::Global;
+use std::marker::Brand;
+use std::sync::ledger::{Blank, Ledger};
+
+/// How a run ends. The program ends with the number.
+#[derive(Clone, Copy, Debug, PartialEq, Eq)]
+pub enum Status {
+    /// The page was read to its end, and nothing in it is refused.
+    Done = 0,
+    /// The page was read to its end, and an item in it is refused.
+    Refusals = 1,
+    /// The words are no form.
+    Usage = 2,
+    /// The page can't be opened or read.
+    ReadFault = 4,
+    /// The output failed.
+    WriteFault = 5,
+    /// There is no memory.
+    NoMemory = 6,
+    /// The page has more than 2^24 bytes.
+    TooLong = 7,
+}
+
+impl Status {
+    /// The status of a page that was read to its end.
+    fn of_whole(refused: bool) -> Status
+        ensures whole { IsWhole result }
+        ensures refused { (result ≡ Status.Refusals) ↔ (refused ≡ true) }
+    {
+        if refused {
+            Status::Refusals
+        } else {
+            Status::Done
+        }
+    }
+
+    /// The status of a page that wasn't read to its end.
+    fn of_stop(stop: Stop) -> Status
+        ensures { result ≡ status_of stop }
+    {
+        match stop {
+            Stop::ReadFault => Status::ReadFault,
+            Stop::WriteFault => Status::WriteFault,
+            Stop::TooLong => Status::TooLong,
+        }
+    }
+}
+
+/// Selects a page, tells it to its end and flushes. Answers whether an item was refused.
+fn tell_page<F: Shelf, T: Sink, G: Glass, L: Ledger>(
+    decoder: &mut Decoder,
+    page: &str,
+    shelf: &mut F,
+    sink: &mut T,
+    glass: &mut G,
+    steps: &mut Steps<L>,
+) -> Result<bool, Stop>
+    requires { HasRead decoder.old [] }
+    ensures files { KeepsFiles (F.state shelf.old) (F.state shelf.new) }
+    ensures missed { IsSome (bytes_under (F.state shelf.old) page.now) → (F.state shelf.new).missed ≡ (F.state shelf.old).missed }
+    ensures shelf_faults { (F.state shelf.old).faults ≤ (F.state shelf.new).faults }
+    ensures sink_faults { (T.state sink.old).faults ≤ (T.state sink.new).faults }
+
+    ensures short { OnOk result ((F.state shelf.new).taken ≤ 2 ^ 24) }
+    ensures flushed { OnOk result ((T.state sink.new).unflushed ≡ false) }
+    ensures refused { IfOk result (λ refused. (bytes : List ℕ) → Holds (F.state shelf.old) page.now bytes
+        → refused ≡ has_refusal (closed_items bytes)) }
+    ensures reports { OnOk result ((bytes : List ℕ) → Holds (F.state shelf.old) page.now bytes
+        → Reports (record { order = decoder.old.desk.order; page = page.now }) bytes (T.state sink.old) (T.state sink.new) (G.state glass.old) (G.state glass.new)) }
+
+    ensures read_fault { result ≡ Err Stop.ReadFault → Rose (F.state shelf.old).faults (F.state shelf.new).faults }
+    ensures read_fault_short { result ≡ Err Stop.ReadFault → (F.state shelf.new).taken ≤ 2 ^ 24 }
+    ensures read_fault_told { result ≡ Err Stop.ReadFault → (bytes : List ℕ) → Holds (F.state shelf.old) page.now bytes
+        → HasTold decoder.old.desk.order (items (take (F.state shelf.new).taken bytes)) (T.state sink.old) (T.state sink.new) (G.state glass.old) (G.state glass.new) }
+
+    ensures too_long { result ≡ Err Stop.TooLong → 2 ^ 24 < (F.state shelf.new).taken }
+    ensures too_long_told { result ≡ Err Stop.TooLong → (bytes : List ℕ) → Holds (F.state shelf.old) page.now bytes
+        → HasTold decoder.old.desk.order (items (take (2 ^ 24) bytes)) (T.state sink.old) (T.state sink.new) (G.state glass.old) (G.state glass.new) }
+
+    ensures write_fault { result ≡ Err Stop.WriteFault → Rose (T.state sink.old).faults (T.state sink.new).faults }
+{
+    if shelf.select(page).is_err() {
+        return Err(Stop::ReadFault);
+    }
+    read_page(decoder, shelf, sink, glass, steps)?;
+    if sink.flush().is_err() {
+        return Err(Stop::WriteFault);
+    }
+    Ok(decoder.desk.refused)
+}
+
+/// Runs the program on its words, those after the program's name, over a shelf, a sink and a glass.
+///
+/// `changes PAGE` applies the commands of the page one after the other. Behind each, the cells that it changed are painted
+/// on the glass, and their lines are put; a refused item puts its line and changes nothing.
+pub fn run<F: Shelf, T: Sink, G: Glass>(
+    alloc: Global,
+    words: &Vec<String>,
+    shelf: &mut F,
+    sink: &mut T,
+    glass: &mut G,
+) -> Status
+    // A page read to its end: the whole report, in whatever pieces the shelf gives the page and the sink takes the text.
+    ensures reports { IsWhole result → (form : Form) (page : List ℕ) → form_of (map string_bytes words.now.items) ≡ Some form
+        → Holds (F.state shelf.old) form.page page
+        → Reports form page (T.state sink.old) (T.state sink.new) (G.state glass.old) (G.state glass.new) }
+    ensures refusals { IsWhole result → (form : Form) (page : List ℕ) → form_of (map string_bytes words.now.items) ≡ Some form
+        → Holds (F.state shelf.old) form.page page
+        → (result ≡ Status.Refusals) ↔ (has_refusal (closed_items page) ≡ true) }
+    ensures flushed { IsWhole result → (T.state sink.new).unflushed ≡ false }
+
+    // Words that are no form, and want of memory, which comes before the page is selected.
+    ensures usage { (result ≡ Status.Usage) ↔ (form_of (map string_bytes words.now.items) ≡ None) }
+    ensures untouched { IsUntouched result
+        → (F.state shelf.new ≡ F.state shelf.old) × (T.state sink.new ≡ T.state sink.old) × (G.state glass.new ≡ G.state glass.old) }
+
+    // A fault is answered only where it rose. Of a page that can't be read on, the bytes taken are told.
+    ensures read_fault { result ≡ Status.ReadFault → Rose (F.state shelf.old).faults (F.state shelf.new).faults }
+    ensures read_fault_told { result ≡ Status.ReadFault → (form : Form) (page : List ℕ) → form_of (map string_bytes words.now.items) ≡ Some form
+        → Holds (F.state shelf.old) form.page page
+        → HasTold form.order (items (take (F.state shelf.new).taken page)) (T.state sink.old) (T.state sink.new) (G.state glass.old) (G.state glass.new) }
+    ensures write_fault { result ≡ Status.WriteFault → Rose (T.state sink.old).faults (T.state sink.new).faults }
+
+    // A page is too long where more than 2^24 bytes of it were taken. Then exactly the first 2^24 are told.
+    ensures too_long { result ≡ Status.TooLong → 2 ^ 24 < (F.state shelf.new).taken }
+    ensures not_too_long { IsWhole result ⊎ (result ≡ Status.ReadFault) → (F.state shelf.new).taken ≤ 2 ^ 24 }
+    ensures too_long_told { result ≡ Status.TooLong → (form : Form) (page : List ℕ) → form_of (map string_bytes words.now.items) ≡ Some form
+        → Holds (F.state shelf.old) form.page page
+        → HasTold form.order (items (take (2 ^ 24) page)) (T.state sink.old) (T.state sink.new) (G.state glass.old) (G.state glass.new) }
+
+    // Only the page is selected, so no other name is missed; the shelf's files stay, and no count of faults falls.
+    ensures missed { (form : Form) → form_of (map string_bytes words.now.items) ≡ Some form
+        → IsSome (bytes_under (F.state shelf.old) form.page) → (F.state shelf.new).missed ≡ (F.state shelf.old).missed }
+    ensures files { KeepsFiles (F.state shelf.old) (F.state shelf.new) }
+    ensures faults { ((F.state shelf.old).faults ≤ (F.state shelf.new).faults) × ((T.state sink.old).faults ≤ (T.state sink.new).faults) }
+{
+    match form_of(words.as_slice()) {
+        None => Status::Usage,
+        Some((order, page)) => match Decoder::new(alloc, order) {
+            Err(_) => Status::NoMemory,
+            Ok(mut decoder) => {
+                let mut steps = Steps::<Brand>::new(Blank::new(1));
+                match tell_page(&mut decoder, page, shelf, sink, glass, &mut steps) {
+                    Ok(refused) => Status::of_whole(refused),
+                    Err(stop) => Status::of_stop(stop),
+                }
+            }
+        },
+    }
+}
