@@ -1,6 +1,6 @@
 -- Every whole unit says something valid and leads to a valid context, and what fits has few bytes.
 use Rattle.std.proofs.Common.{◌≡◌, ℕ, ◌+◌, ◌-◌, ◌*◌, ◌/◌, ◌%◌, ◌^◌, ◌<◌, ◌≤◌, suc, Bool, true, false, not, ◌&&◌, ◌||◌, cond, eqb, ltb, leb, List, [], ◌∷◌, ◌++◌, length, Option, Some, None, refl, subst, arith, rules, ◌⊎◌, inl, inr}
-use Rattle.std.proofs.lemmas.Bool.{and_parts, cases_lt, not-true, leb-true, ltb-true}
+use Rattle.std.proofs.lemmas.Bool.{and_parts, cases_lt, not-true, not-false, leb-true, ltb-true}
 use Rattle.std.proofs.lemmas.Bool.Decides.{nat_tests}
 use Rattle.cept_codes.specs.Command.{IsValidSaid, IsValidForm, IsGraphic, IsC1, IsScreenC1, IsArea}
 use Rattle.cept_codes.specs.Look.{IsValidRgb, is_pattern_size, is_plane_count}
@@ -17,7 +17,7 @@ use Rattle.cept_parser.specs.Bytes.{between, is_plain, is_digit, digit, two_digi
 use Rattle.cept_parser.specs.Controls.{control}
 use Rattle.cept_parser.specs.Escape.{is_c1_final, escape_1, designate, designate_c1, escape_2, full_screen, full_row, designate_drcs, escape_3, escape}
 use Rattle.cept_parser.specs.Csi.{csi_1, csi_2, area, is_area_final, csi_4, csi_1_2, csi_2_1, csi_5, csi_6, csi}
-use Rattle.cept_parser.specs.Units.{position, drcs_parts, drcs_width, drcs_height, drcs_planes, drcs_form, drcs_header, drcs_unit, colour_parts, colour_header, last_place, run_from, colour_start, colour_unit, format_parts, format, service_break, service, service_unit, us_unit}
+use Rattle.cept_parser.specs.Units.{position, drcs_parts, drcs_width, drcs_height, drcs_planes, drcs_form, drcs_header, drcs_unit, colour_parts, colour_header, last_place, run_from, colours_from, colour_start, colour_unit, format_parts, format, service_break, service, service_unit, us_unit}
 use Rattle.cept_parser.specs.Runs.{misplaced, has_six_bits, bit, colour_part, colour, entry, look_up, run_unit, pattern_unit}
 use Rattle.cept_parser.specs.Grammar.{repeat, csi_unit, escape_unit, unit, fits}
 use Rattle.cept_parser.specs.Items.{is_refusal}
@@ -184,7 +184,7 @@ area_rows n m h =
 area_valid : (n m f : ℕ) → IsValidSaid (area n m f)
 unfolding area
 area_valid n m f =
-    each_test Fine (leb 1 n && (leb n m && leb m 24)) (λ h. each_test Fine (eqb f 0x55) (λ _. area_rows n m h) (λ _. area_rows n m h)) (λ _. tt)
+    each_test Fine (not (leb 1 n && (leb n m && leb m 24))) (λ _. tt) (λ h. let r = area_rows n m (not-false _ h) in each_test Fine (eqb f 0x55) (λ _. r) (λ _. r))
 
 csi_valid : (u : List ℕ) → IsValidSaid (csi u)
 unfolding csi csi_1 csi_4 csi_5 csi_1_2 csi_2_1 csi_6
@@ -250,10 +250,15 @@ run_from_valid : (k : ColourKind) (n : ℕ) → leb n (last_place k) ≡ true �
 run_from_valid ColourTable n h = let l = leb-true n 31 h in (omega arith, omega arith)
 run_from_valid LookUpTable n h = let l = leb-true n 3 h in (omega arith, omega arith)
 
+colours_from_valid : (x : Context) (i : ℕ) → IsValidContext x → IsValidClosed (colours_from x i)
+unfolding colours_from
+colours_from_valid x i v =
+    each_test IsValidClosed (leb i (last_place x.kind)) (λ h. let r = run_from_valid x.kind i h in said_valid x (run_from x.kind i) _ v r.0 r.1) (λ _. said_valid x Skip _ v tt tt)
+
 colour_start_valid : (x : Context) (t o : ℕ) → IsValidContext x → IsValidClosed (colour_start x t o)
 unfolding colour_start
 colour_start_valid x t o v =
-    each_test IsValidClosed (is_digit o && leb (two_digits t o) (last_place x.kind)) (λ h. let r = run_from_valid x.kind (two_digits t o) (and_parts _ _ h).1 in said_valid x (run_from x.kind (two_digits t o)) _ v r.0 r.1) (λ _. said_valid x Skip _ v tt tt)
+    each_test IsValidClosed (is_digit o) (λ _. colours_from_valid x (two_digits t o) v) (λ _. said_valid x Skip _ v tt tt)
 
 colour_valid : (x : Context) (u : List ℕ) → IsValidContext x → Valid (colour_unit x u)
 unfolding colour_unit colour_header

@@ -1,5 +1,5 @@
 -- Control sequences: CSI, at most seven bytes 2/0 to 3/15, and a byte 4/0 to 7/15 (ISO 6429; their meanings T/CD 6-1).
-use Rattle.std.specs.Prelude.{ℕ, ◌-◌, Bool, true, false, ◌&&◌, ◌||◌, List, [], ◌∷◌, if◌then◌else◌, ◌==◌, nat_le}
+use Rattle.std.specs.Prelude.{ℕ, ◌-◌, Bool, true, false, not, ◌&&◌, ◌||◌, List, [], ◌∷◌, if◌then◌else◌, ◌==◌, nat_le}
 use Rattle.cept_codes.specs.declared.command.Command.TheVariants as command
 use Rattle.cept_codes.specs.declared.item.Reason.TheVariants.{UnknownCsi, BadParameter}
 use Rattle.cept_codes.specs.declared.item.Said.{Said}
@@ -27,12 +27,12 @@ csi_2 p f =
     if p == 0x32 && f == 0x54 then Says (command.Marked false) else  -- MMT
     Refused UnknownCsi
 
--- CSI n 3/11 m f: a scrolling area is created (5/5) or deleted (5/6)
+-- CSI n 3/11 m f: the scrolling area of rows n to m is created (5/5) or deleted (5/6)
 unfoldable pub area : ℕ → ℕ → ℕ → Said
 area n m f =
-    if nat_le 1 n && (nat_le n m && nat_le m 24) then
-    if f == 0x55 then Says (command.AreaCreate n m) else Says (command.AreaDelete n m)
-    else Refused BadParameter
+    if not (nat_le 1 n && (nat_le n m && nat_le m 24)) then Refused BadParameter else
+    if f == 0x55 then Says (command.AreaCreate n m) else  -- CSA
+    Says (command.AreaDelete n m)  -- DSA
 
 -- the final byte of an area form
 abbrev pub is_area_final : ℕ → Bool

@@ -96,12 +96,17 @@ abbrev pub run_from : ColourKind → ℕ → Mode
 run_from ColourTable i = TableRun i
 run_from LookUpTable i = DclutRun i
 
--- 1F 26 t o, t a digit: colours begin at a place, of two digits
+-- colours begin at a place
+unfoldable pub colours_from : Context → ℕ → Closed
+colours_from x i =
+    if nat_le i (last_place x.kind) then closed x (run_from x.kind i) (Says (command.ColourStart i)) else
+    closed x Skip (Refused BadParameter)
+
+-- 1F 26 t o, t a digit: the place of two digits
 unfoldable pub colour_start : Context → ℕ → ℕ → Closed
 colour_start x t o =
-    if is_digit o && nat_le (two_digits t o) (last_place x.kind) then
-    closed x (run_from x.kind (two_digits t o)) (Says (command.ColourStart (two_digits t o)))
-    else closed x Skip (Refused BadParameter)
+    if is_digit o then colours_from x (two_digits t o) else
+    closed x Skip (Refused BadParameter)
 
 -- 1F 26: colours
 unfoldable pub colour_unit : Context → List ℕ → Option Closed

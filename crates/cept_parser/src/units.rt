@@ -2,7 +2,7 @@ ghost use Rattle.std.specs.Prelude.{◌≡◌, ◌≤◌, ◌<◌, ◌∷◌, []
 ghost use Rattle.cept_parser.specs.Bytes.{is_plain, is_digit, is_empty, begins_plain, with_plain, are_options, are_options_left, with_options};
 ghost use Rattle.cept_parser.specs.Context.{start};
 ghost use Rattle.cept_parser.specs.Fit.{fit_by, behind};
-ghost use Rattle.cept_parser.specs.Units.{position, drcs_parts, drcs_width, drcs_height, drcs_planes, drcs_header, drcs_unit, begins_drcs, colour_parts, colour_header, last_place, run_from, colour_start, colour_unit, begins_colour, format_parts, format, service_break, service, service_unit, begins_service, us_unit, begins_us, header_grows, us_grows};
+ghost use Rattle.cept_parser.specs.Units.{position, drcs_parts, drcs_width, drcs_height, drcs_planes, drcs_header, drcs_unit, begins_drcs, colour_parts, colour_header, last_place, run_from, colours_from, colour_start, colour_unit, begins_colour, format_parts, format, service_break, service, service_unit, begins_service, us_unit, begins_us, header_grows, us_grows};
 
 use crate::bytes::{is_column, is_digit, is_plain, is_row, two_digits};
 use crate::context::{Closed, ColourKind, Context, Mode};
@@ -185,18 +185,29 @@ fn run_from(kind: ColourKind, place: u8) -> Mode
     }
 }
 
+/// Colours begin at a place.
+#[tactic(auto, unfolding(crate::specs::Units::colours_from))]
+fn colours_from(context: &Context, place: u8) -> Closed
+    ensures { result ≡ colours_from context.now place }
+{
+    if place <= last_place(context.kind) {
+        context.closed(
+            run_from(context.kind, place),
+            Said::Command(Command::ColourStart(place)),
+        )
+    } else {
+        context.closed(Mode::Skip, Said::Refused(Reason::BadParameter))
+    }
+}
+
 /// Colours begin at a place of two digits.
 #[tactic(auto, unfolding(crate::specs::Units::colour_start))]
 fn colour_start(context: &Context, tens: u8, ones: u8) -> Closed
     requires { is_digit tens ≡ true }
     ensures { result ≡ colour_start context.now tens ones }
 {
-    if is_digit(ones) && two_digits(tens, ones) <= last_place(context.kind) {
-        let place = two_digits(tens, ones);
-        context.closed(
-            run_from(context.kind, place),
-            Said::Command(Command::ColourStart(place)),
-        )
+    if is_digit(ones) {
+        colours_from(context, two_digits(tens, ones))
     } else {
         context.closed(Mode::Skip, Said::Refused(Reason::BadParameter))
     }
