@@ -118,12 +118,3 @@ open_small x u h e = fits_small x u h
 -- a refused shape has at most ten bytes
 pub refused_small : (x : Context) (u : List ℕ) (o : Closed) → unit x u ≡ Some o → is_refusal o.said ≡ true → length u ≤ 10
 refused_small x u o e r = fits_small x u (whole_fits x u o e)
-
--- a plain byte in mode Text is a sign, and leaves the context as it is
-pub plain_sign : (x : Context) (a : ℕ) → x.mode ≡ Text → is_plain a ≡ true → unit x (a ∷ []) ≡ Some (record { said = Says (Graphic a); next = x })
-unfolding unit run_unit
-plain_sign x a t p = rw (p, t) refl
-
-pub plain_ends : (x : Context) (a : ℕ) → x.mode ≡ Text → is_plain a ≡ true → grows x (a ∷ []) ≡ false
-unfolding grows run_grows
-plain_ends x a t p = rw (p, t) refl

@@ -1,4 +1,4 @@
-ghost use Rattle.std.specs.Prelude.{◌≡◌, ◌↔◌, IsTrue};
+ghost use Rattle.std.specs.Prelude.{◌≡◌};
 
 use cept_codes::{Form, Said};
 
@@ -15,15 +15,6 @@ pub enum Mode {
     DrcsRun(u8),
     /// Bytes that are passed over.
     Skip,
-}
-
-impl Mode {
-    /// Plain bytes are signs.
-    pub(crate) fn is_text(self) -> bool
-        ensures { IsTrue result ↔ (self ≡ Mode.Text) }
-    {
-        matches!(self, Mode::Text)
-    }
 }
 
 /// What colour units define: entries of the colour table, or the look-up table of downloaded patterns (DCLUT).

@@ -1,6 +1,6 @@
-ghost use Rattle.std.specs.Prelude.{◌≡◌, ◌≤◌, ◌<◌, Option, None, ◌∷◌, List, [], true, false, length};
+ghost use Rattle.std.specs.Prelude.{◌≡◌, ◌≤◌, ◌<◌, Option, None, Some, IfSome, OnSome, ◌∷◌, List, [], true, false, length};
 ghost use Rattle.cept_parser.specs.Bytes.{between, is_plain, is_empty, closed, complete, begins_plain, with_plain, begins_sequence, is_sequence};
-ghost use Rattle.cept_parser.specs.Grammar.{repeat, csi_unit, escape_unit, begins_escape, unit, fits};
+ghost use Rattle.cept_parser.specs.Grammar.{repeat, csi_unit, escape_unit, begins_escape, unit, fits, grows};
 ghost use Rattle.cept_parser.specs.Fit.{fit, fit_by, extent_by, behind};
 ghost use Rattle.cept_parser.specs.Waits.{cut};
 
@@ -167,6 +167,27 @@ pub fn fit_of(context: &Context, bytes: &[u8]) -> Fit
     match bytes {
         [] => Fit::Open,
         [byte, rest @ ..] => fit_behind(context, *byte, rest),
+    }
+}
+
+/// What a byte says that is a whole unit or refused shape without asking for a run: a sign, a byte that is passed over, or
+/// a control that begins no longer unit.
+#[tactic(auto, unfolding(crate::specs::Grammar::unit, crate::specs::Grammar::grows, crate::specs::Runs::run_unit, crate::specs::Runs::run_grows))]
+pub fn alone(context: &Context, byte: u8) -> Option<Closed>
+    ensures whole { IfSome result (λ o. unit context.now (byte ∷ []) ≡ Some o) }
+    ensures end { OnSome result (grows context.now (byte ∷ []) ≡ false) }
+{
+    match byte {
+        0x20..=0x7F => match context.mode {
+            Mode::Text => Some(context.closed(Mode::Text, Said::Command(Command::Graphic(byte)))),
+            Mode::Skip => Some(context.closed(Mode::Skip, Said::Command(Command::Skipped))),
+            _ => None,
+        },
+        0x12 => None,
+        0x1B => None,
+        0x9B => None,
+        0x1F => None,
+        _ => Some(context.closed(Mode::Text, control(byte))),
     }
 }
 
