@@ -1,6 +1,6 @@
 use crate::command::Command;
 
-/// Why bytes are refused. The reasons are numbered 1 to 8 in this order.
+/// Why bytes are refused. The reasons are numbered 1 to 7 in this order.
 #[derive(Clone, Copy, Debug, PartialEq, Eq)]
 pub enum Reason {
     UnassignedControl,
@@ -10,7 +10,6 @@ pub enum Reason {
     BadParameter,
     Interrupted,
     Truncated,
-    NotBuilt,
 }
 
 /// What an item says: a command, or that its bytes are refused.

@@ -1,51 +1,23 @@
--- The laws of the grammar on which the theory of items stands.
-use Rattle.std.proofs.Common.{◌≡◌, ℕ, ◌≤◌, suc, Bool, true, false, ◌&&◌, cond, eqb, List, [], ◌∷◌, ◌++◌, length, Option, Some, None, refl, sym, ap, arith}
-use Rattle.std.proofs.lemmas.Bool.{and_parts, and_from, and_right, both_ways}
+-- The laws of the grammar. The theory of items stands on these alone.
+use Rattle.std.proofs.Common.{◌≡◌, ℕ, zero, suc, ◌+◌, ◌<◌, ◌≤◌, Bool, true, false, ◌&&◌, cond, eqb, List, [], ◌∷◌, ◌++◌, length, Option, Some, None, refl, sym, ap, ◌∙◌, subst, arith, ◌⊎◌, inl, inr}
+use Rattle.std.proofs.lemmas.Bool.{eqb-true, ne_eqb}
+use Rattle.std.proofs.lemmas.List.{length-append, append_assoc, append-nil}
 use Rattle.cept_codes.specs.declared.command.Command.TheVariants.{Graphic}
 use Rattle.cept_codes.specs.declared.item.Said.TheVariants.{Command as Says}
-use Rattle.cept_parser.specs.declared.context.Mode.TheVariants.{Text}
+use Rattle.cept_parser.specs.declared.context.Mode.{Mode}
+use Rattle.cept_parser.specs.declared.context.Mode.TheVariants.{Text, TableRun, DclutRun, DrcsRun, Skip}
 use Rattle.cept_parser.specs.declared.context.Context.{Context}
-use Rattle.cept_parser.specs.Context.{with_mode}
 use Rattle.cept_parser.specs.declared.context.Closed.{Closed}
-use Rattle.cept_codes.specs.declared.item.Said.{Said}
-use Rattle.cept_parser.specs.Grammar.{is_plain, is_row, is_column, is_empty, alone, unit, position_unit, begins_position, fits, grows}
+use Rattle.cept_parser.specs.Context.{with_mode}
+use Rattle.cept_parser.specs.Bytes.{is_plain, begins_sequence}
+use Rattle.cept_parser.specs.Units.{begins_us, us_grows}
+use Rattle.cept_parser.specs.Runs.{run_unit, begins_run, begins_pattern, run_grows}
+use Rattle.cept_parser.specs.Grammar.{begins_escape, unit, fits, grows}
 use Rattle.cept_parser.specs.Items.{is_refusal}
-use Rattle.cept_parser.proofs.Choices.{same_test, each_test}
-
--- what fits with a byte more fits
-abbrev Needs : Bool → Bool → Type 0
-Needs longer shorter = longer ≡ true → shorter ≡ true
-
--- what is whole fits
-abbrev Tells : Option Closed → Bool → Type 0
-Tells whole fit = (o : Closed) → whole ≡ Some o → fit ≡ true
-
--- what is whole doesn't fit with a byte more
-abbrev Ends : Option Closed → Bool → Type 0
-Ends whole longer = (o : Closed) → whole ≡ Some o → longer ≡ false
-
--- what fits is short
-abbrev Short : ℕ → Bool → Type 0
-Short n fit = fit ≡ true → n ≤ 10
-
-empty_front : (u : List ℕ) (c : ℕ) → Needs (is_empty (u ++ c ∷ [])) (is_empty u)
-empty_front [] c h = refl
-empty_front (a ∷ u) c h = h
-
-position_front : (u : List ℕ) (c : ℕ) → Needs (begins_position (u ++ c ∷ [])) (begins_position u)
-unfolding begins_position
-position_front [] c h = refl
-position_front (r ∷ []) c h = (and_parts _ _ (and_parts _ _ h).0).0
-position_front (r ∷ d ∷ u) c h =
-    let p = and_parts (is_row r && is_column d) (is_empty (u ++ c ∷ [])) h in
-    and_from _ _ p.0 (empty_front u c p.1)
-
--- what fits also fits without its last byte
-pub fits_front : (x : Context) (u : List ℕ) (c : ℕ) → fits x (u ++ c ∷ []) ≡ true → fits x u ≡ true
-unfolding fits
-fits_front x [] c h = refl
-fits_front x (a ∷ u) c h =
-    same_test Needs (is_plain a) _ _ _ _ (λ _. empty_front u c) (λ _. same_test Needs (eqb a 0x1F) _ _ _ _ (λ _. position_front u c) (λ _. empty_front u c)) h
+use Rattle.cept_parser.specs.Beginning.{IsCommandUnit}
+use Rattle.cept_parser.proofs.Choices.{each_test}
+use Rattle.cept_parser.proofs.Links.{IsCommand, Links, links_test, complete_links, first_links, plain_links, Closes, closes_test, none_closes, complete_closes, plain_closes, Short, empty_short, plain_short, sequence_short}
+use Rattle.cept_parser.proofs.UnitLaws.{us_links, csi_links, escape_links, run_links, us_closes, csi_closes, escape_closes, run_closes, us_short, escape_short, run_short}
 
 -- no bytes fit
 pub fits_none : (x : Context) → fits x [] ≡ true
@@ -57,83 +29,92 @@ pub unit_none : (x : Context) → unit x [] ≡ None
 unfolding unit
 unit_none x = refl
 
+abbrev Yes : Bool → Type 0
+Yes b = b ≡ true
+
+run_one : (m : Mode) (x : Context) (a : ℕ) → Yes (begins_run m x a [])
+unfolding begins_run begins_pattern
+run_one Text x a = refl
+run_one Skip x a = refl
+run_one (TableRun i) x a = each_test Yes _ (λ _. refl) (λ _. refl)
+run_one (DclutRun i) x a = refl
+run_one (DrcsRun c) x a = refl
+
 -- every single byte fits
 pub fits_one : (x : Context) (c : ℕ) → fits x (c ∷ []) ≡ true
-unfolding fits begins_position
-fits_one x c = each_test (λ (b : Bool). b ≡ true) (is_plain c) _ _ (λ _. refl) (λ _. each_test (λ (b : Bool). b ≡ true) (eqb c 0x1F) _ _ (λ _. refl) (λ _. refl))
+unfolding fits begins_escape begins_us begins_sequence
+fits_one x c =
+    each_test Yes (is_plain c) (λ _. run_one x.mode x c) (λ _. each_test Yes (eqb c 0x12) (λ _. refl) (λ _. each_test Yes (eqb c 0x1B) (λ _. refl) (λ _. each_test Yes (eqb c 0x9B) (λ _. refl) (λ _. each_test Yes (eqb c 0x1F) (λ _. refl) (λ _. refl)))))
 
-alone_fits : (x : Context) (s : Said) (u : List ℕ) → Tells (alone x s u) (is_empty u)
-alone_fits x s [] o h = refl
-alone_fits x s (a ∷ u) o h = absurd cc
+links : (x : Context) (u : List ℕ) (c : ℕ) → Links c (unit x u) (fits x u) (unit x (u ++ c ∷ [])) (fits x (u ++ c ∷ []))
+unfolding unit fits
+links x [] c = first_links c _ _ (λ _. fits_one x c)
+links x (a ∷ u) c =
+    links_test c (is_plain a) (λ _. run_links x.mode x a u c) (λ _. links_test c (eqb a 0x12) (λ _. plain_links u c _) (λ _. links_test c (eqb a 0x1B) (λ _. escape_links x u c) (λ _. links_test c (eqb a 0x9B) (λ _. csi_links x u c) (λ _. links_test c (eqb a 0x1F) (λ _. us_links x u c) (λ _. complete_links u c _ _)))))
 
-position_fits : (x : Context) (u : List ℕ) → Tells (position_unit x u) (begins_position u)
-unfolding position_unit begins_position
-position_fits x [] o h = absurd cc
-position_fits x (r ∷ []) o h = absurd cc
-position_fits x (r ∷ c ∷ u) o h = position_told (is_row r && is_column c) x _ u o h
-  where
-    position_told : (b : Bool) (x : Context) (s : Said) (u : List ℕ) → Tells (cond b (alone x s u) None) (b && is_empty u)
-    position_told true x s u o h = alone_fits x s u o h
-    position_told false x s u o h = absurd cc
+-- what fits also fits without its last byte
+pub fits_front : (x : Context) (u : List ℕ) (c : ℕ) → fits x (u ++ c ∷ []) ≡ true → fits x u ≡ true
+fits_front x u c = (links x u c).front
 
 -- what is whole fits
 pub whole_fits : (x : Context) (u : List ℕ) (o : Closed) → unit x u ≡ Some o → fits x u ≡ true
+whole_fits x u = (links x u 0).told
+
+-- every plain byte fits behind bytes that fit and are not whole
+pub plain_fits : (x : Context) (u : List ℕ) (c : ℕ) → is_plain c ≡ true → fits x u ≡ true → unit x u ≡ None → fits x (u ++ c ∷ []) ≡ true
+plain_fits x u c = (links x u c).opens
+
+-- a byte that fits behind a whole unit makes a whole unit again
+pub whole_again : (x : Context) (u : List ℕ) (c : ℕ) (o : Closed) → unit x u ≡ Some o → fits x (u ++ c ∷ []) ≡ true → IsCommandUnit x (u ++ c ∷ [])
+whole_again x u c o e h =
+    let a = (links x u c).again o e h in
+    record { whole = a.whole; is = a.is; command = a.command }
+
+pub grows_run : (x : Context) (a : ℕ) (u : List ℕ) → is_plain a ≡ true → grows x (a ∷ u) ≡ run_grows x.mode x a u
+unfolding grows
+grows_run x a u p = rw p refl
+
+pub grows_us : (x : Context) (a : ℕ) (u : List ℕ) → is_plain a ≡ false → eqb a 0x1F ≡ true → grows x (a ∷ u) ≡ us_grows u
+unfolding grows
+grows_us x a u p e = rw (p, e) refl
+
+pub grows_other : (x : Context) (a : ℕ) (u : List ℕ) → is_plain a ≡ false → eqb a 0x1F ≡ false → grows x (a ∷ u) ≡ false
+unfolding grows
+grows_other x a u p e = rw (p, e) refl
+
+-- a byte that is another doesn't begin a unit of US
+other_byte : (a b : ℕ) → (b ≡ 0x1F → ⊥) → eqb a b ≡ true → eqb a 0x1F ≡ false
+other_byte a b n e = let s : a ≡ b = eqb-true a b e in ne_eqb a 0x1F (λ q. n (sym s ∙ q))
+
+closes_at : {o : Option Closed} {g h f' : Bool} → g ≡ h → Closes o h f' → Closes o g f'
+closes_at {o} {g} {h} {f'} e c = subst (λ (b : Bool). Closes o b f') (sym e) c
+
+closes : (x : Context) (u : List ℕ) (c : ℕ) → Closes (unit x u) (grows x u) (fits x (u ++ c ∷ []))
 unfolding unit fits
-whole_fits x [] o h = refl
-whole_fits x (a ∷ u) o h =
-    same_test Tells (is_plain a) _ _ _ _ (λ _. alone_fits x _ u) (λ _. same_test Tells (eqb a 0x1F) _ _ _ _ (λ _. position_fits x u) (λ _. alone_fits x _ u)) o h
-
-alone_ends : (x : Context) (s : Said) (u : List ℕ) (c : ℕ) → Ends (alone x s u) (is_empty (u ++ c ∷ []))
-alone_ends x s [] c o h = refl
-alone_ends x s (a ∷ u) c o h = refl
-
-position_ends : (x : Context) (u : List ℕ) (c : ℕ) → Ends (position_unit x u) (begins_position (u ++ c ∷ []))
-unfolding position_unit begins_position
-position_ends x [] c o h = absurd cc
-position_ends x (r ∷ []) c o h = absurd cc
-position_ends x (r ∷ d ∷ u) c o h = and_right (is_row r && is_column d) _ (empty_more u c)
-  where
-    empty_more : (u : List ℕ) (c : ℕ) → is_empty (u ++ c ∷ []) ≡ false
-    empty_more [] c = refl
-    empty_more (a ∷ u) c = refl
+closes x [] c = none_closes _ _
+closes x (a ∷ u) c =
+    closes_test _ (is_plain a) (λ p. closes_at (grows_run x a u p) (run_closes x.mode x a u c)) (λ n. closes_test _ (eqb a 0x12) (λ e. closes_at (grows_other x a u n (other_byte a 0x12 (λ q. omega arith) e)) (plain_closes u c _)) (λ _. closes_test _ (eqb a 0x1B) (λ e. closes_at (grows_other x a u n (other_byte a 0x1B (λ q. omega arith) e)) (escape_closes x u c)) (λ _. closes_test _ (eqb a 0x9B) (λ e. closes_at (grows_other x a u n (other_byte a 0x9B (λ q. omega arith) e)) (csi_closes x u c)) (λ _. closes_test _ (eqb a 0x1F) (λ e. closes_at (grows_us x a u n e) (us_closes x u c)) (λ e. closes_at (grows_other x a u n e) (complete_closes u c _))))))
 
 -- behind a whole unit that doesn't grow no byte fits
 pub whole_ends : (x : Context) (u : List ℕ) (o : Closed) (c : ℕ) → unit x u ≡ Some o → grows x u ≡ false → fits x (u ++ c ∷ []) ≡ false
-unfolding unit fits
-whole_ends x [] o c h g = absurd cc
-whole_ends x (a ∷ u) o c h g =
-    same_test Ends (is_plain a) _ _ _ _ (λ _. alone_ends x _ u c) (λ _. same_test Ends (eqb a 0x1F) _ _ _ _ (λ _. position_ends x u c) (λ _. alone_ends x _ u c)) o h
+whole_ends x u o c = (closes x u c).end o
 
 -- a refused shape doesn't grow
 pub refused_ends : (x : Context) (u : List ℕ) (o : Closed) → unit x u ≡ Some o → is_refusal o.said ≡ true → grows x u ≡ false
-unfolding grows
-refused_ends x u o h r = refl
+refused_ends x u = (closes x u 0).kept
 
-empty_small : (u : List ℕ) → Short (suc (length u)) (is_empty u)
-empty_small [] h = omega arith
-empty_small (a ∷ u) h = absurd cc
-
-position_small : (u : List ℕ) → Short (suc (length u)) (begins_position u)
-unfolding begins_position
-position_small [] h = omega arith
-position_small (r ∷ []) h = omega arith
-position_small (r ∷ c ∷ []) h = omega arith
-position_small (r ∷ c ∷ a ∷ u) h = absurd (both_ways false refl (and_parts (is_row r && is_column c) false h).1)
-
--- what fits has at most ten bytes
+-- what fits has at most ten bytes, as long as there are no patterns
 pub fits_small : (x : Context) (u : List ℕ) → fits x u ≡ true → length u ≤ 10
 unfolding fits
 fits_small x [] h = omega arith
 fits_small x (a ∷ u) h =
-    each_test (Short (suc (length u))) (is_plain a) _ _ (λ _. empty_small u) (λ _. each_test (Short (suc (length u))) (eqb a 0x1F) _ _ (λ _. position_small u) (λ _. empty_small u)) h
+    let P : Bool → Type 0 = λ f. f ≡ true → suc (length u) ≤ 10 in
+    each_test P (is_plain a) (λ _ e. let s = run_short x.mode x a u e in omega arith) (λ _. each_test P (eqb a 0x12) (λ _ e. let s = plain_short u e in omega arith) (λ _. each_test P (eqb a 0x1B) (λ _ e. let s = escape_short u e in omega arith) (λ _. each_test P (eqb a 0x9B) (λ _ e. let s = sequence_short 0x40 7 u e in omega arith) (λ _. each_test P (eqb a 0x1F) (λ _ e. let s = us_short u e in omega arith) (λ _ e. let s = empty_short u e in omega arith))))) h
 
--- a plain byte in mode Text is a sign, and leaves the context as it is
-pub plain_sign : (x : Context) (a : ℕ) → x.mode ≡ Text → is_plain a ≡ true → unit x (a ∷ []) ≡ Some (record { said = Says (Graphic a); next = x })
-unfolding unit
-plain_sign x a t p =
-    let same : with_mode x Text ≡ with_mode x x.mode = ap (with_mode x) (sym t) in
-    rw p (ap (λ (y : Context). Some (record { said = Says (Graphic a); next = y })) same)
+-- what fits and isn't whole has at most ten bytes
+pub open_small : (x : Context) (u : List ℕ) → fits x u ≡ true → unit x u ≡ None → length u ≤ 10
+open_small x u h e = fits_small x u h
 
-pub plain_ends : (x : Context) (a : ℕ) → x.mode ≡ Text → is_plain a ≡ true → grows x (a ∷ []) ≡ false
-unfolding grows
-plain_ends x a t p = refl
+-- a refused shape has at most ten bytes
+pub refused_small : (x : Context) (u : List ℕ) (o : Closed) → unit x u ≡ Some o → is_refusal o.said ≡ true → length u ≤ 10
+refused_small x u o e r = fits_small x u (whole_fits x u o e)

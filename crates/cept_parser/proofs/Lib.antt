@@ -1,8 +1,13 @@
 pub mod Choices
+pub mod Links
+pub mod UnitLaws
 pub mod GrammarLaws
 pub mod ValidLaws
+pub mod Beginnings
 pub mod Longest
 pub mod Going
 pub mod Steps
 pub mod Sound
 pub mod Waiting
+pub mod Parts
+pub mod Sequences

@@ -10,7 +10,8 @@ use Rattle.cept_parser.specs.Grammar.{unit, fits, grows}
 use Rattle.cept_parser.specs.Items.{is_refusal, longest, Front, front_of, front, Reading, read, said_at_end}
 use Rattle.cept_parser.specs.Valid.{IsValidContext, AreBytes, greatest_length, AreValid, AreMeasured}
 use Rattle.cept_parser.specs.Waits.{cut}
-use Rattle.cept_parser.proofs.ValidLaws.{IsValidClosed, text_valid, unit_valid, fits_hundred, open_small, refused_small}
+use Rattle.cept_parser.proofs.GrammarLaws.{open_small, refused_small}
+use Rattle.cept_parser.proofs.ValidLaws.{IsValidClosed, text_valid, unit_valid, fits_hundred}
 use Rattle.cept_parser.proofs.Longest.{longest_is, front_is, front_within, front_none}
 use Rattle.cept_parser.proofs.Going.{read_none, read_step, cases_front, rest_within}
 
@@ -37,7 +38,7 @@ said_measured : (s : Said) (n : ℕ) → n ≤ 100 → (is_refusal s ≡ true �
 said_measured (Says c) n h r = h
 said_measured (Refused e) n h r = r refl
 
-cases_closed : (w : Option Closed) → (w ≡ None) ⊎ ((o : Closed) × (w ≡ Some o))
+pub cases_closed : (w : Option Closed) → (w ≡ None) ⊎ ((o : Closed) × (w ≡ Some o))
 cases_closed None = inl refl
 cases_closed (Some o) = inr (o, refl)
 

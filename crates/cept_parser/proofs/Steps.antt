@@ -27,7 +27,7 @@ read_whole x at u o e =
     read_step x at u _ e ∙ ap (λ (v : List ℕ). before (record { at = at; len = length u; what = o.said } ∷ []) (read o.next (at + length u) v)) (drop_all (length u) u (omega arith)) ∙ ap (before (record { at = at; len = length u; what = o.said } ∷ [])) (read_nil o.next (at + length u))
 
 -- a command or a refusal that nothing continues is an item at once
-closes_now : (x : Context) (n : ℕ) (all : Bool) (o : Closed) → front_of x n all false (Some o) ≡ Some (record { said = o.said; size = n; next = o.next })
+pub closes_now : (x : Context) (n : ℕ) (all : Bool) (o : Closed) → front_of x n all false (Some o) ≡ Some (record { said = o.said; size = n; next = o.next })
 unfolding front_of
 closes_now x n true o = closes_go (is_refusal o.said) _
   where
@@ -120,3 +120,24 @@ fit_says_by true false (Some o) h = refl
 
 pub fit_says : (x : Context) (u : List ℕ) (w : Fit) → fits x u ≡ true → w ≡ fit x u → fit_said w ≡ said_at_end (unit x u)
 fit_says x u w h e = ap fit_said e ∙ fit_says_by (fits x u) (grows x u) (unit x u) h
+
+-- bytes fit where the word for how they stand isn't misfit
+pub fits_unless : (x : Context) (u s : List ℕ) (w : Fit) → s ≡ u → w ≡ fit x s → (w ≡ Misfit → ⊥) → fits x u ≡ true
+fits_unless x u s w e f n = go (fits x u) (f ∙ ap (fit x) e)
+  where
+    go : (b : Bool) → w ≡ fit_by b (grows x u) (unit x u) → b ≡ true
+    go true h = refl
+    go false h = absurd (n h)
+
+-- bytes don't fit where it is
+pub fits_not : (x : Context) (u s : List ℕ) (w : Fit) → s ≡ u → w ≡ fit x s → w ≡ Misfit → fits x u ≡ false
+fits_not x u s w e f m = go (fits x u) (unit x u) (sym m ∙ f ∙ ap (fit x) e)
+  where
+    go : (b : Bool) (o : Option Closed) → Misfit ≡ fit_by b (grows x u) o → b ≡ false
+    go false o h = refl
+    go true None h = absurd cc
+    go true (Some o) h = absurd (go_more (grows x u) o h)
+      where
+        go_more : (g : Bool) (o : Closed) → Misfit ≡ cond g (Longer o) (Whole o) → ⊥
+        go_more true o h = cc
+        go_more false o h = cc

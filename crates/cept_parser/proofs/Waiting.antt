@@ -1,22 +1,31 @@
 -- Bytes that wait.
-use Rattle.std.proofs.Common.{◌≡◌, ℕ, ◌+◌, ◌-◌, ◌<◌, ◌≤◌, suc, true, false, eqb, List, [], ◌∷◌, ◌++◌, length, refl, sym, ap, ◌∙◌, arith}
+use Rattle.std.proofs.Common.{◌≡◌, ℕ, ◌+◌, ◌-◌, ◌<◌, ◌≤◌, suc, Bool, true, false, eqb, Some, None, ◌⊎◌, inl, inr, subst, List, [], ◌∷◌, ◌++◌, length, refl, sym, ap, ◌∙◌, arith}
 use Rattle.std.proofs.lemmas.List.{length-append}
-use Rattle.std.proofs.lemmas.Bool.{eqb-true, eqb-false}
-use Rattle.cept_codes.specs.declared.command.Command.TheVariants.{Graphic}
-use Rattle.cept_codes.specs.declared.item.Said.TheVariants.{Command as Says}
+use Rattle.std.proofs.lemmas.Bool.{eqb-true, eqb-false, cases_Bool}
+use Rattle.cept_codes.specs.declared.item.Said.{Said}
+use Rattle.cept_codes.specs.declared.item.Said.TheVariants.{Command as Says, Refused}
+use Rattle.cept_codes.specs.Command.{IsValidSaid}
 use Rattle.cept_parser.specs.declared.context.Context.{Context}
+use Rattle.cept_parser.specs.declared.context.Closed.{Closed}
 use Rattle.cept_parser.specs.Context.{start}
-use Rattle.cept_parser.specs.Grammar.{is_plain, is_empty, unit}
-use Rattle.cept_parser.specs.Items.{Reading, before, waiting, read, reading, items, closing, said_at_end}
-use Rattle.cept_parser.specs.State.{ParserState, Leads, IsIdle, reading_with, state_after, pending_reading}
-use Rattle.cept_parser.specs.Valid.{AreValid, AreMeasured}
+use Rattle.cept_parser.specs.Bytes.{is_plain, is_empty}
+use Rattle.cept_parser.specs.Grammar.{unit, fits, grows}
+use Rattle.cept_parser.specs.Items.{front_of, front, Reading, before, waiting, read, reading, items, closing, said_at_end}
+use Rattle.cept_parser.specs.State.{ParserState, Leads, reading_with, state_after, pending_reading}
+use Rattle.cept_parser.specs.Beginning.{IsContinued}
+use Rattle.cept_parser.specs.Valid.{greatest_length, IsMeasured, AreValid, AreMeasured}
 use Rattle.cept_parser.specs.Waits.{Waits}
-use Rattle.cept_parser.proofs.GrammarLaws.{fits_small, fits_one, plain_sign, plain_ends}
-use Rattle.cept_parser.proofs.ValidLaws.{start_valid}
-use Rattle.cept_parser.proofs.Longest.{waits_fits, front_none}
+use Rattle.cept_parser.proofs.GrammarLaws.{fits_one, plain_fits}
+use Rattle.cept_parser.proofs.ValidLaws.{start_valid, unit_valid, fits_hundred}
+use Rattle.cept_parser.proofs.Beginnings.{grows_continued}
+use Rattle.cept_parser.proofs.Longest.{waits_fits, front_none, front_fitting}
 use Rattle.cept_parser.proofs.Going.{read_append, read_place, read_waits}
-use Rattle.cept_parser.proofs.Steps.{read_nil, read_unit}
-use Rattle.cept_parser.proofs.Sound.{read_sound, bytes_more, end_sound}
+use Rattle.cept_parser.proofs.Steps.{read_nil, read_unit, closes_now}
+use Rattle.cept_parser.proofs.Sound.{read_sound, bytes_more, end_sound, cases_closed}
+
+one_measured : (s : Said) → 1 ≤ greatest_length s
+one_measured (Says c) = omega arith
+one_measured (Refused r) = omega arith
 
 empty_length : (p : List ℕ) → eqb (length p) 0 ≡ true → is_empty p ≡ true
 empty_length [] e = refl
@@ -29,9 +38,28 @@ some_length : (p : List ℕ) → eqb (length p) 0 ≡ false → is_empty p ≡ f
 some_length [] e = absurd (eqb-false 0 0 e refl)
 some_length (a ∷ p) e = refl
 
+waits_open : (x : Context) (p : List ℕ) → fits x p ≡ true → unit x p ≡ None → IsContinued x p
+waits_open x p h e = record { byte = 0x7F; small = omega arith; fit = plain_fits x p 0x7F refl h e }
+
+waits_whole : (x : Context) (p : List ℕ) (o : Closed) → front x p ≡ None → fits x p ≡ true → unit x p ≡ Some o → IsContinued x p
+waits_whole x p o w h e =
+    let closes : grows x p ≡ false → front x p ≡ Some (record { said = o.said; size = length p; next = o.next }) = λ g.
+    front_fitting x p h ∙ ap (λ (b : Bool). front_of x (length p) true b (unit x p)) g ∙ ap (front_of x (length p) true false) e ∙ closes_now x (length p) true o in
+    let never : grows x p ≡ false → IsContinued x p = λ g. let s = closes g in absurd cc in
+    elim (cases_Bool (grows x p)) [ inl g ↦ grows_continued x p o e g | inr g ↦ never g ]
+
+-- a byte fits behind bytes that wait
+pub waits_continued : (x : Context) (p : List ℕ) → front x p ≡ None → IsContinued x p
+waits_continued x p w =
+    let h = waits_fits x p w in
+    elim (cases_closed (unit x p)) [ inl e ↦ waits_open x p h e | inr q ↦ waits_whole x p q.0 w h q.1 ]
+
 -- bytes that wait are at most 99
 pub waits_small : (x : Context) (place : ℕ) (p : List ℕ) → Waits x place p → length p ≤ 99
-waits_small x place p w = omega (arith, fits_small x p (waits_fits x p w.waits))
+waits_small x place p w =
+    let c = waits_continued x p w.waits in
+    let h : length (p ++ c.byte ∷ []) ≤ 100 = fits_hundred x (p ++ c.byte ∷ []) w.context c.fit in
+    omega (arith, length-append p (c.byte ∷ []))
 
 -- no bytes wait
 pub none_waits : Waits start 0 []
@@ -103,17 +131,28 @@ closing_leads b s l =
     let by = λ (y : Context) (n : ℕ) (q : List ℕ). closing (record { items = []; context = y; at = n; pending = q }) in
     sym (ap (λ (y : Context). by y (s.place - length s.pending) s.pending) l.context ∙ ap (λ (n : ℕ). by (reading b).context n s.pending) at ∙ ap (λ (q : List ℕ). by (reading b).context (reading b).at q) l.pending)
 
--- a plain byte where nothing is pending and plain bytes are signs
-pub sign_reading : (s : ParserState) (byte : ℕ) → IsIdle s → is_plain byte ≡ true → reading_with s byte ≡ before (record { at = s.place; len = 1; what = Says (Graphic byte) } ∷ []) (waiting s.context (s.place + 1) [])
-sign_reading s byte i p =
-    let u = plain_sign s.context byte i.text p in
-    let one : read s.context s.place (byte ∷ []) ≡ before (record { at = s.place; len = 1; what = Says (Graphic byte) } ∷ []) (read s.context (s.place + 1) []) = read_unit s.context s.place (byte ∷ []) [] _ u (fits_one s.context byte) (plain_ends s.context byte i.text p) in
-    let at : s.place - length s.pending ≡ s.place = rw i.pending (omega arith) in
-    ap (λ (n : ℕ). read s.context n (s.pending ++ byte ∷ [])) at ∙ ap (λ (q : List ℕ). read s.context s.place (q ++ byte ∷ [])) i.pending ∙ one ∙ ap (before (record { at = s.place; len = 1; what = Says (Graphic byte) } ∷ [])) (read_nil s.context (s.place + 1))
+-- a byte that is a whole unit or refused shape, where nothing is pending
+pub alone_reading : (s : ParserState) (byte : ℕ) (o : Closed) → s.pending ≡ [] → unit s.context (byte ∷ []) ≡ Some o → grows s.context (byte ∷ []) ≡ false → reading_with s byte ≡ before (record { at = s.place; len = 1; what = o.said } ∷ []) (waiting o.next (s.place + 1) [])
+alone_reading s byte o i u g =
+    let one : read s.context s.place (byte ∷ []) ≡ before (record { at = s.place; len = 1; what = o.said } ∷ []) (read o.next (s.place + 1) []) = read_unit s.context s.place (byte ∷ []) [] o u (fits_one s.context byte) g in
+    let at : s.place - length s.pending ≡ s.place = rw i (omega arith) in
+    ap (λ (n : ℕ). read s.context n (s.pending ++ byte ∷ [])) at ∙ ap (λ (q : List ℕ). read s.context s.place (q ++ byte ∷ [])) i ∙ one ∙ ap (before (record { at = s.place; len = 1; what = o.said } ∷ [])) (read_nil o.next (s.place + 1))
 
--- and the state after it
-pub sign_state : (s : ParserState) (byte : ℕ) → IsIdle s → is_plain byte ≡ true → record { place = s.place + 1; context = s.context; pending = s.pending; finished = s.finished } ≡ state_after s byte
-sign_state s byte i p =
+-- the state after it
+pub alone_state : (s : ParserState) (byte : ℕ) (o : Closed) → s.pending ≡ [] → unit s.context (byte ∷ []) ≡ Some o → grows s.context (byte ∷ []) ≡ false → record { place = s.place + 1; context = o.next; pending = s.pending; finished = s.finished } ≡ state_after s byte
+alone_state s byte o i u g =
     let after : Reading → ParserState = λ r. record { place = s.place + 1; context = r.context; pending = r.pending; finished = s.finished } in
-    let left : List ℕ → ParserState = λ q. record { place = s.place + 1; context = s.context; pending = q; finished = s.finished } in
-    ap left i.pending ∙ ap after (sym (sign_reading s byte i p))
+    let left : List ℕ → ParserState = λ q. record { place = s.place + 1; context = o.next; pending = q; finished = s.finished } in
+    ap left i ∙ ap after (sym (alone_reading s byte o i u g))
+
+-- and what waits in it: nothing
+pub alone_waits : (x : Context) (place : ℕ) (p : List ℕ) (byte : ℕ) (o : Closed) → Waits x place p → byte < 256 → p ≡ [] → unit x (byte ∷ []) ≡ Some o → Waits o.next (place + 1) p
+alone_waits x place p byte o w l i u =
+    let v = unit_valid x (byte ∷ []) o w.context (l, tt) u in
+    subst (Waits o.next (place + 1)) (sym i) (record { waits = front_none o.next [] (omega arith); counted = omega arith; context = v.next; bytes = tt })
+
+-- and what it says is valid
+pub alone_sound : (x : Context) (place : ℕ) (p : List ℕ) (byte : ℕ) (o : Closed) → Waits x place p → byte < 256 → unit x (byte ∷ []) ≡ Some o → IsValidSaid o.said × IsMeasured (record { at = place; len = 1; what = o.said })
+alone_sound x place p byte o w l u =
+    let v = unit_valid x (byte ∷ []) o w.context (l, tt) u in
+    (v.said, (omega arith, one_measured o.said))

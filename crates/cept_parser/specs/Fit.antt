@@ -1,9 +1,12 @@
 -- How bytes stand to the grammar, in one word.
-use Rattle.std.specs.Prelude.{ℕ, Bool, true, false, List, if◌then◌else◌, Option, Some, None}
+use Rattle.std.specs.Prelude.{ℕ, Bool, true, false, List, [], ◌∷◌, if◌then◌else◌, Option, Some, None}
 use Rattle.cept_parser.specs.declared.context.Context.{Context}
 use Rattle.cept_parser.specs.declared.context.Closed.{Closed}
+use Rattle.cept_parser.specs.declared.fit.Extent.{Extent}
+use Rattle.cept_parser.specs.declared.fit.Extent.TheVariants.{Beyond, Within, Full}
 use Rattle.cept_parser.specs.declared.fit.Fit.{Fit}
 use Rattle.cept_parser.specs.declared.fit.Fit.TheVariants.{Misfit, Open, Whole, Longer}
+use Rattle.cept_parser.specs.Bytes.{contains}
 use Rattle.cept_parser.specs.Grammar.{unit, fits, grows}
 
 -- the word for bytes that fit or not, grow or not, and wholly are this
@@ -15,3 +18,14 @@ fit_by true more (Some c) = if more then Longer c else Whole c
 -- how these bytes stand to the grammar
 abbrev pub fit : Context → List ℕ → Fit
 fit x u = fit_by (fits x u) (grows x u) (unit x u)
+
+-- the word for bytes that begin a sequence or not, and are a whole one or not
+abbrev pub extent_by : Bool → Bool → Extent
+extent_by false whole = Beyond
+extent_by true false = Within
+extent_by true true = Full
+
+-- the bytes behind an optional part, if it is there
+abbrev pub behind : List ℕ → List ℕ → List ℕ
+behind part [] = []
+behind part (a ∷ u) = if contains part a then u else a ∷ u

@@ -3,14 +3,15 @@ use Rattle.std.specs.Prelude.{ℕ, zero, suc, ◌+◌, Bool, true, false, not, �
 use Rattle.std.specs.List.{flat_map}
 use Rattle.cept_codes.specs.declared.command.Command.{Command}
 use Rattle.cept_codes.specs.declared.item.Item.{Item}
-use Rattle.cept_codes.specs.declared.item.Reason.TheVariants.{Truncated}
+use Rattle.cept_codes.specs.declared.item.Reason.TheVariants.{Interrupted, Truncated}
 use Rattle.cept_codes.specs.declared.item.Said.{Said}
 use Rattle.cept_codes.specs.declared.item.Said.TheVariants.{Command as Says, Refused}
 use Rattle.cept_parser.specs.declared.context.Mode.TheVariants.{Text}
 use Rattle.cept_parser.specs.declared.context.Context.{Context}
 use Rattle.cept_parser.specs.declared.context.Closed.{Closed}
 use Rattle.cept_parser.specs.Context.{start, with_mode}
-use Rattle.cept_parser.specs.Grammar.{unit, fits, grows, is_empty, interruption}
+use Rattle.cept_parser.specs.Grammar.{unit, fits, grows}
+use Rattle.cept_parser.specs.Bytes.{is_empty}
 
 -- the length of the longest beginning that fits, of those of at most n bytes
 unfoldable pub longest_within : Context → List ℕ → ℕ → ℕ
@@ -37,7 +38,7 @@ unfoldable pub front_of : Context → ℕ → Bool → Bool → Option Closed �
 front_of x size all more (Some c) =
     if is_refusal c.said || not (all && more) then Some (record { said = c.said; size = size; next = c.next }) else None
 front_of x size all more None =
-    if all then None else Some (record { said = Refused interruption; size = size; next = with_mode x Text })
+    if all then None else Some (record { said = Refused Interrupted; size = size; next = with_mode x Text })
 
 -- the first item of bytes, none where they wait for more
 unfoldable pub front : Context → List ℕ → Option Front

@@ -1,7 +1,14 @@
 pub mod Context
+pub mod Bytes
+pub mod Controls
+pub mod Escape
+pub mod Csi
+pub mod Units
+pub mod Runs
 pub mod Grammar
 pub mod Items
 pub mod Valid
 pub mod State
+pub mod Beginning
 pub mod Fit
 pub mod Waits

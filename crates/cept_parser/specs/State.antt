@@ -1,6 +1,5 @@
 -- What a parser is: the number of bytes pushed, the context, the bytes that are pending, and whether the input ended.
 use Rattle.std.specs.Prelude.{◌≡◌, ℕ, ◌+◌, ◌-◌, Bool, true, false, List, [], ◌∷◌, ◌++◌, length}
-use Rattle.cept_parser.specs.declared.context.Mode.TheVariants.{Text}
 use Rattle.cept_parser.specs.declared.context.Context.{Context}
 use Rattle.cept_parser.specs.Items.{Reading, read, reading}
 
@@ -35,8 +34,3 @@ pending_reading s =
 -- the state after the end of the input: nothing is pending
 abbrev pub finished_state : ParserState → ParserState
 finished_state s = record { place = s.place; context = s.context; pending = []; finished = true }
-
--- nothing is pending, and plain bytes are signs
-pub record IsIdle (s : ParserState) : Type 0 where
-  pub pending : s.pending ≡ []
-  pub text : s.context.mode ≡ Text

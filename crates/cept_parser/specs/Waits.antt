@@ -1,11 +1,11 @@
 -- Pending bytes of a parser, and what becomes of them where the next byte doesn't fit.
 use Rattle.std.specs.Prelude.{◌≡◌, ℕ, ◌≤◌, List, length, Option, Some, None}
+use Rattle.cept_codes.specs.declared.item.Reason.TheVariants.{Interrupted}
 use Rattle.cept_codes.specs.declared.item.Said.TheVariants.{Refused}
 use Rattle.cept_parser.specs.declared.context.Mode.TheVariants.{Text}
 use Rattle.cept_parser.specs.declared.context.Context.{Context}
 use Rattle.cept_parser.specs.declared.context.Closed.{Closed}
 use Rattle.cept_parser.specs.Context.{with_mode}
-use Rattle.cept_parser.specs.Grammar.{interruption}
 use Rattle.cept_parser.specs.Items.{front}
 use Rattle.cept_parser.specs.Valid.{IsValidContext, AreBytes}
 
@@ -19,4 +19,4 @@ pub record Waits (x : Context) (place : ℕ) (p : List ℕ) : Type 0 where
 -- what bytes say behind which the next byte doesn't fit: what they wholly are, else they are interrupted
 abbrev pub cut : Context → Option Closed → Closed
 cut x (Some c) = c
-cut x None = record { said = Refused interruption; next = with_mode x Text }
+cut x None = record { said = Refused Interrupted; next = with_mode x Text }

@@ -1,4 +1,4 @@
-ghost use Rattle.std.specs.Prelude.{◌≡◌, ◌↔◌, IsTrue};
+ghost use Rattle.std.specs.Prelude.{◌≡◌};
 
 use cept_codes::{Form, Said};
 
@@ -17,15 +17,6 @@ pub enum Mode {
     Skip,
 }
 
-impl Mode {
-    /// Plain bytes are signs.
-    pub(crate) fn is_text(self) -> bool
-        ensures { IsTrue result ↔ (self ≡ Mode.Text) }
-    {
-        matches!(self, Mode::Text)
-    }
-}
-
 /// What colour units define: entries of the colour table, or the look-up table of downloaded patterns (DCLUT).
 #[derive(Clone, Copy, Debug, PartialEq, Eq)]
 pub enum ColourKind {
@@ -42,16 +33,35 @@ pub struct Context {
 }
 
 impl Context {
-    ghost use Rattle.cept_parser.specs.Context.{with_mode};
+    ghost use Rattle.cept_parser.specs.Context.{start};
+    ghost use Rattle.cept_parser.specs.Bytes.{closed};
 
-    /// The same context in another mode.
-    pub(crate) fn with_mode(self, mode: Mode) -> Context
-        ensures { result ≡ with_mode self mode }
+    /// The context before the first byte.
+    pub(crate) fn start() -> Context
+        ensures { result ≡ start }
     {
         Context {
-            mode,
-            kind: self.kind,
-            form: self.form,
+            mode: Mode::Text,
+            kind: ColourKind::ColourTable,
+            form: Form {
+                w: 12,
+                h: 10,
+                planes: 1,
+            },
+        }
+    }
+
+    /// What is said, with this context in another mode behind it.
+    pub(crate) fn closed(&self, mode: Mode, said: Said) -> Closed
+        ensures { result ≡ closed self.now mode said }
+    {
+        Closed {
+            said,
+            next: Context {
+                mode,
+                kind: self.kind,
+                form: self.form,
+            },
         }
     }
 }

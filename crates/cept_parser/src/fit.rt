@@ -1,10 +1,16 @@
-ghost use Rattle.std.specs.Prelude.{◌≡◌, ◌≤◌, ◌<◌, Option, ◌∷◌, ◌&&◌, List, [], true, false, length};
-ghost use Rattle.cept_parser.specs.Context.{with_mode};
-ghost use Rattle.cept_parser.specs.Grammar.{is_plain, is_row, is_column, single, position_unit, begins_position, is_empty, alone, unit, fits};
-ghost use Rattle.cept_parser.specs.Fit.{fit, fit_by};
+ghost use Rattle.std.specs.Prelude.{◌≡◌, ◌≤◌, ◌<◌, Option, None, Some, IfSome, OnSome, ◌∷◌, List, [], true, false, length};
+ghost use Rattle.cept_parser.specs.Bytes.{between, is_plain, is_empty, closed, complete, begins_plain, with_plain, begins_sequence, is_sequence};
+ghost use Rattle.cept_parser.specs.Grammar.{repeat, csi_unit, escape_unit, begins_escape, unit, fits, grows};
+ghost use Rattle.cept_parser.specs.Fit.{fit, fit_by, extent_by, behind};
 ghost use Rattle.cept_parser.specs.Waits.{cut};
 
+use crate::bytes::is_plain;
 use crate::context::{Closed, Context, Mode};
+use crate::controls::control;
+use crate::csi::csi;
+use crate::escape::escape;
+use crate::runs::run_fit;
+use crate::units::us_fit;
 use cept_codes::{Command, Reason, Said};
 
 /// How bytes stand to the grammar: no unit begins so, they begin one, they are one and no more bytes fit, or they are
@@ -17,69 +23,124 @@ pub enum Fit {
     Longer(Closed),
 }
 
-/// The reason of bytes that are no whole unit where the next byte no longer fits.
-const INTERRUPTION: Reason = Reason::NotBuilt;
-
-/// A plain byte: 2/0 to 7/15.
-pub fn is_plain(byte: u8) -> bool
-    ensures { result ≡ is_plain byte }
-{
-    0x20 <= byte && byte <= 0x7F
+/// How bytes stand to a kind of sequence: none begins so, they begin one, or they are one.
+#[derive(Clone, Copy, Debug, PartialEq, Eq)]
+pub enum Extent {
+    Beyond,
+    Within,
+    Full,
 }
 
-/// The row of a position.
-fn is_row(row: u8) -> bool
-    ensures { result ≡ is_row row }
-{
-    0x41 <= row && row <= 0x58
-}
-
-/// The column of a position.
-fn is_column(column: u8) -> bool
-    ensures { result ≡ is_column column }
-{
-    0x41 <= column && column <= 0x68
-}
-
-/// A unit or refused shape of one byte, if no bytes come behind it.
-fn alone_fit(context: &Context, said: Said, rest: &[u8]) -> Fit
-    ensures { result ≡ fit_by (is_empty rest.now) false (alone context.now said rest.now) }
+/// A unit or refused shape that is complete, if no bytes come behind it.
+pub fn complete_fit(closed: Closed, rest: &[u8]) -> Fit
+    ensures { result ≡ fit_by (is_empty rest.now) false (complete rest.now closed) }
 {
     match rest {
-        [] => Fit::Whole(Closed {
-            said,
-            next: context.with_mode(Mode::Text),
-        }),
+        [] => Fit::Whole(closed),
         [_, ..] => Fit::Misfit,
     }
 }
 
-/// What a byte says that is no plain byte and begins no longer unit.
-#[tactic(auto, unfolding(crate::specs::Grammar::single))]
-fn single(byte: u8) -> Said
-    ensures { result ≡ single byte }
+/// The bytes behind an optional part, if it is there.
+pub fn behind<'a>(part: &[u8], bytes: &'a [u8]) -> &'a [u8]
+    ensures { result.now ≡ behind part.now bytes.now }
 {
-    match byte {
-        0x0A => Said::Command(Command::Down), // APD
-        0x0C => Said::Command(Command::Clear), // CS
-        0x0D => Said::Command(Command::Return), // APR
-        _ => Said::Refused(Reason::NotBuilt),
+    match bytes {
+        [] => bytes,
+        [byte, rest @ ..] => { if part.contains(byte) { rest } else { bytes } }
     }
 }
 
-/// US, the position: what stands behind 1F.
-#[tactic(auto, unfolding(crate::specs::Grammar::position_unit, crate::specs::Grammar::begins_position))]
-fn position_fit(context: &Context, bytes: &[u8]) -> Fit
-    ensures { result ≡ fit_by (begins_position bytes.now) false (position_unit context.now bytes.now) }
+/// The end of a sequence, if no bytes come behind it.
+fn full(rest: &[u8]) -> Extent
+    ensures { result ≡ extent_by (is_empty rest.now) (is_empty rest.now) }
+{
+    match rest {
+        [] => Extent::Full,
+        [_, ..] => Extent::Beyond,
+    }
+}
+
+/// The last byte of a sequence.
+fn is_last(last: u8, byte: u8) -> bool
+    ensures { result ≡ between last 0x7F byte }
+{
+    last <= byte && byte <= 0x7F
+}
+
+/// How bytes stand to sequences of at most so many bytes below a final one, which is in the range from `last` on.
+#[tactic(auto, unfolding(crate::specs::Bytes::begins_sequence, crate::specs::Bytes::is_sequence))]
+fn sequence_extent(last: u8, most: usize, bytes: &[u8]) -> Extent
+    ensures { result ≡ extent_by (begins_sequence last most bytes.now) (is_sequence last most bytes.now) }
+{
+    match bytes {
+        [] => Extent::Within,
+        [byte, rest @ ..] => {
+            if most == 0 {
+                if is_plain(*byte) {
+                    full(rest)
+                } else {
+                    Extent::Beyond
+                }
+            } else if is_last(last, *byte) {
+                full(rest)
+            } else if is_plain(*byte) {
+                sequence_extent(last, most - 1, rest)
+            } else {
+                Extent::Beyond
+            }
+        }
+    }
+}
+
+/// RPT: what stands behind 12.
+fn repeat_fit(context: &Context, bytes: &[u8]) -> Fit
+    ensures { result ≡ fit_by (begins_plain bytes.now) false (with_plain (repeat context.now) bytes.now) }
 {
     match bytes {
         [] => Fit::Open,
-        [row] if is_row(*row) => Fit::Open,
-        [row, column] if is_row(*row) && is_column(*column) => Fit::Whole(Closed {
-            said: Said::Command(Command::Position(*row - 0x40, *column - 0x40)),
-            next: context.with_mode(Mode::Text),
-        }),
+        [byte] if is_plain(*byte) => Fit::Whole(repeat(context, *byte)),
         _ => Fit::Misfit,
+    }
+}
+
+/// RPT and a byte, which carries six bits.
+#[tactic(auto, unfolding(crate::specs::Grammar::repeat))]
+fn repeat(context: &Context, byte: u8) -> Closed
+    ensures { result ≡ repeat context.now byte }
+{
+    if byte >= 0x40 {
+        context.closed(Mode::Text, Said::Command(Command::Repeat(byte - 0x40)))
+    } else {
+        context.closed(Mode::Text, Said::Refused(Reason::BadParameter))
+    }
+}
+
+/// CSI: what stands behind 9B or 1B 5B.
+#[tactic(auto, unfolding(crate::specs::Grammar::csi_unit))]
+fn csi_fit(context: &Context, bytes: &[u8]) -> Fit
+    ensures { result ≡ fit_by (begins_sequence 0x40 7 bytes.now) false (csi_unit context.now bytes.now) }
+{
+    match sequence_extent(0x40, 7, bytes) {
+        Extent::Beyond => Fit::Misfit,
+        Extent::Within => Fit::Open,
+        Extent::Full => Fit::Whole(context.closed(Mode::Text, csi(bytes))),
+    }
+}
+
+/// ESC: what stands behind 1B.
+#[tactic(auto, unfolding(crate::specs::Grammar::escape_unit, crate::specs::Grammar::begins_escape))]
+fn escape_fit(context: &Context, bytes: &[u8]) -> Fit
+    ensures { result ≡ fit_by (begins_escape bytes.now) false (escape_unit context.now bytes.now) }
+{
+    match bytes {
+        [] => Fit::Open,
+        [0x5B, rest @ ..] => csi_fit(context, rest),
+        [_, ..] => match sequence_extent(0x30, 3, bytes) {
+            Extent::Beyond => Fit::Misfit,
+            Extent::Within => Fit::Open,
+            Extent::Full => Fit::Whole(context.closed(Mode::Text, escape(bytes))),
+        },
     }
 }
 
@@ -89,9 +150,12 @@ fn fit_behind(context: &Context, byte: u8, rest: &[u8]) -> Fit
     ensures { result ≡ fit context.now (byte ∷ rest.now) }
 {
     match byte {
-        0x20..=0x7F => alone_fit(context, Said::Command(Command::Graphic(byte)), rest),
-        0x1F => position_fit(context, rest),
-        _ => alone_fit(context, single(byte), rest),
+        0x20..=0x7F => run_fit(context, byte, rest),
+        0x12 => repeat_fit(context, rest),
+        0x1B => escape_fit(context, rest),
+        0x9B => csi_fit(context, rest),
+        0x1F => us_fit(context, rest),
+        _ => complete_fit(context.closed(Mode::Text, control(byte)), rest),
     }
 }
 
@@ -103,6 +167,27 @@ pub fn fit_of(context: &Context, bytes: &[u8]) -> Fit
     match bytes {
         [] => Fit::Open,
         [byte, rest @ ..] => fit_behind(context, *byte, rest),
+    }
+}
+
+/// What a byte says that is a whole unit or refused shape without asking for a run: a sign, a byte that is passed over, or
+/// a control that begins no longer unit.
+#[tactic(auto, unfolding(crate::specs::Grammar::unit, crate::specs::Grammar::grows, crate::specs::Runs::run_unit, crate::specs::Runs::run_grows))]
+pub fn alone(context: &Context, byte: u8) -> Option<Closed>
+    ensures whole { IfSome result (λ o. unit context.now (byte ∷ []) ≡ Some o) }
+    ensures end { OnSome result (grows context.now (byte ∷ []) ≡ false) }
+{
+    match byte {
+        0x20..=0x7F => match context.mode {
+            Mode::Text => Some(context.closed(Mode::Text, Said::Command(Command::Graphic(byte)))),
+            Mode::Skip => Some(context.closed(Mode::Skip, Said::Command(Command::Skipped))),
+            _ => None,
+        },
+        0x12 => None,
+        0x1B => None,
+        0x9B => None,
+        0x1F => None,
+        _ => Some(context.closed(Mode::Text, control(byte))),
     }
 }
 
@@ -123,8 +208,5 @@ pub fn cut(context: &Context, bytes: &[u8]) -> Closed
 fn interrupted(context: &Context) -> Closed
     ensures { result ≡ cut context.now None }
 {
-    Closed {
-        said: Said::Refused(INTERRUPTION),
-        next: context.with_mode(Mode::Text),
-    }
+    context.closed(Mode::Text, Said::Refused(Reason::Interrupted))
 }

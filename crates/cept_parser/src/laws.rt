@@ -1,20 +1,53 @@
 //! Laws of the grammar and of reading. The functions do nothing: their contracts are the laws.
 
-ghost use Rattle.std.specs.Prelude.{◌≡◌, ◌≤◌, ◌+◌, ℕ, Option, Some, List, [], ◌∷◌, ◌++◌, length, true, false};
+ghost use Rattle.std.specs.Prelude.{◌≡◌, ◌≤◌, ◌+◌, ◌↔◌, ℕ, Option, Some, None, List, [], ◌∷◌, ◌++◌, length, true, false};
+ghost use Rattle.cept_codes.specs.Command.{IsValidSaid};
 ghost use Rattle.cept_parser.specs.declared.context.Context.{Context};
 ghost use Rattle.cept_parser.specs.declared.context.Closed.{Closed};
+ghost use Rattle.cept_parser.specs.Bytes.{is_plain};
+ghost use Rattle.cept_parser.specs.Context.{start};
 ghost use Rattle.cept_parser.specs.Grammar.{unit, fits, grows};
 ghost use Rattle.cept_parser.specs.Items.{is_refusal, read, items, reading, before};
-ghost use Rattle.cept_parser.specs.Valid.{IsValidContext};
+ghost use Rattle.cept_parser.specs.Beginning.{IsBeginning, IsContinued, IsCommandUnit};
+ghost use Rattle.cept_parser.specs.Valid.{IsValidContext, AreBytes};
 
-/// What beginnings and whole units have to do with one another.
-pub fn grammar()
-    ensures front { (x : Context) (u : List ℕ) (c : ℕ) → fits x (u ++ c ∷ []) ≡ true → fits x u ≡ true }
+/// What fits is exactly the beginning of a whole unit or refused shape, and a whole unit grows exactly where a byte fits
+/// behind it.
+pub fn beginnings()
+    ensures fits { (x : Context) (u : List ℕ) → (fits x u ≡ true) ↔ IsBeginning x u }
+    ensures grows { (x : Context) (u : List ℕ) (o : Closed) → unit x u ≡ Some o → (grows x u ≡ true) ↔ IsContinued x u }
+{}
+
+/// What a byte does behind bytes.
+pub fn further_bytes()
+    // Every single byte fits.
     ensures single { (x : Context) (c : ℕ) → fits x (c ∷ []) ≡ true }
-    ensures whole { (x : Context) (u : List ℕ) (o : Closed) → unit x u ≡ Some o → fits x u ≡ true }
-    ensures end { (x : Context) (u : List ℕ) (o : Closed) (c : ℕ) → unit x u ≡ Some o → grows x u ≡ false → fits x (u ++ c ∷ []) ≡ false }
-    ensures refusal { (x : Context) (u : List ℕ) (o : Closed) → unit x u ≡ Some o → is_refusal o.said ≡ true → grows x u ≡ false }
-    ensures hundred { (x : Context) (u : List ℕ) → IsValidContext x → fits x u ≡ true → length u ≤ 100 }
+
+    // What fits with a byte more fits.
+    ensures shorter { (x : Context) (u : List ℕ) (c : ℕ) → fits x (u ++ c ∷ []) ≡ true → fits x u ≡ true }
+
+    // A byte that fits behind a unit makes a unit again.
+    ensures again { (x : Context) (u : List ℕ) (o : Closed) (c : ℕ) → unit x u ≡ Some o → fits x (u ++ c ∷ []) ≡ true → IsCommandUnit x (u ++ c ∷ []) }
+
+    // Every plain byte fits behind bytes that fit and are no whole unit or refused shape.
+    ensures plain { (x : Context) (u : List ℕ) (c : ℕ) → is_plain c ≡ true → fits x u ≡ true → unit x u ≡ None → fits x (u ++ c ∷ []) ≡ true }
+
+    // No byte fits behind a refused shape.
+    ensures refused { (x : Context) (u : List ℕ) (o : Closed) (c : ℕ) → unit x u ≡ Some o → is_refusal o.said ≡ true → fits x (u ++ c ∷ []) ≡ false }
+{}
+
+/// What fits has few bytes.
+pub fn lengths()
+    ensures fits { (x : Context) (u : List ℕ) → IsValidContext x → fits x u ≡ true → length u ≤ 100 }
+    ensures incomplete { (x : Context) (u : List ℕ) → fits x u ≡ true → unit x u ≡ None → length u ≤ 10 }
+    ensures refused { (x : Context) (u : List ℕ) (o : Closed) → unit x u ≡ Some o → is_refusal o.said ≡ true → length u ≤ 10 }
+{}
+
+/// Every unit says a valid command, and no unit or refused shape leads out of the valid contexts.
+pub fn contexts()
+    ensures start { IsValidContext start }
+    ensures said { (x : Context) (u : List ℕ) (o : Closed) → IsValidContext x → AreBytes u → unit x u ≡ Some o → IsValidSaid o.said }
+    ensures next { (x : Context) (u : List ℕ) (o : Closed) → IsValidContext x → AreBytes u → unit x u ≡ Some o → IsValidContext o.next }
 {}
 
 /// Reading goes on from what is pending: bytes in two parts read as the first part, and then as what it left pending

@@ -2,12 +2,18 @@
 //! and knows no screen.
 #![tactic(auto)]
 
+mod bytes;
 mod context;
+mod controls;
+mod csi;
+mod escape;
 mod fit;
 pub mod laws;
 mod parser;
+mod runs;
 #[cfg(test)]
 mod tests;
+mod units;
 
 pub use context::{Closed, ColourKind, Context, Mode};
 pub use parser::Parser;

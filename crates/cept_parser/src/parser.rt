@@ -1,30 +1,30 @@
-ghost use Rattle.std.specs.Prelude.{◌≡◌, ◌≤◌, ◌<◌, ◌+◌, ◌^◌, ◌-◌, ℕ, List, [], ◌∷◌, ◌++◌, length, true, false, if◌then◌else◌, IsTrue};
+ghost use Rattle.std.specs.Prelude.{◌≡◌, ◌≤◌, ◌<◌, ◌+◌, ◌^◌, ◌-◌, ℕ, List, [], ◌∷◌, ◌++◌, length, true, false, Option, Some};
 ghost use Rattle.std.specs.Option.{option_to_list};
 ghost use Rattle.arrayvec.specs.ArrayVec.{array_vec_len};
-ghost use Rattle.cept_parser.specs.Context.{start};
-ghost use Rattle.cept_parser.specs.Grammar.{is_plain, unit, fits};
+ghost use Rattle.cept_parser.specs.Grammar.{unit, fits, grows};
 ghost use Rattle.cept_parser.specs.Items.{read, items, closed_items, closing, said_at_end};
 ghost use Rattle.cept_parser.specs.Valid.{AreValid, AreMeasured};
-ghost use Rattle.cept_parser.specs.Waits.{Waits, cut};
+ghost use Rattle.cept_parser.specs.Waits.{Waits};
 
-use crate::context::{ColourKind, Context, Mode};
-use crate::fit::{Fit, cut, fit_of, is_plain};
+use crate::context::{Closed, Context};
+use crate::fit::{Fit, alone, cut, fit_of};
 use arrayvec::ArrayVec;
-use cept_codes::{Command, Form, Item, Reason, Said};
+use cept_codes::{Item, Reason, Said};
 use std::marker::Model;
 
-/// The context before the first byte.
-fn start() -> Context
-    ensures { result ≡ start }
+/// Makes bytes at this place an item that says this, with a context behind it.
+fn take(context: &mut Context, bytes: &mut ArrayVec<u8, 100>, at: u64, closed: Closed) -> Item
+    ensures item { result ≡ record { at = at; len = length bytes.old.items; what = closed.said } }
+    ensures context { context.new ≡ closed.next }
+    ensures pending { bytes.new.items ≡ [] }
 {
-    Context {
-        mode: Mode::Text,
-        kind: ColourKind::ColourTable,
-        form: Form {
-            w: 12,
-            h: 10,
-            planes: 1,
-        },
+    let len = bytes.len() as u8;
+    bytes.clear();
+    *context = closed.next;
+    Item {
+        at,
+        len,
+        what: closed.said,
     }
 }
 
@@ -36,55 +36,10 @@ fn settle(context: &mut Context, bytes: &mut ArrayVec<u8, 100>, at: u64) -> Opti
     ensures pending { bytes.new.items ≡ (read context.old at bytes.old.items).pending }
 {
     match fit_of(context, bytes.as_slice()) {
-        Fit::Whole(closed) => {
-            let len = bytes.len() as u8;
-            bytes.clear();
-            *context = closed.next;
-            Some(Item {
-                at,
-                len,
-                what: closed.said,
-            })
-        }
+        Fit::Whole(closed) => Some(take(context, bytes, at, closed)),
         Fit::Longer(_) => None,
         Fit::Open => None,
         Fit::Misfit => None,
-    }
-}
-
-/// Puts a byte behind bytes if it fits there.
-fn append(context: &Context, bytes: &mut ArrayVec<u8, 100>, byte: u8) -> bool
-    requires { array_vec_len bytes.old < 100 }
-    ensures fits { result ≡ fits context.now (bytes.old.items ++ byte ∷ []) }
-    ensures bytes { bytes.new.items ≡ (if result then bytes.old.items ++ byte ∷ [] else bytes.old.items) }
-{
-    bytes.push(byte);
-    match fit_of(context, bytes.as_slice()) {
-        Fit::Misfit => {
-            bytes.pop();
-            false
-        }
-        Fit::Open => true,
-        Fit::Whole(_) => true,
-        Fit::Longer(_) => true,
-    }
-}
-
-/// Makes bytes at this place, behind which the next byte doesn't fit, an item.
-fn take_cut(context: &mut Context, bytes: &mut ArrayVec<u8, 100>, at: u64) -> Item
-    requires { fits context.old bytes.old.items ≡ true }
-    ensures item { result ≡ record { at = at; len = length bytes.old.items; what = (cut context.old (unit context.old bytes.old.items)).said } }
-    ensures context { context.new ≡ (cut context.old (unit context.old bytes.old.items)).next }
-    ensures pending { bytes.new.items ≡ [] }
-{
-    let closed = cut(context, bytes.as_slice());
-    let len = bytes.len() as u8;
-    bytes.clear();
-    *context = closed.next;
-    Item {
-        at,
-        len,
-        what: closed.said,
     }
 }
 
@@ -124,6 +79,28 @@ fn listed_behind(first: Item, second: Option<Item>) -> ArrayVec<Item, 2>
     items
 }
 
+/// Takes the items off bytes that wait at this place and one byte more, which doesn't fit behind them.
+fn feed_misfit(
+    context: &mut Context,
+    bytes: &mut ArrayVec<u8, 100>,
+    at: u64,
+    byte: u8,
+) -> ArrayVec<Item, 2>
+    requires waits { Waits context.old (at + length bytes.old.items) bytes.old.items }
+    requires few { at + length bytes.old.items < 2 ^ 33 }
+    requires misfit { fits context.old (bytes.old.items ++ byte ∷ []) ≡ false }
+    ensures items { result.items ≡ (read context.old at (bytes.old.items ++ byte ∷ [])).items }
+    ensures context { context.new ≡ (read context.old at (bytes.old.items ++ byte ∷ [])).context }
+    ensures pending { bytes.new.items ≡ (read context.old at (bytes.old.items ++ byte ∷ [])).pending }
+{
+    let closed = cut(context, bytes.as_slice());
+    let item = take(context, bytes, at, closed);
+    let from = at + u64::from(item.len);
+    bytes.push(byte);
+    let next = settle(context, bytes, from);
+    listed_behind(item, next)
+}
+
 /// Takes the items off bytes that wait at this place and one byte more.
 fn feed(
     context: &mut Context,
@@ -137,14 +114,16 @@ fn feed(
     ensures context { context.new ≡ (read context.old at (bytes.old.items ++ byte ∷ [])).context }
     ensures pending { bytes.new.items ≡ (read context.old at (bytes.old.items ++ byte ∷ [])).pending }
 {
-    if append(context, bytes, byte) {
-        return listed(settle(context, bytes, at));
-    }
-    let item = take_cut(context, bytes, at);
-    let from = at + u64::from(item.len);
     bytes.push(byte);
-    let next = settle(context, bytes, from);
-    listed_behind(item, next)
+    match fit_of(context, bytes.as_slice()) {
+        Fit::Whole(closed) => listed(Some(take(context, bytes, at, closed))),
+        Fit::Longer(_) => ArrayVec::new(),
+        Fit::Open => ArrayVec::new(),
+        Fit::Misfit => {
+            bytes.pop();
+            feed_misfit(context, bytes, at, byte)
+        }
+    }
 }
 
 /// The stream of bytes, read one at a time.
@@ -169,7 +148,7 @@ impl Model for Parser {
 }
 
 impl Parser {
-    ghost use Rattle.cept_parser.specs.State.{ParserState, Leads, reading_with, state_after, IsIdle, pending_reading, finished_state};
+    ghost use Rattle.cept_parser.specs.State.{ParserState, Leads, reading_with, state_after, pending_reading, finished_state};
 
     /// A parser before the first byte.
     pub fn new() -> Parser
@@ -177,7 +156,7 @@ impl Parser {
     {
         Parser {
             place: 0,
-            context: start(),
+            context: Context::start(),
             bytes: ArrayVec::new(),
             finished: false,
         }
@@ -198,17 +177,11 @@ impl Parser {
         self.bytes.len()
     }
 
-    /// Nothing is pending, and plain bytes are signs.
-    fn is_idle(&self) -> bool
-        ensures { IsTrue result → IsIdle self.now }
-    {
-        self.bytes.is_empty() && self.context.mode.is_text()
-    }
-
-    /// Reads one byte more: a sign, where plain bytes are signs and nothing is pending.
-    fn read_sign(&mut self, byte: u8) -> ArrayVec<Item, 2>
-        requires idle { IsIdle self.old }
-        requires plain { is_plain byte ≡ true }
+    /// Reads one byte more, which is a whole unit or refused shape, where nothing is pending.
+    fn read_alone(&mut self, byte: u8, closed: Closed) -> ArrayVec<Item, 2>
+        requires idle { self.old.pending ≡ [] }
+        requires whole { unit self.old.context (byte ∷ []) ≡ Some closed }
+        requires end { grows self.old.context (byte ∷ []) ≡ false }
         requires few { self.old.place < 2 ^ 32 }
         ensures items { result.items ≡ (reading_with self.old byte).items }
         ensures state { self.new ≡ state_after self.old byte }
@@ -218,10 +191,11 @@ impl Parser {
     {
         let at = self.place;
         self.place += 1;
+        self.context = closed.next;
         listed(Some(Item {
             at,
             len: 1,
-            what: Said::Command(Command::Graphic(byte)),
+            what: closed.said,
         }))
     }
 
@@ -234,8 +208,10 @@ impl Parser {
         ensures valid { AreValid result.items }
         ensures measured { AreMeasured result.items }
     {
-        if self.is_idle() && is_plain(byte) {
-            return self.read_sign(byte);
+        if self.bytes.is_empty() {
+            if let Some(closed) = alone(&self.context, byte) {
+                return self.read_alone(byte, closed);
+            }
         }
         self.read_other(byte)
     }

@@ -1,36 +1,53 @@
-use Rattle.std.proofs.Common.{◌≡◌, ◌+◌, List, [], ◌∷◌, ◌++◌, arith, ap, sym, ◌∙◌}
+use Rattle.std.proofs.Common.{◌≡◌, ℕ, ◌<◌, List, [], ◌∷◌, ◌++◌, length, ap, sym, ◌∙◌, arith}
 use Rattle.cept_codes.specs.declared.item.Item.{Item}
-use Rattle.cept_parser.specs.Items.{Reading, read, before}
-use Rattle.cept_parser.proofs.GrammarLaws.{fits_one}
-use Rattle.cept_parser.proofs.Longest.{waits_fits}
-use Rattle.cept_parser.proofs.Steps.{read_cut_by}
+use Rattle.cept_parser.specs.Items.{Reading, read}
+use Rattle.cept_parser.proofs.Steps.{read_settled, fits_unless, fits_not}
 use Rattle.cept_parser.proofs.Waiting.{waits_small}
 use Rattle.cept_parser.proofs.parser.feed.Goals as goal
-use Rattle.cept_parser.proofs.parser.feed.Goals.{After-listed_behind}
 
-pub append-requires : goal.append-requires
-append-requires c = let w = waits_small _ _ _ c.requires.waits in omega arith
+pub push-requires : goal.push-requires
+push-requires c = let w = waits_small _ _ _ c.requires.waits in (omega arith, omega arith)
 
-pub take_cut-item-requires : goal.take_cut-item-requires
-take_cut-item-requires c = rw c.if-append.ensures.bytes (waits_fits _ _ c.requires.waits.waits)
+pub returns-in-Whole-clause-items : goal.returns-in-Whole-clause-items
+returns-in-Whole-clause-items c =
+    let e = read_settled c.args.context.now c.args.at _ _ _ (fits_unless _ _ _ _ (c.as_slice.ensures.value ∙ c.push.ensures.items) c.in-Whole.ensures (λ m. cc)) (c.as_slice.ensures.value ∙ c.push.ensures.items) c.in-Whole.ensures in
+    let item = λ (u : List ℕ). record { at = c.args.at; len = length u; what = c.in-Whole.closed.said } ∷ [] in
+    c.listed.ensures ∙ ap (λ (i : Item). i ∷ []) c.take.ensures.item ∙ ap item c.push.ensures.items ∙ ap (λ (r : Reading). r.items) (sym e)
 
-pub settle-next-requires : goal.settle-next-requires
-settle-next-requires c =
-    rw (c.push.ensures.items, c.take_cut-item.ensures.pending) (fits_one c.take_cut-item.new.context c.args.byte)
+pub returns-in-Whole-clause-context : goal.returns-in-Whole-clause-context
+returns-in-Whole-clause-context c =
+    let e = read_settled c.args.context.now c.args.at _ _ _ (fits_unless _ _ _ _ (c.as_slice.ensures.value ∙ c.push.ensures.items) c.in-Whole.ensures (λ m. cc)) (c.as_slice.ensures.value ∙ c.push.ensures.items) c.in-Whole.ensures in
+    c.take.ensures.context ∙ ap (λ (r : Reading). r.context) (sym e)
 
--- the reading of all, as that of what was cut off and that of the byte
-reading_is : (c : After-listed_behind) → read c.args.context.now c.args.at (c.args.bytes.now.items ++ c.args.byte ∷ []) ≡ before (c.take_cut-item.result ∷ []) (read c.take_cut-item.new.context (c.args.at + c.from.result) c.push.new.self.items)
-reading_is c =
-    read_cut_by c.args.context.now c.args.at c.args.bytes.now.items c.args.byte c.append.new.bytes.items c.take_cut-item.result c.take_cut-item.new.context c.from.result c.push.new.self.items c.take_cut-item.new.bytes.items c.requires.waits.waits c.if-append.ensures.fits c.if-append.ensures.bytes c.take_cut-item.ensures.item c.take_cut-item.ensures.context c.from.ensures c.take_cut-item.ensures.pending c.push.ensures.items
+pub returns-in-Whole-clause-pending : goal.returns-in-Whole-clause-pending
+returns-in-Whole-clause-pending c =
+    let e = read_settled c.args.context.now c.args.at _ _ _ (fits_unless _ _ _ _ (c.as_slice.ensures.value ∙ c.push.ensures.items) c.in-Whole.ensures (λ m. cc)) (c.as_slice.ensures.value ∙ c.push.ensures.items) c.in-Whole.ensures in
+    c.take.ensures.pending ∙ ap (λ (r : Reading). r.pending) (sym e)
 
-pub returns-clause-items : goal.returns-clause-items
-returns-clause-items c =
-    c.listed_behind.ensures ∙ ap (λ (is : List Item). c.take_cut-item.result ∷ is) c.settle-next.ensures.item ∙ ap (λ (r : Reading). r.items) (sym (reading_is c))
+pub returns-in-Longer-clause-items : goal.returns-in-Longer-clause-items
+returns-in-Longer-clause-items c =
+    let e = read_settled c.args.context.now c.args.at _ _ _ (fits_unless _ _ _ _ (c.as_slice.ensures.value ∙ c.push.ensures.items) c.in-Longer.ensures (λ m. cc)) (c.as_slice.ensures.value ∙ c.push.ensures.items) c.in-Longer.ensures in
+    c.new.ensures ∙ ap (λ (r : Reading). r.items) (sym e)
 
-pub returns-clause-context : goal.returns-clause-context
-returns-clause-context c =
-    c.settle-next.ensures.context ∙ ap (λ (r : Reading). r.context) (sym (reading_is c))
+pub returns-in-Longer-clause-context : goal.returns-in-Longer-clause-context
+returns-in-Longer-clause-context c =
+    ap (λ (r : Reading). r.context) (sym (read_settled c.args.context.now c.args.at _ _ _ (fits_unless _ _ _ _ (c.as_slice.ensures.value ∙ c.push.ensures.items) c.in-Longer.ensures (λ m. cc)) (c.as_slice.ensures.value ∙ c.push.ensures.items) c.in-Longer.ensures))
 
-pub returns-clause-pending : goal.returns-clause-pending
-returns-clause-pending c =
-    c.settle-next.ensures.pending ∙ ap (λ (r : Reading). r.pending) (sym (reading_is c))
+pub returns-in-Longer-clause-pending : goal.returns-in-Longer-clause-pending
+returns-in-Longer-clause-pending c =
+    let e = read_settled c.args.context.now c.args.at _ _ _ (fits_unless _ _ _ _ (c.as_slice.ensures.value ∙ c.push.ensures.items) c.in-Longer.ensures (λ m. cc)) (c.as_slice.ensures.value ∙ c.push.ensures.items) c.in-Longer.ensures in
+    c.push.ensures.items ∙ ap (λ (r : Reading). r.pending) (sym e)
+
+pub returns-in-Open-clause-items : goal.returns-in-Open-clause-items
+returns-in-Open-clause-items c =
+    let e = read_settled c.args.context.now c.args.at _ _ _ (fits_unless _ _ _ _ (c.as_slice.ensures.value ∙ c.push.ensures.items) c.in-Open.ensures (λ m. cc)) (c.as_slice.ensures.value ∙ c.push.ensures.items) c.in-Open.ensures in
+    c.new-in-Open.ensures ∙ ap (λ (r : Reading). r.items) (sym e)
+
+pub returns-in-Open-clause-context : goal.returns-in-Open-clause-context
+returns-in-Open-clause-context c =
+    ap (λ (r : Reading). r.context) (sym (read_settled c.args.context.now c.args.at _ _ _ (fits_unless _ _ _ _ (c.as_slice.ensures.value ∙ c.push.ensures.items) c.in-Open.ensures (λ m. cc)) (c.as_slice.ensures.value ∙ c.push.ensures.items) c.in-Open.ensures))
+
+pub returns-in-Open-clause-pending : goal.returns-in-Open-clause-pending
+returns-in-Open-clause-pending c =
+    let e = read_settled c.args.context.now c.args.at _ _ _ (fits_unless _ _ _ _ (c.as_slice.ensures.value ∙ c.push.ensures.items) c.in-Open.ensures (λ m. cc)) (c.as_slice.ensures.value ∙ c.push.ensures.items) c.in-Open.ensures in
+    c.push.ensures.items ∙ ap (λ (r : Reading). r.pending) (sym e)

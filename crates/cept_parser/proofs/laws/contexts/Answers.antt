@@ -1,0 +1,6 @@
+use Rattle.cept_parser.proofs.ValidLaws.{start_valid, unit_valid}
+use Rattle.cept_parser.proofs.laws.contexts.Goals as goal
+
+pub returns : goal.returns
+returns c =
+    record { start = start_valid; said = λ x u o v b e. (unit_valid x u o v b e).said; next = λ x u o v b e. (unit_valid x u o v b e).next }

@@ -1,0 +1,27 @@
+-- What it is for bytes to be the beginning of a whole unit or refused shape, and for a byte to fit behind them. The closed
+-- forms of the grammar mean this.
+use Rattle.std.specs.Prelude.{◌≡◌, ℕ, ◌<◌, true, false, List, [], ◌∷◌, ◌++◌, Option, Some}
+use Rattle.cept_parser.specs.declared.context.Context.{Context}
+use Rattle.cept_parser.specs.declared.context.Closed.{Closed}
+use Rattle.cept_parser.specs.Grammar.{unit, fits}
+use Rattle.cept_parser.specs.Items.{is_refusal}
+use Rattle.cept_parser.specs.Valid.{AreBytes}
+
+-- with further bytes they are whole
+pub record IsBeginning (x : Context) (u : List ℕ) : Type 0 where
+  pub rest : List ℕ
+  pub bytes : AreBytes rest
+  pub whole : Closed
+  pub is : unit x (u ++ rest) ≡ Some whole
+
+-- a byte fits behind them
+pub record IsContinued (x : Context) (u : List ℕ) : Type 0 where
+  pub byte : ℕ
+  pub small : byte < 256
+  pub fit : fits x (u ++ byte ∷ []) ≡ true
+
+-- they are a whole unit, a command
+pub record IsCommandUnit (x : Context) (u : List ℕ) : Type 0 where
+  pub whole : Closed
+  pub is : unit x u ≡ Some whole
+  pub command : is_refusal whole.said ≡ false

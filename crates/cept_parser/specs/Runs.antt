@@ -1,0 +1,78 @@
+-- Units that begin with a plain byte, by the mode: signs, colours, patterns, and bytes that are passed over.
+use Rattle.std.specs.Prelude.{ℕ, ◌+◌, ◌*◌, ◌/◌, ◌%◌, ◌^◌, Bool, true, false, ◌&&◌, List, [], ◌∷◌, if◌then◌else◌, nat_lt, nat_le, Option, Some, None}
+use Rattle.cept_codes.specs.declared.command.Command.TheVariants as command
+use Rattle.cept_codes.specs.declared.item.Reason.TheVariants.{BadParameter}
+use Rattle.cept_codes.specs.declared.item.Said.TheVariants.{Command as Says, Refused}
+use Rattle.cept_codes.specs.declared.look.Rgb.{Rgb}
+use Rattle.cept_parser.specs.declared.context.Mode.{Mode}
+use Rattle.cept_parser.specs.declared.context.Mode.TheVariants.{Text, TableRun, DclutRun, DrcsRun, Skip}
+use Rattle.cept_parser.specs.declared.context.Context.{Context}
+use Rattle.cept_parser.specs.declared.context.Closed.{Closed}
+use Rattle.cept_parser.specs.Bytes.{is_empty, closed, complete, begins_plain, with_plain}
+
+-- a plain byte that can't begin or continue the unit of its run
+abbrev pub misplaced : Context → Closed
+misplaced x = closed x Skip (Refused BadParameter)
+
+-- a byte of columns 4 to 7, which carries six bits
+abbrev pub has_six_bits : ℕ → Bool
+has_six_bits a = nat_le 0x40 a
+
+-- the bit of a number worth 2 to the power of k
+abbrev pub bit : ℕ → ℕ → ℕ
+bit k a = a / 2 ^ k % 2
+
+-- the colour of two bytes: bits 6 to 1 of the first are R3 G3 B3 R2 G2 B2, those of the second R1 G1 B1 R0 G0 B0. So a
+-- part has its bits 3 and 2 from the first byte and its bits 1 and 0 from the second: red at 5 and 2, green at 4 and 1, blue
+-- at 3 and 0
+abbrev pub colour_part : ℕ → ℕ → ℕ → ℕ
+colour_part k a b = 8 * bit (k + 3) a + 4 * bit k a + (2 * bit (k + 3) b + bit k b)
+
+unfoldable pub colour : ℕ → ℕ → Rgb
+colour a b = record { r = colour_part 2 a b; g = colour_part 1 a b; b = colour_part 0 a b }
+
+-- TableRun: the second byte of an entry
+unfoldable pub entry : Context → ℕ → ℕ → ℕ → Closed
+entry x i a b =
+    if has_six_bits b then closed x (TableRun (i + 1)) (Says (command.Entry i (colour a b))) else
+    misplaced x
+
+-- DclutRun: the five low bits of a byte
+unfoldable pub look_up : Context → ℕ → ℕ → Closed
+look_up x i a =
+    if nat_lt i 4 && has_six_bits a then closed x (DclutRun (i + 1)) (Says (command.Dclut i (a % 32))) else
+    misplaced x
+
+-- DrcsRun: patterns for a code, none yet
+unfoldable pub pattern_unit : Context → ℕ → ℕ → List ℕ → Option Closed
+pattern_unit x c a u = complete u (misplaced x)
+
+unfoldable pub begins_pattern : Context → ℕ → ℕ → List ℕ → Bool
+begins_pattern x c a u = is_empty u
+
+unfoldable pub pattern_grows : Context → ℕ → ℕ → List ℕ → Bool
+pattern_grows x c a u = false
+
+-- the unit of a mode that begins with this plain byte
+unfoldable pub run_unit : Mode → Context → ℕ → List ℕ → Option Closed
+run_unit Text x a u = complete u (closed x Text (Says (command.Graphic a)))
+run_unit Skip x a u = complete u (closed x Skip (Says command.Skipped))
+run_unit (TableRun i) x a u =
+    if nat_lt i 32 && has_six_bits a then with_plain (entry x i a) u else complete u (misplaced x)
+run_unit (DclutRun i) x a u = complete u (look_up x i a)
+run_unit (DrcsRun c) x a u = pattern_unit x c a u
+
+unfoldable pub begins_run : Mode → Context → ℕ → List ℕ → Bool
+begins_run Text x a u = is_empty u
+begins_run Skip x a u = is_empty u
+begins_run (TableRun i) x a u = if nat_lt i 32 && has_six_bits a then begins_plain u else is_empty u
+begins_run (DclutRun i) x a u = is_empty u
+begins_run (DrcsRun c) x a u = begins_pattern x c a u
+
+-- a further byte fits behind a whole unit of a mode
+unfoldable pub run_grows : Mode → Context → ℕ → List ℕ → Bool
+run_grows Text x a u = false
+run_grows Skip x a u = false
+run_grows (TableRun i) x a u = false
+run_grows (DclutRun i) x a u = false
+run_grows (DrcsRun c) x a u = pattern_grows x c a u

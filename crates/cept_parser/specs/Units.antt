@@ -1,0 +1,205 @@
+-- Units that begin with US (1F): the position, downloaded characters (DRCS), colours, the format and the service (ETS 300
+-- 072 and T/CD 6-1; which forms there are is this profile's own).
+use Rattle.std.specs.Prelude.{ℕ, ◌+◌, ◌-◌, Bool, true, false, not, ◌&&◌, ◌||◌, List, [], ◌∷◌, if◌then◌else◌, ◌==◌, nat_le, Option, Some, None}
+use Rattle.cept_codes.specs.declared.command.C1Set.TheVariants.{Serial, Parallel}
+use Rattle.cept_codes.specs.declared.command.Command.TheVariants as command
+use Rattle.cept_codes.specs.declared.command.Form.{Form}
+use Rattle.cept_codes.specs.declared.item.Reason.TheVariants.{UnknownUnit, BadParameter}
+use Rattle.cept_codes.specs.declared.item.Said.{Said}
+use Rattle.cept_codes.specs.declared.item.Said.TheVariants.{Command as Says, Refused}
+use Rattle.cept_parser.specs.declared.context.Mode.{Mode}
+use Rattle.cept_parser.specs.declared.context.Mode.TheVariants.{Text, TableRun, DclutRun, DrcsRun, Skip}
+use Rattle.cept_parser.specs.declared.context.ColourKind.{ColourKind}
+use Rattle.cept_parser.specs.declared.context.ColourKind.TheVariants.{ColourTable, LookUpTable}
+use Rattle.cept_parser.specs.declared.context.Context.{Context}
+use Rattle.cept_parser.specs.declared.context.Closed.{Closed}
+use Rattle.cept_parser.specs.Context.{start}
+use Rattle.cept_parser.specs.Bytes.{between, is_plain, is_digit, two_digits, is_row, is_column, is_empty, contains, closed, complete, begins_plain, with_plain, are_options, are_options_left, with_options}
+
+-- 1F r c, r 4/0 to 7/15: a position
+unfoldable pub position : Context → ℕ → ℕ → Closed
+position x r c =
+    if is_row r && is_column c then closed x Text (Says (command.Position (r - 0x40) (c - 0x40))) else
+    closed x Text (Refused BadParameter)
+
+-- the optional parts of 1F 23 20: deletion, the form of one byte, size, planes
+abbrev pub drcs_parts : List (List ℕ)
+drcs_parts =
+    (0x20 ∷ 0x28 ∷ []) ∷ (0x40 ∷ []) ∷ (0x36 ∷ 0x37 ∷ 0x3A ∷ 0x3B ∷ 0x3C ∷ 0x3F ∷ []) ∷ (0x41 ∷ 0x42 ∷ 0x44 ∷ []) ∷ []
+
+-- the form that they tell. Sizes: 3/6 12x12, 3/7 12x10, 3/10 6x12, 3/11 6x10, 3/12 6x5, 3/15 6x6, else 12x10
+unfoldable pub drcs_width : List ℕ → ℕ
+drcs_width u =
+    if contains u 0x3A || (contains u 0x3B || (contains u 0x3C || contains u 0x3F)) then 6 else
+    12
+
+unfoldable pub drcs_height : List ℕ → ℕ
+drcs_height u =
+    if contains u 0x36 || contains u 0x3A then 12 else
+    if contains u 0x3C then 5 else
+    if contains u 0x3F then 6 else
+    10
+
+-- planes: 4/1 one, 4/2 two, 4/4 four, else one
+unfoldable pub drcs_planes : List ℕ → ℕ
+drcs_planes u =
+    if contains u 0x42 then 2 else
+    if contains u 0x44 then 4 else
+    1
+
+abbrev pub drcs_form : List ℕ → Form
+drcs_form u = record { w = drcs_width u; h = drcs_height u; planes = drcs_planes u }
+
+-- 1F 23 20: the header of downloaded characters
+unfoldable pub drcs_header : Context → List ℕ → Closed
+drcs_header x u =
+    record {
+      said = Says (command.DrcsHeader (contains u 0x28) (drcs_form u));
+      next = record { mode = Skip; kind = x.kind; form = drcs_form u };
+    }
+
+-- 1F 23: downloaded characters
+unfoldable pub drcs_unit : Context → List ℕ → Option Closed
+drcs_unit x [] = None
+drcs_unit x (c ∷ u) =
+    if c == 0x20 then with_options drcs_parts u (drcs_header x u) else
+    if between 0x21 0x7E c then complete u (closed x (DrcsRun c) (Says (command.DrcsStart c))) else
+    if c == 0x7F then complete u (closed x Skip (Refused BadParameter)) else
+    None
+
+unfoldable pub begins_drcs : List ℕ → Bool
+begins_drcs [] = true
+begins_drcs (c ∷ u) =
+    if c == 0x20 then are_options drcs_parts u else
+    if between 0x21 0x7E c then is_empty u else
+    if c == 0x7F then is_empty u else
+    false
+
+-- the optional parts of 1F 26 20: the kind, the form of the colours, and of one byte
+abbrev pub colour_parts : List (List ℕ)
+colour_parts = (0x20 ∷ 0x22 ∷ []) ∷ (0x34 ∷ []) ∷ (0x40 ∷ []) ∷ []
+
+-- 1F 26 20: the header of colours, for the DCLUT by 2/2
+unfoldable pub colour_header : Context → List ℕ → Closed
+colour_header x u =
+    record {
+      said = Says (command.ColourHeader (contains u 0x22));
+      next = record { mode = Skip; kind = (if contains u 0x22 then LookUpTable else ColourTable); form = x.form };
+    }
+
+-- the last place of each kind of colours, and the run that begins at a place
+abbrev pub last_place : ColourKind → ℕ
+last_place ColourTable = 31
+last_place LookUpTable = 3
+
+abbrev pub run_from : ColourKind → ℕ → Mode
+run_from ColourTable i = TableRun i
+run_from LookUpTable i = DclutRun i
+
+-- colours begin at a place
+unfoldable pub colours_from : Context → ℕ → Closed
+colours_from x i =
+    if nat_le i (last_place x.kind) then closed x (run_from x.kind i) (Says (command.ColourStart i)) else
+    closed x Skip (Refused BadParameter)
+
+-- 1F 26 t o, t a digit: the place of two digits
+unfoldable pub colour_start : Context → ℕ → ℕ → Closed
+colour_start x t o =
+    if is_digit o then colours_from x (two_digits t o) else
+    closed x Skip (Refused BadParameter)
+
+-- 1F 26: colours
+unfoldable pub colour_unit : Context → List ℕ → Option Closed
+colour_unit x [] = None
+colour_unit x (a ∷ u) =
+    if a == 0x20 then with_options colour_parts u (colour_header x u) else
+    if a == 0x21 then complete u (closed x Skip (Says command.ColourDefaults)) else
+    if is_digit a then with_plain (colour_start x a) u else
+    if is_plain a then complete u (closed x Skip (Refused BadParameter)) else
+    None
+
+unfoldable pub begins_colour : List ℕ → Bool
+begins_colour [] = true
+begins_colour (a ∷ u) =
+    if a == 0x20 then are_options colour_parts u else
+    if a == 0x21 then is_empty u else
+    if is_digit a then begins_plain u else
+    if is_plain a then is_empty u else
+    false
+
+-- the optional parts of 1F 2D: the rows, and whether positions wrap
+abbrev pub format_parts : List (List ℕ)
+format_parts = (0x41 ∷ 0x42 ∷ []) ∷ (0x70 ∷ 0x71 ∷ []) ∷ []
+
+-- 1F 2D: the format, 20 rows by 4/2, no wrap by 7/1
+unfoldable pub format : Context → List ℕ → Closed
+format x u =
+    closed x Text (Says (command.Format (if contains u 0x42 then 20 else 24) (not (contains u 0x71))))
+
+-- 1F 2F 40 r: the service is broken at a row
+unfoldable pub service_break : Context → ℕ → Closed
+service_break x r =
+    if is_row r then closed x Text (Says (command.ServiceBreak (r - 0x40))) else
+    closed x Text (Refused BadParameter)
+
+-- 1F 2F a: the other service units. Full defaults bring back the first context
+unfoldable pub service : Context → ℕ → Closed
+service x a =
+    if a == 0x4F then closed x Text (Says command.ServiceEnd) else
+    if a == 0x41 then closed start Text (Says (command.FullDefaults Serial)) else
+    if a == 0x42 then closed start Text (Says (command.FullDefaults Parallel)) else
+    if a == 0x43 then closed x Text (Says (command.ControlDefaults Serial)) else
+    if a == 0x44 then closed x Text (Says (command.ControlDefaults Parallel)) else
+    closed x Text (Refused BadParameter)
+
+-- 1F 2F: the service
+unfoldable pub service_unit : Context → List ℕ → Option Closed
+service_unit x [] = None
+service_unit x (a ∷ u) =
+    if a == 0x40 then with_plain (service_break x) u else
+    if is_plain a then complete u (service x a) else
+    None
+
+unfoldable pub begins_service : List ℕ → Bool
+begins_service [] = true
+begins_service (a ∷ u) =
+    if a == 0x40 then begins_plain u else
+    if is_plain a then is_empty u else
+    false
+
+-- the units behind 1F
+unfoldable pub us_unit : Context → List ℕ → Option Closed
+us_unit x [] = None
+us_unit x (a ∷ u) =
+    if a == 0x23 then drcs_unit x u else
+    if a == 0x26 then colour_unit x u else
+    if a == 0x2D then with_options format_parts u (format x u) else
+    if a == 0x2F then service_unit x u else
+    if between 0x20 0x3F a then complete u (closed x Skip (Refused UnknownUnit)) else
+    if is_plain a then with_plain (position x a) u else
+    None
+
+unfoldable pub begins_us : List ℕ → Bool
+begins_us [] = true
+begins_us (a ∷ u) =
+    if a == 0x23 then begins_drcs u else
+    if a == 0x26 then begins_colour u else
+    if a == 0x2D then are_options format_parts u else
+    if a == 0x2F then begins_service u else
+    if between 0x20 0x3F a then is_empty u else
+    if is_plain a then begins_plain u else
+    false
+
+-- a further byte fits behind a whole header
+unfoldable pub header_grows : List (List ℕ) → List ℕ → Bool
+header_grows parts [] = false
+header_grows parts (a ∷ u) = if a == 0x20 then are_options_left parts u else false
+
+-- a further byte fits behind a whole unit, behind 1F
+unfoldable pub us_grows : List ℕ → Bool
+us_grows [] = false
+us_grows (a ∷ u) =
+    if a == 0x23 then header_grows drcs_parts u else
+    if a == 0x26 then header_grows colour_parts u else
+    if a == 0x2D then are_options_left format_parts u else
+    false

@@ -1,0 +1,31 @@
+ghost use Rattle.std.specs.Prelude.{◌≡◌};
+ghost use Rattle.cept_parser.specs.Controls.{control};
+
+use cept_codes::{Command, Reason, Said};
+
+/// What a byte says that is no plain byte and begins no longer unit.
+#[tactic(auto, unfolding(crate::specs::Controls::control))]
+pub fn control(byte: u8) -> Said
+    ensures { result ≡ control byte }
+{
+    match byte {
+        0x00 => Said::Command(Command::Nul), // NUL
+        0x08 => Said::Command(Command::Back), // APB
+        0x09 => Said::Command(Command::Forward), // APF
+        0x0A => Said::Command(Command::Down), // APD
+        0x0B => Said::Command(Command::Up), // APU
+        0x0C => Said::Command(Command::Clear), // CS
+        0x0D => Said::Command(Command::Return), // APR
+        0x0E => Said::Command(Command::LockLeft(1)), // SO
+        0x0F => Said::Command(Command::LockLeft(0)), // SI
+        0x11 => Said::Command(Command::CursorOn), // CON
+        0x14 => Said::Command(Command::CursorOff), // COF
+        0x18 => Said::Command(Command::Cancel), // CAN
+        0x19 => Said::Command(Command::Single(2)), // SS2
+        0x1D => Said::Command(Command::Single(3)), // SS3
+        0x1E => Said::Command(Command::Home), // APH
+        0x00..=0x1F => Said::Refused(Reason::UnassignedControl),
+        0x80..=0x9F => Said::Command(Command::C1(byte - 0x80)),
+        _ => Said::Command(Command::Graphic(byte)),
+    }
+}

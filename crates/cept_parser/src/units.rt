@@ -1,0 +1,404 @@
+ghost use Rattle.std.specs.Prelude.{◌≡◌, ◌≤◌, ◌<◌, ◌∷◌, [], true, false, Option, Some, None, if◌then◌else◌};
+ghost use Rattle.cept_parser.specs.Bytes.{is_plain, is_digit, is_empty, begins_plain, with_plain, are_options, are_options_left, with_options};
+ghost use Rattle.cept_parser.specs.Context.{start};
+ghost use Rattle.cept_parser.specs.Fit.{fit_by, behind};
+ghost use Rattle.cept_parser.specs.Units.{position, drcs_parts, drcs_width, drcs_height, drcs_planes, drcs_header, drcs_unit, begins_drcs, colour_parts, colour_header, last_place, run_from, colours_from, colour_start, colour_unit, begins_colour, format_parts, format, service_break, service, service_unit, begins_service, us_unit, begins_us, header_grows, us_grows};
+
+use crate::bytes::{is_column, is_digit, is_plain, is_row, two_digits};
+use crate::context::{Closed, ColourKind, Context, Mode};
+use crate::fit::{Fit, behind, complete_fit};
+use cept_codes::{C1Set, Command, Form, Reason, Said};
+
+/// What is whole where the last optional part is left before these bytes.
+fn last_part_fit(part: &[u8], bytes: &[u8], closed: Closed) -> Fit
+    ensures { result ≡ fit_by (is_empty (behind part.now bytes.now)) (is_empty bytes.now) (if is_empty (behind part.now bytes.now) then Some closed else None) }
+{
+    if bytes.is_empty() {
+        return Fit::Longer(closed);
+    }
+    if behind(part, bytes).is_empty() {
+        Fit::Whole(closed)
+    } else {
+        Fit::Misfit
+    }
+}
+
+/// The width that the optional parts of a header tell.
+#[tactic(auto, unfolding(crate::specs::Units::drcs_width))]
+fn drcs_width(bytes: &[u8]) -> u8
+    ensures { result ≡ drcs_width bytes.now }
+{
+    if bytes.contains(&0x3A)
+        || bytes.contains(&0x3B)
+        || bytes.contains(&0x3C)
+        || bytes.contains(&0x3F)
+    {
+        6
+    } else {
+        12
+    }
+}
+
+/// The height.
+#[tactic(auto, unfolding(crate::specs::Units::drcs_height))]
+fn drcs_height(bytes: &[u8]) -> u8
+    ensures { result ≡ drcs_height bytes.now }
+{
+    if bytes.contains(&0x36) || bytes.contains(&0x3A) {
+        12
+    } else if bytes.contains(&0x3C) {
+        5
+    } else if bytes.contains(&0x3F) {
+        6
+    } else {
+        10
+    }
+}
+
+/// The number of planes.
+#[tactic(auto, unfolding(crate::specs::Units::drcs_planes))]
+fn drcs_planes(bytes: &[u8]) -> u8
+    ensures { result ≡ drcs_planes bytes.now }
+{
+    if bytes.contains(&0x42) {
+        2
+    } else if bytes.contains(&0x44) {
+        4
+    } else {
+        1
+    }
+}
+
+/// The header of downloaded characters.
+#[tactic(auto, unfolding(crate::specs::Units::drcs_header))]
+fn drcs_header(context: &Context, bytes: &[u8]) -> Closed
+    ensures { result ≡ drcs_header context.now bytes.now }
+{
+    let form = Form {
+        w: drcs_width(bytes),
+        h: drcs_height(bytes),
+        planes: drcs_planes(bytes),
+    };
+    Closed {
+        said: Said::Command(Command::DrcsHeader(bytes.contains(&0x28), form)),
+        next: Context {
+            mode: Mode::Skip,
+            kind: context.kind,
+            form,
+        },
+    }
+}
+
+/// What stands behind 1F 23 20.
+fn drcs_header_fit(context: &Context, bytes: &[u8]) -> Fit
+    ensures { result ≡ fit_by (are_options drcs_parts bytes.now) (are_options_left drcs_parts bytes.now) (with_options drcs_parts bytes.now (drcs_header context.now bytes.now)) }
+{
+    let rest = behind(&[0x20, 0x28], bytes);
+    let rest = behind(&[0x40], rest);
+    let rest = behind(&[0x36, 0x37, 0x3A, 0x3B, 0x3C, 0x3F], rest);
+    last_part_fit(&[0x41, 0x42, 0x44], rest, drcs_header(context, bytes))
+}
+
+/// The bytes behind 1F 23 and a byte.
+#[tactic(auto, unfolding(crate::specs::Units::drcs_unit, crate::specs::Units::begins_drcs, crate::specs::Units::header_grows))]
+fn drcs_behind(context: &Context, byte: u8, rest: &[u8]) -> Fit
+    ensures { result ≡ fit_by (begins_drcs (byte ∷ rest.now)) (header_grows drcs_parts (byte ∷ rest.now)) (drcs_unit context.now (byte ∷ rest.now)) }
+{
+    match byte {
+        0x20 => drcs_header_fit(context, rest),
+        0x21..=0x7E => complete_fit(
+            context.closed(Mode::DrcsRun(byte), Said::Command(Command::DrcsStart(byte))),
+            rest,
+        ),
+        0x7F => complete_fit(
+            context.closed(Mode::Skip, Said::Refused(Reason::BadParameter)),
+            rest,
+        ),
+        _ => Fit::Misfit,
+    }
+}
+
+/// Downloaded characters: what stands behind 1F 23.
+#[tactic(auto, unfolding(crate::specs::Units::drcs_unit, crate::specs::Units::begins_drcs, crate::specs::Units::header_grows))]
+fn drcs_fit(context: &Context, bytes: &[u8]) -> Fit
+    ensures { result ≡ fit_by (begins_drcs bytes.now) (header_grows drcs_parts bytes.now) (drcs_unit context.now bytes.now) }
+{
+    match bytes {
+        [] => Fit::Open,
+        [byte, rest @ ..] => drcs_behind(context, *byte, rest),
+    }
+}
+
+/// The header of colours.
+#[tactic(auto, unfolding(crate::specs::Units::colour_header))]
+fn colour_header(context: &Context, bytes: &[u8]) -> Closed
+    ensures { result ≡ colour_header context.now bytes.now }
+{
+    let dclut = bytes.contains(&0x22);
+    Closed {
+        said: Said::Command(Command::ColourHeader(dclut)),
+        next: Context {
+            mode: Mode::Skip,
+            kind: kind_of(dclut),
+            form: context.form,
+        },
+    }
+}
+
+/// The kind of colours.
+fn kind_of(dclut: bool) -> ColourKind
+    ensures { result ≡ (if dclut then ColourKind.LookUpTable else ColourKind.ColourTable) }
+{
+    if dclut {
+        ColourKind::LookUpTable
+    } else {
+        ColourKind::ColourTable
+    }
+}
+
+/// What stands behind 1F 26 20.
+fn colour_header_fit(context: &Context, bytes: &[u8]) -> Fit
+    ensures { result ≡ fit_by (are_options colour_parts bytes.now) (are_options_left colour_parts bytes.now) (with_options colour_parts bytes.now (colour_header context.now bytes.now)) }
+{
+    let rest = behind(&[0x20, 0x22], bytes);
+    let rest = behind(&[0x34], rest);
+    last_part_fit(&[0x40], rest, colour_header(context, bytes))
+}
+
+/// The last place of a kind of colours.
+fn last_place(kind: ColourKind) -> u8
+    ensures { result ≡ last_place kind }
+{
+    match kind {
+        ColourKind::ColourTable => 31,
+        ColourKind::LookUpTable => 3,
+    }
+}
+
+/// The run of colours that begins at a place.
+fn run_from(kind: ColourKind, place: u8) -> Mode
+    ensures { result ≡ run_from kind place }
+{
+    match kind {
+        ColourKind::ColourTable => Mode::TableRun(place),
+        ColourKind::LookUpTable => Mode::DclutRun(place),
+    }
+}
+
+/// Colours begin at a place.
+#[tactic(auto, unfolding(crate::specs::Units::colours_from))]
+fn colours_from(context: &Context, place: u8) -> Closed
+    ensures { result ≡ colours_from context.now place }
+{
+    if place <= last_place(context.kind) {
+        context.closed(
+            run_from(context.kind, place),
+            Said::Command(Command::ColourStart(place)),
+        )
+    } else {
+        context.closed(Mode::Skip, Said::Refused(Reason::BadParameter))
+    }
+}
+
+/// Colours begin at a place of two digits.
+#[tactic(auto, unfolding(crate::specs::Units::colour_start))]
+fn colour_start(context: &Context, tens: u8, ones: u8) -> Closed
+    requires { is_digit tens ≡ true }
+    ensures { result ≡ colour_start context.now tens ones }
+{
+    if is_digit(ones) {
+        colours_from(context, two_digits(tens, ones))
+    } else {
+        context.closed(Mode::Skip, Said::Refused(Reason::BadParameter))
+    }
+}
+
+/// What stands behind 1F 26 and a digit.
+fn colour_start_fit(context: &Context, tens: u8, bytes: &[u8]) -> Fit
+    requires { is_digit tens ≡ true }
+    ensures { result ≡ fit_by (begins_plain bytes.now) false (with_plain (colour_start context.now tens) bytes.now) }
+{
+    match bytes {
+        [] => Fit::Open,
+        [byte] if is_plain(*byte) => Fit::Whole(colour_start(context, tens, *byte)),
+        _ => Fit::Misfit,
+    }
+}
+
+/// The bytes behind 1F 26 and a byte.
+#[tactic(auto, unfolding(crate::specs::Units::colour_unit, crate::specs::Units::begins_colour, crate::specs::Units::header_grows))]
+fn colour_behind(context: &Context, byte: u8, rest: &[u8]) -> Fit
+    ensures { result ≡ fit_by (begins_colour (byte ∷ rest.now)) (header_grows colour_parts (byte ∷ rest.now)) (colour_unit context.now (byte ∷ rest.now)) }
+{
+    match byte {
+        0x20 => colour_header_fit(context, rest),
+        0x21 => complete_fit(
+            context.closed(Mode::Skip, Said::Command(Command::ColourDefaults)),
+            rest,
+        ),
+        0x30..=0x39 => colour_start_fit(context, byte, rest),
+        0x20..=0x7F => complete_fit(
+            context.closed(Mode::Skip, Said::Refused(Reason::BadParameter)),
+            rest,
+        ),
+        _ => Fit::Misfit,
+    }
+}
+
+/// Colours: what stands behind 1F 26.
+#[tactic(auto, unfolding(crate::specs::Units::colour_unit, crate::specs::Units::begins_colour, crate::specs::Units::header_grows))]
+fn colour_fit(context: &Context, bytes: &[u8]) -> Fit
+    ensures { result ≡ fit_by (begins_colour bytes.now) (header_grows colour_parts bytes.now) (colour_unit context.now bytes.now) }
+{
+    match bytes {
+        [] => Fit::Open,
+        [byte, rest @ ..] => colour_behind(context, *byte, rest),
+    }
+}
+
+/// The format.
+#[tactic(auto, unfolding(crate::specs::Units::format))]
+fn format(context: &Context, bytes: &[u8]) -> Closed
+    ensures { result ≡ format context.now bytes.now }
+{
+    let rows = if bytes.contains(&0x42) { 20 } else { 24 };
+    let wrap = !bytes.contains(&0x71);
+    context.closed(Mode::Text, Said::Command(Command::Format(rows, wrap)))
+}
+
+/// The format: what stands behind 1F 2D.
+fn format_fit(context: &Context, bytes: &[u8]) -> Fit
+    ensures { result ≡ fit_by (are_options format_parts bytes.now) (are_options_left format_parts bytes.now) (with_options format_parts bytes.now (format context.now bytes.now)) }
+{
+    let rest = behind(&[0x41, 0x42], bytes);
+    last_part_fit(&[0x70, 0x71], rest, format(context, bytes))
+}
+
+/// The service is broken at a row.
+#[tactic(auto, unfolding(crate::specs::Units::service_break))]
+fn service_break(context: &Context, row: u8) -> Closed
+    ensures { result ≡ service_break context.now row }
+{
+    if is_row(row) {
+        context.closed(Mode::Text, Said::Command(Command::ServiceBreak(row - 0x40)))
+    } else {
+        context.closed(Mode::Text, Said::Refused(Reason::BadParameter))
+    }
+}
+
+/// What stands behind 1F 2F 40.
+fn service_break_fit(context: &Context, bytes: &[u8]) -> Fit
+    ensures { result ≡ fit_by (begins_plain bytes.now) false (with_plain (service_break context.now) bytes.now) }
+{
+    match bytes {
+        [] => Fit::Open,
+        [byte] if is_plain(*byte) => Fit::Whole(service_break(context, *byte)),
+        _ => Fit::Misfit,
+    }
+}
+
+/// The other units of the service. Full defaults bring back the first context.
+#[tactic(auto, unfolding(crate::specs::Units::service))]
+fn service(context: &Context, byte: u8) -> Closed
+    ensures { result ≡ service context.now byte }
+{
+    match byte {
+        0x4F => context.closed(Mode::Text, Said::Command(Command::ServiceEnd)),
+        0x41 => Context::start().closed(
+            Mode::Text,
+            Said::Command(Command::FullDefaults(C1Set::Serial)),
+        ),
+        0x42 => Context::start().closed(
+            Mode::Text,
+            Said::Command(Command::FullDefaults(C1Set::Parallel)),
+        ),
+        0x43 => context.closed(
+            Mode::Text,
+            Said::Command(Command::ControlDefaults(C1Set::Serial)),
+        ),
+        0x44 => context.closed(
+            Mode::Text,
+            Said::Command(Command::ControlDefaults(C1Set::Parallel)),
+        ),
+        _ => context.closed(Mode::Text, Said::Refused(Reason::BadParameter)),
+    }
+}
+
+/// The bytes behind 1F 2F and a byte.
+#[tactic(auto, unfolding(crate::specs::Units::service_unit, crate::specs::Units::begins_service))]
+fn service_behind(context: &Context, byte: u8, rest: &[u8]) -> Fit
+    ensures { result ≡ fit_by (begins_service (byte ∷ rest.now)) false (service_unit context.now (byte ∷ rest.now)) }
+{
+    match byte {
+        0x40 => service_break_fit(context, rest),
+        0x20..=0x7F => complete_fit(service(context, byte), rest),
+        _ => Fit::Misfit,
+    }
+}
+
+/// The service: what stands behind 1F 2F.
+#[tactic(auto, unfolding(crate::specs::Units::service_unit, crate::specs::Units::begins_service))]
+fn service_fit(context: &Context, bytes: &[u8]) -> Fit
+    ensures { result ≡ fit_by (begins_service bytes.now) false (service_unit context.now bytes.now) }
+{
+    match bytes {
+        [] => Fit::Open,
+        [byte, rest @ ..] => service_behind(context, *byte, rest),
+    }
+}
+
+/// A position.
+#[tactic(auto, unfolding(crate::specs::Units::position))]
+fn position(context: &Context, row: u8, column: u8) -> Closed
+    ensures { result ≡ position context.now row column }
+{
+    if is_row(row) && is_column(column) {
+        context.closed(
+            Mode::Text,
+            Said::Command(Command::Position(row - 0x40, column - 0x40)),
+        )
+    } else {
+        context.closed(Mode::Text, Said::Refused(Reason::BadParameter))
+    }
+}
+
+/// What stands behind 1F and the row of a position.
+fn position_fit(context: &Context, row: u8, bytes: &[u8]) -> Fit
+    ensures { result ≡ fit_by (begins_plain bytes.now) false (with_plain (position context.now row) bytes.now) }
+{
+    match bytes {
+        [] => Fit::Open,
+        [byte] if is_plain(*byte) => Fit::Whole(position(context, row, *byte)),
+        _ => Fit::Misfit,
+    }
+}
+
+/// The bytes behind 1F and a byte.
+#[tactic(auto, unfolding(crate::specs::Units::us_unit, crate::specs::Units::begins_us, crate::specs::Units::us_grows))]
+fn us_behind(context: &Context, byte: u8, rest: &[u8]) -> Fit
+    ensures { result ≡ fit_by (begins_us (byte ∷ rest.now)) (us_grows (byte ∷ rest.now)) (us_unit context.now (byte ∷ rest.now)) }
+{
+    match byte {
+        0x23 => drcs_fit(context, rest),
+        0x26 => colour_fit(context, rest),
+        0x2D => format_fit(context, rest),
+        0x2F => service_fit(context, rest),
+        0x20..=0x3F => complete_fit(
+            context.closed(Mode::Skip, Said::Refused(Reason::UnknownUnit)),
+            rest,
+        ),
+        0x40..=0x7F => position_fit(context, byte, rest),
+        _ => Fit::Misfit,
+    }
+}
+
+/// US: what stands behind 1F.
+#[tactic(auto, unfolding(crate::specs::Units::us_unit, crate::specs::Units::begins_us, crate::specs::Units::us_grows))]
+pub fn us_fit(context: &Context, bytes: &[u8]) -> Fit
+    ensures { result ≡ fit_by (begins_us bytes.now) (us_grows bytes.now) (us_unit context.now bytes.now) }
+{
+    match bytes {
+        [] => Fit::Open,
+        [byte, rest @ ..] => us_behind(context, *byte, rest),
+    }
+}
