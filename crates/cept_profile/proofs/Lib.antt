@@ -11,4 +11,5 @@ pub mod ValidLook
 pub mod ValidPage
 pub mod ValidState
 pub mod Worked
+pub mod WorkedLooks
 pub mod Listed
