@@ -5,6 +5,7 @@ use Rattle.cept_codes.specs.declared.look.Paint.{Paint}
 use Rattle.cept_codes.specs.declared.look.Paint.TheVariants as paints
 use Rattle.cept_codes.specs.Look.{black}
 
+-- red, green and blue, 0 to 15 each
 abbrev pub ink : ℕ → ℕ → ℕ → Paint
 ink r g b = paints.Ink (record { r = r; g = g; b = b })
 
