@@ -16,5 +16,6 @@ pub mod ValidLook
 pub mod ValidPage
 pub mod ValidState
 pub mod Worked
+pub mod WorkedLooks
 pub mod Listed
 pub mod WorkedSettings

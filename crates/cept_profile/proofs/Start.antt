@@ -1,14 +1,15 @@
 -- The state and the grid before any command.
-use Rattle.std.proofs.Common.{◌≡◌, [], refl, ap}
+use Rattle.std.proofs.Common.{◌≡◌, [], refl, ap, ◌∙◌}
 use Rattle.cept_codes.specs.declared.cell.Cell.{Cell}
-use Rattle.cept_codes.specs.declared.look.Look.{Look}
+use Rattle.cept_codes.specs.declared.cell.What.TheVariants as whats
 use Rattle.cept_codes.specs.Cell.{blank}
 use Rattle.cept_codes.specs.Look.{blank_look}
 use Rattle.cept_codes.specs.Table.{table}
 use Rattle.cept_codes.proofs.Tables.{at-table, same_table}
 use Rattle.cept_profile.specs.Cells.{cell_back}
+use Rattle.cept_profile.specs.Colours.{default_paints}
 use Rattle.cept_profile.specs.Control.{initial}
-use Rattle.cept_profile.specs.Look.{shape_of, look, looks_of, grid}
+use Rattle.cept_profile.specs.Look.{look_of, look, looks_of, grid}
 use Rattle.cept_profile.specs.State.{page, state, blank_page}
 
 pub page-none : page [] ≡ blank_page
@@ -19,13 +20,14 @@ pub state-none : state [] ≡ record { page = blank_page; control = initial }
 unfolding cell_back
 state-none = refl
 
--- the look of a cell that holds this
-look_of : Cell → Look
-look_of cell = record blank_look { shape = shape_of cell.what }
+-- nothing written looks blank
+pub look_of-blank : look_of whats.Blank ≡ blank_look
+unfolding look_of default_paints
+look_of-blank = refl
 
 pub looks_of-blank : looks_of blank_page ≡ table (λ r c. blank_look)
-unfolding look_of
-looks_of-blank = same_table (look blank_page) (λ r c. blank_look) (λ r c on. ap look_of (at-table (λ q k. blank) blank r c on))
+looks_of-blank =
+    same_table (look blank_page) (λ r c. blank_look) (λ r c on. ap (λ (cell : Cell). look_of cell.what) (at-table (λ q k. blank) blank r c on) ∙ look_of-blank)
 
 pub grid-none : grid [] ≡ table (λ r c. blank_look)
 unfolding cell_back

@@ -1,18 +1,25 @@
 -- Valid looks: those of a valid page.
-use Rattle.std.proofs.Common.{◌&&◌, eqb, List, sym, subst, arith}
+use Rattle.std.proofs.Common.{ℕ, ◌≤◌, ◌%◌, zero, suc, ◌&&◌, eqb, Option, Some, None, List, [], ◌∷◌, sym, subst, arith, rules}
+use Rattle.std.specs.List.{AllByRecursion}
+use Rattle.std.specs.Prelude.{IfSome, slice_index_or}
 use Rattle.std.proofs.lemmas.Bool.{cond_both}
+use Rattle.cept_codes.specs.declared.attribute.Pen.{Pen}
 use Rattle.cept_codes.specs.declared.cell.What.{What}
 use Rattle.cept_codes.specs.declared.cell.What.TheVariants as whats
 use Rattle.cept_codes.specs.declared.command.Command.{Command}
 use Rattle.cept_codes.specs.declared.glyph.Glyph.{Glyph}
-use Rattle.cept_codes.specs.declared.look.Shape.{Shape}
+use Rattle.cept_codes.specs.declared.look.Paint.{Paint}
+use Rattle.cept_codes.specs.declared.look.Paint.TheVariants as paints
 use Rattle.cept_codes.specs.declared.look.Shape.TheVariants as shapes
+use Rattle.cept_codes.specs.Attribute.{IsEntry, IsValidPen, IsValidFull}
 use Rattle.cept_codes.specs.Cell.{IsValidWhat, blank}
 use Rattle.cept_codes.specs.Glyph.{IsValidGlyph}
-use Rattle.cept_codes.specs.Look.{IsValidPaint, IsValidShape, IsValidLook, white, black, blank_look}
+use Rattle.cept_codes.specs.Look.{IsValidPaint, IsValidShape, IsValidLook, black, blank_look}
 use Rattle.cept_codes.specs.Table.{at}
 use Rattle.cept_codes.proofs.Tables.{at-table, IsTable-table}
-use Rattle.cept_profile.specs.Look.{shape_of, shape_of_sign, look, looks_of, grid}
+use Rattle.cept_profile.specs.Attributes.{first_of, cascade}
+use Rattle.cept_profile.specs.Colours.{ink, default_paints, default_paint, fore_paint, back_paint, over}
+use Rattle.cept_profile.specs.Look.{shape_of, shape_of_sign, attributes_of, look_of, look, looks_of, grid}
 use Rattle.cept_profile.specs.State.{Page, page}
 use Rattle.cept_profile.specs.Valid.{AllValid, IsValidPage, IsValidGrid}
 use Rattle.cept_profile.proofs.ValidState.{IsValidState-state}
@@ -26,25 +33,58 @@ IsValidShape-shape_of (whats.Serial g) valid = IsValidShape-sign g valid
 IsValidShape-shape_of (whats.Parallel g pen) valid = IsValidShape-sign g valid.0
 IsValidShape-shape_of (whats.Marker m) valid = tt
 
-IsValidPaint-white : IsValidPaint white
-IsValidPaint-white = record { r = omega arith; g = omega arith; b = omega arith }
+-- ---- attributes and paints
+
+first_of-valid : (a b c : Option ℕ) (d : ℕ) → IfSome a IsEntry → IfSome b IsEntry → IfSome c IsEntry → IsEntry d → IsEntry (first_of a b c d)
+first_of-valid (Some x) b c d va vb vc vd = va
+first_of-valid None (Some x) c d va vb vc vd = vb
+first_of-valid None None (Some x) d va vb vc vd = vc
+first_of-valid None None None d va vb vc vd = vd
+
+pub IsValidFull-cascade : (pen row screen : Pen) → IsValidPen pen → IsValidPen row → IsValidPen screen → IsValidFull (cascade pen row screen)
+IsValidFull-cascade pen row screen is_pen is_row is_screen = record {
+  fore = first_of-valid pen.fore row.fore screen.fore 7 is_pen.fore is_row.fore is_screen.fore (omega arith);
+  back = first_of-valid pen.back row.back screen.back 0 is_pen.back is_row.back is_screen.back (omega arith);
+}
+
+IsValidPaint-ink : (r g b : ℕ) → r ≤ 15 → g ≤ 15 → b ≤ 15 → IsValidPaint (ink r g b)
+IsValidPaint-ink r g b hr hg hb = record { r = hr; g = hg; b = hb }
 
 IsValidPaint-black : IsValidPaint black
 IsValidPaint-black = record { r = omega arith; g = omega arith; b = omega arith }
 
--- a valid shape with no attribute
-pub IsValidLook-shape : (shape : Shape) → IsValidShape shape → IsValidLook (record blank_look { shape = shape })
-IsValidLook-shape shape valid = record {
-  shape = valid;
+all_valid : (xs : List Paint) → AllByRecursion IsValidPaint xs → (i : ℕ) → IsValidPaint (slice_index_or xs i black)
+all_valid [] all i = IsValidPaint-black
+all_valid (x ∷ xs) all zero = all.0
+all_valid (x ∷ xs) all (suc i) = all_valid xs all.1 i
+
+default_paints-valid : AllByRecursion IsValidPaint default_paints
+unfolding default_paints
+default_paints-valid =
+    search rules
+
+pub IsValidPaint-default_paint : (i : ℕ) → IsValidPaint (default_paint i)
+IsValidPaint-default_paint i = all_valid default_paints default_paints-valid (i % 16)
+
+IsValidPaint-over : (fore back : Paint) → IsValidPaint fore → IsValidPaint back → IsValidPaint (over fore back)
+IsValidPaint-over paints.Video back is_fore is_back = is_back
+IsValidPaint-over (paints.Ink c) back is_fore is_back = is_fore
+
+-- ---- looks
+
+pub IsValidLook-look_of : (what : What) → IsValidWhat what → IsValidLook (look_of what)
+unfolding look_of
+IsValidLook-look_of what valid = record {
+  shape = IsValidShape-shape_of what valid;
   part = record { down = omega arith; right = omega arith; wide = (omega arith, omega arith); high = (omega arith, omega arith) };
-  fore = IsValidPaint-white;
-  back = IsValidPaint-black;
+  fore = IsValidPaint-over (fore_paint (attributes_of what)) (back_paint (attributes_of what)) (IsValidPaint-default_paint _) (IsValidPaint-default_paint _);
+  back = IsValidPaint-default_paint _;
 }
 
 pub IsValidGrid-looks_of : (p : Page) → IsValidPage p → IsValidGrid (looks_of p)
 IsValidGrid-looks_of p is = record {
   table = IsTable-table (look p);
-  looks = λ r c on. subst IsValidLook (sym (at-table (look p) blank_look r c on)) (IsValidLook-shape (shape_of (at blank p.cells r c).what) (IsValidShape-shape_of (at blank p.cells r c).what (is.cells r c on)));
+  looks = λ r c on. subst IsValidLook (sym (at-table (look p) blank_look r c on)) (IsValidLook-look_of (at blank p.cells r c).what (is.cells r c on));
 }
 
 pub IsValidGrid-grid : (history : List Command) → AllValid history → IsValidGrid (grid history)

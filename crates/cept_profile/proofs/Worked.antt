@@ -16,8 +16,10 @@ use Rattle.cept_codes.specs.Look.{blank_look}
 use Rattle.cept_codes.specs.Table.{row_of, table, at}
 use Rattle.cept_profile.specs.Cells.{cell_back}
 use Rattle.cept_profile.specs.Changes.{differences, listed, changes}
+use Rattle.cept_profile.specs.Colours.{default_paints}
 use Rattle.cept_profile.specs.Control.{ControlState, initial, initial_working, moved_to, control}
 use Rattle.cept_profile.specs.Sets.{set_of, read_as}
+use Rattle.cept_profile.specs.Look.{look_of}
 use Rattle.cept_profile.specs.State.{page}
 use Rattle.cept_profile.specs.Strokes.{strokes_in, strokes_of}
 use Rattle.cept_profile.specs.Writing.{behind_copies, copies}
@@ -46,12 +48,12 @@ nothing_beside_it = refl
 
 -- and is the only change
 pub one_change : changes [] (Graphic 0x41) ≡ (record { row = 1; column = 1 }, look_with 0x41) ∷ []
-unfolding table row_of cell_back differences listed set_of read_as
+unfolding table row_of cell_back differences listed set_of read_as look_of default_paints
 one_change = refl
 
 -- a space is no change, though a sign stands there
 pub space_changes_nothing : changes [] (Graphic 0x20) ≡ []
-unfolding table row_of cell_back differences listed set_of read_as
+unfolding table row_of cell_back differences listed set_of read_as look_of default_paints
 space_changes_nothing = refl
 
 pub space_stands : at blank (page (Graphic 0x20 ∷ [])).cells 1 1 ≡ cell_with 0x20
@@ -74,12 +76,12 @@ end_of_row = refl
 
 -- the same sign again is no change
 pub same_sign_again : changes (Graphic 0x41 ∷ Return ∷ []) (Graphic 0x41) ≡ []
-unfolding table row_of cell_back differences listed set_of read_as
+unfolding table row_of cell_back differences listed set_of read_as look_of default_paints
 same_sign_again = refl
 
 -- Clear blanks and goes home, and tells what it blanked in reading order
 pub clear_blanks : changes (Position 2 1 ∷ Graphic 0x41 ∷ Position 1 40 ∷ Graphic 0x42 ∷ []) Clear ≡ (record { row = 1; column = 40 }, blank_look) ∷ (record { row = 2; column = 1 }, blank_look) ∷ []
-unfolding table row_of cell_back differences listed set_of read_as
+unfolding table row_of cell_back differences listed set_of read_as look_of default_paints
 clear_blanks = refl
 
 pub clear_goes_home : control (Position 9 9 ∷ Clear ∷ []) ≡ initial

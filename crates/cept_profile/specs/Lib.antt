@@ -1,5 +1,7 @@
+pub mod Attributes
 pub mod Cells
 pub mod Changes
+pub mod Colours
 pub mod Control
 pub mod ControlSettings
 pub mod Look

@@ -1,7 +1,7 @@
 -- Valid grids: the blank one, and a grid with a valid look painted.
 use Rattle.std.proofs.Common.{ℕ, Bool, true, false, cond, List, sym, subst}
+use Rattle.cept_codes.specs.declared.cell.What.TheVariants as whats
 use Rattle.cept_codes.specs.declared.look.Look.{Look}
-use Rattle.cept_codes.specs.declared.look.Shape.TheVariants as shapes
 use Rattle.cept_codes.specs.Look.{blank_look, IsValidLook}
 use Rattle.cept_codes.specs.Place.{Place, OnScreen}
 use Rattle.cept_codes.specs.Table.{table, at}
@@ -9,7 +9,8 @@ use Rattle.cept_codes.proofs.Tables.{at-table, IsTable-table}
 use Rattle.cept_profile.specs.Cells.{is_at}
 use Rattle.cept_profile.specs.Changes.{painted}
 use Rattle.cept_profile.specs.Valid.{IsValidGrid}
-use Rattle.cept_profile.proofs.ValidLook.{IsValidLook-shape}
+use Rattle.cept_profile.proofs.Start.{look_of-blank}
+use Rattle.cept_profile.proofs.ValidLook.{IsValidLook-look_of}
 
 -- a table of valid looks is a valid grid
 IsValidGrid-table : (f : ℕ → ℕ → Look) → ((r c : ℕ) → OnScreen r c → IsValidLook (f r c)) → IsValidGrid (table f)
@@ -19,7 +20,7 @@ IsValidGrid-table f valid = record {
 }
 
 pub IsValidGrid-blank : IsValidGrid (table (λ _ _. blank_look))
-IsValidGrid-blank = IsValidGrid-table (λ _ _. blank_look) (λ r c on. IsValidLook-shape shapes.Space tt)
+IsValidGrid-blank = IsValidGrid-table (λ _ _. blank_look) (λ r c on. subst IsValidLook look_of-blank (IsValidLook-look_of whats.Blank tt))
 
 valid_choice : (here : Bool) (l old : Look) → IsValidLook l → IsValidLook old → IsValidLook (cond here l old)
 valid_choice true l old new was = new

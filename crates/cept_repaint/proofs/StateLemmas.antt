@@ -1,17 +1,12 @@
 -- States by their parts, at the start and after a command.
-use Rattle.std.proofs.Common.{◌≡◌, List, [], sym, ap, subst, ◌∙◌}
+use Rattle.std.proofs.Common.{◌≡◌, List, sym, ap, subst, ◌∙◌}
 use Rattle.cept_codes.specs.declared.command.Command.{Command}
 use Rattle.cept_codes.specs.declared.look.Look.{Look}
 use Rattle.cept_codes.specs.declared.stroke.Stroke.{Stroke}
-use Rattle.cept_codes.specs.Cell.{blank}
 use Rattle.cept_codes.specs.Command.{IsValidCommand}
-use Rattle.cept_codes.specs.Look.{blank_look}
-use Rattle.cept_codes.specs.Table.{table}
-use Rattle.cept_codes.proofs.Tables.{same_table, at-table}
-use Rattle.cept_profile.specs.Cells.{cell_back}
 use Rattle.cept_profile.specs.Control.{ControlState, control_after}
-use Rattle.cept_profile.specs.Look.{look, looks_of, shape_of}
-use Rattle.cept_profile.specs.State.{Page, State, page, drawn, after}
+use Rattle.cept_profile.specs.Look.{looks_of}
+use Rattle.cept_profile.specs.State.{Page, State, drawn, after}
 use Rattle.cept_profile.specs.Strokes.{strokes_of}
 use Rattle.cept_profile.specs.Valid.{IsValidState}
 use Rattle.cept_profile.proofs.ValidState.{IsValidState-after}
@@ -20,11 +15,6 @@ use Rattle.cept_repaint.specs.Kept.{IsKept}
 -- two states of the same page and the same control are the same
 pub same_state : (p q : Page) (c d : ControlState) → p ≡ q → c ≡ d → (let s : State = record { page = p; control = c } in s) ≡ (let t : State = record { page = q; control = d } in t)
 same_state p q c d e f = λ i. record { page = e i; control = f i }
-
--- all looks are blank at the start
-pub looks_of-start : looks_of (page []) ≡ table (λ _ _. blank_look)
-unfolding cell_back
-looks_of-start = same_table (look (page [])) (λ _ _. blank_look) (λ r c on. ap (λ cell. record blank_look { shape = shape_of cell.what }) (at-table (λ _ _. blank) blank r c on))
 
 -- what is kept after a command
 pub IsKept-after : {p : Page} {c : ControlState} {kept : List (List Look)} → IsKept (record { page = p; control = c }) kept → (command : Command) → IsValidCommand command → (q : Page) (d : ControlState) (next : List (List Look)) (strokes : List Stroke) → strokes ≡ strokes_of c command → q ≡ drawn p strokes → d ≡ control_after c command → next ≡ looks_of q → IsKept (record { page = q; control = d }) next

@@ -2,6 +2,8 @@
 //! a glass. It knows no bytes and keeps no history.
 #![tactic(auto)]
 
+mod cell_look;
+mod colours;
 mod glass;
 mod grid;
 mod grid_glass;

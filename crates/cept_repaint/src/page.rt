@@ -1,12 +1,12 @@
 ghost use Rattle.std.specs.Prelude.{◌≡◌, ◌≤◌, [], IfOk};
 ghost use Rattle.cept_codes.specs.Cell.{blank};
-ghost use Rattle.cept_codes.specs.Look.{blank_look};
 ghost use Rattle.cept_codes.specs.Table.{at, row_of};
-ghost use Rattle.cept_profile.specs.Look.{look, shape_of, shape_of_sign};
+ghost use Rattle.cept_profile.specs.Look.{look};
 ghost use Rattle.cept_profile.specs.State.{page, drawn};
 
+use crate::cell_look::look_of;
 use crate::grid::Grid;
-use cept_codes::{Cell, Glyph, Look, NoMemory, Pos, Shape, Stroke, What};
+use cept_codes::{Cell, Look, NoMemory, Pos, Stroke};
 use std::alloc::Global;
 use std::marker::Model;
 
@@ -58,34 +58,8 @@ impl Page {
         let cells = self.grid.row(row);
         let mut looks = [Look::BLANK; 40];
         for i in 0..40usize {
-            looks[i] = look_of(&cells[i]);
+            looks[i] = look_of(&cells[i].what);
         }
         looks
-    }
-}
-
-/// The look of a cell.
-fn look_of(cell: &Cell) -> Look
-    ensures { result ≡ record blank_look { shape = shape_of cell.now.what } }
-{
-    let shape = match cell.what {
-        What::Serial(glyph) => shape_of_sign(glyph),
-        What::Parallel(glyph, _) => shape_of_sign(glyph),
-        What::Blank | What::Marker(_) => Shape::Space,
-    };
-    Look {
-        shape,
-        ..Look::BLANK
-    }
-}
-
-/// A sign is drawn as itself, the space without accent as nothing.
-fn shape_of_sign(glyph: Glyph) -> Shape
-    ensures { result ≡ shape_of_sign glyph }
-{
-    if glyph.code == 0x20 && glyph.accent == 0 {
-        Shape::Space
-    } else {
-        Shape::Char(glyph)
     }
 }

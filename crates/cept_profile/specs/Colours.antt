@@ -1,0 +1,32 @@
+-- Colours: the paints of the entries of the default colour table (ETS 300 072, colour tables).
+use Rattle.std.specs.Prelude.{ℕ, ◌%◌, List, [], ◌∷◌, slice_index_or, if◌then◌else◌}
+use Rattle.cept_codes.specs.declared.attribute.Full.{Full}
+use Rattle.cept_codes.specs.declared.look.Paint.{Paint}
+use Rattle.cept_codes.specs.declared.look.Paint.TheVariants as paints
+use Rattle.cept_codes.specs.Look.{black}
+
+-- red, green and blue, 0 to 15 each
+abbrev pub ink : ℕ → ℕ → ℕ → Paint
+ink r g b = paints.Ink (record { r = r; g = g; b = b })
+
+-- entries 0 to 15 of the default colour table: full colours, then the one that shows the picture behind, then reduced colours
+unfoldable pub default_paints : List Paint
+default_paints =
+    ink 0 0 0 ∷ ink 15 0 0 ∷ ink 0 15 0 ∷ ink 15 15 0 ∷ ink 0 0 15 ∷ ink 15 0 15 ∷ ink 0 15 15 ∷ ink 15 15 15 ∷
+    paints.Video ∷ ink 7 0 0 ∷ ink 0 7 0 ∷ ink 7 7 0 ∷ ink 0 0 7 ∷ ink 7 0 7 ∷ ink 0 7 7 ∷ ink 7 7 7 ∷ []
+
+-- entries 16 to 31 are as those
+abbrev pub default_paint : ℕ → Paint
+default_paint i = slice_index_or default_paints (i % 16) black
+
+-- the paints of foreground and background: those of their entries, exchanged under invert
+abbrev pub fore_paint : Full → Paint
+fore_paint f = default_paint (if f.invert then f.back else f.fore)
+
+abbrev pub back_paint : Full → Paint
+back_paint f = default_paint (if f.invert then f.fore else f.back)
+
+-- a foreground that would show the picture behind is as the background
+abbrev pub over : Paint → Paint → Paint
+over paints.Video back = back
+over (paints.Ink c) back = paints.Ink c
