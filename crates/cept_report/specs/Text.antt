@@ -93,7 +93,6 @@ reason_number reasons.UnknownUnit = 4
 reason_number reasons.BadParameter = 5
 reason_number reasons.Interrupted = 6
 reason_number reasons.Truncated = 7
-reason_number reasons.NotBuilt = 8
 
 unfoldable pub reason_name : Reason → List ℕ
 reason_name reasons.UnassignedControl = codes "UnassignedControl"
@@ -103,7 +102,6 @@ reason_name reasons.UnknownUnit = codes "UnknownUnit"
 reason_name reasons.BadParameter = codes "BadParameter"
 reason_name reasons.Interrupted = codes "Interrupted"
 reason_name reasons.Truncated = codes "Truncated"
-reason_name reasons.NotBuilt = codes "NotBuilt"
 
 -- an exclamation mark, the place, the length, and the reason's number and name
 abbrev pub refusal_line : ℕ → ℕ → Reason → List ℕ

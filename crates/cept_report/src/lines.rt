@@ -36,7 +36,6 @@ fn number_of(reason: Reason) -> u8
         Reason::BadParameter => 5,
         Reason::Interrupted => 6,
         Reason::Truncated => 7,
-        Reason::NotBuilt => 8,
     }
 }
 
@@ -54,7 +53,6 @@ fn add_name(line: &mut Line, reason: Reason)
         Reason::BadParameter => add_text(line, b"BadParameter"),
         Reason::Interrupted => add_text(line, b"Interrupted"),
         Reason::Truncated => add_text(line, b"Truncated"),
-        Reason::NotBuilt => add_text(line, b"NotBuilt"),
     }
 }
 
