@@ -36,50 +36,42 @@ fn compare(
 
 #[test]
 fn tells_worked_pages(rt: HostRuntime) -> Result<(), Fail> {
-    let alloc = rt.alloc();
-    compare(&rt, alloc, b"", "", Status::Done)?;
-    compare(
-        &rt,
-        alloc,
-        b"A",
-        "0 1 1 P41 11.00 FFF 000 S---\n",
-        Status::Done,
-    )?;
-    compare(
-        &rt,
-        alloc,
-        b"\x1F@A",
-        "! 0 1 8 NotBuilt\n1 1 1 P40 11.00 FFF 000 S---\n2 1 2 P41 11.00 FFF 000 S---\n",
-        Status::Refusals,
-    )?;
-    compare(
-        &rt,
-        alloc,
-        b"A\x07",
-        "0 1 1 P41 11.00 FFF 000 S---\n! 1 1 8 NotBuilt\n",
-        Status::Refusals,
-    )?;
-    compare(
-        &rt,
-        alloc,
-        b"A\x1FAAA",
-        "0 1 1 P41 11.00 FFF 000 S---\n",
-        Status::Done,
-    )?;
-    compare(
-        &rt,
-        alloc,
-        b"\x1FXhAB",
-        "3 24 40 P41 11.00 FFF 000 S---\n4 1 1 P42 11.00 FFF 000 S---\n",
-        Status::Done,
-    )?;
-    compare(
-        &rt,
-        alloc,
-        b"AB\x0D\x0AC\x0C\x1FA",
-        "0 1 1 P41 11.00 FFF 000 S---\n1 1 2 P42 11.00 FFF 000 S---\n4 2 1 P43 11.00 FFF 000 S---\n5 1 1 - 11.00 FFF 000 S---\n5 1 2 - 11.00 FFF 000 S---\n5 2 1 - 11.00 FFF 000 S---\n! 6 2 7 Truncated\n",
-        Status::Refusals,
-    )?;
+    let pages = [
+        (b"".as_slice(), "", Status::Done),
+        (b"A", "0 1 1 P41 11.00 FFF 000 S---\n", Status::Done),
+        (b"A\x1FAAA", "0 1 1 P41 11.00 FFF 000 S---\n", Status::Done),
+        (
+            b"\x9B1\x0DB",
+            "! 0 2 6 Interrupted\n3 1 1 P42 11.00 FFF 000 S---\n",
+            Status::Refusals,
+        ),
+        (b"\x1B\x22U", "! 0 3 2 UnknownEscape\n", Status::Refusals),
+        (
+            b"\x1F@A\x1FXhA",
+            "! 0 3 5 BadParameter\n6 24 40 P41 11.00 FFF 000 S---\n",
+            Status::Refusals,
+        ),
+        (
+            b"\x1FXhAB",
+            "3 24 40 P41 11.00 FFF 000 S---\n4 1 1 P42 11.00 FFF 000 S---\n",
+            Status::Done,
+        ),
+        (b"\x19Ha", "2 1 1 P61+48 11.00 FFF 000 S---\n", Status::Done),
+        (b"\xC8\x0Da", "2 1 1 P61 11.00 FFF 000 S---\n", Status::Done),
+        (b"A\x12@", "0 1 1 P41 11.00 FFF 000 S---\n", Status::Done),
+        (
+            b"\x95A\x9EB\x9DC",
+            "1 1 1 P41 11.00 FFF F0F S---\n3 1 2 P42 11.00 FFF 000 S---\n5 1 3 P43 11.00 000 FFF S---\n",
+            Status::Done,
+        ),
+        (b"\x1C", "! 0 1 1 UnassignedControl\n", Status::Refusals),
+        (b"\x9B9@", "! 0 3 3 UnknownCsi\n", Status::Refusals),
+        (b"\x1F1A\x0D", "! 0 2 4 UnknownUnit\n", Status::Refusals),
+        (b"\x1B", "! 0 1 7 Truncated\n", Status::Refusals),
+    ];
+    for (page, want, status) in pages {
+        compare(&rt, rt.alloc(), page, want, status)?;
+    }
     Ok(())
 }
 
