@@ -1,1 +1,3 @@
+pub mod Pieces
 pub mod Putting
+pub mod ScreenLines
