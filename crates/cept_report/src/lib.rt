@@ -7,5 +7,7 @@ mod lines;
 mod look;
 mod put;
 mod signs;
+#[cfg(test)]
+mod tests;
 
 pub use put::{put_cells, put_changes, put_check, put_refusal, put_screen};
