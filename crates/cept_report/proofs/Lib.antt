@@ -1,1 +1,4 @@
+pub mod Pieces
 pub mod Putting
+pub mod ScreenLines
+pub mod Worked

@@ -106,3 +106,7 @@ reason_name reasons.Truncated = codes "Truncated"
 -- an exclamation mark, the place, the length, and the reason's number and name
 abbrev pub refusal_line : ℕ → ℕ → Reason → List ℕ
 refusal_line place size reason = join_with_byte 32 (codes "!" ∷ decimal place ∷ decimal size ∷ decimal (reason_number reason) ∷ reason_name reason ∷ []) ++ 10 ∷ []
+
+-- how many items there are, and how many of them are refused
+abbrev pub check_line : ℕ → ℕ → List ℕ
+check_line items refused = join_with_byte 32 (codes "items" ∷ decimal items ∷ codes "refused" ∷ decimal refused ∷ []) ++ 10 ∷ []

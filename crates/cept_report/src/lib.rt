@@ -1,9 +1,13 @@
-//! The texts of a report: change lines and refusal lines, each put exactly. It knows no bytes of a page and no history.
+//! The texts of a report: the lines of changes, refusals, counts and cells, and the screen, each put exactly. It knows no bytes of
+//! a page and no history.
 #![tactic(auto)]
 
 mod line;
 mod lines;
 mod look;
 mod put;
+mod signs;
+#[cfg(test)]
+mod tests;
 
-pub use put::{put_changes, put_refusal};
+pub use put::{put_cells, put_changes, put_check, put_refusal, put_screen};

@@ -1,7 +1,8 @@
 ghost use Rattle.std.specs.Prelude.{◌≡◌, ◌+◌, ◌≤◌, ◌<◌, ◌∷◌, [], ◌++◌, length, decimal};
 ghost use Rattle.arrayvec.specs.ArrayVec.{array_vec_len};
 ghost use Rattle.cept_codes.specs.Look.{IsValidLook};
-ghost use Rattle.cept_report.specs.Text.{reason_number, reason_name, change_line, refusal_line};
+ghost use Rattle.cept_report.specs.Screen.{cell_line, cell_text};
+ghost use Rattle.cept_report.specs.Text.{reason_number, reason_name, change_line, check_line, refusal_line};
 
 use crate::line::{Line, add_byte, add_number, add_text};
 use crate::look::add_look;
@@ -20,6 +21,47 @@ pub fn change_line(label: u64, at: Pos, look: &Look) -> Line
     add_number(&mut line, u64::from(at.col()));
     add_byte(&mut line, b' ');
     add_look(&mut line, look);
+    add_byte(&mut line, b'\n');
+    line
+}
+
+/// The line of a place.
+fn cell_line(at: Pos, look: &Look) -> Line
+    requires { IsValidLook look.now }
+    ensures { result.items ≡ cell_line at look.now }
+{
+    let mut line = Line::new();
+    add_number(&mut line, u64::from(at.row()));
+    add_byte(&mut line, b' ');
+    add_number(&mut line, u64::from(at.col()));
+    add_byte(&mut line, b' ');
+    add_look(&mut line, look);
+    add_byte(&mut line, b'\n');
+    line
+}
+
+/// The line of a place, and nothing where its look is blank.
+#[tactic(auto, unfolding(crate::specs::Screen::cell_text))]
+pub fn cell_text(at: Pos, look: &Look) -> Line
+    requires { IsValidLook look.now }
+    ensures { result.items ≡ cell_text at look.now }
+{
+    if *look == Look::BLANK {
+        Line::new()
+    } else {
+        cell_line(at, look)
+    }
+}
+
+/// The line of the items and the refused ones among them.
+pub fn check_line(items: u64, refused: u64) -> Line
+    ensures { result.items ≡ check_line items refused }
+{
+    let mut line = Line::new();
+    add_text(&mut line, b"items ");
+    add_number(&mut line, items);
+    add_text(&mut line, b" refused ");
+    add_number(&mut line, refused);
     add_byte(&mut line, b'\n');
     line
 }
