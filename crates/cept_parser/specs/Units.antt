@@ -140,7 +140,7 @@ format x u =
 unfoldable pub service_break : Context → ℕ → Closed
 service_break x r =
     if is_row r then closed x Text (Says (command.ServiceBreak (r - 0x40))) else
-    closed x Text (Refused BadParameter)
+    closed x Skip (Refused BadParameter)
 
 -- 1F 2F a: the other service units. Full defaults bring back the first context
 unfoldable pub service : Context → ℕ → Closed
@@ -150,7 +150,7 @@ service x a =
     if a == 0x42 then closed start Text (Says (command.FullDefaults Parallel)) else
     if a == 0x43 then closed x Text (Says (command.ControlDefaults Serial)) else
     if a == 0x44 then closed x Text (Says (command.ControlDefaults Parallel)) else
-    closed x Text (Refused BadParameter)
+    closed x Skip (Refused BadParameter)
 
 -- 1F 2F: the service
 unfoldable pub service_unit : Context → List ℕ → Option Closed

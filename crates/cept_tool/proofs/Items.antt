@@ -1,5 +1,9 @@
 -- What is told of items one after the other.
-use Rattle.std.proofs.Common.{◌≡◌, Bool, true, false, cond, List, [], ◌∷◌, ◌++◌, ◌||◌, refl, sym, ap, ◌∙◌, append_assoc, append-nil}
+use Rattle.std.specs.List.{sum_by}
+use Rattle.std.proofs.lemmas.List.Sums.{sum_by-append}
+use Rattle.cept_codes.specs.declared.look.Look.{Look}
+use Rattle.cept_codes.specs.Place.{Place}
+use Rattle.std.proofs.Common.{◌≡◌, ℕ, ◌+◌, zero-add, Bool, true, false, cond, List, [], ◌∷◌, ◌++◌, refl, sym, ap, ◌∙◌, append_assoc, append-nil}
 use Rattle.cept_codes.specs.declared.command.Command.{Command}
 use Rattle.cept_codes.specs.declared.item.Item.{Item}
 use Rattle.cept_codes.specs.declared.item.Reason.{Reason}
@@ -8,7 +12,7 @@ use Rattle.cept_parser.specs.Items.{commands_of, command_said}
 use Rattle.cept_tool.specs.declared.words.Order.{Order}
 use Rattle.cept_tool.specs.declared.words.Order.TheVariants as orders
 use Rattle.cept_tool.specs.Words.{is_painting}
-use Rattle.cept_tool.specs.Events.{applied, item_text, item_paints, told_behind, painted_behind, has_refusal, is_refused}
+use Rattle.cept_tool.specs.Events.{lines_text, applied, item_text, item_paints, told_behind, painted_behind, refused_count, is_refused}
 
 -- one item more
 pub told_behind-more : (order : Order) (earlier items : List Item) (i : Item) → told_behind order earlier (items ++ i ∷ []) ≡ told_behind order earlier items ++ item_text order (applied order (earlier ++ items)) i i.what
@@ -27,18 +31,17 @@ painted_behind-more order earlier (j ∷ is) i =
     ap (λ t. item_paints order (applied order earlier) j.what ++ t) (painted_behind-more order (earlier ++ j ∷ []) is i ∙ ap (λ h. painted_behind order (earlier ++ j ∷ []) is ++ item_paints order (applied order h) i.what) (append_assoc earlier (j ∷ []) is))
     ∙ sym (append_assoc (item_paints order (applied order earlier) j.what) (painted_behind order (earlier ++ j ∷ []) is) _)
 
-or_assoc : (a b c : Bool) → (a || (b || c)) ≡ ((a || b) || c)
-or_assoc true b c = refl
-or_assoc false b c = refl
+-- the refused items among one item more
+pub refused_count-more : (items : List Item) (i : Item) → refused_count (items ++ i ∷ []) ≡ refused_count items + cond (is_refused i.what) 1 0
+refused_count-more items i =
+    sum_by-append (λ (j : Item). cond (is_refused j.what) 1 0) items (i ∷ []) ∙ ap (λ n. sum_by (λ (j : Item). cond (is_refused j.what) 1 0) items + n) (zero-add _)
 
-or_false : (a : Bool) → (a || false) ≡ a
-or_false true = refl
-or_false false = refl
-
-pub has_refusal-more : (items : List Item) (i : Item) → has_refusal (items ++ i ∷ []) ≡ (has_refusal items || is_refused i.what)
-unfolding has_refusal
-has_refusal-more [] i = or_false _
-has_refusal-more (j ∷ is) i = ap (λ t. is_refused j.what || t) (has_refusal-more is i) ∙ or_assoc (is_refused j.what) (has_refusal is) (is_refused i.what)
+-- items that aren't painted are told by no lines
+pub lines_text-idle : (order : Order) (place : ℕ) (xs : List (Place × Look)) → is_painting order ≡ false → lines_text order place xs ≡ []
+lines_text-idle orders.Changes place xs idle = cc
+lines_text-idle orders.Check place xs idle = refl
+lines_text-idle orders.Show place xs idle = cc
+lines_text-idle orders.Cells place xs idle = cc
 
 -- the commands of one item more
 pub commands_of-more : (items : List Item) (i : Item) → commands_of (items ++ i ∷ []) ≡ commands_of items ++ command_said i.what
@@ -48,10 +51,16 @@ commands_of-more (j ∷ is) i = ap (λ t. command_said j.what ++ t) (commands_of
 -- nothing was applied before the first item
 pub applied-nothing : (order : Order) → applied order [] ≡ []
 applied-nothing orders.Changes = refl
+applied-nothing orders.Check = refl
+applied-nothing orders.Show = refl
+applied-nothing orders.Cells = refl
 
 -- what was applied after one item more
 pub applied-more : (order : Order) (items : List Item) (i : Item) → applied order (items ++ i ∷ []) ≡ applied order items ++ cond (is_painting order) (command_said i.what) []
 applied-more orders.Changes items i = commands_of-more items i
+applied-more orders.Check items i = refl
+applied-more orders.Show items i = commands_of-more items i
+applied-more orders.Cells items i = commands_of-more items i
 
 -- a command is applied
 pub applied-command : (order : Order) (items : List Item) (i : Item) (command : Command) → is_painting order ≡ true → i.what ≡ said.Command command → applied order (items ++ i ∷ []) ≡ applied order items ++ command ∷ []
@@ -67,6 +76,6 @@ applied-refused order items i reason is =
     nothing true = append-nil _
     nothing false = append-nil _
 
--- each order applies the commands
-pub always_painting : (order : Order) → is_painting order ≡ true
-always_painting orders.Changes = refl
+-- without painting nothing is applied
+pub applied-idle : (order : Order) (items : List Item) → is_painting order ≡ false → applied order items ≡ []
+applied-idle order items idle = ap (λ b. cond b (commands_of items) []) idle

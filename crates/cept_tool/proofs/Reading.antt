@@ -6,6 +6,7 @@ use Rattle.std.proofs.Math.Seq.{take-add}
 use Rattle.cept_outside.specs.ShelfState.{ShelfState, KeepsFiles}
 use Rattle.cept_outside.specs.SinkState.{SinkState}
 use Rattle.cept_parser.specs.Items.{items, closed_items}
+use Rattle.cept_profile.specs.Look.{grid}
 use Rattle.cept_repaint.specs.GlassState.{GlassState}
 use Rattle.cept_tool.specs.declared.decoder.Decoder.{Decoder}
 use Rattle.cept_tool.specs.declared.page.Stop.{Stop}
@@ -13,12 +14,11 @@ use Rattle.cept_tool.specs.declared.page.Stop.TheVariants as stops
 use Rattle.cept_tool.specs.declared.run.Status.{Status}
 use Rattle.cept_tool.specs.declared.run.Status.TheVariants as statuses
 use Rattle.cept_tool.specs.declared.words.Order.{Order}
-use Rattle.cept_tool.specs.declared.words.Order.TheVariants as orders
-use Rattle.cept_tool.specs.Events.{report, told_behind}
+use Rattle.cept_tool.specs.Events.{applied, final_text, told_behind}
 use Rattle.cept_tool.specs.Run.{Reports, status_of}
 use Rattle.cept_tool.specs.Told.{HasRead, HasTold}
-use Rattle.cept_tool.specs.Words.{Form}
-use Rattle.cept_tool.proofs.Standing.{HasTold-order, HasTold-start}
+use Rattle.cept_tool.specs.Words.{Form, ReadsGlass}
+use Rattle.cept_tool.proofs.Standing.{HasTold-order, HasTold-start, append_known-twice}
 
 -- so many bytes of the page were taken, read and told
 pub record HasCome (page : List ℕ) (place : ℕ) (shelf : ShelfState) (decoder : Decoder) (order : Order) (sink now : SinkState) (glass shown : GlassState) : Type 0 where
@@ -69,13 +69,12 @@ KeepsFiles-more a b c h k = record {
   tells_left = k.tells_left ∙ h.tells_left;
 }
 
-report-is : (order : Order) (page : List ℕ) → report order page ≡ told_behind order [] (closed_items page)
-report-is orders.Changes page = append-nil _
-
--- a page that was told to its end, and then flushed, is reported
-pub Reports-told : (form : Form) (page : List ℕ) (sink now flushed : SinkState) (glass shown : GlassState) → HasTold form.order (closed_items page) sink now glass shown → flushed.bytes ≡ now.bytes → Reports form page sink flushed glass shown
-Reports-told form page sink now flushed glass shown told same = record {
-  put = same ∙ told.put ∙ ap (append_known sink.bytes) (sym (report-is form.order page));
+-- a page that was told to its end, with the text behind it, and then flushed, is reported
+pub Reports-told : (form : Form) (page : List ℕ) (sink now ended flushed : SinkState) (glass shown : GlassState) → HasTold form.order (closed_items page) sink now glass shown
+    → ((ReadsGlass form.order → shown.grid ≡ grid (applied form.order (closed_items page))) → ended.bytes ≡ append_known now.bytes (final_text form.order (closed_items page)))
+    → flushed.bytes ≡ ended.bytes → Reports form page sink flushed glass shown
+Reports-told form page sink now ended flushed glass shown told put same = record {
+  put = λ blank. same ∙ put (λ reads. told.grid (blank reads)) ∙ ap (λ known. append_known known (final_text form.order (closed_items page))) told.put ∙ append_known-twice sink.bytes (told_behind form.order [] (closed_items page)) (final_text form.order (closed_items page));
   painted = told.painted;
   grid = told.grid;
 }

@@ -1,5 +1,5 @@
 -- How a desk stands behind items, and what was told since a beginning.
-use Rattle.std.proofs.Common.{◌≡◌, ℕ, Bool, true, false, cond, ◌||◌, Option, Some, None, List, [], ◌∷◌, ◌++◌, refl, sym, ◌∙◌, ap, subst, append_assoc, append-nil, ◌+◌, ◌<◌, ◌≤◌, length, take, drop, get_or, add-one, drop-cons}
+use Rattle.std.proofs.Common.{◌≡◌, ℕ, Bool, true, false, cond, Option, add-zero, length-append, Some, None, List, [], ◌∷◌, ◌++◌, refl, sym, ◌∙◌, ap, subst, append_assoc, append-nil, ◌+◌, ◌<◌, ◌≤◌, length, take, drop, get_or, add-one, drop-cons}
 use Rattle.std.proofs.lemmas.List.{take_more, take_all}
 use Rattle.std.specs.List.{AllByRecursion}
 use Rattle.std.specs.Io.KnownBytes.{append_known}
@@ -19,21 +19,23 @@ use Rattle.cept_profile.specs.State.{state}
 use Rattle.cept_profile.specs.Valid.{AllValid}
 use Rattle.cept_repaint.specs.GlassState.{GlassState, Lists}
 use Rattle.cept_tool.specs.declared.desk.Desk.{Desk}
+use Rattle.cept_tool.specs.declared.easel.Easel.{Easel}
 use Rattle.cept_tool.specs.declared.words.Order.{Order}
-use Rattle.cept_tool.specs.Events.{applied, told_behind, painted_behind, has_refusal, is_refused, item_text, item_paints, command_text, refusal_text}
+use Rattle.cept_tool.specs.Events.{applied, told_behind, painted_behind, refused_count, is_refused, item_text, item_paints, command_text, refusal_text}
 use Rattle.cept_parser.specs.Items.{items, read_within}
 use Rattle.cept_parser.specs.State.{Leads}
 use Rattle.cept_tool.specs.declared.decoder.Decoder.{Decoder}
-use Rattle.cept_tool.specs.Told.{Stands, HasRead, HasTold}
+use Rattle.cept_tool.specs.Told.{IsAt, Stands, HasRead, HasTold}
 use Rattle.cept_tool.specs.Words.{is_painting}
-use Rattle.cept_tool.proofs.Items.{applied-nothing, applied-command, applied-refused, has_refusal-more, told_behind-more, painted_behind-more}
+use Rattle.cept_tool.proofs.Items.{applied-nothing, applied-command, applied-refused, applied-idle, lines_text-idle, refused_count-more, told_behind-more, painted_behind-more}
 
 -- a desk before the first item
-pub Stands-nothing : (desk : Desk) → desk.screen ≡ state [] → desk.refused ≡ false → Stands desk []
-unfolding has_refusal
-Stands-nothing desk screen refused = record {
+pub Stands-nothing : (desk : Desk) → (is_painting desk.order ≡ true → IsAt desk.easel []) → (is_painting desk.order ≡ false → desk.easel ≡ None) → desk.items ≡ 0 → desk.refused ≡ 0 → Stands desk []
+Stands-nothing desk painting idle items refused = record {
   valid = rw applied-nothing tt;
-  screen = screen ∙ ap state (sym (applied-nothing desk.order));
+  painting = λ e. subst (IsAt desk.easel) (sym (applied-nothing desk.order)) (painting e);
+  idle = idle;
+  items = items;
   refused = refused;
 }
 
@@ -41,44 +43,52 @@ AllValid-more : (history : List Command) (command : Command) → AllValid histor
 AllValid-more [] command all one = (one, tt)
 AllValid-more (c ∷ history) command all one = (all.0, AllValid-more history command all.1 one)
 
-or_true : (b : Bool) → (b || true) ≡ true
-or_true true = refl
-or_true false = refl
+-- what is applied stays valid
+valid-command : (order : Order) (items : List Item) (i : Item) (command : Command) (painting : Bool) → is_painting order ≡ painting → i.what ≡ said.Command command → IsValidCommand command → AllValid (applied order items)
+    → AllValid (applied order (items ++ i ∷ []))
+valid-command order items i command true painting is one all = subst AllValid (sym (applied-command order items i command painting is)) (AllValid-more _ command all one)
+valid-command order items i command false idle is one all = subst AllValid (sym (applied-idle order (items ++ i ∷ []) idle)) tt
 
-or_false : (b : Bool) → (b || false) ≡ b
-or_false true = refl
-or_false false = refl
+length-more : {X : Type 0} (xs : List X) (x : X) → length (xs ++ x ∷ []) ≡ length xs + 1
+length-more xs x = length-append xs (x ∷ [])
 
 -- a desk behind one command more
-pub Stands-command : (desk new : Desk) (items : List Item) (i : Item) (command : Command) → is_painting desk.order ≡ true → i.what ≡ said.Command command → IsValidCommand command
-    → new.order ≡ desk.order → new.refused ≡ desk.refused → ((history : List Command) → AllValid history → desk.screen ≡ state history → new.screen ≡ state (history ++ command ∷ []))
+pub Stands-command : (desk new : Desk) (items : List Item) (i : Item) (command : Command) → i.what ≡ said.Command command → IsValidCommand command
+    → new.order ≡ desk.order → new.items ≡ desk.items + 1 → new.refused ≡ desk.refused
+    → ((history : List Command) → AllValid history → IsAt desk.easel history → IsAt new.easel (history ++ command ∷ [])) → (desk.easel ≡ None → new.easel ≡ None)
     → Stands desk items → Stands new (items ++ i ∷ [])
-Stands-command desk new items i command painting is one order refused goes_on stands =
-    let more : applied new.order (items ++ i ∷ []) ≡ applied desk.order items ++ command ∷ [] =
-    ap (λ o. applied o (items ++ i ∷ [])) order ∙ applied-command desk.order items i command painting is in
+Stands-command desk new items i command is one order counted refused goes_on idle stands =
     record {
-      valid = subst AllValid (sym more) (AllValid-more _ command stands.valid one);
-      screen = goes_on _ stands.valid stands.screen ∙ ap state (sym more);
-      refused = refused ∙ stands.refused ∙ sym (has_refusal-more items i ∙ ap (λ s. has_refusal items || is_refused s) is ∙ or_false (has_refusal items));
+      valid = subst (λ o. AllValid (applied o (items ++ i ∷ []))) (sym order) (valid-command desk.order items i command _ refl is one stands.valid);
+      painting = λ e.
+        let p : is_painting desk.order ≡ true = ap is_painting (sym order) ∙ e in
+        let more : applied new.order (items ++ i ∷ []) ≡ applied desk.order items ++ command ∷ [] =
+        ap (λ o. applied o (items ++ i ∷ [])) order ∙ applied-command desk.order items i command p is in
+        subst (IsAt new.easel) (sym more) (goes_on _ stands.valid (stands.painting p));
+      idle = λ e. idle (stands.idle (ap is_painting (sym order) ∙ e));
+      items = counted ∙ ap (λ n. n + 1) stands.items ∙ sym (length-more items i);
+      refused = refused ∙ stands.refused ∙ sym (refused_count-more items i ∙ ap (λ s. refused_count items + cond (is_refused s) 1 0) is ∙ add-zero _);
     }
 
 -- a desk behind one refusal more
 pub Stands-refused : (desk new : Desk) (items : List Item) (i : Item) (reason : Reason) → i.what ≡ said.Refused reason
-    → new.order ≡ desk.order → new.screen ≡ desk.screen → new.refused ≡ true → Stands desk items → Stands new (items ++ i ∷ [])
-Stands-refused desk new items i reason is order screen refused stands =
+    → new.order ≡ desk.order → new.easel ≡ desk.easel → new.items ≡ desk.items + 1 → new.refused ≡ desk.refused + 1 → Stands desk items → Stands new (items ++ i ∷ [])
+Stands-refused desk new items i reason is order easel counted refused stands =
     let more : applied new.order (items ++ i ∷ []) ≡ applied desk.order items =
     ap (λ o. applied o (items ++ i ∷ [])) order ∙ applied-refused desk.order items i reason is in
     record {
       valid = subst AllValid (sym more) stands.valid;
-      screen = screen ∙ stands.screen ∙ ap state (sym more);
-      refused = refused ∙ sym (has_refusal-more items i ∙ ap (λ s. has_refusal items || is_refused s) is ∙ or_true (has_refusal items));
+      painting = λ e. subst (λ h. IsAt new.easel h) (sym more) (subst (λ (x : Option Easel). IsAt x (applied desk.order items)) (sym easel) (stands.painting (ap is_painting (sym order) ∙ e)));
+      idle = λ e. easel ∙ stands.idle (ap is_painting (sym order) ∙ e);
+      items = counted ∙ ap (λ n. n + 1) stands.items ∙ sym (length-more items i);
+      refused = refused ∙ ap (λ n. n + 1) stands.refused ∙ sym (refused_count-more items i ∙ ap (λ s. refused_count items + cond (is_refused s) 1 0) is);
     }
 
-append_known-twice : (known : Option (List ℕ)) (a b : List ℕ) → append_known (append_known known a) b ≡ append_known known (a ++ b)
+pub append_known-twice : (known : Option (List ℕ)) (a b : List ℕ) → append_known (append_known known a) b ≡ append_known known (a ++ b)
 append_known-twice None a b = refl
 append_known-twice (Some xs) a b = ap Some (append_assoc xs a b)
 
-append_known-nothing : (known : Option (List ℕ)) → append_known known [] ≡ known
+pub append_known-nothing : (known : Option (List ℕ)) → append_known known [] ≡ known
 append_known-nothing None = refl
 append_known-nothing (Some xs) = ap Some (append-nil xs)
 
@@ -118,6 +128,34 @@ HasTold-command order items i command before mid now glass shown next painting i
       painted = subst (λ (l : List (Place × Look)). Lists glass.paints l next.paints) (ap (λ t. painted_behind order [] items ++ t) (sym paints) ∙ sym (painted_behind-more order [] items i)) (Lists-more _ _ _ _ _ told.painted painted);
       grid = λ start. grid_is ∙ ap (λ g. painted_all g (changes history command)) (told.grid start) ∙ painted_all-changes history command ∙ ap grid (sym (applied-command order items i command painting is));
     }
+
+-- one command more was passed over
+HasTold-idle : (order : Order) (items : List Item) (i : Item) (command : Command) (before mid now : SinkState) (glass shown next : GlassState) → is_painting order ≡ false → i.what ≡ said.Command command
+    → now ≡ mid → next ≡ shown → HasTold order items before mid glass shown → HasTold order (items ++ i ∷ []) before now glass next
+HasTold-idle order items i command before mid now glass shown next idle is same_sink same_glass told =
+    let history = applied order items in
+    let text : item_text order history i i.what ≡ [] = ap (item_text order history i) is ∙ lines_text-idle order i.at (changes history command) idle in
+    let paints : item_paints order history i.what ≡ [] = ap (item_paints order history) is ∙ ap (λ b. cond b (changes history command) []) idle in
+    let none : applied order items ≡ applied order (items ++ i ∷ []) = applied-idle order items idle ∙ sym (applied-idle order (items ++ i ∷ []) idle) in
+    record {
+      put = ap (λ (s : SinkState). s.bytes) same_sink ∙ told.put ∙ ap (append_known before.bytes) (sym (append-nil _) ∙ ap (λ t. told_behind order [] items ++ t) (sym text) ∙ sym (told_behind-more order [] items i));
+      painted = subst (λ (x : GlassState). Lists glass.paints (painted_behind order [] (items ++ i ∷ [])) x.paints) (sym same_glass) (subst (λ (l : List (Place × Look)). Lists glass.paints l shown.paints) (sym (append-nil _) ∙ ap (λ t. painted_behind order [] items ++ t) (sym paints) ∙ sym (painted_behind-more order [] items i)) told.painted);
+      grid = λ start. ap (λ (x : GlassState). x.grid) same_glass ∙ told.grid start ∙ ap grid none;
+    }
+
+-- one command more was told, or passed over
+pub HasTold-either : (desk : Desk) (painting : Bool) (items : List Item) (i : Item) (command : Command) (before mid now : SinkState) (glass shown next : GlassState) → is_painting desk.order ≡ painting → i.what ≡ said.Command command
+    → ((history : List Command) → AllValid history → IsAt desk.easel history → now.bytes ≡ append_known mid.bytes (command_text desk.order i.at history command))
+    → ((history : List Command) → AllValid history → IsAt desk.easel history → Lists shown.paints (changes history command) next.paints)
+    → ((history : List Command) → AllValid history → IsAt desk.easel history → next.grid ≡ painted_all shown.grid (changes history command))
+    → (desk.easel ≡ None → (now ≡ mid) × (next ≡ shown))
+    → Stands desk items → HasTold desk.order items before mid glass shown → HasTold desk.order (items ++ i ∷ []) before now glass next
+HasTold-either desk true items i command before mid now glass shown next painting is put painted grid_is idle stands told =
+    let at = stands.painting painting in
+    HasTold-command desk.order items i command before mid now glass shown next painting is (put _ stands.valid at) (painted _ stands.valid at) (grid_is _ stands.valid at) told
+HasTold-either desk false items i command before mid now glass shown next painting is put painted grid_is idle stands told =
+    let same = idle (stands.idle painting) in
+    HasTold-idle desk.order items i command before mid now glass shown next painting is same.0 same.1 told
 
 -- one refusal more was told, and the glass stays
 pub HasTold-refused : (order : Order) (items : List Item) (i : Item) (reason : Reason) (before mid now : SinkState) (glass shown : GlassState) → i.what ≡ said.Refused reason

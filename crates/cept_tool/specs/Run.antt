@@ -10,7 +10,7 @@ use Rattle.cept_tool.specs.declared.page.Stop.TheVariants as stops
 use Rattle.cept_tool.specs.declared.run.Status.{Status}
 use Rattle.cept_tool.specs.declared.run.Status.TheVariants as statuses
 use Rattle.cept_tool.specs.Events.{report, painted_behind, applied}
-use Rattle.cept_tool.specs.Words.{Form}
+use Rattle.cept_tool.specs.Words.{Form, ReadsGlass}
 
 -- the page was read to its end
 abbrev pub IsWhole : Status → Type 0
@@ -32,10 +32,10 @@ IsUntouched statuses.WriteFault = ⊥
 IsUntouched statuses.NoMemory = Unit {0}
 IsUntouched statuses.TooLong = ⊥
 
--- the whole report of the page was put, its changes were painted in their order, and a glass that was blank shows the
+-- the whole report of the page was put (where it tells the glass at the end, over one that was blank), its changes were painted in their order, and a glass that was blank shows the
 -- page's meaning
 pub record Reports (form : Form) (page : List ℕ) (sink now : SinkState) (glass shown : GlassState) : Type 0 where
-  pub put : now.bytes ≡ append_known sink.bytes (report form.order page)
+  pub put : (ReadsGlass form.order → glass.grid ≡ grid []) → now.bytes ≡ append_known sink.bytes (report form.order page)
   pub painted : Lists glass.paints (painted_behind form.order [] (closed_items page)) shown.paints
   pub grid : glass.grid ≡ grid [] → shown.grid ≡ grid (applied form.order (closed_items page))
 

@@ -1,6 +1,7 @@
 -- What stands and what was told after some items.
-use Rattle.std.specs.Prelude.{◌≡◌, ℕ, List, []}
+use Rattle.std.specs.Prelude.{◌≡◌, ℕ, true, false, List, [], length, Option, None, IsSomeAnd}
 use Rattle.std.specs.Io.KnownBytes.{append_known}
+use Rattle.cept_codes.specs.declared.command.Command.{Command}
 use Rattle.cept_codes.specs.declared.item.Item.{Item}
 use Rattle.cept_outside.specs.SinkState.{SinkState}
 use Rattle.cept_parser.specs.Items.{items}
@@ -11,14 +12,22 @@ use Rattle.cept_profile.specs.Valid.{AllValid}
 use Rattle.cept_repaint.specs.GlassState.{GlassState, Lists}
 use Rattle.cept_tool.specs.declared.decoder.Decoder.{Decoder}
 use Rattle.cept_tool.specs.declared.desk.Desk.{Desk}
+use Rattle.cept_tool.specs.declared.easel.Easel.{Easel}
 use Rattle.cept_tool.specs.declared.words.Order.{Order}
-use Rattle.cept_tool.specs.Events.{applied, told_behind, painted_behind, has_refusal}
+use Rattle.cept_tool.specs.Events.{applied, told_behind, painted_behind, refused_count}
+use Rattle.cept_tool.specs.Words.{is_painting}
 
--- the desk stands behind these items
-pub record Stands (desk : Desk) (items : List Item) : Type 0 where
-  pub valid : AllValid (applied desk.order items)
-  pub screen : desk.screen ≡ state (applied desk.order items)
-  pub refused : desk.refused ≡ has_refusal items
+-- there is an easel, with the screen after the commands
+abbrev pub IsAt : Option Easel → List Command → Type 0
+IsAt easel history = IsSomeAnd easel (λ e. e.screen ≡ state history)
+
+-- the desk stands behind these items: it has counted them, and holds a screen where commands are painted
+pub record Stands (desk : Desk) (told : List Item) : Type 0 where
+  pub valid : AllValid (applied desk.order told)
+  pub painting : is_painting desk.order ≡ true → IsAt desk.easel (applied desk.order told)
+  pub idle : is_painting desk.order ≡ false → desk.easel ≡ None
+  pub items : desk.items ≡ length told
+  pub refused : desk.refused ≡ refused_count told
 
 -- the decoder has read these bytes
 pub record HasRead (decoder : Decoder) (bytes : List ℕ) : Type 0 where

@@ -1,4 +1,4 @@
-ghost use Rattle.std.specs.Prelude.{◌≡◌, ◌+◌, ◌^◌, ◌<◌, ◌∷◌, [], ◌++◌, ℕ, List, IfOk, OnOk, false, length};
+ghost use Rattle.std.specs.Prelude.{◌≡◌, ◌+◌, ◌*◌, ◌^◌, ◌<◌, ◌≤◌, ◌∷◌, [], ◌++◌, ℕ, List, IfOk, OnOk, IsOk, false, length};
 ghost use Rattle.cept_outside.specs.Causes.{HasCause};
 ghost use Rattle.cept_outside.specs.SinkState.{SinkState};
 ghost use Rattle.cept_parser.specs.Items.{items, closed_items};
@@ -27,6 +27,8 @@ impl Decoder {
     pub fn new(alloc: Global, order: Order) -> Result<Decoder, NoMemory>
         ensures read { IfOk result (λ decoder. HasRead decoder []) }
         ensures order { IfOk result (λ decoder. decoder.desk.order ≡ order) }
+        ensures counts { IfOk result (λ decoder. (decoder.desk.items ≡ 0) × (decoder.desk.refused ≡ 0)) }
+        ensures memory { order ≡ Order.Check → IsOk result }
     {
         Ok(Decoder {
             parser: Parser::new(),
@@ -44,7 +46,9 @@ impl Decoder {
     ) -> Result<(), WriteFault>
         requires running { self.old.parser.finished ≡ false }
         requires few { self.old.parser.place < 2 ^ 32 }
+        requires few_items { (self.old.desk.items + 2 < 2 ^ 64) × (self.old.desk.refused + 2 < 2 ^ 64) }
         ensures place { (self.new.parser.place ≡ self.old.parser.place + 1) × (self.new.parser.finished ≡ false) }
+        ensures counts { OnOk result ((self.new.desk.items ≤ self.old.desk.items + 2) × (self.new.desk.refused ≤ self.old.desk.refused + 2)) }
         ensures order { self.new.desk.order ≡ self.old.desk.order }
         ensures read { OnOk result ((bytes : List ℕ) → HasRead self.old bytes → HasRead self.new (bytes ++ byte ∷ [])) }
         ensures told { OnOk result ((bytes : List ℕ) (before : SinkState) (shown : GlassState) → HasRead self.old bytes
@@ -66,7 +70,9 @@ impl Decoder {
     ) -> Result<(), WriteFault>
         requires running { self.old.parser.finished ≡ false }
         requires few { self.old.parser.place + length piece.now < 2 ^ 32 }
+        requires few_items { (self.old.desk.items + 2 * length piece.now < 2 ^ 64) × (self.old.desk.refused + 2 * length piece.now < 2 ^ 64) }
         ensures place { OnOk result ((self.new.parser.place ≡ self.old.parser.place + length piece.now) × (self.new.parser.finished ≡ false)) }
+        ensures counts { OnOk result ((self.new.desk.items ≤ self.old.desk.items + 2 * length piece.now) × (self.new.desk.refused ≤ self.old.desk.refused + 2 * length piece.now)) }
         ensures order { self.new.desk.order ≡ self.old.desk.order }
         ensures read { OnOk result ((bytes : List ℕ) → HasRead self.old bytes → HasRead self.new (bytes ++ piece.now)) }
         ensures told { OnOk result ((bytes : List ℕ) (before : SinkState) (shown : GlassState) → HasRead self.old bytes
@@ -90,7 +96,8 @@ impl Decoder {
         glass: &mut G,
         steps: &mut Steps<L>,
     ) -> Result<(), WriteFault>
-        requires { self.old.parser.finished ≡ false }
+        requires running { self.old.parser.finished ≡ false }
+        requires few_items { (self.old.desk.items + 2 < 2 ^ 64) × (self.old.desk.refused + 2 < 2 ^ 64) }
         ensures order { self.new.desk.order ≡ self.old.desk.order }
         ensures stands { OnOk result ((bytes : List ℕ) → HasRead self.old bytes → Stands self.new.desk (closed_items bytes)) }
         ensures told { OnOk result ((bytes : List ℕ) (before : SinkState) (shown : GlassState) → HasRead self.old bytes

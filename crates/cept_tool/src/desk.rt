@@ -1,4 +1,4 @@
-ghost use Rattle.std.specs.Prelude.{◌≡◌, ◌∷◌, [], ◌++◌, List, IfOk, OnOk, true};
+ghost use Rattle.std.specs.Prelude.{◌≡◌, ◌+◌, ◌^◌, ◌<◌, ◌≤◌, ◌∷◌, [], ◌++◌, List, IfOk, OnOk, IsOk, IsSomeAnd, None, true, false, length};
 ghost use Rattle.std.specs.List.{AllByRecursion};
 ghost use Rattle.std.specs.Io.KnownBytes.{append_known};
 ghost use Rattle.cept_codes.specs.Command.{IsValidCommand, IsValidSaid};
@@ -7,46 +7,65 @@ ghost use Rattle.cept_codes.specs.declared.item.Item.{Item};
 ghost use Rattle.cept_outside.specs.Causes.{HasCause};
 ghost use Rattle.cept_outside.specs.SinkState.{SinkState};
 ghost use Rattle.cept_profile.specs.Changes.{changes, painted_all};
+ghost use Rattle.cept_profile.specs.Look.{grid};
 ghost use Rattle.cept_profile.specs.State.{state};
 ghost use Rattle.cept_profile.specs.Valid.{AllValid};
 ghost use Rattle.cept_repaint.specs.GlassState.{GlassState, Lists};
-ghost use Rattle.cept_tool.specs.Events.{command_text, refusal_text};
+ghost use Rattle.cept_tool.specs.Events.{applied, command_text, final_text, refusal_text, rows_behind};
+ghost use Rattle.cept_tool.specs.Words.{is_painting, ReadsGlass};
 
+use crate::easel::Easel;
 use crate::words::Order;
 use cept_codes::{Command, Item, NoMemory, Reason, Said};
 use cept_outside::{Sink, Steps, WriteFault};
-use cept_repaint::{Glass, Marks, Screen};
-use cept_report::{put_changes, put_refusal};
+use cept_repaint::Glass;
+use cept_report::{put_cells, put_check, put_refusal, put_screen};
 use std::alloc::Global;
 use std::sync::ledger::Ledger;
 
-/// What stands while a page is told: what is asked for, the screen, the places that the last command changed, and whether
-/// an item was refused.
+/// What stands while a page is told: what is asked for, the easel where commands are painted, and how many items there
+/// were and how many of them refused.
 #[derive(Drop)]
 pub struct Desk {
     pub order: Order,
-    pub screen: Screen,
-    pub marks: Marks,
-    pub refused: bool,
+    pub easel: Option<Easel>,
+    pub items: u64,
+    pub refused: u64,
+}
+
+/// The easel, where commands are painted.
+fn easel_for(alloc: Global, order: Order) -> Result<Option<Easel>, NoMemory>
+    ensures painting { IfOk result (λ easel. is_painting order ≡ true → IsSomeAnd easel (λ e. e.screen ≡ state [])) }
+    ensures idle { IfOk result (λ easel. is_painting order ≡ false → easel ≡ None) }
+    ensures memory { order ≡ Order.Check → IsOk result }
+{
+    match order {
+        Order::Check => Ok(None),
+        Order::Changes => Ok(Some(Easel::new(alloc)?)),
+        Order::Show => Ok(Some(Easel::new(alloc)?)),
+        Order::Cells => Ok(Some(Easel::new(alloc)?)),
+    }
 }
 
 impl Desk {
-    ghost use Rattle.cept_tool.specs.Told.{Stands, HasTold};
+    ghost use Rattle.cept_tool.specs.Told.{Stands, HasTold, IsAt};
 
-    /// A desk before the first item.
+    /// A desk before the first item. To check a page it takes no memory.
     pub fn new(alloc: Global, order: Order) -> Result<Desk, NoMemory>
         ensures stands { IfOk result (λ desk. Stands desk []) }
         ensures order { IfOk result (λ desk. desk.order ≡ order) }
+        ensures counts { IfOk result (λ desk. (desk.items ≡ 0) × (desk.refused ≡ 0)) }
+        ensures memory { order ≡ Order.Check → IsOk result }
     {
         Ok(Desk {
             order,
-            screen: Screen::new(alloc)?,
-            marks: Marks::new(),
-            refused: false,
+            easel: easel_for(alloc, order)?,
+            items: 0,
+            refused: 0,
         })
     }
 
-    /// Applies a command, paints what it changes, and tells it.
+    /// Applies a command, paints what it changes, and tells it. Without an easel nothing happens.
     fn tell_command<T: Sink, G: Glass, L: Ledger>(
         &mut self,
         place: u64,
@@ -56,37 +75,40 @@ impl Desk {
         steps: &mut Steps<L>,
     ) -> Result<(), WriteFault>
         requires { IsValidCommand command }
-        ensures kept { (self.new.order ≡ self.old.order) × (self.new.refused ≡ self.old.refused) }
-        ensures screen { (history : List Command) → AllValid history → self.old.screen ≡ state history → self.new.screen ≡ state (history ++ command ∷ []) }
-        ensures put { OnOk result ((history : List Command) → AllValid history → self.old.screen ≡ state history
+        ensures order { self.new.order ≡ self.old.order }
+        ensures counts { (self.new.items ≡ self.old.items) × (self.new.refused ≡ self.old.refused) }
+        ensures screen { (history : List Command) → AllValid history → IsAt self.old.easel history → IsAt self.new.easel (history ++ command ∷ []) }
+        ensures put { OnOk result ((history : List Command) → AllValid history → IsAt self.old.easel history
             → (T.state sink.new).bytes ≡ append_known (T.state sink.old).bytes (command_text self.old.order place history command)) }
-        ensures painted { (history : List Command) → AllValid history → self.old.screen ≡ state history
+        ensures painted { (history : List Command) → AllValid history → IsAt self.old.easel history
             → Lists (G.state glass.old).paints (changes history command) (G.state glass.new).paints }
-        ensures grid { (history : List Command) → AllValid history → self.old.screen ≡ state history
+        ensures grid { (history : List Command) → AllValid history → IsAt self.old.easel history
             → (G.state glass.new).grid ≡ painted_all (G.state glass.old).grid (changes history command) }
+        ensures idle { self.old.easel ≡ None → (self.new.easel ≡ None) × (T.state sink.new ≡ T.state sink.old) × (G.state glass.new ≡ G.state glass.old) }
         ensures cause { HasCause (T.state sink.old).faults (T.state sink.new).faults result }
     {
-        self.screen.apply(command, glass, &mut self.marks, steps);
-        match self.order {
-            Order::Changes => put_changes(sink, place, &self.marks, &self.screen),
+        let order = self.order;
+        match &mut self.easel {
+            None => Ok(()),
+            Some(easel) => easel.tell_command(order, place, command, sink, glass, steps),
         }
     }
 
-    /// Tells that bytes are refused.
+    /// Tells that bytes are refused, where that is asked for.
     fn tell_refusal<T: Sink>(
-        &mut self,
+        &self,
         item: &Item,
         reason: Reason,
         sink: &mut T,
     ) -> Result<(), WriteFault>
-        ensures kept { (self.new.order ≡ self.old.order) × (self.new.screen ≡ self.old.screen) }
-        ensures refused { self.new.refused ≡ true }
-        ensures put { OnOk result ((T.state sink.new).bytes ≡ append_known (T.state sink.old).bytes (refusal_text self.old.order item.now.at item.now.len reason)) }
+        ensures put { OnOk result ((T.state sink.new).bytes ≡ append_known (T.state sink.old).bytes (refusal_text self.now.order item.now.at item.now.len reason)) }
         ensures cause { HasCause (T.state sink.old).faults (T.state sink.new).faults result }
     {
-        self.refused = true;
         match self.order {
             Order::Changes => put_refusal(sink, item.at, item.len, reason),
+            Order::Check => put_refusal(sink, item.at, item.len, reason),
+            Order::Show => Ok(()),
+            Order::Cells => Ok(()),
         }
     }
 
@@ -98,17 +120,23 @@ impl Desk {
         glass: &mut G,
         steps: &mut Steps<L>,
     ) -> Result<(), WriteFault>
-        requires { IsValidSaid item.now.what }
+        requires valid { IsValidSaid item.now.what }
+        requires few { (self.old.items + 1 < 2 ^ 64) × (self.old.refused + 1 < 2 ^ 64) }
         ensures order { self.new.order ≡ self.old.order }
+        ensures counts { (self.new.items ≡ self.old.items + 1) × (self.new.refused ≤ self.old.refused + 1) }
         ensures stands { (earlier : List Item) → Stands self.old earlier → Stands self.new (earlier ++ item.now ∷ []) }
         ensures told { OnOk result ((earlier : List Item) (before : SinkState) (shown : GlassState) → Stands self.old earlier
             → HasTold self.old.order earlier before (T.state sink.old) shown (G.state glass.old)
             → HasTold self.old.order (earlier ++ item.now ∷ []) before (T.state sink.new) shown (G.state glass.new)) }
         ensures cause { HasCause (T.state sink.old).faults (T.state sink.new).faults result }
     {
+        self.items += 1;
         match item.what {
             Said::Command(command) => self.tell_command(item.at, command, sink, glass, steps),
-            Said::Refused(reason) => self.tell_refusal(item, reason, sink),
+            Said::Refused(reason) => {
+                self.refused += 1;
+                self.tell_refusal(item, reason, sink)
+            }
         }
     }
 
@@ -120,8 +148,10 @@ impl Desk {
         glass: &mut G,
         steps: &mut Steps<L>,
     ) -> Result<(), WriteFault>
-        requires { AllByRecursion (λ i. IsValidSaid i.what) items.now }
+        requires valid { AllByRecursion (λ i. IsValidSaid i.what) items.now }
+        requires few { (self.old.items + length items.now < 2 ^ 64) × (self.old.refused + length items.now < 2 ^ 64) }
         ensures order { self.new.order ≡ self.old.order }
+        ensures counts { OnOk result ((self.new.items ≡ self.old.items + length items.now) × (self.new.refused ≤ self.old.refused + length items.now)) }
         ensures stands { OnOk result ((earlier : List Item) → Stands self.old earlier → Stands self.new (earlier ++ items.now)) }
         ensures told { OnOk result ((earlier : List Item) (before : SinkState) (shown : GlassState) → Stands self.old earlier
             → HasTold self.old.order earlier before (T.state sink.old) shown (G.state glass.old)
@@ -135,5 +165,30 @@ impl Desk {
             }
         }
         Ok(())
+    }
+
+    /// How many rows the page has, at most 24.
+    fn rows(&self) -> u8
+        ensures few { result ≤ 24 }
+        ensures rows { (history : List Command) → IsAt self.now.easel history → result ≡ rows_behind history }
+    {
+        match &self.easel {
+            None => 0,
+            Some(easel) => easel.screen.rows(),
+        }
+    }
+
+    /// Puts the text behind the last item.
+    pub fn put_end<T: Sink, G: Glass>(&self, sink: &mut T, glass: &G) -> Result<(), WriteFault>
+        ensures put { OnOk result ((items : List Item) → Stands self.now items → (ReadsGlass self.now.order → (G.state glass.now).grid ≡ grid (applied self.now.order items))
+            → (T.state sink.new).bytes ≡ append_known (T.state sink.old).bytes (final_text self.now.order items)) }
+        ensures cause { HasCause (T.state sink.old).faults (T.state sink.new).faults result }
+    {
+        match self.order {
+            Order::Changes => Ok(()),
+            Order::Check => put_check(sink, self.items, self.refused),
+            Order::Show => put_screen(sink, glass, self.rows()),
+            Order::Cells => put_cells(sink, glass, self.rows()),
+        }
     }
 }

@@ -4,6 +4,7 @@
 
 mod decoder;
 mod desk;
+mod easel;
 mod page;
 mod run;
 #[cfg(test)]

@@ -37,6 +37,7 @@ pub fn read_page<F: Shelf, T: Sink, G: Glass, L: Ledger>(
     steps: &mut Steps<L>,
 ) -> Result<(), Stop>
     requires fresh { HasRead decoder.old [] }
+    requires uncounted { (decoder.old.desk.items ≡ 0) × (decoder.old.desk.refused ≡ 0) }
     requires selected { (F.state shelf.old).taken ≡ 0 }
     ensures order { decoder.new.desk.order ≡ decoder.old.desk.order }
     ensures files { KeepsFiles (F.state shelf.old) (F.state shelf.new) }

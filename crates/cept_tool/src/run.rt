@@ -70,6 +70,7 @@ fn tell_page<F: Shelf, T: Sink, G: Glass, L: Ledger>(
     blank: Blank,
 ) -> Result<bool, Stop>
     requires fresh { HasRead decoder.old [] }
+    requires uncounted { (decoder.old.desk.items ≡ 0) × (decoder.old.desk.refused ≡ 0) }
     requires name { blank.name ≡ L.name }
     requires parts { blank.parts ≡ L.parts }
     requires some { 0 < blank.parts }
@@ -105,8 +106,12 @@ fn tell_page<F: Shelf, T: Sink, G: Glass, L: Ledger>(
         Ok(()) => {}
         Err(stop) => return Err(stop),
     }
+    match decoder.desk.put_end(sink, glass) {
+        Ok(()) => {}
+        Err(_) => return Err(Stop::WriteFault),
+    }
     match sink.flush() {
-        Ok(()) => Ok(decoder.desk.refused),
+        Ok(()) => Ok(decoder.desk.refused > 0),
         Err(_) => Err(Stop::WriteFault),
     }
 }
@@ -133,6 +138,7 @@ pub fn run<F: Shelf, T: Sink, G: Glass>(
 
     // Words that are no form, and want of memory, which comes before the page is selected.
     ensures usage { (result ≡ Status.Usage) ↔ (form_of (map string_bytes words.now.items) ≡ None) }
+    ensures memory { result ≡ Status.NoMemory → (form : Form) → form_of (map string_bytes words.now.items) ≡ Some form → form.order ≢ Order.Check }
     ensures untouched { IsUntouched result
         → (F.state shelf.new ≡ F.state shelf.old) × (T.state sink.new ≡ T.state sink.old) × (G.state glass.new ≡ G.state glass.old) }
 

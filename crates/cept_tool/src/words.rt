@@ -7,6 +7,12 @@ ghost use Rattle.cept_tool.specs.Words.{Form, order_of, form_of, is_painting};
 pub enum Order {
     /// `changes PAGE`: the changed cells of each item, and the refused items.
     Changes,
+    /// `check PAGE`: the refused items, and how many items there are.
+    Check,
+    /// `show PAGE`: the screen at the end, as text.
+    Show,
+    /// `cells PAGE`: the cells of the screen at the end that aren't blank.
+    Cells,
 }
 
 /// The order of a word.
@@ -15,6 +21,12 @@ fn order_of(word: &str) -> Option<Order>
 {
     if word == "changes" {
         Some(Order::Changes)
+    } else if word == "check" {
+        Some(Order::Check)
+    } else if word == "show" {
+        Some(Order::Show)
+    } else if word == "cells" {
+        Some(Order::Cells)
     } else {
         None
     }

@@ -1,4 +1,4 @@
-use Rattle.std.proofs.Common.{◌≡◌, ◌≤◌, ◌-◌, ◌^◌, ℕ, List, Some, false}
+use Rattle.std.proofs.Common.{◌≡◌, ◌≤◌, ◌-◌, ◌*◌, ◌^◌, ℕ, List, Some, false}
 use Rattle.cept_outside.specs.ShelfState.{KeepsFiles}
 use Rattle.cept_tool.proofs.Reading.{HasCome}
 use Rattle.cept_tool.proofs.page.read_page.Given as goal
@@ -8,6 +8,8 @@ abbrev pub invariant-loop-count : goal.invariant-loop-count
 invariant-loop-count g l = record {
   few : l.place ≤ 2 ^ 24;
   place : l.decoder.parser.place ≡ l.place;
+  items : l.decoder.desk.items ≤ 2 * l.place;
+  refused : l.decoder.desk.refused ≤ 2 * l.place;
   running : l.decoder.parser.finished ≡ false;
   order : l.decoder.desk.order ≡ l.fn.decoder.desk.order;
   taken : (g.F.Shelf.state l.shelf).taken ≡ l.place;

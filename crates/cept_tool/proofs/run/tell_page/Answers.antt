@@ -21,4 +21,5 @@ returns-in-Err-read_page-clause-too_long_told g c = λ e bytes holds.
 pub returns-in-Ok-flush-clause-reports : goal.returns-in-Ok-flush-clause-reports
 returns-in-Ok-flush-clause-reports g c = λ bytes holds.
     let named = subst (λ (name : List ℕ). Holds (g.F.Shelf.state c.args.shelf.now) name bytes) (sym c.as_str.ensures.value) holds in
-    Reports-told _ bytes _ _ _ _ _ (c.in-Ok-read_page.ensures.told bytes (c.in-Ok.ensures.selects.found bytes named).1) c.flush.ensures.flushes.bytes
+    let left = (c.in-Ok.ensures.selects.found bytes named).1 in
+    Reports-told _ bytes _ _ _ _ _ _ (c.in-Ok-read_page.ensures.told bytes left) ? c.flush.ensures.flushes.bytes

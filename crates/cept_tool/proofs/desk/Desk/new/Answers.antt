@@ -3,4 +3,4 @@ use Rattle.cept_tool.proofs.Standing.{Stands-nothing}
 use Rattle.cept_tool.proofs.desk.Desk.new.Goals as goal
 
 pub returns-clause-stands : goal.returns-clause-stands
-returns-clause-stands c = Stands-nothing _ c.in_ok-new.ensures refl
+returns-clause-stands c = Stands-nothing _ c.in_ok-easel_for.ensures.painting c.in_ok-easel_for.ensures.idle refl refl

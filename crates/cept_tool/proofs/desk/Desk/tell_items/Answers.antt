@@ -5,14 +5,16 @@ use Rattle.cept_tool.specs.Told.{Stands}
 use Rattle.cept_tool.proofs.Standing.{HasTold-order, front_more, front_all, AllByRecursion-next, AllByRecursion-rest}
 use Rattle.cept_tool.proofs.desk.Desk.tell_items.Goals as goal
 
-pub tell_item-requires : goal.tell_item-requires
-tell_item-requires g c = (AllByRecursion-next (λ (i : Item). IsValidSaid i.what) c.args.items.now c.loop-item.item-index _ c.loop-item-test.true c.loop-item.invariant.valid).0
+pub tell_item-requires-clause-valid : goal.tell_item-requires-clause-valid
+tell_item-requires-clause-valid g c = (AllByRecursion-next (λ (i : Item). IsValidSaid i.what) c.args.items.now c.loop-item.item-index _ c.loop-item-test.true c.loop-item.invariant.valid).0
 
 pub loop-item-preserved : goal.loop-item-preserved
 loop-item-preserved g c =
     let so_far = c.loop-item.invariant in
     record {
       order = c.tell_item.ensures.order ∙ so_far.order;
+      items = omega (arith, c.tell_item.ensures.counts.0, so_far.items);
+      refused = omega (arith, c.tell_item.ensures.counts.1, so_far.refused);
       valid = AllByRecursion-rest (λ (i : Item). IsValidSaid i.what) c.args.items.now c.loop-item.item-index c.loop-item-test.true so_far.valid;
       stands = λ earlier stands. subst (Stands c.tell_item.new.self) (front_more earlier c.args.items.now c.loop-item.item-index _ c.loop-item-test.true) (c.tell_item.ensures.stands _ (so_far.stands earlier stands));
       told = λ earlier before shown stands told. HasTold-order _ _ _ _ _ _ _ _ so_far.order (front_more earlier c.args.items.now c.loop-item.item-index _ c.loop-item-test.true)

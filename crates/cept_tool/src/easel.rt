@@ -1,0 +1,80 @@
+ghost use Rattle.std.specs.Prelude.{◌≡◌, ◌≤◌, ◌∷◌, [], ◌++◌, List, IfOk, OnOk};
+ghost use Rattle.std.specs.Io.KnownBytes.{append_known};
+ghost use Rattle.cept_codes.specs.Command.{IsValidCommand};
+ghost use Rattle.cept_codes.specs.declared.command.Command.{Command};
+ghost use Rattle.cept_outside.specs.Causes.{HasCause};
+ghost use Rattle.cept_profile.specs.Changes.{changes, listed, painted_all};
+ghost use Rattle.cept_profile.specs.Look.{looks_of};
+ghost use Rattle.cept_profile.specs.State.{state};
+ghost use Rattle.cept_profile.specs.Valid.{AllValid};
+ghost use Rattle.cept_repaint.specs.GlassState.{Lists};
+ghost use Rattle.cept_tool.specs.Events.{command_text, lines_text};
+
+use crate::words::Order;
+use cept_codes::{Command, NoMemory};
+use cept_outside::{Sink, Steps, WriteFault};
+use cept_repaint::{Glass, Marks, Screen};
+use cept_report::put_changes;
+use std::alloc::Global;
+use std::sync::ledger::Ledger;
+
+/// A screen, and the places that its last command changed.
+#[derive(Drop)]
+pub struct Easel {
+    pub screen: Screen,
+    pub marks: Marks,
+}
+
+/// Puts the lines of the changed places, where they are asked for.
+fn put_lines<T: Sink>(
+    order: Order,
+    place: u64,
+    easel: &Easel,
+    sink: &mut T,
+) -> Result<(), WriteFault>
+    ensures put { OnOk result ((T.state sink.new).bytes ≡ append_known (T.state sink.old).bytes (lines_text order place (listed easel.now.marks (looks_of easel.now.screen.page)))) }
+    ensures cause { HasCause (T.state sink.old).faults (T.state sink.new).faults result }
+{
+    match order {
+        Order::Changes => put_changes(sink, place, &easel.marks, &easel.screen),
+        Order::Check => Ok(()),
+        Order::Show => Ok(()),
+        Order::Cells => Ok(()),
+    }
+}
+
+impl Easel {
+    /// The screen at the start.
+    pub fn new(alloc: Global) -> Result<Easel, NoMemory>
+        ensures { IfOk result (λ easel. easel.screen ≡ state []) }
+    {
+        Ok(Easel {
+            screen: Screen::new(alloc)?,
+            marks: Marks::new(),
+        })
+    }
+
+    /// Applies a command, paints what it changes, and tells it.
+    pub fn tell_command<T: Sink, G: Glass, L: Ledger>(
+        &mut self,
+        order: Order,
+        place: u64,
+        command: Command,
+        sink: &mut T,
+        glass: &mut G,
+        steps: &mut Steps<L>,
+    ) -> Result<(), WriteFault>
+        requires { IsValidCommand command }
+        ensures screen { (history : List Command) → AllValid history → self.old.screen ≡ state history → self.new.screen ≡ state (history ++ command ∷ []) }
+        ensures put { OnOk result ((history : List Command) → AllValid history → self.old.screen ≡ state history
+            → (T.state sink.new).bytes ≡ append_known (T.state sink.old).bytes (command_text order place history command)) }
+        ensures painted { (history : List Command) → AllValid history → self.old.screen ≡ state history
+            → Lists (G.state glass.old).paints (changes history command) (G.state glass.new).paints }
+        ensures grid { (history : List Command) → AllValid history → self.old.screen ≡ state history
+            → (G.state glass.new).grid ≡ painted_all (G.state glass.old).grid (changes history command) }
+        ensures cause { HasCause (T.state sink.old).faults (T.state sink.new).faults result }
+    {
+        self.screen.apply(command, glass, &mut self.marks, steps);
+        put_lines(order, place, self, sink)
+    }
+}
