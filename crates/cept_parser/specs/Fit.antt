@@ -13,7 +13,7 @@ use Rattle.cept_parser.specs.Grammar.{unit, fits, grows}
 abbrev pub fit_by : Bool → Bool → Option Closed → Fit
 fit_by false more whole = Misfit
 fit_by true more None = Open
-fit_by true more (Some c) = if more then Longer c else Whole c
+fit_by true more (Some c) = if more then Longer else Whole
 
 -- how these bytes stand to the grammar
 abbrev pub fit : Context → List ℕ → Fit
