@@ -1,7 +1,7 @@
-ghost use Rattle.std.specs.Prelude.{◌≡◌, ℕ, slice_index, ◌≤◌, ◌<◌, Option, None, Some, IfSome, OnSome, ◌∷◌, List, [], true, false, length};
+ghost use Rattle.std.specs.Prelude.{◌≡◌, ℕ, slice_index, ◌≤◌, ◌<◌, Option, None, Some, is_some, IfSome, OnSome, ◌∷◌, List, [], true, false, length};
 ghost use Rattle.cept_parser.specs.Bytes.{between, is_plain, is_empty, closed, complete, begins_plain, with_plain, begins_sequence, is_sequence};
 ghost use Rattle.cept_parser.specs.Grammar.{repeat, csi_unit, escape_unit, begins_escape, unit, fits, grows};
-ghost use Rattle.cept_parser.specs.Fit.{fit, fit_by, extent_by, behind};
+ghost use Rattle.cept_parser.specs.Fit.{fit, fit_by, extent_by, behind, is_alone};
 ghost use Rattle.cept_parser.specs.Told.{escape_told, told};
 ghost use Rattle.cept_parser.specs.Waits.{cut};
 ghost use Rattle.cept_parser.specs.declared.context.Closed.{Closed};
@@ -226,6 +226,7 @@ pub fn first_of(bytes: &[u8]) -> u8
 pub fn alone(context: &Context, byte: u8) -> Option<Closed>
     ensures whole { IfSome result (λ o. unit context.now (byte ∷ []) ≡ Some o) }
     ensures end { OnSome result (grows context.now (byte ∷ []) ≡ false) }
+    ensures found { is_some result ≡ is_alone context.now byte }
 {
     match byte {
         0x20..=0x7F => match context.mode {
