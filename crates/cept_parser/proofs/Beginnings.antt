@@ -1,18 +1,17 @@
 -- What fits is the beginning of what is whole, and what grows is continued by a byte.
-use Rattle.std.proofs.Common.{◌≡◌, ℕ, zero, suc, ◌+◌, ◌<◌, ◌≤◌, Bool, true, false, cond, eqb, List, [], ◌∷◌, ◌++◌, length, Option, Some, None, refl, sym, ap, ◌∙◌, subst, arith, ◌⊎◌, inl, inr}
+use Rattle.std.proofs.Common.{◌≡◌, ℕ, zero, suc, ◌+◌, ◌<◌, true, false, eqb, List, [], ◌∷◌, ◌++◌, length, Option, Some, None, refl, sym, ◌∙◌, subst, arith, ◌⊎◌, inl, inr}
 use Rattle.std.proofs.lemmas.Bool.{eqb-true, cases_Bool, both_ways}
 use Rattle.std.proofs.lemmas.List.{length-append, append_assoc, append-nil}
 use Rattle.cept_parser.specs.declared.context.Mode.{Mode}
 use Rattle.cept_parser.specs.declared.context.Mode.TheVariants.{Text, TableRun, DclutRun, DrcsRun, Skip}
 use Rattle.cept_parser.specs.declared.context.Context.{Context}
 use Rattle.cept_parser.specs.declared.context.Closed.{Closed}
-use Rattle.cept_parser.specs.Bytes.{is_plain, are_options, are_options_left, with_options}
-use Rattle.cept_parser.specs.Units.{drcs_parts, drcs_header, drcs_unit, begins_drcs, colour_parts, colour_header, colour_unit, begins_colour, format_parts, format, us_unit, begins_us, header_grows, us_grows}
+use Rattle.cept_parser.specs.Bytes.{is_plain, are_options_left}
+use Rattle.cept_parser.specs.Units.{drcs_parts, drcs_unit, begins_drcs, colour_parts, colour_unit, begins_colour, format_parts, us_unit, begins_us, header_grows, us_grows}
 use Rattle.cept_parser.specs.Runs.{run_grows, pattern_grows}
 use Rattle.cept_parser.specs.Grammar.{unit, fits, grows}
 use Rattle.cept_parser.specs.Beginning.{IsBeginning, IsContinued}
-use Rattle.cept_parser.specs.Valid.{IsValidContext}
-use Rattle.cept_parser.proofs.Links.{IsContinuedBy, options_continued, options_whole}
+use Rattle.cept_parser.proofs.Links.{options_continued, options_whole}
 use Rattle.cept_parser.proofs.GrammarLaws.{fits_front, whole_fits, plain_fits, whole_ends, open_small, grows_run, grows_us, grows_other}
 
 cases_unit : (o : Option Closed) → (o ≡ None) ⊎ ((w : Closed) × (o ≡ Some w))

@@ -1,22 +1,18 @@
 -- The laws of the grammar. The theory of items stands on these alone.
-use Rattle.std.proofs.Common.{◌≡◌, ℕ, zero, suc, ◌+◌, ◌<◌, ◌≤◌, Bool, true, false, ◌&&◌, cond, eqb, List, [], ◌∷◌, ◌++◌, length, Option, Some, None, refl, sym, ap, ◌∙◌, subst, arith, ◌⊎◌, inl, inr}
+use Rattle.std.proofs.Common.{◌≡◌, ℕ, suc, ◌≤◌, Bool, true, false, eqb, List, [], ◌∷◌, ◌++◌, length, Option, Some, None, refl, sym, ◌∙◌, subst, arith}
 use Rattle.std.proofs.lemmas.Bool.{eqb-true, ne_eqb}
-use Rattle.std.proofs.lemmas.List.{length-append, append_assoc, append-nil}
-use Rattle.cept_codes.specs.declared.command.Command.TheVariants.{Graphic}
-use Rattle.cept_codes.specs.declared.item.Said.TheVariants.{Command as Says}
 use Rattle.cept_parser.specs.declared.context.Mode.{Mode}
 use Rattle.cept_parser.specs.declared.context.Mode.TheVariants.{Text, TableRun, DclutRun, DrcsRun, Skip}
 use Rattle.cept_parser.specs.declared.context.Context.{Context}
 use Rattle.cept_parser.specs.declared.context.Closed.{Closed}
-use Rattle.cept_parser.specs.Context.{with_mode}
 use Rattle.cept_parser.specs.Bytes.{is_plain, begins_sequence}
 use Rattle.cept_parser.specs.Units.{begins_us, us_grows}
-use Rattle.cept_parser.specs.Runs.{run_unit, begins_run, begins_pattern, run_grows}
+use Rattle.cept_parser.specs.Runs.{begins_run, begins_pattern, run_grows}
 use Rattle.cept_parser.specs.Grammar.{begins_escape, unit, fits, grows}
 use Rattle.cept_parser.specs.Items.{is_refusal}
 use Rattle.cept_parser.specs.Beginning.{IsCommandUnit}
 use Rattle.cept_parser.proofs.Choices.{each_test}
-use Rattle.cept_parser.proofs.Links.{IsCommand, Links, links_test, complete_links, first_links, plain_links, Closes, closes_test, none_closes, complete_closes, plain_closes, Short, empty_short, plain_short, sequence_short}
+use Rattle.cept_parser.proofs.Links.{Links, links_test, complete_links, first_links, plain_links, Closes, closes_test, none_closes, complete_closes, plain_closes, empty_short, plain_short, sequence_short}
 use Rattle.cept_parser.proofs.UnitLaws.{us_links, csi_links, escape_links, run_links, us_closes, csi_closes, escape_closes, run_closes, us_short, escape_short, run_short}
 
 -- no bytes fit

@@ -6,6 +6,7 @@ pub mod ValidLaws
 pub mod Beginnings
 pub mod Longest
 pub mod Going
+pub mod Tellings
 pub mod Steps
 pub mod Sound
 pub mod Waiting

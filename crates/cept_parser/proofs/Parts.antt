@@ -1,5 +1,5 @@
 -- Optional parts, taken off one after another.
-use Rattle.std.proofs.Common.{◌≡◌, ℕ, Bool, true, false, cond, List, [], ◌∷◌, Option, Some, None, refl, sym, ap, ◌∙◌, subst}
+use Rattle.std.proofs.Common.{◌≡◌, ℕ, Bool, true, false, cond, List, [], ◌∷◌, Some, None, refl, sym, ap, ◌∙◌}
 use Rattle.cept_parser.specs.declared.context.Closed.{Closed}
 use Rattle.cept_parser.specs.declared.fit.Fit.{Fit}
 use Rattle.cept_parser.specs.Bytes.{is_empty, contains, are_options, are_options_left, with_options}
@@ -50,14 +50,14 @@ last_off : (p u : List ℕ) (k : Closed) → options_fit (p ∷ []) u k ≡ last
 last_off p u k =
     ap (λ (b : Bool). fit_by b (are_options_left (p ∷ []) u) (cond b (Some k) None)) (options_behind p [] u ∙ none_left (behind p u)) ∙ ap (λ (l : Bool). fit_by (is_empty (behind p u)) l (cond (is_empty (behind p u)) (Some k) None)) (last_left p u)
 
-pub two_parts : (p q : List ℕ) (u r : List ℕ) (k h : Closed) (w : Fit) → r ≡ behind p u → h ≡ k → w ≡ last_fit q r h → w ≡ options_fit (p ∷ q ∷ []) u k
-two_parts p q u r k h w e f g =
-    g ∙ ap (last_fit q r) f ∙ ap (λ (v : List ℕ). last_fit q v k) e ∙ sym (part_off p q [] u k ∙ last_off q (behind p u) k)
+pub two_parts : (p q : List ℕ) (u r : List ℕ) (w : Fit) → r ≡ behind p u → ((k : Closed) → w ≡ last_fit q r k) → (k : Closed) → w ≡ options_fit (p ∷ q ∷ []) u k
+two_parts p q u r w e g k =
+    g k ∙ ap (λ (v : List ℕ). last_fit q v k) e ∙ sym (part_off p q [] u k ∙ last_off q (behind p u) k)
 
-pub three_parts : (p q s : List ℕ) (u r v : List ℕ) (k h : Closed) (w : Fit) → r ≡ behind p u → v ≡ behind q r → h ≡ k → w ≡ last_fit s v h → w ≡ options_fit (p ∷ q ∷ s ∷ []) u k
-three_parts p q s u r v k h w e i f g =
-    two_parts q s r v k h w i f g ∙ ap (λ (t : List ℕ). options_fit (q ∷ s ∷ []) t k) e ∙ sym (part_off p q (s ∷ []) u k)
+pub three_parts : (p q s : List ℕ) (u r v : List ℕ) (w : Fit) → r ≡ behind p u → v ≡ behind q r → ((k : Closed) → w ≡ last_fit s v k) → (k : Closed) → w ≡ options_fit (p ∷ q ∷ s ∷ []) u k
+three_parts p q s u r v w e i g k =
+    two_parts q s r v w i g k ∙ ap (λ (t : List ℕ). options_fit (q ∷ s ∷ []) t k) e ∙ sym (part_off p q (s ∷ []) u k)
 
-pub four_parts : (p q s t : List ℕ) (u r v z : List ℕ) (k h : Closed) (w : Fit) → r ≡ behind p u → v ≡ behind q r → z ≡ behind s v → h ≡ k → w ≡ last_fit t z h → w ≡ options_fit (p ∷ q ∷ s ∷ t ∷ []) u k
-four_parts p q s t u r v z k h w e i j f g =
-    three_parts q s t r v z k h w i j f g ∙ ap (λ (y : List ℕ). options_fit (q ∷ s ∷ t ∷ []) y k) e ∙ sym (part_off p q (s ∷ t ∷ []) u k)
+pub four_parts : (p q s t : List ℕ) (u r v z : List ℕ) (w : Fit) → r ≡ behind p u → v ≡ behind q r → z ≡ behind s v → ((k : Closed) → w ≡ last_fit t z k) → (k : Closed) → w ≡ options_fit (p ∷ q ∷ s ∷ t ∷ []) u k
+four_parts p q s t u r v z w e i j g k =
+    three_parts q s t r v z w i j g k ∙ ap (λ (y : List ℕ). options_fit (q ∷ s ∷ t ∷ []) y k) e ∙ sym (part_off p q (s ∷ t ∷ []) u k)

@@ -1,19 +1,19 @@
 -- What one byte more does to bytes that wait.
 use Rattle.std.proofs.Common.{◌≡◌, ℕ, ◌+◌, Bool, true, false, ◌||◌, cond, List, [], ◌∷◌, ◌++◌, length, Option, Some, None, refl, sym, ap, ◌∙◌, arith}
+use Rattle.std.proofs.lemmas.Bool.{both_ways}
 use Rattle.std.proofs.lemmas.List.{drop_all, drop_at}
 use Rattle.cept_codes.specs.declared.item.Item.{Item}
-use Rattle.cept_codes.specs.declared.item.Reason.TheVariants.{Truncated}
-use Rattle.cept_codes.specs.declared.item.Said.{Said}
-use Rattle.cept_codes.specs.declared.item.Said.TheVariants.{Refused}
 use Rattle.cept_parser.specs.declared.context.Context.{Context}
 use Rattle.cept_parser.specs.declared.context.Closed.{Closed}
 use Rattle.cept_parser.specs.declared.fit.Fit.{Fit}
 use Rattle.cept_parser.specs.declared.fit.Fit.TheVariants.{Misfit, Open, Whole, Longer}
 use Rattle.cept_parser.specs.Grammar.{unit, fits, grows}
-use Rattle.cept_parser.specs.Items.{Front, is_refusal, front_of, front, Reading, before, waiting, read, said_at_end}
+use Rattle.cept_parser.specs.Items.{Front, is_refusal, front_of, front, before, waiting, read}
 use Rattle.cept_parser.specs.Fit.{fit, fit_by}
+use Rattle.cept_parser.specs.Told.{told}
 use Rattle.cept_parser.specs.Waits.{cut}
 use Rattle.cept_parser.proofs.GrammarLaws.{refused_ends}
+use Rattle.cept_parser.proofs.Tellings.{unit_tells}
 use Rattle.cept_parser.proofs.Longest.{front_fitting, front_ended, front_none, waits_fits, front_append_more}
 use Rattle.cept_parser.proofs.Going.{read_none, read_step}
 
@@ -55,27 +55,82 @@ cuts_now x n more (Some o) = cuts_go (is_refusal o.said) _
     cuts_go true f = refl
     cuts_go false f = refl
 
--- the reading of bytes that stand so to the grammar
-abbrev pub settled : Context → ℕ → List ℕ → Fit → Reading
-settled x at u (Whole o) = before (record { at = at; len = length u; what = o.said } ∷ []) (waiting o.next (at + length u) [])
-settled x at u (Longer o) = waiting x at u
-settled x at u Open = waiting x at u
-settled x at u Misfit = waiting x at u
+-- bytes that the word tells whole: they fit, don't grow, and wholly are this
+pub record IsWhole (b g : Bool) (w : Option Closed) : Type 0 where
+  pub fit : b ≡ true
+  pub end : g ≡ false
+  pub whole : Closed
+  pub is : w ≡ Some whole
 
-settles : (x : Context) (at : ℕ) (u : List ℕ) (more : Bool) (w : Option Closed) → ((o : Closed) → w ≡ Some o → is_refusal o.said ≡ true → more ≡ false) → front x u ≡ front_of x (length u) true more w → read x at u ≡ settled x at u (fit_by true more w)
-unfolding front_of
-settles x at u more None r e = read_none (length u) x at u e
-settles x at u true (Some o) r e = read_none (length u) x at u (e ∙ waits_longer x (length u) o (not_refused (is_refusal o.said) (r o refl)))
+pub whole_by : (b g : Bool) (w : Option Closed) → Whole ≡ fit_by b g w → IsWhole b g w
+whole_by false g w e = absurd cc
+whole_by true g None e = absurd cc
+whole_by true true (Some o) e = absurd cc
+whole_by true false (Some o) e = record { fit = refl; end = refl; whole = o; is = refl }
+
+-- bytes that it tells longer: they grow, and wholly are this
+pub record IsLonger (b g : Bool) (w : Option Closed) : Type 0 where
+  pub fit : b ≡ true
+  pub more : g ≡ true
+  pub whole : Closed
+  pub is : w ≡ Some whole
+
+pub longer_by : (b g : Bool) (w : Option Closed) → Longer ≡ fit_by b g w → IsLonger b g w
+longer_by false g w e = absurd cc
+longer_by true g None e = absurd cc
+longer_by true true (Some o) e = record { fit = refl; more = refl; whole = o; is = refl }
+longer_by true false (Some o) e = absurd cc
+
+-- bytes that it tells open: they fit, and are not whole
+pub open_by : (b g : Bool) (w : Option Closed) → Open ≡ fit_by b g w → (b ≡ true) × (w ≡ None)
+open_by false g w e = absurd cc
+open_by true g None e = (refl, refl)
+open_by true true (Some o) e = absurd cc
+open_by true false (Some o) e = absurd cc
+
+-- bytes that it tells misfit: they don't fit
+pub misfit_by : (b g : Bool) (w : Option Closed) → Misfit ≡ fit_by b g w → b ≡ false
+misfit_by false g w e = refl
+misfit_by true g None e = absurd cc
+misfit_by true true (Some o) e = absurd cc
+misfit_by true false (Some o) e = absurd cc
+
+-- the word at the bytes themselves
+word_at : (x : Context) (u s : List ℕ) (w : Fit) → s ≡ u → w ≡ fit x s → w ≡ fit x u
+word_at x u s w e f = f ∙ ap (fit x) e
+
+-- this is what the bytes say if they are whole
+abbrev pub Means : Context → List ℕ → Closed → Type 0
+Means x s k = k ≡ told x s
+
+-- whole bytes that nothing continues are an item
+pub read_as_whole : (x : Context) (at : ℕ) (u s t : List ℕ) (k : Closed) → s ≡ u → Whole ≡ fit x s → t ≡ u → Means x t k → read x at u ≡ before (record { at = at; len = length u; what = k.said } ∷ []) (waiting k.next (at + length u) [])
+read_as_whole x at u s t k e f i m =
+    let p = whole_by (fits x u) (grows x u) (unit x u) (word_at x u s Whole e f) in
+    let same : k ≡ p.whole = m ∙ ap (told x) i ∙ unit_tells x u p.whole p.is in
+    let now : front x u ≡ Some (record { said = p.whole.said; size = length u; next = p.whole.next }) = front_fitting x u p.fit ∙ ap (λ (b : Bool). front_of x (length u) true b (unit x u)) p.end ∙ ap (front_of x (length u) true false) p.is ∙ closes_now x (length u) true p.whole in
+    read_whole x at u p.whole now ∙ sym (ap (λ (o : Closed). before (record { at = at; len = length u; what = o.said } ∷ []) (waiting o.next (at + length u) [])) same)
+
+-- whole bytes that may grow wait
+pub read_as_longer : (x : Context) (at : ℕ) (u s : List ℕ) → s ≡ u → Longer ≡ fit x s → read x at u ≡ waiting x at u
+read_as_longer x at u s e f =
+    let p = longer_by (fits x u) (grows x u) (unit x u) (word_at x u s Longer e f) in
+    let command : is_refusal p.whole.said ≡ false = not_refused (is_refusal p.whole.said) (λ r. sym p.more ∙ refused_ends x u p.whole p.is r) in
+    read_none (length u) x at u (front_fitting x u p.fit ∙ ap (λ (b : Bool). front_of x (length u) true b (unit x u)) p.more ∙ ap (front_of x (length u) true true) p.is ∙ waits_longer x (length u) p.whole command)
   where
     not_refused : (b : Bool) → (b ≡ true → true ≡ false) → b ≡ false
     not_refused true r = r refl
     not_refused false r = refl
-settles x at u false (Some o) r e = read_whole x at u o (e ∙ closes_now x (length u) true o)
 
--- the reading of bytes that fit
-pub read_fitting : (x : Context) (at : ℕ) (u : List ℕ) → fits x u ≡ true → read x at u ≡ settled x at u (fit x u)
-read_fitting x at u h =
-    settles x at u (grows x u) (unit x u) (λ o. refused_ends x u o) (front_fitting x u h) ∙ ap (λ (b : Bool). settled x at u (fit_by b (grows x u) (unit x u))) (sym h)
+waits_open : (x : Context) (n : ℕ) (more : Bool) → front_of x n true more None ≡ None
+unfolding front_of
+waits_open x n more = refl
+
+-- bytes that are not whole wait
+pub read_as_open : (x : Context) (at : ℕ) (u s : List ℕ) → s ≡ u → Open ≡ fit x s → read x at u ≡ waiting x at u
+read_as_open x at u s e f =
+    let p = open_by (fits x u) (grows x u) (unit x u) (word_at x u s Open e f) in
+    read_none (length u) x at u (front_fitting x u p.0 ∙ ap (front_of x (length u) true (grows x u)) p.1 ∙ waits_open x (length u) (grows x u))
 
 -- the reading of bytes that wait and one that doesn't fit behind them
 pub read_cut : (x : Context) (at : ℕ) (p : List ℕ) (c : ℕ) → front x p ≡ None → fits x (p ++ c ∷ []) ≡ false → let o = cut x (unit x p) in read x at (p ++ c ∷ []) ≡ before (record { at = at; len = length p; what = o.said } ∷ []) (read o.next (at + length p) (c ∷ []))
@@ -89,11 +144,6 @@ read_unit x at u s o e h g =
     let front_u : front x u ≡ Some (record { said = o.said; size = length u; next = o.next }) = front_fitting x u h ∙ ap (λ (b : Bool). front_of x (length u) true b (unit x u)) g ∙ ap (front_of x (length u) true false) e ∙ closes_now x (length u) true o in
     read_step x at (u ++ s) _ (front_append_more x u s _ front_u) ∙ ap (λ (v : List ℕ). before (record { at = at; len = length u; what = o.said } ∷ []) (read o.next (at + length u) v)) (drop_at u s (length u) refl)
 
--- the reading of bytes that fit, by the word for how they stand
-pub read_settled : (x : Context) (at : ℕ) (u s : List ℕ) (w : Fit) → fits x u ≡ true → s ≡ u → w ≡ fit x s → read x at u ≡ settled x at u w
-read_settled x at u s w h e f =
-    read_fitting x at u h ∙ ap (λ (v : List ℕ). settled x at u (fit x v)) (sym e) ∙ ap (settled x at u) (sym f)
-
 -- the reading of bytes that wait and one that doesn't fit behind them, by the names of its parts
 pub read_cut_by : (x : Context) (at : ℕ) (p : List ℕ) (c : ℕ) (kept : List ℕ) (item : Item) (next : Context) (from : ℕ) (rest left : List ℕ) → front x p ≡ None → false ≡ fits x (p ++ c ∷ []) → kept ≡ p → item ≡ record { at = at; len = length kept; what = (cut x (unit x kept)).said } → next ≡ (cut x (unit x kept)).next → from ≡ item.len → left ≡ [] → rest ≡ left ++ c ∷ [] → read x at (p ++ c ∷ []) ≡ before (item ∷ []) (read next (at + from) rest)
 read_cut_by x at p c kept item next from rest left w m k i n f l r =
@@ -104,40 +154,19 @@ read_cut_by x at p c kept item next from rest left w m k i n f l r =
     let r' : rest ≡ c ∷ [] = r ∙ ap (λ (u : List ℕ). u ++ c ∷ []) l in
     rw (i', n', f', r') whole
 
--- what bytes that stand so to the grammar say at the end of the input
-abbrev pub fit_said : Fit → Said
-fit_said Misfit = Refused Truncated
-fit_said Open = Refused Truncated
-fit_said (Whole o) = o.said
-fit_said (Longer o) = o.said
+-- what bytes say at the end of the input and where they are cut, by the word for how they stand
+pub whole_says : (x : Context) (u : List ℕ) (k : Closed) → Whole ≡ fit x u → Means x u k → unit x u ≡ Some k
+whole_says x u k f m =
+    let p = whole_by (fits x u) (grows x u) (unit x u) f in
+    p.is ∙ ap (λ (o : Closed). Some o) (sym (m ∙ unit_tells x u p.whole p.is))
 
-fit_says_by : (fit more : Bool) (whole : Option Closed) → fit ≡ true → fit_said (fit_by fit more whole) ≡ said_at_end whole
-unfolding said_at_end
-fit_says_by false more whole h = absurd cc
-fit_says_by true more None h = refl
-fit_says_by true true (Some o) h = refl
-fit_says_by true false (Some o) h = refl
+pub longer_says : (x : Context) (u : List ℕ) (k : Closed) → Longer ≡ fit x u → Means x u k → unit x u ≡ Some k
+longer_says x u k f m =
+    let p = longer_by (fits x u) (grows x u) (unit x u) f in
+    p.is ∙ ap (λ (o : Closed). Some o) (sym (m ∙ unit_tells x u p.whole p.is))
 
-pub fit_says : (x : Context) (u : List ℕ) (w : Fit) → fits x u ≡ true → w ≡ fit x u → fit_said w ≡ said_at_end (unit x u)
-fit_says x u w h e = ap fit_said e ∙ fit_says_by (fits x u) (grows x u) (unit x u) h
+pub open_says : (x : Context) (u : List ℕ) → Open ≡ fit x u → unit x u ≡ None
+open_says x u f = (open_by (fits x u) (grows x u) (unit x u) f).1
 
--- bytes fit where the word for how they stand isn't misfit
-pub fits_unless : (x : Context) (u s : List ℕ) (w : Fit) → s ≡ u → w ≡ fit x s → (w ≡ Misfit → ⊥) → fits x u ≡ true
-fits_unless x u s w e f n = go (fits x u) (f ∙ ap (fit x) e)
-  where
-    go : (b : Bool) → w ≡ fit_by b (grows x u) (unit x u) → b ≡ true
-    go true h = refl
-    go false h = absurd (n h)
-
--- bytes don't fit where it is
-pub fits_not : (x : Context) (u s : List ℕ) (w : Fit) → s ≡ u → w ≡ fit x s → w ≡ Misfit → fits x u ≡ false
-fits_not x u s w e f m = go (fits x u) (unit x u) (sym m ∙ f ∙ ap (fit x) e)
-  where
-    go : (b : Bool) (o : Option Closed) → Misfit ≡ fit_by b (grows x u) o → b ≡ false
-    go false o h = refl
-    go true None h = absurd cc
-    go true (Some o) h = absurd (go_more (grows x u) o h)
-      where
-        go_more : (g : Bool) (o : Closed) → Misfit ≡ cond g (Longer o) (Whole o) → ⊥
-        go_more true o h = cc
-        go_more false o h = cc
+pub misfit_says : (x : Context) (u : List ℕ) → Misfit ≡ fit x u → fits x u ≡ true → unit x u ≡ None
+misfit_says x u f h = absurd (both_ways (fits x u) (misfit_by (fits x u) (grows x u) (unit x u) f) h)

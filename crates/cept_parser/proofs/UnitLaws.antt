@@ -1,13 +1,13 @@
 -- The laws of the units behind US, behind ESC and in a run.
-use Rattle.std.proofs.Common.{◌≡◌, ℕ, suc, ◌+◌, ◌<◌, ◌≤◌, Bool, true, false, ◌&&◌, cond, eqb, ltb, leb, List, [], ◌∷◌, ◌++◌, length, Option, Some, None, refl, sym, ap, ◌∙◌, subst, arith}
+use Rattle.std.proofs.Common.{◌≡◌, ℕ, suc, ◌≤◌, Bool, true, false, ◌&&◌, eqb, ltb, List, [], ◌∷◌, ◌++◌, length, Option, refl, sym, subst, arith}
 use Rattle.std.proofs.lemmas.Bool.{both_ways}
 use Rattle.std.proofs.lemmas.Bool.Decides.{nat_tests}
 use Rattle.cept_parser.specs.declared.context.Mode.{Mode}
 use Rattle.cept_parser.specs.declared.context.Mode.TheVariants.{Text, TableRun, DclutRun, DrcsRun, Skip}
 use Rattle.cept_parser.specs.declared.context.Context.{Context}
 use Rattle.cept_parser.specs.declared.context.Closed.{Closed}
-use Rattle.cept_parser.specs.Bytes.{between, is_plain, is_digit, is_empty, complete, begins_plain, with_plain, begins_sequence, is_sequence, are_options, are_options_left, with_options}
-use Rattle.cept_parser.specs.Units.{position, drcs_parts, drcs_form, drcs_header, drcs_unit, begins_drcs, colour_parts, colour_header, colour_start, colour_unit, begins_colour, format_parts, format, service_break, service, service_unit, begins_service, us_unit, begins_us, header_grows, us_grows}
+use Rattle.cept_parser.specs.Bytes.{between, is_plain, is_digit, begins_sequence, are_options, are_options_left, with_options}
+use Rattle.cept_parser.specs.Units.{drcs_parts, drcs_header, drcs_unit, begins_drcs, colour_parts, colour_header, colour_unit, begins_colour, format_parts, format, service_unit, begins_service, us_unit, begins_us, header_grows, us_grows}
 use Rattle.cept_parser.specs.Runs.{has_six_bits, run_unit, begins_run, run_grows, pattern_unit, begins_pattern, pattern_grows}
 use Rattle.cept_parser.specs.Grammar.{csi_unit, escape_unit, begins_escape}
 use Rattle.cept_parser.specs.Items.{is_refusal}

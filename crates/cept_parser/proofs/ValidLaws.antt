@@ -1,5 +1,5 @@
 -- Every whole unit says something valid and leads to a valid context, and what fits has few bytes.
-use Rattle.std.proofs.Common.{◌≡◌, ℕ, ◌+◌, ◌-◌, ◌*◌, ◌/◌, ◌%◌, ◌^◌, ◌<◌, ◌≤◌, suc, Bool, true, false, not, ◌&&◌, ◌||◌, cond, eqb, ltb, leb, List, [], ◌∷◌, ◌++◌, length, Option, Some, None, refl, subst, arith, rules, ◌⊎◌, inl, inr}
+use Rattle.std.proofs.Common.{◌≡◌, ℕ, ◌+◌, ◌-◌, ◌<◌, ◌≤◌, Bool, true, false, not, ◌&&◌, ◌||◌, cond, eqb, ltb, leb, List, [], ◌∷◌, length, Option, Some, None, refl, subst, arith, ◌⊎◌, inl, inr}
 use Rattle.std.proofs.lemmas.Bool.{and_parts, cases_lt, not-true, not-false, leb-true, ltb-true}
 use Rattle.std.proofs.lemmas.Bool.Decides.{nat_tests}
 use Rattle.cept_codes.specs.Command.{IsValidSaid, IsValidForm, IsGraphic, IsC1, IsScreenC1, IsArea}
@@ -13,14 +13,13 @@ use Rattle.cept_parser.specs.declared.context.ColourKind.TheVariants.{ColourTabl
 use Rattle.cept_parser.specs.declared.context.Context.{Context}
 use Rattle.cept_parser.specs.declared.context.Closed.{Closed}
 use Rattle.cept_parser.specs.Context.{with_mode, start}
-use Rattle.cept_parser.specs.Bytes.{between, is_plain, is_digit, digit, two_digits, is_row, is_column, is_empty, contains, closed, complete, with_plain, with_options, are_options, is_sequence}
+use Rattle.cept_parser.specs.Bytes.{between, is_plain, is_digit, two_digits, is_row, is_column, is_empty, contains, closed, complete, with_plain, with_options, are_options, is_sequence}
 use Rattle.cept_parser.specs.Controls.{control}
 use Rattle.cept_parser.specs.Escape.{is_c1_final, escape_1, designate, designate_c1, escape_2, full_screen, full_row, designate_drcs, escape_3, escape}
 use Rattle.cept_parser.specs.Csi.{csi_1, csi_2, area, is_area_final, csi_4, csi_1_2, csi_2_1, csi_5, csi_6, csi}
 use Rattle.cept_parser.specs.Units.{position, drcs_parts, drcs_width, drcs_height, drcs_planes, drcs_form, drcs_header, drcs_unit, colour_parts, colour_header, last_place, run_from, colours_from, colour_start, colour_unit, format_parts, format, service_break, service, service_unit, us_unit}
 use Rattle.cept_parser.specs.Runs.{misplaced, has_six_bits, bit, colour_part, colour, entry, look_up, run_unit, pattern_unit}
 use Rattle.cept_parser.specs.Grammar.{repeat, csi_unit, escape_unit, unit, fits}
-use Rattle.cept_parser.specs.Items.{is_refusal}
 use Rattle.cept_parser.specs.Valid.{IsValidContext, IsValidMode, AreBytes}
 use Rattle.cept_parser.proofs.Choices.{each_test}
 use Rattle.cept_parser.proofs.GrammarLaws.{fits_small}

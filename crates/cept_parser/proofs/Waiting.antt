@@ -1,5 +1,5 @@
 -- Bytes that wait.
-use Rattle.std.proofs.Common.{◌≡◌, ℕ, ◌+◌, ◌-◌, ◌<◌, ◌≤◌, suc, Bool, true, false, eqb, Some, None, ◌⊎◌, inl, inr, subst, List, [], ◌∷◌, ◌++◌, length, refl, sym, ap, ◌∙◌, arith}
+use Rattle.std.proofs.Common.{◌≡◌, ℕ, ◌+◌, ◌-◌, ◌<◌, ◌≤◌, suc, Bool, true, false, eqb, Some, None, inl, inr, subst, List, [], ◌∷◌, ◌++◌, length, refl, sym, ap, ◌∙◌, arith}
 use Rattle.std.proofs.lemmas.List.{length-append}
 use Rattle.std.proofs.lemmas.Bool.{eqb-true, eqb-false, cases_Bool}
 use Rattle.cept_codes.specs.declared.item.Said.{Said}
@@ -8,7 +8,7 @@ use Rattle.cept_codes.specs.Command.{IsValidSaid}
 use Rattle.cept_parser.specs.declared.context.Context.{Context}
 use Rattle.cept_parser.specs.declared.context.Closed.{Closed}
 use Rattle.cept_parser.specs.Context.{start}
-use Rattle.cept_parser.specs.Bytes.{is_plain, is_empty}
+use Rattle.cept_parser.specs.Bytes.{is_empty}
 use Rattle.cept_parser.specs.Grammar.{unit, fits, grows}
 use Rattle.cept_parser.specs.Items.{front_of, front, Reading, before, waiting, read, reading, items, closing, said_at_end}
 use Rattle.cept_parser.specs.State.{ParserState, Leads, reading_with, state_after, pending_reading}

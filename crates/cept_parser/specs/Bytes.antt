@@ -1,9 +1,8 @@
 -- Classes of bytes, and the small forms of which the units are made. Codes are written column/row, as in the standards.
-use Rattle.std.specs.Prelude.{ℕ, zero, suc, ◌+◌, ◌-◌, ◌*◌, Bool, true, false, ◌&&◌, ◌||◌, List, [], ◌∷◌, if◌then◌else◌, ◌==◌, nat_le, Option, Some, None}
+use Rattle.std.specs.Prelude.{ℕ, zero, suc, ◌+◌, ◌-◌, ◌*◌, Bool, true, false, ◌&&◌, List, [], ◌∷◌, if◌then◌else◌, ◌==◌, nat_le, Option, Some, None}
 use Rattle.std.specs.List.{list_any}
 use Rattle.cept_codes.specs.declared.item.Said.{Said}
 use Rattle.cept_parser.specs.declared.context.Mode.{Mode}
-use Rattle.cept_parser.specs.declared.context.Mode.TheVariants.{Text, Skip}
 use Rattle.cept_parser.specs.declared.context.Context.{Context}
 use Rattle.cept_parser.specs.declared.context.Closed.{Closed}
 use Rattle.cept_parser.specs.Context.{with_mode}

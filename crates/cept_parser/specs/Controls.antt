@@ -1,7 +1,6 @@
 -- Units of one byte: the C0 set, the C1 set in its form of one byte, and the right half (ETS 300 072, the C0 set of
 -- format effectors and controls; ISO 2022 for the shifts).
 use Rattle.std.specs.Prelude.{ℕ, ◌-◌, if◌then◌else◌, ◌==◌, nat_le}
-use Rattle.cept_codes.specs.declared.command.Command.{Command}
 use Rattle.cept_codes.specs.declared.command.Command.TheVariants as command
 use Rattle.cept_codes.specs.declared.item.Reason.TheVariants.{UnassignedControl}
 use Rattle.cept_codes.specs.declared.item.Said.{Said}

@@ -1,5 +1,5 @@
 -- Control sequences: CSI, at most seven bytes 2/0 to 3/15, and a byte 4/0 to 7/15 (ISO 6429; their meanings T/CD 6-1).
-use Rattle.std.specs.Prelude.{ℕ, ◌-◌, Bool, true, false, not, ◌&&◌, ◌||◌, List, [], ◌∷◌, if◌then◌else◌, ◌==◌, nat_le}
+use Rattle.std.specs.Prelude.{ℕ, ◌-◌, Bool, true, false, not, ◌&&◌, List, [], ◌∷◌, if◌then◌else◌, ◌==◌, nat_le}
 use Rattle.cept_codes.specs.declared.command.Command.TheVariants as command
 use Rattle.cept_codes.specs.declared.item.Reason.TheVariants.{UnknownCsi, BadParameter}
 use Rattle.cept_codes.specs.declared.item.Said.{Said}

@@ -1,19 +1,21 @@
 -- How bytes stand to the grammar, in one word.
-use Rattle.std.specs.Prelude.{ℕ, Bool, true, false, List, [], ◌∷◌, if◌then◌else◌, Option, Some, None}
+use Rattle.std.specs.Prelude.{ℕ, Bool, true, false, not, ◌||◌, ◌==◌, List, [], ◌∷◌, if◌then◌else◌, Option, Some, None}
 use Rattle.cept_parser.specs.declared.context.Context.{Context}
 use Rattle.cept_parser.specs.declared.context.Closed.{Closed}
 use Rattle.cept_parser.specs.declared.fit.Extent.{Extent}
 use Rattle.cept_parser.specs.declared.fit.Extent.TheVariants.{Beyond, Within, Full}
 use Rattle.cept_parser.specs.declared.fit.Fit.{Fit}
 use Rattle.cept_parser.specs.declared.fit.Fit.TheVariants.{Misfit, Open, Whole, Longer}
-use Rattle.cept_parser.specs.Bytes.{contains}
+use Rattle.cept_parser.specs.declared.context.Mode.{Mode}
+use Rattle.cept_parser.specs.declared.context.Mode.TheVariants.{Text, TableRun, DclutRun, DrcsRun, Skip}
+use Rattle.cept_parser.specs.Bytes.{contains, is_plain}
 use Rattle.cept_parser.specs.Grammar.{unit, fits, grows}
 
 -- the word for bytes that fit or not, grow or not, and wholly are this
 abbrev pub fit_by : Bool → Bool → Option Closed → Fit
 fit_by false more whole = Misfit
 fit_by true more None = Open
-fit_by true more (Some c) = if more then Longer c else Whole c
+fit_by true more (Some c) = if more then Longer else Whole
 
 -- how these bytes stand to the grammar
 abbrev pub fit : Context → List ℕ → Fit
@@ -29,3 +31,18 @@ extent_by true true = Full
 abbrev pub behind : List ℕ → List ℕ → List ℕ
 behind part [] = []
 behind part (a ∷ u) = if contains part a then u else a ∷ u
+
+-- a mode in which each plain byte is a unit
+abbrev pub is_single_mode : Mode → Bool
+is_single_mode Text = true
+is_single_mode Skip = true
+is_single_mode (TableRun i) = false
+is_single_mode (DclutRun i) = false
+is_single_mode (DrcsRun c) = false
+
+-- a byte that is a whole unit or refused shape whatever the run: a sign, a byte that is passed over, or a control that
+-- begins no longer unit
+abbrev pub is_alone : Context → ℕ → Bool
+is_alone x a =
+    if is_plain a then is_single_mode x.mode else
+    not (a == 0x12 || (a == 0x1B || (a == 0x9B || a == 0x1F)))

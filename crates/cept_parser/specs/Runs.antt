@@ -1,5 +1,5 @@
 -- Units that begin with a plain byte, by the mode: signs, colours, patterns, and bytes that are passed over.
-use Rattle.std.specs.Prelude.{ℕ, ◌+◌, ◌*◌, ◌/◌, ◌%◌, ◌^◌, Bool, true, false, ◌&&◌, List, [], ◌∷◌, if◌then◌else◌, nat_lt, nat_le, Option, Some, None}
+use Rattle.std.specs.Prelude.{ℕ, ◌+◌, ◌*◌, ◌/◌, ◌%◌, ◌^◌, Bool, false, ◌&&◌, List, if◌then◌else◌, nat_lt, nat_le, Option}
 use Rattle.cept_codes.specs.declared.command.Command.TheVariants as command
 use Rattle.cept_codes.specs.declared.item.Reason.TheVariants.{BadParameter}
 use Rattle.cept_codes.specs.declared.item.Said.TheVariants.{Command as Says, Refused}

@@ -1,16 +1,18 @@
-ghost use Rattle.std.specs.Prelude.{◌≡◌, ◌≤◌, ◌<◌, Option, None, Some, IfSome, OnSome, ◌∷◌, List, [], true, false, length};
+ghost use Rattle.std.specs.Prelude.{◌≡◌, ℕ, slice_index, ◌≤◌, ◌<◌, Option, None, Some, is_some, IfSome, OnSome, ◌∷◌, List, [], true, false, length};
 ghost use Rattle.cept_parser.specs.Bytes.{between, is_plain, is_empty, closed, complete, begins_plain, with_plain, begins_sequence, is_sequence};
 ghost use Rattle.cept_parser.specs.Grammar.{repeat, csi_unit, escape_unit, begins_escape, unit, fits, grows};
-ghost use Rattle.cept_parser.specs.Fit.{fit, fit_by, extent_by, behind};
+ghost use Rattle.cept_parser.specs.Fit.{fit, fit_by, extent_by, behind, is_alone};
+ghost use Rattle.cept_parser.specs.Told.{escape_told, told};
 ghost use Rattle.cept_parser.specs.Waits.{cut};
+ghost use Rattle.cept_parser.specs.declared.context.Closed.{Closed};
 
 use crate::bytes::is_plain;
 use crate::context::{Closed, Context, Mode};
 use crate::controls::control;
 use crate::csi::csi;
 use crate::escape::escape;
-use crate::runs::run_fit;
-use crate::units::us_fit;
+use crate::runs::{run_closed, run_fit};
+use crate::units::{us_closed, us_fit};
 use cept_codes::{Command, Reason, Said};
 
 /// How bytes stand to the grammar: no unit begins so, they begin one, they are one and no more bytes fit, or they are
@@ -19,8 +21,8 @@ use cept_codes::{Command, Reason, Said};
 pub enum Fit {
     Misfit,
     Open,
-    Whole(Closed),
-    Longer(Closed),
+    Whole,
+    Longer,
 }
 
 /// How bytes stand to a kind of sequence: none begins so, they begin one, or they are one.
@@ -31,13 +33,24 @@ pub enum Extent {
     Full,
 }
 
-/// A unit or refused shape that is complete, if no bytes come behind it.
-pub fn complete_fit(closed: Closed, rest: &[u8]) -> Fit
-    ensures { result ≡ fit_by (is_empty rest.now) false (complete rest.now closed) }
+/// A unit or refused shape that is complete, whatever it says, if no bytes come behind it.
+pub fn complete_fit(rest: &[u8]) -> Fit
+    ensures { (k : Closed) → result ≡ fit_by (is_empty rest.now) false (complete rest.now k) }
 {
     match rest {
-        [] => Fit::Whole(closed),
+        [] => Fit::Whole,
         [_, ..] => Fit::Misfit,
+    }
+}
+
+/// One plain byte, whatever it says, if no bytes come behind it.
+pub fn plain_fit(bytes: &[u8]) -> Fit
+    ensures { (k : ℕ → Closed) → result ≡ fit_by (begins_plain bytes.now) false (with_plain k bytes.now) }
+{
+    match bytes {
+        [] => Fit::Open,
+        [byte] if is_plain(*byte) => Fit::Whole,
+        _ => Fit::Misfit,
     }
 }
 
@@ -93,17 +106,6 @@ fn sequence_extent(last: u8, most: usize, bytes: &[u8]) -> Extent
     }
 }
 
-/// RPT: what stands behind 12.
-fn repeat_fit(context: &Context, bytes: &[u8]) -> Fit
-    ensures { result ≡ fit_by (begins_plain bytes.now) false (with_plain (repeat context.now) bytes.now) }
-{
-    match bytes {
-        [] => Fit::Open,
-        [byte] if is_plain(*byte) => Fit::Whole(repeat(context, *byte)),
-        _ => Fit::Misfit,
-    }
-}
-
 /// RPT and a byte, which carries six bits.
 #[tactic(auto, unfolding(crate::specs::Grammar::repeat))]
 fn repeat(context: &Context, byte: u8) -> Closed
@@ -124,7 +126,7 @@ fn csi_fit(context: &Context, bytes: &[u8]) -> Fit
     match sequence_extent(0x40, 7, bytes) {
         Extent::Beyond => Fit::Misfit,
         Extent::Within => Fit::Open,
-        Extent::Full => Fit::Whole(context.closed(Mode::Text, csi(bytes))),
+        Extent::Full => Fit::Whole,
     }
 }
 
@@ -139,7 +141,7 @@ fn escape_fit(context: &Context, bytes: &[u8]) -> Fit
         [_, ..] => match sequence_extent(0x30, 3, bytes) {
             Extent::Beyond => Fit::Misfit,
             Extent::Within => Fit::Open,
-            Extent::Full => Fit::Whole(context.closed(Mode::Text, escape(bytes))),
+            Extent::Full => Fit::Whole,
         },
     }
 }
@@ -151,11 +153,11 @@ fn fit_behind(context: &Context, byte: u8, rest: &[u8]) -> Fit
 {
     match byte {
         0x20..=0x7F => run_fit(context, byte, rest),
-        0x12 => repeat_fit(context, rest),
+        0x12 => plain_fit(rest),
         0x1B => escape_fit(context, rest),
         0x9B => csi_fit(context, rest),
         0x1F => us_fit(context, rest),
-        _ => complete_fit(context.closed(Mode::Text, control(byte)), rest),
+        _ => complete_fit(rest),
     }
 }
 
@@ -170,12 +172,61 @@ pub fn fit_of(context: &Context, bytes: &[u8]) -> Fit
     }
 }
 
+/// What a whole escape sequence or control sequence says, behind ESC.
+#[tactic(auto, unfolding(crate::specs::Told::escape_told))]
+fn escape_closed(context: &Context, bytes: &[u8]) -> Closed
+    ensures { result ≡ escape_told context.now bytes.now }
+{
+    match bytes {
+        [] => context.closed(Mode::Text, escape(bytes)),
+        [0x5B, rest @ ..] => context.closed(Mode::Text, csi(rest)),
+        [_, ..] => context.closed(Mode::Text, escape(bytes)),
+    }
+}
+
+/// What whole bytes say that begin with this one.
+#[tactic(auto, unfolding(crate::specs::Told::told))]
+fn closed_behind(context: &Context, byte: u8, rest: &[u8]) -> Closed
+    ensures { result ≡ told context.now (byte ∷ rest.now) }
+{
+    match byte {
+        0x20..=0x7F => run_closed(context, byte, rest),
+        0x12 => repeat(context, first_of(rest)),
+        0x1B => escape_closed(context, rest),
+        0x9B => context.closed(Mode::Text, csi(rest)),
+        0x1F => us_closed(context, rest),
+        _ => context.closed(Mode::Text, control(byte)),
+    }
+}
+
+/// What whole bytes say.
+#[tactic(auto, unfolding(crate::specs::Told::told))]
+pub fn closed_of(context: &Context, bytes: &[u8]) -> Closed
+    ensures { result ≡ told context.now bytes.now }
+{
+    match bytes {
+        [] => interrupted(context),
+        [byte, rest @ ..] => closed_behind(context, *byte, rest),
+    }
+}
+
+/// The first byte, 0 where there is none.
+pub fn first_of(bytes: &[u8]) -> u8
+    ensures { result ≡ slice_index bytes.now 0 }
+{
+    match bytes {
+        [] => 0,
+        [byte, ..] => *byte,
+    }
+}
+
 /// What a byte says that is a whole unit or refused shape without asking for a run: a sign, a byte that is passed over, or
 /// a control that begins no longer unit.
 #[tactic(auto, unfolding(crate::specs::Grammar::unit, crate::specs::Grammar::grows, crate::specs::Runs::run_unit, crate::specs::Runs::run_grows))]
 pub fn alone(context: &Context, byte: u8) -> Option<Closed>
     ensures whole { IfSome result (λ o. unit context.now (byte ∷ []) ≡ Some o) }
     ensures end { OnSome result (grows context.now (byte ∷ []) ≡ false) }
+    ensures found { is_some result ≡ is_alone context.now byte }
 {
     match byte {
         0x20..=0x7F => match context.mode {
@@ -197,8 +248,8 @@ pub fn cut(context: &Context, bytes: &[u8]) -> Closed
     ensures { result ≡ cut context.now (unit context.now bytes.now) }
 {
     match fit_of(context, bytes) {
-        Fit::Whole(closed) => closed,
-        Fit::Longer(closed) => closed,
+        Fit::Whole => closed_of(context, bytes),
+        Fit::Longer => closed_of(context, bytes),
         Fit::Open => interrupted(context),
         Fit::Misfit => interrupted(context),
     }

@@ -43,11 +43,12 @@ pub fn lengths()
     ensures refused { (x : Context) (u : List ℕ) (o : Closed) → unit x u ≡ Some o → is_refusal o.said ≡ true → length u ≤ 10 }
 {}
 
-/// Every unit says a valid command, and no unit or refused shape leads out of the valid contexts.
+/// Every unit says a valid command, and no unit, refused shape or interruption leads out of the valid contexts.
 pub fn contexts()
     ensures start { IsValidContext start }
     ensures said { (x : Context) (u : List ℕ) (o : Closed) → IsValidContext x → AreBytes u → unit x u ≡ Some o → IsValidSaid o.said }
     ensures next { (x : Context) (u : List ℕ) (o : Closed) → IsValidContext x → AreBytes u → unit x u ≡ Some o → IsValidContext o.next }
+    ensures reading { (x : Context) (at : ℕ) (b : List ℕ) → IsValidContext x → AreBytes b → IsValidContext (read x at b).context }
 {}
 
 /// Reading goes on from what is pending: bytes in two parts read as the first part, and then as what it left pending

@@ -7,7 +7,7 @@ ghost use Rattle.cept_parser.specs.Valid.{AreValid, AreMeasured};
 ghost use Rattle.cept_parser.specs.Waits.{Waits};
 
 use crate::context::{Closed, Context};
-use crate::fit::{Fit, alone, cut, fit_of};
+use crate::fit::{Fit, alone, closed_of, cut, fit_of};
 use arrayvec::ArrayVec;
 use cept_codes::{Item, Reason, Said};
 use std::marker::Model;
@@ -36,8 +36,11 @@ fn settle(context: &mut Context, bytes: &mut ArrayVec<u8, 100>, at: u64) -> Opti
     ensures pending { bytes.new.items ≡ (read context.old at bytes.old.items).pending }
 {
     match fit_of(context, bytes.as_slice()) {
-        Fit::Whole(closed) => Some(take(context, bytes, at, closed)),
-        Fit::Longer(_) => None,
+        Fit::Whole => {
+            let closed = closed_of(context, bytes.as_slice());
+            Some(take(context, bytes, at, closed))
+        }
+        Fit::Longer => None,
         Fit::Open => None,
         Fit::Misfit => None,
     }
@@ -49,8 +52,8 @@ fn said_at_end(context: &Context, bytes: &[u8]) -> Said
     ensures { result ≡ said_at_end (unit context.now bytes.now) }
 {
     match fit_of(context, bytes) {
-        Fit::Whole(closed) => closed.said,
-        Fit::Longer(closed) => closed.said,
+        Fit::Whole => closed_of(context, bytes).said,
+        Fit::Longer => closed_of(context, bytes).said,
         Fit::Open => Said::Refused(Reason::Truncated),
         Fit::Misfit => Said::Refused(Reason::Truncated),
     }
@@ -116,8 +119,11 @@ fn feed(
 {
     bytes.push(byte);
     match fit_of(context, bytes.as_slice()) {
-        Fit::Whole(closed) => listed(Some(take(context, bytes, at, closed))),
-        Fit::Longer(_) => ArrayVec::new(),
+        Fit::Whole => {
+            let closed = closed_of(context, bytes.as_slice());
+            listed(Some(take(context, bytes, at, closed)))
+        }
+        Fit::Longer => ArrayVec::new(),
         Fit::Open => ArrayVec::new(),
         Fit::Misfit => {
             bytes.pop();

@@ -1,11 +1,12 @@
-ghost use Rattle.std.specs.Prelude.{◌≡◌, ◌≤◌, ◌<◌, ◌+◌, true, false};
+ghost use Rattle.std.specs.Prelude.{◌≡◌, ◌≤◌, ◌<◌, ◌+◌, true, false, Option, Some};
+ghost use Rattle.cept_parser.specs.declared.context.Closed.{Closed};
 ghost use Rattle.cept_parser.specs.Bytes.{is_empty, begins_plain, with_plain};
 ghost use Rattle.cept_parser.specs.Fit.{fit_by};
+ghost use Rattle.cept_parser.specs.Told.{run_told};
 ghost use Rattle.cept_parser.specs.Runs.{misplaced, has_six_bits, bit, colour_part, colour, entry, look_up, pattern_unit, begins_pattern, pattern_grows, run_unit, begins_run, run_grows};
 
-use crate::bytes::is_plain;
 use crate::context::{Closed, Context, Mode};
-use crate::fit::{Fit, complete_fit};
+use crate::fit::{Fit, complete_fit, first_of, plain_fit};
 use cept_codes::{Command, Reason, Rgb, Said};
 
 /// A plain byte that can't begin or continue the unit of its run.
@@ -66,18 +67,6 @@ fn entry(context: &Context, place: u8, first: u8, second: u8) -> Closed
     }
 }
 
-/// What stands behind the first byte of a colour entry.
-fn entry_fit(context: &Context, place: u8, first: u8, bytes: &[u8]) -> Fit
-    requires { place < 32 }
-    ensures { result ≡ fit_by (begins_plain bytes.now) false (with_plain (entry context.now place first) bytes.now) }
-{
-    match bytes {
-        [] => Fit::Open,
-        [byte] if is_plain(*byte) => Fit::Whole(entry(context, place, first, *byte)),
-        _ => Fit::Misfit,
-    }
-}
-
 /// A value of the DCLUT.
 #[tactic(auto, unfolding(crate::specs::Runs::look_up))]
 fn look_up(context: &Context, place: u8, byte: u8) -> Closed
@@ -99,9 +88,9 @@ fn table_fit(context: &Context, place: u8, byte: u8, rest: &[u8]) -> Fit
     ensures { result ≡ fit_by (begins_run (Mode.TableRun place) context.now byte rest.now) false (run_unit (Mode.TableRun place) context.now byte rest.now) }
 {
     if place < 32 && has_six_bits(byte) {
-        entry_fit(context, place, byte, rest)
+        plain_fit(rest)
     } else {
-        complete_fit(misplaced(context), rest)
+        complete_fit(rest)
     }
 }
 
@@ -110,25 +99,45 @@ fn table_fit(context: &Context, place: u8, byte: u8, rest: &[u8]) -> Fit
 fn pattern_fit(context: &Context, code: u8, byte: u8, rest: &[u8]) -> Fit
     ensures { result ≡ fit_by (begins_pattern context.now code byte rest.now) (pattern_grows context.now code byte rest.now) (pattern_unit context.now code byte rest.now) }
 {
-    complete_fit(misplaced(context), rest)
+    complete_fit(rest)
 }
 
-/// The unit of the mode that begins with a plain byte.
+/// How bytes stand to the mode that begin with a plain byte.
 #[tactic(auto, unfolding(crate::specs::Runs::run_unit, crate::specs::Runs::begins_run, crate::specs::Runs::run_grows))]
 pub fn run_fit(context: &Context, byte: u8, rest: &[u8]) -> Fit
     ensures { result ≡ fit_by (begins_run context.now.mode context.now byte rest.now) (run_grows context.now.mode context.now byte rest.now) (run_unit context.now.mode context.now byte rest.now) }
 {
     match context.mode {
-        Mode::Text => complete_fit(
-            context.closed(Mode::Text, Said::Command(Command::Graphic(byte))),
-            rest,
-        ),
-        Mode::Skip => complete_fit(
-            context.closed(Mode::Skip, Said::Command(Command::Skipped)),
-            rest,
-        ),
+        Mode::Text => complete_fit(rest),
+        Mode::Skip => complete_fit(rest),
         Mode::TableRun(place) => table_fit(context, place, byte, rest),
-        Mode::DclutRun(place) => complete_fit(look_up(context, place, byte), rest),
+        Mode::DclutRun(_) => complete_fit(rest),
         Mode::DrcsRun(code) => pattern_fit(context, code, byte, rest),
+    }
+}
+
+/// What a whole unit of a run of colours for the table says.
+#[tactic(auto, unfolding(crate::specs::Told::run_told))]
+fn table_closed(context: &Context, place: u8, byte: u8, rest: &[u8]) -> Closed
+    ensures { result ≡ run_told (Mode.TableRun place) context.now byte rest.now }
+{
+    if place < 32 && has_six_bits(byte) {
+        entry(context, place, byte, first_of(rest))
+    } else {
+        misplaced(context)
+    }
+}
+
+/// What whole bytes say in the mode that begin with a plain byte.
+#[tactic(auto, unfolding(crate::specs::Told::run_told))]
+pub fn run_closed(context: &Context, byte: u8, rest: &[u8]) -> Closed
+    ensures { result ≡ run_told context.now.mode context.now byte rest.now }
+{
+    match context.mode {
+        Mode::Text => context.closed(Mode::Text, Said::Command(Command::Graphic(byte))),
+        Mode::Skip => context.closed(Mode::Skip, Said::Command(Command::Skipped)),
+        Mode::TableRun(place) => table_closed(context, place, byte, rest),
+        Mode::DclutRun(place) => look_up(context, place, byte),
+        Mode::DrcsRun(_) => misplaced(context),
     }
 }

@@ -1,23 +1,25 @@
 ghost use Rattle.std.specs.Prelude.{◌≡◌, ◌≤◌, ◌<◌, ◌∷◌, [], true, false, Option, Some, None, if◌then◌else◌};
 ghost use Rattle.cept_parser.specs.Bytes.{is_plain, is_digit, is_empty, begins_plain, with_plain, are_options, are_options_left, with_options};
 ghost use Rattle.cept_parser.specs.Context.{start};
+ghost use Rattle.cept_parser.specs.declared.context.Closed.{Closed};
 ghost use Rattle.cept_parser.specs.Fit.{fit_by, behind};
+ghost use Rattle.cept_parser.specs.Told.{drcs_told, colour_told, service_told, us_told};
 ghost use Rattle.cept_parser.specs.Units.{position, drcs_parts, drcs_width, drcs_height, drcs_planes, drcs_header, drcs_unit, begins_drcs, colour_parts, colour_header, last_place, run_from, colours_from, colour_start, colour_unit, begins_colour, format_parts, format, service_break, service, service_unit, begins_service, us_unit, begins_us, header_grows, us_grows};
 
 use crate::bytes::{is_column, is_digit, is_plain, is_row, two_digits};
 use crate::context::{Closed, ColourKind, Context, Mode};
-use crate::fit::{Fit, behind, complete_fit};
+use crate::fit::{Fit, behind, complete_fit, first_of, plain_fit};
 use cept_codes::{C1Set, Command, Form, Reason, Said};
 
-/// What is whole where the last optional part is left before these bytes.
-fn last_part_fit(part: &[u8], bytes: &[u8], closed: Closed) -> Fit
-    ensures { result ≡ fit_by (is_empty (behind part.now bytes.now)) (is_empty bytes.now) (if is_empty (behind part.now bytes.now) then Some closed else None) }
+/// How bytes stand to the grammar before which the last optional part is left, whatever they say.
+fn last_part_fit(part: &[u8], bytes: &[u8]) -> Fit
+    ensures { (k : Closed) → result ≡ fit_by (is_empty (behind part.now bytes.now)) (is_empty bytes.now) (if is_empty (behind part.now bytes.now) then Some k else None) }
 {
     if bytes.is_empty() {
-        return Fit::Longer(closed);
+        return Fit::Longer;
     }
     if behind(part, bytes).is_empty() {
-        Fit::Whole(closed)
+        Fit::Whole
     } else {
         Fit::Misfit
     }
@@ -96,7 +98,7 @@ fn drcs_header_fit(context: &Context, bytes: &[u8]) -> Fit
     let rest = behind(&[0x20, 0x28], bytes);
     let rest = behind(&[0x40], rest);
     let rest = behind(&[0x36, 0x37, 0x3A, 0x3B, 0x3C, 0x3F], rest);
-    last_part_fit(&[0x41, 0x42, 0x44], rest, drcs_header(context, bytes))
+    last_part_fit(&[0x41, 0x42, 0x44], rest)
 }
 
 /// The bytes behind 1F 23 and a byte.
@@ -106,14 +108,8 @@ fn drcs_behind(context: &Context, byte: u8, rest: &[u8]) -> Fit
 {
     match byte {
         0x20 => drcs_header_fit(context, rest),
-        0x21..=0x7E => complete_fit(
-            context.closed(Mode::DrcsRun(byte), Said::Command(Command::DrcsStart(byte))),
-            rest,
-        ),
-        0x7F => complete_fit(
-            context.closed(Mode::Skip, Said::Refused(Reason::BadParameter)),
-            rest,
-        ),
+        0x21..=0x7E => complete_fit(rest),
+        0x7F => complete_fit(rest),
         _ => Fit::Misfit,
     }
 }
@@ -162,7 +158,7 @@ fn colour_header_fit(context: &Context, bytes: &[u8]) -> Fit
 {
     let rest = behind(&[0x20, 0x22], bytes);
     let rest = behind(&[0x34], rest);
-    last_part_fit(&[0x40], rest, colour_header(context, bytes))
+    last_part_fit(&[0x40], rest)
 }
 
 /// The last place of a kind of colours.
@@ -213,18 +209,6 @@ fn colour_start(context: &Context, tens: u8, ones: u8) -> Closed
     }
 }
 
-/// What stands behind 1F 26 and a digit.
-fn colour_start_fit(context: &Context, tens: u8, bytes: &[u8]) -> Fit
-    requires { is_digit tens ≡ true }
-    ensures { result ≡ fit_by (begins_plain bytes.now) false (with_plain (colour_start context.now tens) bytes.now) }
-{
-    match bytes {
-        [] => Fit::Open,
-        [byte] if is_plain(*byte) => Fit::Whole(colour_start(context, tens, *byte)),
-        _ => Fit::Misfit,
-    }
-}
-
 /// The bytes behind 1F 26 and a byte.
 #[tactic(auto, unfolding(crate::specs::Units::colour_unit, crate::specs::Units::begins_colour, crate::specs::Units::header_grows))]
 fn colour_behind(context: &Context, byte: u8, rest: &[u8]) -> Fit
@@ -232,15 +216,9 @@ fn colour_behind(context: &Context, byte: u8, rest: &[u8]) -> Fit
 {
     match byte {
         0x20 => colour_header_fit(context, rest),
-        0x21 => complete_fit(
-            context.closed(Mode::Skip, Said::Command(Command::ColourDefaults)),
-            rest,
-        ),
-        0x30..=0x39 => colour_start_fit(context, byte, rest),
-        0x20..=0x7F => complete_fit(
-            context.closed(Mode::Skip, Said::Refused(Reason::BadParameter)),
-            rest,
-        ),
+        0x21 => complete_fit(rest),
+        0x30..=0x39 => plain_fit(rest),
+        0x20..=0x7F => complete_fit(rest),
         _ => Fit::Misfit,
     }
 }
@@ -271,7 +249,7 @@ fn format_fit(context: &Context, bytes: &[u8]) -> Fit
     ensures { result ≡ fit_by (are_options format_parts bytes.now) (are_options_left format_parts bytes.now) (with_options format_parts bytes.now (format context.now bytes.now)) }
 {
     let rest = behind(&[0x41, 0x42], bytes);
-    last_part_fit(&[0x70, 0x71], rest, format(context, bytes))
+    last_part_fit(&[0x70, 0x71], rest)
 }
 
 /// The service is broken at a row.
@@ -283,17 +261,6 @@ fn service_break(context: &Context, row: u8) -> Closed
         context.closed(Mode::Text, Said::Command(Command::ServiceBreak(row - 0x40)))
     } else {
         context.closed(Mode::Text, Said::Refused(Reason::BadParameter))
-    }
-}
-
-/// What stands behind 1F 2F 40.
-fn service_break_fit(context: &Context, bytes: &[u8]) -> Fit
-    ensures { result ≡ fit_by (begins_plain bytes.now) false (with_plain (service_break context.now) bytes.now) }
-{
-    match bytes {
-        [] => Fit::Open,
-        [byte] if is_plain(*byte) => Fit::Whole(service_break(context, *byte)),
-        _ => Fit::Misfit,
     }
 }
 
@@ -330,8 +297,8 @@ fn service_behind(context: &Context, byte: u8, rest: &[u8]) -> Fit
     ensures { result ≡ fit_by (begins_service (byte ∷ rest.now)) false (service_unit context.now (byte ∷ rest.now)) }
 {
     match byte {
-        0x40 => service_break_fit(context, rest),
-        0x20..=0x7F => complete_fit(service(context, byte), rest),
+        0x40 => plain_fit(rest),
+        0x20..=0x7F => complete_fit(rest),
         _ => Fit::Misfit,
     }
 }
@@ -362,17 +329,6 @@ fn position(context: &Context, row: u8, column: u8) -> Closed
     }
 }
 
-/// What stands behind 1F and the row of a position.
-fn position_fit(context: &Context, row: u8, bytes: &[u8]) -> Fit
-    ensures { result ≡ fit_by (begins_plain bytes.now) false (with_plain (position context.now row) bytes.now) }
-{
-    match bytes {
-        [] => Fit::Open,
-        [byte] if is_plain(*byte) => Fit::Whole(position(context, row, *byte)),
-        _ => Fit::Misfit,
-    }
-}
-
 /// The bytes behind 1F and a byte.
 #[tactic(auto, unfolding(crate::specs::Units::us_unit, crate::specs::Units::begins_us, crate::specs::Units::us_grows))]
 fn us_behind(context: &Context, byte: u8, rest: &[u8]) -> Fit
@@ -383,11 +339,8 @@ fn us_behind(context: &Context, byte: u8, rest: &[u8]) -> Fit
         0x26 => colour_fit(context, rest),
         0x2D => format_fit(context, rest),
         0x2F => service_fit(context, rest),
-        0x20..=0x3F => complete_fit(
-            context.closed(Mode::Skip, Said::Refused(Reason::UnknownUnit)),
-            rest,
-        ),
-        0x40..=0x7F => position_fit(context, byte, rest),
+        0x20..=0x3F => complete_fit(rest),
+        0x40..=0x7F => plain_fit(rest),
         _ => Fit::Misfit,
     }
 }
@@ -400,5 +353,100 @@ pub fn us_fit(context: &Context, bytes: &[u8]) -> Fit
     match bytes {
         [] => Fit::Open,
         [byte, rest @ ..] => us_behind(context, *byte, rest),
+    }
+}
+
+/// What whole bytes say behind 1F 23 and a byte.
+#[tactic(auto, unfolding(crate::specs::Told::drcs_told))]
+fn drcs_closed_behind(context: &Context, byte: u8, rest: &[u8]) -> Closed
+    ensures { result ≡ drcs_told context.now (byte ∷ rest.now) }
+{
+    match byte {
+        0x20 => drcs_header(context, rest),
+        0x21..=0x7E => context.closed(Mode::DrcsRun(byte), Said::Command(Command::DrcsStart(byte))),
+        _ => context.closed(Mode::Skip, Said::Refused(Reason::BadParameter)),
+    }
+}
+
+/// What whole bytes say behind 1F 23.
+#[tactic(auto, unfolding(crate::specs::Told::drcs_told))]
+fn drcs_closed(context: &Context, bytes: &[u8]) -> Closed
+    ensures { result ≡ drcs_told context.now bytes.now }
+{
+    match bytes {
+        [] => context.closed(Mode::Skip, Said::Refused(Reason::BadParameter)),
+        [byte, rest @ ..] => drcs_closed_behind(context, *byte, rest),
+    }
+}
+
+/// What whole bytes say behind 1F 26 and a byte.
+#[tactic(auto, unfolding(crate::specs::Told::colour_told))]
+fn colour_closed_behind(context: &Context, byte: u8, rest: &[u8]) -> Closed
+    ensures { result ≡ colour_told context.now (byte ∷ rest.now) }
+{
+    match byte {
+        0x20 => colour_header(context, rest),
+        0x21 => context.closed(Mode::Skip, Said::Command(Command::ColourDefaults)),
+        0x30..=0x39 => colour_start(context, byte, first_of(rest)),
+        _ => context.closed(Mode::Skip, Said::Refused(Reason::BadParameter)),
+    }
+}
+
+/// What whole bytes say behind 1F 26.
+#[tactic(auto, unfolding(crate::specs::Told::colour_told))]
+fn colour_closed(context: &Context, bytes: &[u8]) -> Closed
+    ensures { result ≡ colour_told context.now bytes.now }
+{
+    match bytes {
+        [] => context.closed(Mode::Skip, Said::Refused(Reason::BadParameter)),
+        [byte, rest @ ..] => colour_closed_behind(context, *byte, rest),
+    }
+}
+
+/// What whole bytes say behind 1F 2F and a byte.
+#[tactic(auto, unfolding(crate::specs::Told::service_told))]
+fn service_closed_behind(context: &Context, byte: u8, rest: &[u8]) -> Closed
+    ensures { result ≡ service_told context.now (byte ∷ rest.now) }
+{
+    match byte {
+        0x40 => service_break(context, first_of(rest)),
+        _ => service(context, byte),
+    }
+}
+
+/// What whole bytes say behind 1F 2F.
+#[tactic(auto, unfolding(crate::specs::Told::service_told))]
+fn service_closed(context: &Context, bytes: &[u8]) -> Closed
+    ensures { result ≡ service_told context.now bytes.now }
+{
+    match bytes {
+        [] => context.closed(Mode::Text, Said::Refused(Reason::BadParameter)),
+        [byte, rest @ ..] => service_closed_behind(context, *byte, rest),
+    }
+}
+
+/// What whole bytes say behind 1F and a byte.
+#[tactic(auto, unfolding(crate::specs::Told::us_told))]
+fn us_closed_behind(context: &Context, byte: u8, rest: &[u8]) -> Closed
+    ensures { result ≡ us_told context.now (byte ∷ rest.now) }
+{
+    match byte {
+        0x23 => drcs_closed(context, rest),
+        0x26 => colour_closed(context, rest),
+        0x2D => format(context, rest),
+        0x2F => service_closed(context, rest),
+        0x20..=0x3F => context.closed(Mode::Skip, Said::Refused(Reason::UnknownUnit)),
+        _ => position(context, byte, first_of(rest)),
+    }
+}
+
+/// What whole bytes say behind 1F.
+#[tactic(auto, unfolding(crate::specs::Told::us_told))]
+pub fn us_closed(context: &Context, bytes: &[u8]) -> Closed
+    ensures { result ≡ us_told context.now bytes.now }
+{
+    match bytes {
+        [] => context.closed(Mode::Skip, Said::Refused(Reason::UnknownUnit)),
+        [byte, rest @ ..] => us_closed_behind(context, *byte, rest),
     }
 }

@@ -1,6 +1,7 @@
 use Rattle.cept_parser.proofs.ValidLaws.{start_valid, unit_valid}
+use Rattle.cept_parser.proofs.Sound.{read_sound}
 use Rattle.cept_parser.proofs.laws.contexts.Goals as goal
 
 pub returns : goal.returns
 returns c =
-    record { start = start_valid; said = λ x u o v b e. (unit_valid x u o v b e).said; next = λ x u o v b e. (unit_valid x u o v b e).next }
+    record { start = start_valid; said = λ x u o v b e. (unit_valid x u o v b e).said; next = λ x u o v b e. (unit_valid x u o v b e).next; reading = λ x at b v h. (read_sound x at b v h).context }

@@ -1,4 +1,4 @@
-use Rattle.std.proofs.Common.{◌≡◌, ℕ, ◌+◌, List, [], ◌∷◌, ◌++◌, length, arith, ap, sym, ◌∙◌, refl}
+use Rattle.std.proofs.Common.{◌≡◌, ℕ, ◌+◌, List, [], ◌∷◌, ◌++◌, length, ap, sym, ◌∙◌, refl}
 use Rattle.cept_codes.specs.declared.item.Item.{Item}
 use Rattle.cept_parser.specs.declared.context.Closed.{Closed}
 use Rattle.cept_parser.specs.Grammar.{unit}
@@ -7,7 +7,6 @@ use Rattle.cept_parser.specs.Waits.{cut}
 use Rattle.cept_parser.proofs.GrammarLaws.{fits_one}
 use Rattle.cept_parser.proofs.Longest.{waits_fits}
 use Rattle.cept_parser.proofs.Steps.{read_cut_by}
-use Rattle.cept_parser.proofs.Waiting.{waits_small}
 use Rattle.cept_parser.proofs.parser.feed_misfit.Goals as goal
 use Rattle.cept_parser.proofs.parser.feed_misfit.Goals.{After-listed_behind}
 

@@ -3,4 +3,4 @@ use Rattle.cept_parser.proofs.units.colour_header_fit.Goals as goal
 
 pub returns : goal.returns
 returns c =
-    three_parts _ _ _ _ _ _ _ _ _ c.behind-rest.ensures c.behind-rest-2.ensures c.colour_header.ensures c.last_part_fit.ensures
+    three_parts _ _ _ _ _ _ _ c.behind-rest.ensures c.behind-rest-2.ensures c.last_part_fit.ensures _

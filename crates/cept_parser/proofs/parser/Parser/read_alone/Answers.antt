@@ -1,4 +1,4 @@
-use Rattle.std.proofs.Common.{◌≡◌, ℕ, ◌+◌, List, [], ◌∷◌, Some, sym, ap, ◌∙◌, subst, refl, arith}
+use Rattle.std.proofs.Common.{◌≡◌, ◌+◌, List, [], ◌∷◌, Some, sym, ap, ◌∙◌, subst}
 use Rattle.cept_codes.specs.declared.item.Item.{Item}
 use Rattle.cept_parser.specs.Grammar.{unit}
 use Rattle.cept_parser.specs.Items.{Reading}
