@@ -279,7 +279,7 @@ row_number r h = (grind (arith, nat_tests), grind (arith, nat_tests))
 break_valid : (x : Context) (r : ℕ) → IsValidContext x → IsValidClosed (service_break x r)
 unfolding service_break
 break_valid x r v =
-    each_test IsValidClosed (is_row r) (λ h. said_valid x Text _ v tt (row_number r h)) (λ _. said_valid x Text _ v tt tt)
+    each_test IsValidClosed (is_row r) (λ h. said_valid x Text _ v tt (row_number r h)) (λ _. said_valid x Skip _ v tt tt)
 
 service_valid : (x : Context) (a : ℕ) → IsValidContext x → IsValidClosed (service x a)
 unfolding service
@@ -288,7 +288,7 @@ service_valid x a v =
     each_test IsValidClosed (eqb a 0x41) (λ _. said_valid start Text _ start_valid tt tt) (λ _.
     each_test IsValidClosed (eqb a 0x42) (λ _. said_valid start Text _ start_valid tt tt) (λ _.
     each_test IsValidClosed (eqb a 0x43) (λ _. said_valid x Text _ v tt tt) (λ _.
-    each_test IsValidClosed (eqb a 0x44) (λ _. said_valid x Text _ v tt tt) (λ _. said_valid x Text _ v tt tt)))))
+    each_test IsValidClosed (eqb a 0x44) (λ _. said_valid x Text _ v tt tt) (λ _. said_valid x Skip _ v tt tt)))))
 
 service_unit_valid : (x : Context) (u : List ℕ) → IsValidContext x → Valid (service_unit x u)
 unfolding service_unit

@@ -295,13 +295,13 @@ fn refused_units(rt: HostRuntime) -> Result<(), Fail> {
         &rt,
         alloc,
         &[0x1F, 0x2F, 0x45, 0x41],
-        &[refused(0, 3, Reason::BadParameter), graphic(3, 0x41)],
+        &[refused(0, 3, Reason::BadParameter), skipped(3)],
     )?;
     expect(
         &rt,
         alloc,
-        &[0x1F, 0x2F, 0x40, 0x59],
-        &[refused(0, 4, Reason::BadParameter)],
+        &[0x1F, 0x2F, 0x40, 0x59, 0x41],
+        &[refused(0, 4, Reason::BadParameter), skipped(4)],
     )?;
     let unknown = [0x1F, 0x31, 0x41, 0x0D];
     let want = [

@@ -260,7 +260,7 @@ fn service_break(context: &Context, row: u8) -> Closed
     if is_row(row) {
         context.closed(Mode::Text, Said::Command(Command::ServiceBreak(row - 0x40)))
     } else {
-        context.closed(Mode::Text, Said::Refused(Reason::BadParameter))
+        context.closed(Mode::Skip, Said::Refused(Reason::BadParameter))
     }
 }
 
@@ -287,7 +287,7 @@ fn service(context: &Context, byte: u8) -> Closed
             Mode::Text,
             Said::Command(Command::ControlDefaults(C1Set::Parallel)),
         ),
-        _ => context.closed(Mode::Text, Said::Refused(Reason::BadParameter)),
+        _ => context.closed(Mode::Skip, Said::Refused(Reason::BadParameter)),
     }
 }
 
