@@ -3,6 +3,8 @@ use Rattle.std.proofs.Common.{◌≡◌, ℕ, ◌+◌, ◌≤◌, Option, Some, 
 use Rattle.std.specs.Io.KnownBytes.{prepend_known, append_known}
 use Rattle.std.proofs.lemmas.List.{drop-drop, drop_at, length-take-le, take-append-le}
 use Rattle.std.proofs.Math.Seq.{take-add}
+use Rattle.cept_codes.specs.declared.item.Item.{Item}
+use Rattle.cept_codes.specs.declared.look.Look.{Look}
 use Rattle.cept_outside.specs.ShelfState.{ShelfState, KeepsFiles}
 use Rattle.cept_outside.specs.SinkState.{SinkState}
 use Rattle.cept_parser.specs.Items.{items, closed_items}
@@ -102,3 +104,10 @@ pub too_long_stop : (stop : Stop) (status : Status) → status ≡ status_of sto
 too_long_stop stops.ReadFault status is e = cc
 too_long_stop stops.WriteFault status is e = cc
 too_long_stop stops.TooLong status is e = refl
+
+-- the text behind the last item, by the order of the desk as it was
+pub put_by_order : (order now : Order) (told : List Item) (shown : List (List Look)) (before after : Option (List ℕ)) → now ≡ order
+    → ((ReadsGlass now → shown ≡ grid (applied now told)) → after ≡ append_known before (final_text now told))
+    → (ReadsGlass order → shown ≡ grid (applied order told)) → after ≡ append_known before (final_text order told)
+put_by_order order now told shown before after same =
+    subst (λ (o : Order). ((ReadsGlass o → shown ≡ grid (applied o told)) → after ≡ append_known before (final_text o told)) → (ReadsGlass order → shown ≡ grid (applied order told)) → after ≡ append_known before (final_text order told)) (sym same) (λ put. put)

@@ -61,10 +61,10 @@ Stands-command desk new items i command is one order counted refused goes_on idl
     record {
       valid = subst (λ o. AllValid (applied o (items ++ i ∷ []))) (sym order) (valid-command desk.order items i command _ refl is one stands.valid);
       painting = λ e.
-        let p : is_painting desk.order ≡ true = ap is_painting (sym order) ∙ e in
-        let more : applied new.order (items ++ i ∷ []) ≡ applied desk.order items ++ command ∷ [] =
-        ap (λ o. applied o (items ++ i ∷ [])) order ∙ applied-command desk.order items i command p is in
-        subst (IsAt new.easel) (sym more) (goes_on _ stands.valid (stands.painting p));
+          let p : is_painting desk.order ≡ true = ap is_painting (sym order) ∙ e in
+          let more : applied new.order (items ++ i ∷ []) ≡ applied desk.order items ++ command ∷ [] =
+          ap (λ o. applied o (items ++ i ∷ [])) order ∙ applied-command desk.order items i command p is in
+          subst (IsAt new.easel) (sym more) (goes_on _ stands.valid (stands.painting p));
       idle = λ e. idle (stands.idle (ap is_painting (sym order) ∙ e));
       items = counted ∙ ap (λ n. n + 1) stands.items ∙ sym (length-more items i);
       refused = refused ∙ stands.refused ∙ sym (refused_count-more items i ∙ ap (λ s. refused_count items + cond (is_refused s) 1 0) is ∙ add-zero _);

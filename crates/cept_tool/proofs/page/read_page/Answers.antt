@@ -10,7 +10,7 @@ pub loop-count-init : goal.loop-count-init
 loop-count-init g c = record {
   few = omega arith;
   place = c.requires.fresh.parser.place;
-  items = omega (arith, c.requires.uncounted.0);
+  counted = omega (arith, c.requires.uncounted.0);
   refused = omega (arith, c.requires.uncounted.1);
   running = c.requires.fresh.parser.running;
   order = refl;
@@ -49,7 +49,7 @@ loop-count-preserved g c =
     record {
       few = omega arith;
       place = omega (arith, c.in-Ok-read_piece.ensures.place.0, length-take-le c.min-fitting.result c.take.new.into (omega (arith, c.in-Ok.ensures.takes.within)));
-      items = omega (arith, c.in-Ok-read_piece.ensures.counts.0, length-take-le c.min-fitting.result c.take.new.into (omega (arith, c.in-Ok.ensures.takes.within)));
+      counted = omega (arith, c.in-Ok-read_piece.ensures.counts.0, length-take-le c.min-fitting.result c.take.new.into (omega (arith, c.in-Ok.ensures.takes.within)));
       refused = omega (arith, c.in-Ok-read_piece.ensures.counts.1, length-take-le c.min-fitting.result c.take.new.into (omega (arith, c.in-Ok.ensures.takes.within)));
       running = c.in-Ok-read_piece.ensures.place.1;
       order = c.read_piece.ensures.order ∙ so_far.order;

@@ -8,7 +8,7 @@ abbrev pub invariant-loop-count : goal.invariant-loop-count
 invariant-loop-count g l = record {
   few : l.place ≤ 2 ^ 24;
   place : l.decoder.parser.place ≡ l.place;
-  items : l.decoder.desk.items ≤ 2 * l.place;
+  counted : l.decoder.desk.items ≤ 2 * l.place;
   refused : l.decoder.desk.refused ≤ 2 * l.place;
   running : l.decoder.parser.finished ≡ false;
   order : l.decoder.desk.order ≡ l.fn.decoder.desk.order;

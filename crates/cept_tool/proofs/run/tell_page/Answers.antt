@@ -1,6 +1,8 @@
-use Rattle.std.proofs.Common.{sym, subst, List, ℕ}
+use Rattle.std.proofs.Common.{sym, subst, ap, nat_lt, string_bytes, List, ℕ}
 use Rattle.cept_outside.specs.ShelfState.{Holds}
-use Rattle.cept_tool.proofs.Reading.{Reports-told, HasTold-untaken, same_stop}
+use Rattle.cept_parser.specs.Items.{closed_items}
+use Rattle.cept_tool.specs.Words.{Form}
+use Rattle.cept_tool.proofs.Reading.{Reports-told, HasTold-untaken, same_stop, put_by_order}
 use Rattle.cept_tool.proofs.run.tell_page.Goals as goal
 
 pub returns-in-Err-clause-read_fault_told : goal.returns-in-Err-clause-read_fault_told
@@ -22,4 +24,14 @@ pub returns-in-Ok-flush-clause-reports : goal.returns-in-Ok-flush-clause-reports
 returns-in-Ok-flush-clause-reports g c = λ bytes holds.
     let named = subst (λ (name : List ℕ). Holds (g.F.Shelf.state c.args.shelf.now) name bytes) (sym c.as_str.ensures.value) holds in
     let left = (c.in-Ok.ensures.selects.found bytes named).1 in
-    Reports-told _ bytes _ _ _ _ _ _ (c.in-Ok-read_page.ensures.told bytes left) ? c.flush.ensures.flushes.bytes
+    let order = c.args.decoder.now.desk.order in
+    let now = g.T.Sink.state c.read_page.new.sink in
+    let ended = g.T.Sink.state c.put_end.new.sink in
+    let shown = g.G.Glass.state c.read_page.new.glass in
+    Reports-told (let r : Form = record { order = order; page = string_bytes c.args.page.now } in r) bytes (g.T.Sink.state c.args.sink.now) now ended (g.T.Sink.state c.flush.new.self) (g.G.Glass.state c.args.glass.now) shown (c.in-Ok-read_page.ensures.told bytes left) (put_by_order order _ (closed_items bytes) shown.grid now.bytes ended.bytes c.in-Ok-read_page.ensures.order (c.in-Ok-put_end.ensures.put (closed_items bytes) (c.in-Ok-read_page.ensures.stands bytes left))) c.flush.ensures.flushes.bytes
+
+pub returns-in-Ok-flush-clause-refused : goal.returns-in-Ok-flush-clause-refused
+returns-in-Ok-flush-clause-refused g c = λ bytes holds.
+    let named = subst (λ (name : List ℕ). Holds (g.F.Shelf.state c.args.shelf.now) name bytes) (sym c.as_str.ensures.value) holds in
+    let left = (c.in-Ok.ensures.selects.found bytes named).1 in
+    ap (nat_lt 0) (c.in-Ok-read_page.ensures.stands bytes left).refused

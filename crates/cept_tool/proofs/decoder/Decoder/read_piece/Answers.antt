@@ -10,7 +10,7 @@ loop-byte-preserved g c =
     record {
       order = c.read_byte.ensures.order ∙ so_far.order;
       place = omega (arith, c.read_byte.ensures.place.0, so_far.place);
-      items = omega (arith, c.in-Ok.ensures.counts.0, so_far.items);
+      counted = omega (arith, c.in-Ok.ensures.counts.0, so_far.counted);
       refused = omega (arith, c.in-Ok.ensures.counts.1, so_far.refused);
       running = c.read_byte.ensures.place.1;
       read = λ bytes read. subst (HasRead c.read_byte.new.self) (front_more bytes c.args.piece.now c.loop-byte.byte-index 0 c.loop-byte-test.true) (c.in-Ok.ensures.read _ (so_far.read bytes read));

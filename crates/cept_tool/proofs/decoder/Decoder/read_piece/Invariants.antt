@@ -10,7 +10,7 @@ abbrev pub invariant-loop-byte : goal.invariant-loop-byte
 invariant-loop-byte g l = record {
   order : l.self.desk.order ≡ l.fn.self.desk.order;
   place : l.self.parser.place ≡ l.fn.self.parser.place + l.byte-index;
-  items : l.self.desk.items ≤ l.fn.self.desk.items + 2 * l.byte-index;
+  counted : l.self.desk.items ≤ l.fn.self.desk.items + 2 * l.byte-index;
   refused : l.self.desk.refused ≤ l.fn.self.desk.refused + 2 * l.byte-index;
   running : l.self.parser.finished ≡ false;
   read : (bytes : List ℕ) → HasRead l.fn.self bytes → HasRead l.self (bytes ++ take l.byte-index l.piece);

@@ -1,6 +1,11 @@
-use Rattle.std.proofs.Common.{◌≡◌, ◌∙◌, ap, subst, sym, refl}
+use Rattle.std.proofs.Common.{◌≡◌, ◌∙◌, ap, subst, sym, refl, List}
 use Rattle.std.proofs.lemmas.Result.{on_ok_weaker}
+use Rattle.std.specs.Io.KnownBytes.{append_known}
 use Rattle.cept_codes.specs.Command.{IsValidSaid}
+use Rattle.cept_codes.specs.declared.command.Command.{Command}
+use Rattle.cept_profile.specs.Valid.{AllValid}
+use Rattle.cept_tool.specs.Events.{command_text}
+use Rattle.cept_tool.specs.Told.{IsAt}
 use Rattle.cept_tool.proofs.Standing.{Stands-command, Stands-refused, HasTold-either, HasTold-refused}
 use Rattle.cept_tool.proofs.desk.Desk.tell_item.Goals as goal
 
@@ -10,7 +15,8 @@ returns-in-Command-clause-stands g c =
 
 pub returns-in-Command-clause-told : goal.returns-in-Command-clause-told
 returns-in-Command-clause-told g c =
-    on_ok_weaker c.tell_command.result (λ put earlier before shown stands told. HasTold-either c.args.self.now _ earlier c.args.item.now c.in-Command.command before _ _ shown _ _ refl c.in-Command.is put c.tell_command.ensures.painted c.tell_command.ensures.grid (λ none. ((c.tell_command.ensures.idle none).1, (c.tell_command.ensures.idle none).2)) stands told) c.tell_command.ensures.put
+    on_ok_weaker {P = (history : List Command) → AllValid history → IsAt c.args.self.now.easel history → (g.T.Sink.state c.tell_command.new.sink).bytes ≡ append_known (g.T.Sink.state c.args.sink.now).bytes (command_text c.args.self.now.order c.args.item.now.at history c.in-Command.command)}
+    c.tell_command.result (λ put earlier before shown stands told. HasTold-either c.args.self.now _ earlier c.args.item.now c.in-Command.command before (g.T.Sink.state c.args.sink.now) (g.T.Sink.state c.tell_command.new.sink) shown (g.G.Glass.state c.args.glass.now) (g.G.Glass.state c.tell_command.new.glass) refl c.in-Command.is put c.tell_command.ensures.painted c.tell_command.ensures.grid (λ none. ((c.tell_command.ensures.idle none).1, (c.tell_command.ensures.idle none).2)) stands told) c.tell_command.ensures.put
 
 pub returns-in-Refused-clause-stands : goal.returns-in-Refused-clause-stands
 returns-in-Refused-clause-stands g c =

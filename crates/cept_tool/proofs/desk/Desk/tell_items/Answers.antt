@@ -13,7 +13,7 @@ loop-item-preserved g c =
     let so_far = c.loop-item.invariant in
     record {
       order = c.tell_item.ensures.order ∙ so_far.order;
-      items = omega (arith, c.tell_item.ensures.counts.0, so_far.items);
+      counted = omega (arith, c.tell_item.ensures.counts.0, so_far.counted);
       refused = omega (arith, c.tell_item.ensures.counts.1, so_far.refused);
       valid = AllByRecursion-rest (λ (i : Item). IsValidSaid i.what) c.args.items.now c.loop-item.item-index c.loop-item-test.true so_far.valid;
       stands = λ earlier stands. subst (Stands c.tell_item.new.self) (front_more earlier c.args.items.now c.loop-item.item-index _ c.loop-item-test.true) (c.tell_item.ensures.stands _ (so_far.stands earlier stands));

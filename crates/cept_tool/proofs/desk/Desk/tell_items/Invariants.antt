@@ -11,7 +11,7 @@ use Rattle.cept_tool.proofs.desk.Desk.tell_items.Given as goal
 abbrev pub invariant-loop-item : goal.invariant-loop-item
 invariant-loop-item g l = record {
   order : l.self.order ≡ l.fn.self.order;
-  items : l.self.items ≡ l.fn.self.items + l.item-index;
+  counted : l.self.items ≡ l.fn.self.items + l.item-index;
   refused : l.self.refused ≤ l.fn.self.refused + l.item-index;
   valid : AllByRecursion (λ (i : Item). IsValidSaid i.what) (drop l.item-index l.items);
   stands : (earlier : List Item) → Stands l.fn.self earlier → Stands l.self (earlier ++ take l.item-index l.items);
