@@ -15,7 +15,6 @@ use Rattle.cept_outside.specs.SinkState.{SinkState}
 use Rattle.cept_profile.proofs.Changes.{painted_all-changes}
 use Rattle.cept_profile.specs.Changes.{changes, painted_all}
 use Rattle.cept_profile.specs.Look.{grid}
-use Rattle.cept_profile.specs.State.{state}
 use Rattle.cept_profile.specs.Valid.{AllValid}
 use Rattle.cept_repaint.specs.GlassState.{GlassState, Lists}
 use Rattle.cept_tool.specs.declared.desk.Desk.{Desk}

@@ -34,7 +34,7 @@ fn status(rt: &HostRuntime) -> Status {
     let mut shelf = FileShelf::new(rt);
     let mut sink = StdSink::new(io::writer(rt));
     let status = run(rt.alloc(), &words, &mut shelf, &mut sink, &mut glass);
-    // An early end doesn't flush, and what was put before it isn't lost.
+    // An early end doesn't flush: what was put before it is handed on here, as far as the output takes it.
     let _ = sink.hand_on();
     status
 }

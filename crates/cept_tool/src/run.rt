@@ -10,7 +10,7 @@ ghost use Rattle.cept_tool.specs.Words.{Form, form_of};
 use crate::decoder::Decoder;
 use crate::page::{Stop, read_page};
 use crate::words::{Order, form_of};
-use cept_outside::{Shelf, Sink, Steps};
+use cept_outside::{QuietShelf, QuietSink, Shelf, Sink, Steps};
 use cept_repaint::Glass;
 use std::alloc::Global;
 use std::marker::Brand;
@@ -118,8 +118,10 @@ fn tell_page<F: Shelf, T: Sink, G: Glass, L: Ledger>(
 
 /// Runs the program on its words, those after the program's name, over a shelf, a sink and a glass.
 ///
-/// `changes PAGE` applies the commands of the page one after the other. Behind each, the cells that it changed are painted
-/// on the glass, and their lines are put; a refused item puts its line and changes nothing.
+/// `changes PAGE`, `show PAGE` and `cells PAGE` apply the commands of the page one after the other, and paint behind each
+/// the cells that it changed on the glass. `changes` puts their lines; `show` and `cells` put behind the last item what
+/// the glass shows. `check PAGE` applies and paints nothing: it puts how many items there are and how many are refused.
+/// `changes` and `check` put the line of a refused item, which changes nothing.
 pub fn run<F: Shelf, T: Sink, G: Glass>(
     alloc: Global,
     words: &Vec<String>,
@@ -156,7 +158,7 @@ pub fn run<F: Shelf, T: Sink, G: Glass>(
         → Holds (F.state shelf.old) form.page page
         → HasTold form.order (items (take (2 ^ 24) page)) (T.state sink.old) (T.state sink.new) (G.state glass.old) (G.state glass.new) }
 
-    // Only the page is selected, so no other name is missed; the shelf's files stay, and no count of faults falls.
+    // Where the shelf has the page no file is missed; the shelf's files stay, and no count of faults falls.
     ensures missed { (form : Form) → form_of (map string_bytes words.now.items) ≡ Some form
         → IsSome (bytes_under (F.state shelf.old) form.page) → (F.state shelf.new).missed ≡ (F.state shelf.old).missed }
     ensures files { KeepsFiles (F.state shelf.old) (F.state shelf.new) }
@@ -176,4 +178,18 @@ pub fn run<F: Shelf, T: Sink, G: Glass>(
             }
         },
     }
+}
+
+/// Runs the program over a shelf and a sink that never fail: then no fault is answered.
+pub fn run_quietly<G: Glass>(
+    alloc: Global,
+    words: &Vec<String>,
+    shelf: &mut QuietShelf,
+    sink: &mut QuietSink,
+    glass: &mut G,
+) -> Status
+    ensures read_fault { result ≢ Status.ReadFault }
+    ensures write_fault { result ≢ Status.WriteFault }
+{
+    run(alloc, words, shelf, sink, glass)
 }

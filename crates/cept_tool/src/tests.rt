@@ -15,15 +15,16 @@ fn words(alloc: Global, all: &[&str]) -> Result<Vec<String>, AllocError> {
     Ok(words)
 }
 
-/// Tells a page under `changes`, with ample memory, and compares what was put and the status.
+/// Tells a page, with ample memory, and compares what was put and the status.
 fn compare(
     rt: &impl Abort,
     alloc: Global,
+    order: &str,
     page: &[u8],
     want: &str,
     status: Status,
 ) -> Result<(), Fail> {
-    let words = words(alloc, &["changes", "page"])?;
+    let words = words(alloc, &[order, "page"])?;
     let mut shelf = MemShelf::new(alloc);
     shelf.add("page", page)?;
     let mut sink = MemSink::new(alloc, 4096)?;
@@ -70,8 +71,78 @@ fn tells_worked_pages(rt: HostRuntime) -> Result<(), Fail> {
         (b"\x1B", "! 0 1 7 Truncated\n", Status::Refusals),
     ];
     for (page, want, status) in pages {
-        compare(&rt, rt.alloc(), page, want, status)?;
+        compare(&rt, rt.alloc(), "changes", page, want, status)?;
     }
+    Ok(())
+}
+
+#[test]
+fn tells_what_stands_at_the_end(rt: HostRuntime) -> Result<(), Fail> {
+    let pages = [
+        (
+            "check",
+            b"\x1F-B\x0D".as_slice(),
+            "items 2 refused 0\n",
+            Status::Done,
+        ),
+        (
+            "check",
+            b"\x9B1\x0DB",
+            "! 0 2 6 Interrupted\nitems 3 refused 1\n",
+            Status::Refusals,
+        ),
+        (
+            "check",
+            b"\x1F1A\x0D",
+            "! 0 2 4 UnknownUnit\nitems 3 refused 1\n",
+            Status::Refusals,
+        ),
+        (
+            "cells",
+            b"\x95A\x9EB\x9DC",
+            "1 1 P41 11.00 FFF F0F S---\n1 2 P42 11.00 FFF 000 S---\n1 3 P43 11.00 000 FFF S---\n",
+            Status::Done,
+        ),
+        ("cells", b"", "", Status::Done),
+    ];
+    for (order, page, want, status) in pages {
+        compare(&rt, rt.alloc(), order, page, want, status)?;
+    }
+    Ok(())
+}
+
+#[test]
+fn shows_an_accented_letter(rt: HostRuntime) -> Result<(), Fail> {
+    let alloc = rt.alloc();
+    let form = words(alloc, &["show", "page"])?;
+    let mut shelf = MemShelf::new(alloc);
+    shelf.add("page", b"\xC8a")?;
+    let mut sink = MemSink::new(alloc, 4096)?;
+    let mut glass = GridGlass::new(alloc)?;
+    assert_eq!(rt;
+        run(alloc, &form, &mut shelf, &mut sink, &mut glass),
+        Status::Done
+    );
+    // The letter and its accent, 39 spaces and the end of the line, and 23 empty rows.
+    assert_eq!(rt; sink.bytes().len(), 3 + 40 + 23 * 41);
+    assert_eq!(rt; &sink.bytes()[..3], b"a\xCC\x88".as_slice());
+    Ok(())
+}
+
+#[test]
+fn tells_what_came_before_a_fault(rt: HostRuntime) -> Result<(), Fail> {
+    let alloc = rt.alloc();
+    let form = words(alloc, &["changes", "page"])?;
+    let mut shelf = MemShelf::new(alloc);
+    shelf.add("page", b"A")?;
+    shelf.fail_at(3);
+    let mut sink = MemSink::new(alloc, 4096)?;
+    let mut glass = GridGlass::new(alloc)?;
+    assert_eq!(rt;
+        run(alloc, &form, &mut shelf, &mut sink, &mut glass),
+        Status::ReadFault
+    );
+    assert_eq!(rt; sink.bytes(), b"0 1 1 P41 11.00 FFF 000 S---\n".as_slice());
     Ok(())
 }
 

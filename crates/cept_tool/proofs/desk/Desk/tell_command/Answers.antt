@@ -1,4 +1,4 @@
-use Rattle.std.proofs.Common.{◌≡◌, ◌∷◌, [], List, Option, subst, sym}
+use Rattle.std.proofs.Common.{◌≡◌, List, Option, subst}
 use Rattle.std.proofs.lemmas.Result.{on_ok_weaker}
 use Rattle.std.specs.Io.KnownBytes.{append_known}
 use Rattle.cept_codes.specs.declared.command.Command.{Command}
