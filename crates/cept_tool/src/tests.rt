@@ -60,6 +60,7 @@ fn tells_worked_pages(rt: HostRuntime) -> Result<(), Fail> {
         (b"\x19Ha", "2 1 1 P61+48 11.00 FFF 000 S---\n", Status::Done),
         (b"\xC8\x0Da", "2 1 1 P61 11.00 FFF 000 S---\n", Status::Done),
         (b"A\x12@", "0 1 1 P41 11.00 FFF 000 S---\n", Status::Done),
+        (b"\x12E", "", Status::Done),
         (
             b"\x95A\x9EB\x9DC",
             "1 1 1 P41 11.00 FFF F0F S---\n3 1 2 P42 11.00 FFF 000 S---\n5 1 3 P43 11.00 000 FFF S---\n",
@@ -104,10 +105,48 @@ fn tells_what_stands_at_the_end(rt: HostRuntime) -> Result<(), Fail> {
             Status::Done,
         ),
         ("cells", b"", "", Status::Done),
+        ("cells", b"A", "1 1 P41 11.00 FFF 000 S---\n", Status::Done),
     ];
     for (order, page, want, status) in pages {
         compare(&rt, rt.alloc(), order, page, want, status)?;
     }
+    Ok(())
+}
+
+#[test]
+fn repeats_to_the_end_of_the_second_row(rt: HostRuntime) -> Result<(), Fail> {
+    let alloc = rt.alloc();
+    let form = words(alloc, &["changes", "page"])?;
+    let mut shelf = MemShelf::new(alloc);
+    shelf.add("page", b"A\x12\x7F")?;
+    let mut sink = MemSink::new(alloc, 4096)?;
+    let mut glass = GridGlass::new(alloc)?;
+    assert_eq!(rt;
+        run(alloc, &form, &mut shelf, &mut sink, &mut glass),
+        Status::Done
+    );
+    let lines = sink.bytes().iter().filter(|byte| **byte == b'\n').count();
+    assert_eq!(rt; lines, 64);
+    let first = b"0 1 1 P41 11.00 FFF 000 S---\n1 1 2 P41 11.00 FFF 000 S---\n";
+    assert!(rt; sink.bytes().starts_with(first));
+    assert!(rt; sink.bytes().ends_with(b"\n1 2 24 P41 11.00 FFF 000 S---\n"));
+    Ok(())
+}
+
+#[test]
+fn stops_at_a_page_that_is_too_long(rt: HostRuntime) -> Result<(), Fail> {
+    let alloc = rt.alloc();
+    let form = words(alloc, &["check", "page"])?;
+    let page = Vec::from_elem(alloc, 0u8, (1 << 24) + 1)?;
+    let mut shelf = MemShelf::new(alloc);
+    shelf.add("page", page.as_slice())?;
+    let mut sink = MemSink::new(alloc, 64)?;
+    let mut glass = GridGlass::new(alloc)?;
+    assert_eq!(rt;
+        run(alloc, &form, &mut shelf, &mut sink, &mut glass),
+        Status::TooLong
+    );
+    assert_eq!(rt; sink.bytes().len(), 0);
     Ok(())
 }
 
