@@ -32,8 +32,8 @@ IsUntouched statuses.WriteFault = ⊥
 IsUntouched statuses.NoMemory = Unit {0}
 IsUntouched statuses.TooLong = ⊥
 
--- the whole report of the page was put (where it tells the glass at the end, over one that was blank), its changes were painted in their order, and a glass that was blank shows the
--- page's meaning
+-- the whole report of the page was put, its changes were painted in their order, and a glass that was blank shows the page's
+-- meaning. A report that tells the glass at the end is put over one that was blank
 pub record Reports (form : Form) (page : List ℕ) (sink now : SinkState) (glass shown : GlassState) : Type 0 where
   pub put : (ReadsGlass form.order → glass.grid ≡ grid []) → now.bytes ≡ append_known sink.bytes (report form.order page)
   pub painted : Lists glass.paints (painted_behind form.order [] (closed_items page)) shown.paints

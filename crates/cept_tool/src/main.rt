@@ -5,6 +5,7 @@
 mod decoder;
 mod desk;
 mod easel;
+mod laws;
 mod page;
 mod run;
 #[cfg(test)]

@@ -1,5 +1,7 @@
 ghost use Rattle.std.specs.Prelude.{◌≡◌, ◌≢◌, ◌+◌, ◌-◌, ◌^◌, ◌<◌, ◌≤◌, ◌↔◌, ◌⊎◌, IfOk, OnOk, ◌∷◌, [], ◌++◌, ℕ, List, false, true, length, take, map, Some, None, IsSome, IsTrue, is_some, string_bytes};
 ghost use Rattle.cept_outside.specs.Causes.{Rose};
+ghost use Rattle.cept_outside.specs.QuietShelf.{quiet_shelf_state};
+ghost use Rattle.cept_outside.specs.QuietSink.{quiet_sink_state};
 ghost use Rattle.cept_outside.specs.ShelfState.{Holds, KeepsFiles, bytes_under};
 ghost use Rattle.cept_parser.specs.Items.{items, closed_items};
 ghost use Rattle.cept_tool.specs.Events.{has_refusal};
@@ -180,7 +182,7 @@ pub fn run<F: Shelf, T: Sink, G: Glass>(
     }
 }
 
-/// Runs the program over a shelf and a sink that never fail: then no fault is answered.
+/// Runs the program over a shelf and a sink that never fail: then no fault is answered, and a whole run reports as `run` does.
 pub fn run_quietly<G: Glass>(
     alloc: Global,
     words: &Vec<String>,
@@ -190,6 +192,14 @@ pub fn run_quietly<G: Glass>(
 ) -> Status
     ensures read_fault { result ≢ Status.ReadFault }
     ensures write_fault { result ≢ Status.WriteFault }
+    ensures reports { IsWhole result → (form : Form) (page : List ℕ) → form_of (map string_bytes words.now.items) ≡ Some form
+        → Holds (quiet_shelf_state shelf.old) form.page page
+        → Reports form page (quiet_sink_state sink.old) (quiet_sink_state sink.new) (G.state glass.old) (G.state glass.new) }
+    ensures refusals { IsWhole result → (form : Form) (page : List ℕ) → form_of (map string_bytes words.now.items) ≡ Some form
+        → Holds (quiet_shelf_state shelf.old) form.page page
+        → (result ≡ Status.Refusals) ↔ (has_refusal (closed_items page) ≡ true) }
+    ensures usage { (result ≡ Status.Usage) ↔ (form_of (map string_bytes words.now.items) ≡ None) }
+    ensures files { KeepsFiles (quiet_shelf_state shelf.old) (quiet_shelf_state shelf.new) }
 {
     run(alloc, words, shelf, sink, glass)
 }
