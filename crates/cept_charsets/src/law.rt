@@ -35,7 +35,7 @@ pub fn runs_take_left_bytes()
 
 /// Each word of the sets keeps them valid, and a graphic byte gives a valid sign or an accent. Code 2/0 of each set is the
 /// space of P.
-#[tactic(auto, using(cept_profile::proofs::Reading::readings), unfolding(cept_profile::specs::Sets::read_as))]
+#[tactic(auto, using(cept_profile::proofs::Laws::readings), unfolding(cept_profile::specs::Sets::read_as))]
 pub fn sets_stay_valid()
     ensures initial { AreValidSets initial_sets }
     ensures designated { (s : Sets) (g : ℕ) (set : SetId) → AreValidSets s → AreValidSets (designated s g set) }

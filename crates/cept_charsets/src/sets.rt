@@ -143,7 +143,7 @@ fn code_of(byte: u8) -> u8
     byte & 0x7F
 }
 
-#[tactic(auto, using(cept_profile::proofs::Reading::readings), unfolding(cept_profile::specs::Sets::read_as))]
+#[tactic(auto, using(cept_profile::proofs::Laws::readings), unfolding(cept_profile::specs::Sets::read_as))]
 fn read_as(set: SetId, code: u8) -> Read
     requires { (0x20 ≤ code) × (code ≤ 0x7F) }
     ensures read { result ≡ read_as set code }

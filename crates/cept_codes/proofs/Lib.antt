@@ -1,4 +1,5 @@
-pub mod Equal
-pub mod Places
-pub mod Tables
-pub mod Tests
+mod Equal
+pub mod Laws
+mod Places
+mod Tables
+mod Tests

@@ -1,10 +1,9 @@
 -- Tables of 24 rows of 40: made of a function, read by row and column from 1, compared place by place, written at a place.
-use Rattle.std.proofs.Common.{◌≡◌, ◌≢◌, inl, inr, ℕ, ◌+◌, ◌-◌, ◌<◌, ◌≤◌, ◌==◌, ◌&&◌, cond, true, false, List, [], length, get_or, set, map, replicate, ◌++◌, ◌∷◌, refl, sym, ap, ◌∙◌, arith}
-use Rattle.std.specs.List.{range_with_len}
+use Rattle.std.proofs.Common.{◌≡◌, ◌≢◌, inl, inr, ℕ, ◌+◌, ◌-◌, ◌<◌, ◌≤◌, ◌==◌, ◌&&◌, cond, true, false, List, [], length, get_or, set, refl, sym, ap, ◌∙◌, arith}
 use Rattle.std.proofs.lemmas.Bool.{cases_eq}
 use Rattle.std.proofs.lemmas.Bool.Decides.{nat_tests}
 use Rattle.std.proofs.lemmas.List.{ext_get_or, get_or_default, length-set, get_or-set_same, get_or-set_other}
-use Rattle.std.proofs.lemmas.List.FromFn.{length-map-range_with_len, get_or-map-range_with_len, map-range_with_len_more}
+use Rattle.std.proofs.lemmas.List.FromFn.{length-map-range_with_len, get_or-map-range_with_len}
 use Rattle.cept_codes.specs.Place.{OnScreen}
 use Rattle.cept_codes.specs.Table.{table, row_of, at, IsTable}
 
@@ -31,11 +30,6 @@ row_is f xs d long same =
     let back : (i + 1) - 1 ≡ i = omega arith in
     ap (λ k. get_or xs k d) (sym back) ∙ same (i + 1) (omega arith) (omega arith) ∙ sym (get_or-row_of f i (i + 1) d last refl))
 
--- a row of one value, as an array constant `[x; 40]` is
-pub row_of_same : {X : Type 0} (x : X) → replicate 40 x ≡ row_of (λ c. x)
-unfolding row_of
-row_of_same x = refl
-
 -- ---- a table
 
 pub length-table : {X : Type 0} (f : ℕ → ℕ → X) → length (table f) ≡ 24
@@ -56,32 +50,6 @@ IsTable-table f = record {
 pub at-table : {X : Type 0} (f : ℕ → ℕ → X) (d : X) (r c : ℕ) → OnScreen r c → at d (table f) r c ≡ f r c
 at-table f d r c on =
     ap (λ row. get_or row (c - 1) d) (get_or-table f (r - 1) r [] (omega (arith, on)) (omega (arith, on))) ∙ get_or-row_of (f r) (c - 1) c d (omega (arith, on)) (omega (arith, on))
-
--- what is read within a table doesn't hang on the default
-pub at_default : {X : Type 0} {t : List (List X)} → IsTable t → (d e : X) (r c : ℕ) → OnScreen r c → at d t r c ≡ at e t r c
-at_default {t = t} is d e r c on =
-    let long : length (get_or t (r - 1) []) ≡ 40 = is.columns (r - 1) [] (omega (arith, on)) in
-    get_or_default (get_or t (r - 1) []) (c - 1) d e (omega (arith, on, long))
-
--- what `t[r - 1][c - 1]` reads: the index of the row is known only by number, the default may be any
-pub at_is : {X : Type 0} {t : List (List X)} → IsTable t → (d : X) (i j r c : ℕ) (row : List X) (x : X) → OnScreen r c → i + 1 ≡ r → j + 1 ≡ c → row ≡ get_or t i row → x ≡ get_or row j x → x ≡ at d t r c
-at_is {X} {t} is d i j r c row x on er ec e f =
-    let ei : i ≡ r - 1 = omega arith in
-    let ej : j ≡ c - 1 = omega arith in
-    let row_in : row ≡ get_or t (r - 1) [] = e ∙ get_or_default t i row [] (omega (arith, on, is.rows)) ∙ ap (λ k. get_or t k []) ei in
-    let long : length row ≡ 40 = ap length row_in ∙ is.columns (r - 1) [] (omega (arith, on)) in
-    f ∙ get_or_default row j x d (omega (arith, on, long)) ∙ ap (λ k. get_or row k d) ej ∙ ap (λ (l : List X). get_or l (c - 1) d) row_in
-
--- what a row read from a table is: forty long, and at the index k what stands in column k + 1
-pub length_row : {X : Type 0} {t : List (List X)} → IsTable t → (i : ℕ) (row e : List X) → i < 24 → row ≡ get_or t i e → length row ≡ 40
-length_row is i row e below read = ap length read ∙ is.columns i e below
-
-pub row_at : {X : Type 0} {t : List (List X)} → IsTable t → (d : X) (i r k : ℕ) (row e : List X) → i < 24 → i + 1 ≡ r → row ≡ get_or t i e → get_or row k d ≡ at d t r (k + 1)
-row_at {X} {t} is d i r k row e below er read =
-    let row_in : row ≡ get_or t i [] = read ∙ get_or_default t i e [] (omega (arith, below, is.rows)) in
-    let ei : i ≡ r - 1 = omega arith in
-    let ek : k ≡ (k + 1) - 1 = omega arith in
-    ap (λ (l : List X). get_or l k d) (row_in ∙ ap (λ n. get_or t n []) ei) ∙ ap (λ n. get_or (get_or t (r - 1) []) n d) ek
 
 -- two tables with the same rows are the same
 pub same_rows : {X : Type 0} {t u : List (List X)} → IsTable t → IsTable u → ((i : ℕ) → i < 24 → get_or t i [] ≡ get_or u i []) → t ≡ u
@@ -130,17 +98,6 @@ at-set_row_other {X} t i row d r c above ne =
     let other : r - 1 ≢ i = λ e. ne (omega arith) in
     ap (λ (l : List X). get_or l (c - 1) d) (get_or-set_other t i (r - 1) row [] other)
 
-pub set_row_is : {X : Type 0} {t : List (List X)} → IsTable t → (f : ℕ → X) (d : X) (i r : ℕ) (row : List X) → 1 ≤ r → r ≤ 24 → i + 1 ≡ r → length row ≡ 40 → ((c : ℕ) → 1 ≤ c → c ≤ 40 → get_or row (c - 1) d ≡ f c) → set t i row ≡ table (λ q k. cond (r == q) (f k) (at d t q k))
-set_row_is {X} {t} is f d i r row above below e long same =
-    table_is (IsTable-set_row is i row long) (λ q k. cond (r == q) (f k) (at d t q k)) d (λ q k on.
-    by_eq r q
-    (λ (h : r ≡ q).
-    let yes : (r == q) ≡ true = grind (arith, nat_tests) in
-    at-set_row t i row d q k (omega (arith, is.rows)) (omega arith) ∙ same k on.from_left on.to_right ∙ sym (ap (λ b. cond b (f k) (at d t q k)) yes))
-    (λ (h : r ≢ q).
-    let no : (r == q) ≡ false = grind (arith, nat_tests) in
-    at-set_row_other t i row d q k on.from_top (λ e2. h (omega arith)) ∙ sym (ap (λ b. cond b (f k) (at d t q k)) no)))
-
 -- ---- a place written
 
 -- what `t[r - 1][c - 1] = x` leaves; the premises are what the code knows of its indices and of the row that it read,
@@ -169,86 +126,3 @@ set_is {X} {t} is d x i j r c row e on er ec read =
     (λ (h : r ≢ q).
     let no : (r == q) ≡ false = grind (arith, nat_tests) in
     at-set_row_other t i (set row j x) d q k at_place.from_top (λ e2. h (omega arith)) ∙ sym (ap (λ b. cond (b && (c == k)) x (at d t q k)) no)))
-
--- the same where the table t is what a struct holds and now is what clauses see of it
-pub set_is_now : {X : Type 0} {t now : List (List X)} → IsTable t → t ≡ now → (d x : X) (i j r c : ℕ) (row e : List X) → OnScreen r c → i + 1 ≡ r → j + 1 ≡ c → row ≡ get_or t i e → set t i (set row j x) ≡ table (λ q k. cond ((r == q) && (c == k)) x (at d now q k))
-set_is_now {X} {t} {now} is seen d x i j r c row e on er ec read =
-    set_is is d x i j r c row e on er ec read ∙ ap (λ (u : List (List X)). table (λ q k. cond ((r == q) && (c == k)) x (at d u q k))) seen
-
-pub IsTable-set : {X : Type 0} {t : List (List X)} → IsTable t → (i j : ℕ) (row e : List X) (x : X) → row ≡ get_or t i e → i < 24 → IsTable (set t i (set row j x))
-IsTable-set {X} {t} is i j row e x read below =
-    let row_in : row ≡ get_or t i [] = read ∙ get_or_default t i e [] (omega (arith, is.rows)) in
-    IsTable-set_row is i (set row j x) (length-set row j x ∙ ap length row_in ∙ is.columns i [] below)
-
--- ---- a table made row by row, from the top
-
--- the first n rows of a table, as they are pushed one after the other
-unfoldable pub first_rows : {X : Type 0} → (ℕ → ℕ → X) → ℕ → List (List X)
-first_rows f n = map (λ r. row_of (f r)) (range_with_len 1 n)
-
-pub first_rows_none : {X : Type 0} (f : ℕ → ℕ → X) → first_rows f 0 ≡ []
-unfolding first_rows
-first_rows_none f = refl
-
-pub first_rows_more : {X : Type 0} (f : ℕ → ℕ → X) (t : List (List X)) (row : List X) (n r : ℕ) → t ≡ first_rows f n → n + 1 ≡ r → row ≡ row_of (f r) → t ++ row ∷ [] ≡ first_rows f (n + 1)
-unfolding first_rows
-first_rows_more {X} f t row n r e er same =
-    let after : 1 + n ≡ r = omega arith in
-    ap (λ (l : List (List X)). l ++ row ∷ []) e ∙ ap (λ (l : List X). first_rows f n ++ l ∷ []) same ∙ sym (map-range_with_len_more (λ q. row_of (f q)) 1 n r after)
-
-pub first_rows_all : {X : Type 0} (f : ℕ → ℕ → X) (t : List (List X)) (n : ℕ) → t ≡ first_rows f n → n ≡ 24 → t ≡ table f
-unfolding first_rows table
-first_rows_all f t n e whole = e ∙ ap (first_rows f) whole
-
-pub length-first_rows : {X : Type 0} (f : ℕ → ℕ → X) (n : ℕ) → length (first_rows f n) ≡ n
-unfolding first_rows
-length-first_rows f n = length-map-range_with_len (λ r. row_of (f r)) 1 n
-
--- a table whose first n rows are as f wants, and whose others are still as g says
-pub record RowsMade {X : Type 0} (d : X) (f g : ℕ → ℕ → X) (t : List (List X)) (n : ℕ) : Type 0 where
-  pub is : IsTable t
-  pub made : (r c : ℕ) → OnScreen r c → r ≤ n → at d t r c ≡ f r c
-  pub left : (r c : ℕ) → OnScreen r c → n < r → at d t r c ≡ g r c
-
-pub RowsMade-none : {X : Type 0} {t : List (List X)} → IsTable t → (d : X) (f g : ℕ → ℕ → X) → ((r c : ℕ) → OnScreen r c → at d t r c ≡ g r c) → RowsMade d f g t 0
-RowsMade-none is d f g same = record { is = is; made = λ r c on none. absurd (omega (arith, on)); left = λ r c on more. same r c on }
-
-pub RowsMade-more : {X : Type 0} {d : X} {f g : ℕ → ℕ → X} {t : List (List X)} {n : ℕ} → RowsMade d f g t n → (i r : ℕ) (row : List X) → n < 24 → i ≡ n → n + 1 ≡ r → length row ≡ 40 → ((c : ℕ) → 1 ≤ c → c ≤ 40 → get_or row (c - 1) d ≡ f r c) → RowsMade d f g (set t i row) (n + 1)
-RowsMade-more {X} {d} {f} {g} {t} {n} m i r row below ei er long same = record {
-  is = IsTable-set_row m.is i row long;
-  made = λ q c on le.
-      by_eq q r
-      (λ (e : q ≡ r). at-set_row t i row d q c (omega (arith, m.is.rows)) (omega arith) ∙ same c on.from_left on.to_right ∙ ap (λ k. f k c) (sym e))
-      (λ (ne : q ≢ r). at-set_row_other t i row d q c on.from_top (λ h. ne (omega arith)) ∙ m.made q c on (omega arith));
-  left = λ q c on more. at-set_row_other t i row d q c on.from_top (λ h. omega arith) ∙ m.left q c on (omega arith);
-}
-
--- the same where the row is known whole, as an array constant is (`row_of_same`)
-pub RowsMade-more_row : {X : Type 0} {d : X} {f g : ℕ → ℕ → X} {t : List (List X)} {n : ℕ} → RowsMade d f g t n → (i r : ℕ) (row : List X) → n < 24 → i ≡ n → n + 1 ≡ r → row ≡ row_of (f r) → RowsMade d f g (set t i row) (n + 1)
-RowsMade-more_row {X} {d} {f} m i r row below ei er same =
-    RowsMade-more m i r row below ei er (ap length same ∙ length-row_of (f r)) (λ c a b. ap (λ (l : List X). get_or l (c - 1) d) same ∙ get_or-row_of (f r) (c - 1) c d (omega arith) (omega arith))
-
-pub RowsMade-all : {X : Type 0} {d : X} {f g : ℕ → ℕ → X} {t : List (List X)} {n : ℕ} → RowsMade d f g t n → 24 ≤ n → t ≡ table f
-RowsMade-all {d = d} {f = f} m whole = table_is m.is f d (λ r c on. m.made r c on (omega (arith, on)))
-
--- the same of a row, from the left
-pub record CellsMade {X : Type 0} (d : X) (f g : ℕ → X) (row : List X) (n : ℕ) : Type 0 where
-  pub long : length row ≡ 40
-  pub made : (c : ℕ) → 1 ≤ c → c ≤ 40 → c ≤ n → get_or row (c - 1) d ≡ f c
-  pub left : (c : ℕ) → 1 ≤ c → c ≤ 40 → n < c → get_or row (c - 1) d ≡ g c
-
-pub CellsMade-none : {X : Type 0} {row : List X} → length row ≡ 40 → (d : X) (f g : ℕ → X) → ((c : ℕ) → 1 ≤ c → c ≤ 40 → get_or row (c - 1) d ≡ g c) → CellsMade d f g row 0
-CellsMade-none long d f g same = record { long = long; made = λ c a b none. absurd (omega arith); left = λ c a b more. same c a b }
-
-pub CellsMade-more : {X : Type 0} {d : X} {f g : ℕ → X} {row : List X} {n : ℕ} → CellsMade d f g row n → (j c : ℕ) (x : X) → n < 40 → j ≡ n → n + 1 ≡ c → x ≡ f c → CellsMade d f g (set row j x) (n + 1)
-CellsMade-more {X} {d} {f} {g} {row} {n} m j c x below ej ec same = record {
-  long = length-set row j x ∙ m.long;
-  made = λ k a b le.
-      by_eq k c
-      (λ (e : k ≡ c). let here : k - 1 ≡ j = omega arith in ap (λ i. get_or (set row j x) i d) here ∙ get_or-set_same row j x d (omega (arith, m.long)) ∙ same ∙ ap f (sym e))
-      (λ (ne : k ≢ c). let other : k - 1 ≢ j = λ h. ne (omega arith) in get_or-set_other row j (k - 1) x d other ∙ m.made k a b (omega arith));
-  left = λ k a b more. let other : k - 1 ≢ j = λ h. omega arith in get_or-set_other row j (k - 1) x d other ∙ m.left k a b (omega arith);
-}
-
-pub CellsMade-all : {X : Type 0} {d : X} {f g : ℕ → X} {row : List X} {n : ℕ} → CellsMade d f g row n → 40 ≤ n → row ≡ row_of f
-CellsMade-all {d = d} {f = f} {row = row} m whole = row_is f row d m.long (λ c a b. m.made c a b (omega arith))

@@ -28,11 +28,12 @@ pub fn constants_are_valid()
     ensures blank_look { IsValidLook blank_look }
 {}
 
-/// A table is what it shows at each place: reading the table of a function gives the function, tables that agree at
-/// each place are the same, each is the table of what is read in it, and writing into a row changes one place alone.
+/// A table is what it shows at each place: reading the table of a function gives the function, functions that agree at
+/// each place make one table, tables that agree at each place are the same, each is the table of what is read in it, and writing into a row changes one place alone.
 pub fn tables_are_by_place<X>()
     ensures read { (f : ℕ → ℕ → X) (d : X) (r c : ℕ) → OnScreen r c → at d (table f) r c ≡ f r c }
     ensures whole { (f : ℕ → ℕ → X) → IsTable (table f) }
+    ensures alike { (f g : ℕ → ℕ → X) → ((r c : ℕ) → OnScreen r c → f r c ≡ g r c) → table f ≡ table g }
     ensures same { (t u : List (List X)) (d : X) → IsTable t → IsTable u → ((r c : ℕ) → OnScreen r c → at d t r c ≡ at d u r c) → t ≡ u }
     ensures back { (t : List (List X)) (d : X) → IsTable t → table (at d t) ≡ t }
     ensures written { (t : List (List X)) (d x : X) (r c : ℕ) → IsTable t → OnScreen r c → slice_set t (r - 1) (slice_set (slice_index_or t (r - 1) []) (c - 1) x) ≡ table (λ q k. if r == q && c == k then x else at d t q k) }

@@ -8,7 +8,7 @@ use Rattle.cept_codes.specs.Cell.{blank}
 use Rattle.cept_codes.specs.Place.{OnScreen}
 use Rattle.cept_codes.specs.Table.{table, at}
 use Rattle.cept_profile.specs.Cells.{is_at, seen, cell_back, struck, struck_all}
-use Rattle.cept_codes.proofs.Tables.{at-table, same_table}
+use Rattle.cept_codes.proofs.Laws.{at-table, same_table}
 
 -- what a stroke shows on the screen comes from the cells that stood on the screen
 pub seen-same : (stroke : Stroke) (was other : ℕ → ℕ → Cell) → ((r c : ℕ) → OnScreen r c → was r c ≡ other r c) → (r c : ℕ) → OnScreen r c → seen stroke was r c ≡ seen stroke other r c

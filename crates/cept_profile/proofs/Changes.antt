@@ -8,7 +8,7 @@ use Rattle.std.proofs.lemmas.List.{get_or-map, length-map}
 use Rattle.std.proofs.lemmas.List.FromFn.{get_or-map-range_with_len, get_or-range_with_len, length-range_with_len, length-map-range_with_len}
 use Rattle.cept_codes.specs.declared.command.Command.{Command}
 use Rattle.cept_codes.specs.declared.look.Look.{Look}
-use Rattle.cept_codes.proofs.Places.{number-place_of, OnScreen-place_of, number-lt, row-place_of, column-place_of}
+use Rattle.cept_codes.proofs.Laws.{number-place_of, OnScreen-place_of, number-lt, place_of-number}
 use Rattle.cept_codes.specs.Look.{blank_look}
 use Rattle.cept_codes.specs.Place.{Place, OnScreen, number, place_of}
 use Rattle.cept_codes.specs.Same.{same_look}
@@ -17,9 +17,9 @@ use Rattle.cept_profile.specs.Cells.{is_at}
 use Rattle.cept_profile.specs.Changes.{look_at, differences, listed, changed, changes, painted_all, IsBefore, AreChanges}
 use Rattle.cept_profile.specs.Look.{look, grid}
 use Rattle.cept_profile.specs.State.{page}
-use Rattle.cept_codes.proofs.Equal.{look_decides}
+use Rattle.cept_codes.proofs.Laws.{look_decides}
 use Rattle.cept_profile.proofs.Painted.{names, AreLooksOf, at-painted_all, IsTable-painted_all, place-is_at}
-use Rattle.cept_codes.proofs.Tables.{IsTable-table, same_tables}
+use Rattle.cept_codes.proofs.Laws.{IsTable-table, same_tables}
 use Rattle.cept_profile.proofs.Rising.{same_rising}
 
 -- a number is that of a place just if the place is in that row and column
@@ -76,7 +76,7 @@ names-listed_within marks h a (suc n) r c on low high =
 -- the looks of a grid at the place with the number of row r and column c
 pub look_at-number : (g : List (List Look)) (r c : ℕ) → OnScreen r c → look_at g (place_of (number r c)) ≡ at blank_look g r c
 look_at-number g r c on =
-    ap (λ r'. at blank_look g r' (place_of (number r c)).column) (row-place_of r c on) ∙ ap (λ c'. at blank_look g r c') (column-place_of r c on)
+    ap (λ r'. at blank_look g r' (place_of (number r c)).column) (ap (λ (q : Place). q.row) (place_of-number (record { row = r; column = c }) on)) ∙ ap (λ c'. at blank_look g r c') (ap (λ (q : Place). q.column) (place_of-number (record { row = r; column = c }) on))
 
 -- whether the looks at this place differ
 abbrev pub differ_at : List (List Look) → List (List Look) → ℕ → ℕ → Bool
@@ -117,7 +117,7 @@ chosen old new = elim (cases_Bool (same_look old new)) [
 
 pub painted_all-changed : (g h : List (List Look)) → IsTable g → IsTable h → painted_all g (changed g h) ≡ h
 painted_all-changed g h is_g is_h =
-    same_tables (IsTable-painted_all g (changed g h) is_g) is_h blank_look (λ r c on.
+    same_tables (painted_all g (changed g h)) h blank_look (IsTable-painted_all g (changed g h) is_g) is_h (λ r c on.
     at-painted_all g h (changed g h) (AreLooksOf-changed g h) r c on
     ∙ ap (λ named. cond named (at blank_look h r c) (at blank_look g r c)) (names-changed g h r c on)
     ∙ chosen (at blank_look g r c) (at blank_look h r c))

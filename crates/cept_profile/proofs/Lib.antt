@@ -1,21 +1,22 @@
-pub mod Waiting
-pub mod Control
-pub mod ControlSettings
-pub mod Copies
-pub mod Cells
-pub mod Changes
-pub mod Painted
-pub mod Protected
-pub mod Reading
-pub mod Rising
-pub mod Services
-pub mod Start
-pub mod State
-pub mod ValidControl
-pub mod ValidLook
-pub mod ValidPage
-pub mod ValidState
-pub mod Worked
-pub mod WorkedLooks
-pub mod Listed
-pub mod WorkedSettings
+mod Cells
+mod Changes
+mod Control
+mod ControlSettings
+mod Copies
+pub mod Laws
+mod Listed
+mod Painted
+mod Protected
+mod Reading
+mod Rising
+mod Services
+mod Start
+mod State
+mod ValidControl
+mod ValidLook
+mod ValidPage
+mod ValidState
+mod Waiting
+mod Worked
+mod WorkedLooks
+mod WorkedSettings

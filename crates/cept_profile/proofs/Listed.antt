@@ -6,7 +6,7 @@ use Rattle.std.proofs.lemmas.List.{map-append}
 use Rattle.std.proofs.lemmas.List.Elements.{filter-append}
 use Rattle.cept_codes.specs.declared.look.Look.{Look}
 use Rattle.cept_codes.specs.Place.{Place, place_of}
-use Rattle.cept_profile.specs.Changes.{look_at, listed}
+use Rattle.cept_profile.specs.Changes.{look_at, listed, listed_below}
 
 -- the place with this number, with its look in g
 abbrev entry_of : List (List Look) → ℕ → Place × Look
@@ -16,14 +16,14 @@ entry_of g n = (place_of n, look_at g (place_of n))
 abbrev marked : List Bool → ℕ → Bool
 marked marks n = slice_index_or marks n false
 
--- the marked places with numbers below n in reading order, each with its look in g
-unfoldable pub listed_below : List Bool → List (List Look) → ℕ → List (Place × Look)
-listed_below marks g n = map (entry_of g) (filter (marked marks) (range_with_len 0 n))
+pub listed_below-none : (marks : List Bool) (g : List (List Look)) → listed_below marks g 0 ≡ []
+unfolding listed_below
+listed_below-none marks g = refl
 
 -- all places have numbers below 960
-pub listed-is_below : (marks : List Bool) (g : List (List Look)) → listed marks g ≡ listed_below marks g 960
+pub listed_below-whole : (marks : List Bool) (g : List (List Look)) → listed_below marks g 960 ≡ listed marks g
 unfolding listed listed_below
-listed-is_below marks g = refl
+listed_below-whole marks g = refl
 
 range_with_len-suc : (a n : ℕ) → range_with_len a (suc n) ≡ range_with_len a n ++ (a + n) ∷ []
 range_with_len-suc a zero = ap (λ k. k ∷ []) (sym (add-zero a))
@@ -64,10 +64,13 @@ listed_below-next marks g from n h none here =
     listed_below-more marks g n ∙ ap (λ b. listed_below marks g n ++ cond b ((place_of n, look_at g (place_of n)) ∷ []) []) here
     ∙ ap (λ front. front ++ (place_of n, look_at g (place_of n)) ∷ []) (listed_below-unmarked marks g from n h none)
 
+next_sum : (n d : ℕ) → n + suc d ≡ (n + d) + 1
+next_sum n d = omega arith
+
 -- the list up to one bound begins the list up to a later one
 pub listed_below-rest : (marks : List Bool) (g : List (List Look)) (n d : ℕ) → (rest : List (Place × Look)) × (listed_below marks g (n + d) ≡ listed_below marks g n ++ rest)
 listed_below-rest marks g n zero = ([], ap (listed_below marks g) (add-zero n) ∙ sym (append-nil _))
 listed_below-rest marks g n (suc d) =
     let before = listed_below-rest marks g n d in
     let last = cond (slice_index_or marks (n + d) false) ((place_of (n + d), look_at g (place_of (n + d))) ∷ []) [] in
-    (before.0 ++ last, ap (listed_below marks g) (let e : n + suc d ≡ (n + d) + 1 = omega arith in e) ∙ listed_below-more marks g (n + d) ∙ ap (λ front. front ++ last) before.1 ∙ append_assoc (listed_below marks g n) before.0 last)
+    (before.0 ++ last, ap (listed_below marks g) (next_sum n d) ∙ listed_below-more marks g (n + d) ∙ ap (λ front. front ++ last) before.1 ∙ append_assoc (listed_below marks g n) before.0 last)

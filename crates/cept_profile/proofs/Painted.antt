@@ -9,7 +9,7 @@ use Rattle.cept_codes.specs.Place.{Place, OnScreen}
 use Rattle.cept_codes.specs.Table.{at, IsTable}
 use Rattle.cept_profile.specs.Cells.{is_at}
 use Rattle.cept_profile.specs.Changes.{look_at, painted, painted_all}
-use Rattle.cept_codes.proofs.Tables.{at-table, IsTable-table}
+use Rattle.cept_codes.proofs.Laws.{at-table, IsTable-table}
 
 -- painting in two parts
 pub painted_all-append : (g : List (List Look)) (xs ys : List (Place × Look)) → painted_all g (xs ++ ys) ≡ painted_all (painted_all g xs) ys

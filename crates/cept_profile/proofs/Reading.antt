@@ -69,6 +69,3 @@ accent_of_S set code h = rw h.0 (accent_choice code h.1 _ _ refl (is_accent_code
 pub read_as-accent : (set : SetId) (code : ℕ) → (read_as set code ≡ reads.Accent code) ↔ ((set ≡ sets.S) × IsAccent code)
 unfolding read_as
 read_as-accent set code = (choice_accent set code _ _ refl refl, accent_of_S set code)
-
--- what a function that reads a code needs
-pub ruleset readings = (IsCode-code_of, IsValidRead-read_as, read_as-accent)

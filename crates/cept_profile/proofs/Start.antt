@@ -5,7 +5,7 @@ use Rattle.cept_codes.specs.declared.cell.What.TheVariants as whats
 use Rattle.cept_codes.specs.Cell.{blank}
 use Rattle.cept_codes.specs.Look.{blank_look}
 use Rattle.cept_codes.specs.Table.{table}
-use Rattle.cept_codes.proofs.Tables.{at-table, same_table}
+use Rattle.cept_codes.proofs.Laws.{at-table, same_table}
 use Rattle.cept_profile.specs.Cells.{cell_back}
 use Rattle.cept_profile.specs.Colours.{default_paints}
 use Rattle.cept_profile.specs.Control.{initial}

@@ -16,7 +16,7 @@ use Rattle.cept_codes.specs.Cell.{IsValidWhat, blank}
 use Rattle.cept_codes.specs.Glyph.{IsValidGlyph}
 use Rattle.cept_codes.specs.Look.{IsValidPaint, IsValidShape, IsValidLook, black, blank_look}
 use Rattle.cept_codes.specs.Table.{at}
-use Rattle.cept_codes.proofs.Tables.{at-table, IsTable-table}
+use Rattle.cept_codes.proofs.Laws.{at-table, IsTable-table}
 use Rattle.cept_profile.specs.Attributes.{first_of, cascade}
 use Rattle.cept_profile.specs.Colours.{ink, default_paints, default_paint, fore_paint, back_paint, over}
 use Rattle.cept_profile.specs.Look.{shape_of, shape_of_sign, attributes_of, look_of, look, looks_of, grid}

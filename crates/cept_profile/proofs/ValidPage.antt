@@ -22,7 +22,7 @@ use Rattle.cept_codes.specs.Glyph.{IsValidGlyph}
 use Rattle.cept_codes.specs.Place.{Place, OnScreen}
 use Rattle.cept_codes.specs.Stroke.{IsValidStroke}
 use Rattle.cept_codes.specs.Table.{table, at, IsTable}
-use Rattle.cept_codes.proofs.Tables.{at-table, IsTable-table}
+use Rattle.cept_codes.proofs.Laws.{at-table, IsTable-table}
 use Rattle.cept_profile.specs.Cells.{is_at, seen, struck, struck_all}
 use Rattle.cept_profile.specs.Control.{ControlState, ready}
 use Rattle.cept_profile.specs.Sets.{IsValidRead}

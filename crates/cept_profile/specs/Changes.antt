@@ -1,5 +1,5 @@
 -- Changes: the places at which two grids of looks differ, and the painting of places.
-use Rattle.std.specs.Prelude.{◌≡◌, ◌≢◌, ◌<◌, ◌⊎◌, Bool, not, false, List, [], ◌∷◌, ◌++◌, map, filter, slice_index_or, if◌then◌else◌}
+use Rattle.std.specs.Prelude.{◌≡◌, ◌≢◌, ℕ, ◌<◌, ◌⊎◌, Bool, not, false, List, [], ◌∷◌, ◌++◌, map, filter, slice_index_or, if◌then◌else◌}
 use Rattle.std.specs.List.{range_with_len, All, AllPairs, Contains}
 use Rattle.cept_codes.specs.declared.command.Command.{Command}
 use Rattle.cept_codes.specs.declared.look.Look.{Look}
@@ -21,6 +21,10 @@ differences g h = map (λ n. not (same_look (look_at g (place_of n)) (look_at h 
 -- the marked places in reading order, each with its look in g
 unfoldable pub listed : List Bool → List (List Look) → List (Place × Look)
 listed marks g = map (λ n. (place_of n, look_at g (place_of n))) (filter (λ n. slice_index_or marks n false) (range_with_len 0 960))
+
+-- those of them whose numbers are below n
+unfoldable pub listed_below : List Bool → List (List Look) → ℕ → List (Place × Look)
+listed_below marks g n = map (λ k. (place_of k, look_at g (place_of k))) (filter (λ k. slice_index_or marks k false) (range_with_len 0 n))
 
 -- the places at which g and h differ, in reading order, each with its look in h
 abbrev pub changed : List (List Look) → List (List Look) → List (Place × Look)

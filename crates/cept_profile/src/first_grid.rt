@@ -3,11 +3,14 @@ ghost use Rattle.std.specs.Prelude.{◌≡◌, []};
 ghost use Rattle.cept_codes.specs.Look.{blank_look};
 ghost use Rattle.cept_codes.specs.Table.{table};
 ghost use Rattle.cept_profile.specs.Control.{initial};
-ghost use Rattle.cept_profile.specs.Look.{grid};
+ghost use Rattle.cept_profile.specs.Look.{grid, look_of};
 ghost use Rattle.cept_profile.specs.State.{blank_page, state};
 
-/// Before any command control is initial, each cell is blank and each place has the blank look.
+use cept_codes::What;
+
+/// Before any command control is initial, each cell is blank and each place has the blank look, as what is blank looks.
 pub fn the_first_grid()
     ensures state { state [] ≡ record { page = blank_page; control = initial } }
+    ensures blank { look_of What.Blank ≡ blank_look }
     ensures grid { grid [] ≡ table (λ r c. blank_look) }
 {}

@@ -3,17 +3,21 @@
 #![tactic(auto)]
 
 mod accents;
+mod codes_of_sets;
 mod control_settings;
 mod first_grid;
 mod one_more;
 mod painting;
 mod protected_cells;
+mod repeated_signs;
 mod validity;
 
 pub use accents::{accents_wait, single_shifts_wait};
+pub use codes_of_sets::codes_give_signs_or_accents;
 pub use control_settings::{closed_services_are_left_out, settings_look_back};
 pub use first_grid::the_first_grid;
 pub use one_more::{looking_back_is_drawing, one_more_command, one_more_command_by_parts};
-pub use painting::{each_command_is_shown, painting_the_changes};
+pub use painting::{each_command_is_shown, marked_places_in_order, painting_the_changes};
 pub use protected_cells::protection;
+pub use repeated_signs::copies_are_written_in_turn;
 pub use validity::{looks_are_valid, strokes_are_valid, validity_is_kept};

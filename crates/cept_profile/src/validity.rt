@@ -1,11 +1,14 @@
 //! Laws of valid states: the initial state is valid, and valid commands keep it valid, with valid strokes and looks.
 ghost use Rattle.std.specs.Prelude.{◌≤◌, List, [], length};
 ghost use Rattle.std.specs.List.{AllByRecursion};
+ghost use Rattle.cept_codes.specs.declared.cell.What.{What};
 ghost use Rattle.cept_codes.specs.declared.command.Command.{Command};
+ghost use Rattle.cept_codes.specs.Cell.{IsValidWhat};
 ghost use Rattle.cept_codes.specs.Command.{IsValidCommand};
+ghost use Rattle.cept_codes.specs.Look.{IsValidLook};
 ghost use Rattle.cept_codes.specs.Stroke.{IsValidStroke};
-ghost use Rattle.cept_profile.specs.Control.{ControlState};
-ghost use Rattle.cept_profile.specs.Look.{grid, looks_of};
+ghost use Rattle.cept_profile.specs.Control.{ControlState, control_after};
+ghost use Rattle.cept_profile.specs.Look.{grid, look_of, looks_of};
 ghost use Rattle.cept_profile.specs.State.{Page, State, state, after};
 ghost use Rattle.cept_profile.specs.Strokes.{strokes_of};
 ghost use Rattle.cept_profile.specs.Valid.{AllValid, IsValidControl, IsValidGrid, IsValidPage, IsValidState};
@@ -14,6 +17,8 @@ ghost use Rattle.cept_profile.specs.Valid.{AllValid, IsValidControl, IsValidGrid
 /// valid.
 pub fn validity_is_kept()
     ensures start { IsValidState (state []) }
+    ensures control { (s : ControlState) (command : Command) → IsValidControl s → IsValidCommand command
+        → IsValidControl (control_after s command) }
     ensures kept { (s : State) (command : Command) → IsValidState s → IsValidCommand command
         → IsValidState (after s command) }
     ensures always { (history : List Command) → AllValid history → IsValidState (state history) }
@@ -27,8 +32,10 @@ pub fn strokes_are_valid()
         → length (strokes_of s command) ≤ 128 }
 {}
 
-/// The looks of a valid page are valid, and so is the grid after any list of valid commands.
+/// What stands in a valid cell has a valid look. So the looks of a valid page are valid, and so is the grid after any list
+/// of valid commands.
 pub fn looks_are_valid()
+    ensures of_cell { (what : What) → IsValidWhat what → IsValidLook (look_of what) }
     ensures of_page { (p : Page) → IsValidPage p → IsValidGrid (looks_of p) }
     ensures always { (history : List Command) → AllValid history → IsValidGrid (grid history) }
 {}

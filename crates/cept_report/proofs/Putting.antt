@@ -5,10 +5,10 @@ use Rattle.std.proofs.Math.Seq.{take-append-add}
 use Rattle.std.proofs.lemmas.List.{take-append-le}
 use Rattle.cept_codes.specs.declared.look.Look.{Look}
 use Rattle.cept_codes.specs.Place.{Place, number, place_of}
-use Rattle.cept_codes.proofs.Places.{place_of-number, number-lt}
+use Rattle.cept_codes.proofs.Laws.{place_of-number, number-lt}
 use Rattle.cept_outside.specs.SinkState.{SinkState, Gains}
-use Rattle.cept_profile.specs.Changes.{look_at, listed}
-use Rattle.cept_profile.proofs.Listed.{listed_below, listed-is_below, listed_below-next, listed_below-unmarked, listed_below-rest}
+use Rattle.cept_profile.specs.Changes.{look_at, listed, listed_below}
+use Rattle.cept_profile.proofs.Laws.{listed_below-whole, listed_below-next, listed_below-unmarked, listed_below-rest}
 use Rattle.cept_repaint.specs.Marks.{is_marked, IsFirstFrom}
 use Rattle.cept_report.specs.Text.{change_line, change_lines}
 
@@ -91,7 +91,7 @@ text-goes_on marks g label from p first =
     let below : n + 1 ≤ 960 = omega (arith, number-lt p.row p.column first.on_screen) in
     let others = listed_below-rest marks g (n + 1) (960 - (n + 1)) in
     let all : listed marks g ≡ listed_below marks g (n + 1) ++ others.0 =
-    listed-is_below marks g ∙ ap (listed_below marks g) (let e : 960 ≡ (n + 1) + (960 - (n + 1)) = omega arith in e) ∙ others.1 in (
+    sym (listed_below-whole marks g) ∙ ap (listed_below marks g) (let e : 960 ≡ (n + 1) + (960 - (n + 1)) = omega arith in e) ∙ others.1 in (
       change_lines label others.0,
       ap (change_lines label) all ∙ change_lines-append label (listed_below marks g (n + 1)) others.0 ∙ ap (λ l. l ++ change_lines label others.0) (lines-next marks g label from p first),
     )
@@ -108,7 +108,7 @@ Gains-failed s t u marks g label from p line first is before part =
 pub Gains-all : (s t : SinkState) (marks : List Bool) (g : List (List Look)) (label from : ℕ) → from ≤ 960 → ((n : ℕ) → from ≤ n → is_marked marks n ≡ false)
     → Gains s (change_lines label (listed_below marks g from)) t → Gains s (change_lines label (listed marks g)) t
 Gains-all s t marks g label from within none before =
-    subst (λ (xs : List (Place × Look)). Gains s (change_lines label xs) t) (sym (listed-is_below marks g ∙ listed_below-unmarked marks g from 960 within (λ k low _. none k low))) before
+    subst (λ (xs : List (Place × Look)). Gains s (change_lines label xs) t) (sym (sym (listed_below-whole marks g) ∙ listed_below-unmarked marks g from 960 within (λ k low _. none k low))) before
 
 -- before the first place nothing is listed
 pub Gains-none : (s : SinkState) (marks : List Bool) (g : List (List Look)) (label : ℕ) → Gains s (change_lines label (listed_below marks g 0)) s

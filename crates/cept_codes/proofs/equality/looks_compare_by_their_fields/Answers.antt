@@ -1,4 +1,5 @@
-use Rattle.cept_codes.proofs.Equal.{rgb_decides, paint_decides, pattern_decides, inks_decides, shape_decides, part_decides, look_decides}
+use Rattle.cept_codes.proofs.Equal.{rgb_decides, paint_decides, pattern_decides, inks_decides, shape_decides, part_decides}
+use Rattle.cept_codes.proofs.Laws
 use Rattle.cept_codes.proofs.equality.looks_compare_by_their_fields.Goals as goal
 
 pub returns-clause-rgb : goal.returns-clause-rgb
@@ -20,4 +21,4 @@ pub returns-clause-part : goal.returns-clause-part
 returns-clause-part c = part_decides
 
 pub returns-clause-look : goal.returns-clause-look
-returns-clause-look c = look_decides
+returns-clause-look c = Laws.look_decides

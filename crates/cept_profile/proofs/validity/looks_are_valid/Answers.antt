@@ -1,5 +1,10 @@
-use Rattle.cept_profile.proofs.ValidLook.{IsValidGrid-looks_of, IsValidGrid-grid}
+use Rattle.cept_profile.proofs.Laws
+use Rattle.cept_profile.proofs.ValidLook.{IsValidGrid-grid}
 use Rattle.cept_profile.proofs.validity.looks_are_valid.Goals as goal
 
 pub returns : goal.returns
-returns c = record { of_page = IsValidGrid-looks_of; always = IsValidGrid-grid }
+returns c = record {
+  of_cell = Laws.IsValidLook-look_of;
+  of_page = Laws.IsValidGrid-looks_of;
+  always = IsValidGrid-grid;
+}

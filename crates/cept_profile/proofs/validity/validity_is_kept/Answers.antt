@@ -1,5 +1,11 @@
-use Rattle.cept_profile.proofs.ValidState.{IsValidState-start, IsValidState-after, IsValidState-state}
+use Rattle.cept_profile.proofs.Laws
+use Rattle.cept_profile.proofs.ValidState.{IsValidState-state}
 use Rattle.cept_profile.proofs.validity.validity_is_kept.Goals as goal
 
 pub returns : goal.returns
-returns c = record { start = IsValidState-start; kept = IsValidState-after; always = IsValidState-state }
+returns c = record {
+  start = Laws.IsValidState-start;
+  control = Laws.IsValidControl-control_after;
+  kept = Laws.IsValidState-after;
+  always = IsValidState-state;
+}

@@ -1,6 +1,6 @@
 use Rattle.std.proofs.Common.{◌-◌, ◌≤◌}
 use Rattle.cept_outside.specs.SinkState.{Gains}
-use Rattle.cept_profile.proofs.Listed.{listed_below}
+use Rattle.cept_profile.specs.Changes.{listed_below}
 use Rattle.cept_profile.specs.Look.{looks_of}
 use Rattle.cept_report.specs.Text.{change_lines}
 use Rattle.cept_report.proofs.put.put_changes.Given as goal

@@ -2,7 +2,7 @@ use Rattle.std.proofs.Common.{◌≡◌, Option, Some, sym, ap, ◌∙◌}
 use Rattle.cept_codes.specs.declared.glyph.Glyph.{Glyph}
 use Rattle.cept_profile.specs.Control.{ControlState, with_working}
 use Rattle.cept_profile.specs.Writing.{repeated}
-use Rattle.cept_profile.proofs.Copies.{with_working-behind_copies}
+use Rattle.cept_profile.proofs.Laws.{with_working-behind_copies}
 use Rattle.cept_control.proofs.control.Control.repeat.Goals as goal
 
 pub returns-in-Some-clause-state : goal.returns-in-Some-clause-state

@@ -5,9 +5,9 @@ use Rattle.cept_codes.specs.Stroke.{IsValidStroke}
 use Rattle.cept_profile.specs.Control.{ControlState, control_after, obeyed}
 use Rattle.cept_profile.specs.Strokes.{strokes_of, strokes_when}
 use Rattle.cept_profile.specs.Valid.{IsValidControl}
-use Rattle.cept_profile.proofs.ValidControl.{IsValidControl-control_after}
-use Rattle.cept_profile.proofs.ValidPage.{length-strokes_of}
-use Rattle.cept_profile.proofs.ValidState.{IsValidStroke-strokes_of}
+use Rattle.cept_profile.proofs.Laws.{IsValidControl-control_after}
+use Rattle.cept_profile.proofs.Laws.{length-strokes_of}
+use Rattle.cept_profile.proofs.Laws.{IsValidStroke-strokes_of}
 use Rattle.cept_control.proofs.control.Control.step_into.Goals as goal
 
 pub returns-clause-valid : goal.returns-clause-valid

@@ -1,7 +1,7 @@
 use Rattle.std.proofs.Common.{◌++◌, length, arith, sym, ap, ◌∙◌}
 use Rattle.cept_profile.specs.Control.{ControlState, with_working}
 use Rattle.cept_profile.specs.Writing.{write_of, written}
-use Rattle.cept_profile.proofs.Copies.{behind_copies-none, behind_copies-more, copies-none, copies-more, length-copies}
+use Rattle.cept_profile.proofs.Laws.{behind_copies-none, behind_copies-more, copies-none, copies-more, length-copies}
 use Rattle.cept_control.proofs.control.Control.write_copies.Goals as goal
 
 pub write-requires-clause-room : goal.write-requires-clause-room
