@@ -4,6 +4,7 @@ pub mod ControlSettings
 pub mod Copies
 pub mod Cells
 pub mod Changes
+pub mod Circle
 pub mod Painted
 pub mod Protected
 pub mod Reading

@@ -5,6 +5,7 @@
 mod accents;
 mod control_settings;
 mod first_grid;
+mod motions;
 mod one_more;
 mod painting;
 mod protected_cells;
@@ -12,7 +13,8 @@ mod validity;
 
 pub use accents::{accents_wait, single_shifts_wait};
 pub use control_settings::{closed_services_are_left_out, settings_look_back};
-pub use first_grid::the_first_grid;
+pub use first_grid::{clearing_blanks_the_page, the_first_grid};
+pub use motions::motions_go_round_the_places;
 pub use one_more::{looking_back_is_drawing, one_more_command, one_more_command_by_parts};
 pub use painting::{each_command_is_shown, painting_the_changes};
 pub use protected_cells::protection;
