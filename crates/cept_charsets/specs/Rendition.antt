@@ -9,6 +9,7 @@ pub record Row : Type 0 where
   pub first : ℕ
   pub points : List ℕ
 
+-- a row by its first code and its points
 abbrev pub row : ℕ → List ℕ → Row
 row first points = record { first = first; points = points }
 

@@ -1,4 +1,5 @@
--- Valid colours, patterns and looks, and the look of a screen on which nothing was written.
+-- Valid colours, patterns and looks: four bits each of red, green and blue (ETS 300 072, colour tables). The sizes of patterns,
+-- the order of their bits, parts and looks are this profile's own.
 use Rattle.std.specs.Prelude.{ℕ, ◌≡◌, ◌≤◌, ◌<◌, ◌*◌, ◌+◌, ◌/◌, ◌%◌, ◌^◌, Bool, false, List, drop, length, slice_index, IsTrue, ◌==◌, ◌&&◌, ◌||◌, if◌then◌else◌}
 use Rattle.std.specs.List.{AllByRecursion}
 use Rattle.cept_codes.specs.declared.look.Rgb.{Rgb}

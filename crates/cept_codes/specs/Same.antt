@@ -1,4 +1,4 @@
--- Equality: what `==` answers on the values of this crate. That it says whether the two are the same is a law of `equality`.
+-- Equality (own): what `==` answers on the values of this crate. That it says whether the two are the same is a law of `equality`.
 use Rattle.std.specs.Prelude.{Bool}
 use Rattle.cept_codes.specs.declared.glyph.SetId.{SetId}
 use Rattle.cept_codes.specs.declared.glyph.Glyph.{Glyph}
@@ -63,85 +63,107 @@ use Rattle.cept_codes.specs.contracts.stroke.StrokePartialEq.TheImpl.{ghosts as 
 abbrev pub same_place : Place → Place → Bool
 same_place = place_comparison.eq
 
--- on attributes and pens
+-- on sizes
 abbrev pub same_size : Size → Size → Bool
 same_size = size_comparison.eq
 
+-- on ways to flash
 abbrev pub same_flash : Flash → Flash → Bool
 same_flash = flash_comparison.eq
 
+-- on classes of attributes
 abbrev pub same_class : Class → Class → Bool
 same_class = class_comparison.eq
 
+-- on attributes
 abbrev pub same_attr : Attr → Attr → Bool
 same_attr = attr_comparison.eq
 
+-- on pens
 abbrev pub same_pen : Pen → Pen → Bool
 same_pen = pen_comparison.eq
 
+-- on full attributes
 abbrev pub same_full : Full → Full → Bool
 same_full = full_comparison.eq
 
--- on signs, cells and rows of cells
+-- on sets
 abbrev pub same_set : SetId → SetId → Bool
 same_set = set_comparison.eq
 
+-- on signs
 abbrev pub same_glyph : Glyph → Glyph → Bool
 same_glyph = glyph_comparison.eq
 
+-- on markers
 abbrev pub same_marker : Marker → Marker → Bool
 same_marker = marker_comparison.eq
 
+-- on what stands in cells
 abbrev pub same_what : What → What → Bool
 same_what = what_comparison.eq
 
+-- on cells
 abbrev pub same_cell : Cell → Cell → Bool
 same_cell = cell_comparison.eq
 
+-- on rows of cells
 abbrev pub same_row : RowCells → RowCells → Bool
 same_row = row_comparison.eq
 
--- on colours, patterns and looks
+-- on colours
 abbrev pub same_rgb : Rgb → Rgb → Bool
 same_rgb = rgb_comparison.eq
 
+-- on paints
 abbrev pub same_paint : Paint → Paint → Bool
 same_paint = paint_comparison.eq
 
+-- on patterns
 abbrev pub same_pattern : Pattern → Pattern → Bool
 same_pattern = pattern_comparison.eq
 
+-- on inks
 abbrev pub same_inks : Inks → Inks → Bool
 same_inks = inks_comparison.eq
 
+-- on shapes
 abbrev pub same_shape : Shape → Shape → Bool
 same_shape = shape_comparison.eq
 
+-- on parts
 abbrev pub same_part : Part → Part → Bool
 same_part = part_comparison.eq
 
+-- on looks
 abbrev pub same_look : Look → Look → Bool
 same_look = look_comparison.eq
 
--- on commands and items
+-- on C1 sets
 abbrev pub same_c1_set : C1Set → C1Set → Bool
 same_c1_set = c1_set_comparison.eq
 
+-- on ways to scroll
 abbrev pub same_way : Up → Up → Bool
 same_way = way_comparison.eq
 
+-- on forms of patterns
 abbrev pub same_form : Form → Form → Bool
 same_form = form_comparison.eq
 
+-- on commands
 abbrev pub same_command : Command → Command → Bool
 same_command = command_comparison.eq
 
+-- on reasons
 abbrev pub same_reason : Reason → Reason → Bool
 same_reason = reason_comparison.eq
 
+-- on what items say
 abbrev pub same_said : Said → Said → Bool
 same_said = said_comparison.eq
 
+-- on items
 abbrev pub same_item : Item → Item → Bool
 same_item = item_comparison.eq
 

@@ -1,4 +1,5 @@
--- Tables of the screen: a list of 24 rows of 40, made of a function of row and column and read by row and column, both from 1.
+-- Tables of the screen (own): a list of 24 rows of 40, made of a function of row and column and read by row and column, both
+-- from 1.
 use Rattle.std.specs.Prelude.{ℕ, ◌≡◌, ◌-◌, ◌<◌, List, [], length, map, slice_index_or}
 use Rattle.std.specs.List.{range_with_len}
 

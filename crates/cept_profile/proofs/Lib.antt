@@ -1,5 +1,6 @@
 mod Cells
 mod Changes
+mod Circle
 mod Control
 mod ControlSettings
 mod Copies

@@ -1,5 +1,5 @@
--- Protected cells.
-use Rattle.std.proofs.Common.{◌≡◌, ◌≢◌, ℕ, ◌⊎◌, Bool, false, not, ◌&&◌, eqb, List, [], ◌∷◌, refl, sym, ◌∙◌, subst, inl, inr, arith}
+-- Protected cells, and wiped ones.
+use Rattle.std.proofs.Common.{◌≡◌, ◌≢◌, ℕ, ◌⊎◌, Bool, false, not, ◌&&◌, eqb, List, [], ◌∷◌, ◌++◌, refl, sym, ◌∙◌, subst, inl, inr, arith}
 use Rattle.std.specs.List.{Contains}
 use Rattle.std.specs.Prelude.{IsTrue}
 use Rattle.std.proofs.lemmas.Bool.{cond-false, cond-true, and_from, and_left, and_right, eq-eqb, not_from_true, not_from_false, false_from_ne_true}
@@ -56,3 +56,12 @@ struck_all-protected cells (x ∷ xs) r c on protected = elim (seen-protected x 
         | inr kept ↦ inr (kept ∙ same)
       ]
 ]
+
+pub seen-wiped : (was : ℕ → ℕ → Cell) (r c : ℕ) → OnScreen r c → seen strokes.Wipe was r c ≡ blank
+seen-wiped was r c on = refl
+
+-- behind a wipe that is last
+pub struck_all-wiped : (cells : List (List Cell)) (xs : List Stroke) (r c : ℕ) → OnScreen r c → at blank (struck_all cells (xs ++ strokes.Wipe ∷ [])) r c ≡ blank
+unfolding struck_all
+struck_all-wiped cells [] r c on = at-table (λ q k. blank) blank r c on
+struck_all-wiped cells (x ∷ xs) r c on = struck_all-wiped (struck cells x) xs r c on

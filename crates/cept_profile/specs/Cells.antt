@@ -1,4 +1,4 @@
--- Cells: what stands at a place is asked of the strokes from the last backwards.
+-- Cells (own): what stands at a place is asked of the strokes from the last backwards.
 use Rattle.std.specs.Prelude.{ℕ, Bool, not, ◌&&◌, List, [], ◌∷◌, ◌==◌, if◌then◌else◌}
 use Rattle.cept_codes.specs.declared.cell.Cell.{Cell}
 use Rattle.cept_codes.specs.declared.stroke.Stroke.{Stroke}
@@ -22,10 +22,11 @@ unfoldable pub cell_back : List Stroke → ℕ → ℕ → Cell
 cell_back [] r c = blank
 cell_back (stroke ∷ earlier) r c = seen stroke (cell_back earlier) r c
 
--- a table of cells after one stroke, and after several
+-- a table of cells after one stroke
 abbrev pub struck : List (List Cell) → Stroke → List (List Cell)
 struck cells stroke = table (seen stroke (at blank cells))
 
+-- and after several
 unfoldable pub struck_all : List (List Cell) → List Stroke → List (List Cell)
 struck_all cells [] = cells
 struck_all cells (stroke ∷ more) = struck_all (struck cells stroke) more

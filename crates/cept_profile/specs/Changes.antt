@@ -1,4 +1,4 @@
--- Changes: the places at which two grids of looks differ, and the painting of places.
+-- Changes (own): the places at which two grids of looks differ, and the painting of places.
 use Rattle.std.specs.Prelude.{◌≡◌, ◌≢◌, ℕ, ◌<◌, ◌⊎◌, Bool, not, false, List, [], ◌∷◌, ◌++◌, map, filter, slice_index_or, if◌then◌else◌}
 use Rattle.std.specs.List.{range_with_len, All, AllPairs, Contains}
 use Rattle.cept_codes.specs.declared.command.Command.{Command}
@@ -30,10 +30,11 @@ listed_below marks g n = map (λ k. (place_of k, look_at g (place_of k))) (filte
 abbrev pub changed : List (List Look) → List (List Look) → List (Place × Look)
 changed g h = listed (differences g h) h
 
--- a grid with one place painted, and with several painted one after the other
+-- a grid with one place painted
 abbrev pub painted : List (List Look) → Place → Look → List (List Look)
 painted g p l = table (λ r c. if is_at p r c then l else at blank_look g r c)
 
+-- and with several painted one after the other
 unfoldable pub painted_all : List (List Look) → List (Place × Look) → List (List Look)
 painted_all g [] = g
 painted_all g (x ∷ xs) = painted_all (painted g x.0 x.1) xs

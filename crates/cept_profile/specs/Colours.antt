@@ -1,4 +1,5 @@
--- Colours: the paints of the entries of the default colour table (ETS 300 072, colour tables).
+-- Colours: entries in tables of eight (ETS 300 072, colour tables). Which paint each has by default, and that a foreground
+-- never shows the picture behind, are this profile's own.
 use Rattle.std.specs.Prelude.{ℕ, ◌%◌, List, [], ◌∷◌, slice_index_or, if◌then◌else◌}
 use Rattle.cept_codes.specs.declared.attribute.Full.{Full}
 use Rattle.cept_codes.specs.declared.look.Paint.{Paint}
@@ -19,10 +20,11 @@ default_paints =
 abbrev pub default_paint : ℕ → Paint
 default_paint i = slice_index_or default_paints (i % 16) black
 
--- the paints of foreground and background: those of their entries, exchanged under invert
+-- the paint of the foreground: that of its entry, and under invert that of the background's
 abbrev pub fore_paint : Full → Paint
 fore_paint f = default_paint (if f.invert then f.back else f.fore)
 
+-- the paint of the background, exchanged in the same way
 abbrev pub back_paint : Full → Paint
 back_paint f = default_paint (if f.invert then f.fore else f.back)
 

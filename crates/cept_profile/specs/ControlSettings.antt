@@ -27,6 +27,7 @@ is_running [] = false
 is_running (commands.ServiceBreak row ∷ earlier) = true
 is_running (command ∷ earlier) = not (ends_service command) && is_running earlier
 
+-- histories without closed services, which stand on each other
 abbrev mutual
   -- the commands without each closed service, from the break that begins it to the end that closes it
   pub outer_back : List Command → List Command
@@ -80,7 +81,7 @@ at_reset first (commands.ControlDefaults set) = Some first
 at_reset first (commands.ServiceBreak row) = Some first
 at_reset first _ = None
 
--- the C1 set
+-- what a command says of the C1 set
 abbrev pub c1_said : Command → Option C1Set
 c1_said (commands.DesignateC1 set) = Some set
 c1_said (commands.FullDefaults set) = Some set
@@ -88,76 +89,89 @@ c1_said (commands.ControlDefaults set) = Some set
 c1_said (commands.ServiceBreak row) = Some c1sets.Parallel
 c1_said _ = None
 
+-- the C1 set after the commands: parallel at first
 abbrev pub c1_back : List Command → C1Set
 c1_back = last_said (λ earlier. c1_said) c1sets.Parallel
 
--- the colour table
+-- what a command says of the colour table
 abbrev pub table_said : Command → Option ℕ
 table_said (commands.Table k) = Some k
 table_said command = at_reset 0 command
 
+-- the colour table after the commands: table 0 at first
 abbrev pub table_back : List Command → ℕ
 table_back = last_said (λ earlier. table_said) 0
 
--- protection
+-- what a command says of protection
 abbrev pub protect_said : Command → Option Bool
 protect_said (commands.Protect on) = Some on
 protect_said command = at_reset false command
 
+-- whether written cells become protected after the commands: not at first
 abbrev pub protect_back : List Command → Bool
 protect_back = last_said (λ earlier. protect_said) false
 
--- the set of this number, 0 to 3
+-- what a command says of the set of this number, 0 to 3
 abbrev pub set_said : ℕ → Command → Option SetId
 set_said number (commands.Designate g set) = if g == number then Some set else None
 set_said number command = at_reset (set_in initial_sets number) command
 
+-- the set of this number after the commands
 abbrev pub set_back : ℕ → List Command → SetId
 set_back number = last_said (λ earlier. set_said number) (set_in initial_sets number)
 
--- the sets of the left and of the right bytes
+-- what a command says of the set of the left bytes
 abbrev pub left_said : Command → Option ℕ
 left_said (commands.LockLeft g) = Some g
 left_said command = at_reset initial_sets.left command
 
+-- the set of the left bytes after the commands
 abbrev pub left_back : List Command → ℕ
 left_back = last_said (λ earlier. left_said) initial_sets.left
 
+-- what a command says of the set of the right bytes
 abbrev pub right_said : Command → Option ℕ
 right_said (commands.LockRight g) = Some g
 right_said command = at_reset initial_sets.right command
 
+-- the set of the right bytes after the commands
 abbrev pub right_back : List Command → ℕ
 right_back = last_said (λ earlier. right_said) initial_sets.right
 
 -- ---- the pen, but its flash
 
--- what an attribute says of a class: None where it says that the class is unset
+-- what an attribute says of the foreground: None where it says nothing
 abbrev pub fore_in : Attr → Option (Option ℕ)
 fore_in (attrs.Fore e) = Some (Some e)
 fore_in _ = None
 
+-- of the background, which NoBack says to be unset
 abbrev pub back_in : Attr → Option (Option ℕ)
 back_in (attrs.Back e) = Some (Some e)
 back_in attrs.NoBack = Some None
 back_in _ = None
 
+-- of conceal
 abbrev pub conceal_in : Attr → Option (Option Bool)
 conceal_in (attrs.Conceal on) = Some (Some on)
 conceal_in _ = None
 
+-- of lining
 abbrev pub lined_in : Attr → Option (Option Bool)
 lined_in (attrs.Lined on) = Some (Some on)
 lined_in _ = None
 
+-- of the box
 abbrev pub boxed_in : Attr → Option (Option Bool)
 boxed_in (attrs.Boxed on) = Some (Some on)
 boxed_in _ = None
 
+-- of the size
 abbrev pub size_in : Attr → Option (Option Size)
 size_in (attrs.Size size) = Some (Some size)
 size_in _ = None
 
+-- of the polarity
 abbrev pub invert_in : Attr → Option (Option Bool)
 invert_in (attrs.Invert on) = Some (Some on)
 invert_in _ = None
@@ -177,42 +191,48 @@ class_said class c1 table (commands.Position r c) = Some None
 class_said class c1 table (commands.Format rows wrap) = Some None
 class_said class c1 table command = at_reset None command
 
+-- a class of the pen after the commands, by the C1 set and the table in which each came: unset at first
 abbrev pub class_back : {X : Type 0} → (Attr → Option (Option X)) → List Command → Option X
 class_back class = last_said (λ earlier. class_said class (c1_back earlier) (table_back earlier)) None
 
 -- ---- what services leave alone
 
--- rows and wrap
+-- what a command says of the rows
 abbrev pub rows_said : Command → Option ℕ
 rows_said (commands.Format rows wrap) = Some rows
 rows_said (commands.FullDefaults set) = Some 24
 rows_said _ = None
 
+-- the rows after the commands: 24 at first
 abbrev pub rows_back : List Command → ℕ
 rows_back = last_said (λ earlier. rows_said) 24
 
+-- what a command says of wrap
 abbrev pub wrap_said : Command → Option Bool
 wrap_said (commands.Format rows wrap) = Some wrap
 wrap_said (commands.FullDefaults set) = Some true
 wrap_said _ = None
 
+-- wrap after the commands: on at first
 abbrev pub wrap_back : List Command → Bool
 wrap_back = last_said (λ earlier. wrap_said) true
 
--- implicit scrolling
+-- what a command says of implicit scrolling
 abbrev pub implicit_said : Command → Option Bool
 implicit_said (commands.Implicit on) = Some on
 implicit_said (commands.FullDefaults set) = Some false
 implicit_said _ = None
 
+-- implicit scrolling after the commands: off at first
 abbrev pub implicit_back : List Command → Bool
 implicit_back = last_said (λ earlier. implicit_said) false
 
--- the last area that was created
+-- the area that a command creates
 abbrev pub created_said : Command → Option (Option (ℕ × ℕ))
 created_said (commands.AreaCreate a b) = Some (Some (a, b))
 created_said _ = None
 
+-- the last area that the commands created, deleted or not
 abbrev pub created_back : List Command → Option (ℕ × ℕ)
 created_back = last_said (λ earlier. created_said) None
 
@@ -221,18 +241,20 @@ abbrev pub is_area : Option (ℕ × ℕ) → ℕ → ℕ → Bool
 is_area None a b = false
 is_area (Some area) a b = area.0 == a && area.1 == b
 
--- the scrolling area is the last that was created, unless it was deleted by its own rows, or full defaults came since
+-- what a command says of the area, where this one was created last: only its own rows delete it
 abbrev pub area_said : Option (ℕ × ℕ) → Command → Option (Option (ℕ × ℕ))
 area_said created (commands.AreaCreate a b) = Some (Some (a, b))
 area_said created (commands.AreaDelete a b) = if is_area created a b then Some None else None
 area_said created (commands.FullDefaults set) = Some None
 area_said created _ = None
 
+-- the scrolling area after the commands: the last that was created, unless it was deleted or full defaults came since
 abbrev pub area_back : List Command → Option (ℕ × ℕ)
 area_back = last_said (λ earlier. area_said (created_back earlier)) None
 
 -- ---- all settings
 
+-- what control keeps that a command says at once: all but the position, the run, the step, flash, what waits and the last sign
 pub record Settings : Type 0 where
   pub c1 : C1Set
   pub table : ℕ

@@ -1,4 +1,4 @@
--- Looks: what is seen at each place of a page.
+-- Looks (own): what is seen at each place of a page.
 use Rattle.std.specs.Prelude.{ℕ, List, ◌&&◌, ◌==◌, if◌then◌else◌}
 use Rattle.cept_codes.specs.declared.attribute.Full.{Full}
 use Rattle.cept_codes.specs.declared.cell.What.{What}

@@ -1,6 +1,11 @@
 -- Motions: where the position goes (T/CD 6-1, the C0 format effectors; wrapping is this profile's own).
 use Rattle.std.specs.Prelude.{ℕ, ◌+◌, ◌-◌, nat_le, ◌==◌, if◌then◌else◌}
+use Rattle.cept_codes.specs.Place.{number}
 use Rattle.cept_profile.specs.Working.{Working, ControlState, moved_to}
+
+-- the number of the position in reading order
+abbrev pub place_number : ControlState → ℕ
+place_number s = number s.working.row s.working.column
 
 -- the row below row r: from the last row it is the first with wrap, and the last itself without
 abbrev pub row_below : ControlState → ℕ → ℕ

@@ -41,6 +41,7 @@ with_attribute (attrs.Boxed b) p = record p { boxed = Some b }
 with_attribute (attrs.Size s) p = record p { size = Some s }
 with_attribute (attrs.Invert b) p = record p { invert = Some b }
 
+-- a pen with an attribute, if there is one
 abbrev pub with_any : Option Attr → Pen → Pen
 with_any None p = p
 with_any (Some attr) p = with_attribute attr p

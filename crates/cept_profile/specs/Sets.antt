@@ -18,6 +18,7 @@ pub record Sets : Type 0 where
   pub right : ℕ
   pub single : Option ℕ
 
+-- at the start P, M, S and N are designated, and left bytes take G0, right ones G2
 abbrev pub initial_sets : Sets
 initial_sets = record { g0 = sets.P; g1 = sets.M; g2 = sets.S; g3 = sets.N; left = 0; right = 2; single = None }
 
@@ -69,6 +70,7 @@ abbrev pub set_by : Option ℕ → Sets → ℕ → Bool → SetId
 set_by (Some g) s byte run = set_in s g
 set_by None s byte run = locked_set s byte run
 
+-- the same by the shift that waits in these sets
 unfoldable pub set_of : Sets → ℕ → Bool → SetId
 set_of s byte run = set_by s.single s byte run
 

@@ -1,4 +1,4 @@
--- The state of a decoder: its page and its control.
+-- The state of a decoder (own): its page and its control.
 use Rattle.std.specs.Prelude.{List, reverse}
 use Rattle.cept_codes.specs.declared.cell.Cell.{Cell}
 use Rattle.cept_codes.specs.declared.command.Command.{Command}
@@ -13,6 +13,7 @@ use Rattle.cept_profile.specs.Strokes.{strokes_back, strokes_of}
 pub record Page : Type 0 where
   pub cells : List (List Cell)
 
+-- a page, and what the decoder keeps beside it
 pub record State : Type 0 where
   pub page : Page
   pub control : ControlState

@@ -1,4 +1,4 @@
--- Strokes: the changes that each command makes to the page. Until a command is built it makes none.
+-- Strokes (own): the changes that each command makes to the page. Until a command is built it makes none.
 use Rattle.std.specs.Prelude.{List, [], ◌∷◌, ◌++◌, reverse}
 use Rattle.cept_codes.specs.declared.command.Command.{Command}
 use Rattle.cept_codes.specs.declared.command.Command.TheVariants as commands

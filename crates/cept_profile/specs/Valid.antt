@@ -1,4 +1,4 @@
--- Valid states: every valid command keeps them valid.
+-- Valid states (own): every valid command keeps them valid.
 use Rattle.std.specs.Prelude.{ℕ, ◌≡◌, ◌≤◌, ◌<◌, ◌⊎◌, IfSome, false, List}
 use Rattle.std.specs.List.{AllByRecursion}
 use Rattle.cept_codes.specs.declared.cell.What.TheVariants as whats
@@ -19,11 +19,13 @@ use Rattle.cept_profile.specs.State.{Page, State}
 abbrev pub AllValid : List Command → Type 0
 AllValid history = AllByRecursion IsValidCommand history
 
+-- each shift names a set that it can lock or shift to
 pub record AreValidSets (s : Sets) : Type 0 where
   pub left : s.left ≤ 3
   pub right : (1 ≤ s.right) × (s.right ≤ 3)
   pub single : IfSome s.single (λ g. (2 ≤ g) × (g ≤ 3))
 
+-- a place of the screen, and each part in its range
 pub record IsValidWorking (w : Working) : Type 0 where
   pub place : OnScreen w.row w.column
   pub sets : AreValidSets w.sets
@@ -34,6 +36,7 @@ pub record IsValidWorking (w : Working) : Type 0 where
   pub step : (w.step ≡ 1) ⊎ (w.step ≡ 2)
   pub table : w.table ≤ 3
 
+-- the same of what is in force and of what a service keeps, in one of the two formats
 pub record IsValidControl (s : ControlState) : Type 0 where
   pub working : IsValidWorking s.working
   pub rows : (s.rows ≡ 24) ⊎ (s.rows ≡ 20)

@@ -32,6 +32,7 @@ pub record ControlState : Type 0 where
   pub implicit : Bool
   pub kept : Option Working
 
+-- at the start: the first place, the parallel set, nothing that waits and nothing set
 abbrev pub initial_working : Working
 initial_working = record {
   row = 1;

@@ -50,6 +50,7 @@ abbrev pub repeated : ℕ → ControlState → Option Glyph → Working
 repeated n s None = s.working
 repeated n s (Some g) = (behind_copies n s g).working
 
+-- its strokes
 abbrev pub repeat_of : ℕ → ControlState → Option Glyph → List Stroke
 repeat_of n s None = []
 repeat_of n s (Some g) = copies n s g
@@ -64,6 +65,7 @@ abbrev pub behind_read : ControlState → Read → Working
 behind_read s (reads.Accent code) = record s.working { accent = Some code }
 behind_read s (reads.Glyph g) = written s (accented g.set g.code s.working.accent)
 
+-- its strokes
 abbrev pub read_of : ControlState → Read → List Stroke
 read_of s (reads.Accent code) = []
 read_of s (reads.Glyph g) = write_of s (accented g.set g.code s.working.accent)
