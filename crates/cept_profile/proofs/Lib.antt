@@ -6,6 +6,7 @@ pub mod Cells
 pub mod Changes
 pub mod Painted
 pub mod Protected
+pub mod InReach
 pub mod Reading
 pub mod Rising
 pub mod Services

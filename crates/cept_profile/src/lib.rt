@@ -8,6 +8,7 @@ mod first_grid;
 mod one_more;
 mod painting;
 mod protected_cells;
+mod reach;
 mod validity;
 
 pub use accents::{accents_wait, single_shifts_wait};
@@ -16,4 +17,5 @@ pub use first_grid::the_first_grid;
 pub use one_more::{looking_back_is_drawing, one_more_command, one_more_command_by_parts};
 pub use painting::{each_command_is_shown, painting_the_changes};
 pub use protected_cells::protection;
+pub use reach::rows_out_of_reach_stay;
 pub use validity::{looks_are_valid, strokes_are_valid, validity_is_kept};
