@@ -4,6 +4,7 @@ mod Circle
 mod Control
 mod ControlSettings
 mod Copies
+mod InReach
 pub mod Laws
 mod Listed
 mod Painted

@@ -7,6 +7,7 @@ pub mod ControlSettings
 pub mod Look
 pub mod Motions
 pub mod Pens
+pub mod Reach
 pub mod Sets
 pub mod State
 pub mod Strokes

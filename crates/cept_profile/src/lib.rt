@@ -10,6 +10,7 @@ mod motions;
 mod one_more;
 mod painting;
 mod protected_cells;
+mod reach;
 mod repeated_signs;
 mod validity;
 
@@ -21,5 +22,6 @@ pub use motions::motions_go_round_the_places;
 pub use one_more::{looking_back_is_drawing, one_more_command, one_more_command_by_parts};
 pub use painting::{each_command_is_shown, marked_places_in_order, painting_the_changes};
 pub use protected_cells::protection;
+pub use reach::rows_out_of_reach_stay;
 pub use repeated_signs::copies_are_written_in_turn;
 pub use validity::{looks_are_valid, strokes_are_valid, validity_is_kept};

@@ -2,6 +2,9 @@ pub mod FlagLemmas
 pub mod GridLemmas
 pub mod LookLemmas
 pub mod PaintLemmas
+pub mod PlaceLemmas
+pub mod ReachLemmas
 pub mod RefreshLemmas
 pub mod StateLemmas
 pub mod StruckLemmas
+pub mod WithinLemmas

@@ -8,6 +8,7 @@ use Rattle.cept_codes.specs.Look.{blank_look}
 use Rattle.cept_codes.specs.Place.{OnScreen, place_of}
 use Rattle.cept_codes.specs.Same.{same_look}
 use Rattle.cept_codes.specs.Table.{at, row_of, IsTable}
+use Rattle.cept_codes.proofs.Equal.{look_decides}
 use Rattle.cept_codes.proofs.Tables.{length-row_of, get_or-row_of, at-table, RowsMade, RowsMade-none, RowsMade-more, RowsMade-all}
 use Rattle.cept_profile.specs.Changes.{look_at, differences}
 use Rattle.cept_profile.specs.Look.{look, looks_of}
@@ -17,7 +18,7 @@ use Rattle.cept_repaint.specs.Marks.{is_marked, unmarked}
 use Rattle.cept_repaint.proofs.FlagLemmas.{length-unmarked, is_marked-unmarked}
 
 -- a claim by cases of whether two numbers are equal
-by_eq : {P : Type 0} (a b : ℕ) → (a ≡ b → P) → (a ≢ b → P) → P
+pub by_eq : {P : Type 0} (a b : ℕ) → (a ≡ b → P) → (a ≢ b → P) → P
 by_eq a b same other = elim (cases_eq a b) [ inl e ↦ same e | inr ne ↦ other ne ]
 
 -- of the row with index i, the first k looks are fresh and their places marked where they differed; all else is as it was
@@ -50,15 +51,15 @@ or_false true = refl
 or_false false = refl
 
 -- a flag set, or not, and what is read elsewhere and there
-flag_other : (d : Bool) (marks : List Bool) (m n : ℕ) → n ≢ m → is_marked (cond d (set marks m true) marks) n ≡ is_marked marks n
+pub flag_other : (d : Bool) (marks : List Bool) (m n : ℕ) → n ≢ m → is_marked (cond d (set marks m true) marks) n ≡ is_marked marks n
 flag_other true marks m n ne = get_or-set_other marks m n true false ne
 flag_other false marks m n ne = refl
 
-flag_here : (d : Bool) (marks : List Bool) (m : ℕ) → m < length marks → is_marked (cond d (set marks m true) marks) m ≡ (is_marked marks m || d)
+pub flag_here : (d : Bool) (marks : List Bool) (m : ℕ) → m < length marks → is_marked (cond d (set marks m true) marks) m ≡ (is_marked marks m || d)
 flag_here true marks m below = get_or-set_same marks m true false below ∙ or_true (is_marked marks m)
 flag_here false marks m below = or_false (is_marked marks m)
 
-flag_length : (d : Bool) (marks : List Bool) (m : ℕ) → length (cond d (set marks m true) marks) ≡ length marks
+pub flag_length : (d : Bool) (marks : List Bool) (m : ℕ) → length (cond d (set marks m true) marks) ≡ length marks
 flag_length true marks m = length-set marks m true
 flag_length false marks m = refl
 
@@ -140,7 +141,48 @@ RowsSoFar-more {p} {was} {now} {marks} {n} m row fresh next after e f places abo
 pub RowsSoFar-looks : {p : Page} {was now : List (List Look)} {marks : List Bool} {n : ℕ} → RowsSoFar p was now marks n → 24 ≤ n → now ≡ looks_of p
 RowsSoFar-looks m whole = RowsMade-all m.rows whole
 
-pub RowsSoFar-marks : {p : Page} {was now : List (List Look)} {marks : List Bool} {n : ℕ} → RowsSoFar p was now marks n → 24 ≤ n → marks ≡ differences was (looks_of p)
+-- ---- which marks are the differences
+
+-- looks that are the same don't differ
+pub differ_same : (a b : Look) → a ≡ b → differ a b ≡ false
+unfolding differ
+differ_same a b e = ap not ((look_decides a b).1 e)
+
+pub differences_is : (g h : List (List Look)) (marks : List Bool) → length marks ≡ 960 → ((k : ℕ) → k < 960 → is_marked marks k ≡ differ (look_at g (place_of k)) (look_at h (place_of k))) → marks ≡ differences g h
 unfolding differences differ
-RowsSoFar-marks {p} {was} {now} {marks} m whole =
-    fill_by_all (λ k. not (same_look (look_at was (place_of k)) (look_at (looks_of p) (place_of k)))) marks 960 false m.places (λ k below. m.marked k (omega arith))
+differences_is g h marks places each =
+    fill_by_all (λ k. not (same_look (look_at g (place_of k)) (look_at h (place_of k)))) marks 960 false places each
+
+-- grids that are the same have no differences
+pub differences_none : (g h : List (List Look)) (marks : List Bool) → marks ≡ unmarked → g ≡ h → marks ≡ differences g h
+differences_none g h marks none e =
+    none ∙ differences_is g h unmarked length-unmarked (λ k below. is_marked-unmarked k ∙ sym (differ_same (look_at g (place_of k)) (look_at h (place_of k)) (ap (λ (t : List (List Look)). look_at t (place_of k)) e)))
+
+pub RowsSoFar-marks : {p : Page} {was now : List (List Look)} {marks : List Bool} {n : ℕ} → RowsSoFar p was now marks n → 24 ≤ n → marks ≡ differences was (looks_of p)
+RowsSoFar-marks {p} {was} {now} {marks} m whole = differences_is was (looks_of p) marks m.places (λ k below. m.marked k (omega arith))
+
+-- a row that isn't in reach is as it was
+pub RowsSoFar-skip : {p : Page} {was now : List (List Look)} {marks : List Bool} {n : ℕ} → RowsSoFar p was now marks n → n < 24 → ((c : ℕ) → OnScreen (n + 1) c → at blank_look was (n + 1) c ≡ look p (n + 1) c) → RowsSoFar p was now marks (n + 1)
+RowsSoFar-skip {p} {was} {now} {marks} {n} m row same =
+    let same_at : (r c : ℕ) → OnScreen r c → r ≡ n + 1 → at blank_look was r c ≡ look p r c =
+    λ r c on e. subst (λ q. at blank_look was q c ≡ look p q c) (sym e) (same c (subst (λ q. OnScreen q c) e on)) in
+    record {
+      rows = record {
+        is = m.rows.is;
+        made = λ r c on le.
+            by_eq r (n + 1)
+            (λ (e : r ≡ n + 1). m.rows.left r c on (omega arith) ∙ same_at r c on e)
+            (λ (ne : r ≢ n + 1). m.rows.made r c on (omega arith));
+        left = λ r c on more. m.rows.left r c on (omega arith);
+      };
+      places = m.places;
+      marked = λ q left.
+          elim (cases_lt q (40 * n)) [
+            | inl up ↦ m.marked q up
+            | inr not_up ↦
+                let on : OnScreen (place_of q).row (place_of q).column = record { from_top = omega arith; to_bottom = omega arith; from_left = omega arith; to_right = omega arith } in
+                let er : (place_of q).row ≡ n + 1 = omega arith in
+                m.free q (omega arith) ∙ sym (differ_same (look_at was (place_of q)) (look_at (looks_of p) (place_of q)) (same_at (place_of q).row (place_of q).column on er ∙ sym (at-table (look p) blank_look (place_of q).row (place_of q).column on)))
+          ];
+      free = λ q past. m.free q (omega arith);
+    }

@@ -1,4 +1,4 @@
--- Marks: a flag for each place of the screen, in reading order.
+-- Marks: a flag for each place of the screen, in reading order (marks are this profile's own).
 use Rattle.std.specs.Prelude.{ℕ, ◌≡◌, ◌≤◌, ◌<◌, Bool, true, false, List, replicate, slice_index_or}
 use Rattle.cept_codes.specs.Place.{Place, OnScreen, number}
 
@@ -9,6 +9,13 @@ is_marked marks n = slice_index_or marks n false
 -- no place is marked
 unfoldable pub unmarked : List Bool
 unmarked = replicate 960 false
+
+-- no place is marked whose number is below `first`, or `end` or more (own)
+pub record AreWithin (marks : List Bool) (first end : ℕ) : Type 0 where
+  pub in_order : first ≤ end
+  pub places : end ≤ 960
+  pub before : (n : ℕ) → n < first → is_marked marks n ≡ false
+  pub behind : (n : ℕ) → end ≤ n → is_marked marks n ≡ false
 
 -- the first marked place with a number of at least `from`
 pub record IsFirstFrom (marks : List Bool) (from : ℕ) (place : Place) : Type 0 where

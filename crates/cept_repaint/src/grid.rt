@@ -41,6 +41,14 @@ impl Grid {
         Ok(Grid { rows })
     }
 
+    /// The cell at a place, where it stands.
+    pub(crate) fn at(&self, place: Pos) -> &Cell
+        ensures cell { result.now ≡ at blank self.now place.row place.column }
+        ensures whole { IsTable self.now }
+    {
+        &self.rows[usize::from(place.row()) - 1][usize::from(place.col()) - 1]
+    }
+
     /// The cell at a place.
     pub(crate) fn get(&self, place: Pos) -> Cell
         ensures cell { result ≡ at blank self.now place.row place.column }

@@ -11,7 +11,8 @@ mod looks;
 mod marks;
 mod page;
 mod painting;
-mod refresh;
+mod reach;
+mod redraw;
 mod screen;
 mod tape_glass;
 #[cfg(test)]

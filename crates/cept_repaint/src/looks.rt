@@ -44,6 +44,15 @@ impl Looks {
         Ok(Looks { rows })
     }
 
+    /// The look at a place, where it stands.
+    pub(crate) fn at(&self, place: Pos) -> &Look
+        ensures look { result.now ≡ look_at self.now place }
+        ensures whole { IsTable self.now }
+        ensures on_screen { OnScreen place.row place.column }
+    {
+        &self.rows[usize::from(place.row()) - 1][usize::from(place.col()) - 1]
+    }
+
     /// The look at a place.
     pub(crate) fn get(&self, place: Pos) -> Look
         ensures look { result ≡ look_at self.now place }
@@ -58,6 +67,20 @@ impl Looks {
         ensures { self.new ≡ painted self.old place look }
     {
         self.rows[usize::from(place.row()) - 1][usize::from(place.col()) - 1] = look;
+    }
+
+    /// Replaces the look at a place if this one differs from it, and answers whether it does.
+    pub(crate) fn refresh(&mut self, place: Pos, fresh: &Look) -> bool
+        ensures answer { result ≡ differ (look_at self.old place) fresh.now }
+        ensures looks { self.new ≡ painted self.old place fresh.now }
+        ensures whole { IsTable self.old }
+        ensures on_screen { OnScreen place.row place.column }
+    {
+        let changed = differ(self.at(place), fresh);
+        if changed {
+            self.set(place, *fresh);
+        }
+        changed
     }
 
     /// Replaces the looks of the row with this index that differ, and marks their places.

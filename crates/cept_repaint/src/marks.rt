@@ -1,22 +1,28 @@
 ghost use Rattle.std.specs.Prelude.{◌≡◌, ℕ, ◌≤◌, ◌<◌, Bool, true, false, length, slice_set, count_by, IsNone, IfSome, ◌↔◌};
 ghost use Rattle.cept_codes.specs.Place.{number, OnScreen};
-ghost use Rattle.cept_repaint.specs.Marks.{is_marked, unmarked, IsFirstFrom};
+ghost use Rattle.cept_repaint.specs.Marks.{is_marked, unmarked, AreWithin, IsFirstFrom};
 
 use cept_codes::Pos;
 use std::marker::Model;
 
-/// A set of places of the screen, in fixed memory.
+/// A set of places of the screen, in fixed memory. Beside the flags it keeps from which number on and below which
+/// number places may be marked, so that one who has marked few looks through few.
 #[derive(Drop)]
 pub struct Marks {
     flags: [bool; 960],
+    first: usize,
+    end: usize,
 }
 
 impl Model for Marks {
     ghost use Rattle.std.specs.Prelude.{List, Bool};
+    ghost use Rattle.cept_repaint.specs.Marks.{AreWithin};
 
     ghost Value = { List Bool };
 
     ghost view = { λ m. m.flags };
+
+    ghost invariant = { λ m. AreWithin m.flags m.first m.end };
 }
 
 impl Marks {
@@ -26,6 +32,8 @@ impl Marks {
     {
         Marks {
             flags: [false; 960],
+            first: 0,
+            end: 0,
         }
     }
 
@@ -42,7 +50,7 @@ impl Marks {
         ensures count { result ≡ count_by (λ marked. marked) self.now }
         ensures places { length self.now ≡ 960 }
     {
-        self.flags.iter().filter(|marked| **marked).count() as u16
+        count_set(&self.flags[self.first..self.end])
     }
 
     /// The first marked place whose number is at least `from`. Places are numbered from 0 in reading order, rows from the
@@ -52,7 +60,7 @@ impl Marks {
         ensures first { IfSome result (IsFirstFrom self.now from) }
         ensures places { length self.now ≡ 960 }
     {
-        let n = first_marked(&self.flags, usize::from(from))?;
+        let n = first_marked(&self.flags, self.first, self.end, usize::from(from))?;
         Pos::new((n / 40) as u8 + 1, (n % 40) as u8 + 1)
     }
 
@@ -60,7 +68,9 @@ impl Marks {
     pub(crate) fn clear(&mut self)
         ensures { self.new ≡ unmarked }
     {
-        self.flags = [false; 960];
+        unmark(&mut self.flags[self.first..self.end]);
+        self.first = 0;
+        self.end = 0;
     }
 
     /// Marks the place with this number.
@@ -69,6 +79,13 @@ impl Marks {
         ensures { self.new ≡ slice_set self.old n true }
     {
         self.flags[n] = true;
+        if self.first == self.end {
+            self.first = n;
+            self.end = n + 1;
+        } else {
+            self.first = self.first.min(n);
+            self.end = self.end.max(n + 1);
+        }
     }
 }
 
@@ -80,15 +97,34 @@ pub(crate) fn number_of(at: Pos) -> usize
     40 * (usize::from(at.row()) - 1) + (usize::from(at.col()) - 1)
 }
 
-/// The first set flag at `from` or behind it.
-fn first_marked(flags: &[bool], from: usize) -> Option<usize>
+/// How many of these flags are set.
+fn count_set(flags: &[bool]) -> u16
+    requires few { length flags.now ≤ 960 }
+    ensures { result ≡ count_by (λ marked. marked) flags.now }
+{
+    flags.iter().filter(|marked| **marked).count() as u16
+}
+
+/// Unsets these flags.
+fn unmark(flags: &mut [bool])
+    ensures { (n : ℕ) → is_marked flags.new n ≡ false }
+{
+    for flag in flags.iter_mut() {
+        *flag = false;
+    }
+}
+
+/// The first set flag at `from` or behind it, where none is set before `first`, at `end` or behind it.
+fn first_marked(flags: &[bool], first: usize, end: usize, from: usize) -> Option<usize>
+    requires within { AreWithin flags.now first end }
+    requires places { length flags.now ≡ 960 }
     ensures none { IsNone result ↔ ((n : ℕ) → from ≤ n → is_marked flags.now n ≡ false) }
-    ensures there { IfSome result (λ n. n < length flags.now) }
+    ensures there { IfSome result (λ n. n < 960) }
     ensures at_least { IfSome result (λ n. from ≤ n) }
     ensures marked { IfSome result (λ n. is_marked flags.now n ≡ true) }
     ensures first { IfSome result (λ n. (k : ℕ) → from ≤ k → k < n → is_marked flags.now k ≡ false) }
 {
-    for n in from..flags.len() {
+    for n in first.max(from)..end {
         if flags[n] {
             return Some(n);
         }

@@ -40,6 +40,13 @@ impl Page {
         self.grid.get(place)
     }
 
+    /// The look at a place.
+    pub(crate) fn look(&self, place: Pos) -> Look
+        ensures { result ≡ look self.now place.row place.column }
+    {
+        look_of(&self.grid.at(place).what)
+    }
+
     /// Changes the page as the strokes do, one after the other.
     pub(crate) fn draw_all(&mut self, strokes: &[Stroke])
         ensures { self.new ≡ drawn self.old strokes.now }

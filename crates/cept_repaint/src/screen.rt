@@ -5,7 +5,9 @@ ghost use Rattle.cept_codes.specs.Command.{IsValidCommand};
 ghost use Rattle.cept_codes.specs.Look.{IsValidLook};
 ghost use Rattle.cept_profile.specs.Changes.{look_at, differences, changed, painted_all};
 ghost use Rattle.cept_profile.specs.Look.{looks_of};
+ghost use Rattle.cept_profile.specs.Reach.{rows_in_reach};
 ghost use Rattle.cept_profile.specs.State.{state, after};
+ghost use Rattle.cept_profile.specs.Strokes.{strokes_of};
 ghost use Rattle.cept_profile.specs.Valid.{AllValid, IsValidState};
 ghost use Rattle.cept_repaint.specs.GlassState.{Lists};
 ghost use Rattle.cept_repaint.specs.Kept.{cell_at};
@@ -15,7 +17,7 @@ use crate::looks::Looks;
 use crate::marks::Marks;
 use crate::page::Page;
 use crate::painting::paint_marked;
-use crate::refresh::refresh;
+use crate::redraw::redraw;
 use arrayvec::ArrayVec;
 use cept_codes::{Cell, Command, Look, NoMemory, Pos, Stroke};
 use cept_control::Control;
@@ -77,7 +79,8 @@ impl Screen {
             (changed (looks_of self.old.page) (looks_of self.new.page)) }
         ensures told { Lists (G.state glass.old).paints
             (changed (looks_of self.old.page) (looks_of self.new.page)) (G.state glass.new).paints }
-        ensures cost { steps.new ≤ steps.old + 24 }
+        ensures cost { steps.new ≤ steps.old + rows_in_reach (strokes_of self.old.control command) }
+        ensures at_most_24 { steps.new ≤ steps.old + 24 }
     {
         self.write(command, marks, steps);
         paint_marked(self, glass, marks);
@@ -88,11 +91,12 @@ impl Screen {
         requires { IsValidCommand command }
         ensures after { self.new ≡ after self.old command }
         ensures marks { marks.new ≡ differences (looks_of self.old.page) (looks_of self.new.page) }
-        ensures cost { steps.new ≤ steps.old + 24 }
+        ensures cost { steps.new ≤ steps.old + rows_in_reach (strokes_of self.old.control command) }
+        ensures at_most_24 { steps.new ≤ steps.old + 24 }
     {
         self.control.step_into(command, &mut self.strokes);
-        self.page.draw_all(self.strokes.as_slice());
-        refresh(&self.page, &mut self.looks, marks, steps);
+        let strokes = self.strokes.as_slice();
+        redraw(&mut self.page, strokes, &mut self.looks, marks, steps);
     }
 
     /// The look at a place.

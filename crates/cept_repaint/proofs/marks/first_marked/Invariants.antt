@@ -3,4 +3,4 @@ use Rattle.cept_repaint.specs.Marks.{is_marked}
 use Rattle.cept_repaint.proofs.marks.first_marked.Given as goal
 
 abbrev pub invariant-loop-n : goal.invariant-loop-n
-invariant-loop-n l = (k : ℕ) → l.from ≤ k → k < l.n → is_marked l.flags k ≡ false
+invariant-loop-n l = (k : ℕ) → l.first ≤ k → l.from ≤ k → k < l.n → is_marked l.flags k ≡ false

@@ -1,7 +1,6 @@
-use Rattle.std.proofs.Common.{refl}
-use Rattle.cept_repaint.specs.Marks.{unmarked}
+use Rattle.std.proofs.Common.{arith}
+use Rattle.cept_repaint.proofs.WithinLemmas.{cleared}
 use Rattle.cept_repaint.proofs.marks.Marks.clear.Goals as goal
 
 pub returns : goal.returns
-unfolding unmarked
-returns c = refl
+returns c = cleared c.self.invariant (omega arith) c.unmark.new.flags (omega arith) c.unmark.ensures
