@@ -1,5 +1,6 @@
--- Units of one byte: the C0 set, the C1 set in its form of one byte, and the right half (ETS 300 072, the C0 set of
--- format effectors and controls; ISO 2022 for the shifts).
+-- Units of one byte: the C0 set, the C1 set in its form of one byte, and the right half. The C0 set is after ETS 300 072, the
+-- shifts after ISO 2022. In this code of eight bits 0/14 and 0/15 are LS1 and LS0; SO and SI are their names in one of seven.
+-- Own is which codes are refused.
 use Rattle.std.specs.Prelude.{ℕ, ◌-◌, if◌then◌else◌, ◌==◌, nat_le}
 use Rattle.cept_codes.specs.declared.command.Command.TheVariants as command
 use Rattle.cept_codes.specs.declared.item.Reason.TheVariants.{UnassignedControl}
@@ -17,8 +18,8 @@ control a =
     if a == 0x0B then Says command.Up else  -- APU
     if a == 0x0C then Says command.Clear else  -- CS
     if a == 0x0D then Says command.Return else  -- APR
-    if a == 0x0E then Says (command.LockLeft 1) else  -- SO
-    if a == 0x0F then Says (command.LockLeft 0) else  -- SI
+    if a == 0x0E then Says (command.LockLeft 1) else  -- LS1
+    if a == 0x0F then Says (command.LockLeft 0) else  -- LS0
     if a == 0x11 then Says command.CursorOn else  -- CON
     if a == 0x14 then Says command.CursorOff else  -- COF
     if a == 0x18 then Says command.Cancel else  -- CAN

@@ -1,4 +1,7 @@
--- Escape sequences: 1B, at most three bytes 2/0 to 2/15, and a byte 3/0 to 7/15 (ISO 2022). 1B 5B is CSI.
+-- Escape sequences: 1B, at most three bytes 2/0 to 2/15, and a byte 3/0 to 7/15. 1B 5B is CSI. After ISO 2022 are the shape,
+-- the C1 codes in two bytes, the locking shifts, and the bytes 2/8 to 2/11 that designate to G0 to G3; after ETS 300 072 and
+-- T/CD 6-1 the designation of a C1 set. Own are the limit of three bytes, the finals that name the sets, the attributes of
+-- screen and row, and what is refused.
 use Rattle.std.specs.Prelude.{ℕ, ◌-◌, Bool, not, ◌&&◌, List, [], ◌∷◌, if◌then◌else◌, ◌==◌}
 use Rattle.cept_codes.specs.declared.command.C1Set.TheVariants.{Serial, Parallel}
 use Rattle.cept_codes.specs.declared.command.Command.TheVariants as command
@@ -23,7 +26,7 @@ escape_1 f =
     if f == 0x7C then Says (command.LockRight 3) else  -- LS3R
     Refused UnknownEscape
 
--- 1B i f, i 2/8 to 2/11: a set is designated to G0 to G3
+-- 1B i f, i 2/8 to 2/11: a set is designated to G0 to G3. The finals are own
 unfoldable pub designate : ℕ → ℕ → Said
 designate g f =
     if f == 0x40 then Says (command.Designate g P) else  -- primary set
@@ -46,19 +49,19 @@ escape_2 i f =
     if between 0x28 0x2B i then designate (i - 0x28) f else
     Refused UnknownEscape
 
--- 1B 2/3 2/0 f: an attribute of the full screen, 4/0 to 5/15 without the sizes 4/12 to 4/15
+-- 1B 2/3 2/0 f: an attribute of the full screen, 4/0 to 5/15 without the sizes 4/12 to 4/15 (own)
 unfoldable pub full_screen : ℕ → Said
 full_screen f =
     if is_c1_final f && not (between 0x4C 0x4F f) then Says (command.FullScreen (f - 0x40)) else
     Refused UnknownEscape
 
--- 1B 2/3 2/1 f: an attribute of the full row
+-- 1B 2/3 2/1 f: an attribute of the full row (own)
 unfoldable pub full_row : ℕ → Said
 full_row f =
     if is_c1_final f then Says (command.FullRow (f - 0x40)) else
     Refused UnknownEscape
 
--- 1B i 2/0 4/0, i 2/8 to 2/11: the downloaded set is designated to G0 to G3
+-- 1B i 2/0 4/0, i 2/8 to 2/11: the downloaded set is designated to G0 to G3 (own)
 unfoldable pub designate_drcs : ℕ → ℕ → ℕ → Said
 designate_drcs i j f =
     if between 0x28 0x2B i && (j == 0x20 && f == 0x40) then Says (command.Designate (i - 0x28) D) else

@@ -22,9 +22,9 @@ has_six_bits a = nat_le 0x40 a
 abbrev pub bit : ℕ → ℕ → ℕ
 bit k a = a / 2 ^ k % 2
 
--- the colour of two bytes: bits 6 to 1 of the first are R3 G3 B3 R2 G2 B2, those of the second R1 G1 B1 R0 G0 B0. So a
--- part has its bits 3 and 2 from the first byte and its bits 1 and 0 from the second: red at 5 and 2, green at 4 and 1, blue
--- at 3 and 0
+-- the colour of two bytes: the six low bits of the first are, from the highest, the eights of red, green and blue and then
+-- their fours, those of the second their twos and then their ones. So the two bits of red in each byte are worth 2 ^ 5 and
+-- 2 ^ 2 there, those of green 2 ^ 4 and 2 ^ 1, those of blue 2 ^ 3 and 2 ^ 0 (own)
 abbrev pub colour_part : ℕ → ℕ → ℕ → ℕ
 colour_part k a b = 8 * bit (k + 3) a + 4 * bit k a + (2 * bit (k + 3) b + bit k b)
 

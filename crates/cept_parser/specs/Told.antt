@@ -1,4 +1,5 @@
 -- What whole bytes say, found without asking whether they are whole. Where they are, this is the unit that the grammar tells.
+-- Bytes that end early are not whole, so nothing hangs on what is said of them here.
 use Rattle.std.specs.Prelude.{ℕ, ◌&&◌, List, [], ◌∷◌, if◌then◌else◌, ◌==◌, nat_lt, slice_index}
 use Rattle.cept_codes.specs.declared.command.Command.TheVariants as command
 use Rattle.cept_codes.specs.declared.item.Reason.TheVariants.{BadParameter, UnknownUnit, Interrupted}
@@ -34,7 +35,7 @@ colour_told x (a ∷ u) =
 
 -- behind 1F 2F
 unfoldable pub service_told : Context → List ℕ → Closed
-service_told x [] = closed x Text (Refused BadParameter)
+service_told x [] = closed x Skip (Refused BadParameter)
 service_told x (a ∷ u) = if a == 0x40 then service_break x (slice_index u 0) else service x a
 
 -- behind 1F

@@ -16,8 +16,8 @@ pub fn control(byte: u8) -> Said
         0x0B => Said::Command(Command::Up), // APU
         0x0C => Said::Command(Command::Clear), // CS
         0x0D => Said::Command(Command::Return), // APR
-        0x0E => Said::Command(Command::LockLeft(1)), // SO
-        0x0F => Said::Command(Command::LockLeft(0)), // SI
+        0x0E => Said::Command(Command::LockLeft(1)), // LS1
+        0x0F => Said::Command(Command::LockLeft(0)), // LS0
         0x11 => Said::Command(Command::CursorOn), // CON
         0x14 => Said::Command(Command::CursorOff), // COF
         0x18 => Said::Command(Command::Cancel), // CAN

@@ -1,10 +1,11 @@
-ghost use Rattle.std.specs.Prelude.{◌≡◌, ℕ, slice_index, ◌≤◌, ◌<◌, Option, None, Some, is_some, IfSome, OnSome, ◌∷◌, List, [], true, false, length};
+ghost use Rattle.std.specs.Prelude.{◌≡◌, ℕ, slice_index, ◌≤◌, ◌<◌, ◌-◌, Option, None, Some, is_some, IfSome, OnSome, ◌∷◌, List, [], true, false, length};
 ghost use Rattle.cept_parser.specs.Bytes.{between, is_plain, is_empty, closed, complete, begins_plain, with_plain, begins_sequence, is_sequence};
 ghost use Rattle.cept_parser.specs.Grammar.{repeat, csi_unit, escape_unit, begins_escape, unit, fits, grows};
 ghost use Rattle.cept_parser.specs.Fit.{fit, fit_by, extent_by, behind, is_alone};
 ghost use Rattle.cept_parser.specs.Told.{escape_told, told};
 ghost use Rattle.cept_parser.specs.Waits.{cut};
 ghost use Rattle.cept_parser.specs.declared.context.Closed.{Closed};
+ghost use Rattle.cept_parser.specs.declared.context.Context.{Context};
 
 use crate::bytes::is_plain;
 use crate::context::{Closed, Context, Mode};
@@ -240,6 +241,31 @@ pub fn alone(context: &Context, byte: u8) -> Option<Closed>
         0x1F => None,
         _ => Some(context.closed(Mode::Text, control(byte))),
     }
+}
+
+/// A byte that is a sign by itself: a plain one in mode Text, or one of the right half.
+#[inline]
+#[tactic(auto, unfolding(crate::specs::Grammar::unit, crate::specs::Grammar::grows, crate::specs::Runs::run_unit, crate::specs::Runs::run_grows, crate::specs::Controls::control))]
+pub fn is_sign(context: &Context, byte: u8) -> bool
+    ensures whole { result ≡ true → unit context.now (byte ∷ []) ≡ Some (closed context.now Mode.Text (Said.Command (Command.Graphic byte))) }
+    ensures end { result ≡ true → grows context.now (byte ∷ []) ≡ false }
+{
+    match byte {
+        0x20..=0x7F => matches!(context.mode, Mode::Text),
+        0xA0..=0xFF => true,
+        _ => false,
+    }
+}
+
+/// A C1 code in its form of one byte.
+#[inline]
+#[tactic(auto, unfolding(crate::specs::Grammar::unit, crate::specs::Grammar::grows, crate::specs::Runs::run_unit, crate::specs::Runs::run_grows, crate::specs::Controls::control))]
+pub fn is_c1(byte: u8) -> bool
+    ensures range { result ≡ true → 0x80 ≤ byte }
+    ensures whole { (x : Context) → result ≡ true → unit x (byte ∷ []) ≡ Some (closed x Mode.Text (Said.Command (Command.C1 (byte - 0x80)))) }
+    ensures end { (x : Context) → result ≡ true → grows x (byte ∷ []) ≡ false }
+{
+    0x80 <= byte && byte <= 0x9F && byte != 0x9B
 }
 
 /// What bytes say behind which the next byte doesn't fit: what they wholly are, else they are interrupted.

@@ -12,6 +12,10 @@ pub mod laws;
 mod parser;
 mod runs;
 #[cfg(test)]
+mod sweep;
+#[cfg(test)]
+mod tables;
+#[cfg(test)]
 mod tests;
 mod units;
 

@@ -6,10 +6,10 @@ ghost use Rattle.cept_parser.specs.Items.{read, items, closed_items, closing, sa
 ghost use Rattle.cept_parser.specs.Valid.{AreValid, AreMeasured};
 ghost use Rattle.cept_parser.specs.Waits.{Waits};
 
-use crate::context::{Closed, Context};
-use crate::fit::{Fit, alone, closed_of, cut, fit_of};
+use crate::context::{Closed, Context, Mode};
+use crate::fit::{Fit, alone, closed_of, cut, fit_of, is_c1, is_sign};
 use arrayvec::ArrayVec;
-use cept_codes::{Item, Reason, Said};
+use cept_codes::{Command, Item, Reason, Said};
 use std::marker::Model;
 
 /// Makes bytes at this place an item that says this, with a context behind it.
@@ -104,16 +104,18 @@ fn feed_misfit(
     listed_behind(item, next)
 }
 
-/// Takes the items off bytes that wait at this place and one byte more.
+/// Takes the items off bytes that wait at this place and one byte more, onto an empty list.
 fn feed(
     context: &mut Context,
     bytes: &mut ArrayVec<u8, 100>,
     at: u64,
     byte: u8,
-) -> ArrayVec<Item, 2>
+    items: &mut ArrayVec<Item, 2>,
+)
     requires waits { Waits context.old (at + length bytes.old.items) bytes.old.items }
     requires few { at + length bytes.old.items < 2 ^ 33 }
-    ensures items { result.items ≡ (read context.old at (bytes.old.items ++ byte ∷ [])).items }
+    requires empty { items.old.items ≡ [] }
+    ensures items { items.new.items ≡ (read context.old at (bytes.old.items ++ byte ∷ [])).items }
     ensures context { context.new ≡ (read context.old at (bytes.old.items ++ byte ∷ [])).context }
     ensures pending { bytes.new.items ≡ (read context.old at (bytes.old.items ++ byte ∷ [])).pending }
 {
@@ -121,13 +123,13 @@ fn feed(
     match fit_of(context, bytes.as_slice()) {
         Fit::Whole => {
             let closed = closed_of(context, bytes.as_slice());
-            listed(Some(take(context, bytes, at, closed)))
+            items.push(take(context, bytes, at, closed));
         }
-        Fit::Longer => ArrayVec::new(),
-        Fit::Open => ArrayVec::new(),
+        Fit::Longer => {}
+        Fit::Open => {}
         Fit::Misfit => {
             bytes.pop();
-            feed_misfit(context, bytes, at, byte)
+            *items = feed_misfit(context, bytes, at, byte);
         }
     }
 }
@@ -183,58 +185,44 @@ impl Parser {
         self.bytes.len()
     }
 
-    /// Reads one byte more, which is a whole unit or refused shape, where nothing is pending.
-    fn read_alone(&mut self, byte: u8, closed: Closed) -> ArrayVec<Item, 2>
+    /// Reads one byte more, which is a whole unit or refused shape, where nothing is pending. Its item goes on an empty list:
+    /// items are large, and this one is made where it stays.
+    #[inline]
+    fn read_alone(&mut self, byte: u8, closed: Closed, items: &mut ArrayVec<Item, 2>)
         requires idle { self.old.pending ≡ [] }
         requires whole { unit self.old.context (byte ∷ []) ≡ Some closed }
         requires end { grows self.old.context (byte ∷ []) ≡ false }
         requires few { self.old.place < 2 ^ 32 }
-        ensures items { result.items ≡ (reading_with self.old byte).items }
+        requires empty { items.old.items ≡ [] }
+        ensures items { items.new.items ≡ (reading_with self.old byte).items }
         ensures state { self.new ≡ state_after self.old byte }
         ensures few_pending { length self.new.pending ≤ 99 }
-        ensures valid { AreValid result.items }
-        ensures measured { AreMeasured result.items }
+        ensures valid { AreValid items.new.items }
+        ensures measured { AreMeasured items.new.items }
     {
         let at = self.place;
         self.place += 1;
         self.context = closed.next;
-        listed(Some(Item {
+        items.push(Item {
             at,
             len: 1,
             what: closed.said,
-        }))
+        });
     }
 
-    /// Reads one byte more.
-    fn read_byte(&mut self, byte: u8) -> ArrayVec<Item, 2>
-        requires { self.old.place < 2 ^ 32 }
-        ensures items { result.items ≡ (reading_with self.old byte).items }
+    /// Reads one byte more onto an empty list of items, whichever it is.
+    fn read_other(&mut self, byte: u8, items: &mut ArrayVec<Item, 2>)
+        requires few { self.old.place < 2 ^ 32 }
+        requires empty { items.old.items ≡ [] }
+        ensures items { items.new.items ≡ (reading_with self.old byte).items }
         ensures state { self.new ≡ state_after self.old byte }
         ensures few_pending { length self.new.pending ≤ 99 }
-        ensures valid { AreValid result.items }
-        ensures measured { AreMeasured result.items }
-    {
-        if self.bytes.is_empty() {
-            if let Some(closed) = alone(&self.context, byte) {
-                return self.read_alone(byte, closed);
-            }
-        }
-        self.read_other(byte)
-    }
-
-    /// Reads one byte more, whichever it is.
-    fn read_other(&mut self, byte: u8) -> ArrayVec<Item, 2>
-        requires { self.old.place < 2 ^ 32 }
-        ensures items { result.items ≡ (reading_with self.old byte).items }
-        ensures state { self.new ≡ state_after self.old byte }
-        ensures few_pending { length self.new.pending ≤ 99 }
-        ensures valid { AreValid result.items }
-        ensures measured { AreMeasured result.items }
+        ensures valid { AreValid items.new.items }
+        ensures measured { AreMeasured items.new.items }
     {
         let at = self.place - self.bytes.len() as u64;
-        let items = feed(&mut self.context, &mut self.bytes, at, byte);
+        feed(&mut self.context, &mut self.bytes, at, byte, items);
         self.place += 1;
-        items
     }
 
     /// Reads one byte more, and answers the items that it closes, in order. The caller pushes at most 2^32 bytes, and none
@@ -257,7 +245,57 @@ impl Parser {
         ensures valid { AreValid result.items }
         ensures measured { AreMeasured result.items }
     {
-        self.read_byte(byte)
+        let mut items = ArrayVec::new();
+        self.push_into(byte, &mut items);
+        items
+    }
+
+    /// As `push`, onto an empty list of the caller's. Items are large, and so they are made where they stay.
+    #[inline]
+    pub fn push_into(&mut self, byte: u8, list: &mut ArrayVec<Item, 2>)
+        requires running { self.old.finished ≡ false }
+        requires few { self.old.place < 2 ^ 32 }
+        requires empty { list.old.items ≡ [] }
+        ensures items { (b : List ℕ) → Leads b self.old → items (b ++ byte ∷ []) ≡ items b ++ list.new.items }
+        ensures leads { (b : List ℕ) → Leads b self.old → Leads (b ++ byte ∷ []) self.new }
+        ensures answer { list.new.items ≡ (reading_with self.old byte).items }
+        ensures state { self.new ≡ state_after self.old byte }
+        ensures place { self.new.place ≡ self.old.place + 1 }
+        ensures still_running { self.new.finished ≡ false }
+        ensures few_pending { length self.new.pending ≤ 99 }
+        ensures valid { AreValid list.new.items }
+        ensures measured { AreMeasured list.new.items }
+    {
+        self.read_byte(byte, list);
+    }
+
+    /// Reads one byte more onto an empty list of items.
+    #[inline]
+    fn read_byte(&mut self, byte: u8, items: &mut ArrayVec<Item, 2>)
+        requires few { self.old.place < 2 ^ 32 }
+        requires empty { items.old.items ≡ [] }
+        ensures items { items.new.items ≡ (reading_with self.old byte).items }
+        ensures state { self.new ≡ state_after self.old byte }
+        ensures few_pending { length self.new.pending ≤ 99 }
+        ensures valid { AreValid items.new.items }
+        ensures measured { AreMeasured items.new.items }
+    {
+        if self.bytes.is_empty() {
+            if is_sign(&self.context, byte) {
+                let said = Said::Command(Command::Graphic(byte));
+                let closed = self.context.closed(Mode::Text, said);
+                return self.read_alone(byte, closed, items);
+            }
+            if is_c1(byte) {
+                let said = Said::Command(Command::C1(byte - 0x80));
+                let closed = self.context.closed(Mode::Text, said);
+                return self.read_alone(byte, closed, items);
+            }
+            if let Some(closed) = alone(&self.context, byte) {
+                return self.read_alone(byte, closed, items);
+            }
+        }
+        self.read_other(byte, items);
     }
 
     /// Closes the input: what is pending is an item, its command where the bytes are a whole unit, else truncated.

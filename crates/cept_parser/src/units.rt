@@ -420,7 +420,7 @@ fn service_closed(context: &Context, bytes: &[u8]) -> Closed
     ensures { result ≡ service_told context.now bytes.now }
 {
     match bytes {
-        [] => context.closed(Mode::Text, Said::Refused(Reason::BadParameter)),
+        [] => context.closed(Mode::Skip, Said::Refused(Reason::BadParameter)),
         [byte, rest @ ..] => service_closed_behind(context, *byte, rest),
     }
 }

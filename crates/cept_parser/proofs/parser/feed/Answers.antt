@@ -20,7 +20,7 @@ item_is c =
 
 pub returns-in-Whole-clause-items : goal.returns-in-Whole-clause-items
 returns-in-Whole-clause-items c =
-    c.listed.ensures ∙ ap (λ (i : Item). i ∷ []) (item_is c.before) ∙ ap (λ (r : Reading). r.items) (sym (whole_reading c.before))
+    c.push-in-Whole.ensures.items ∙ ap (λ (v : List Item). v ++ c.take.result ∷ []) c.requires.empty ∙ ap (λ (i : Item). i ∷ []) (item_is c.before) ∙ ap (λ (r : Reading). r.items) (sym (whole_reading c.before))
 
 pub returns-in-Whole-clause-context : goal.returns-in-Whole-clause-context
 returns-in-Whole-clause-context c = c.take.ensures.context ∙ ap (λ (r : Reading). r.context) (sym (whole_reading c.before))
@@ -30,7 +30,7 @@ returns-in-Whole-clause-pending c = c.take.ensures.pending ∙ ap (λ (r : Readi
 
 pub returns-in-Longer-clause-items : goal.returns-in-Longer-clause-items
 returns-in-Longer-clause-items c =
-    c.new.ensures ∙ ap (λ (r : Reading). r.items) (sym (read_as_longer c.args.context.now c.args.at _ _ (c.as_slice.ensures.value ∙ c.push.ensures.items) c.in-Longer.ensures))
+    c.requires.empty ∙ ap (λ (r : Reading). r.items) (sym (read_as_longer c.args.context.now c.args.at _ _ (c.as_slice.ensures.value ∙ c.push.ensures.items) c.in-Longer.ensures))
 
 pub returns-in-Longer-clause-context : goal.returns-in-Longer-clause-context
 returns-in-Longer-clause-context c =
@@ -42,7 +42,7 @@ returns-in-Longer-clause-pending c =
 
 pub returns-in-Open-clause-items : goal.returns-in-Open-clause-items
 returns-in-Open-clause-items c =
-    c.new-in-Open.ensures ∙ ap (λ (r : Reading). r.items) (sym (read_as_open c.args.context.now c.args.at _ _ (c.as_slice.ensures.value ∙ c.push.ensures.items) c.in-Open.ensures))
+    c.requires.empty ∙ ap (λ (r : Reading). r.items) (sym (read_as_open c.args.context.now c.args.at _ _ (c.as_slice.ensures.value ∙ c.push.ensures.items) c.in-Open.ensures))
 
 pub returns-in-Open-clause-context : goal.returns-in-Open-clause-context
 returns-in-Open-clause-context c =

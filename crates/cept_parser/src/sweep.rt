@@ -1,0 +1,232 @@
+//! Every page of one and of two bytes, and every tail of two bytes behind each mode and each beginning, against the tables of
+//! the grammar in `tables.rt`.
+
+ghost use Rattle.std.specs.Prelude.{◌<◌, length};
+
+use crate::parser::Parser;
+use crate::tables::{Row, goes_on, kind_behind, row};
+use crate::tests::items_of;
+use crate::{ColourKind, Mode};
+use arrayvec::ArrayVec;
+use cept_codes::{Item, Reason, Said};
+use std::alloc::Global;
+use std::process::Abort;
+use std::test::Fail;
+
+/// A plain byte.
+fn is_left(byte: u8) -> bool {
+    matches!(byte, 0x20..=0x7F)
+}
+
+/// The longest beginning that is a row of the tables.
+fn longest(mode: Mode, kind: ColourKind, bytes: &[u8]) -> Option<(usize, Row)> {
+    for shorter in 0..bytes.len() {
+        let len = bytes.len() - shorter;
+        if let Some(found) = row(mode, kind, &bytes[..len]) {
+            return Some((len, found));
+        }
+    }
+    None
+}
+
+/// Bytes of which no beginning is a row: those before the next breaker are interrupted, else all are truncated.
+fn cut_off(bytes: &[u8]) -> (usize, Row) {
+    for (len, byte) in bytes.iter().enumerate() {
+        if len > 0 && !is_left(*byte) {
+            return (len, (Said::Refused(Reason::Interrupted), Mode::Text));
+        }
+    }
+    (bytes.len(), (Said::Refused(Reason::Truncated), Mode::Text))
+}
+
+/// The items of a page that ends, by the tables.
+fn expected(alloc: Global, page: &[u8]) -> Result<Vec<Item>, Fail>
+    requires { length page.now < 20 }
+{
+    let mut items = Vec::new(alloc);
+    let mut mode = Mode::Text;
+    let mut kind = ColourKind::ColourTable;
+    let mut next = 0;
+    for at in 0..page.len() {
+        if at < next {
+            continue;
+        }
+        if !is_left(page[at]) {
+            mode = Mode::Text;
+        }
+        let rest = &page[at..];
+        let (len, (what, behind)) = match longest(mode, kind, rest) {
+            Some(found) => found,
+            None => cut_off(rest),
+        };
+        items.push(Item {
+            at: at as u64,
+            len: u8::try_from(len).unwrap_or(0),
+            what,
+        })?;
+        mode = behind;
+        kind = kind_behind(kind, what);
+        next = at.saturating_add(len);
+    }
+    Ok(items)
+}
+
+/// How many bytes of a page are still pending at its end: those of a last item that is truncated, or that may go on.
+fn left_of(page: &[u8], items: &[Item]) -> usize {
+    match items {
+        [.., last] => {
+            let len = last.len as usize;
+            let is_left = last.what == Said::Refused(Reason::Truncated)
+                || len <= page.len() && goes_on(&page[page.len() - len..]);
+            if is_left { len } else { 0 }
+        }
+        [] => 0,
+    }
+}
+
+/// How many bytes these items have, which are the first of a page.
+fn end_of(items: &[Item]) -> u64 {
+    match items {
+        [.., last] => last.at.wrapping_add(u64::from(last.len)),
+        [] => 0,
+    }
+}
+
+/// The items of a page that ends, where somebody looks at each byte how far the parser is.
+fn watched(rt: &impl Abort, alloc: Global, page: &[u8], left: usize) -> Result<Vec<Item>, Fail>
+    requires { length page.now < 20 }
+{
+    let mut parser = Parser::new();
+    let mut items = Vec::new(alloc);
+    let mut closed = ArrayVec::new();
+    let mut pushed = 0;
+    for byte in page {
+        closed.clear();
+        parser.push_into(*byte, &mut closed);
+        items.extend_from_slice(closed.as_slice())?;
+        pushed += 1;
+        let end = end_of(items.as_slice()).wrapping_add(parser.pending() as u64);
+        assert_eq!(rt; parser.place(), pushed, "of {page:?}");
+        assert_eq!(rt; end, pushed, "of {page:?}");
+    }
+    assert_eq!(rt; parser.pending(), left, "of {page:?}");
+    let closed = parser.finish();
+    items.extend_from_slice(closed.as_slice())?;
+    Ok(items)
+}
+
+/// A page of these two parts gives the items of the tables, whether or not somebody looks at each byte.
+fn check(rt: &impl Abort, alloc: Global, beginning: &[u8], tail: &[u8]) -> Result<(), Fail>
+    requires beginning { length beginning.now < 16 }
+    requires tail { length tail.now < 3 }
+{
+    let mut page = Vec::new(alloc);
+    page.extend_from_slice(beginning)?;
+    page.extend_from_slice(tail)?;
+    let page = page.as_slice();
+    let want = expected(alloc, page)?;
+    let left = left_of(page, want.as_slice());
+    let items = items_of(alloc, page)?;
+    assert_eq!(rt; items.as_slice(), want.as_slice(), "of {page:?}");
+    let items = watched(rt, alloc, page, left)?;
+    assert_eq!(rt; items.as_slice(), want.as_slice(), "of {page:?}");
+    Ok(())
+}
+
+/// All tails of at most two bytes behind a beginning.
+fn sweep(rt: &impl Abort, alloc: Global, beginning: &[u8]) -> Result<(), Fail>
+    requires { length beginning.now < 16 }
+{
+    check(rt, alloc, beginning, &[])?;
+    for first in 0..256u16 {
+        check(rt, alloc, beginning, &[first as u8])?;
+        for second in 0..256u16 {
+            check(rt, alloc, beginning, &[first as u8, second as u8])?;
+        }
+    }
+    Ok(())
+}
+
+#[test]
+fn pages_of_two_bytes(rt: HostRuntime) -> Result<(), Fail> {
+    sweep(&rt, rt.alloc(), &[])
+}
+
+#[test]
+fn tails_in_each_mode(rt: HostRuntime) -> Result<(), Fail> {
+    // Text, TableRun(0), TableRun(31), TableRun(32), DrcsRun(21), DrcsRun(7E), Skip.
+    sweep(&rt, rt.alloc(), &[0x41])?;
+    sweep(&rt, rt.alloc(), &[0x1F, 0x26, 0x30, 0x30])?;
+    sweep(&rt, rt.alloc(), &[0x1F, 0x26, 0x33, 0x31])?;
+    sweep(&rt, rt.alloc(), &[0x1F, 0x26, 0x33, 0x31, 0x52, 0x7F])?;
+    sweep(&rt, rt.alloc(), &[0x1F, 0x23, 0x21])?;
+    sweep(&rt, rt.alloc(), &[0x1F, 0x23, 0x7E])?;
+    sweep(&rt, rt.alloc(), &[0x1F, 0x26, 0x21])
+}
+
+#[test]
+fn tails_in_the_dclut(rt: HostRuntime) -> Result<(), Fail> {
+    // DclutRun(0), DclutRun(3), DclutRun(4), and 1F 26 x where the kind is the DCLUT.
+    for (tens, ones) in [(0x30, 0x30), (0x30, 0x33)] {
+        let run = [0x1F, 0x26, 0x20, 0x22, 0x1F, 0x26, tens, ones];
+        sweep(&rt, rt.alloc(), &run)?;
+    }
+    let full = [0x1F, 0x26, 0x20, 0x22, 0x1F, 0x26, 0x30, 0x33, 0x5F];
+    sweep(&rt, rt.alloc(), &full)?;
+    sweep(&rt, rt.alloc(), &[0x1F, 0x26, 0x20, 0x22, 0x1F, 0x26, 0x30])
+}
+
+#[test]
+fn tails_behind_escape(rt: HostRuntime) -> Result<(), Fail> {
+    sweep(&rt, rt.alloc(), &[0x12])?;
+    sweep(&rt, rt.alloc(), &[0x1B])?;
+    sweep(&rt, rt.alloc(), &[0x1B, 0x20])?;
+    sweep(&rt, rt.alloc(), &[0x1B, 0x20, 0x20])?;
+    sweep(&rt, rt.alloc(), &[0x1B, 0x20, 0x20, 0x20])?;
+    sweep(&rt, rt.alloc(), &[0x1B, 0x23, 0x20])?;
+    sweep(&rt, rt.alloc(), &[0x1B, 0x23, 0x21])?;
+    sweep(&rt, rt.alloc(), &[0x1B, 0x2B])?;
+    sweep(&rt, rt.alloc(), &[0x1B, 0x5B])
+}
+
+#[test]
+fn tails_behind_csi(rt: HostRuntime) -> Result<(), Fail> {
+    sweep(&rt, rt.alloc(), &[0x9B])?;
+    for number in [0x30, 0x31, 0x32, 0x33, 0x36, 0x37, 0x3F] {
+        sweep(&rt, rt.alloc(), &[0x9B, number])?;
+    }
+    sweep(&rt, rt.alloc(), &[0x9B, 0x31, 0x3B])?;
+    sweep(&rt, rt.alloc(), &[0x9B, 0x32, 0x34, 0x3B])?;
+    sweep(&rt, rt.alloc(), &[0x9B, 0x32, 0x34, 0x3B, 0x32])?;
+    sweep(&rt, rt.alloc(), &[0x9B, 0x30, 0x30, 0x30, 0x30, 0x30, 0x30])?;
+    sweep(
+        &rt,
+        rt.alloc(),
+        &[0x9B, 0x30, 0x30, 0x30, 0x30, 0x30, 0x30, 0x30],
+    )?;
+    sweep(
+        &rt,
+        rt.alloc(),
+        &[0x1B, 0x5B, 0x20, 0x20, 0x20, 0x20, 0x20, 0x20, 0x20],
+    )
+}
+
+#[test]
+fn tails_behind_us(rt: HostRuntime) -> Result<(), Fail> {
+    sweep(&rt, rt.alloc(), &[0x1F])?;
+    sweep(&rt, rt.alloc(), &[0x1F, 0x23])?;
+    sweep(&rt, rt.alloc(), &[0x1F, 0x23, 0x20])?;
+    sweep(&rt, rt.alloc(), &[0x1F, 0x23, 0x20, 0x28, 0x40])?;
+    sweep(&rt, rt.alloc(), &[0x1F, 0x26])?;
+    sweep(&rt, rt.alloc(), &[0x1F, 0x26, 0x20])?;
+    for digit in [0x30, 0x33, 0x34, 0x39] {
+        sweep(&rt, rt.alloc(), &[0x1F, 0x26, digit])?;
+    }
+    sweep(&rt, rt.alloc(), &[0x1F, 0x2D])?;
+    sweep(&rt, rt.alloc(), &[0x1F, 0x2F])?;
+    sweep(&rt, rt.alloc(), &[0x1F, 0x2F, 0x40])?;
+    for row in [0x40, 0x41, 0x58, 0x59, 0x7F] {
+        sweep(&rt, rt.alloc(), &[0x1F, row])?;
+    }
+    Ok(())
+}
