@@ -21,11 +21,12 @@ pub all_taken : (whole : List ℕ) (place : ℕ) → drop place whole ≡ [] →
 all_taken whole place none =
     sym (append-nil (take place whole)) ∙ ap (λ l. take place whole ++ l) (sym none) ∙ take-append-drop place whole
 
+-- one text behind the other, where the bytes before are told
 pub append_known-append_known : (known : Option (List ℕ)) (a b : List ℕ) → append_known (append_known known a) b ≡ append_known known (a ++ b)
 append_known-append_known None a b = refl
 append_known-append_known (Some xs) a b = ap Some (append_assoc xs a b)
 
-append_known-nil : (known : Option (List ℕ)) → known ≡ append_known known []
+pub append_known-nil : (known : Option (List ℕ)) → known ≡ append_known known []
 append_known-nil None = refl
 append_known-nil (Some xs) = ap Some (sym (append-nil xs))
 

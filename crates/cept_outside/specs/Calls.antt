@@ -1,4 +1,4 @@
--- Calls that are to fail: they are numbered from 1 as they are made, and some numbers are kept.
+-- Calls that are to fail: they are numbered from 1 as they are made, and some numbers are kept. This project's own.
 use Rattle.std.specs.Prelude.{ℕ, ◌+◌, ◌-◌, ◌^◌, min, List, [], ◌∷◌, ◌++◌, length, nat_le, nat_lt, count_by, if◌then◌else◌}
 
 -- how many of the numbers are reached: the count of calls is at least that number

@@ -1,4 +1,4 @@
--- Faults of the outside: they are counted, and no call answers a failure without one.
+-- Faults of the outside: they are counted, and no call answers a failure without one. This project's own.
 use Rattle.std.specs.Prelude.{ℕ, ◌+◌, ◌-◌, ◌^◌, ◌≤◌, min, Result, OnErr}
 
 -- a count of faults rose, or it stands at the greatest u64

@@ -1,4 +1,4 @@
--- A shelf of files of the machine.
+-- A shelf of files of the machine. This project's own.
 use Rattle.std.specs.Prelude.{ℕ, None}
 use Rattle.cept_outside.specs.ShelfState.{ShelfState}
 

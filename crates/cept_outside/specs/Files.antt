@@ -1,7 +1,8 @@
--- Files in memory under their names.
+-- Files in memory under their names. This project's own.
 use Rattle.std.specs.Prelude.{ℕ, Bool, List, [], Option, slice_get, find, option_map, option_and_then, unwrap_or, string_bytes, bytes_eq}
 use Rattle.cept_outside.specs.declared.rack.StoredFile.{StoredFile}
 
+-- the file has this name
 abbrev pub has_name : List ℕ → StoredFile → Bool
 has_name name file = bytes_eq (string_bytes file.name) name
 
@@ -17,5 +18,6 @@ chosen files place = option_and_then (slice_get files) place
 abbrev pub chosen_bytes : List StoredFile → Option ℕ → List ℕ
 chosen_bytes files place = unwrap_or (option_map (λ (file : StoredFile). file.bytes.items) (chosen files place)) []
 
+-- its name, none where no file is chosen
 abbrev pub chosen_name : List StoredFile → Option ℕ → Option (List ℕ)
 chosen_name files place = option_map (λ (file : StoredFile). string_bytes file.name) (chosen files place)

@@ -1,4 +1,4 @@
--- A shelf in memory, whose calls fail where they are told to and at unknown names.
+-- A shelf in memory, whose calls fail where they are told to and at unknown names. This project's own.
 use Rattle.std.specs.Prelude.{ℕ, List}
 use Rattle.cept_outside.specs.declared.mem_shelf.MemShelf.{MemShelf}
 use Rattle.cept_outside.specs.Calls.{faults_of}

@@ -1,4 +1,4 @@
--- A shelf in memory that never fails.
+-- A shelf in memory that never fails. This project's own.
 use Rattle.cept_outside.specs.declared.quiet_shelf.QuietShelf.{QuietShelf}
 use Rattle.cept_outside.specs.Rack.{told}
 use Rattle.cept_outside.specs.ShelfState.{ShelfState}

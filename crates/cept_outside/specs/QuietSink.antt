@@ -1,4 +1,4 @@
--- A sink that counts its bytes and never fails.
+-- A sink that counts its bytes and never fails. This project's own.
 use Rattle.std.specs.Prelude.{ℕ, None}
 use Rattle.cept_outside.specs.declared.quiet_sink.QuietSink.{QuietSink}
 use Rattle.cept_outside.specs.SinkState.{SinkState}

@@ -1,4 +1,4 @@
--- What a rack of files tells as a shelf.
+-- What a rack of files tells as a shelf. This project's own.
 use Rattle.std.specs.Prelude.{ℕ, List, drop, Option, Some}
 use Rattle.cept_outside.specs.declared.rack.Rack.{Rack}
 use Rattle.cept_outside.specs.Files.{bytes_of, chosen_bytes, chosen_name}

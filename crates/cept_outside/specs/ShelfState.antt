@@ -1,4 +1,5 @@
--- A shelf: files under names, one of them selected at a time, whose bytes are taken from the front.
+-- A shelf: files under names, one of them selected at a time, whose bytes are taken from the front. This
+-- project's own.
 use Rattle.std.specs.Prelude.{◌≡◌, ℕ, ◌+◌, ◌-◌, ◌^◌, ◌≤◌, min, true, List, [], take, drop, length, Option, Some, None, option_and_then, is_some, IsSome, Result, OnOk, OnErr, IfOk}
 use Rattle.std.specs.Io.KnownBytes.{prepend_known}
 
@@ -10,11 +11,11 @@ pub record ShelfState : Type 0 where
   pub selected : Option (Option (List ℕ))
   -- the selected bytes that are left, where that is told
   pub left : Option (List ℕ)
-  -- how many bytes were taken since the selection
+  -- how many bytes were taken since the selection, up to the greatest u64
   pub taken : ℕ
-  -- how many selections missed their file
+  -- how many selections missed their file: a count that never falls
   pub missed : ℕ
-  -- how many calls failed
+  -- the count of faults, which never falls: no call fails where it doesn't rise
   pub faults : ℕ
 
 -- a shelf that tells that it has no file

@@ -1,4 +1,4 @@
--- A sink: bytes are put at its end, and flushed.
+-- A sink: bytes are put at its end, and flushed. This project's own.
 use Rattle.std.specs.Prelude.{◌≡◌, ℕ, ◌<◌, ◌≤◌, Bool, true, false, List, [], take, length, Option, Result, OnOk, OnErr, IfOk}
 use Rattle.std.specs.Io.KnownBytes.{append_known}
 
@@ -8,7 +8,7 @@ pub record SinkState : Type 0 where
   pub bytes : Option (List ℕ)
   -- bytes were put since the last flush that succeeded
   pub unflushed : Bool
-  -- how many calls failed
+  -- the count of faults, which never falls: no call fails where it doesn't rise
   pub faults : ℕ
 
 -- the front of the piece is appended, at least a byte; a failure appends nothing

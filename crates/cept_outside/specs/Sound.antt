@@ -1,4 +1,4 @@
--- A rack of files is told soundly.
+-- A rack of files is told soundly. This project's own.
 use Rattle.std.proofs.Common.{◌≡◌, ℕ, ◌≤◌, List, [], Option, Some, None, option_map, unwrap_or, string_bytes, refl, drop, length, zero, suc, sym, ap, subst}
 use Rattle.std.proofs.Math.Nat.{not-suc-le-zero}
 use Rattle.std.proofs.lemmas.Option.{none-some, same_Some}
@@ -8,23 +8,28 @@ use Rattle.cept_outside.specs.Files.{bytes_of, chosen}
 use Rattle.cept_outside.specs.Rack.{told}
 use Rattle.cept_outside.specs.ShelfState.{IsSound}
 
+-- the bytes of a file, none where there is no file
 abbrev bytes_if : Option StoredFile → List ℕ
 bytes_if o = unwrap_or (option_map (λ (file : StoredFile). file.bytes.items) o) []
 
+-- the name of a file, none where there is no file
 abbrev name_if : Option StoredFile → Option (List ℕ)
 name_if o = option_map (λ (file : StoredFile). string_bytes file.name) o
 
+-- a chosen file that is found under its name has the bytes that are found
 left_is : (files : List StoredFile) (at : ℕ) (o : Option StoredFile) → ((file : StoredFile) → o ≡ Some file → bytes_of files (string_bytes file.name) ≡ Some file.bytes.items)
     → (name : List ℕ) → name_if o ≡ Some name → (bytes : List ℕ) × (bytes_of files name ≡ Some bytes) × (drop at (bytes_if o) ≡ drop at bytes)
 left_is files at None named name e = absurd (none-some name e)
 left_is files at (Some file) named name e =
     (file.bytes.items, subst (λ n. bytes_of files n ≡ Some file.bytes.items) (same_Some (string_bytes file.name) name e) (named file refl), refl)
 
+-- where no file is chosen no bytes are left, and none were taken
 nothing_is : (at : ℕ) (o : Option StoredFile) → at ≤ length (bytes_if o) → name_if o ≡ None → (drop at (bytes_if o) ≡ []) × (at ≡ 0)
 nothing_is zero None within e = (refl, refl)
 nothing_is (suc n) None within e = absurd (not-suc-le-zero within)
 nothing_is at (Some file) within e = absurd (none-some (string_bytes file.name) (sym e))
 
+-- what a rack tells of its selection agrees with its files
 pub told_sound : (rack : Rack) (missed faults : ℕ) → IsSound (told rack missed faults)
 told_sound rack missed faults = record {
   together = refl;

@@ -1,4 +1,4 @@
--- A sink that hands its bytes on to a writer, and holds some of them back for a while.
+-- A sink that hands its bytes on to a writer, and holds some of them back for a while. This project's own.
 use Rattle.std.specs.Prelude.{ℕ, ◌-◌, List, length, Option, None, drop}
 use Rattle.std.specs.Io.KnownBytes.{append_known}
 use Rattle.cept_outside.specs.declared.std_sink.StdSink.{StdSink}

@@ -1,9 +1,10 @@
--- A shelf that tells nothing is told soundly.
+-- A shelf that tells nothing is told soundly. This project's own.
 use Rattle.std.specs.Prelude.{ℕ, List, Option, Some, None, refl}
 use Rattle.std.proofs.lemmas.Option.{none-some}
 use Rattle.cept_outside.specs.FileShelf.{untold_shelf}
 use Rattle.cept_outside.specs.ShelfState.{IsSound}
 
+-- a shelf that tells no files and no selection tells nothing false
 pub untold_sound : (taken faults : ℕ) → IsSound (untold_shelf taken faults)
 untold_sound taken faults = record {
   together = refl;

@@ -2,7 +2,8 @@
 use Rattle.std.proofs.Common.{◌≡◌, ℕ, ◌+◌, ◌-◌, ◌<◌, zero, suc, List, [], ◌++◌, length, take, refl, sym, ◌∙◌, ap, subst, arith, append_assoc, append-nil, add-zero, add-one}
 use Rattle.std.specs.List.{flat_map, range_with_len}
 use Rattle.cept_outside.specs.SinkState.{SinkState, Gains}
-use Rattle.cept_report.proofs.Putting.{Gains-nothing, Gains-more, Gains-part}
+use Rattle.cept_outside.proofs.Known.{Gains-nil, Gains-append}
+use Rattle.cept_report.proofs.Putting.{Gains-part}
 
 -- the pieces of n numbers from a on
 unfoldable pub pieces : (ℕ → List ℕ) → ℕ → ℕ → List ℕ
@@ -42,12 +43,12 @@ pieces-go_on f a n m h =
 
 -- no piece was put
 pub Gains-no_piece : (s : SinkState) (f : ℕ → List ℕ) (a : ℕ) → Gains s (pieces f a 0) s
-Gains-no_piece s f a = subst (λ (l : List ℕ). Gains s l s) (sym (pieces-none f a)) (Gains-nothing s)
+Gains-no_piece s f a = subst (λ (l : List ℕ). Gains s l s) (sym (pieces-none f a)) (Gains-nil s)
 
 -- the next piece was put
 pub Gains-piece : (s t u : SinkState) (f : ℕ → List ℕ) (a n : ℕ) (piece : List ℕ) → piece ≡ f (a + n) → Gains s (pieces f a n) t → Gains t piece u → Gains s (pieces f a (n + 1)) u
 Gains-piece s t u f a n piece is before now =
-    subst (λ (l : List ℕ). Gains s l u) (ap (λ l. pieces f a n ++ l) is ∙ sym (pieces-more f a n)) (Gains-more s t u (pieces f a n) piece before now)
+    subst (λ (l : List ℕ). Gains s l u) (ap (λ l. pieces f a n ++ l) is ∙ sym (pieces-more f a n)) (Gains-append s t u (pieces f a n) piece before now)
 
 -- a part of the next piece was put
 pub Gains-piece_failed : (s t u : SinkState) (f : ℕ → List ℕ) (a n m : ℕ) (piece : List ℕ) → n < m → piece ≡ f (a + n) → Gains s (pieces f a n) t → (k : ℕ) × (k < length piece) × Gains t (take k piece) u

@@ -7,6 +7,7 @@ use Rattle.cept_codes.specs.declared.look.Look.{Look}
 use Rattle.cept_codes.specs.Place.{Place, number, place_of}
 use Rattle.cept_codes.proofs.Laws.{place_of-number, number-lt}
 use Rattle.cept_outside.specs.SinkState.{SinkState, Gains}
+use Rattle.cept_outside.proofs.Known.{Gains-nil, Gains-append}
 use Rattle.cept_profile.specs.Changes.{look_at, listed, listed_below}
 use Rattle.cept_profile.proofs.Laws.{listed_below-whole, listed_below-next, listed_below-unmarked, listed_below-rest}
 use Rattle.cept_repaint.specs.Marks.{is_marked, IsFirstFrom}
@@ -25,37 +26,6 @@ change_lines-append label [] ys = refl
 change_lines-append label (x ∷ xs) ys =
     ap (λ rest. change_line label x.0 x.1 ++ rest) (change_lines-append label xs ys) ∙ sym (append_assoc (change_line label x.0 x.1) (change_lines label xs) (change_lines label ys))
 
-append_known-twice : (known : Option (List ℕ)) (a b : List ℕ) → append_known (append_known known a) b ≡ append_known known (a ++ b)
-append_known-twice None a b = refl
-append_known-twice (Some xs) a b = ap Some (append_assoc xs a b)
-
-append_known-nothing : (known : Option (List ℕ)) → append_known known [] ≡ known
-append_known-nothing None = refl
-append_known-nothing (Some xs) = ap Some (append-nil xs)
-
--- nothing was put
-pub Gains-nothing : (s : SinkState) → Gains s [] s
-Gains-nothing s = record { bytes = sym (append_known-nothing s.bytes); unflushed = λ h. absurd (omega arith); unflushed_stays = λ _. refl }
-
-is_unflushed : (s t u : SinkState) (a b : List ℕ) → Gains s a t → Gains t b u → 0 < length (a ++ b) → u.unflushed ≡ true
-is_unflushed s t u [] [] ga gb h = absurd (omega arith)
-is_unflushed s t u (x ∷ a) [] ga gb h = gb.unflushed_stays refl ∙ ga.unflushed (omega arith)
-is_unflushed s t u a (x ∷ b) ga gb h = gb.unflushed (omega arith)
-
-stays_unflushed : (s t u : SinkState) (a b : List ℕ) → Gains s a t → Gains t b u → a ++ b ≡ [] → u.unflushed ≡ s.unflushed
-stays_unflushed s t u [] [] ga gb h = gb.unflushed_stays refl ∙ ga.unflushed_stays refl
-stays_unflushed s t u [] (x ∷ b) ga gb h = cc
-stays_unflushed s t u (x ∷ a) b ga gb h = cc
-
--- a part was put, and then another
-pub Gains-more : (s t u : SinkState) (a b : List ℕ) → Gains s a t → Gains t b u → Gains s (a ++ b) u
-Gains-more s t u a b ga gb =
-    record {
-      bytes = gb.bytes ∙ ap (λ known. append_known known b) ga.bytes ∙ append_known-twice s.bytes a b;
-      unflushed = is_unflushed s t u a b ga gb;
-      unflushed_stays = stays_unflushed s t u a b ga gb;
-    }
-
 -- a part of one line more is a part of the whole text
 pub Gains-part : (s t u : SinkState) (whole done line rest : List ℕ) → whole ≡ (done ++ line) ++ rest → Gains s done t → (n : ℕ) × (n < length line) × Gains t (take n line) u
     → (n : ℕ) × (n < length whole) × Gains s (take n whole) u
@@ -65,7 +35,7 @@ Gains-part s t u whole done line rest is gs part =
     ap (take (length done + n)) (is ∙ append_assoc done line rest) ∙ take-append-add done (line ++ rest) n ∙ ap (λ l. done ++ l) (take-append-le n line rest (omega (arith, part.1))) in (
       length done + n,
       (let below : length done + n < length whole = omega (arith, part.1, ap length is, length-append (done ++ line) rest, length-append done line) in below),
-      subst (λ (l : List ℕ). Gains s l u) (sym e) (Gains-more s t u done (take n line) gs part.2),
+      subst (λ (l : List ℕ). Gains s l u) (sym e) (Gains-append s t u done (take n line) gs part.2),
     )
 
 -- the lines up to the first marked place behind a bound
@@ -81,7 +51,7 @@ lines-next marks g label from p first =
 pub Gains-next : (s t u : SinkState) (marks : List Bool) (g : List (List Look)) (label from : ℕ) (p : Place) (line : List ℕ) → IsFirstFrom marks from p → line ≡ change_line label p (look_at g p)
     → Gains s (change_lines label (listed_below marks g from)) t → Gains t line u → Gains s (change_lines label (listed_below marks g (number p.row p.column + 1))) u
 Gains-next s t u marks g label from p line first is before now =
-    subst (λ (l : List ℕ). Gains s l u) (ap (λ l. change_lines label (listed_below marks g from) ++ l) is ∙ sym (lines-next marks g label from p first)) (Gains-more s t u _ line before now)
+    subst (λ (l : List ℕ). Gains s l u) (ap (λ l. change_lines label (listed_below marks g from) ++ l) is ∙ sym (lines-next marks g label from p first)) (Gains-append s t u _ line before now)
 
 -- the text of all marked places goes on behind the next one
 text-goes_on : (marks : List Bool) (g : List (List Look)) (label from : ℕ) (p : Place) → IsFirstFrom marks from p
@@ -113,4 +83,4 @@ Gains-all s t marks g label from within none before =
 -- before the first place nothing is listed
 pub Gains-none : (s : SinkState) (marks : List Bool) (g : List (List Look)) (label : ℕ) → Gains s (change_lines label (listed_below marks g 0)) s
 unfolding listed_below change_lines
-Gains-none s marks g label = Gains-nothing s
+Gains-none s marks g label = Gains-nil s

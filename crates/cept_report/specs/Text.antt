@@ -55,6 +55,7 @@ abbrev pub paint_text : Paint → List ℕ
 paint_text (paints.Ink c) = hex_digit c.r ∷ hex_digit c.g ∷ hex_digit c.b ∷ []
 paint_text paints.Video = codes "---"
 
+-- the letter of a flash, or the digit of a fast one
 abbrev pub flash_letter : Flash → ℕ
 flash_letter flashes.Steady = 83
 flash_letter flashes.Plain = 70
@@ -85,6 +86,7 @@ unfoldable pub change_lines : ℕ → List (Place × Look) → List ℕ
 change_lines label [] = []
 change_lines label (x ∷ xs) = change_line label x.0 x.1 ++ change_lines label xs
 
+-- the number of a reason
 unfoldable pub reason_number : Reason → ℕ
 reason_number reasons.UnassignedControl = 1
 reason_number reasons.UnknownEscape = 2
@@ -94,6 +96,7 @@ reason_number reasons.BadParameter = 5
 reason_number reasons.Interrupted = 6
 reason_number reasons.Truncated = 7
 
+-- the name of a reason
 unfoldable pub reason_name : Reason → List ℕ
 reason_name reasons.UnassignedControl = codes "UnassignedControl"
 reason_name reasons.UnknownEscape = codes "UnknownEscape"

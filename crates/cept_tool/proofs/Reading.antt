@@ -16,11 +16,13 @@ use Rattle.cept_tool.specs.declared.page.Stop.TheVariants as stops
 use Rattle.cept_tool.specs.declared.run.Status.{Status}
 use Rattle.cept_tool.specs.declared.run.Status.TheVariants as statuses
 use Rattle.cept_tool.specs.declared.words.Order.{Order}
+use Rattle.cept_tool.specs.declared.words.Order.TheVariants as orders
 use Rattle.cept_tool.specs.Events.{applied, final_text, told_behind}
 use Rattle.cept_tool.specs.Run.{Reports, status_of}
-use Rattle.cept_tool.specs.Told.{HasRead, HasTold}
-use Rattle.cept_tool.specs.Words.{Form, ReadsGlass}
-use Rattle.cept_tool.proofs.Standing.{HasTold-order, HasTold-start, append_known-twice}
+use Rattle.cept_tool.specs.Told.{HasRead, HasTold, HasBegun}
+use Rattle.cept_tool.specs.Words.{Form, ReadsGlass, is_painting}
+use Rattle.cept_outside.proofs.Known.{append_known-append_known, left_after}
+use Rattle.cept_tool.proofs.Standing.{HasTold-order, HasTold-start}
 
 -- so many bytes of the page were taken, read and told
 pub record HasCome (page : List ℕ) (place : ℕ) (shelf : ShelfState) (decoder : Decoder) (order : Order) (sink now : SinkState) (glass shown : GlassState) : Type 0 where
@@ -28,24 +30,17 @@ pub record HasCome (page : List ℕ) (place : ℕ) (shelf : ShelfState) (decoder
   pub read : HasRead decoder (take place page)
   pub told : HasTold order (items (take place page)) sink now glass shown
 
--- what is told to be left, where it is told that these bytes were before it
-left_behind : (known : Option (List ℕ)) (whole piece : List ℕ) → Some whole ≡ prepend_known piece known → (rest : List ℕ) × (known ≡ Some rest) × (whole ≡ piece ++ rest)
-left_behind None whole piece e = cc
-left_behind (Some rest) whole piece e = (rest, refl, let same : whole ≡ piece ++ rest = cc in same)
-
 -- the bytes of one piece more: what is left, and the front of the page with a part of the piece
 pub left_more : (page piece : List ℕ) (place n : ℕ) (known : Option (List ℕ)) → Some (drop place page) ≡ prepend_known (take n piece) known → n ≤ length piece → known ≡ Some (drop (place + n) page)
-left_more page piece place n known e h =
-    let behind = left_behind known (drop place page) (take n piece) e in
-    behind.1 ∙ ap Some (sym (drop_at (take n piece) behind.0 n (length-take-le n piece h)) ∙ ap (drop n) (sym behind.2) ∙ drop-drop n place page)
+left_more page piece place n known e h = (left_after page (take n piece) place n (Some (drop place page)) known (length-take-le n piece h) e refl).0
 
 pub front_with : (page piece : List ℕ) (place n m : ℕ) (known : Option (List ℕ)) → Some (drop place page) ≡ prepend_known (take n piece) known → n ≤ length piece → m ≤ n
     → take place page ++ take m piece ≡ take (place + m) page
 front_with page piece place n m known e h le =
-    let behind = left_behind known (drop place page) (take n piece) e in
-    let part : take m (drop place page) ≡ take m piece =
-    ap (take m) behind.2 ∙ take-append-le m (take n piece) behind.0 (omega (arith, length-take-le n piece h)) ∙ take-take m n piece le in
-    ap (λ l. take place page ++ l) (sym part) ∙ sym (take-add place m page)
+    let moved = (left_after page (take n piece) place n (Some (drop place page)) known (length-take-le n piece h) e refl).1 in
+    let part : take m piece ≡ take m (drop place page) =
+    sym (take-take m n piece le) ∙ ap (take m) moved ∙ take-take m n (drop place page) le in
+    ap (λ l. take place page ++ l) part ∙ sym (take-add place m page)
 
 -- a piece, or the part of it that fits, was read and told
 pub HasCome-piece : (page piece : List ℕ) (place n m : ℕ) (before : ShelfState) (known : Option (List ℕ)) (decoder new : Decoder) (order : Order) (sink now next : SinkState) (glass shown seen : GlassState)
@@ -58,10 +53,6 @@ HasCome-piece page piece place n m before known decoder new order sink now next 
       subst (HasRead new) front (read _ come.read),
       HasTold-order _ _ _ _ _ _ _ _ same (ap items front) (told _ sink glass come.read (HasTold-order _ _ _ _ _ _ _ _ (sym same) refl come.told)),
     )
-
--- all of the page has come
-pub all_come : (page : List ℕ) (place : ℕ) → drop place page ≡ [] → take place page ≡ page
-all_come page place e = sym (append-nil _) ∙ ap (λ l. take place page ++ l) (sym e) ∙ take-append-drop place page
 
 -- the files stayed twice
 pub KeepsFiles-more : (a b c : ShelfState) → KeepsFiles a b → KeepsFiles b c → KeepsFiles a c
@@ -76,7 +67,7 @@ pub Reports-told : (form : Form) (page : List ℕ) (sink now ended flushed : Sin
     → ((ReadsGlass form.order → shown.grid ≡ grid (applied form.order (closed_items page))) → ended.bytes ≡ append_known now.bytes (final_text form.order (closed_items page)))
     → flushed.bytes ≡ ended.bytes → Reports form page sink flushed glass shown
 Reports-told form page sink now ended flushed glass shown told put same = record {
-  put = λ blank. same ∙ put (λ reads. told.grid (blank reads)) ∙ ap (λ known. append_known known (final_text form.order (closed_items page))) told.put ∙ append_known-twice sink.bytes (told_behind form.order [] (closed_items page)) (final_text form.order (closed_items page));
+  put = λ blank. same ∙ put (λ reads. told.grid (blank reads)) ∙ ap (λ known. append_known known (final_text form.order (closed_items page))) told.put ∙ append_known-append_known sink.bytes (told_behind form.order [] (closed_items page)) (final_text form.order (closed_items page));
   painted = told.painted;
   grid = told.grid;
 }
@@ -104,6 +95,22 @@ pub too_long_stop : (stop : Stop) (status : Status) → status ≡ status_of sto
 too_long_stop stops.ReadFault status is e = cc
 too_long_stop stops.WriteFault status is e = cc
 too_long_stop stops.TooLong status is e = refl
+
+pub write_fault_stop : (stop : Stop) (status : Status) → status ≡ status_of stop → status ≡ statuses.WriteFault → stop ≡ stops.WriteFault
+write_fault_stop stops.ReadFault status is e = cc
+write_fault_stop stops.WriteFault status is e = refl
+write_fault_stop stops.TooLong status is e = cc
+
+-- to check a page no easel stands at the desk
+pub idle_form : (form : Form) (decoder : Decoder) (name : List ℕ) → ◌≡◌ {A = Form} (record { order = decoder.desk.order; page = name }) form → form.order ≡ orders.Check → HasRead decoder [] → decoder.desk.easel ≡ None
+idle_form form decoder name same check read = read.desk.idle (ap (λ (f : Form). is_painting f.order) same ∙ ap is_painting check)
+
+-- a beginning of the text behind the last item, by the order of the desk as it was
+pub begun_by_order : (order now : Order) (told : List Item) (shown : List (List Look)) (before after : SinkState) → now ≡ order
+    → ((ReadsGlass now → shown ≡ grid (applied now told)) → HasBegun (final_text now told) before after)
+    → (ReadsGlass order → shown ≡ grid (applied order told)) → HasBegun (final_text order told) before after
+begun_by_order order now told shown before after same =
+    subst (λ (o : Order). ((ReadsGlass o → shown ≡ grid (applied o told)) → HasBegun (final_text o told) before after) → (ReadsGlass order → shown ≡ grid (applied order told)) → HasBegun (final_text order told) before after) (sym same) (λ begun. begun)
 
 -- the text behind the last item, by the order of the desk as it was
 pub put_by_order : (order now : Order) (told : List Item) (shown : List (List Look)) (before after : Option (List ℕ)) → now ≡ order

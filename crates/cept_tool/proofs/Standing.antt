@@ -1,5 +1,5 @@
 -- How a desk stands behind items, and what was told since a beginning.
-use Rattle.std.proofs.Common.{◌≡◌, ℕ, Bool, true, false, cond, Option, add-zero, length-append, Some, None, List, [], ◌∷◌, ◌++◌, refl, sym, ◌∙◌, ap, subst, append_assoc, append-nil, ◌+◌, ◌<◌, ◌≤◌, length, take, drop, get_or, add-one, drop-cons}
+use Rattle.std.proofs.Common.{◌≡◌, ℕ, Bool, true, false, cond, Option, add-zero, length-append, Some, None, List, [], ◌∷◌, ◌++◌, refl, sym, ◌∙◌, ap, subst, append_assoc, append-nil, take-append-drop, ◌+◌, ◌<◌, ◌≤◌, length, take, drop, get_or, add-one, drop-cons}
 use Rattle.std.proofs.lemmas.List.{take_more, take_all}
 use Rattle.std.specs.List.{AllByRecursion}
 use Rattle.std.specs.Io.KnownBytes.{append_known}
@@ -12,6 +12,7 @@ use Rattle.cept_codes.specs.declared.look.Look.{Look}
 use Rattle.cept_codes.specs.Command.{IsValidCommand}
 use Rattle.cept_codes.specs.Place.{Place}
 use Rattle.cept_outside.specs.SinkState.{SinkState}
+use Rattle.cept_outside.proofs.Known.{append_known-append_known, append_known-nil}
 use Rattle.cept_profile.proofs.Laws.{painted_all-changes}
 use Rattle.cept_profile.specs.Changes.{changes, painted_all}
 use Rattle.cept_profile.specs.Look.{grid}
@@ -83,14 +84,6 @@ Stands-refused desk new items i reason is order easel counted refused stands =
       refused = refused ∙ ap (λ n. n + 1) stands.refused ∙ sym (refused_count-more items i ∙ ap (λ s. refused_count items + cond (is_refused s) 1 0) is);
     }
 
-pub append_known-twice : (known : Option (List ℕ)) (a b : List ℕ) → append_known (append_known known a) b ≡ append_known known (a ++ b)
-append_known-twice None a b = refl
-append_known-twice (Some xs) a b = ap Some (append_assoc xs a b)
-
-pub append_known-nothing : (known : Option (List ℕ)) → append_known known [] ≡ known
-append_known-nothing None = refl
-append_known-nothing (Some xs) = ap Some (append-nil xs)
-
 Lists-nothing : (told : Option (List (Place × Look))) → Lists told [] told
 Lists-nothing told = record { told = λ now is. (now, is, sym (append-nil now)) }
 
@@ -106,7 +99,7 @@ Lists-more a b c xs ys first second = record {
 pub HasTold-nothing : (order : Order) (sink : SinkState) (glass : GlassState) → HasTold order [] sink sink glass glass
 unfolding told_behind painted_behind
 HasTold-nothing order sink glass = record {
-  put = sym (append_known-nothing sink.bytes);
+  put = append_known-nil sink.bytes;
   painted = Lists-nothing glass.paints;
   grid = λ e. e ∙ ap grid (sym (applied-nothing order));
 }
@@ -122,7 +115,7 @@ HasTold-command order items i command before mid now glass shown next painting i
     let paints : item_paints order history i.what ≡ changes history command =
     ap (item_paints order history) is ∙ ap (λ b. cond b (changes history command) []) painting in
     record {
-      put = put ∙ ap (λ known. append_known known (command_text order i.at history command)) told.put ∙ append_known-twice before.bytes (told_behind order [] items) _
+      put = put ∙ ap (λ known. append_known known (command_text order i.at history command)) told.put ∙ append_known-append_known before.bytes (told_behind order [] items) _
           ∙ ap (append_known before.bytes) (ap (λ t. told_behind order [] items ++ t) (sym text) ∙ sym (told_behind-more order [] items i));
       painted = subst (λ (l : List (Place × Look)). Lists glass.paints l next.paints) (ap (λ t. painted_behind order [] items ++ t) (sym paints) ∙ sym (painted_behind-more order [] items i)) (Lists-more _ _ _ _ _ told.painted painted);
       grid = λ start. grid_is ∙ ap (λ g. painted_all g (changes history command)) (told.grid start) ∙ painted_all-changes history command ∙ ap grid (sym (applied-command order items i command painting is));
@@ -164,7 +157,7 @@ HasTold-refused order items i reason before mid now glass shown is put told =
     let text : item_text order history i i.what ≡ refusal_text order i.at i.len reason = ap (item_text order history i) is in
     let paints : item_paints order history i.what ≡ [] = ap (item_paints order history) is in
     record {
-      put = put ∙ ap (λ known. append_known known (refusal_text order i.at i.len reason)) told.put ∙ append_known-twice before.bytes (told_behind order [] items) _
+      put = put ∙ ap (λ known. append_known known (refusal_text order i.at i.len reason)) told.put ∙ append_known-append_known before.bytes (told_behind order [] items) _
           ∙ ap (append_known before.bytes) (ap (λ t. told_behind order [] items ++ t) (sym text) ∙ sym (told_behind-more order [] items i));
       painted = subst (λ (l : List (Place × Look)). Lists glass.paints l shown.paints) (sym (append-nil _) ∙ ap (λ t. painted_behind order [] items ++ t) (sym paints) ∙ sym (painted_behind-more order [] items i)) told.painted;
       grid = λ start. told.grid start ∙ ap grid (sym (applied-refused order items i reason is));
@@ -191,6 +184,10 @@ front_more earlier xs i d h = append_assoc earlier (take i xs) _ ∙ ap (λ l. e
 -- all elements were gone through
 pub front_all : {X : Type 0} (earlier xs : List X) (i : ℕ) → length xs ≤ i → earlier ++ take i xs ≡ earlier ++ xs
 front_all earlier xs i h = ap (λ l. earlier ++ l) (take_all i xs h)
+
+-- the elements so far and all others
+pub front_rest : {X : Type 0} (earlier xs : List X) (i : ℕ) → (earlier ++ take i xs) ++ drop i xs ≡ earlier ++ xs
+front_rest earlier xs i = append_assoc earlier (take i xs) (drop i xs) ∙ ap (λ l. earlier ++ l) (take-append-drop i xs)
 
 -- what holds of all that is left holds of the next one and of the rest
 pub AllByRecursion-next : {X : Type 0} (P : X → Type 0) (xs : List X) (i : ℕ) (d : X) → i < length xs → AllByRecursion P (drop i xs) → P (get_or xs i d) × AllByRecursion P (drop (i + 1) xs)

@@ -1,5 +1,5 @@
 -- The events of a run: one for each item, with the commands before it and after it. Its text is put and its changes are
--- painted.
+-- painted. This project's own.
 use Rattle.std.specs.Prelude.{ℕ, Bool, true, false, List, [], ◌∷◌, ◌++◌, length, count_by, nat_lt, if◌then◌else◌}
 use Rattle.cept_codes.specs.declared.command.Command.{Command}
 use Rattle.cept_codes.specs.declared.item.Item.{Item}
@@ -60,6 +60,7 @@ unfoldable pub painted_behind : Order → List Item → List Item → List (Plac
 painted_behind order earlier [] = []
 painted_behind order earlier (i ∷ is) = item_paints order (applied order earlier) i.what ++ painted_behind order (earlier ++ i ∷ []) is
 
+-- it says that bytes are refused
 abbrev pub is_refused : Said → Bool
 is_refused (said.Command command) = false
 is_refused (said.Refused reason) = true

@@ -1,4 +1,4 @@
--- The ends of a run, and what a whole run reports.
+-- The ends of a run, and what a whole run reports. This project's own.
 use Rattle.std.specs.Prelude.{◌≡◌, ℕ, List, []}
 use Rattle.std.specs.Io.KnownBytes.{append_known}
 use Rattle.cept_outside.specs.SinkState.{SinkState}

@@ -1,5 +1,5 @@
--- What stands and what was told after some items.
-use Rattle.std.specs.Prelude.{◌≡◌, ℕ, true, false, List, [], length, Option, None, IsSomeAnd}
+-- What stands and what was told after some items. This project's own.
+use Rattle.std.specs.Prelude.{◌≡◌, ℕ, true, false, List, [], ◌++◌, length, Option, None, IsSomeAnd}
 use Rattle.std.specs.Io.KnownBytes.{append_known}
 use Rattle.cept_codes.specs.declared.command.Command.{Command}
 use Rattle.cept_codes.specs.declared.item.Item.{Item}
@@ -39,3 +39,10 @@ pub record HasTold (order : Order) (items : List Item) (sink now : SinkState) (g
   pub put : now.bytes ≡ append_known sink.bytes (told_behind order [] items)
   pub painted : Lists glass.paints (painted_behind order [] items) shown.paints
   pub grid : glass.grid ≡ grid [] → shown.grid ≡ grid (applied order items)
+
+-- since a beginning a part of this text was put, from its front on
+pub record HasBegun (text : List ℕ) (sink now : SinkState) : Type 0 where
+  pub part : List ℕ
+  pub rest : List ℕ
+  pub split : text ≡ part ++ rest
+  pub put : now.bytes ≡ append_known sink.bytes part

@@ -1,4 +1,4 @@
--- The words of the program: which of them are a form, and what a form asks for.
+-- The words of the program: which of them are a form, and what a form asks for. This project's own.
 use Rattle.std.specs.Prelude.{ℕ, Bool, true, false, List, [], ◌∷◌, Option, Some, None, codes, if◌then◌else◌}
 use Rattle.std.specs.Option.{option_map}
 use Rattle.std.specs.Str.{bytes_eq}

@@ -1,14 +1,16 @@
-ghost use Rattle.std.specs.Prelude.{◌≡◌, ◌+◌, ◌*◌, ◌^◌, ◌<◌, ◌≤◌, ◌∷◌, [], ◌++◌, ℕ, List, IfOk, OnOk, IsOk, false, length};
+ghost use Rattle.std.specs.Prelude.{◌≡◌, ◌+◌, ◌*◌, ◌^◌, ◌<◌, ◌≤◌, ◌∷◌, [], ◌++◌, ℕ, List, IfOk, OnOk, OnErr, IsOk, None, false, length};
 ghost use Rattle.cept_outside.specs.Causes.{HasCause};
 ghost use Rattle.cept_outside.specs.SinkState.{SinkState};
 ghost use Rattle.cept_parser.specs.Items.{items, closed_items};
 ghost use Rattle.cept_repaint.specs.GlassState.{GlassState};
+ghost use Rattle.cept_tool.specs.Events.{told_behind};
 
 use crate::desk::Desk;
 use crate::words::Order;
 use cept_codes::NoMemory;
 use cept_outside::{Sink, Steps, WriteFault};
 use cept_parser::Parser;
+use cept_parser::laws::reading_goes_on;
 use cept_repaint::Glass;
 use std::alloc::Global;
 use std::sync::ledger::Ledger;
@@ -21,7 +23,7 @@ pub struct Decoder {
 }
 
 impl Decoder {
-    ghost use Rattle.cept_tool.specs.Told.{Stands, HasRead, HasTold};
+    ghost use Rattle.cept_tool.specs.Told.{Stands, HasRead, HasTold, HasBegun};
 
     /// A decoder before the first byte.
     pub fn new(alloc: Global, order: Order) -> Result<Decoder, NoMemory>
@@ -54,6 +56,10 @@ impl Decoder {
         ensures told { OnOk result ((bytes : List ℕ) (before : SinkState) (shown : GlassState) → HasRead self.old bytes
             → HasTold self.old.desk.order (items bytes) before (T.state sink.old) shown (G.state glass.old)
             → HasTold self.old.desk.order (items (bytes ++ byte ∷ [])) before (T.state sink.new) shown (G.state glass.new)) }
+        ensures idle { self.old.desk.easel ≡ None → (self.new.desk.easel ≡ None) × (G.state glass.new ≡ G.state glass.old) }
+        ensures begun { OnErr result ((bytes : List ℕ) (before : SinkState) (shown : GlassState) → HasRead self.old bytes
+            → HasTold self.old.desk.order (items bytes) before (T.state sink.old) shown (G.state glass.old)
+            → HasBegun (told_behind self.old.desk.order [] (items (bytes ++ byte ∷ []))) before (T.state sink.new)) }
         ensures cause { HasCause (T.state sink.old).faults (T.state sink.new).faults result }
     {
         let items = self.parser.push(byte);
@@ -78,8 +84,13 @@ impl Decoder {
         ensures told { OnOk result ((bytes : List ℕ) (before : SinkState) (shown : GlassState) → HasRead self.old bytes
             → HasTold self.old.desk.order (items bytes) before (T.state sink.old) shown (G.state glass.old)
             → HasTold self.old.desk.order (items (bytes ++ piece.now)) before (T.state sink.new) shown (G.state glass.new)) }
+        ensures idle { self.old.desk.easel ≡ None → (self.new.desk.easel ≡ None) × (G.state glass.new ≡ G.state glass.old) }
+        ensures begun { OnErr result ((bytes : List ℕ) (before : SinkState) (shown : GlassState) → HasRead self.old bytes
+            → HasTold self.old.desk.order (items bytes) before (T.state sink.old) shown (G.state glass.old)
+            → HasBegun (told_behind self.old.desk.order [] (items (bytes ++ piece.now))) before (T.state sink.new)) }
         ensures cause { HasCause (T.state sink.old).faults (T.state sink.new).faults result }
     {
+        reading_goes_on();
         for byte in piece {
             match self.read_byte(*byte, sink, glass, steps) {
                 Ok(()) => {}
@@ -103,6 +114,10 @@ impl Decoder {
         ensures told { OnOk result ((bytes : List ℕ) (before : SinkState) (shown : GlassState) → HasRead self.old bytes
             → HasTold self.old.desk.order (items bytes) before (T.state sink.old) shown (G.state glass.old)
             → HasTold self.old.desk.order (closed_items bytes) before (T.state sink.new) shown (G.state glass.new)) }
+        ensures idle { self.old.desk.easel ≡ None → (self.new.desk.easel ≡ None) × (G.state glass.new ≡ G.state glass.old) }
+        ensures begun { OnErr result ((bytes : List ℕ) (before : SinkState) (shown : GlassState) → HasRead self.old bytes
+            → HasTold self.old.desk.order (items bytes) before (T.state sink.old) shown (G.state glass.old)
+            → HasBegun (told_behind self.old.desk.order [] (closed_items bytes)) before (T.state sink.new)) }
         ensures cause { HasCause (T.state sink.old).faults (T.state sink.new).faults result }
     {
         let items = self.parser.finish();

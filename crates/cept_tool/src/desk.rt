@@ -1,4 +1,4 @@
-ghost use Rattle.std.specs.Prelude.{◌≡◌, ◌+◌, ◌^◌, ◌<◌, ◌≤◌, ◌∷◌, [], ◌++◌, List, IfOk, OnOk, IsOk, IsSomeAnd, None, true, false, length};
+ghost use Rattle.std.specs.Prelude.{◌≡◌, ◌+◌, ◌^◌, ◌<◌, ◌≤◌, ◌∷◌, [], ◌++◌, List, IfOk, OnOk, OnErr, IsOk, IsSomeAnd, None, true, false, length};
 ghost use Rattle.std.specs.List.{AllByRecursion};
 ghost use Rattle.std.specs.Io.KnownBytes.{append_known};
 ghost use Rattle.cept_codes.specs.Command.{IsValidCommand, IsValidSaid};
@@ -11,7 +11,7 @@ ghost use Rattle.cept_profile.specs.Look.{grid};
 ghost use Rattle.cept_profile.specs.State.{state};
 ghost use Rattle.cept_profile.specs.Valid.{AllValid};
 ghost use Rattle.cept_repaint.specs.GlassState.{GlassState, Lists};
-ghost use Rattle.cept_tool.specs.Events.{applied, command_text, final_text, refusal_text, rows_behind};
+ghost use Rattle.cept_tool.specs.Events.{applied, command_text, final_text, refusal_text, rows_behind, told_behind};
 ghost use Rattle.cept_tool.specs.Words.{is_painting, ReadsGlass};
 
 use crate::easel::Easel;
@@ -48,7 +48,7 @@ fn easel_for(alloc: Global, order: Order) -> Result<Option<Easel>, NoMemory>
 }
 
 impl Desk {
-    ghost use Rattle.cept_tool.specs.Told.{Stands, HasTold, IsAt};
+    ghost use Rattle.cept_tool.specs.Told.{Stands, HasTold, HasBegun, IsAt};
 
     /// A desk before the first item. To check a page it takes no memory.
     pub fn new(alloc: Global, order: Order) -> Result<Desk, NoMemory>
@@ -85,6 +85,8 @@ impl Desk {
         ensures grid { (history : List Command) → AllValid history → IsAt self.old.easel history
             → (G.state glass.new).grid ≡ painted_all (G.state glass.old).grid (changes history command) }
         ensures idle { self.old.easel ≡ None → (self.new.easel ≡ None) × (T.state sink.new ≡ T.state sink.old) × (G.state glass.new ≡ G.state glass.old) }
+        ensures begun { OnErr result ((history : List Command) → AllValid history → IsAt self.old.easel history
+            → HasBegun (command_text self.old.order place history command) (T.state sink.old) (T.state sink.new)) }
         ensures cause { HasCause (T.state sink.old).faults (T.state sink.new).faults result }
     {
         let order = self.order;
@@ -102,6 +104,7 @@ impl Desk {
         sink: &mut T,
     ) -> Result<(), WriteFault>
         ensures put { OnOk result ((T.state sink.new).bytes ≡ append_known (T.state sink.old).bytes (refusal_text self.now.order item.now.at item.now.len reason)) }
+        ensures begun { OnErr result (HasBegun (refusal_text self.now.order item.now.at item.now.len reason) (T.state sink.old) (T.state sink.new)) }
         ensures cause { HasCause (T.state sink.old).faults (T.state sink.new).faults result }
     {
         match self.order {
@@ -128,6 +131,10 @@ impl Desk {
         ensures told { OnOk result ((earlier : List Item) (before : SinkState) (shown : GlassState) → Stands self.old earlier
             → HasTold self.old.order earlier before (T.state sink.old) shown (G.state glass.old)
             → HasTold self.old.order (earlier ++ item.now ∷ []) before (T.state sink.new) shown (G.state glass.new)) }
+        ensures idle { self.old.easel ≡ None → (self.new.easel ≡ None) × (G.state glass.new ≡ G.state glass.old) }
+        ensures begun { OnErr result ((earlier : List Item) (before : SinkState) (shown : GlassState) → Stands self.old earlier
+            → HasTold self.old.order earlier before (T.state sink.old) shown (G.state glass.old)
+            → HasBegun (told_behind self.old.order [] (earlier ++ item.now ∷ [])) before (T.state sink.new)) }
         ensures cause { HasCause (T.state sink.old).faults (T.state sink.new).faults result }
     {
         self.items += 1;
@@ -156,6 +163,10 @@ impl Desk {
         ensures told { OnOk result ((earlier : List Item) (before : SinkState) (shown : GlassState) → Stands self.old earlier
             → HasTold self.old.order earlier before (T.state sink.old) shown (G.state glass.old)
             → HasTold self.old.order (earlier ++ items.now) before (T.state sink.new) shown (G.state glass.new)) }
+        ensures idle { self.old.easel ≡ None → (self.new.easel ≡ None) × (G.state glass.new ≡ G.state glass.old) }
+        ensures begun { OnErr result ((earlier : List Item) (before : SinkState) (shown : GlassState) → Stands self.old earlier
+            → HasTold self.old.order earlier before (T.state sink.old) shown (G.state glass.old)
+            → HasBegun (told_behind self.old.order [] (earlier ++ items.now)) before (T.state sink.new)) }
         ensures cause { HasCause (T.state sink.old).faults (T.state sink.new).faults result }
     {
         for item in items {
@@ -182,6 +193,8 @@ impl Desk {
     pub fn put_end<T: Sink, G: Glass>(&self, sink: &mut T, glass: &G) -> Result<(), WriteFault>
         ensures put { OnOk result ((items : List Item) → Stands self.now items → (ReadsGlass self.now.order → (G.state glass.now).grid ≡ grid (applied self.now.order items))
             → (T.state sink.new).bytes ≡ append_known (T.state sink.old).bytes (final_text self.now.order items)) }
+        ensures begun { OnErr result ((items : List Item) → Stands self.now items → (ReadsGlass self.now.order → (G.state glass.now).grid ≡ grid (applied self.now.order items))
+            → HasBegun (final_text self.now.order items) (T.state sink.old) (T.state sink.new)) }
         ensures cause { HasCause (T.state sink.old).faults (T.state sink.new).faults result }
     {
         match self.order {

@@ -1,4 +1,4 @@
-ghost use Rattle.std.specs.Prelude.{◌≡◌, ◌≤◌, ◌∷◌, [], ◌++◌, List, IfOk, OnOk};
+ghost use Rattle.std.specs.Prelude.{◌≡◌, ◌≤◌, ◌∷◌, [], ◌++◌, List, IfOk, OnOk, OnErr};
 ghost use Rattle.std.specs.Io.KnownBytes.{append_known};
 ghost use Rattle.cept_codes.specs.Command.{IsValidCommand};
 ghost use Rattle.cept_codes.specs.declared.command.Command.{Command};
@@ -9,6 +9,7 @@ ghost use Rattle.cept_profile.specs.State.{state};
 ghost use Rattle.cept_profile.specs.Valid.{AllValid};
 ghost use Rattle.cept_repaint.specs.GlassState.{Lists};
 ghost use Rattle.cept_tool.specs.Events.{command_text, lines_text};
+ghost use Rattle.cept_tool.specs.Told.{HasBegun};
 
 use crate::words::Order;
 use cept_codes::{Command, NoMemory};
@@ -33,6 +34,7 @@ fn put_lines<T: Sink>(
     sink: &mut T,
 ) -> Result<(), WriteFault>
     ensures put { OnOk result ((T.state sink.new).bytes ≡ append_known (T.state sink.old).bytes (lines_text order place (listed easel.now.marks (looks_of easel.now.screen.page)))) }
+    ensures begun { OnErr result (HasBegun (lines_text order place (listed easel.now.marks (looks_of easel.now.screen.page))) (T.state sink.old) (T.state sink.new)) }
     ensures cause { HasCause (T.state sink.old).faults (T.state sink.new).faults result }
 {
     match order {
@@ -72,6 +74,8 @@ impl Easel {
             → Lists (G.state glass.old).paints (changes history command) (G.state glass.new).paints }
         ensures grid { (history : List Command) → AllValid history → self.old.screen ≡ state history
             → (G.state glass.new).grid ≡ painted_all (G.state glass.old).grid (changes history command) }
+        ensures begun { OnErr result ((history : List Command) → AllValid history → self.old.screen ≡ state history
+            → HasBegun (command_text order place history command) (T.state sink.old) (T.state sink.new)) }
         ensures cause { HasCause (T.state sink.old).faults (T.state sink.new).faults result }
     {
         self.screen.apply(command, glass, &mut self.marks, steps);

@@ -1,13 +1,15 @@
-ghost use Rattle.std.specs.Prelude.{◌≡◌, ◌≢◌, ◌+◌, ◌-◌, ◌^◌, ◌<◌, ◌≤◌, ◌∷◌, [], ◌++◌, ℕ, List, OnOk, OnErr, false, true, length, take, drop, min, Some, is_some};
+ghost use Rattle.std.specs.Prelude.{◌≡◌, ◌≢◌, ◌+◌, ◌-◌, ◌^◌, ◌<◌, ◌≤◌, ◌∷◌, [], ◌++◌, ℕ, List, OnOk, OnErr, false, true, length, take, drop, min, Some, None, is_some};
 ghost use Rattle.cept_outside.specs.Causes.{HasCause, Rose};
 ghost use Rattle.cept_outside.specs.ShelfState.{KeepsFiles};
 ghost use Rattle.cept_outside.specs.SinkState.{SinkState};
 ghost use Rattle.cept_parser.specs.Items.{items, closed_items};
 ghost use Rattle.cept_repaint.specs.GlassState.{GlassState};
-ghost use Rattle.cept_tool.specs.Told.{Stands, HasRead, HasTold};
+ghost use Rattle.cept_tool.specs.Events.{told_behind};
+ghost use Rattle.cept_tool.specs.Told.{Stands, HasRead, HasTold, HasBegun};
 
 use crate::decoder::Decoder;
 use cept_outside::{Shelf, Sink, Steps};
+use cept_parser::laws::reading_goes_on;
 use cept_repaint::Glass;
 use std::sync::ledger::Ledger;
 
@@ -44,6 +46,7 @@ pub fn read_page<F: Shelf, T: Sink, G: Glass, L: Ledger>(
     ensures missed { (F.state shelf.new).missed ≡ (F.state shelf.old).missed }
     ensures shelf_faults { (F.state shelf.old).faults ≤ (F.state shelf.new).faults }
     ensures sink_faults { (T.state sink.old).faults ≤ (T.state sink.new).faults }
+    ensures idle { decoder.old.desk.easel ≡ None → G.state glass.new ≡ G.state glass.old }
 
     // Read to its end.
     ensures short { OnOk result ((F.state shelf.new).taken ≤ 2 ^ 24) }
@@ -62,9 +65,12 @@ pub fn read_page<F: Shelf, T: Sink, G: Glass, L: Ledger>(
     ensures too_long_told { result ≡ Err Stop.TooLong → (page : List ℕ) → (F.state shelf.old).left ≡ Some page
         → HasTold decoder.old.desk.order (items (take (2 ^ 24) page)) (T.state sink.old) (T.state sink.new) (G.state glass.old) (G.state glass.new) }
 
-    // The sink failed.
+    // The sink failed: a beginning of what is told was put.
     ensures write_fault { result ≡ Err Stop.WriteFault → Rose (T.state sink.old).faults (T.state sink.new).faults }
+    ensures write_fault_told { result ≡ Err Stop.WriteFault → (page : List ℕ) → (F.state shelf.old).left ≡ Some page
+        → HasBegun (told_behind decoder.old.desk.order [] (closed_items page)) (T.state sink.old) (T.state sink.new) }
 {
+    reading_goes_on();
     let mut piece = [0u8; PIECE];
     let mut place = 0u64;
     loop {

@@ -4,10 +4,11 @@ ghost use Rattle.cept_outside.specs.QuietShelf.{quiet_shelf_state};
 ghost use Rattle.cept_outside.specs.QuietSink.{quiet_sink_state};
 ghost use Rattle.cept_outside.specs.ShelfState.{Holds, KeepsFiles, bytes_under};
 ghost use Rattle.cept_parser.specs.Items.{items, closed_items};
-ghost use Rattle.cept_tool.specs.Events.{has_refusal};
+ghost use Rattle.cept_profile.specs.Look.{grid};
+ghost use Rattle.cept_tool.specs.Events.{has_refusal, report};
 ghost use Rattle.cept_tool.specs.Run.{IsWhole, IsUntouched, Reports, status_of};
-ghost use Rattle.cept_tool.specs.Told.{HasRead, HasTold};
-ghost use Rattle.cept_tool.specs.Words.{Form, form_of};
+ghost use Rattle.cept_tool.specs.Told.{HasRead, HasTold, HasBegun};
+ghost use Rattle.cept_tool.specs.Words.{Form, ReadsGlass, form_of};
 
 use crate::decoder::Decoder;
 use crate::page::{Stop, read_page};
@@ -80,6 +81,7 @@ fn tell_page<F: Shelf, T: Sink, G: Glass, L: Ledger>(
     ensures missed { IsSome (bytes_under (F.state shelf.old) (string_bytes page.now)) → (F.state shelf.new).missed ≡ (F.state shelf.old).missed }
     ensures shelf_faults { (F.state shelf.old).faults ≤ (F.state shelf.new).faults }
     ensures sink_faults { (T.state sink.old).faults ≤ (T.state sink.new).faults }
+    ensures idle { decoder.old.desk.easel ≡ None → G.state glass.new ≡ G.state glass.old }
 
     ensures short { OnOk result ((F.state shelf.new).taken ≤ 2 ^ 24) }
     ensures flushed { OnOk result ((T.state sink.new).unflushed ≡ false) }
@@ -98,6 +100,9 @@ fn tell_page<F: Shelf, T: Sink, G: Glass, L: Ledger>(
         → HasTold decoder.old.desk.order (items (take (2 ^ 24) bytes)) (T.state sink.old) (T.state sink.new) (G.state glass.old) (G.state glass.new) }
 
     ensures write_fault { result ≡ Err Stop.WriteFault → Rose (T.state sink.old).faults (T.state sink.new).faults }
+    ensures write_fault_told { result ≡ Err Stop.WriteFault → (bytes : List ℕ) → Holds (F.state shelf.old) (string_bytes page.now) bytes
+        → (ReadsGlass decoder.old.desk.order → (G.state glass.old).grid ≡ grid [])
+        → HasBegun (report decoder.old.desk.order bytes) (T.state sink.old) (T.state sink.new) }
 {
     match shelf.select(page.as_str()) {
         Ok(()) => {}
@@ -146,12 +151,19 @@ pub fn run<F: Shelf, T: Sink, G: Glass>(
     ensures untouched { IsUntouched result
         → (F.state shelf.new ≡ F.state shelf.old) × (T.state sink.new ≡ T.state sink.old) × (G.state glass.new ≡ G.state glass.old) }
 
-    // A fault is answered only where it rose. Of a page that can't be read on, the bytes taken are told.
+    // To check a page the glass isn't touched, however the run ends.
+    ensures check { (form : Form) → form_of (map string_bytes words.now.items) ≡ Some form → form.order ≡ Order.Check → G.state glass.new ≡ G.state glass.old }
+
+    // A fault is answered only where it rose. Of a page that can't be read on, the bytes taken are told; where the sink failed
+    // a beginning of the report was put.
     ensures read_fault { result ≡ Status.ReadFault → Rose (F.state shelf.old).faults (F.state shelf.new).faults }
     ensures read_fault_told { result ≡ Status.ReadFault → (form : Form) (page : List ℕ) → form_of (map string_bytes words.now.items) ≡ Some form
         → Holds (F.state shelf.old) form.page page
         → HasTold form.order (items (take (F.state shelf.new).taken page)) (T.state sink.old) (T.state sink.new) (G.state glass.old) (G.state glass.new) }
     ensures write_fault { result ≡ Status.WriteFault → Rose (T.state sink.old).faults (T.state sink.new).faults }
+    ensures write_fault_told { result ≡ Status.WriteFault → (form : Form) (page : List ℕ) → form_of (map string_bytes words.now.items) ≡ Some form
+        → Holds (F.state shelf.old) form.page page → (ReadsGlass form.order → (G.state glass.old).grid ≡ grid [])
+        → HasBegun (report form.order page) (T.state sink.old) (T.state sink.new) }
 
     // A page is too long where more than 2^24 bytes of it were taken. Then exactly the first 2^24 are told.
     ensures too_long { result ≡ Status.TooLong → 2 ^ 24 < (F.state shelf.new).taken }

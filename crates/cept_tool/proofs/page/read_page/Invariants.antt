@@ -1,4 +1,4 @@
-use Rattle.std.proofs.Common.{◌≡◌, ◌≤◌, ◌-◌, ◌*◌, ◌^◌, ℕ, List, Some, false}
+use Rattle.std.proofs.Common.{◌≡◌, ◌≤◌, ◌-◌, ◌*◌, ◌^◌, ℕ, List, Some, None, false}
 use Rattle.cept_outside.specs.ShelfState.{KeepsFiles}
 use Rattle.cept_tool.proofs.Reading.{HasCome}
 use Rattle.cept_tool.proofs.page.read_page.Given as goal
@@ -17,6 +17,7 @@ invariant-loop-count g l = record {
   missed : (g.F.Shelf.state l.shelf).missed ≡ (g.F.Shelf.state l.fn.shelf).missed;
   shelf_faults : (g.F.Shelf.state l.fn.shelf).faults ≤ (g.F.Shelf.state l.shelf).faults;
   sink_faults : (g.T.Sink.state l.fn.sink).faults ≤ (g.T.Sink.state l.sink).faults;
+  idle : l.fn.decoder.desk.easel ≡ None → (l.decoder.desk.easel ≡ None) × (g.G.Glass.state l.glass ≡ g.G.Glass.state l.fn.glass);
   come : (page : List ℕ) → (g.F.Shelf.state l.fn.shelf).left ≡ Some page
       → HasCome page l.place (g.F.Shelf.state l.shelf) l.decoder l.fn.decoder.desk.order (g.T.Sink.state l.fn.sink) (g.T.Sink.state l.sink) (g.G.Glass.state l.fn.glass) (g.G.Glass.state l.glass);
 }

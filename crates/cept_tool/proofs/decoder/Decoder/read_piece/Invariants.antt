@@ -1,4 +1,4 @@
-use Rattle.std.proofs.Common.{◌≡◌, ◌≤◌, ◌+◌, ◌*◌, ℕ, false, List, ◌++◌, take}
+use Rattle.std.proofs.Common.{◌≡◌, ◌≤◌, ◌+◌, ◌*◌, ℕ, false, List, ◌++◌, None, take}
 use Rattle.cept_outside.specs.SinkState.{SinkState}
 use Rattle.cept_parser.specs.Items.{items}
 use Rattle.cept_repaint.specs.GlassState.{GlassState}
@@ -17,5 +17,6 @@ invariant-loop-byte g l = record {
   told : (bytes : List ℕ) (before : SinkState) (shown : GlassState) → HasRead l.fn.self bytes
       → HasTold l.fn.self.desk.order (items bytes) before (g.T.Sink.state l.fn.sink) shown (g.G.Glass.state l.fn.glass)
       → HasTold l.fn.self.desk.order (items (bytes ++ take l.byte-index l.piece)) before (g.T.Sink.state l.sink) shown (g.G.Glass.state l.glass);
+  idle : l.fn.self.desk.easel ≡ None → (l.self.desk.easel ≡ None) × (g.G.Glass.state l.glass ≡ g.G.Glass.state l.fn.glass);
   later : (g.T.Sink.state l.fn.sink).faults ≤ (g.T.Sink.state l.sink).faults;
 }

@@ -1,11 +1,12 @@
 use Rattle.std.proofs.Common.{◌≡◌, subst, refl, List}
-use Rattle.std.proofs.lemmas.Result.{on_ok_weaker}
+use Rattle.std.proofs.lemmas.Result.{on_ok_weaker, on_err_weaker}
 use Rattle.std.specs.Io.KnownBytes.{append_known}
 use Rattle.cept_codes.specs.Command.{IsValidSaid}
 use Rattle.cept_codes.specs.declared.command.Command.{Command}
 use Rattle.cept_profile.specs.Valid.{AllValid}
 use Rattle.cept_tool.specs.Events.{command_text}
-use Rattle.cept_tool.specs.Told.{IsAt}
+use Rattle.cept_tool.specs.Told.{IsAt, HasBegun}
+use Rattle.cept_tool.proofs.Begun.{begun_command, begun_refused}
 use Rattle.cept_tool.proofs.Standing.{Stands-command, Stands-refused, HasTold-either, HasTold-refused}
 use Rattle.cept_tool.proofs.desk.Desk.tell_item.Goals as goal
 
@@ -25,3 +26,12 @@ returns-in-Refused-clause-stands g c =
 pub returns-in-Refused-clause-told : goal.returns-in-Refused-clause-told
 returns-in-Refused-clause-told g c =
     on_ok_weaker c.tell_refusal.result (λ put earlier before shown stands told. HasTold-refused _ earlier c.args.item.now c.in-Refused.reason before _ _ shown _ c.in-Refused.is put told) c.tell_refusal.ensures.put
+
+pub returns-in-Command-clause-begun : goal.returns-in-Command-clause-begun
+returns-in-Command-clause-begun g c =
+    on_err_weaker {P = (history : List Command) → AllValid history → IsAt c.args.self.now.easel history → HasBegun (command_text c.args.self.now.order c.args.item.now.at history c.in-Command.command) (g.T.Sink.state c.args.sink.now) (g.T.Sink.state c.tell_command.new.sink)}
+    c.tell_command.result (λ begun earlier before shown stands told. begun_command c.args.self.now _ earlier c.args.item.now c.in-Command.command before (g.T.Sink.state c.args.sink.now) (g.T.Sink.state c.tell_command.new.sink) refl c.in-Command.is begun (λ none. (c.tell_command.ensures.idle none).1) stands told.put) c.tell_command.ensures.begun
+
+pub returns-in-Refused-clause-begun : goal.returns-in-Refused-clause-begun
+returns-in-Refused-clause-begun g c =
+    on_err_weaker c.tell_refusal.result (λ begun earlier before shown stands told. begun_refused _ earlier c.args.item.now c.in-Refused.reason before _ _ c.in-Refused.is begun told.put) c.tell_refusal.ensures.begun

@@ -1,4 +1,4 @@
-use Rattle.std.proofs.Common.{◌≡◌, ◌≤◌, ◌+◌, List, ◌++◌, take, drop}
+use Rattle.std.proofs.Common.{◌≡◌, ◌≤◌, ◌+◌, List, ◌++◌, None, take, drop}
 use Rattle.std.specs.List.{AllByRecursion}
 use Rattle.cept_codes.specs.Command.{IsValidSaid}
 use Rattle.cept_codes.specs.declared.item.Item.{Item}
@@ -18,5 +18,6 @@ invariant-loop-item g l = record {
   told : (earlier : List Item) (before : SinkState) (shown : GlassState) → Stands l.fn.self earlier
       → HasTold l.fn.self.order earlier before (g.T.Sink.state l.fn.sink) shown (g.G.Glass.state l.fn.glass)
       → HasTold l.fn.self.order (earlier ++ take l.item-index l.items) before (g.T.Sink.state l.sink) shown (g.G.Glass.state l.glass);
+  idle : l.fn.self.easel ≡ None → (l.self.easel ≡ None) × (g.G.Glass.state l.glass ≡ g.G.Glass.state l.fn.glass);
   later : (g.T.Sink.state l.fn.sink).faults ≤ (g.T.Sink.state l.sink).faults;
 }
