@@ -1,6 +1,7 @@
-pub mod Reached
-pub mod Chosen
-pub mod Added
-pub mod HasPut
-pub mod HandedOn
-pub mod Known
+mod Added
+mod Chosen
+mod HandedOn
+mod HasPut
+mod Known
+pub mod Laws
+mod Reached

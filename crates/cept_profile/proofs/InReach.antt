@@ -10,7 +10,7 @@ use Rattle.cept_codes.specs.declared.stroke.Stroke.TheVariants as strokes
 use Rattle.cept_codes.specs.Cell.{blank}
 use Rattle.cept_codes.specs.Place.{OnScreen}
 use Rattle.cept_codes.specs.Table.{at}
-use Rattle.cept_codes.proofs.Tables.{at-table}
+use Rattle.cept_codes.proofs.Laws.{at-table}
 use Rattle.cept_profile.specs.Cells.{is_at, seen, struck, struck_all}
 use Rattle.cept_profile.specs.Look.{look, look_of}
 use Rattle.cept_profile.specs.Reach.{reaches, in_reach, rows_in_reach}

@@ -11,22 +11,25 @@ use Rattle.cept_codes.specs.declared.glyph.Read.TheVariants as reads
 use Rattle.cept_codes.specs.declared.glyph.SetId.{SetId}
 use Rattle.cept_codes.specs.declared.glyph.SetId.TheVariants as sets
 use Rattle.cept_codes.specs.declared.look.Look.{Look}
+use Rattle.cept_codes.specs.declared.stroke.Stroke.{Stroke}
 use Rattle.cept_codes.specs.Cell.{IsValidWhat}
 use Rattle.cept_codes.specs.Command.{IsGraphic, IsValidCommand}
 use Rattle.cept_codes.specs.Look.{blank_look, IsValidLook}
-use Rattle.cept_codes.specs.Place.{Place, place_of}
+use Rattle.cept_codes.specs.Place.{OnScreen, Place, place_of}
 use Rattle.cept_codes.specs.Stroke.{IsValidStroke}
 use Rattle.cept_codes.specs.Table.{table}
 use Rattle.cept_profile.specs.Changes.{changes, listed, listed_below, look_at, painted_all}
 use Rattle.cept_profile.specs.Control.{ControlState, control_after, with_working}
-use Rattle.cept_profile.specs.Look.{grid, look_of, looks_of}
+use Rattle.cept_profile.specs.Look.{grid, look, look_of, looks_of}
+use Rattle.cept_profile.specs.Reach.{in_reach, rows_in_reach}
 use Rattle.cept_profile.specs.Sets.{IsAccent, IsValidRead, code_of, read_as}
-use Rattle.cept_profile.specs.State.{Page, State, after, state}
+use Rattle.cept_profile.specs.State.{Page, State, after, drawn, state}
 use Rattle.cept_profile.specs.Strokes.{strokes_of}
 use Rattle.cept_profile.specs.Valid.{AllValid, IsValidControl, IsValidGrid, IsValidPage, IsValidState}
 use Rattle.cept_profile.specs.Writing.{behind_copies, copies, write_of, written}
 use Rattle.cept_profile.proofs.Changes
 use Rattle.cept_profile.proofs.Copies
+use Rattle.cept_profile.proofs.InReach
 use Rattle.cept_profile.proofs.Listed
 use Rattle.cept_profile.proofs.Painted
 use Rattle.cept_profile.proofs.Reading
@@ -122,6 +125,14 @@ length-copies = Copies.length-copies
 
 pub with_working-behind_copies : (n : ℕ) (s : ControlState) (g : Glyph) → with_working s (behind_copies n s g).working ≡ behind_copies n s g
 with_working-behind_copies = Copies.with_working-behind_copies
+
+-- ---- rows_out_of_reach_stay
+
+pub look-out_of_reach : (p : Page) (xs : List Stroke) (r c : ℕ) → OnScreen r c → in_reach xs r ≡ false → look (drawn p xs) r c ≡ look p r c
+look-out_of_reach = InReach.look-out_of_reach
+
+pub rows_in_reach-le : (xs : List Stroke) → rows_in_reach xs ≤ 24
+rows_in_reach-le = InReach.rows_in_reach-le
 
 -- ---- codes_give_signs_or_accents
 

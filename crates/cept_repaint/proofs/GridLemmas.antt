@@ -5,12 +5,12 @@ use Rattle.cept_codes.specs.declared.look.Look.{Look}
 use Rattle.cept_codes.specs.Look.{blank_look, IsValidLook}
 use Rattle.cept_codes.specs.Place.{Place, OnScreen}
 use Rattle.cept_codes.specs.Table.{table, at}
-use Rattle.cept_codes.proofs.Tables.{at-table, IsTable-table}
+use Rattle.cept_codes.proofs.Laws.{at-table, IsTable-table}
 use Rattle.cept_profile.specs.Cells.{is_at}
 use Rattle.cept_profile.specs.Changes.{painted}
 use Rattle.cept_profile.specs.Valid.{IsValidGrid}
-use Rattle.cept_profile.proofs.Start.{look_of-blank}
-use Rattle.cept_profile.proofs.ValidLook.{IsValidLook-look_of}
+use Rattle.cept_profile.proofs.Laws.{look_of-blank}
+use Rattle.cept_profile.proofs.Laws.{IsValidLook-look_of}
 
 -- a table of valid looks is a valid grid
 IsValidGrid-table : (f : ℕ → ℕ → Look) → ((r c : ℕ) → OnScreen r c → IsValidLook (f r c)) → IsValidGrid (table f)

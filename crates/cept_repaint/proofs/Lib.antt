@@ -8,3 +8,4 @@ pub mod RefreshLemmas
 pub mod StateLemmas
 pub mod StruckLemmas
 pub mod WithinLemmas
+pub mod Made

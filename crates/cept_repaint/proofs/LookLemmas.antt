@@ -6,8 +6,8 @@ use Rattle.cept_codes.specs.Look.{blank_look}
 use Rattle.cept_codes.specs.Place.{Place, OnScreen}
 use Rattle.cept_codes.specs.Same.{same_look}
 use Rattle.cept_codes.specs.Table.{at, row_of, IsTable}
-use Rattle.cept_codes.proofs.Equal.{look_decides}
-use Rattle.cept_codes.proofs.Tables.{set_is, table_is}
+use Rattle.cept_codes.proofs.Laws.{look_decides}
+use Rattle.cept_repaint.proofs.Made.{set_is, table_is}
 use Rattle.cept_profile.specs.Cells.{is_at}
 use Rattle.cept_profile.specs.Changes.{look_at, painted}
 use Rattle.cept_repaint.specs.declared.looks.TheConstants.{BLANK_ROW}

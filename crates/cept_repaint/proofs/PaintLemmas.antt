@@ -5,63 +5,16 @@ use Rattle.std.proofs.lemmas.List.{append-nil, map-append, map-id}
 use Rattle.std.proofs.lemmas.List.FromFn.{filter_of_map_range_with_len_more}
 use Rattle.cept_codes.specs.declared.look.Look.{Look}
 use Rattle.cept_codes.specs.Place.{Place, number, place_of}
-use Rattle.cept_codes.proofs.Places.{place_of-number, number-lt}
-use Rattle.cept_profile.specs.Changes.{look_at, listed, painted, painted_all}
-use Rattle.cept_profile.proofs.Painted.{painted_all-append}
+use Rattle.cept_codes.proofs.Laws.{place_of-number, number-lt}
+use Rattle.cept_profile.specs.Changes.{look_at, listed, listed_below, painted, painted_all}
+use Rattle.cept_profile.proofs.Laws.{painted_all-append, listed_below-none, listed_below-next, listed_below-unmarked, listed_below-whole}
 use Rattle.cept_repaint.specs.GlassState.{GlassState, Lists, Paints}
 use Rattle.cept_repaint.specs.Marks.{is_marked, IsFirstFrom}
 
--- the marked places with a number below n, each with its look
-unfoldable pub listed_below : List Bool → List (List Look) → ℕ → List (Place × Look)
-listed_below marks g n = map (λ k. (place_of k, look_at g (place_of k))) (filter (λ k. is_marked marks k) (range_with_len 0 n))
-
-listed_below_none : (marks : List Bool) (g : List (List Look)) → listed_below marks g 0 ≡ []
-unfolding listed_below
-listed_below_none marks g = refl
-
-listed_below_all : (marks : List Bool) (g : List (List Look)) → listed_below marks g 960 ≡ listed marks g
-unfolding listed_below listed
-listed_below_all marks g = refl
-
--- a number's part of the list
-shown_at : List Bool → List (List Look) → ℕ → List (Place × Look)
-shown_at marks g n = cond (is_marked marks n) ((place_of n, look_at g (place_of n)) ∷ []) []
-
-filter_range_more : (p : ℕ → Bool) (n : ℕ) → filter p (range_with_len 0 (n + 1)) ≡ filter p (range_with_len 0 n) ++ cond (p n) (n ∷ []) []
-filter_range_more p n =
-    ap (λ (l : List ℕ). filter p l) (sym (map-id (range_with_len 0 (n + 1)))) ∙ filter_of_map_range_with_len_more p (λ k. k) 0 n n (omega arith) ∙ ap (λ (l : List ℕ). filter p l ++ cond (p n) (n ∷ []) []) (map-id (range_with_len 0 n))
-
-map_choice : {X Y : Type 0} (f : X → Y) (b : Bool) (x : X) → map f (cond b (x ∷ []) []) ≡ cond b (f x ∷ []) []
-map_choice f true x = refl
-map_choice f false x = refl
-
-listed_below_more : (marks : List Bool) (g : List (List Look)) (n : ℕ) → listed_below marks g (n + 1) ≡ listed_below marks g n ++ shown_at marks g n
-unfolding listed_below shown_at
-listed_below_more marks g n =
-    let f : ℕ → Place × Look = λ k. (place_of k, look_at g (place_of k)) in
-    let p : ℕ → Bool = λ k. is_marked marks k in
-    ap (λ (l : List ℕ). map f l) (filter_range_more p n) ∙ map-append f (filter p (range_with_len 0 n)) (cond (p n) (n ∷ []) []) ∙ ap (λ (l : List (Place × Look)). map f (filter p (range_with_len 0 n)) ++ l) (map_choice f (p n) n)
-
--- numbers that aren't marked add nothing
-listed_below_skip : (marks : List Bool) (g : List (List Look)) (from d : ℕ) → ((k : ℕ) → from ≤ k → k < from + d → is_marked marks k ≡ false) → listed_below marks g (from + d) ≡ listed_below marks g from
-unfolding shown_at
-listed_below_skip marks g from zero none = ap (λ n. listed_below marks g n) (add-zero from)
-listed_below_skip marks g from (suc d) none =
-    let next : from + suc d ≡ (from + d) + 1 = omega arith in
-    let here : is_marked marks (from + d) ≡ false = none (from + d) (omega arith) (omega arith) in
-    ap (λ n. listed_below marks g n) next ∙ listed_below_more marks g (from + d) ∙ ap (λ b. listed_below marks g (from + d) ++ cond b ((place_of (from + d), look_at g (place_of (from + d))) ∷ []) []) here ∙ append-nil (listed_below marks g (from + d)) ∙ listed_below_skip marks g from d (λ k at_least below. none k at_least (omega arith))
-
-listed_below_gap : (marks : List Bool) (g : List (List Look)) (from n : ℕ) → from ≤ n → ((k : ℕ) → from ≤ k → k < n → is_marked marks k ≡ false) → listed_below marks g n ≡ listed_below marks g from
-listed_below_gap marks g from n le none =
-    let whole : from + (n - from) ≡ n = omega arith in
-    ap (λ k. listed_below marks g k) (sym whole) ∙ listed_below_skip marks g from (n - from) (λ k at_least below. none k at_least (omega arith))
-
 -- the first marked place from `from` on comes next
 listed_below_first : (marks : List Bool) (g : List (List Look)) (from : ℕ) (p : Place) → IsFirstFrom marks from p → listed_below marks g (number p.row p.column + 1) ≡ listed_below marks g from ++ (p, look_at g p) ∷ []
-unfolding shown_at
 listed_below_first marks g from p is =
-    let n : ℕ = number p.row p.column in
-    listed_below_more marks g n ∙ ap (λ b. listed_below marks g n ++ cond b ((place_of n, look_at g (place_of n)) ∷ []) []) is.marked ∙ ap (λ (q : Place). listed_below marks g n ++ (q, look_at g q) ∷ []) (place_of-number p is.on_screen) ∙ ap (λ (l : List (Place × Look)). l ++ (p, look_at g p) ∷ []) (listed_below_gap marks g from n is.at_least is.first)
+    listed_below-next marks g from (number p.row p.column) is.at_least is.first is.marked ∙ ap (λ (q : Place). listed_below marks g from ++ (q, look_at g q) ∷ []) (place_of-number p is.on_screen)
 
 -- one paint at the end of a painting
 painted_all_push : (g : List (List Look)) (xs : List (Place × Look)) (p : Place) (l : Look) → painted_all g (xs ++ (p, l) ∷ []) ≡ painted (painted_all g xs) p l
@@ -89,8 +42,8 @@ pub PaintedSoFar-none : (marks : List Bool) (looks : List (List Look)) (s : Glas
 unfolding painted_all
 PaintedSoFar-none marks looks s = record {
   within = omega arith;
-  grid = ap (λ (l : List (Place × Look)). painted_all s.grid l) (sym (listed_below_none marks looks));
-  listed = subst (λ (l : List (Place × Look)). Lists s.paints l s.paints) (sym (listed_below_none marks looks)) (Lists-none s.paints);
+  grid = ap (λ (l : List (Place × Look)). painted_all s.grid l) (sym (listed_below-none marks looks));
+  listed = subst (λ (l : List (Place × Look)). Lists s.paints l s.paints) (sym (listed_below-none marks looks)) (Lists-none s.paints);
 }
 
 pub PaintedSoFar-more : {marks : List Bool} {looks : List (List Look)} {old now : GlassState} {from : ℕ} → PaintedSoFar marks looks old now from → (p : Place) (next : GlassState) (n : ℕ) → IsFirstFrom marks from p → Paints now p (look_at looks p) next → n ≡ number p.row p.column → PaintedSoFar marks looks old next (n + 1)
@@ -106,7 +59,7 @@ PaintedSoFar-more {marks} {looks} {old} {now} {from} s p next n is paints e =
 -- no marked place is left
 whole_list : {marks : List Bool} {looks : List (List Look)} {old now : GlassState} {from : ℕ} → PaintedSoFar marks looks old now from → ((n : ℕ) → from ≤ n → is_marked marks n ≡ false) → listed_below marks looks from ≡ listed marks looks
 whole_list {marks} {looks} {from = from} s none =
-    sym (listed_below_gap marks looks from 960 s.within (λ k at_least _. none k at_least)) ∙ listed_below_all marks looks
+    sym (listed_below-unmarked marks looks from 960 s.within (λ k at_least _. none k at_least)) ∙ listed_below-whole marks looks
 
 pub PaintedSoFar-grid : {marks : List Bool} {looks : List (List Look)} {old now : GlassState} {from : ℕ} → PaintedSoFar marks looks old now from → ((n : ℕ) → from ≤ n → is_marked marks n ≡ false) → now.grid ≡ painted_all old.grid (listed marks looks)
 PaintedSoFar-grid {old = old} s none = s.grid ∙ ap (λ (l : List (Place × Look)). painted_all old.grid l) (whole_list s none)

@@ -9,8 +9,8 @@ use Rattle.cept_codes.specs.Cell.{blank}
 use Rattle.cept_codes.specs.Look.{blank_look}
 use Rattle.cept_codes.specs.Place.{Place, OnScreen, number, place_of}
 use Rattle.cept_codes.specs.Table.{at}
-use Rattle.cept_codes.proofs.Places.{place_of-number, number-lt}
-use Rattle.cept_codes.proofs.Tables.{at-table, same_table}
+use Rattle.cept_codes.proofs.Laws.{place_of-number, number-lt}
+use Rattle.cept_codes.proofs.Laws.{at-table, same_table}
 use Rattle.cept_profile.specs.Cells.{is_at, seen, struck_all}
 use Rattle.cept_profile.specs.Changes.{look_at, differences, painted}
 use Rattle.cept_profile.specs.Look.{look, look_of, looks_of}

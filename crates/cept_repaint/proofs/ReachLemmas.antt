@@ -14,7 +14,7 @@ use Rattle.cept_codes.specs.declared.look.Look.{Look}
 use Rattle.cept_codes.specs.Look.{blank_look}
 use Rattle.cept_codes.specs.Place.{Place, OnScreen}
 use Rattle.cept_codes.specs.Table.{at}
-use Rattle.cept_codes.proofs.Tables.{at-table}
+use Rattle.cept_codes.proofs.Laws.{at-table}
 use Rattle.cept_profile.specs.Look.{look, looks_of}
 use Rattle.cept_profile.specs.State.{Page, drawn}
 use Rattle.cept_profile.specs.Reach.{reaches, in_reach, rows_in_reach}

@@ -8,8 +8,9 @@ use Rattle.cept_codes.specs.Look.{blank_look}
 use Rattle.cept_codes.specs.Place.{OnScreen, place_of}
 use Rattle.cept_codes.specs.Same.{same_look}
 use Rattle.cept_codes.specs.Table.{at, row_of, IsTable}
-use Rattle.cept_codes.proofs.Equal.{look_decides}
-use Rattle.cept_codes.proofs.Tables.{length-row_of, get_or-row_of, at-table, RowsMade, RowsMade-none, RowsMade-more, RowsMade-all}
+use Rattle.cept_codes.proofs.Laws.{look_decides}
+use Rattle.cept_codes.proofs.Laws.{at-table}
+use Rattle.cept_repaint.proofs.Made.{length-row_of, get_or-row_of, RowsMade, RowsMade-none, RowsMade-more, RowsMade-all}
 use Rattle.cept_profile.specs.Changes.{look_at, differences}
 use Rattle.cept_profile.specs.Look.{look, looks_of}
 use Rattle.cept_profile.specs.State.{Page}

@@ -9,7 +9,7 @@ use Rattle.cept_profile.specs.Look.{looks_of}
 use Rattle.cept_profile.specs.State.{Page, State, drawn, after}
 use Rattle.cept_profile.specs.Strokes.{strokes_of}
 use Rattle.cept_profile.specs.Valid.{IsValidState}
-use Rattle.cept_profile.proofs.ValidState.{IsValidState-after}
+use Rattle.cept_profile.proofs.Laws.{IsValidState-after}
 use Rattle.cept_repaint.specs.Kept.{IsKept}
 
 -- two states of the same page and the same control are the same

@@ -8,7 +8,8 @@ use Rattle.cept_codes.specs.declared.stroke.Stroke.TheVariants as strokes
 use Rattle.cept_codes.specs.Cell.{blank}
 use Rattle.cept_codes.specs.Place.{Place, OnScreen}
 use Rattle.cept_codes.specs.Table.{table, row_of, at, IsTable}
-use Rattle.cept_codes.proofs.Tables.{table-at, set_is, same_table, table_is, length-table, get_or-table}
+use Rattle.cept_codes.proofs.Laws.{table-at, same_table}
+use Rattle.cept_repaint.proofs.Made.{set_is, table_is, length-table, get_or-table}
 use Rattle.cept_repaint.specs.declared.grid.TheConstants.{BLANK_ROW}
 use Rattle.cept_profile.specs.Cells.{is_at, seen, struck, struck_all}
 
@@ -63,17 +64,17 @@ struck-wipe rows rest old lent now n is same long en all_blank =
 pub struck-other : {now : List (List Cell)} → IsTable now → (stroke : Stroke) → ((p : Place) (cell : Cell) → stroke ≡ strokes.Put p cell → ⊥) → (stroke ≡ strokes.Wipe → ⊥) → now ≡ struck now stroke
 struck-other is (strokes.Put p cell) no_put no_wipe = absurd (no_put p cell refl)
 struck-other is strokes.Wipe no_put no_wipe = absurd (no_wipe refl)
-struck-other is (strokes.Erase r from) no_put no_wipe = sym (table-at is blank)
-struck-other is (strokes.Shift a b way) no_put no_wipe = sym (table-at is blank)
-struck-other is (strokes.RowAttr r attr) no_put no_wipe = sym (table-at is blank)
-struck-other is (strokes.ScreenAttr attr) no_put no_wipe = sym (table-at is blank)
-struck-other is strokes.ScreenClear no_put no_wipe = sym (table-at is blank)
-struck-other is (strokes.Colour i paint) no_put no_wipe = sym (table-at is blank)
-struck-other is (strokes.Dclut i v) no_put no_wipe = sym (table-at is blank)
-struck-other is strokes.ColourDefaults no_put no_wipe = sym (table-at is blank)
-struck-other is strokes.DrcsClear no_put no_wipe = sym (table-at is blank)
-struck-other is (strokes.Drcs code pattern) no_put no_wipe = sym (table-at is blank)
-struck-other is (strokes.Format rows) no_put no_wipe = sym (table-at is blank)
+struck-other is (strokes.Erase r from) no_put no_wipe = sym (table-at _ blank is)
+struck-other is (strokes.Shift a b way) no_put no_wipe = sym (table-at _ blank is)
+struck-other is (strokes.RowAttr r attr) no_put no_wipe = sym (table-at _ blank is)
+struck-other is (strokes.ScreenAttr attr) no_put no_wipe = sym (table-at _ blank is)
+struck-other is strokes.ScreenClear no_put no_wipe = sym (table-at _ blank is)
+struck-other is (strokes.Colour i paint) no_put no_wipe = sym (table-at _ blank is)
+struck-other is (strokes.Dclut i v) no_put no_wipe = sym (table-at _ blank is)
+struck-other is strokes.ColourDefaults no_put no_wipe = sym (table-at _ blank is)
+struck-other is strokes.DrcsClear no_put no_wipe = sym (table-at _ blank is)
+struck-other is (strokes.Drcs code pattern) no_put no_wipe = sym (table-at _ blank is)
+struck-other is (strokes.Format rows) no_put no_wipe = sym (table-at _ blank is)
 
 -- the strokes that are left of a list, one stroke on and at the end
 pub struck_all-drop : (cells now : List (List Cell)) (xs : List Stroke) (i : ℕ) (x : Stroke) → i < length xs → x ≡ get_or xs i x → now ≡ struck cells x → struck_all now (drop (i + 1) xs) ≡ struck_all cells (drop i xs)

@@ -2,7 +2,7 @@
 use Rattle.std.proofs.Common.{◌≡◌, ℕ, ◌+◌, ◌-◌, ◌<◌, zero, suc, List, [], ◌++◌, length, take, refl, sym, ◌∙◌, ap, subst, arith, append_assoc, append-nil, add-zero, add-one}
 use Rattle.std.specs.List.{flat_map, range_with_len}
 use Rattle.cept_outside.specs.SinkState.{SinkState, Gains}
-use Rattle.cept_outside.proofs.Known.{Gains-nil, Gains-append}
+use Rattle.cept_outside.proofs.Laws.{Gains-nil, Gains-append}
 use Rattle.cept_report.proofs.Putting.{Gains-part}
 
 -- the pieces of n numbers from a on

@@ -7,7 +7,7 @@ use Rattle.cept_codes.specs.declared.look.Look.{Look}
 use Rattle.cept_codes.specs.Place.{Place, number, place_of}
 use Rattle.cept_codes.proofs.Laws.{place_of-number, number-lt}
 use Rattle.cept_outside.specs.SinkState.{SinkState, Gains}
-use Rattle.cept_outside.proofs.Known.{Gains-nil, Gains-append}
+use Rattle.cept_outside.proofs.Laws.{Gains-nil, Gains-append}
 use Rattle.cept_profile.specs.Changes.{look_at, listed, listed_below}
 use Rattle.cept_profile.proofs.Laws.{listed_below-whole, listed_below-next, listed_below-unmarked, listed_below-rest}
 use Rattle.cept_repaint.specs.Marks.{is_marked, IsFirstFrom}

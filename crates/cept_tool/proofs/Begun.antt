@@ -6,7 +6,7 @@ use Rattle.cept_codes.specs.declared.item.Item.{Item}
 use Rattle.cept_codes.specs.declared.item.Reason.{Reason}
 use Rattle.cept_codes.specs.declared.item.Said.TheVariants as said
 use Rattle.cept_outside.specs.SinkState.{SinkState, Gains}
-use Rattle.cept_outside.proofs.Known.{append_known-append_known}
+use Rattle.cept_outside.proofs.Laws.{append_known-append_known}
 use Rattle.cept_codes.specs.declared.look.Look.{Look}
 use Rattle.cept_codes.specs.Place.{Place}
 use Rattle.cept_parser.specs.Items.{items}

@@ -21,7 +21,7 @@ use Rattle.cept_tool.specs.Events.{applied, final_text, told_behind}
 use Rattle.cept_tool.specs.Run.{Reports, status_of}
 use Rattle.cept_tool.specs.Told.{HasRead, HasTold, HasBegun}
 use Rattle.cept_tool.specs.Words.{Form, ReadsGlass, is_painting}
-use Rattle.cept_outside.proofs.Known.{append_known-append_known, left_after}
+use Rattle.cept_outside.proofs.Laws.{append_known-append_known, left_after}
 use Rattle.cept_tool.proofs.Standing.{HasTold-order, HasTold-start}
 
 -- so many bytes of the page were taken, read and told

@@ -12,7 +12,7 @@ use Rattle.cept_codes.specs.declared.look.Look.{Look}
 use Rattle.cept_codes.specs.Command.{IsValidCommand}
 use Rattle.cept_codes.specs.Place.{Place}
 use Rattle.cept_outside.specs.SinkState.{SinkState}
-use Rattle.cept_outside.proofs.Known.{append_known-append_known, append_known-nil}
+use Rattle.cept_outside.proofs.Laws.{append_known-append_known, append_known-nil}
 use Rattle.cept_profile.proofs.Laws.{painted_all-changes}
 use Rattle.cept_profile.specs.Changes.{changes, painted_all}
 use Rattle.cept_profile.specs.Look.{grid}

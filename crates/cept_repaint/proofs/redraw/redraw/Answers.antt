@@ -2,7 +2,7 @@ use Rattle.std.proofs.lemmas.Bool.{eqb-true}
 use Rattle.std.proofs.Common.{List, length, sym, ◌∙◌, subst, arith}
 use Rattle.cept_codes.specs.declared.look.Look.{Look}
 use Rattle.cept_codes.specs.Table.{IsTable}
-use Rattle.cept_codes.proofs.Tables.{IsTable-table}
+use Rattle.cept_codes.proofs.Laws.{IsTable-table}
 use Rattle.cept_profile.specs.Look.{look}
 use Rattle.cept_repaint.proofs.PlaceLemmas.{OthersStay-put, drawn-none}
 use Rattle.cept_repaint.proofs.ReachLemmas.{kept-out_of_reach, count-rows, reach-put}

@@ -2,7 +2,7 @@ use Rattle.std.proofs.Common.{◌≡◌, refl, sym, ◌∙◌, ap, subst, arith,
 use Rattle.std.proofs.lemmas.List.{length-take-le}
 use Rattle.cept_parser.specs.Items.{items, closed_items}
 use Rattle.cept_tool.specs.Told.{Stands}
-use Rattle.cept_outside.proofs.Known.{all_taken}
+use Rattle.cept_outside.proofs.Laws.{all_taken}
 use Rattle.cept_tool.proofs.Reading.{HasCome-piece, front_with, left_more, KeepsFiles-more}
 use Rattle.cept_tool.proofs.Standing.{HasTold-order, HasTold-start}
 use Rattle.cept_tool.proofs.Begun.{begun_items, begun_same, begun_bytes}

@@ -2,7 +2,8 @@ use Rattle.std.proofs.Common.{ℕ, List, refl, sym, subst, ◌∙◌, arith}
 use Rattle.cept_codes.specs.declared.cell.Cell.{Cell}
 use Rattle.cept_codes.specs.Table.{IsTable}
 use Rattle.cept_codes.specs.Cell.{blank}
-use Rattle.cept_codes.proofs.Tables.{first_rows_none, first_rows_more, first_rows_all, IsTable-table}
+use Rattle.cept_codes.proofs.Laws.{IsTable-table}
+use Rattle.cept_repaint.proofs.Made.{first_rows_none, first_rows_more, first_rows_all}
 use Rattle.cept_repaint.proofs.StruckLemmas.{blank_row}
 use Rattle.cept_repaint.proofs.grid.Grid.new.Goals as goal
 

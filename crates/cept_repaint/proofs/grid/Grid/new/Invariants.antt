@@ -1,6 +1,6 @@
 use Rattle.std.proofs.Common.{◌≡◌}
 use Rattle.cept_codes.specs.Cell.{blank}
-use Rattle.cept_codes.proofs.Tables.{first_rows}
+use Rattle.cept_repaint.proofs.Made.{first_rows}
 use Rattle.cept_repaint.proofs.grid.Grid.new.Given as goal
 
 abbrev pub invariant-loop-row : goal.invariant-loop-row

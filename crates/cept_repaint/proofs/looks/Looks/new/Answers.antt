@@ -2,7 +2,8 @@ use Rattle.std.proofs.Common.{ℕ, List, refl, sym, subst, ◌∙◌, arith}
 use Rattle.cept_codes.specs.declared.look.Look.{Look}
 use Rattle.cept_codes.specs.Table.{IsTable}
 use Rattle.cept_codes.specs.Look.{blank_look}
-use Rattle.cept_codes.proofs.Tables.{first_rows_none, first_rows_more, first_rows_all, IsTable-table}
+use Rattle.cept_codes.proofs.Laws.{IsTable-table}
+use Rattle.cept_repaint.proofs.Made.{first_rows_none, first_rows_more, first_rows_all}
 use Rattle.cept_repaint.proofs.LookLemmas.{blank_look_row}
 use Rattle.cept_repaint.proofs.looks.Looks.new.Goals as goal
 

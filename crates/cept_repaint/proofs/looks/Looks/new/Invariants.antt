@@ -1,6 +1,6 @@
 use Rattle.std.proofs.Common.{◌≡◌}
 use Rattle.cept_codes.specs.Look.{blank_look}
-use Rattle.cept_codes.proofs.Tables.{first_rows}
+use Rattle.cept_repaint.proofs.Made.{first_rows}
 use Rattle.cept_repaint.proofs.looks.Looks.new.Given as goal
 
 abbrev pub invariant-loop-row : goal.invariant-loop-row

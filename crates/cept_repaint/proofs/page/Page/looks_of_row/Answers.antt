@@ -1,5 +1,5 @@
 use Rattle.std.proofs.Common.{refl, arith}
-use Rattle.cept_codes.proofs.Tables.{CellsMade-none, CellsMade-all}
+use Rattle.cept_repaint.proofs.Made.{CellsMade-none, CellsMade-all}
 use Rattle.cept_repaint.proofs.page.Page.looks_of_row.Goals as goal
 
 pub loop-i-init : goal.loop-i-init

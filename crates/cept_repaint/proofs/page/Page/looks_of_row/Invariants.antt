@@ -1,6 +1,6 @@
 use Rattle.std.proofs.Common.{get_or, ◌-◌}
 use Rattle.cept_codes.specs.Look.{blank_look}
-use Rattle.cept_codes.proofs.Tables.{CellsMade}
+use Rattle.cept_repaint.proofs.Made.{CellsMade}
 use Rattle.cept_profile.specs.Look.{look}
 use Rattle.cept_repaint.proofs.page.Page.looks_of_row.Given as goal
 

@@ -1,6 +1,6 @@
 use Rattle.std.proofs.Common.{sym, ap, ◌∙◌}
 use Rattle.cept_profile.specs.State.{State, after}
-use Rattle.cept_profile.proofs.State.{state-one_more}
+use Rattle.cept_profile.proofs.Laws.{state-one_more}
 use Rattle.cept_repaint.proofs.screen.Screen.apply.Goals as goal
 
 pub returns-clause-goes_on : goal.returns-clause-goes_on

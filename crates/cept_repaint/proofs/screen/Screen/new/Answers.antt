@@ -1,9 +1,9 @@
 use Rattle.std.proofs.Common.{◌≡◌, [], sym, ap, subst, ◌∙◌}
-use Rattle.cept_profile.proofs.Start.{grid-none}
+use Rattle.cept_profile.proofs.Laws.{grid-none}
 use Rattle.cept_profile.specs.Look.{looks_of}
 use Rattle.cept_profile.specs.State.{Page, State, state}
 use Rattle.cept_profile.specs.Valid.{IsValidState}
-use Rattle.cept_profile.proofs.ValidState.{IsValidState-start}
+use Rattle.cept_profile.proofs.Laws.{IsValidState-start}
 use Rattle.cept_repaint.proofs.StateLemmas.{same_state}
 use Rattle.cept_repaint.proofs.screen.Screen.new.Goals as goal
 
