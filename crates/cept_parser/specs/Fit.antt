@@ -1,5 +1,5 @@
 -- How bytes stand to the grammar, in one word.
-use Rattle.std.specs.Prelude.{ℕ, Bool, true, false, not, ◌||◌, ◌==◌, List, [], ◌∷◌, if◌then◌else◌, Option, Some, None}
+use Rattle.std.specs.Prelude.{ℕ, Bool, true, false, not, ◌&&◌, ◌||◌, ◌==◌, nat_le, List, [], ◌∷◌, if◌then◌else◌, Option, Some, None}
 use Rattle.cept_parser.specs.declared.context.Context.{Context}
 use Rattle.cept_parser.specs.declared.context.Closed.{Closed}
 use Rattle.cept_parser.specs.declared.fit.Extent.{Extent}
@@ -8,7 +8,7 @@ use Rattle.cept_parser.specs.declared.fit.Fit.{Fit}
 use Rattle.cept_parser.specs.declared.fit.Fit.TheVariants.{Misfit, Open, Whole, Longer}
 use Rattle.cept_parser.specs.declared.context.Mode.{Mode}
 use Rattle.cept_parser.specs.declared.context.Mode.TheVariants.{Text, TableRun, DclutRun, DrcsRun, Skip}
-use Rattle.cept_parser.specs.Bytes.{contains, is_plain}
+use Rattle.cept_parser.specs.Bytes.{between, contains, is_plain}
 use Rattle.cept_parser.specs.Grammar.{unit, fits, grows}
 
 -- the word for bytes that fit or not, grow or not, and wholly are this
@@ -46,3 +46,19 @@ abbrev pub is_alone : Context → ℕ → Bool
 is_alone x a =
     if is_plain a then is_single_mode x.mode else
     not (a == 0x12 || (a == 0x1B || (a == 0x9B || a == 0x1F)))
+
+-- the mode in which plain bytes are signs
+abbrev pub is_text : Mode → Bool
+is_text Text = true
+is_text Skip = false
+is_text (TableRun i) = false
+is_text (DclutRun i) = false
+is_text (DrcsRun c) = false
+
+-- a byte that is a sign by itself: a plain one in mode Text, or one of the right half
+abbrev pub is_sign : Context → ℕ → Bool
+is_sign x a = if is_plain a then is_text x.mode else nat_le 0xA0 a
+
+-- a C1 code in its form of one byte, which is no CSI
+abbrev pub is_c1 : ℕ → Bool
+is_c1 a = between 0x80 0x9F a && not (a == 0x9B)

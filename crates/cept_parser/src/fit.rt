@@ -1,7 +1,7 @@
 ghost use Rattle.std.specs.Prelude.{◌≡◌, ℕ, slice_index, ◌≤◌, ◌<◌, ◌-◌, Option, None, Some, is_some, IfSome, OnSome, ◌∷◌, List, [], true, false, length};
 ghost use Rattle.cept_parser.specs.Bytes.{between, is_plain, is_empty, closed, complete, begins_plain, with_plain, begins_sequence, is_sequence};
 ghost use Rattle.cept_parser.specs.Grammar.{repeat, csi_unit, escape_unit, begins_escape, unit, fits, grows};
-ghost use Rattle.cept_parser.specs.Fit.{fit, fit_by, extent_by, behind, is_alone};
+ghost use Rattle.cept_parser.specs.Fit.{fit, fit_by, extent_by, behind, is_alone, is_sign, is_c1};
 ghost use Rattle.cept_parser.specs.Told.{escape_told, told};
 ghost use Rattle.cept_parser.specs.Waits.{cut};
 ghost use Rattle.cept_parser.specs.declared.context.Closed.{Closed};
@@ -247,6 +247,7 @@ pub fn alone(context: &Context, byte: u8) -> Option<Closed>
 #[inline]
 #[tactic(auto, unfolding(crate::specs::Grammar::unit, crate::specs::Grammar::grows, crate::specs::Runs::run_unit, crate::specs::Runs::run_grows, crate::specs::Controls::control))]
 pub fn is_sign(context: &Context, byte: u8) -> bool
+    ensures found { result ≡ is_sign context.now byte }
     ensures whole { result ≡ true → unit context.now (byte ∷ []) ≡ Some (closed context.now Mode.Text (Said.Command (Command.Graphic byte))) }
     ensures end { result ≡ true → grows context.now (byte ∷ []) ≡ false }
 {
@@ -261,6 +262,7 @@ pub fn is_sign(context: &Context, byte: u8) -> bool
 #[inline]
 #[tactic(auto, unfolding(crate::specs::Grammar::unit, crate::specs::Grammar::grows, crate::specs::Runs::run_unit, crate::specs::Runs::run_grows, crate::specs::Controls::control))]
 pub fn is_c1(byte: u8) -> bool
+    ensures found { result ≡ is_c1 byte }
     ensures range { result ≡ true → 0x80 ≤ byte }
     ensures whole { (x : Context) → result ≡ true → unit x (byte ∷ []) ≡ Some (closed x Mode.Text (Said.Command (Command.C1 (byte - 0x80)))) }
     ensures end { (x : Context) → result ≡ true → grows x (byte ∷ []) ≡ false }

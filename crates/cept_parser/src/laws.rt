@@ -4,6 +4,7 @@ ghost use Rattle.std.specs.Prelude.{◌≡◌, ◌≤◌, ◌+◌, ◌↔◌, �
 ghost use Rattle.cept_codes.specs.Command.{IsValidSaid};
 ghost use Rattle.cept_parser.specs.declared.context.Context.{Context};
 ghost use Rattle.cept_parser.specs.declared.context.Closed.{Closed};
+ghost use Rattle.cept_parser.specs.declared.context.Mode.TheVariants as mode;
 ghost use Rattle.cept_parser.specs.Bytes.{is_plain};
 ghost use Rattle.cept_parser.specs.Context.{start};
 ghost use Rattle.cept_parser.specs.Grammar.{unit, fits, grows};
@@ -49,6 +50,11 @@ pub fn contexts()
     ensures said { (x : Context) (u : List ℕ) (o : Closed) → IsValidContext x → AreBytes u → unit x u ≡ Some o → IsValidSaid o.said }
     ensures next { (x : Context) (u : List ℕ) (o : Closed) → IsValidContext x → AreBytes u → unit x u ≡ Some o → IsValidContext o.next }
     ensures reading { (x : Context) (at : ℕ) (b : List ℕ) → IsValidContext x → AreBytes b → IsValidContext (read x at b).context }
+
+    // In numbers: a run of colours is at 0 to 32 of the table or 0 to 4 of the DCLUT, one of patterns at 2/1 to 7/15.
+    ensures table_run { (x : Context) (i : ℕ) → IsValidContext x → x.mode ≡ mode.TableRun i → i ≤ 32 }
+    ensures dclut_run { (x : Context) (i : ℕ) → IsValidContext x → x.mode ≡ mode.DclutRun i → i ≤ 4 }
+    ensures drcs_run { (x : Context) (c : ℕ) → IsValidContext x → x.mode ≡ mode.DrcsRun c → (0x21 ≤ c) × (c ≤ 0x7F) }
 {}
 
 /// Reading goes on from what is pending: bytes in two parts read as the first part, and then as what it left pending

@@ -192,7 +192,7 @@ fn tails_behind_escape(rt: HostRuntime) -> Result<(), Fail> {
 #[test]
 fn tails_behind_csi(rt: HostRuntime) -> Result<(), Fail> {
     sweep(&rt, rt.alloc(), &[0x9B])?;
-    for number in [0x30, 0x31, 0x32, 0x33, 0x36, 0x37, 0x3F] {
+    for number in 0x30..0x40u8 {
         sweep(&rt, rt.alloc(), &[0x9B, number])?;
     }
     sweep(&rt, rt.alloc(), &[0x9B, 0x31, 0x3B])?;
@@ -219,7 +219,7 @@ fn tails_behind_us(rt: HostRuntime) -> Result<(), Fail> {
     sweep(&rt, rt.alloc(), &[0x1F, 0x23, 0x20, 0x28, 0x40])?;
     sweep(&rt, rt.alloc(), &[0x1F, 0x26])?;
     sweep(&rt, rt.alloc(), &[0x1F, 0x26, 0x20])?;
-    for digit in [0x30, 0x33, 0x34, 0x39] {
+    for digit in 0x30..0x3Au8 {
         sweep(&rt, rt.alloc(), &[0x1F, 0x26, digit])?;
     }
     sweep(&rt, rt.alloc(), &[0x1F, 0x2D])?;
