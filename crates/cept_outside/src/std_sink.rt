@@ -74,7 +74,7 @@ impl<W: Write> StdSink<W> {
 }
 
 impl<W: Write> Sink for StdSink<W> {
-    ghost use Rattle.cept_outside.specs.StdSink.{std_sink_state, written_and_held};
+    ghost use Rattle.cept_outside.specs.StdSink.{std_sink_state, held_back, written_and_held};
 
     ghost state = { std_sink_state };
 
@@ -97,6 +97,7 @@ impl<W: Write> Sink for StdSink<W> {
         ensures flushes { Flushes (std_sink_state self.old) result (std_sink_state self.new) }
         ensures cause { HasCause (std_sink_state self.old).faults (std_sink_state self.new).faults result }
         ensures kept { Keeps (written_and_held W.contents self.old) (written_and_held W.contents self.new) }
+        ensures all { OnOk result (held_back self.new ≡ []) }
     {
         self.hand_on()?;
         if self.out.flush().is_err() {
