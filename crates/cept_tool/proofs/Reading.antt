@@ -1,7 +1,7 @@
 -- A page that is taken piece by piece.
-use Rattle.std.proofs.Common.{◌≡◌, ℕ, ◌+◌, ◌≤◌, Option, Some, None, Result, Err, List, [], ◌++◌, length, take, drop, refl, sym, ◌∙◌, ap, subst, arith, append-nil, take-take, take-append-drop}
+use Rattle.std.proofs.Common.{◌≡◌, ℕ, ◌+◌, ◌≤◌, Option, Some, None, Result, Err, List, [], ◌++◌, length, take, drop, refl, sym, ◌∙◌, ap, subst, take-take}
 use Rattle.std.specs.Io.KnownBytes.{prepend_known, append_known}
-use Rattle.std.proofs.lemmas.List.{drop-drop, drop_at, length-take-le, take-append-le}
+use Rattle.std.proofs.lemmas.List.{length-take-le}
 use Rattle.std.proofs.Math.Seq.{take-add}
 use Rattle.cept_codes.specs.declared.item.Item.{Item}
 use Rattle.cept_codes.specs.declared.look.Look.{Look}

@@ -39,6 +39,16 @@ pub record Reports (form : Form) (page : List ℕ) (sink now : SinkState) (glass
   pub painted : Lists glass.paints (painted_behind form.order [] (closed_items page)) shown.paints
   pub grid : glass.grid ≡ grid [] → shown.grid ≡ grid (applied form.order (closed_items page))
 
+-- the number that the program ends with. 3 is left free
+abbrev pub status_number : Status → ℕ
+status_number statuses.Done = 0
+status_number statuses.Refusals = 1
+status_number statuses.Usage = 2
+status_number statuses.ReadFault = 4
+status_number statuses.WriteFault = 5
+status_number statuses.NoMemory = 6
+status_number statuses.TooLong = 7
+
 -- the status of a page that wasn't read to its end
 abbrev pub status_of : Stop → Status
 status_of stops.ReadFault = statuses.ReadFault

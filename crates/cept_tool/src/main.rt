@@ -41,5 +41,5 @@ fn status(rt: &HostRuntime) -> Status {
 }
 
 fn main(rt: HostRuntime) -> ExitCode {
-    ExitCode::from(status(&rt) as u8)
+    ExitCode::from(status(&rt).number())
 }

@@ -6,7 +6,7 @@ ghost use Rattle.cept_outside.specs.ShelfState.{Holds, KeepsFiles, bytes_under};
 ghost use Rattle.cept_parser.specs.Items.{items, closed_items};
 ghost use Rattle.cept_profile.specs.Look.{grid};
 ghost use Rattle.cept_tool.specs.Events.{has_refusal, report};
-ghost use Rattle.cept_tool.specs.Run.{IsWhole, IsUntouched, Reports, status_of};
+ghost use Rattle.cept_tool.specs.Run.{IsWhole, IsUntouched, Reports, status_number, status_of};
 ghost use Rattle.cept_tool.specs.Told.{HasRead, HasTold, HasBegun};
 ghost use Rattle.cept_tool.specs.Words.{Form, ReadsGlass, form_of};
 
@@ -19,26 +19,41 @@ use std::alloc::Global;
 use std::marker::Brand;
 use std::sync::ledger::{Blank, Ledger};
 
-/// How a run ends. The program ends with the number.
+/// How a run ends. The program ends with its number.
 #[derive(Clone, Copy, Debug, PartialEq, Eq)]
 pub enum Status {
     /// The page was read to its end, and nothing in it is refused.
-    Done = 0,
+    Done,
     /// The page was read to its end, and an item in it is refused.
-    Refusals = 1,
+    Refusals,
     /// The words are no form.
-    Usage = 2,
+    Usage,
     /// The page can't be opened or read.
-    ReadFault = 4,
+    ReadFault,
     /// The output failed.
-    WriteFault = 5,
+    WriteFault,
     /// There is no memory.
-    NoMemory = 6,
+    NoMemory,
     /// The page has more than 2^24 bytes.
-    TooLong = 7,
+    TooLong,
 }
 
 impl Status {
+    /// The number that the program ends with.
+    pub fn number(self) -> u8
+        ensures { result ≡ status_number self }
+    {
+        match self {
+            Status::Done => 0,
+            Status::Refusals => 1,
+            Status::Usage => 2,
+            Status::ReadFault => 4,
+            Status::WriteFault => 5,
+            Status::NoMemory => 6,
+            Status::TooLong => 7,
+        }
+    }
+
     /// The status of a page that was read to its end.
     fn of_whole(refused: bool) -> Status
         ensures whole { IsWhole result }

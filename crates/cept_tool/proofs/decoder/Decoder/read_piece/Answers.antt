@@ -36,7 +36,7 @@ returns-in-Err-clause-begun g c =
     let so_far = c.loop-byte.invariant in
     let k = c.loop-byte.byte-index in
     λ bytes before shown read told.
-        let front = bytes ++ take (k + 1) c.args.piece.now in
-        begun_bytes _ front (drop (k + 1) c.args.piece.now) _ _ before _ (front_rest bytes c.args.piece.now (k + 1)) (c.reading_goes_on.ensures.bytes front (drop (k + 1) c.args.piece.now))
-        (begun_same _ _ _ _ before _ so_far.order (ap items (front_more bytes c.args.piece.now k 0 c.loop-byte-test.true))
-        (c.in-Err.ensures.begun _ before shown (so_far.read bytes read) (HasTold-order _ _ _ _ _ _ _ _ (sym so_far.order) refl (so_far.told bytes before shown read told))))
+    let front = bytes ++ take (k + 1) c.args.piece.now in
+    begun_bytes _ front (drop (k + 1) c.args.piece.now) _ _ before _ (front_rest bytes c.args.piece.now (k + 1)) (c.reading_goes_on.ensures.bytes front (drop (k + 1) c.args.piece.now))
+    (begun_same _ _ _ _ before _ so_far.order (ap items (front_more bytes c.args.piece.now k 0 c.loop-byte-test.true))
+    (c.in-Err.ensures.begun _ before shown (so_far.read bytes read) (HasTold-order _ _ _ _ _ _ _ _ (sym so_far.order) refl (so_far.told bytes before shown read told))))

@@ -36,6 +36,6 @@ returns-in-Err-clause-begun g c =
     let so_far = c.loop-item.invariant in
     let k = c.loop-item.item-index in
     λ earlier before shown stands told. begun_same _ _ _ _ before _ so_far.order
-        (ap (λ front. front ++ drop (k + 1) c.args.items.now) (front_more earlier c.args.items.now k _ c.loop-item-test.true) ∙ front_rest earlier c.args.items.now (k + 1))
-        (begun_items _ _ (drop (k + 1) c.args.items.now) before _
-        (c.in-Err.ensures.begun _ before shown (so_far.stands earlier stands) (HasTold-order _ _ _ _ _ _ _ _ (sym so_far.order) refl (so_far.told earlier before shown stands told))))
+    (ap (λ front. front ++ drop (k + 1) c.args.items.now) (front_more earlier c.args.items.now k _ c.loop-item-test.true) ∙ front_rest earlier c.args.items.now (k + 1))
+    (begun_items _ _ (drop (k + 1) c.args.items.now) before _
+    (c.in-Err.ensures.begun _ before shown (so_far.stands earlier stands) (HasTold-order _ _ _ _ _ _ _ _ (sym so_far.order) refl (so_far.told earlier before shown stands told))))
