@@ -1,4 +1,4 @@
--- Glasses: what a glass shows, and the paints that it was given.
+-- Glasses (this project's own): what a glass shows, and the paints that it was given.
 use Rattle.std.specs.Prelude.{◌≡◌, Option, Some, List, [], ◌∷◌, ◌++◌}
 use Rattle.cept_codes.specs.declared.look.Look.{Look}
 use Rattle.cept_codes.specs.Place.{Place}

@@ -1,4 +1,4 @@
--- What a glass in memory shows.
+-- What a glass in memory shows (this project's own).
 use Rattle.std.specs.Prelude.{None}
 use Rattle.cept_repaint.specs.declared.grid_glass.GridGlass.{GridGlass}
 use Rattle.cept_repaint.specs.GlassState.{GlassState}

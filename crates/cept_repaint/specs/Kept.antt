@@ -1,4 +1,4 @@
--- What a screen keeps beside its state.
+-- What a screen keeps beside its state (this project's own).
 use Rattle.std.specs.Prelude.{◌≡◌, Bool, not, List}
 use Rattle.cept_codes.specs.declared.cell.Cell.{Cell}
 use Rattle.cept_codes.specs.declared.look.Look.{Look}

@@ -1,4 +1,4 @@
--- Tapes: the first paints of a glass, as many as there is room for.
+-- Tapes (this project's own): the first paints of a glass, as many as there is room for.
 use Rattle.std.specs.Prelude.{ℕ, Bool, true, Option, Some, None, List, [], ◌∷◌, ◌++◌, length, nat_lt, if◌then◌else◌}
 use Rattle.cept_codes.specs.declared.look.Look.{Look}
 use Rattle.cept_codes.specs.Place.{Place}

@@ -1,4 +1,4 @@
--- What a glass with a tape shows and tells.
+-- What a glass with a tape shows and tells (this project's own).
 use Rattle.cept_repaint.specs.declared.tape_glass.TapeGlass.{TapeGlass}
 use Rattle.cept_repaint.specs.GlassState.{GlassState}
 use Rattle.cept_repaint.specs.GridGlass.{grid_glass_state}
