@@ -1,4 +1,5 @@
--- Classes of bytes, and the small forms of which the units are made. Codes are written column/row, as in the standards.
+-- Classes of bytes, and the small forms of which the units are made (the classes are this profile's own). Codes are written
+-- column/row, as in the standards.
 use Rattle.std.specs.Prelude.{ℕ, zero, suc, ◌+◌, ◌-◌, ◌*◌, Bool, true, false, ◌&&◌, List, [], ◌∷◌, if◌then◌else◌, ◌==◌, nat_le, Option, Some, None}
 use Rattle.std.specs.List.{list_any}
 use Rattle.cept_codes.specs.declared.item.Said.{Said}
@@ -19,10 +20,11 @@ is_plain a = between 0x20 0x7F a
 abbrev pub is_digit : ℕ → Bool
 is_digit a = between 0x30 0x39 a
 
--- the number of a digit, and of two digits
+-- the number of a digit
 abbrev pub digit : ℕ → ℕ
 digit a = a - 0x30
 
+-- the number of two digits
 abbrev pub two_digits : ℕ → ℕ → ℕ
 two_digits a b = 10 * digit a + digit b
 

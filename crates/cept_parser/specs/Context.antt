@@ -1,4 +1,4 @@
--- The context in which bytes are read: the mode, the kind of colours, and the form of downloaded patterns.
+-- The context in which bytes are read (this profile's own): the mode, the kind of colours, and the form of downloaded patterns.
 use Rattle.cept_codes.specs.declared.command.Form.{Form}
 use Rattle.cept_parser.specs.declared.context.Mode.{Mode}
 use Rattle.cept_parser.specs.declared.context.Mode.TheVariants.{Text}

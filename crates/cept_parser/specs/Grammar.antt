@@ -33,6 +33,7 @@ escape_unit x (a ∷ u) =
     if is_sequence 0x30 3 (a ∷ u) then Some (closed x Text (escape (a ∷ u))) else
     None
 
+-- the same, or the beginning of it
 unfoldable pub begins_escape : List ℕ → Bool
 begins_escape [] = true
 begins_escape (a ∷ u) = if a == 0x5B then begins_sequence 0x40 7 u else begins_sequence 0x30 3 (a ∷ u)

@@ -1,4 +1,4 @@
--- The items of bytes: found on the whole list, by the longest beginning that fits.
+-- The items of bytes (this profile's own): found on the whole list, by the longest beginning that fits.
 use Rattle.std.specs.Prelude.{ℕ, zero, suc, ◌+◌, Bool, true, false, not, ◌&&◌, ◌||◌, List, [], ◌∷◌, ◌++◌, length, take, drop, if◌then◌else◌, ◌==◌, Option, Some, None}
 use Rattle.std.specs.List.{flat_map}
 use Rattle.cept_codes.specs.declared.command.Command.{Command}
@@ -28,6 +28,7 @@ pub record Front : Type 0 where
   pub size : ℕ
   pub next : Context
 
+-- it is refused
 abbrev pub is_refusal : Said → Bool
 is_refusal (Says c) = false
 is_refusal (Refused r) = true

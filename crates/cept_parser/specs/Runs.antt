@@ -1,4 +1,5 @@
--- Units that begin with a plain byte, by the mode: signs, colours, patterns, and bytes that are passed over.
+-- Units that begin with a plain byte, by the mode: signs, colours, patterns, and bytes that are passed over (the modes are this
+-- profile's own).
 use Rattle.std.specs.Prelude.{ℕ, ◌+◌, ◌*◌, ◌/◌, ◌%◌, ◌^◌, Bool, false, ◌&&◌, List, if◌then◌else◌, nat_lt, nat_le, Option}
 use Rattle.cept_codes.specs.declared.command.Command.TheVariants as command
 use Rattle.cept_codes.specs.declared.item.Reason.TheVariants.{BadParameter}
@@ -28,6 +29,7 @@ bit k a = a / 2 ^ k % 2
 abbrev pub colour_part : ℕ → ℕ → ℕ → ℕ
 colour_part k a b = 8 * bit (k + 3) a + 4 * bit k a + (2 * bit (k + 3) b + bit k b)
 
+-- the colour of both bytes of an entry
 unfoldable pub colour : ℕ → ℕ → Rgb
 colour a b = record { r = colour_part 2 a b; g = colour_part 1 a b; b = colour_part 0 a b }
 
@@ -47,9 +49,11 @@ look_up x i a =
 unfoldable pub pattern_unit : Context → ℕ → ℕ → List ℕ → Option Closed
 pattern_unit x c a u = complete u (misplaced x)
 
+-- these bytes are the beginning of a pattern's unit
 unfoldable pub begins_pattern : Context → ℕ → ℕ → List ℕ → Bool
 begins_pattern x c a u = is_empty u
 
+-- a further byte may belong to it
 unfoldable pub pattern_grows : Context → ℕ → ℕ → List ℕ → Bool
 pattern_grows x c a u = false
 
@@ -62,6 +66,7 @@ run_unit (TableRun i) x a u =
 run_unit (DclutRun i) x a u = complete u (look_up x i a)
 run_unit (DrcsRun c) x a u = pattern_unit x c a u
 
+-- the same, or the beginning of it
 unfoldable pub begins_run : Mode → Context → ℕ → List ℕ → Bool
 begins_run Text x a u = is_empty u
 begins_run Skip x a u = is_empty u

@@ -1,8 +1,10 @@
--- What a parser is: the number of bytes pushed, the context, the bytes that are pending, and whether the input ended.
+-- What a parser is (this project's own): the number of bytes pushed, the context, the bytes that are pending, and whether the
+-- input ended.
 use Rattle.std.specs.Prelude.{◌≡◌, ℕ, ◌+◌, ◌-◌, Bool, true, false, List, [], ◌∷◌, ◌++◌, length}
 use Rattle.cept_parser.specs.declared.context.Context.{Context}
 use Rattle.cept_parser.specs.Items.{Reading, read, reading}
 
+-- what clauses see of a parser
 pub record ParserState : Type 0 where
   pub place : ℕ
   pub context : Context

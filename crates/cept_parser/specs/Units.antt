@@ -26,12 +26,13 @@ abbrev pub drcs_parts : List (List ℕ)
 drcs_parts =
     (0x20 ∷ 0x28 ∷ []) ∷ (0x40 ∷ []) ∷ (0x36 ∷ 0x37 ∷ 0x3A ∷ 0x3B ∷ 0x3C ∷ 0x3F ∷ []) ∷ (0x41 ∷ 0x42 ∷ 0x44 ∷ []) ∷ []
 
--- the form that they tell. Sizes: 3/6 12x12, 3/7 12x10, 3/10 6x12, 3/11 6x10, 3/12 6x5, 3/15 6x6, else 12x10
+-- the width of the form that they tell. Sizes: 3/6 12x12, 3/7 12x10, 3/10 6x12, 3/11 6x10, 3/12 6x5, 3/15 6x6, else 12x10
 unfoldable pub drcs_width : List ℕ → ℕ
 drcs_width u =
     if contains u 0x3A || (contains u 0x3B || (contains u 0x3C || contains u 0x3F)) then 6 else
     12
 
+-- its height, by the same sizes
 unfoldable pub drcs_height : List ℕ → ℕ
 drcs_height u =
     if contains u 0x36 || contains u 0x3A then 12 else
@@ -46,6 +47,7 @@ drcs_planes u =
     if contains u 0x44 then 4 else
     1
 
+-- the form: width, height and planes
 abbrev pub drcs_form : List ℕ → Form
 drcs_form u = record { w = drcs_width u; h = drcs_height u; planes = drcs_planes u }
 
@@ -66,6 +68,7 @@ drcs_unit x (c ∷ u) =
     if c == 0x7F then complete u (closed x Skip (Refused BadParameter)) else
     None
 
+-- the same, or the beginning of it
 unfoldable pub begins_drcs : List ℕ → Bool
 begins_drcs [] = true
 begins_drcs (c ∷ u) =
@@ -86,11 +89,12 @@ colour_header x u =
       next = record { mode = Skip; kind = (if contains u 0x22 then LookUpTable else ColourTable); form = x.form };
     }
 
--- the last place of each kind of colours, and the run that begins at a place
+-- the last place of each kind of colours
 abbrev pub last_place : ColourKind → ℕ
 last_place ColourTable = 31
 last_place LookUpTable = 3
 
+-- the run that begins at a place
 abbrev pub run_from : ColourKind → ℕ → Mode
 run_from ColourTable i = TableRun i
 run_from LookUpTable i = DclutRun i
@@ -117,6 +121,7 @@ colour_unit x (a ∷ u) =
     if is_plain a then complete u (closed x Skip (Refused BadParameter)) else
     None
 
+-- the same, or the beginning of it
 unfoldable pub begins_colour : List ℕ → Bool
 begins_colour [] = true
 begins_colour (a ∷ u) =
@@ -159,6 +164,7 @@ service_unit x (a ∷ u) =
     if is_plain a then complete u (service x a) else
     None
 
+-- the same, or the beginning of it
 unfoldable pub begins_service : List ℕ → Bool
 begins_service [] = true
 begins_service (a ∷ u) =
@@ -178,6 +184,7 @@ us_unit x (a ∷ u) =
     if is_plain a then with_plain (position x a) u else
     None
 
+-- the same, or the beginning of it
 unfoldable pub begins_us : List ℕ → Bool
 begins_us [] = true
 begins_us (a ∷ u) =

@@ -1,4 +1,4 @@
--- The contexts that reading reaches, and what holds of each item.
+-- The contexts that reading reaches, and what holds of each item (this project's own).
 use Rattle.std.specs.Prelude.{ℕ, ◌≤◌, ◌<◌, List}
 use Rattle.std.specs.List.{AllByRecursion}
 use Rattle.cept_codes.specs.Command.{IsValidForm, IsValidSaid}
@@ -17,6 +17,7 @@ IsValidMode (DclutRun i) = i ≤ 4
 IsValidMode (DrcsRun c) = (0x21 ≤ c) × (c ≤ 0x7F)
 IsValidMode Skip = Unit {0}
 
+-- the contexts that reading reaches
 pub record IsValidContext (x : Context) : Type 0 where
   pub mode : IsValidMode x.mode
   pub form : IsValidForm x.form

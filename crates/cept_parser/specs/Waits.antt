@@ -1,4 +1,4 @@
--- Pending bytes of a parser, and what becomes of them where the next byte doesn't fit.
+-- Pending bytes of a parser (this project's own), and what becomes of them where the next byte doesn't fit.
 use Rattle.std.specs.Prelude.{◌≡◌, ℕ, ◌≤◌, List, length, Option, Some, None}
 use Rattle.cept_codes.specs.declared.item.Reason.TheVariants.{Interrupted}
 use Rattle.cept_codes.specs.declared.item.Said.TheVariants.{Refused}

@@ -4,6 +4,7 @@ use Rattle.cept_repaint.specs.GlassState.{GlassState}
 use Rattle.cept_repaint.specs.GridGlass.{grid_glass_state}
 use Rattle.cept_repaint.specs.Tape.{Tape, told}
 
+-- the tape of a glass
 abbrev pub tape_of : TapeGlass → Tape
 tape_of glass = record { kept = glass.paints.items; room = glass.room; over = glass.over }
 

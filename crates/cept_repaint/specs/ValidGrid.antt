@@ -22,6 +22,7 @@ use Rattle.cept_profile.specs.Valid.{IsValidGrid}
 abbrev pub IsValidPaintAt : Place × Look → Type 0
 IsValidPaintAt paint = OnScreen paint.0.row paint.0.column × IsValidLook paint.1
 
+-- each of the paints is one
 abbrev pub AreValidPaints : List (Place × Look) → Type 0
 AreValidPaints paints = AllByRecursion IsValidPaintAt paints
 
