@@ -1,10 +1,8 @@
 -- Marked places painted one after the other, in reading order.
-use Rattle.std.proofs.Common.{◌≡◌, ℕ, ◌+◌, ◌-◌, ◌<◌, ◌≤◌, suc, zero, Bool, true, false, cond, Option, List, [], ◌∷◌, ◌++◌, map, refl, sym, ap, subst, ◌∙◌, append_assoc, arith, add-zero}
-use Rattle.std.specs.List.{range_with_len, filter}
-use Rattle.std.proofs.lemmas.List.{append-nil, map-append, map-id}
-use Rattle.std.proofs.lemmas.List.FromFn.{filter_of_map_range_with_len_more}
+use Rattle.std.proofs.Common.{◌≡◌, ℕ, ◌+◌, ◌≤◌, Bool, false, Option, List, [], ◌∷◌, ◌++◌, sym, ap, subst, ◌∙◌, append_assoc, arith}
+use Rattle.std.proofs.lemmas.List.{append-nil}
 use Rattle.cept_codes.specs.declared.look.Look.{Look}
-use Rattle.cept_codes.specs.Place.{Place, number, place_of}
+use Rattle.cept_codes.specs.Place.{Place, number}
 use Rattle.cept_codes.proofs.Laws.{place_of-number, number-lt}
 use Rattle.cept_profile.specs.Changes.{look_at, listed, listed_below, painted, painted_all}
 use Rattle.cept_profile.proofs.Laws.{painted_all-append, listed_below-none, listed_below-next, listed_below-unmarked, listed_below-whole}
