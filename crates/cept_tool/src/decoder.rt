@@ -7,7 +7,8 @@ ghost use Rattle.cept_tool.specs.Events.{told_behind};
 
 use crate::desk::Desk;
 use crate::words::Order;
-use cept_codes::NoMemory;
+use arrayvec::ArrayVec;
+use cept_codes::{Item, NoMemory};
 use cept_outside::{Sink, Steps, WriteFault};
 use cept_parser::Parser;
 use cept_parser::laws::reading_goes_on;
@@ -38,10 +39,12 @@ impl Decoder {
         })
     }
 
-    /// Reads one byte and tells the items that it closes.
+    /// Reads one byte and tells the items that it closes. They stand on the list until the next byte: items are large, and
+    /// so they are made where they stay.
     fn read_byte<T: Sink, G: Glass, L: Ledger>(
         &mut self,
         byte: u8,
+        list: &mut ArrayVec<Item, 2>,
         sink: &mut T,
         glass: &mut G,
         steps: &mut Steps<L>,
@@ -62,8 +65,9 @@ impl Decoder {
             → HasBegun (told_behind self.old.desk.order [] (items (bytes ++ byte ∷ []))) before (T.state sink.new)) }
         ensures cause { HasCause (T.state sink.old).faults (T.state sink.new).faults result }
     {
-        let items = self.parser.push(byte);
-        self.desk.tell_items(items.as_slice(), sink, glass, steps)
+        list.clear();
+        self.parser.push_into(byte, list);
+        self.desk.tell_items(list.as_slice(), sink, glass, steps)
     }
 
     /// Reads a piece of the page.
@@ -91,8 +95,9 @@ impl Decoder {
         ensures cause { HasCause (T.state sink.old).faults (T.state sink.new).faults result }
     {
         reading_goes_on();
+        let mut list = ArrayVec::new();
         for byte in piece {
-            match self.read_byte(*byte, sink, glass, steps) {
+            match self.read_byte(*byte, &mut list, sink, glass, steps) {
                 Ok(()) => {}
                 Err(fault) => return Err(fault),
             }
