@@ -1,4 +1,4 @@
-ghost use Rattle.std.specs.Prelude.{◌≡◌, ◌≤◌, ◌↔◌, IsSome, IfSome};
+ghost use Rattle.std.specs.Prelude.{◌≡◌, ◌≤◌, ◌<◌, ◌↔◌, IsSome, IfSome};
 
 use std::marker::Model;
 
@@ -22,7 +22,7 @@ impl Model for Pos {
 }
 
 impl Pos {
-    ghost use Rattle.cept_codes.specs.Place.{OnScreen};
+    ghost use Rattle.cept_codes.specs.Place.{OnScreen, number};
 
     /// The position in this row and column, `None` where there is no such position.
     pub fn new(row: u8, col: u8) -> Option<Pos>
@@ -50,5 +50,14 @@ impl Pos {
         ensures on_screen { OnScreen self.now.row self.now.column }
     {
         self.column
+    }
+
+    /// The number in reading order, 0 to 959: rows from the top, columns from the left.
+    pub fn number(&self) -> u16
+        ensures number { result ≡ number self.now.row self.now.column }
+        ensures below { result < 960 }
+        ensures on_screen { OnScreen self.now.row self.now.column }
+    {
+        40 * (u16::from(self.row) - 1) + (u16::from(self.column) - 1)
     }
 }

@@ -42,7 +42,7 @@ impl Marks {
         ensures marked { result ≡ is_marked self.now (number at.row at.column) }
         ensures places { length self.now ≡ 960 }
     {
-        self.flags[number_of(at)]
+        self.flags[usize::from(at.number())]
     }
 
     /// How many places are marked, at most 960.
@@ -87,14 +87,6 @@ impl Marks {
             self.end = self.end.max(n + 1);
         }
     }
-}
-
-/// The number of a place in reading order.
-pub(crate) fn number_of(at: Pos) -> usize
-    ensures number { result ≡ number at.row at.column }
-    ensures below { result < 960 }
-{
-    40 * (usize::from(at.row()) - 1) + (usize::from(at.col()) - 1)
 }
 
 /// How many of these flags are set.

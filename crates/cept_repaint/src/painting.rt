@@ -4,7 +4,7 @@ ghost use Rattle.cept_profile.specs.Look.{looks_of};
 ghost use Rattle.cept_repaint.specs.GlassState.{Lists};
 
 use crate::glass::Glass;
-use crate::marks::{Marks, number_of};
+use crate::marks::Marks;
 use crate::screen::Screen;
 
 /// Paints the marked places in reading order, each once, with the screen's look.
@@ -17,6 +17,6 @@ pub(crate) fn paint_marked<G: Glass>(screen: &Screen, glass: &mut G, marks: &Mar
     let mut from = 0;
     while let Some(place) = marks.next_from(from) {
         glass.paint(place, screen);
-        from = number_of(place) as u16 + 1;
+        from = place.number() + 1;
     }
 }

@@ -11,7 +11,7 @@ ghost use Rattle.cept_profile.specs.State.{drawn};
 ghost use Rattle.cept_repaint.specs.Marks.{unmarked};
 
 use crate::looks::Looks;
-use crate::marks::{Marks, number_of};
+use crate::marks::Marks;
 use crate::page::Page;
 use crate::reach::{only_place, rows_in_reach};
 use cept_codes::{Pos, Stroke};
@@ -65,7 +65,7 @@ fn refresh_place<L: Ledger>(
 {
     steps.tick();
     if looks.refresh(place, &page.look(place)) {
-        marks.mark(number_of(place));
+        marks.mark(usize::from(place.number()));
     }
 }
 

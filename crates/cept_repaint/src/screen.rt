@@ -122,4 +122,26 @@ impl Screen {
     {
         self.control.rows()
     }
+
+    /// Whether positions go on over the ends of rows and of the page.
+    pub fn wrap(&self) -> bool
+        ensures wrap { result ≡ self.now.control.wrap }
+    {
+        self.control.wrap()
+    }
+
+    /// The first and the last row of the scrolling area, `None` where there is no area.
+    pub fn area(&self) -> Option<(u8, u8)>
+        ensures area { result ≡ self.now.control.area }
+        ensures valid { IsValidState self.now }
+    {
+        self.control.area()
+    }
+
+    /// Whether moving past the ends of the area scrolls it.
+    pub fn implicit(&self) -> bool
+        ensures implicit { result ≡ self.now.control.implicit }
+    {
+        self.control.implicit()
+    }
 }

@@ -28,14 +28,6 @@ pub fn put_refusal<T: Sink>(
     put_all(sink, refusal_line(at, len, reason).as_slice())
 }
 
-/// The number of a place in reading order, from 0.
-fn number_of(at: Pos) -> u16
-    ensures number { result ≡ number at.row at.column }
-    ensures below { result < 960 }
-{
-    40 * (u16::from(at.row()) - 1) + (u16::from(at.col()) - 1)
-}
-
 /// Puts a line for each marked place in reading order: the label, the place, and its look on the screen. After `WriteFault` a
 /// part of the text was put, from its front on, and not the whole.
 pub fn put_changes<T: Sink>(
@@ -52,7 +44,7 @@ pub fn put_changes<T: Sink>(
     let mut from = 0u16;
     while let Some(at) = marks.next_from(from) {
         match put_all(sink, change_line(label, at, &screen.look(at)).as_slice()) {
-            Ok(()) => from = number_of(at) + 1,
+            Ok(()) => from = at.number() + 1,
             Err(fault) => return Err(fault),
         }
     }

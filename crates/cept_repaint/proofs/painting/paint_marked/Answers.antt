@@ -8,7 +8,7 @@ loop-place-init g c = PaintedSoFar-none c.args.marks.now (looks_of c.args.screen
 
 pub loop-place-preserved : goal.loop-place-preserved
 loop-place-preserved g c =
-    PaintedSoFar-more c.loop-place.invariant c.in-Some.place (g.G.Glass.state c.paint.new.self) c.number_of.result c.in-Some.ensures.first c.paint.ensures c.number_of.ensures.number
+    PaintedSoFar-more c.loop-place.invariant c.in-Some.place (g.G.Glass.state c.paint.new.self) c.number-from.result c.in-Some.ensures.first c.paint.ensures c.number-from.ensures.number
 
 pub returns-clause-shown : goal.returns-clause-shown
 returns-clause-shown g c = PaintedSoFar-grid c.loop-place.invariant (c.in_default.ensures.none.0 refl)

@@ -9,7 +9,7 @@ returns-then-refresh-clause-looks g c =
 
 pub returns-then-refresh-clause-marks : goal.returns-then-refresh-clause-marks
 returns-then-refresh-clause-marks g c =
-    place_marks c.args.page.now c.args.looks.now c.args.place c.look.result c.args.marks.now c.mark.new.self c.number_of.result true c.refresh.ensures.on_screen c.look.ensures c.requires.others c.requires.none c.number_of.ensures.number (sym c.if-refresh.true ∙ c.refresh.ensures.answer) c.mark.ensures
+    place_marks c.args.page.now c.args.looks.now c.args.place c.look.result c.args.marks.now c.mark.new.self c.from.result true c.refresh.ensures.on_screen c.look.ensures c.requires.others c.requires.none (c.from.ensures ∙ c.number.ensures.number) (sym c.if-refresh.true ∙ c.refresh.ensures.answer) c.mark.ensures
 
 pub returns-else-refresh-clause-looks : goal.returns-else-refresh-clause-looks
 returns-else-refresh-clause-looks g c =

@@ -16,7 +16,7 @@ loop-at-preserved g c =
     let line = c.as_slice.ensures.value ∙ c.change_line.ensures ∙ ap (change_line c.args.label c.in-Some.at) c.look.ensures.look in
     record {
       within = omega arith;
-      put = rw c.number_of-from.ensures.number (Gains-next _ _ _ _ _ _ _ _ _ c.in-Some.ensures.first line c.loop-at.invariant.put (c.in-Ok.ensures.whole));
+      put = rw c.number-from.ensures.number (Gains-next _ _ _ _ _ _ _ _ _ c.in-Some.ensures.first line c.loop-at.invariant.put (c.in-Ok.ensures.whole));
       later = omega (arith, c.put_all.ensures.cause.later);
     }
 
