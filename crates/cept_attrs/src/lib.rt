@@ -1,7 +1,9 @@
-//! The attributes of cells: each class by what was set for the sign, its row or the screen. It knows no page, no colours
-//! behind the entries and no history.
+//! The attributes of cells: each class by what was set for the sign, its row or the screen. It
+//! knows no page, no colours after the entries and no history.
 #![tactic(auto)]
 
 mod attributes;
+mod serial;
 
 pub use attributes::cascade;
+pub use serial::{RowSerial, serial_cells, serial_row};

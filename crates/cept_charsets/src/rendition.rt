@@ -1,6 +1,6 @@
 ghost use Rattle.std.specs.Prelude.{◌≡◌, ◌≤◌, ◌<◌, IfSome, encode_utf8, encode_utf8_all, length};
 ghost use Rattle.cept_codes.specs.Glyph.{IsValidGlyph};
-ghost use Rattle.cept_charsets.specs.Rendition.{mark, primary, rendition};
+ghost use Rattle.cept_charsets.specs.Rendition.{mark, primary_points, rendition};
 
 use crate::supplementary::supplementary;
 use arrayvec::ArrayString;
@@ -39,7 +39,7 @@ fn text_of(point: char) -> Text4
 #[tactic(auto, using(crate::proofs::Bytes::ascii_byte, crate::proofs::Bytes::two_bytes))]
 fn primary(code: u8, accent: u8) -> Text4
     requires valid { (0x20 ≤ code) × (code ≤ 0x7F) }
-    ensures text { result.bytes ≡ encode_utf8_all (primary code accent) }
+    ensures text { result.bytes ≡ encode_utf8_all (primary_points code accent) }
     ensures some { 1 ≤ length result.bytes }
     ensures few { length result.bytes ≤ 3 }
 {

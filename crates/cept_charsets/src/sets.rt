@@ -5,7 +5,8 @@ ghost use Rattle.cept_profile.specs.Sets.{IsAccent, IsValidRead, code_of, read_a
 use cept_codes::{Glyph, Read, SetId};
 use std::marker::Model;
 
-/// The four sets that are designated, the ones that the left and the right bytes take, and a single shift that waits.
+/// The four sets that are designated, the ones that the left and the right bytes take, and a single
+/// shift that waits.
 #[derive(Clone, Copy, Debug, PartialEq, Eq)]
 pub struct Sets {
     g0: SetId,
@@ -23,16 +24,43 @@ impl Model for Sets {
 
     ghost Value = { SetsInForce };
 
-    ghost view = { λ s. record { g0 = s.g0; g1 = s.g1; g2 = s.g2; g3 = s.g3; left = s.left; right = s.right; single = s.single } };
+    ghost view = { λ s. record {
+      g0 = s.g0;
+      g1 = s.g1;
+      g2 = s.g2;
+      g3 = s.g3;
+      left = s.left;
+      right = s.right;
+      single = s.single;
+    } };
 
-    ghost invariant = { λ s. AreValidSets (record { g0 = s.g0; g1 = s.g1; g2 = s.g2; g3 = s.g3; left = s.left; right = s.right; single = s.single }) };
+    ghost invariant = { λ s. AreValidSets (record {
+      g0 = s.g0;
+      g1 = s.g1;
+      g2 = s.g2;
+      g3 = s.g3;
+      left = s.left;
+      right = s.right;
+      single = s.single;
+    }) };
 
-    ghost inverse = { λ s. record { g0 = s.g0; g1 = s.g1; g2 = s.g2; g3 = s.g3; left = s.left; right = s.right; single = s.single } };
+    ghost inverse = { λ s. record {
+      g0 = s.g0;
+      g1 = s.g1;
+      g2 = s.g2;
+      g3 = s.g3;
+      left = s.left;
+      right = s.right;
+      single = s.single;
+    } };
 }
 
 impl Sets {
     ghost use Rattle.cept_codes.specs.Command.{IsGraphic};
-    ghost use Rattle.cept_profile.specs.Sets.{IsAccent, IsValidRead, code_of, designated, graphic, initial_sets, locked_left, locked_right, set_in, set_of, shifted};
+    ghost use Rattle.cept_profile.specs.Sets.{IsAccent, IsValidRead, code_of, sets_with, graphic};
+    ghost use Rattle.cept_profile.specs.Sets.{initial_sets, sets_with_left, sets_with_right};
+    ghost use Rattle.cept_profile.specs.Sets.{set_in};
+    ghost use Rattle.cept_profile.specs.Sets.{set_of, sets_with_single};
     ghost use Rattle.cept_profile.specs.Valid.{AreValidSets};
 
     /// G0 is P, G1 is M, G2 is S and G3 is N; G0 is locked to the left and G2 to the right.
@@ -54,7 +82,7 @@ impl Sets {
     /// Designates a set to G0, G1, G2 or G3.
     pub fn designate(&mut self, g: u8, set: SetId)
         requires { g ≤ 3 }
-        ensures designated { self.new ≡ designated self.old g set }
+        ensures designated { self.new ≡ sets_with self.old g set }
         ensures valid { AreValidSets self.new }
     {
         match g {
@@ -68,7 +96,7 @@ impl Sets {
     /// Locks G0, G1, G2 or G3 to the left bytes.
     pub fn lock_left(&mut self, g: u8)
         requires { g ≤ 3 }
-        ensures locked { self.new ≡ locked_left self.old g }
+        ensures locked { self.new ≡ sets_with_left self.old g }
         ensures valid { AreValidSets self.new }
     {
         self.left = g;
@@ -77,7 +105,7 @@ impl Sets {
     /// Locks G1, G2 or G3 to the right bytes.
     pub fn lock_right(&mut self, g: u8)
         requires { (1 ≤ g) × (g ≤ 3) }
-        ensures locked { self.new ≡ locked_right self.old g }
+        ensures locked { self.new ≡ sets_with_right self.old g }
         ensures valid { AreValidSets self.new }
     {
         self.right = g;
@@ -86,18 +114,20 @@ impl Sets {
     /// Shifts the next graphic byte to G2 or G3. A shift that waits is replaced.
     pub fn single(&mut self, g: u8)
         requires { (2 ≤ g) × (g ≤ 3) }
-        ensures shifted { self.new ≡ shifted self.old g }
+        ensures shifted { self.new ≡ sets_with_single self.old g }
         ensures valid { AreValidSets self.new }
     {
         self.single = Some(g);
     }
 
-    /// What a graphic byte gives, 20 to 7F or A0 to FF, where `run` says whether a mosaic run is on.
+    /// What a graphic byte gives, 20 to 7F or A0 to FF, where `run` says whether a mosaic run is
+    /// on.
     pub fn graphic(&mut self, byte: u8, run: bool) -> Read
         requires { IsGraphic byte }
         ensures read { result ≡ (graphic self.old byte run).read }
         ensures sets { self.new ≡ (graphic self.old byte run).sets }
-        ensures accent { (result ≡ Read.Accent (code_of byte)) ↔ ((set_of self.old byte run ≡ SetId.S) × IsAccent (code_of byte)) }
+        ensures accent { (result ≡ Read.Accent (code_of byte))
+            ↔ ((set_of self.old byte run ≡ SetId.S) × IsAccent (code_of byte)) }
         ensures valid_read { IsValidRead result }
         ensures valid { AreValidSets self.new }
     {

@@ -1,10 +1,10 @@
 ghost use Rattle.std.specs.Prelude.{◌≡◌, ◌/◌, ◌<◌};
-ghost use Rattle.cept_charsets.specs.Rendition.{supplementary};
+ghost use Rattle.cept_charsets.specs.Rendition.{supplementary_point};
 
 /// A code of set `S` in Unicode: U+FFFD where the set leaves it unassigned.
 #[tactic(auto, unfolding(crate::specs::Rendition::supplementary_rows))]
 pub fn supplementary(code: u8) -> char
-    ensures point { result ≡ supplementary code }
+    ensures point { result ≡ supplementary_point code }
     ensures small { result < 0x1_0000 }
 {
     match code >> 4 {
@@ -20,7 +20,7 @@ pub fn supplementary(code: u8) -> char
 #[tactic(auto, unfolding(crate::specs::Rendition::supplementary_rows))]
 fn column_2(code: u8) -> char
     requires { code / 16 ≡ 2 }
-    ensures point { result ≡ supplementary code }
+    ensures point { result ≡ supplementary_point code }
     ensures small { result < 0x1_0000 }
 {
     match code {
@@ -46,7 +46,7 @@ fn column_2(code: u8) -> char
 #[tactic(auto, unfolding(crate::specs::Rendition::supplementary_rows))]
 fn column_3(code: u8) -> char
     requires { code / 16 ≡ 3 }
-    ensures point { result ≡ supplementary code }
+    ensures point { result ≡ supplementary_point code }
     ensures small { result < 0x1_0000 }
 {
     match code {
@@ -73,7 +73,7 @@ fn column_3(code: u8) -> char
 #[tactic(auto, unfolding(crate::specs::Rendition::supplementary_rows))]
 fn column_5(code: u8) -> char
     requires { code / 16 ≡ 5 }
-    ensures point { result ≡ supplementary code }
+    ensures point { result ≡ supplementary_point code }
     ensures small { result < 0x1_0000 }
 {
     match code {
@@ -90,7 +90,7 @@ fn column_5(code: u8) -> char
 #[tactic(auto, unfolding(crate::specs::Rendition::supplementary_rows))]
 fn column_6(code: u8) -> char
     requires { code / 16 ≡ 6 }
-    ensures point { result ≡ supplementary code }
+    ensures point { result ≡ supplementary_point code }
     ensures small { result < 0x1_0000 }
 {
     match code {
@@ -116,7 +116,7 @@ fn column_6(code: u8) -> char
 #[tactic(auto, unfolding(crate::specs::Rendition::supplementary_rows))]
 fn column_7(code: u8) -> char
     requires { code / 16 ≡ 7 }
-    ensures point { result ≡ supplementary code }
+    ensures point { result ≡ supplementary_point code }
     ensures small { result < 0x1_0000 }
 {
     match code {

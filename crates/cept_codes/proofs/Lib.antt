@@ -1,5 +1,7 @@
-mod Equal
+mod EqualityDecides
 pub mod Laws
+mod Lists
 mod Places
 mod Tables
-mod Tests
+mod EqualityTests
+mod Worked

@@ -1,7 +1,8 @@
 -- Valid attributes: colours are the entries 0 to 31 of four tables of eight (ETS 300 072, colour tables).
 use Rattle.std.specs.Prelude.{ℕ, ◌<◌, IfSome, None}
 use Rattle.cept_codes.specs.declared.attribute.Attr.{Attr}
-use Rattle.cept_codes.specs.declared.attribute.Attr.TheVariants.{Fore, Back, NoBack, Flash, Conceal, Lined, Boxed, Size, Invert}
+use Rattle.cept_codes.specs.declared.attribute.Attr.TheVariants.{Fore, Back, NoBack, Flash, Conceal, Lined, Boxed, Size}
+use Rattle.cept_codes.specs.declared.attribute.Attr.TheVariants.{Invert}
 use Rattle.cept_codes.specs.declared.attribute.Pen.{Pen}
 use Rattle.cept_codes.specs.declared.attribute.Full.{Full}
 
@@ -32,5 +33,15 @@ pub record IsValidFull (f : Full) : Type 0 where
   pub back : IsEntry f.back
 
 -- the pen in which no class is set
-abbrev pub unset : Pen
-unset = record { fore = None; back = None; flash = None; conceal = None; lined = None; boxed = None; size = None; invert = None }
+abbrev pub unset_pen : Pen
+unset_pen = record {
+  fore = None;
+  back = None;
+  flash = None;
+  conceal = None;
+  lined = None;
+  boxed = None;
+  size =
+      None;
+  invert = None;
+}

@@ -41,5 +41,5 @@ pub record IsValidRow (row : RowCells) : Type 0 where
   pub cells : AllByRecursion IsValidCell row.cells
 
 -- nothing is written, and writing is free
-abbrev pub blank : Cell
-blank = record { what = whats.Blank; protected = false }
+abbrev pub blank_cell : Cell
+blank_cell = record { what = whats.Blank; protected = false }

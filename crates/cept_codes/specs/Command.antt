@@ -1,5 +1,5 @@
--- Valid commands: the ranges that the grammar of the bytes gives them (ETS 300 072 and T/CD 6-1; which forms there are is
--- this profile's own).
+-- Valid commands: the ranges that the grammar of the bytes gives them (ETS 300 072 and T/CD 6-1; which forms there are
+-- is this profile's own).
 use Rattle.std.specs.Prelude.{ℕ, ◌≤◌, ◌<◌, ◌≡◌, ◌≢◌, ◌⊎◌, IsTrue}
 use Rattle.cept_codes.specs.declared.command.Command.{Command}
 use Rattle.cept_codes.specs.declared.command.Command.TheVariants as commands

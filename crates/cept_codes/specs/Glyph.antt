@@ -1,5 +1,5 @@
--- Valid signs (ISO 2022 code positions 2/0 to 7/15, ISO 6937 accents; that the space is one sign of set P, and that all of 4/0 to
--- 4/15 of set S are accents and no signs, is this profile's own).
+-- Valid signs (ISO 2022 code positions 2/0 to 7/15, ISO 6937 accents; that the space is one sign of set P, and that all
+-- of 4/0 to 4/15 of set S are accents and no signs, is this profile's own).
 use Rattle.std.specs.Prelude.{ℕ, ◌≡◌, ◌≤◌, ◌<◌, ◌⊎◌}
 use Rattle.cept_codes.specs.declared.glyph.SetId.{SetId}
 use Rattle.cept_codes.specs.declared.glyph.SetId.TheVariants.{P, S, M, N, D}

@@ -1,6 +1,7 @@
--- Valid colours, patterns and looks: four bits each of red, green and blue (ETS 300 072, colour tables). The sizes of patterns,
--- the order of their bits, parts and looks are this profile's own.
-use Rattle.std.specs.Prelude.{ℕ, ◌≡◌, ◌≤◌, ◌<◌, ◌*◌, ◌+◌, ◌/◌, ◌%◌, ◌^◌, Bool, false, List, drop, length, slice_index, IsTrue, ◌==◌, ◌&&◌, ◌||◌, if◌then◌else◌}
+-- Valid colours, patterns and looks: four bits each of red, green and blue (ETS 300 072, colour tables). The sizes of
+-- patterns, the order of their bits, parts and looks are this profile's own.
+use Rattle.std.specs.Prelude.{ℕ, ◌≡◌, ◌≤◌, ◌<◌, ◌*◌, ◌+◌, ◌/◌, ◌%◌, ◌^◌, Bool, false, List, drop, length, slice_index}
+use Rattle.std.specs.Prelude.{IsTrue, ◌==◌, ◌&&◌, ◌||◌, if◌then◌else◌}
 use Rattle.std.specs.List.{AllByRecursion}
 use Rattle.cept_codes.specs.declared.look.Rgb.{Rgb}
 use Rattle.cept_codes.specs.declared.look.Paint.{Paint}
@@ -27,7 +28,8 @@ IsValidPaint paints.Video = Unit {0}
 
 -- the six sizes of a pattern, width by height
 abbrev pub is_pattern_size : ℕ → ℕ → Bool
-is_pattern_size w h = ((w == 12) && (h == 12)) || ((w == 12) && (h == 10)) || ((w == 6) && (h == 12)) || ((w == 6) && (h == 10)) || ((w == 6) && (h == 5)) || ((w == 6) && (h == 6))
+is_pattern_size w h = ((w == 12) && (h == 12)) || ((w == 12) && (h == 10)) || ((w == 6) && (h == 12))
+    || ((w == 6) && (h == 10)) || ((w == 6) && (h == 5)) || ((w == 6) && (h == 6))
 
 -- a pattern has one, two or four planes
 abbrev pub is_plane_count : ℕ → Bool
@@ -41,7 +43,7 @@ bit_of words n = (slice_index words (n / 64) / 2 ^ (n % 64)) % 2
 abbrev pub pixel : Pattern → ℕ → ℕ → ℕ → ℕ
 pixel pattern p y x = bit_of pattern.bits ((p * pattern.h + y) * pattern.w + x)
 
--- one of the sizes, one of the counts of planes, nine words of 64 bits, and no bit set behind the last pixel
+-- one of the sizes, one of the counts of planes, nine words of 64 bits, and no bit set after the last pixel
 pub record IsValidPattern (p : Pattern) : Type 0 where
   pub size : IsTrue (is_pattern_size p.w p.h)
   pub planes : IsTrue (is_plane_count p.planes)
@@ -54,19 +56,19 @@ abbrev pub ink_count : ℕ → ℕ
 ink_count planes = if planes == 1 then 0 else if planes == 2 then 4 else 16
 
 -- no red, no green and no blue, which also fills the unused inks
-abbrev pub black : Paint
-black = paints.Ink (record { r = 0; g = 0; b = 0 })
+abbrev pub black_paint : Paint
+black_paint = paints.Ink (record { r = 0; g = 0; b = 0 })
 
 -- all of red, green and blue
-abbrev pub white : Paint
-white = paints.Ink (record { r = 15; g = 15; b = 15 })
+abbrev pub white_paint : Paint
+white_paint = paints.Ink (record { r = 15; g = 15; b = 15 })
 
--- sixteen valid inks beside a pattern of so many planes, those behind the count black
+-- sixteen valid inks beside a pattern of so many planes, those after the count black
 pub record IsValidInks (inks : Inks) (planes : ℕ) : Type 0 where
   pub count : inks.count ≡ ink_count planes
   pub places : length inks.paints ≡ 16
   pub paints : AllByRecursion IsValidPaint inks.paints
-  pub unused : AllByRecursion (λ paint. paint ≡ black) (drop inks.count inks.paints)
+  pub unused : AllByRecursion (λ paint. paint ≡ black_paint) (drop inks.count inks.paints)
 
 -- a pattern stands with the inks of its planes
 abbrev pub IsValidShape : Shape → Type 0
@@ -100,8 +102,8 @@ blank_look = record {
   dx = 0;
   w = 1;
   h = 1;
-  fore = white;
-  back = black;
+  fore = white_paint;
+  back = black_paint;
   flash = flashes.Steady;
   conceal = false;
   lined = false;

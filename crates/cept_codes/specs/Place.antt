@@ -1,5 +1,5 @@
--- Places of the screen: rows and columns from 1, as US names them (ETS 300 072, active position). How many there are, and
--- reading order, are this profile's own.
+-- Places of the screen: rows and columns from 1, as US names them (ETS 300 072, active position). How many there are,
+-- and reading order, are this profile's own.
 use Rattle.std.specs.Prelude.{ℕ, ◌+◌, ◌*◌, ◌-◌, ◌/◌, ◌%◌, ◌≤◌}
 
 -- a row, 1 to 24 from the top, and a column, 1 to 40 from the left

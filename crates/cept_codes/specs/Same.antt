@@ -1,10 +1,10 @@
--- Equality (own): what `==` answers on the values of this crate. That it says whether the two are the same is a law of `equality`.
+-- Equality (own): what `==` answers on the values of this crate. That it says whether the two are the same is a law of
+-- `law::equality`.
 use Rattle.std.specs.Prelude.{Bool}
 use Rattle.cept_codes.specs.declared.glyph.SetId.{SetId}
 use Rattle.cept_codes.specs.declared.glyph.Glyph.{Glyph}
 use Rattle.cept_codes.specs.declared.attribute.Size.{Size}
 use Rattle.cept_codes.specs.declared.attribute.Flash.{Flash}
-use Rattle.cept_codes.specs.declared.attribute.Class.{Class}
 use Rattle.cept_codes.specs.declared.attribute.Attr.{Attr}
 use Rattle.cept_codes.specs.declared.attribute.Pen.{Pen}
 use Rattle.cept_codes.specs.declared.attribute.Full.{Full}
@@ -35,7 +35,6 @@ use Rattle.cept_codes.specs.contracts.glyph.SetIdPartialEq.TheImpl.{ghosts as se
 use Rattle.cept_codes.specs.contracts.glyph.GlyphPartialEq.TheImpl.{ghosts as glyph_comparison}
 use Rattle.cept_codes.specs.contracts.attribute.SizePartialEq.TheImpl.{ghosts as size_comparison}
 use Rattle.cept_codes.specs.contracts.attribute.FlashPartialEq.TheImpl.{ghosts as flash_comparison}
-use Rattle.cept_codes.specs.contracts.attribute.ClassPartialEq.TheImpl.{ghosts as class_comparison}
 use Rattle.cept_codes.specs.contracts.attribute.AttrPartialEq.TheImpl.{ghosts as attr_comparison}
 use Rattle.cept_codes.specs.contracts.attribute.PenPartialEq.TheImpl.{ghosts as pen_comparison}
 use Rattle.cept_codes.specs.contracts.attribute.FullPartialEq.TheImpl.{ghosts as full_comparison}
@@ -70,10 +69,6 @@ same_size = size_comparison.eq
 -- on ways to flash
 abbrev pub same_flash : Flash → Flash → Bool
 same_flash = flash_comparison.eq
-
--- on classes of attributes
-abbrev pub same_class : Class → Class → Bool
-same_class = class_comparison.eq
 
 -- on attributes
 abbrev pub same_attr : Attr → Attr → Bool
@@ -171,6 +166,6 @@ same_item = item_comparison.eq
 abbrev pub same_stroke : Stroke → Stroke → Bool
 same_stroke = stroke_comparison.eq
 
--- on the want of memory
+-- on out of memory
 abbrev pub same_no_memory : NoMemory → NoMemory → Bool
 same_no_memory = no_memory_comparison.eq

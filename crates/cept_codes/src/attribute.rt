@@ -7,7 +7,8 @@ pub enum Size {
     Both,
 }
 
-/// How a sign flashes: not at all, plainly, inverted in phase, at reduced intensity, or in one of the three fast phases.
+/// How a sign flashes: not at all, plainly, inverted in phase, at reduced intensity, or in one of
+/// the three fast phases.
 #[derive(Clone, Copy, Debug, PartialEq, Eq)]
 pub enum Flash {
     Steady,
@@ -19,21 +20,8 @@ pub enum Flash {
     Fast3,
 }
 
-/// A class of attributes. At each place one attribute of each class is in force.
-#[derive(Clone, Copy, Debug, PartialEq, Eq)]
-pub enum Class {
-    Fore,
-    Back,
-    Flash,
-    Conceal,
-    Lined,
-    Boxed,
-    Size,
-    Invert,
-    Hold,
-}
-
-/// An attribute of a row or of the screen. Colours are entries 0 to 31, `NoBack` unsets the background.
+/// An attribute of a row or of the screen. Colours are entries 0 to 31, `NoBack` unsets the
+/// background.
 #[derive(Clone, Copy, Debug, PartialEq, Eq)]
 pub enum Attr {
     Fore(u8),

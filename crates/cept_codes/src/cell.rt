@@ -1,7 +1,8 @@
 use crate::attribute::{Flash, Pen, Size};
 use crate::glyph::Glyph;
 
-/// A serial attribute that stands in a cell and acts on those after it. Colours are entries 0 to 31.
+/// A serial attribute that stands in a cell and acts on those after it. Colours are entries 0 to
+/// 31.
 #[derive(Clone, Copy, Debug, PartialEq, Eq)]
 pub enum Marker {
     Alpha(u8),
@@ -17,8 +18,8 @@ pub enum Marker {
     Size(Size),
 }
 
-/// What was written into a cell: nothing, a sign under the serial set, a sign with its own attributes under the
-/// parallel set, or a marker.
+/// What was written into a cell: nothing, a sign under the serial set, a sign with its own
+/// attributes under the parallel set, or a marker.
 #[derive(Clone, Copy, Debug, PartialEq, Eq)]
 pub enum What {
     Blank,

@@ -15,7 +15,8 @@ pub enum Up {
     Down,
 }
 
-/// The form of downloaded patterns: their width and height in pixels, and how many planes they have.
+/// The form of downloaded patterns: their width and height in pixels, and how many planes they
+/// have.
 #[derive(Clone, Copy, Debug, PartialEq, Eq)]
 pub struct Form {
     pub w: u8,
@@ -88,7 +89,8 @@ pub enum Command {
     AreaCreate(u8, u8),
     /// CSI n 3/11 m 5/6 ends the scrolling area of rows n to m, `1 <= n <= m <= 24`.
     AreaDelete(u8, u8),
-    /// ESC 2/3 2/0 and a C1 code less 4/0 set an attribute of the screen, 0 to 31 without 12 to 15 and 27.
+    /// ESC 2/3 2/0 and a C1 code less 4/0 set an attribute of the screen, 0 to 31 without 12 to 15
+    /// and 27.
     FullScreen(u8),
     /// ESC 2/3 2/1 and a C1 code less 4/0 set an attribute of the row, 0 to 31 without 27.
     FullRow(u8),

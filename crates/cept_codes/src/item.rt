@@ -19,7 +19,8 @@ pub enum Said {
     Refused(Reason),
 }
 
-/// One unit of the byte stream: the number of bytes before it, its length in bytes, and what it says.
+/// One unit of the byte stream: the number of bytes before it, its length in bytes, and what it
+/// says.
 #[derive(Clone, Copy, Debug, PartialEq, Eq)]
 pub struct Item {
     pub at: u64,

@@ -1,6 +1,3 @@
-ghost use Rattle.std.specs.Prelude.{◌≡◌, ◌↔◌, IsTrue};
-ghost use Rattle.cept_codes.specs.Same.{same_look};
-
 use crate::attribute::Flash;
 use crate::glyph::Glyph;
 
@@ -19,8 +16,9 @@ pub enum Paint {
     Video,
 }
 
-/// A downloaded pattern of 12x12, 12x10, 6x12, 6x10, 6x5 or 6x6 pixels in 1, 2 or 4 planes. The pixel of plane `p`,
-/// line `y` and column `x` is bit `n % 64` of `bits[n / 64]`, where `n` is `(p * h + y) * w + x`. All other bits are 0.
+/// A downloaded pattern of 12x12, 12x10, 6x12, 6x10, 6x5 or 6x6 pixels in 1, 2 or 4 planes. The
+/// pixel of plane `p`, line `y` and column `x` is bit `n % 64` of `bits[n / 64]`, where `n` is `(p
+/// * h + y) * w + x`. All other bits are 0.
 #[derive(Clone, Copy, Debug, PartialEq, Eq)]
 pub struct Pattern {
     pub w: u8,
@@ -29,7 +27,7 @@ pub struct Pattern {
     pub bits: [u64; 9],
 }
 
-/// The paints of a pattern's pixels: 0, 4 or 16 of them. Those behind `count` are the ink 0, 0, 0.
+/// The paints of a pattern's pixels: 0, 4 or 16 of them. Those after `count` are the ink 0, 0, 0.
 #[derive(Clone, Copy, Debug, PartialEq, Eq)]
 pub struct Inks {
     pub count: u8,
@@ -44,8 +42,8 @@ pub enum Shape {
     Drcs(Pattern, Inks),
 }
 
-/// Which part of a shape a place shows: the one `dy` down and `dx` right of its upper left part, of a shape that is
-/// `w` places wide and `h` high. `dy` and `dx` are 0 or 1, `w` and `h` 1 or 2.
+/// Which part of a shape a place shows: the one `dy` down and `dx` right of its upper left part, of
+/// a shape that is `w` places wide and `h` high. `dy` and `dx` are 0 or 1, `w` and `h` 1 or 2.
 #[derive(Clone, Copy, Debug, PartialEq, Eq)]
 pub struct Part {
     pub dy: u8,
@@ -97,12 +95,4 @@ impl Look {
         lined: false,
         boxed: false,
     };
-}
-
-/// Whether two looks are the same in all that is seen.
-pub fn looks_are_same(a: &Look, b: &Look) -> bool
-    ensures compared { result ≡ same_look a.now b.now }
-    ensures same { IsTrue result ↔ (a.now ≡ b.now) }
-{
-    a == b
 }

@@ -22,7 +22,7 @@ impl Model for Pos {
 }
 
 impl Pos {
-    ghost use Rattle.cept_codes.specs.Place.{OnScreen, number};
+    ghost use Rattle.cept_codes.specs.Place.{OnScreen, number, place_of};
 
     /// The position in this row and column, `None` where there is no such position.
     pub fn new(row: u8, col: u8) -> Option<Pos>
@@ -31,6 +31,21 @@ impl Pos {
     {
         if 1 <= row && row <= 24 && 1 <= col && col <= 40 {
             Some(Pos { row, column: col })
+        } else {
+            None
+        }
+    }
+
+    /// The position with this number in reading order, `None` from 960 on.
+    pub fn from_number(number: u16) -> Option<Pos>
+        ensures exactly { IsSome result ↔ (number < 960) }
+        ensures place { IfSome result (λ p. p ≡ place_of number) }
+    {
+        if number < 960 {
+            Some(Pos {
+                row: (number / 40) as u8 + 1,
+                column: (number % 40) as u8 + 1,
+            })
         } else {
             None
         }

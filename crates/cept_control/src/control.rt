@@ -2,70 +2,51 @@ ghost use Rattle.std.specs.Prelude.{◌≡◌, ◌≤◌, [], length};
 ghost use Rattle.std.specs.List.{AllByRecursion};
 ghost use Rattle.cept_codes.specs.Command.{IsValidCommand};
 ghost use Rattle.cept_codes.specs.Stroke.{IsValidStroke};
-ghost use Rattle.cept_profile.specs.Control.{control_after, initial, obeyed, ready};
+ghost use Rattle.cept_profile.specs.Control.{control_after, initial_control, control_effect};
+ghost use Rattle.cept_profile.specs.Control.{state_for_effect};
 ghost use Rattle.cept_profile.specs.Strokes.{strokes_of, strokes_when};
 ghost use Rattle.cept_profile.specs.Valid.{IsValidControl};
 
-use crate::kept::Kept;
+use crate::working::Working;
 use arrayvec::ArrayVec;
-use cept_charsets::Sets;
-use cept_codes::{C1Set, Command, Glyph, Pen, Pos, Stroke};
+use cept_codes::{Command, Pos, Stroke};
 use std::marker::Model;
 
 /// The state of control: the position, the sets, a waiting accent, the pen and the modes.
 #[derive(Clone, Copy, Debug)]
 pub struct Control {
-    pub(crate) row: u8,
-    pub(crate) column: u8,
-    pub(crate) c1: C1Set,
-    pub(crate) sets: Sets,
-    pub(crate) accent: Option<u8>,
-    pub(crate) last: Option<Glyph>,
-    pub(crate) pen: Pen,
-    pub(crate) fast: u8,
-    pub(crate) run: bool,
-    pub(crate) step: u8,
-    pub(crate) table: u8,
-    pub(crate) protect: bool,
+    pub(crate) working: Working,
     pub(crate) rows: u8,
     pub(crate) wrap: bool,
     pub(crate) area: Option<(u8, u8)>,
     pub(crate) implicit: bool,
-    pub(crate) kept: Option<Kept>,
+    pub(crate) kept: Option<Working>,
 }
 
 impl Model for Control {
     ghost use Rattle.cept_profile.specs.Control.{ControlState};
-    ghost use Rattle.cept_profile.specs.Valid.{IsValidControl};
 
     ghost Value = { ControlState };
 
-    ghost view = { λ c. record { working = record { row = c.row; column = c.column; c1 = c.c1; sets = c.sets; accent = c.accent; last = c.last; pen = c.pen; fast = c.fast; run = c.run; step = c.step; table = c.table; protect = c.protect }; rows = c.rows; wrap = c.wrap; area = c.area; implicit = c.implicit; kept = c.kept } };
+    ghost use Rattle.cept_profile.specs.Valid.{IsValidControl};
+    ghost use Rattle.cept_control.specs.Inside.{state_of, state_fields};
 
-    ghost invariant = { λ c. IsValidControl (record { working = record { row = c.row; column = c.column; c1 = c.c1; sets = c.sets; accent = c.accent; last = c.last; pen = c.pen; fast = c.fast; run = c.run; step = c.step; table = c.table; protect = c.protect }; rows = c.rows; wrap = c.wrap; area = c.area; implicit = c.implicit; kept = c.kept }) };
+    ghost view = { state_of };
 
-    ghost inverse = { λ s. record { row = s.working.row; column = s.working.column; c1 = s.working.c1; sets = s.working.sets; accent = s.working.accent; last = s.working.last; pen = s.working.pen; fast = s.working.fast; run = s.working.run; step = s.working.step; table = s.working.table; protect = s.working.protect; rows = s.rows; wrap = s.wrap; area = s.area; implicit = s.implicit; kept = s.kept } };
+    ghost invariant = { λ c. IsValidControl (state_of c) };
+
+    ghost inverse = { state_fields };
 }
 
 impl Control {
-    /// The state at the start: the first place of 24 rows, with wrap, under the parallel set, and with no attribute set.
+    /// The state at the start: the first place of 24 rows, with wrap, under the parallel set, and
+    /// with no attribute set.
     pub fn new() -> Control
-        ensures start { result ≡ initial }
+        ensures start { result ≡ initial_control }
         ensures valid { IsValidControl result }
     {
         Control {
-            row: 1,
-            column: 1,
-            c1: C1Set::Parallel,
-            sets: Sets::new(),
-            accent: None,
-            last: None,
-            pen: Pen::UNSET,
-            fast: 0,
-            run: false,
-            step: 1,
-            table: 0,
-            protect: false,
+            working: Working::new(),
             rows: 24,
             wrap: true,
             area: None,
@@ -74,7 +55,8 @@ impl Control {
         }
     }
 
-    /// Takes one command: it answers the command's strokes in their order, and leaves the state after it.
+    /// Takes one command: it answers the command's strokes in their order, and leaves the state
+    /// after it.
     pub fn step(&mut self, command: Command) -> ArrayVec<Stroke, 128>
         requires { IsValidCommand command }
         ensures state { self.new ≡ control_after self.old command }
@@ -89,7 +71,8 @@ impl Control {
         strokes
     }
 
-    /// The same, with the strokes left in a list of the caller's, which saves the copy of a whole list.
+    /// The same, with the strokes left in a list of the caller's, which saves the copy of a whole
+    /// list.
     pub fn step_into(&mut self, command: Command, strokes: &mut ArrayVec<Stroke, 128>)
         requires { IsValidCommand command }
         ensures state { self.new ≡ control_after self.old command }
@@ -100,23 +83,29 @@ impl Control {
         ensures few { length strokes.new.items ≤ 128 }
     {
         strokes.clear();
-        self.make_ready(&command);
-        self.obey(command, strokes);
+        self.prepare(&command);
+        self.take_effect(command, strokes);
+    }
+
+    /// The state is valid: each call keeps it so, and a caller that needs the fact learns it here.
+    pub fn known(&self)
+        ensures { IsValidControl self.now }
+    {
+        // A field that is read opens the model, so that what it promises is known.
+        let _rows = self.rows;
     }
 
     /// The position at which the next sign is written.
     pub fn active(&self) -> Pos
         ensures row { result.row ≡ self.now.working.row }
         ensures column { result.column ≡ self.now.working.column }
-        ensures valid { IsValidControl self.now }
     {
-        Pos::new(self.row, self.column).unwrap()
+        Pos::new(self.working.row, self.working.column).unwrap()
     }
 
     /// How many rows the page has, 24 or 20.
     pub fn rows(&self) -> u8
         ensures rows { result ≡ self.now.rows }
-        ensures valid { IsValidControl self.now }
     {
         self.rows
     }
@@ -124,7 +113,6 @@ impl Control {
     /// Whether positions go on over the ends of rows and of the page.
     pub fn wrap(&self) -> bool
         ensures wrap { result ≡ self.now.wrap }
-        ensures valid { IsValidControl self.now }
     {
         self.wrap
     }
@@ -132,7 +120,6 @@ impl Control {
     /// The first and the last row of the scrolling area, `None` where there is no area.
     pub fn area(&self) -> Option<(u8, u8)>
         ensures area { result ≡ self.now.area }
-        ensures valid { IsValidControl self.now }
     {
         self.area
     }
@@ -140,28 +127,28 @@ impl Control {
     /// Whether moving past the ends of the area scrolls it.
     pub fn implicit(&self) -> bool
         ensures implicit { result ≡ self.now.implicit }
-        ensures valid { IsValidControl self.now }
     {
         self.implicit
     }
 
-    /// An accent that waits is dropped by every command but three.
-    fn make_ready(&mut self, command: &Command)
-        ensures ready { self.new ≡ ready self.old command.now }
+    /// Every command but four takes effect without an accent that waits.
+    fn prepare(&mut self, command: &Command)
+        ensures ready { self.new ≡ state_for_effect self.old command.now }
         ensures was_valid { IsValidControl self.old }
     {
-        let _row = self.row;
+        // A field that is read opens the model, so that what it promises is known.
+        let _row = self.working.row;
         match command {
-            Command::Nul | Command::Skipped | Command::Graphic(_) => {}
-            _ => self.accent = None,
+            Command::Nul | Command::Skipped | Command::Graphic(_) | Command::ServiceBreak(_) => {}
+            _ => self.working.accent = None,
         }
     }
 
     /// What the command does, one call for each.
-    fn obey(&mut self, command: Command, strokes: &mut ArrayVec<Stroke, 128>)
+    fn take_effect(&mut self, command: Command, strokes: &mut ArrayVec<Stroke, 128>)
         requires valid { IsValidCommand command }
         requires empty { strokes.old.items ≡ [] }
-        ensures state { self.new ≡ obeyed self.old command }
+        ensures state { self.new ≡ control_effect self.old command }
         ensures strokes { strokes.new.items ≡ strokes_when self.old command }
     {
         match command {
@@ -172,17 +159,48 @@ impl Control {
             Command::Return => self.to_first_column(),
             Command::Home => self.home(),
             Command::Clear => self.clear(strokes),
-            Command::Position(row, column) => self.position(row, column),
+            Command::Position(row, column) => self.to_position(row, column),
             Command::LockLeft(g) => self.lock_left(g),
             Command::LockRight(g) => self.lock_right(g),
             Command::Single(g) => self.single(g),
             Command::Designate(g, set) => self.designate(g, set),
             Command::Graphic(byte) => self.graphic(byte, strokes),
-            Command::Repeat(count) => self.repeat(count, strokes),
-            Command::C1(n) => self.c1_code(n),
-            Command::FlashMode(mode) => self.flash_mode(mode),
-            Command::StopConceal => self.stop_conceal(),
-            _ => {}
+            Command::Repeat(count) => self.repeat_last(count, strokes),
+            Command::Cancel => self.cancel(strokes),
+            Command::C1(n) => self.c1_code(n, strokes),
+            Command::FlashMode(mode) => self.flash_mode(mode, strokes),
+            Command::StopConceal => self.stop_conceal(strokes),
+            Command::DesignateC1(set) => self.designate_c1(set),
+            // a service isn't built: its break drops the accent that waits
+            Command::ServiceBreak(_) => self.working.accent = None,
+            // these leave control as it is
+            Command::Nul
+            | Command::Skipped
+            | Command::CursorOn
+            | Command::CursorOff
+            | Command::Marked(_)
+            | Command::ColourHeader(_)
+            | Command::ColourStart(_)
+            | Command::DrcsStart(_) => {}
+            // not built yet: no effect
+            Command::Table(_)
+            | Command::ScrollUp
+            | Command::ScrollDown
+            | Command::Implicit(_)
+            | Command::Protect(_)
+            | Command::AreaCreate(_, _)
+            | Command::AreaDelete(_, _)
+            | Command::FullScreen(_)
+            | Command::FullRow(_)
+            | Command::ColourDefaults
+            | Command::Entry(_, _)
+            | Command::Dclut(_, _)
+            | Command::DrcsHeader(_, _)
+            | Command::DrcsPattern(_, _)
+            | Command::Format(_, _)
+            | Command::ServiceEnd
+            | Command::FullDefaults(_)
+            | Command::ControlDefaults(_) => {}
         }
     }
 }

@@ -1,15 +1,16 @@
-//! Control: what each command makes of the state beside the page, and the strokes that it makes. It knows no bytes, sees no
-//! cell and no look, and keeps no history.
+//! Control: what each command makes of the state beside the page, and the strokes that it makes. It
+//! knows no bytes, sees no cell and no look, and keeps no history.
 #![tactic(auto)]
 
 mod control;
 mod graphic;
-mod kept;
+mod marker;
 mod motion;
 mod pen;
 mod shift;
 #[cfg(test)]
 mod tests;
+mod working;
 
 pub use cept_codes::Stroke;
 pub use control::Control;

@@ -1,51 +1,79 @@
-ghost use Rattle.std.specs.Prelude.{◌≡◌, ◌≤◌, IfSome};
+ghost use Rattle.std.specs.Prelude.{◌≡◌, ◌≤◌, [], IfSome};
 ghost use Rattle.cept_codes.specs.Attribute.{IsValidAttr, IsValidPen};
 ghost use Rattle.cept_codes.specs.Command.{IsC1};
-ghost use Rattle.cept_profile.specs.Control.{obeyed};
-ghost use Rattle.cept_profile.specs.Pens.{attribute_of, fast_after, fast_before, fast_flash, flash_of, next_fast, with_any, with_attribute};
+ghost use Rattle.cept_profile.specs.Control.{control_effect};
+ghost use Rattle.cept_profile.specs.Strokes.{strokes_when};
+ghost use Rattle.cept_profile.specs.Pens.{attribute_of, fast_after, fast_after_code, fast_before};
+ghost use Rattle.cept_profile.specs.Pens.{fast_flash, flash_of, next_fast, pen_with_any, pen_with};
 
 use crate::control::Control;
-use cept_codes::{Attr, C1Set, Command, Flash, Pen};
+use crate::marker::marker_of;
+use arrayvec::ArrayVec;
+use cept_codes::{Attr, C1Set, Command, Flash, Marker, Pen, Stroke};
 
-/// Pens: attributes under the parallel set.
+/// What sets attributes: under the parallel set those of the pen, under the serial set markers.
 impl Control {
-    pub(crate) fn c1_code(&mut self, n: u8)
-        requires { IsC1 n }
-        ensures { self.new ≡ obeyed self.old (Command.C1 n) }
+    pub(crate) fn c1_code(&mut self, n: u8, strokes: &mut ArrayVec<Stroke, 128>)
+        requires code { IsC1 n }
+        requires empty { strokes.old.items ≡ [] }
+        ensures state { self.new ≡ control_effect self.old (Command.C1 n) }
+        ensures strokes { strokes.new.items ≡ strokes_when self.old (Command.C1 n) }
     {
-        match self.c1 {
+        match self.working.c1 {
             C1Set::Parallel => {
-                self.pen = with_any(attribute_of(self.table, n), self.pen);
-                if n == 8 || n == 9 {
-                    self.fast = 0;
+                self.working.pen = pen_with_any(
+                    attribute_of(self.working.table, n),
+                    self.working.pen,
+                );
+                self.working.fast = fast_after_code(n, self.working.fast);
+            }
+            C1Set::Serial => {
+                let fast = fast_after_code(n, self.working.fast);
+                if let Some(marker) = marker_of(self.working.table, n) {
+                    self.leave(marker, strokes);
                 }
+                self.working.fast = fast;
             }
-            C1Set::Serial => {}
         }
     }
 
-    pub(crate) fn flash_mode(&mut self, mode: u8)
-        requires { mode ≤ 6 }
-        ensures { self.new ≡ obeyed self.old (Command.FlashMode mode) }
+    pub(crate) fn flash_mode(&mut self, mode: u8, strokes: &mut ArrayVec<Stroke, 128>)
+        requires mode { mode ≤ 6 }
+        requires empty { strokes.old.items ≡ [] }
+        ensures state { self.new ≡ control_effect self.old (Command.FlashMode mode) }
+        ensures strokes { strokes.new.items ≡ strokes_when self.old (Command.FlashMode mode) }
     {
-        match self.c1 {
+        match self.working.c1 {
             C1Set::Parallel => {
-                let flash = flash_of(mode, self.fast);
-                self.pen = with_attribute(Attr::Flash(flash), self.pen);
-                self.fast = fast_after(mode, self.fast);
+                let flash = flash_of(mode, self.working.fast);
+                self.working.pen = pen_with(Attr::Flash(flash), self.working.pen);
+                self.working.fast = fast_after(mode, self.working.fast);
             }
-            C1Set::Serial => {}
+            C1Set::Serial => {
+                let fast = self.working.fast;
+                self.leave(Marker::Flash(flash_of(mode, fast)), strokes);
+                self.working.fast = fast_after(mode, fast);
+            }
         }
     }
 
-    pub(crate) fn stop_conceal(&mut self)
-        ensures { self.new ≡ obeyed self.old Command.StopConceal }
+    pub(crate) fn stop_conceal(&mut self, strokes: &mut ArrayVec<Stroke, 128>)
+        requires { strokes.old.items ≡ [] }
+        ensures state { self.new ≡ control_effect self.old Command.StopConceal }
+        ensures strokes { strokes.new.items ≡ strokes_when self.old Command.StopConceal }
     {
-        match self.c1 {
-            C1Set::Parallel => self.pen = with_attribute(Attr::Conceal(false), self.pen),
-            C1Set::Serial => {}
+        match self.working.c1 {
+            C1Set::Parallel => self.working.pen = pen_with(Attr::Conceal(false), self.working.pen),
+            C1Set::Serial => self.leave(Marker::Conceal(false), strokes),
         }
     }
+}
+
+/// The fast flash in force after a C1 code: the codes of flash end it.
+fn fast_after_code(n: u8, fast: u8) -> u8
+    ensures { result ≡ fast_after_code n fast }
+{
+    if n == 8 || n == 9 { 0 } else { fast }
 }
 
 /// The attribute of a C1 code with a colour table.
@@ -74,23 +102,23 @@ fn attribute_of(table: u8, n: u8) -> Option<Attr>
 }
 
 /// A pen with the attribute set, if there is one.
-fn with_any(attribute: Option<Attr>, pen: Pen) -> Pen
+fn pen_with_any(attribute: Option<Attr>, pen: Pen) -> Pen
     requires pen { IsValidPen pen }
     requires attribute { IfSome attribute IsValidAttr }
-    ensures pen { result ≡ with_any attribute pen }
+    ensures pen { result ≡ pen_with_any attribute pen }
     ensures valid { IsValidPen result }
 {
     match attribute {
-        Some(attribute) => with_attribute(attribute, pen),
+        Some(attribute) => pen_with(attribute, pen),
         None => pen,
     }
 }
 
 /// A pen with the attribute set.
-fn with_attribute(attribute: Attr, pen: Pen) -> Pen
+fn pen_with(attribute: Attr, pen: Pen) -> Pen
     requires pen { IsValidPen pen }
     requires attribute { IsValidAttr attribute }
-    ensures pen { result ≡ with_attribute attribute pen }
+    ensures pen { result ≡ pen_with attribute pen }
     ensures valid { IsValidPen result }
 {
     let mut pen = pen;

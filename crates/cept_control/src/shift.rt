@@ -1,5 +1,5 @@
 ghost use Rattle.std.specs.Prelude.{◌≡◌, ◌≤◌};
-ghost use Rattle.cept_profile.specs.Control.{obeyed};
+ghost use Rattle.cept_profile.specs.Control.{control_effect};
 
 use crate::control::Control;
 use cept_codes::{Command, SetId};
@@ -8,29 +8,29 @@ use cept_codes::{Command, SetId};
 impl Control {
     pub(crate) fn lock_left(&mut self, g: u8)
         requires { g ≤ 3 }
-        ensures { self.new ≡ obeyed self.old (Command.LockLeft g) }
+        ensures { self.new ≡ control_effect self.old (Command.LockLeft g) }
     {
-        self.sets.lock_left(g);
+        self.working.sets.lock_left(g);
     }
 
     pub(crate) fn lock_right(&mut self, g: u8)
         requires { (1 ≤ g) × (g ≤ 3) }
-        ensures { self.new ≡ obeyed self.old (Command.LockRight g) }
+        ensures { self.new ≡ control_effect self.old (Command.LockRight g) }
     {
-        self.sets.lock_right(g);
+        self.working.sets.lock_right(g);
     }
 
     pub(crate) fn single(&mut self, g: u8)
         requires { (2 ≤ g) × (g ≤ 3) }
-        ensures { self.new ≡ obeyed self.old (Command.Single g) }
+        ensures { self.new ≡ control_effect self.old (Command.Single g) }
     {
-        self.sets.single(g);
+        self.working.sets.single(g);
     }
 
     pub(crate) fn designate(&mut self, g: u8, set: SetId)
         requires { g ≤ 3 }
-        ensures { self.new ≡ obeyed self.old (Command.Designate g set) }
+        ensures { self.new ≡ control_effect self.old (Command.Designate g set) }
     {
-        self.sets.designate(g, set);
+        self.working.sets.designate(g, set);
     }
 }

@@ -1,7 +1,7 @@
-mod Added
-mod Chosen
-mod HandedOn
-mod HasPut
-mod Known
+mod FilesAdded
+mod FilesChosen
+mod BytesHandedOn
+mod PartsOfTexts
 pub mod Laws
-mod Reached
+mod PutSoFar
+mod NumbersReached

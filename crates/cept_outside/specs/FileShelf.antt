@@ -4,4 +4,11 @@ use Rattle.cept_outside.specs.ShelfState.{ShelfState}
 
 -- a shelf that tells no bytes and misses no file, with these counts
 abbrev pub untold_shelf : ℕ → ℕ → ShelfState
-untold_shelf taken faults = record { files = None; selected = None; left = None; taken = taken; missed = 0; faults = faults }
+untold_shelf taken faults = record {
+  files = None;
+  selected = None;
+  left = None;
+  taken = taken;
+  missed = 0;
+  faults = faults;
+}

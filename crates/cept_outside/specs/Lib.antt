@@ -2,6 +2,7 @@ pub mod Causes
 pub mod ShelfState
 pub mod SinkState
 pub mod Calls
+pub mod Counted
 pub mod Files
 pub mod Rack
 pub mod MemShelf
@@ -10,5 +11,6 @@ pub mod QuietShelf
 pub mod MemSink
 pub mod QuietSink
 pub mod FileShelf
+pub mod Machine
 pub mod StdSink
 pub mod Untold

@@ -1,4 +1,5 @@
--- A sink in memory, of a fixed room, whose calls fail where they are told to and at puts into a full list. This project's own.
+-- A sink in memory, of a fixed room, whose calls fail where they are told to and at puts into a full list. This
+-- project's own.
 use Rattle.std.specs.Prelude.{ℕ, List, Some}
 use Rattle.cept_outside.specs.declared.mem_sink.MemSink.{MemSink}
 use Rattle.cept_outside.specs.Calls.{faults_of}

@@ -13,8 +13,8 @@ abbrev pub left_of : Rack → List ℕ
 left_of rack = drop rack.at (chosen_bytes rack.files.items rack.selected)
 
 -- a shelf that tells all, with these counts
-abbrev pub told : Rack → ℕ → ℕ → ShelfState
-told rack missed faults = record {
+abbrev pub rack_state : Rack → ℕ → ℕ → ShelfState
+rack_state rack missed faults = record {
   files = Some (bytes_of rack.files.items);
   selected = Some (name_of rack);
   left = Some (left_of rack);

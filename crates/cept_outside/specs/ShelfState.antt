@@ -1,6 +1,7 @@
 -- A shelf: files under names, one of them selected at a time, whose bytes are taken from the front. This
 -- project's own.
-use Rattle.std.specs.Prelude.{◌≡◌, ℕ, ◌+◌, ◌-◌, ◌^◌, ◌≤◌, min, true, List, [], take, drop, length, Option, Some, None, option_and_then, is_some, IsSome, Result, OnOk, OnErr, IfOk}
+use Rattle.std.specs.Prelude.{◌≡◌, ℕ, ◌+◌, ◌-◌, ◌^◌, ◌≤◌, min, true, List, [], take, drop, length, Option, Some, None}
+use Rattle.std.specs.Prelude.{option_and_then, is_some, IsSome, Result, OnOk, OnErr, IfOk}
 use Rattle.std.specs.Io.KnownBytes.{prepend_known}
 
 -- what a shelf means
@@ -55,11 +56,14 @@ pub record KeepsFiles (old new : ShelfState) : Type 0 where
   pub tells_left : is_some new.left ≡ is_some old.left
 
 -- a selection ends the former one, and its file's bytes are left
-pub record Selects {X E : Type 0} (old : ShelfState) (name : List ℕ) (result : Result X E) (new : ShelfState) : Type 0 where
+pub record Selects {X E : Type 0} (old : ShelfState) (name : List ℕ) (result : Result X E) (new : ShelfState)
+    : Type 0 where
   pub keeps : KeepsFiles old new
-  pub found : OnOk result ((bytes : List ℕ) → Holds old name bytes → (new.selected ≡ Some (Some name)) × (new.left ≡ Some bytes))
+  pub found : OnOk result ((bytes : List ℕ) → Holds old name bytes
+      → (new.selected ≡ Some (Some name)) × (new.left ≡ Some bytes))
   pub absent : OnOk result (Lacks old name → SelectsNothing new)
-  pub untold : OnOk result (old.files ≡ None → (chosen : Option (List ℕ)) → new.selected ≡ Some chosen → chosen ≡ Some name)
+  pub untold : OnOk result (old.files ≡ None → (chosen : Option (List ℕ)) → new.selected ≡ Some chosen
+      → chosen ≡ Some name)
   pub failed : OnErr result (SelectsNothing new)
   pub taken : new.taken ≡ 0
   pub missed : old.missed ≤ new.missed
@@ -76,9 +80,11 @@ pub record Takes {E : Type 0} (old : ShelfState) (into : List ℕ) (result : Res
   pub end : IfOk result (λ n. n ≡ 0 → (bytes : List ℕ) → old.left ≡ Some bytes → bytes ≡ [])
   pub failed : OnErr result ((new.left ≡ old.left) × (new.taken ≡ old.taken))
 
--- the name that is selected is on the shelf, and its bytes without those taken are left
+-- the name that is selected is on the shelf, its bytes without those taken are left, and no more were taken than it has
 pub record IsSound (s : ShelfState) : Type 0 where
   pub together : is_some s.selected ≡ is_some s.left
   pub left : (name : List ℕ) → s.selected ≡ Some (Some name) → is_some s.files ≡ true
       → (bytes : List ℕ) × (bytes_under s name ≡ Some bytes) × (s.left ≡ Some (drop s.taken bytes))
+  pub within : (name bytes : List ℕ) → s.selected ≡ Some (Some name) → bytes_under s name ≡ Some bytes
+      → s.taken ≤ length bytes
   pub nothing : s.selected ≡ Some None → (s.left ≡ Some []) × (s.taken ≡ 0)

@@ -1,5 +1,6 @@
 -- A sink: bytes are put at its end, and flushed. This project's own.
-use Rattle.std.specs.Prelude.{◌≡◌, ℕ, ◌<◌, ◌≤◌, Bool, true, false, List, [], take, length, Option, Result, OnOk, OnErr, IfOk}
+use Rattle.std.specs.Prelude.{◌≡◌, ℕ, ◌<◌, ◌≤◌, Bool, true, false, List, [], take, length, Option, Result, OnOk}
+use Rattle.std.specs.Prelude.{OnErr, IfOk}
 use Rattle.std.specs.Io.KnownBytes.{append_known}
 
 -- what a sink means
@@ -30,3 +31,8 @@ pub record Gains (old : SinkState) (part : List ℕ) (new : SinkState) : Type 0 
   pub bytes : new.bytes ≡ append_known old.bytes part
   pub unflushed : 0 < length part → new.unflushed ≡ true
   pub unflushed_stays : part ≡ [] → new.unflushed ≡ old.unflushed
+
+-- some bytes were put, in one call or several, whichever they are
+pub record HasPut (old new : SinkState) : Type 0 where
+  pub part : List ℕ
+  pub gains : Gains old part new

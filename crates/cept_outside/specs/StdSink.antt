@@ -1,17 +1,21 @@
 -- A sink that hands its bytes on to a writer, and holds some of them back for a while. This project's own.
-use Rattle.std.specs.Prelude.{ℕ, ◌-◌, List, length, Option, None, drop}
+use Rattle.std.specs.Prelude.{ℕ, ◌-◌, List, length, Option, None, drop, nat_lt, ◌||◌}
 use Rattle.std.specs.Io.KnownBytes.{append_known}
 use Rattle.cept_outside.specs.declared.std_sink.StdSink.{StdSink}
 use Rattle.cept_outside.specs.SinkState.{SinkState}
 
 module _ {W : Type 0} where
-  -- it tells no bytes
+  -- it tells no bytes; unflushed is what is held back, and what the writer didn't flush
   abbrev pub std_sink_state : StdSink W → SinkState
-  std_sink_state sink = record { bytes = None; unflushed = sink.unflushed; faults = sink.faults }
+  std_sink_state sink = record {
+    bytes = None;
+    unflushed = nat_lt sink.sent (length sink.held.items) || sink.writer.unflushed;
+    faults = sink.writer.faults.count;
+  }
 
   -- the bytes that weren't handed on
-  abbrev pub held_back : StdSink W → List ℕ
-  held_back sink = drop sink.sent sink.held.items
+  abbrev pub held_bytes : StdSink W → List ℕ
+  held_bytes sink = drop sink.sent sink.held.items
 
   -- how many more bytes it can hold
   abbrev pub free_room : StdSink W → ℕ
@@ -19,4 +23,4 @@ module _ {W : Type 0} where
 
   -- the writer's bytes, where it tells them, and then those held back
   abbrev pub written_and_held : (W → Option (List ℕ)) → StdSink W → Option (List ℕ)
-  written_and_held contents sink = append_known (contents sink.out) (held_back sink)
+  written_and_held contents sink = append_known (contents sink.writer.out) (held_bytes sink)

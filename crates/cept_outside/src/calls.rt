@@ -1,8 +1,11 @@
-ghost use Rattle.std.specs.Prelude.{◌≡◌, ℕ, ◌<◌, ◌+◌, ◌-◌, ◌^◌, ◌≤◌, ◌↔◌, min, [], IsTrue, Contains, slice_index};
+ghost use Rattle.std.specs.Prelude.{◌≡◌, ℕ, ◌<◌, ◌+◌, ◌-◌, ◌^◌, ◌≤◌, ◌↔◌, min, [], IsTrue, IsFalse};
+ghost use Rattle.std.specs.Prelude.{Contains};
+ghost use Rattle.std.specs.Prelude.{slice_index};
 
 use arrayvec::ArrayVec;
 
-/// A count of calls, and the numbers of those that are to fail. The count stops at the greatest u64.
+/// A count of calls, and the numbers of those that are to fail. The count stops at the greatest
+/// u64.
 #[derive(Drop)]
 pub struct Calls {
     count: u64,
@@ -10,7 +13,7 @@ pub struct Calls {
 }
 
 impl Calls {
-    ghost use Rattle.cept_outside.specs.Calls.{reached, with_number};
+    ghost use Rattle.cept_outside.specs.Calls.{reached_count, numbers_with};
 
     /// No call was made, and no number is kept.
     pub fn new() -> Calls
@@ -28,9 +31,12 @@ impl Calls {
         ensures fails { IsTrue result ↔ Contains self.old.numbers.items (self.old.count + 1) }
         ensures count { self.new.count ≡ min (self.old.count + 1) (2 ^ 64 - 1) }
         ensures numbers { self.new.numbers.items ≡ self.old.numbers.items }
-        ensures later { reached self.old.numbers.items self.old.count ≤ reached self.new.numbers.items self.new.count }
-        ensures rose { IsTrue result → reached self.old.numbers.items self.old.count + 1
-            ≤ reached self.new.numbers.items self.new.count }
+        ensures later { reached_count self.old.numbers.items self.old.count ≤ reached_count
+            self.new.numbers.items self.new.count }
+        ensures stays { IsFalse result → reached_count self.new.numbers.items self.new.count
+            ≡ reached_count self.old.numbers.items self.old.count }
+        ensures rose { IsTrue result → reached_count self.old.numbers.items self.old.count + 1
+            ≤ reached_count self.new.numbers.items self.new.count }
     {
         self.count = self.count.saturating_add(1);
         is_kept(self.numbers.as_slice(), self.count)
@@ -39,8 +45,9 @@ impl Calls {
     /// Keeps the number of a call that is to fail. A seventeenth is ignored.
     pub fn keep(&mut self, number: u32)
         ensures count { self.new.count ≡ self.old.count }
-        ensures numbers { self.new.numbers.items ≡ with_number self.old.numbers.items number }
+        ensures numbers { self.new.numbers.items ≡ numbers_with self.old.numbers.items number }
     {
+        // A full list takes no more.
         let _ = self.numbers.try_push(number);
     }
 }

@@ -1,70 +1,75 @@
-ghost use Rattle.std.specs.Prelude.{◌≡◌, ◌<◌, length};
+ghost use Rattle.std.specs.Prelude.{◌≡◌, ◌<◌, ◌↔◌, length, is_some, IsSome, IsOk, None};
+ghost use Rattle.std.specs.Io.KnownBytes.{ReadConsumes};
+ghost use Rattle.cept_outside.specs.Causes.{HasCause};
 ghost use Rattle.cept_outside.specs.FileShelf.{untold_shelf};
-ghost use Rattle.cept_outside.specs.Untold.{untold_sound};
+ghost use Rattle.cept_outside.specs.Machine.{bytes_ahead};
+ghost use Rattle.cept_outside.specs.ShelfState.{Selects, Takes};
+ghost use Rattle.cept_outside.specs.Untold.{untold_shelf_is_sound};
 
 use crate::fault::Failed;
+use crate::machine::Reader;
 use crate::shelf::Shelf;
 use std::fs;
-use std::io::Read;
 use std::rt::Files;
 
-/// The files of the machine, under their paths. It tells nothing of bytes, and each error of the machine is a fault.
+/// The files of the machine, under their paths. It tells nothing of bytes, and each error of the
+/// machine is a fault.
 #[derive(Drop)]
 pub struct FileShelf<'a, R: Files> {
     files: &'a R,
-    selected: Option<R::File>,
+    reader: Reader<R::File>,
     taken: u64,
-    faults: u64,
 }
 
 impl<'a, R: Files> FileShelf<'a, R> {
     /// No file is selected.
     pub fn new(files: &'a R) -> FileShelf<'a, R>
-        ensures { ⟦<FileShelf<'a, R> as Shelf>⟧.state result ≡ untold_shelf 0 0 }
+        ensures state { ⟦<FileShelf<'a, R> as Shelf>⟧.state result ≡ untold_shelf 0 0 }
+        ensures closed { result.reader.file ≡ None }
     {
         FileShelf {
             files,
-            selected: None,
+            reader: Reader::new(),
             taken: 0,
-            faults: 0,
         }
     }
 }
 
 impl<R: Files> Shelf for FileShelf<'_, R> {
-    ghost state = { λ shelf. untold_shelf shelf.taken shelf.faults };
+    ghost state = { λ shelf. untold_shelf shelf.taken shelf.reader.faults.count };
 
-    ghost sound = { λ shelf. untold_sound shelf.taken shelf.faults };
+    ghost counted = { λ shelf. shelf.reader.faults.counted };
 
-    fn select(&mut self, name: &str) -> Result<(), Failed> {
-        self.selected = None;
+    ghost sound = { λ shelf. untold_shelf_is_sound shelf.taken shelf.reader.faults.count };
+
+    fn select(&mut self, name: &str) -> Result<(), Failed>
+        ensures selects { Selects (untold_shelf self.old.taken self.old.reader.faults.count)
+            name.now result
+            (untold_shelf self.new.taken self.new.reader.faults.count) }
+        ensures cause { HasCause self.old.reader.faults.count self.new.reader.faults.count result }
+
+        // A file is open after a success alone.
+        ensures opened { IsOk result ↔ IsSome self.new.reader.file }
+    {
         self.taken = 0;
-        match fs::open(self.files, name) {
-            Ok(file) => {
-                self.selected = Some(file);
-                Ok(())
-            }
-            Err(_) => {
-                self.faults = self.faults.saturating_add(1);
-                Err(Failed)
-            }
-        }
+        self.reader.open(fs::open(self.files, name))
     }
 
-    fn take(&mut self, into: &mut [u8]) -> Result<usize, Failed> {
-        let taken = self.taken;
-        let Some(file) = &mut self.selected else {
-            return Ok(0);
-        };
-        match file.read(into) {
-            Ok(count) => {
-                self.taken = taken.saturating_add(count as u64);
-                Ok(count)
-            }
-            Err(_) => {
-                self.faults = self.faults.saturating_add(1);
-                Err(Failed)
-            }
-        }
+    fn take(&mut self, into: &mut [u8]) -> Result<usize, Failed>
+        requires { 0 < length into.old }
+        ensures takes { Takes (untold_shelf self.old.taken self.old.reader.faults.count) into.new
+            result
+            (untold_shelf self.new.taken self.new.reader.faults.count) }
+        ensures cause { HasCause self.old.reader.faults.count self.new.reader.faults.count result }
+
+        // Of a file that tells its bytes the next ones are moved, and none only at its end.
+        ensures bytes { ReadConsumes (bytes_ahead R.File.remaining self.old.reader.file)
+            (bytes_ahead R.File.remaining self.new.reader.file) result into.new }
+        ensures open { is_some self.new.reader.file ≡ is_some self.old.reader.file }
+        ensures closed { self.old.reader.file ≡ None → IsOk result }
+    {
+        let count = self.reader.read(into)?;
+        self.taken = self.taken.saturating_add(count as u64);
+        Ok(count)
     }
 }

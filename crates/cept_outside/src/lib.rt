@@ -1,13 +1,14 @@
-//! The outside of the decoder: a shelf that files are taken from, a sink that bytes are put into, and steps that are
-//! counted. It knows no page, no command and no screen.
+//! The outside of the decoder: a shelf that files are taken from, a sink that bytes are put into,
+//! and steps that are counted. It knows no page, no command and no screen.
 #![tactic(auto)]
 
 mod calls;
 mod fault;
 mod file_shelf;
+mod law;
+mod machine;
 mod mem_shelf;
 mod mem_sink;
-mod parts;
 mod putting;
 mod quiet_shelf;
 mod quiet_sink;
@@ -21,9 +22,9 @@ mod tests;
 
 pub use fault::{Failed, WriteFault};
 pub use file_shelf::FileShelf;
+pub use law::{files_are_taken_in_parts, texts_are_put_in_parts};
 pub use mem_shelf::MemShelf;
 pub use mem_sink::MemSink;
-pub use parts::{files_are_taken_in_parts, texts_are_put_in_parts};
 pub use putting::put_all;
 pub use quiet_shelf::QuietShelf;
 pub use quiet_sink::QuietSink;

@@ -1,7 +1,11 @@
-ghost use Rattle.std.specs.Prelude.{◌≡◌, ℕ, ◌+◌, ◌-◌, ◌<◌, ◌≤◌, ◌↔◌, min, List, [], ◌++◌, length, take, drop, Some, None, IsTrue, IsSome, IfOk, OnOk, OnErr, vec_len, position, string_bytes, bytes_eq, if◌then◌else◌};
+ghost use Rattle.std.specs.Prelude.{◌≡◌, ℕ, ◌+◌, ◌-◌, ◌<◌, ◌≤◌, ◌↔◌, min, List, [], ◌++◌, length};
+ghost use Rattle.std.specs.Prelude.{take, drop, Some};
+ghost use Rattle.std.specs.Prelude.{None, IsTrue, IsSome, IfOk, OnOk, OnErr, vec_len, position};
+ghost use Rattle.std.specs.Prelude.{string_bytes};
+ghost use Rattle.std.specs.Prelude.{bytes_eq, if◌then◌else◌};
 ghost use Rattle.std.specs.Option.{ForSome};
 ghost use Rattle.std.proofs.Props.{props};
-ghost use Rattle.cept_outside.specs.Files.{has_name, bytes_of, chosen, chosen_bytes};
+ghost use Rattle.cept_outside.specs.Files.{has_name, bytes_of, chosen_file, chosen_bytes};
 
 use cept_codes::NoMemory;
 use std::alloc::Global;
@@ -13,7 +17,8 @@ pub struct StoredFile {
     bytes: Vec<u8>,
 }
 
-/// Files in memory, each name once, and the place of the one that is selected with the count of its bytes taken.
+/// Files in memory, each name once, and the place of the one that is selected with the count of its
+/// bytes taken.
 #[derive(Drop)]
 pub struct Rack {
     files: Vec<StoredFile>,
@@ -21,7 +26,7 @@ pub struct Rack {
     at: usize,
     ghost there: { ForSome selected (λ place. place < length files.items) },
     ghost within: { at ≤ length (chosen_bytes files.items selected) },
-    ghost named: { ForSome (chosen files.items selected)
+    ghost named: { ForSome (chosen_file files.items selected)
         (λ file. bytes_of files.items (string_bytes file.name) ≡ Some file.bytes.items) } by { Prim.hlevel props },
 }
 
@@ -43,11 +48,12 @@ fn stored(alloc: Global, name: &str, bytes: &[u8]) -> Result<StoredFile, NoMemor
     })
 }
 
-/// Puts the file in the place of the one with its name, or behind the others.
+/// Puts the file in the place of the one with its name, or after the others.
 fn put_file(files: &mut Vec<StoredFile>, name: &str, file: StoredFile) -> Result<(), NoMemory>
     requires { string_bytes file.name ≡ name.now }
     ensures ok { OnOk result ((other : List ℕ) → bytes_of files.new.items other
-        ≡ (if bytes_eq name.now other then Some file.bytes.items else bytes_of files.old.items other)) }
+        ≡ (if bytes_eq name.now other then Some file.bytes.items
+        else bytes_of files.old.items other)) }
     ensures err { OnErr result (files.new.items ≡ files.old.items) }
 {
     match place_of(files.as_slice(), name) {
@@ -88,14 +94,16 @@ impl Rack {
         }
     }
 
-    /// Puts a file with this name and these bytes in the place of the one with that name, or beside the others, and ends
-    /// the selection.
+    /// Puts a file with this name and these bytes in the place of the one with that name, or beside
+    /// the others, and ends the selection.
     pub fn add(&mut self, name: &str, bytes: &[u8]) -> Result<(), NoMemory>
         ensures added { OnOk result ((other : List ℕ) → bytes_of self.new.files.items other
-            ≡ (if bytes_eq name.now other then Some bytes.now else bytes_of self.old.files.items other)) }
+            ≡ (if bytes_eq name.now other then Some bytes.now
+            else bytes_of self.old.files.items other)) }
         ensures ended { OnOk result ((self.new.selected ≡ None) × (self.new.at ≡ 0)) }
         ensures files { OnErr result (self.new.files.items ≡ self.old.files.items) }
-        ensures selection { OnErr result ((self.new.selected ≡ self.old.selected) × (self.new.at ≡ self.old.at)) }
+        ensures selection { OnErr result ((self.new.selected ≡ self.old.selected)
+            × (self.new.at ≡ self.old.at)) }
     {
         let file = stored(*self.files.allocator(), name, bytes)?;
         put_file(&mut self.files, name, file)?;

@@ -1,15 +1,16 @@
-ghost use Rattle.std.specs.Prelude.{◌<◌, length};
+ghost use Rattle.std.specs.Prelude.{◌<◌, ◌^◌, length};
 ghost use Rattle.cept_outside.specs.Causes.{HasCause};
 ghost use Rattle.cept_outside.specs.SinkState.{SinkState, Puts, Flushes};
 
 use crate::fault::Failed;
 
-/// A place where bytes are put one behind the other.
+/// A place where bytes are put one after the other.
 pub trait Sink {
     /// The bytes put, whether some of them aren't flushed, and the count of faults.
     ghost state: { Self → SinkState };
 
-    /// Puts the front of the piece and answers how many bytes, at least one. A failure puts nothing.
+    /// Puts the front of the piece and answers how many bytes, at least one. A failure puts
+    /// nothing.
     fn put(&mut self, piece: &[u8]) -> Result<usize, Failed>
         requires { 0 < length piece.now }
         ensures puts { Puts (state self.old) piece.now result (state self.new) }
@@ -19,4 +20,7 @@ pub trait Sink {
     fn flush(&mut self) -> Result<(), Failed>
         ensures flushes { Flushes (state self.old) result (state self.new) }
         ensures cause { HasCause (state self.old).faults (state self.new).faults result };
+
+    /// A count of faults is a u64.
+    ghost counted: { (s : Self) → (state s).faults < 2 ^ 64 };
 }

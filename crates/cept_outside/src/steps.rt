@@ -3,7 +3,8 @@ ghost use Rattle.std.specs.Prelude.{◌≡◌, ℕ, ◌+◌, ◌<◌};
 use std::marker::Model;
 use std::sync::ledger::{Blank, Book, Ledger, Share};
 
-/// How many ticks were made, as a contract sees it. It takes no bytes, and a running program can't ask for the number.
+/// How many ticks were made, as a contract sees it. It takes no bytes, and a running program can't
+/// ask for the number.
 #[derive(Drop)]
 pub struct Steps<L: Ledger> {
     book: Book<L>,
@@ -19,8 +20,8 @@ impl<L: Ledger> Model for Steps<L> {
 }
 
 impl<L: Ledger> Steps<L> {
-    /// No tick was made. The blank ledger becomes the one that `L` stands for; a caller that counts nothing takes
-    /// `Brand` for `L` and hands on `Blank::new(1)`.
+    /// No tick was made. The blank ledger becomes the one that `L` stands for; a caller that counts
+    /// nothing takes `Brand` for `L` and hands on `Blank::new(1)`.
     pub fn new(blank: Blank) -> Steps<L>
         requires name { blank.name ≡ L.name }
         requires parts { blank.parts ≡ L.parts }

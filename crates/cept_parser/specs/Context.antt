@@ -1,4 +1,5 @@
--- The context in which bytes are read (this profile's own): the mode, the kind of colours, and the form of downloaded patterns.
+-- The context in which bytes are read (this profile's own): the mode, the kind of colours, and the form of downloaded
+-- patterns.
 use Rattle.cept_codes.specs.declared.command.Form.{Form}
 use Rattle.cept_parser.specs.declared.context.Mode.{Mode}
 use Rattle.cept_parser.specs.declared.context.Mode.TheVariants.{Text}
@@ -10,8 +11,8 @@ abbrev pub start_form : Form
 start_form = record { w = 12; h = 10; planes = 1 }
 
 -- the context before the first byte
-abbrev pub start : Context
-start = record { mode = Text; kind = ColourTable; form = start_form }
+abbrev pub start_context : Context
+start_context = record { mode = Text; kind = ColourTable; form = start_form }
 
 -- the context in another mode
 abbrev pub with_mode : Context → Mode → Context

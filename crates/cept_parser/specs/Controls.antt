@@ -1,16 +1,16 @@
--- Units of one byte: the C0 set, the C1 set in its form of one byte, and the right half. The C0 set is after ETS 300 072, the
--- shifts after ISO 2022. In this code of eight bits 0/14 and 0/15 are LS1 and LS0; SO and SI are their names in one of seven.
--- Own is which codes are refused.
+-- Units of one byte: the C0 set, the C1 set in its form of one byte, and the right half. The C0 set is after ETS 300
+-- 072, the shifts after ISO 2022. In this code of eight bits 0/14 and 0/15 are LS1 and LS0; SO and SI are their names
+-- in one of seven. Own is which codes are refused.
 use Rattle.std.specs.Prelude.{ℕ, ◌-◌, if◌then◌else◌, ◌==◌, nat_le}
 use Rattle.cept_codes.specs.declared.command.Command.TheVariants as command
 use Rattle.cept_codes.specs.declared.item.Reason.TheVariants.{UnassignedControl}
 use Rattle.cept_codes.specs.declared.item.Said.{Said}
 use Rattle.cept_codes.specs.declared.item.Said.TheVariants.{Command as Says, Refused}
-use Rattle.cept_parser.specs.Bytes.{between}
+use Rattle.cept_parser.specs.Bytes.{is_between}
 
 -- a byte that is no plain byte and begins no longer unit
-unfoldable pub control : ℕ → Said
-control a =
+unfoldable pub one_byte : ℕ → Said
+one_byte a =
     if a == 0x00 then Says command.Nul else  -- NUL
     if a == 0x08 then Says command.Back else  -- APB
     if a == 0x09 then Says command.Forward else  -- APF
@@ -27,5 +27,5 @@ control a =
     if a == 0x1D then Says (command.Single 3) else  -- SS3
     if a == 0x1E then Says command.Home else  -- APH
     if nat_le a 0x1F then Refused UnassignedControl else
-    if between 0x80 0x9F a then Says (command.C1 (a - 0x80)) else
+    if is_between 0x80 0x9F a then Says (command.C1 (a - 0x80)) else
     Says (command.Graphic a)

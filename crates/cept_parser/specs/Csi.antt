@@ -1,12 +1,12 @@
--- Control sequences: CSI, at most seven bytes 2/0 to 3/15, and a byte 4/0 to 7/15. That CSI is 9/11, or ESC 5/11, is after ISO
--- 2022, and the shape of a sequence after ISO 6429. Own are the limit of seven bytes, which sequences there are and what each
--- says, and what is refused. The names beside the sequences are those that the field uses.
+-- Control sequences: CSI, at most seven bytes 2/0 to 3/15, and a byte 4/0 to 7/15. That CSI is 9/11, or ESC 5/11, is
+-- after ISO 2022, and the shape of a sequence after ISO 6429. Own are the limit of seven bytes, which sequences there
+-- are and what each says, and what is refused. The names beside the sequences are those that the field uses.
 use Rattle.std.specs.Prelude.{ℕ, ◌-◌, Bool, true, false, not, ◌&&◌, List, [], ◌∷◌, if◌then◌else◌, ◌==◌, nat_le}
 use Rattle.cept_codes.specs.declared.command.Command.TheVariants as command
 use Rattle.cept_codes.specs.declared.item.Reason.TheVariants.{UnknownCsi, BadParameter}
 use Rattle.cept_codes.specs.declared.item.Said.{Said}
 use Rattle.cept_codes.specs.declared.item.Said.TheVariants.{Command as Says, Refused}
-use Rattle.cept_parser.specs.Bytes.{between, is_digit, digit, two_digits}
+use Rattle.cept_parser.specs.Bytes.{is_between, is_digit, digit, two_digits}
 
 -- CSI f
 unfoldable pub csi_1 : ℕ → Said
@@ -17,8 +17,8 @@ csi_1 f =
 -- CSI p f
 unfoldable pub csi_2 : ℕ → ℕ → Said
 csi_2 p f =
-    if between 0x30 0x33 p && f == 0x40 then Says (command.Table (p - 0x30)) else  -- CT1 to CT4
-    if between 0x30 0x36 p && f == 0x41 then Says (command.FlashMode (p - 0x30)) else  -- IVF, RIF, FF1 to FF3, ICF, DCF
+    if is_between 0x30 0x33 p && f == 0x40 then Says (command.Table (p - 0x30)) else  -- CT1 to CT4
+    if is_between 0x30 0x36 p && f == 0x41 then Says (command.FlashMode (p - 0x30)) else  -- IVF, RIF, FF1 to 3, ICF, DCF
     if p == 0x30 && f == 0x60 then Says command.ScrollUp else  -- SCU
     if p == 0x31 && f == 0x60 then Says command.ScrollDown else  -- SCD
     if p == 0x32 && f == 0x60 then Says (command.Implicit true) else  -- AIS
@@ -38,7 +38,7 @@ area n m f =
 
 -- the final byte of an area form
 abbrev pub is_area_final : ℕ → Bool
-is_area_final f = between 0x55 0x56 f
+is_area_final f = is_between 0x55 0x56 f
 
 -- CSI n 3/11 m f, of one digit each
 unfoldable pub csi_4 : ℕ → ℕ → ℕ → ℕ → Said
@@ -49,13 +49,15 @@ csi_4 n s m f =
 -- of one digit and two
 unfoldable pub csi_1_2 : ℕ → ℕ → ℕ → ℕ → ℕ → Said
 csi_1_2 n s m o f =
-    if is_digit n && (s == 0x3B && (is_digit m && (is_digit o && is_area_final f))) then area (digit n) (two_digits m o) f else
+    if is_digit n && (s == 0x3B && (is_digit m && (is_digit o && is_area_final f)))
+    then area (digit n) (two_digits m o) f else
     Refused UnknownCsi
 
 -- of two digits and one
 unfoldable pub csi_2_1 : ℕ → ℕ → ℕ → ℕ → ℕ → Said
 csi_2_1 n o s m f =
-    if is_digit n && (is_digit o && (s == 0x3B && (is_digit m && is_area_final f))) then area (two_digits n o) (digit m) f else
+    if is_digit n && (is_digit o && (s == 0x3B && (is_digit m && is_area_final f)))
+    then area (two_digits n o) (digit m) f else
     Refused UnknownCsi
 
 -- of three digits: the sign between them tells which number has two
@@ -65,10 +67,11 @@ csi_5 a b c d f = if b == 0x3B then csi_1_2 a b c d f else csi_2_1 a b c d f
 -- of two digits each
 unfoldable pub csi_6 : ℕ → ℕ → ℕ → ℕ → ℕ → ℕ → Said
 csi_6 n o s m p f =
-    if is_digit n && (is_digit o && (s == 0x3B && (is_digit m && (is_digit p && is_area_final f)))) then area (two_digits n o) (two_digits m p) f else
+    if is_digit n && (is_digit o && (s == 0x3B && (is_digit m && (is_digit p && is_area_final f))))
+    then area (two_digits n o) (two_digits m p) f else
     Refused UnknownCsi
 
--- a whole control sequence, behind CSI
+-- a whole control sequence, after CSI
 unfoldable pub csi : List ℕ → Said
 csi (f ∷ []) = csi_1 f
 csi (p ∷ f ∷ []) = csi_2 p f

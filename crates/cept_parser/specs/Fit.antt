@@ -1,18 +1,19 @@
--- How bytes stand to the grammar, in one word (this project's own).
-use Rattle.std.specs.Prelude.{ℕ, Bool, true, false, not, ◌&&◌, ◌||◌, ◌==◌, nat_le, List, [], ◌∷◌, if◌then◌else◌, Option, Some, None}
+-- How bytes stand to the grammar, in one word (this project's own). Private clauses alone cite this file.
+use Rattle.std.specs.Prelude.{ℕ, Bool, true, false, not, ◌&&◌, ◌||◌, ◌==◌, nat_le, List, [], ◌∷◌, if◌then◌else◌, Option}
+use Rattle.std.specs.Prelude.{Some, None}
 use Rattle.cept_parser.specs.declared.context.Context.{Context}
-use Rattle.cept_parser.specs.declared.context.Closed.{Closed}
+use Rattle.cept_parser.specs.declared.context.Outcome.{Outcome}
 use Rattle.cept_parser.specs.declared.fit.Extent.{Extent}
 use Rattle.cept_parser.specs.declared.fit.Extent.TheVariants.{Beyond, Within, Full}
 use Rattle.cept_parser.specs.declared.fit.Fit.{Fit}
 use Rattle.cept_parser.specs.declared.fit.Fit.TheVariants.{Misfit, Open, Whole, Longer}
 use Rattle.cept_parser.specs.declared.context.Mode.{Mode}
 use Rattle.cept_parser.specs.declared.context.Mode.TheVariants.{Text, TableRun, DclutRun, DrcsRun, Skip}
-use Rattle.cept_parser.specs.Bytes.{between, contains, is_plain}
+use Rattle.cept_parser.specs.Bytes.{is_between, contains, is_plain}
 use Rattle.cept_parser.specs.Grammar.{unit, fits, grows}
 
 -- the word for bytes that fit or not, grow or not, and wholly are this
-abbrev pub fit_by : Bool → Bool → Option Closed → Fit
+abbrev pub fit_by : Bool → Bool → Option Outcome → Fit
 fit_by false more whole = Misfit
 fit_by true more None = Open
 fit_by true more (Some c) = if more then Longer else Whole
@@ -27,10 +28,10 @@ extent_by false whole = Beyond
 extent_by true false = Within
 extent_by true true = Full
 
--- the bytes behind an optional part, if it is there
-abbrev pub behind : List ℕ → List ℕ → List ℕ
-behind part [] = []
-behind part (a ∷ u) = if contains part a then u else a ∷ u
+-- the bytes after an optional part, if it is there
+abbrev pub bytes_after : List ℕ → List ℕ → List ℕ
+bytes_after part [] = []
+bytes_after part (a ∷ u) = if contains part a then u else a ∷ u
 
 -- a mode in which each plain byte is a unit
 abbrev pub is_single_mode : Mode → Bool
@@ -61,4 +62,4 @@ is_sign x a = if is_plain a then is_text x.mode else nat_le 0xA0 a
 
 -- a C1 code in its form of one byte, which is no CSI
 abbrev pub is_c1 : ℕ → Bool
-is_c1 a = between 0x80 0x9F a && not (a == 0x9B)
+is_c1 a = is_between 0x80 0x9F a && not (a == 0x9B)

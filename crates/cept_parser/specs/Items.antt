@@ -1,5 +1,6 @@
 -- The items of bytes (this profile's own): found on the whole list, by the longest beginning that fits.
-use Rattle.std.specs.Prelude.{ℕ, zero, suc, ◌+◌, Bool, true, false, not, ◌&&◌, ◌||◌, List, [], ◌∷◌, ◌++◌, length, take, drop, if◌then◌else◌, ◌==◌, Option, Some, None}
+use Rattle.std.specs.Prelude.{ℕ, zero, suc, ◌+◌, Bool, true, false, not, ◌&&◌, ◌||◌, List, [], ◌∷◌, ◌++◌, length, take}
+use Rattle.std.specs.Prelude.{drop, if◌then◌else◌, ◌==◌, Option, Some, None}
 use Rattle.std.specs.List.{flat_map}
 use Rattle.cept_codes.specs.declared.command.Command.{Command}
 use Rattle.cept_codes.specs.declared.item.Item.{Item}
@@ -8,21 +9,21 @@ use Rattle.cept_codes.specs.declared.item.Said.{Said}
 use Rattle.cept_codes.specs.declared.item.Said.TheVariants.{Command as Says, Refused}
 use Rattle.cept_parser.specs.declared.context.Mode.TheVariants.{Text}
 use Rattle.cept_parser.specs.declared.context.Context.{Context}
-use Rattle.cept_parser.specs.declared.context.Closed.{Closed}
-use Rattle.cept_parser.specs.Context.{start, with_mode}
+use Rattle.cept_parser.specs.declared.context.Outcome.{Outcome}
+use Rattle.cept_parser.specs.Context.{start_context, with_mode}
 use Rattle.cept_parser.specs.Grammar.{unit, fits, grows}
 use Rattle.cept_parser.specs.Bytes.{is_empty}
 
 -- the length of the longest beginning that fits, of those of at most n bytes
-unfoldable pub longest_within : Context → List ℕ → ℕ → ℕ
-longest_within x b zero = 0
-longest_within x b (suc n) = if fits x (take (suc n) b) then suc n else longest_within x b n
+unfoldable pub longest_beginning_within : Context → List ℕ → ℕ → ℕ
+longest_beginning_within x b zero = 0
+longest_beginning_within x b (suc n) = if fits x (take (suc n) b) then suc n else longest_beginning_within x b n
 
 -- the length of the longest beginning that fits
-unfoldable pub longest : Context → List ℕ → ℕ
-longest x b = longest_within x b (length b)
+unfoldable pub longest_beginning : Context → List ℕ → ℕ
+longest_beginning x b = longest_beginning_within x b (length b)
 
--- the first item of bytes: what it says, its length, and the context behind it
+-- the first item of bytes: what it says, its length, and the context after it
 pub record Front : Type 0 where
   pub said : Said
   pub size : ℕ
@@ -35,7 +36,7 @@ is_refusal (Refused r) = true
 
 -- the first item, where the longest beginning that fits has this length, is all of the bytes or not, grows or not,
 -- and wholly is this. All of the bytes wait where they are no whole unit yet, or a unit that grows
-unfoldable pub front_of : Context → ℕ → Bool → Bool → Option Closed → Option Front
+unfoldable pub front_of : Context → ℕ → Bool → Bool → Option Outcome → Option Front
 front_of x size all more (Some c) =
     if is_refusal c.said || not (all && more) then Some (record { said = c.said; size = size; next = c.next }) else None
 front_of x size all more None =
@@ -44,11 +45,11 @@ front_of x size all more None =
 -- the first item of bytes, none where they wait for more
 unfoldable pub front : Context → List ℕ → Option Front
 front x b =
-    let n = longest x b in
+    let n = longest_beginning x b in
     let u = take n b in
     front_of x n (n == length b) (grows x u) (unit x u)
 
--- what bytes say: their items, and behind these the context, the place and the bytes that are pending
+-- what bytes say: their items, and after these the context, the place and the bytes that are pending
 pub record Reading : Type 0 where
   pub items : List Item
   pub context : Context
@@ -60,49 +61,49 @@ abbrev pub item_of : ℕ → Front → Item
 item_of at f = record { at = at; len = f.size; what = f.said }
 
 -- a reading with items before it
-abbrev pub before : List Item → Reading → Reading
-before is r = record { items = is ++ r.items; context = r.context; at = r.at; pending = r.pending }
+abbrev pub reading_with_items : List Item → Reading → Reading
+reading_with_items is r = record { items = is ++ r.items; context = r.context; at = r.at; pending = r.pending }
 
 -- bytes of which none is an item yet
-abbrev pub waiting : Context → ℕ → List ℕ → Reading
-waiting x at b = record { items = []; context = x; at = at; pending = b }
+abbrev pub waiting_reading : Context → ℕ → List ℕ → Reading
+waiting_reading x at b = record { items = []; context = x; at = at; pending = b }
 
--- the reading that begins with this first item, and goes on as told behind it
-unfoldable pub read_by : (Context → ℕ → List ℕ → Reading) → Context → ℕ → List ℕ → Option Front → Reading
-read_by more x at b None = waiting x at b
-read_by more x at b (Some f) = before (item_of at f ∷ []) (more f.next (at + f.size) (drop f.size b))
+-- the reading that begins with this first item, and goes on as told after it
+unfoldable pub reading_by : (Context → ℕ → List ℕ → Reading) → Context → ℕ → List ℕ → Option Front → Reading
+reading_by more x at b None = waiting_reading x at b
+reading_by more x at b (Some f) = reading_with_items (item_of at f ∷ []) (more f.next (at + f.size) (drop f.size b))
 
 -- the reading of bytes that stand at this place, up to so many items
-unfoldable pub read_within : ℕ → Context → ℕ → List ℕ → Reading
-read_within zero x at b = waiting x at b
-read_within (suc n) x at b = read_by (read_within n) x at b (front x b)
+unfoldable pub reading_within : ℕ → Context → ℕ → List ℕ → Reading
+reading_within zero x at b = waiting_reading x at b
+reading_within (suc n) x at b = reading_by (reading_within n) x at b (front x b)
 
 -- the reading of bytes that stand at this place: there are at most as many items as bytes
-abbrev pub read : Context → ℕ → List ℕ → Reading
-read x at b = read_within (length b) x at b
+abbrev pub reading_at : Context → ℕ → List ℕ → Reading
+reading_at x at b = reading_within (length b) x at b
 
 -- the reading of all bytes from the first on
 abbrev pub reading : List ℕ → Reading
-reading b = read start 0 b
+reading b = reading_at start_context 0 b
 
 -- the items of bytes after which more may come
 abbrev pub items : List ℕ → List Item
 items b = (reading b).items
 
 -- what pending bytes say at the end of the input: their command where they are a unit, else they are truncated
-unfoldable pub said_at_end : Option Closed → Said
+unfoldable pub said_at_end : Option Outcome → Said
 said_at_end (Some c) = c.said
 said_at_end None = Refused Truncated
 
 -- the items that the end of the input adds
-unfoldable pub closing : Reading → List Item
-closing r =
+unfoldable pub closing_items : Reading → List Item
+closing_items r =
     if is_empty r.pending then [] else
     record { at = r.at; len = length r.pending; what = said_at_end (unit r.context r.pending) } ∷ []
 
 -- the items of bytes that end here
 abbrev pub closed_items : List ℕ → List Item
-closed_items b = items b ++ closing (reading b)
+closed_items b = items b ++ closing_items (reading b)
 
 -- the command that is said, if one is
 abbrev pub command_said : Said → List Command

@@ -12,4 +12,4 @@ pub mod State
 pub mod Beginning
 pub mod Fit
 pub mod Waits
-pub mod Told
+pub mod Outcome

@@ -1,6 +1,7 @@
--- Units that begin with a plain byte, by the mode: signs, colours, patterns, and bytes that are passed over (the modes are this
--- profile's own).
-use Rattle.std.specs.Prelude.{ℕ, ◌+◌, ◌*◌, ◌/◌, ◌%◌, ◌^◌, Bool, false, ◌&&◌, List, if◌then◌else◌, nat_lt, nat_le, Option}
+-- Units that begin with a plain byte, by the mode: signs, colours, patterns, and bytes that are passed over (the modes
+-- are this profile's own).
+use Rattle.std.specs.Prelude.{ℕ, ◌+◌, ◌*◌, ◌/◌, ◌%◌, ◌^◌, Bool, false, ◌&&◌, List, if◌then◌else◌, nat_lt, nat_le}
+use Rattle.std.specs.Prelude.{Option}
 use Rattle.cept_codes.specs.declared.command.Command.TheVariants as command
 use Rattle.cept_codes.specs.declared.item.Reason.TheVariants.{BadParameter}
 use Rattle.cept_codes.specs.declared.item.Said.TheVariants.{Command as Says, Refused}
@@ -8,12 +9,12 @@ use Rattle.cept_codes.specs.declared.look.Rgb.{Rgb}
 use Rattle.cept_parser.specs.declared.context.Mode.{Mode}
 use Rattle.cept_parser.specs.declared.context.Mode.TheVariants.{Text, TableRun, DclutRun, DrcsRun, Skip}
 use Rattle.cept_parser.specs.declared.context.Context.{Context}
-use Rattle.cept_parser.specs.declared.context.Closed.{Closed}
-use Rattle.cept_parser.specs.Bytes.{is_empty, closed, complete, begins_plain, with_plain}
+use Rattle.cept_parser.specs.declared.context.Outcome.{Outcome}
+use Rattle.cept_parser.specs.Bytes.{is_empty, outcome, whole_outcome, begins_plain, with_plain}
 
 -- a plain byte that can't begin or continue the unit of its run
-abbrev pub misplaced : Context → Closed
-misplaced x = closed x Skip (Refused BadParameter)
+abbrev pub misplacement : Context → Outcome
+misplacement x = outcome x Skip (Refused BadParameter)
 
 -- a byte of columns 4 to 7, which carries six bits
 abbrev pub has_six_bits : ℕ → Bool
@@ -23,9 +24,9 @@ has_six_bits a = nat_le 0x40 a
 abbrev pub bit : ℕ → ℕ → ℕ
 bit k a = a / 2 ^ k % 2
 
--- the colour of two bytes: the six low bits of the first are, from the highest, the eights of red, green and blue and then
--- their fours, those of the second their twos and then their ones. So the two bits of red in each byte are worth 2 ^ 5 and
--- 2 ^ 2 there, those of green 2 ^ 4 and 2 ^ 1, those of blue 2 ^ 3 and 2 ^ 0 (own)
+-- the colour of two bytes: the six low bits of the first are, from the highest, the eights of red, green and blue and
+-- then their fours, those of the second their twos and then their ones. So the two bits of red in each byte are worth 2
+-- ^ 5 and 2 ^ 2 there, those of green 2 ^ 4 and 2 ^ 1, those of blue 2 ^ 3 and 2 ^ 0 (own)
 abbrev pub colour_part : ℕ → ℕ → ℕ → ℕ
 colour_part k a b = 8 * bit (k + 3) a + 4 * bit k a + (2 * bit (k + 3) b + bit k b)
 
@@ -34,36 +35,36 @@ unfoldable pub colour : ℕ → ℕ → Rgb
 colour a b = record { r = colour_part 2 a b; g = colour_part 1 a b; b = colour_part 0 a b }
 
 -- TableRun: the second byte of an entry
-unfoldable pub entry : Context → ℕ → ℕ → ℕ → Closed
-entry x i a b =
-    if has_six_bits b then closed x (TableRun (i + 1)) (Says (command.Entry i (colour a b))) else
-    misplaced x
+unfoldable pub table_entry : Context → ℕ → ℕ → ℕ → Outcome
+table_entry x i a b =
+    if has_six_bits b then outcome x (TableRun (i + 1)) (Says (command.Entry i (colour a b))) else
+    misplacement x
 
 -- DclutRun: the five low bits of a byte
-unfoldable pub look_up : Context → ℕ → ℕ → Closed
-look_up x i a =
-    if nat_lt i 4 && has_six_bits a then closed x (DclutRun (i + 1)) (Says (command.Dclut i (a % 32))) else
-    misplaced x
+unfoldable pub dclut_value : Context → ℕ → ℕ → Outcome
+dclut_value x i a =
+    if nat_lt i 4 && has_six_bits a then outcome x (DclutRun (i + 1)) (Says (command.Dclut i (a % 32))) else
+    misplacement x
 
 -- DrcsRun: patterns for a code, none yet
-unfoldable pub pattern_unit : Context → ℕ → ℕ → List ℕ → Option Closed
-pattern_unit x c a u = complete u (misplaced x)
+unfoldable pub pattern_unit : Context → ℕ → ℕ → List ℕ → Option Outcome
+pattern_unit x c a u = whole_outcome u (misplacement x)
 
 -- these bytes are the beginning of a pattern's unit
-unfoldable pub begins_pattern : Context → ℕ → ℕ → List ℕ → Bool
+abbrev pub begins_pattern : Context → ℕ → ℕ → List ℕ → Bool
 begins_pattern x c a u = is_empty u
 
 -- a further byte may belong to it
-unfoldable pub pattern_grows : Context → ℕ → ℕ → List ℕ → Bool
+abbrev pub pattern_grows : Context → ℕ → ℕ → List ℕ → Bool
 pattern_grows x c a u = false
 
 -- the unit of a mode that begins with this plain byte
-unfoldable pub run_unit : Mode → Context → ℕ → List ℕ → Option Closed
-run_unit Text x a u = complete u (closed x Text (Says (command.Graphic a)))
-run_unit Skip x a u = complete u (closed x Skip (Says command.Skipped))
+abbrev pub run_unit : Mode → Context → ℕ → List ℕ → Option Outcome
+run_unit Text x a u = whole_outcome u (outcome x Text (Says (command.Graphic a)))
+run_unit Skip x a u = whole_outcome u (outcome x Skip (Says command.Skipped))
 run_unit (TableRun i) x a u =
-    if nat_lt i 32 && has_six_bits a then with_plain (entry x i a) u else complete u (misplaced x)
-run_unit (DclutRun i) x a u = complete u (look_up x i a)
+    if nat_lt i 32 && has_six_bits a then with_plain (table_entry x i a) u else whole_outcome u (misplacement x)
+run_unit (DclutRun i) x a u = whole_outcome u (dclut_value x i a)
 run_unit (DrcsRun c) x a u = pattern_unit x c a u
 
 -- the same, or the beginning of it
@@ -74,8 +75,8 @@ begins_run (TableRun i) x a u = if nat_lt i 32 && has_six_bits a then begins_pla
 begins_run (DclutRun i) x a u = is_empty u
 begins_run (DrcsRun c) x a u = begins_pattern x c a u
 
--- a further byte fits behind a whole unit of a mode
-unfoldable pub run_grows : Mode → Context → ℕ → List ℕ → Bool
+-- a further byte fits after a whole unit of a mode
+abbrev pub run_grows : Mode → Context → ℕ → List ℕ → Bool
 run_grows Text x a u = false
 run_grows Skip x a u = false
 run_grows (TableRun i) x a u = false

@@ -1,8 +1,8 @@
--- What a parser is (this project's own): the number of bytes pushed, the context, the bytes that are pending, and whether the
--- input ended.
+-- What a parser is (this project's own): the number of bytes pushed, the context, the bytes that are pending, and
+-- whether the input ended.
 use Rattle.std.specs.Prelude.{◌≡◌, ℕ, ◌+◌, ◌-◌, Bool, true, false, List, [], ◌∷◌, ◌++◌, length}
 use Rattle.cept_parser.specs.declared.context.Context.{Context}
-use Rattle.cept_parser.specs.Items.{Reading, read, reading}
+use Rattle.cept_parser.specs.Items.{Reading, reading_at, reading}
 
 -- what clauses see of a parser
 pub record ParserState : Type 0 where
@@ -20,11 +20,11 @@ pub record Leads (b : List ℕ) (s : ParserState) : Type 0 where
 
 -- the reading of the pending bytes and one more
 abbrev pub reading_with : ParserState → ℕ → Reading
-reading_with s byte = read s.context (s.place - length s.pending) (s.pending ++ byte ∷ [])
+reading_with s byte = reading_at s.context (s.place - length s.pending) (s.pending ++ byte ∷ [])
 
 -- the state after one byte more
-abbrev pub state_after : ParserState → ℕ → ParserState
-state_after s byte =
+abbrev pub parser_after : ParserState → ℕ → ParserState
+parser_after s byte =
     let r = reading_with s byte in
     record { place = s.place + 1; context = r.context; pending = r.pending; finished = s.finished }
 

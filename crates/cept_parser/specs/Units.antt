@@ -1,6 +1,7 @@
--- Units that begin with US (1F): the position, downloaded characters (DRCS), colours, the format and the service (ETS 300
--- 072 and T/CD 6-1; which forms there are is this profile's own).
-use Rattle.std.specs.Prelude.{ℕ, ◌-◌, Bool, true, false, not, ◌&&◌, ◌||◌, List, [], ◌∷◌, if◌then◌else◌, ◌==◌, nat_le, Option, None}
+-- Units that begin with US (1F): the position, downloaded characters (DRCS), colours, the format and the service (ETS
+-- 300 072 and T/CD 6-1; which forms there are is this profile's own).
+use Rattle.std.specs.Prelude.{ℕ, ◌-◌, Bool, true, false, not, ◌&&◌, ◌||◌, List, [], ◌∷◌, if◌then◌else◌, ◌==◌, nat_le}
+use Rattle.std.specs.Prelude.{Option, None}
 use Rattle.cept_codes.specs.declared.command.C1Set.TheVariants.{Serial, Parallel}
 use Rattle.cept_codes.specs.declared.command.Command.TheVariants as command
 use Rattle.cept_codes.specs.declared.command.Form.{Form}
@@ -11,22 +12,25 @@ use Rattle.cept_parser.specs.declared.context.Mode.TheVariants.{Text, TableRun, 
 use Rattle.cept_parser.specs.declared.context.ColourKind.{ColourKind}
 use Rattle.cept_parser.specs.declared.context.ColourKind.TheVariants.{ColourTable, LookUpTable}
 use Rattle.cept_parser.specs.declared.context.Context.{Context}
-use Rattle.cept_parser.specs.declared.context.Closed.{Closed}
-use Rattle.cept_parser.specs.Context.{start}
-use Rattle.cept_parser.specs.Bytes.{between, is_plain, is_digit, two_digits, is_row, is_column, is_empty, contains, closed, complete, begins_plain, with_plain, are_options, are_options_left, with_options}
+use Rattle.cept_parser.specs.declared.context.Outcome.{Outcome}
+use Rattle.cept_parser.specs.Context.{start_context}
+use Rattle.cept_parser.specs.Bytes.{is_between, is_plain, is_digit, two_digits, is_row, is_column, is_empty, contains}
+use Rattle.cept_parser.specs.Bytes.{outcome, whole_outcome, begins_plain, with_plain, are_options, are_options_left}
+use Rattle.cept_parser.specs.Bytes.{with_options}
 
 -- 1F r c, r 4/0 to 7/15: a position
-unfoldable pub position : Context → ℕ → ℕ → Closed
-position x r c =
-    if is_row r && is_column c then closed x Text (Says (command.Position (r - 0x40) (c - 0x40))) else
-    closed x Text (Refused BadParameter)
+unfoldable pub us_position : Context → ℕ → ℕ → Outcome
+us_position x r c =
+    if is_row r && is_column c then outcome x Text (Says (command.Position (r - 0x40) (c - 0x40))) else
+    outcome x Text (Refused BadParameter)
 
 -- the optional parts of 1F 23 20: deletion, the form of one byte, size, planes
 abbrev pub drcs_parts : List (List ℕ)
 drcs_parts =
     (0x20 ∷ 0x28 ∷ []) ∷ (0x40 ∷ []) ∷ (0x36 ∷ 0x37 ∷ 0x3A ∷ 0x3B ∷ 0x3C ∷ 0x3F ∷ []) ∷ (0x41 ∷ 0x42 ∷ 0x44 ∷ []) ∷ []
 
--- the width of the form that they tell. Sizes: 3/6 12x12, 3/7 12x10, 3/10 6x12, 3/11 6x10, 3/12 6x5, 3/15 6x6, else 12x10
+-- the width of the form that they tell. Sizes: 3/6 12x12, 3/7 12x10, 3/10 6x12, 3/11 6x10, 3/12 6x5, 3/15 6x6, else
+-- 12x10
 unfoldable pub drcs_width : List ℕ → ℕ
 drcs_width u =
     if contains u 0x3A || (contains u 0x3B || (contains u 0x3C || contains u 0x3F)) then 6 else
@@ -52,7 +56,7 @@ abbrev pub drcs_form : List ℕ → Form
 drcs_form u = record { w = drcs_width u; h = drcs_height u; planes = drcs_planes u }
 
 -- 1F 23 20: the header of downloaded characters
-unfoldable pub drcs_header : Context → List ℕ → Closed
+unfoldable pub drcs_header : Context → List ℕ → Outcome
 drcs_header x u =
     record {
       said = Says (command.DrcsHeader (contains u 0x28) (drcs_form u));
@@ -60,20 +64,20 @@ drcs_header x u =
     }
 
 -- 1F 23: downloaded characters
-unfoldable pub drcs_unit : Context → List ℕ → Option Closed
+unfoldable pub drcs_unit : Context → List ℕ → Option Outcome
 drcs_unit x [] = None
 drcs_unit x (c ∷ u) =
     if c == 0x20 then with_options drcs_parts u (drcs_header x u) else
-    if between 0x21 0x7E c then complete u (closed x (DrcsRun c) (Says (command.DrcsStart c))) else
-    if c == 0x7F then complete u (closed x Skip (Refused BadParameter)) else
+    if is_between 0x21 0x7E c then whole_outcome u (outcome x (DrcsRun c) (Says (command.DrcsStart c))) else
+    if c == 0x7F then whole_outcome u (outcome x Skip (Refused BadParameter)) else
     None
 
 -- the same, or the beginning of it
-unfoldable pub begins_drcs : List ℕ → Bool
+abbrev pub begins_drcs : List ℕ → Bool
 begins_drcs [] = true
 begins_drcs (c ∷ u) =
     if c == 0x20 then are_options drcs_parts u else
-    if between 0x21 0x7E c then is_empty u else
+    if is_between 0x21 0x7E c then is_empty u else
     if c == 0x7F then is_empty u else
     false
 
@@ -82,7 +86,7 @@ abbrev pub colour_parts : List (List ℕ)
 colour_parts = (0x20 ∷ 0x22 ∷ []) ∷ (0x34 ∷ []) ∷ (0x40 ∷ []) ∷ []
 
 -- 1F 26 20: the header of colours, for the DCLUT by 2/2
-unfoldable pub colour_header : Context → List ℕ → Closed
+unfoldable pub colour_header : Context → List ℕ → Outcome
 colour_header x u =
     record {
       said = Says (command.ColourHeader (contains u 0x22));
@@ -100,29 +104,29 @@ run_from ColourTable i = TableRun i
 run_from LookUpTable i = DclutRun i
 
 -- colours begin at a place
-unfoldable pub colours_from : Context → ℕ → Closed
+unfoldable pub colours_from : Context → ℕ → Outcome
 colours_from x i =
-    if nat_le i (last_place x.kind) then closed x (run_from x.kind i) (Says (command.ColourStart i)) else
-    closed x Skip (Refused BadParameter)
+    if nat_le i (last_place x.kind) then outcome x (run_from x.kind i) (Says (command.ColourStart i)) else
+    outcome x Skip (Refused BadParameter)
 
 -- 1F 26 t o, t a digit: the place of two digits
-unfoldable pub colour_start : Context → ℕ → ℕ → Closed
+unfoldable pub colour_start : Context → ℕ → ℕ → Outcome
 colour_start x t o =
     if is_digit o then colours_from x (two_digits t o) else
-    closed x Skip (Refused BadParameter)
+    outcome x Skip (Refused BadParameter)
 
 -- 1F 26: colours
-unfoldable pub colour_unit : Context → List ℕ → Option Closed
+unfoldable pub colour_unit : Context → List ℕ → Option Outcome
 colour_unit x [] = None
 colour_unit x (a ∷ u) =
     if a == 0x20 then with_options colour_parts u (colour_header x u) else
-    if a == 0x21 then complete u (closed x Skip (Says command.ColourDefaults)) else
+    if a == 0x21 then whole_outcome u (outcome x Skip (Says command.ColourDefaults)) else
     if is_digit a then with_plain (colour_start x a) u else
-    if is_plain a then complete u (closed x Skip (Refused BadParameter)) else
+    if is_plain a then whole_outcome u (outcome x Skip (Refused BadParameter)) else
     None
 
 -- the same, or the beginning of it
-unfoldable pub begins_colour : List ℕ → Bool
+abbrev pub begins_colour : List ℕ → Bool
 begins_colour [] = true
 begins_colour (a ∷ u) =
     if a == 0x20 then are_options colour_parts u else
@@ -136,32 +140,32 @@ abbrev pub format_parts : List (List ℕ)
 format_parts = (0x41 ∷ 0x42 ∷ []) ∷ (0x70 ∷ 0x71 ∷ []) ∷ []
 
 -- 1F 2D: the format, 20 rows by 4/2, no wrap by 7/1
-unfoldable pub format : Context → List ℕ → Closed
+unfoldable pub format : Context → List ℕ → Outcome
 format x u =
-    closed x Text (Says (command.Format (if contains u 0x42 then 20 else 24) (not (contains u 0x71))))
+    outcome x Text (Says (command.Format (if contains u 0x42 then 20 else 24) (not (contains u 0x71))))
 
 -- 1F 2F 40 r: the service is broken at a row
-unfoldable pub service_break : Context → ℕ → Closed
+unfoldable pub service_break : Context → ℕ → Outcome
 service_break x r =
-    if is_row r then closed x Text (Says (command.ServiceBreak (r - 0x40))) else
-    closed x Skip (Refused BadParameter)
+    if is_row r then outcome x Text (Says (command.ServiceBreak (r - 0x40))) else
+    outcome x Skip (Refused BadParameter)
 
 -- 1F 2F a: the other service units. Full defaults bring back the first context
-unfoldable pub service : Context → ℕ → Closed
+unfoldable pub service : Context → ℕ → Outcome
 service x a =
-    if a == 0x4F then closed x Text (Says command.ServiceEnd) else
-    if a == 0x41 then closed start Text (Says (command.FullDefaults Serial)) else
-    if a == 0x42 then closed start Text (Says (command.FullDefaults Parallel)) else
-    if a == 0x43 then closed x Text (Says (command.ControlDefaults Serial)) else
-    if a == 0x44 then closed x Text (Says (command.ControlDefaults Parallel)) else
-    closed x Skip (Refused BadParameter)
+    if a == 0x4F then outcome x Text (Says command.ServiceEnd) else
+    if a == 0x41 then outcome start_context Text (Says (command.FullDefaults Serial)) else
+    if a == 0x42 then outcome start_context Text (Says (command.FullDefaults Parallel)) else
+    if a == 0x43 then outcome x Text (Says (command.ControlDefaults Serial)) else
+    if a == 0x44 then outcome x Text (Says (command.ControlDefaults Parallel)) else
+    outcome x Skip (Refused BadParameter)
 
 -- 1F 2F: the service
-unfoldable pub service_unit : Context → List ℕ → Option Closed
+unfoldable pub service_unit : Context → List ℕ → Option Outcome
 service_unit x [] = None
 service_unit x (a ∷ u) =
     if a == 0x40 then with_plain (service_break x) u else
-    if is_plain a then complete u (service x a) else
+    if is_plain a then whole_outcome u (service x a) else
     None
 
 -- the same, or the beginning of it
@@ -172,16 +176,16 @@ begins_service (a ∷ u) =
     if is_plain a then is_empty u else
     false
 
--- the units behind 1F
-unfoldable pub us_unit : Context → List ℕ → Option Closed
+-- the units after 1F
+unfoldable pub us_unit : Context → List ℕ → Option Outcome
 us_unit x [] = None
 us_unit x (a ∷ u) =
     if a == 0x23 then drcs_unit x u else
     if a == 0x26 then colour_unit x u else
     if a == 0x2D then with_options format_parts u (format x u) else
     if a == 0x2F then service_unit x u else
-    if between 0x20 0x3F a then complete u (closed x Skip (Refused UnknownUnit)) else
-    if is_plain a then with_plain (position x a) u else
+    if is_between 0x20 0x3F a then whole_outcome u (outcome x Skip (Refused UnknownUnit)) else
+    if is_plain a then with_plain (us_position x a) u else
     None
 
 -- the same, or the beginning of it
@@ -192,16 +196,16 @@ begins_us (a ∷ u) =
     if a == 0x26 then begins_colour u else
     if a == 0x2D then are_options format_parts u else
     if a == 0x2F then begins_service u else
-    if between 0x20 0x3F a then is_empty u else
+    if is_between 0x20 0x3F a then is_empty u else
     if is_plain a then begins_plain u else
     false
 
--- a further byte fits behind a whole header
-unfoldable pub header_grows : List (List ℕ) → List ℕ → Bool
+-- a further byte fits after a whole header
+abbrev pub header_grows : List (List ℕ) → List ℕ → Bool
 header_grows parts [] = false
 header_grows parts (a ∷ u) = if a == 0x20 then are_options_left parts u else false
 
--- a further byte fits behind a whole unit, behind 1F
+-- a further byte fits after a whole unit, after 1F
 unfoldable pub us_grows : List ℕ → Bool
 us_grows [] = false
 us_grows (a ∷ u) =

@@ -9,7 +9,7 @@ use Rattle.cept_parser.specs.declared.context.Mode.{Mode}
 use Rattle.cept_parser.specs.declared.context.Mode.TheVariants.{Text, TableRun, DclutRun, DrcsRun, Skip}
 use Rattle.cept_parser.specs.declared.context.Context.{Context}
 
--- a run goes on to one behind its last place
+-- a run goes on to one after its last place
 abbrev pub IsValidMode : Mode → Type 0
 IsValidMode Text = Unit {0}
 IsValidMode (TableRun i) = i ≤ 32

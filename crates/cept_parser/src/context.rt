@@ -7,17 +7,18 @@ use cept_codes::{Form, Said};
 pub enum Mode {
     /// Signs.
     Text,
-    /// Colours for the table, the next for this entry: 0 to 31, or 32 behind the last.
+    /// Colours for the table, the next for this entry: 0 to 31, or 32 after the last.
     TableRun(u8),
-    /// Values of the DCLUT, the next for this place: 0 to 3, or 4 behind the last.
+    /// Values of the DCLUT, the next for this place: 0 to 3, or 4 after the last.
     DclutRun(u8),
-    /// Patterns, the next for this code: 2/1 to 7/14, or 7/15 behind the last.
+    /// Patterns, the next for this code: 2/1 to 7/14, or 7/15 after the last.
     DrcsRun(u8),
     /// Bytes that are passed over.
     Skip,
 }
 
-/// What colour units define: entries of the colour table, or the look-up table of downloaded patterns (DCLUT).
+/// What colour units define: entries of the colour table, or the look-up table of downloaded
+/// patterns (DCLUT).
 #[derive(Clone, Copy, Debug, PartialEq, Eq)]
 pub enum ColourKind {
     ColourTable,
@@ -33,12 +34,12 @@ pub struct Context {
 }
 
 impl Context {
-    ghost use Rattle.cept_parser.specs.Context.{start};
-    ghost use Rattle.cept_parser.specs.Bytes.{closed};
+    ghost use Rattle.cept_parser.specs.Context.{start_context};
+    ghost use Rattle.cept_parser.specs.Bytes.{outcome};
 
     /// The context before the first byte.
     pub(crate) fn start() -> Context
-        ensures { result ≡ start }
+        ensures { result ≡ start_context }
     {
         Context {
             mode: Mode::Text,
@@ -51,11 +52,11 @@ impl Context {
         }
     }
 
-    /// What is said, with this context in another mode behind it.
-    pub(crate) fn closed(&self, mode: Mode, said: Said) -> Closed
-        ensures { result ≡ closed self.now mode said }
+    /// What is said, with this context in another mode after it.
+    pub(crate) fn outcome(&self, mode: Mode, said: Said) -> Outcome
+        ensures { result ≡ outcome self.now mode said }
     {
-        Closed {
+        Outcome {
             said,
             next: Context {
                 mode,
@@ -66,9 +67,9 @@ impl Context {
     }
 }
 
-/// What whole bytes say, a command or a refusal, and the context behind them.
+/// What whole bytes say, a command or a refusal, and the context after them.
 #[derive(Clone, Copy, Debug, PartialEq, Eq)]
-pub struct Closed {
+pub struct Outcome {
     pub said: Said,
     pub next: Context,
 }

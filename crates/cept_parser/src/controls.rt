@@ -1,12 +1,12 @@
 ghost use Rattle.std.specs.Prelude.{◌≡◌};
-ghost use Rattle.cept_parser.specs.Controls.{control};
+ghost use Rattle.cept_parser.specs.Controls.{one_byte};
 
 use cept_codes::{Command, Reason, Said};
 
 /// What a byte says that is no plain byte and begins no longer unit.
-#[tactic(auto, unfolding(crate::specs::Controls::control))]
-pub fn control(byte: u8) -> Said
-    ensures { result ≡ control byte }
+#[tactic(auto, unfolding(crate::specs::Controls::one_byte))]
+pub fn one_byte(byte: u8) -> Said
+    ensures { result ≡ one_byte byte }
 {
     match byte {
         0x00 => Said::Command(Command::Nul), // NUL

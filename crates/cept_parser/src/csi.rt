@@ -1,5 +1,6 @@
 ghost use Rattle.std.specs.Prelude.{◌≡◌, ◌≤◌};
-ghost use Rattle.cept_parser.specs.Csi.{csi_1, csi_2, area, is_area_final, csi_4, csi_1_2, csi_2_1, csi_5, csi_6, csi};
+ghost use Rattle.cept_parser.specs.Csi.{csi_1, csi_2, area, is_area_final, csi_4, csi_1_2, csi_2_1};
+ghost use Rattle.cept_parser.specs.Csi.{csi_5, csi_6, csi};
 
 use crate::bytes::{digit, is_digit, two_digits};
 use cept_codes::{Command, Reason, Said};
@@ -122,7 +123,7 @@ fn csi_6(n: u8, o: u8, sign: u8, m: u8, p: u8, last: u8) -> Said
     }
 }
 
-/// What a whole control sequence says, behind CSI.
+/// What a whole control sequence says, after CSI.
 #[tactic(auto, unfolding(crate::specs::Csi::csi))]
 pub fn csi(bytes: &[u8]) -> Said
     ensures { result ≡ csi bytes.now }

@@ -1,5 +1,7 @@
 ghost use Rattle.std.specs.Prelude.{◌≡◌, ◌≤◌};
-ghost use Rattle.cept_parser.specs.Escape.{is_c1_final, escape_1, designate, designate_c1, escape_2, full_screen, full_row, designate_drcs, escape_3, escape};
+ghost use Rattle.cept_parser.specs.Escape.{is_c1_final, escape_1, designation, designation_of_c1};
+ghost use Rattle.cept_parser.specs.Escape.{escape_2, full_screen};
+ghost use Rattle.cept_parser.specs.Escape.{full_row, designation_of_drcs, escape_3, escape};
 
 use cept_codes::{C1Set, Command, Reason, Said, SetId};
 
@@ -27,9 +29,9 @@ fn escape_1(last: u8) -> Said
 }
 
 /// A set is designated to G0 to G3.
-#[tactic(auto, unfolding(crate::specs::Escape::designate))]
-fn designate(target: u8, last: u8) -> Said
-    ensures { result ≡ designate target last }
+#[tactic(auto, unfolding(crate::specs::Escape::designation))]
+fn designation(target: u8, last: u8) -> Said
+    ensures { result ≡ designation target last }
 {
     match last {
         0x40 => Said::Command(Command::Designate(target, SetId::P)), // primary set
@@ -41,9 +43,9 @@ fn designate(target: u8, last: u8) -> Said
 }
 
 /// A C1 set is designated.
-#[tactic(auto, unfolding(crate::specs::Escape::designate_c1))]
-fn designate_c1(last: u8) -> Said
-    ensures { result ≡ designate_c1 last }
+#[tactic(auto, unfolding(crate::specs::Escape::designation_of_c1))]
+fn designation_of_c1(last: u8) -> Said
+    ensures { result ≡ designation_of_c1 last }
 {
     match last {
         0x40 => Said::Command(Command::DesignateC1(C1Set::Serial)),
@@ -58,8 +60,8 @@ fn escape_2(first: u8, last: u8) -> Said
     ensures { result ≡ escape_2 first last }
 {
     match first {
-        0x22 => designate_c1(last),
-        0x28..=0x2B => designate(first - 0x28, last),
+        0x22 => designation_of_c1(last),
+        0x28..=0x2B => designation(first - 0x28, last),
         _ => Said::Refused(Reason::UnknownEscape),
     }
 }
@@ -89,9 +91,9 @@ fn full_row(last: u8) -> Said
 }
 
 /// The downloaded set is designated to G0 to G3.
-#[tactic(auto, unfolding(crate::specs::Escape::designate_drcs))]
-fn designate_drcs(first: u8, second: u8, last: u8) -> Said
-    ensures { result ≡ designate_drcs first second last }
+#[tactic(auto, unfolding(crate::specs::Escape::designation_of_drcs))]
+fn designation_of_drcs(first: u8, second: u8, last: u8) -> Said
+    ensures { result ≡ designation_of_drcs first second last }
 {
     if 0x28 <= first && first <= 0x2B && second == 0x20 && last == 0x40 {
         Said::Command(Command::Designate(first - 0x28, SetId::D))
@@ -108,11 +110,11 @@ fn escape_3(first: u8, second: u8, last: u8) -> Said
     match (first, second) {
         (0x23, 0x20) => full_screen(last),
         (0x23, 0x21) => full_row(last),
-        _ => designate_drcs(first, second, last),
+        _ => designation_of_drcs(first, second, last),
     }
 }
 
-/// What a whole escape sequence says, behind ESC.
+/// What a whole escape sequence says, after ESC.
 #[tactic(auto, unfolding(crate::specs::Escape::escape))]
 pub fn escape(bytes: &[u8]) -> Said
     ensures { result ≡ escape bytes.now }

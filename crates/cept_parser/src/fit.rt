@@ -1,23 +1,29 @@
-ghost use Rattle.std.specs.Prelude.{◌≡◌, ℕ, slice_index, ◌≤◌, ◌<◌, ◌-◌, Option, None, Some, is_some, IfSome, OnSome, ◌∷◌, List, [], true, false, length};
-ghost use Rattle.cept_parser.specs.Bytes.{between, is_plain, is_empty, closed, complete, begins_plain, with_plain, begins_sequence, is_sequence};
-ghost use Rattle.cept_parser.specs.Grammar.{repeat, csi_unit, escape_unit, begins_escape, unit, fits, grows};
-ghost use Rattle.cept_parser.specs.Fit.{fit, fit_by, extent_by, behind, is_alone, is_sign, is_c1};
-ghost use Rattle.cept_parser.specs.Told.{escape_told, told};
-ghost use Rattle.cept_parser.specs.Waits.{cut};
-ghost use Rattle.cept_parser.specs.declared.context.Closed.{Closed};
+ghost use Rattle.std.specs.Prelude.{◌≡◌, ℕ, slice_index, ◌≤◌, ◌<◌, ◌-◌, Option, None, Some};
+ghost use Rattle.std.specs.Prelude.{is_some, IfSome, OnSome};
+ghost use Rattle.std.specs.Prelude.{◌∷◌, List, [], true, false, length};
+ghost use Rattle.cept_parser.specs.Bytes.{is_between, is_plain, is_empty, outcome, whole_outcome};
+ghost use Rattle.cept_parser.specs.Bytes.{begins_plain};
+ghost use Rattle.cept_parser.specs.Bytes.{with_plain, begins_sequence, is_sequence};
+ghost use Rattle.cept_parser.specs.Grammar.{repetition, csi_unit, escape_unit, begins_escape, unit};
+ghost use Rattle.cept_parser.specs.Grammar.{fits, grows};
+ghost use Rattle.cept_parser.specs.Fit.{fit, fit_by, extent_by, bytes_after, is_alone, is_sign};
+ghost use Rattle.cept_parser.specs.Fit.{is_c1};
+ghost use Rattle.cept_parser.specs.Outcome.{escape_outcome, outcome_of};
+ghost use Rattle.cept_parser.specs.Waits.{outcome_at_misfit};
+ghost use Rattle.cept_parser.specs.declared.context.Outcome.{Outcome};
 ghost use Rattle.cept_parser.specs.declared.context.Context.{Context};
 
 use crate::bytes::is_plain;
-use crate::context::{Closed, Context, Mode};
-use crate::controls::control;
+use crate::context::{Context, Mode, Outcome};
+use crate::controls::one_byte;
 use crate::csi::csi;
 use crate::escape::escape;
-use crate::runs::{run_closed, run_fit};
-use crate::units::{us_closed, us_fit};
+use crate::runs::{run_fit, run_outcome};
+use crate::units::{us_fit, us_outcome};
 use cept_codes::{Command, Reason, Said};
 
-/// How bytes stand to the grammar: no unit begins so, they begin one, they are one and no more bytes fit, or they are
-/// one and more bytes fit.
+/// How bytes stand to the grammar: no unit begins so, they begin one, they are one and no more
+/// bytes fit, or they are one and more bytes fit.
 #[derive(Clone, Copy, Debug, PartialEq, Eq)]
 pub enum Fit {
     Misfit,
@@ -34,9 +40,9 @@ pub enum Extent {
     Full,
 }
 
-/// A unit or refused shape that is complete, whatever it says, if no bytes come behind it.
+/// A unit or refused shape that is complete, whatever it says, if no bytes come after it.
 pub fn complete_fit(rest: &[u8]) -> Fit
-    ensures { (k : Closed) → result ≡ fit_by (is_empty rest.now) false (complete rest.now k) }
+    ensures { (k : Outcome) → result ≡ fit_by (is_empty rest.now) false (whole_outcome rest.now k) }
 {
     match rest {
         [] => Fit::Whole,
@@ -44,9 +50,10 @@ pub fn complete_fit(rest: &[u8]) -> Fit
     }
 }
 
-/// One plain byte, whatever it says, if no bytes come behind it.
+/// One plain byte, whatever it says, if no bytes come after it.
 pub fn plain_fit(bytes: &[u8]) -> Fit
-    ensures { (k : ℕ → Closed) → result ≡ fit_by (begins_plain bytes.now) false (with_plain k bytes.now) }
+    ensures { (k : ℕ → Outcome) → result
+        ≡ fit_by (begins_plain bytes.now) false (with_plain k bytes.now) }
 {
     match bytes {
         [] => Fit::Open,
@@ -55,9 +62,9 @@ pub fn plain_fit(bytes: &[u8]) -> Fit
     }
 }
 
-/// The bytes behind an optional part, if it is there.
-pub fn behind<'a>(part: &[u8], bytes: &'a [u8]) -> &'a [u8]
-    ensures { result.now ≡ behind part.now bytes.now }
+/// The bytes after an optional part, if it is there.
+pub fn bytes_after<'a>(part: &[u8], bytes: &'a [u8]) -> &'a [u8]
+    ensures { result.now ≡ bytes_after part.now bytes.now }
 {
     match bytes {
         [] => bytes,
@@ -65,7 +72,7 @@ pub fn behind<'a>(part: &[u8], bytes: &'a [u8]) -> &'a [u8]
     }
 }
 
-/// The end of a sequence, if no bytes come behind it.
+/// The end of a sequence, if no bytes come after it.
 fn full(rest: &[u8]) -> Extent
     ensures { result ≡ extent_by (is_empty rest.now) (is_empty rest.now) }
 {
@@ -77,15 +84,17 @@ fn full(rest: &[u8]) -> Extent
 
 /// The last byte of a sequence.
 fn is_last(last: u8, byte: u8) -> bool
-    ensures { result ≡ between last 0x7F byte }
+    ensures { result ≡ is_between last 0x7F byte }
 {
     last <= byte && byte <= 0x7F
 }
 
-/// How bytes stand to sequences of at most so many bytes below a final one, which is in the range from `last` on.
+/// How bytes stand to sequences of at most so many bytes below a final one, which is in the range
+/// from `last` on.
 #[tactic(auto, unfolding(crate::specs::Bytes::begins_sequence, crate::specs::Bytes::is_sequence))]
 fn sequence_extent(last: u8, most: usize, bytes: &[u8]) -> Extent
-    ensures { result ≡ extent_by (begins_sequence last most bytes.now) (is_sequence last most bytes.now) }
+    ensures { result
+        ≡ extent_by (begins_sequence last most bytes.now) (is_sequence last most bytes.now) }
 {
     match bytes {
         [] => Extent::Within,
@@ -108,21 +117,22 @@ fn sequence_extent(last: u8, most: usize, bytes: &[u8]) -> Extent
 }
 
 /// RPT and a byte, which carries six bits.
-#[tactic(auto, unfolding(crate::specs::Grammar::repeat))]
-fn repeat(context: &Context, byte: u8) -> Closed
-    ensures { result ≡ repeat context.now byte }
+#[tactic(auto, unfolding(crate::specs::Grammar::repetition))]
+fn repetition(context: &Context, byte: u8) -> Outcome
+    ensures { result ≡ repetition context.now byte }
 {
     if byte >= 0x40 {
-        context.closed(Mode::Text, Said::Command(Command::Repeat(byte - 0x40)))
+        context.outcome(Mode::Text, Said::Command(Command::Repeat(byte - 0x40)))
     } else {
-        context.closed(Mode::Text, Said::Refused(Reason::BadParameter))
+        context.outcome(Mode::Text, Said::Refused(Reason::BadParameter))
     }
 }
 
-/// CSI: what stands behind 9B or 1B 5B.
+/// CSI: what stands after 9B or 1B 5B.
 #[tactic(auto, unfolding(crate::specs::Grammar::csi_unit))]
 fn csi_fit(context: &Context, bytes: &[u8]) -> Fit
-    ensures { result ≡ fit_by (begins_sequence 0x40 7 bytes.now) false (csi_unit context.now bytes.now) }
+    ensures { result
+        ≡ fit_by (begins_sequence 0x40 7 bytes.now) false (csi_unit context.now bytes.now) }
 {
     match sequence_extent(0x40, 7, bytes) {
         Extent::Beyond => Fit::Misfit,
@@ -131,7 +141,7 @@ fn csi_fit(context: &Context, bytes: &[u8]) -> Fit
     }
 }
 
-/// ESC: what stands behind 1B.
+/// ESC: what stands after 1B.
 #[tactic(auto, unfolding(crate::specs::Grammar::escape_unit, crate::specs::Grammar::begins_escape))]
 fn escape_fit(context: &Context, bytes: &[u8]) -> Fit
     ensures { result ≡ fit_by (begins_escape bytes.now) false (escape_unit context.now bytes.now) }
@@ -147,9 +157,9 @@ fn escape_fit(context: &Context, bytes: &[u8]) -> Fit
     }
 }
 
-/// How the bytes behind a first one stand to the grammar.
+/// How the bytes after a first one stand to the grammar.
 #[tactic(auto, unfolding(crate::specs::Grammar::fits, crate::specs::Grammar::grows, crate::specs::Grammar::unit))]
-fn fit_behind(context: &Context, byte: u8, rest: &[u8]) -> Fit
+fn fit_after(context: &Context, byte: u8, rest: &[u8]) -> Fit
     ensures { result ≡ fit context.now (byte ∷ rest.now) }
 {
     match byte {
@@ -169,50 +179,50 @@ pub fn fit_of(context: &Context, bytes: &[u8]) -> Fit
 {
     match bytes {
         [] => Fit::Open,
-        [byte, rest @ ..] => fit_behind(context, *byte, rest),
+        [byte, rest @ ..] => fit_after(context, *byte, rest),
     }
 }
 
-/// What a whole escape sequence or control sequence says, behind ESC.
-#[tactic(auto, unfolding(crate::specs::Told::escape_told))]
-fn escape_closed(context: &Context, bytes: &[u8]) -> Closed
-    ensures { result ≡ escape_told context.now bytes.now }
+/// What a whole escape sequence or control sequence says, after ESC.
+#[tactic(auto, unfolding(crate::specs::Outcome::escape_outcome))]
+fn escape_outcome(context: &Context, bytes: &[u8]) -> Outcome
+    ensures { result ≡ escape_outcome context.now bytes.now }
 {
     match bytes {
-        [] => context.closed(Mode::Text, escape(bytes)),
-        [0x5B, rest @ ..] => context.closed(Mode::Text, csi(rest)),
-        [_, ..] => context.closed(Mode::Text, escape(bytes)),
+        [] => context.outcome(Mode::Text, escape(bytes)),
+        [0x5B, rest @ ..] => context.outcome(Mode::Text, csi(rest)),
+        [_, ..] => context.outcome(Mode::Text, escape(bytes)),
     }
 }
 
 /// What whole bytes say that begin with this one.
-#[tactic(auto, unfolding(crate::specs::Told::told))]
-fn closed_behind(context: &Context, byte: u8, rest: &[u8]) -> Closed
-    ensures { result ≡ told context.now (byte ∷ rest.now) }
+#[tactic(auto, unfolding(crate::specs::Outcome::outcome_of))]
+fn outcome_after(context: &Context, byte: u8, rest: &[u8]) -> Outcome
+    ensures { result ≡ outcome_of context.now (byte ∷ rest.now) }
 {
     match byte {
-        0x20..=0x7F => run_closed(context, byte, rest),
-        0x12 => repeat(context, first_of(rest)),
-        0x1B => escape_closed(context, rest),
-        0x9B => context.closed(Mode::Text, csi(rest)),
-        0x1F => us_closed(context, rest),
-        _ => context.closed(Mode::Text, control(byte)),
+        0x20..=0x7F => run_outcome(context, byte, rest),
+        0x12 => repetition(context, first_byte(rest)),
+        0x1B => escape_outcome(context, rest),
+        0x9B => context.outcome(Mode::Text, csi(rest)),
+        0x1F => us_outcome(context, rest),
+        _ => context.outcome(Mode::Text, one_byte(byte)),
     }
 }
 
 /// What whole bytes say.
-#[tactic(auto, unfolding(crate::specs::Told::told))]
-pub fn closed_of(context: &Context, bytes: &[u8]) -> Closed
-    ensures { result ≡ told context.now bytes.now }
+#[tactic(auto, unfolding(crate::specs::Outcome::outcome_of))]
+pub fn outcome_of(context: &Context, bytes: &[u8]) -> Outcome
+    ensures { result ≡ outcome_of context.now bytes.now }
 {
     match bytes {
         [] => interrupted(context),
-        [byte, rest @ ..] => closed_behind(context, *byte, rest),
+        [byte, rest @ ..] => outcome_after(context, *byte, rest),
     }
 }
 
 /// The first byte, 0 where there is none.
-pub fn first_of(bytes: &[u8]) -> u8
+pub fn first_byte(bytes: &[u8]) -> u8
     ensures { result ≡ slice_index bytes.now 0 }
 {
     match bytes {
@@ -221,34 +231,35 @@ pub fn first_of(bytes: &[u8]) -> u8
     }
 }
 
-/// What a byte says that is a whole unit or refused shape without asking for a run: a sign, a byte that is passed over, or
-/// a control that begins no longer unit.
-#[tactic(auto, unfolding(crate::specs::Grammar::unit, crate::specs::Grammar::grows, crate::specs::Runs::run_unit, crate::specs::Runs::run_grows))]
-pub fn alone(context: &Context, byte: u8) -> Option<Closed>
+/// What a byte says that is a whole unit or refused shape without asking for a run: a sign, a byte
+/// that is passed over, or a control that begins no longer unit.
+#[tactic(auto, unfolding(crate::specs::Grammar::unit, crate::specs::Grammar::grows))]
+pub fn alone(context: &Context, byte: u8) -> Option<Outcome>
     ensures whole { IfSome result (λ o. unit context.now (byte ∷ []) ≡ Some o) }
     ensures end { OnSome result (grows context.now (byte ∷ []) ≡ false) }
     ensures found { is_some result ≡ is_alone context.now byte }
 {
     match byte {
         0x20..=0x7F => match context.mode {
-            Mode::Text => Some(context.closed(Mode::Text, Said::Command(Command::Graphic(byte)))),
-            Mode::Skip => Some(context.closed(Mode::Skip, Said::Command(Command::Skipped))),
+            Mode::Text => Some(context.outcome(Mode::Text, Said::Command(Command::Graphic(byte)))),
+            Mode::Skip => Some(context.outcome(Mode::Skip, Said::Command(Command::Skipped))),
             _ => None,
         },
         0x12 => None,
         0x1B => None,
         0x9B => None,
         0x1F => None,
-        _ => Some(context.closed(Mode::Text, control(byte))),
+        _ => Some(context.outcome(Mode::Text, one_byte(byte))),
     }
 }
 
 /// A byte that is a sign by itself: a plain one in mode Text, or one of the right half.
 #[inline]
-#[tactic(auto, unfolding(crate::specs::Grammar::unit, crate::specs::Grammar::grows, crate::specs::Runs::run_unit, crate::specs::Runs::run_grows, crate::specs::Controls::control))]
+#[tactic(auto, unfolding(crate::specs::Grammar::unit, crate::specs::Grammar::grows, crate::specs::Controls::one_byte))]
 pub fn is_sign(context: &Context, byte: u8) -> bool
     ensures found { result ≡ is_sign context.now byte }
-    ensures whole { result ≡ true → unit context.now (byte ∷ []) ≡ Some (closed context.now Mode.Text (Said.Command (Command.Graphic byte))) }
+    ensures whole { result ≡ true → unit context.now (byte ∷ [])
+        ≡ Some (outcome context.now Mode.Text (Said.Command (Command.Graphic byte))) }
     ensures end { result ≡ true → grows context.now (byte ∷ []) ≡ false }
 {
     match byte {
@@ -260,32 +271,35 @@ pub fn is_sign(context: &Context, byte: u8) -> bool
 
 /// A C1 code in its form of one byte.
 #[inline]
-#[tactic(auto, unfolding(crate::specs::Grammar::unit, crate::specs::Grammar::grows, crate::specs::Runs::run_unit, crate::specs::Runs::run_grows, crate::specs::Controls::control))]
+#[tactic(auto, unfolding(crate::specs::Grammar::unit, crate::specs::Grammar::grows, crate::specs::Controls::one_byte))]
 pub fn is_c1(byte: u8) -> bool
     ensures found { result ≡ is_c1 byte }
     ensures range { result ≡ true → 0x80 ≤ byte }
-    ensures whole { (x : Context) → result ≡ true → unit x (byte ∷ []) ≡ Some (closed x Mode.Text (Said.Command (Command.C1 (byte - 0x80)))) }
+    ensures whole { (x : Context) → result ≡ true
+        → unit x (byte ∷ [])
+        ≡ Some (outcome x Mode.Text (Said.Command (Command.C1 (byte - 0x80)))) }
     ensures end { (x : Context) → result ≡ true → grows x (byte ∷ []) ≡ false }
 {
     0x80 <= byte && byte <= 0x9F && byte != 0x9B
 }
 
-/// What bytes say behind which the next byte doesn't fit: what they wholly are, else they are interrupted.
-pub fn cut(context: &Context, bytes: &[u8]) -> Closed
+/// What bytes say after which the next byte doesn't fit: what they wholly are, else they are
+/// interrupted.
+pub fn outcome_at_misfit(context: &Context, bytes: &[u8]) -> Outcome
     requires { fits context.now bytes.now ≡ true }
-    ensures { result ≡ cut context.now (unit context.now bytes.now) }
+    ensures { result ≡ outcome_at_misfit context.now (unit context.now bytes.now) }
 {
     match fit_of(context, bytes) {
-        Fit::Whole => closed_of(context, bytes),
-        Fit::Longer => closed_of(context, bytes),
+        Fit::Whole => outcome_of(context, bytes),
+        Fit::Longer => outcome_of(context, bytes),
         Fit::Open => interrupted(context),
         Fit::Misfit => interrupted(context),
     }
 }
 
 /// Interrupted bytes.
-fn interrupted(context: &Context) -> Closed
-    ensures { result ≡ cut context.now None }
+fn interrupted(context: &Context) -> Outcome
+    ensures { result ≡ outcome_at_misfit context.now None }
 {
-    context.closed(Mode::Text, Said::Refused(Reason::Interrupted))
+    context.outcome(Mode::Text, Said::Refused(Reason::Interrupted))
 }

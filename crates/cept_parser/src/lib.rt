@@ -1,5 +1,5 @@
-//! Bytes of the presentation layer to items: commands and refusals with their places. It gives no command a meaning
-//! and knows no screen.
+//! Bytes of the presentation layer to items: commands and refusals with their places. It gives no
+//! command a meaning and knows no screen.
 #![tactic(auto)]
 
 mod bytes;
@@ -19,5 +19,5 @@ mod tables;
 mod tests;
 mod units;
 
-pub use context::{Closed, ColourKind, Context, Mode};
+pub use context::{ColourKind, Context, Mode, Outcome};
 pub use parser::Parser;

@@ -1,44 +1,47 @@
-ghost use Rattle.std.specs.Prelude.{◌≡◌, ◌≤◌, ◌<◌, ◌+◌, ◌^◌, ◌-◌, ℕ, List, [], ◌∷◌, ◌++◌, length, true, false, Option, Some};
+ghost use Rattle.std.specs.Prelude.{◌≡◌, ◌≤◌, ◌<◌, ◌+◌, ◌^◌, ◌-◌, ℕ, List, [], ◌∷◌, ◌++◌, length};
+ghost use Rattle.std.specs.Prelude.{true, false, Option};
+ghost use Rattle.std.specs.Prelude.{Some};
 ghost use Rattle.std.specs.Option.{option_to_list};
 ghost use Rattle.arrayvec.specs.ArrayVec.{array_vec_len};
 ghost use Rattle.cept_parser.specs.Grammar.{unit, fits, grows};
-ghost use Rattle.cept_parser.specs.Items.{read, items, closed_items, closing, said_at_end};
+ghost use Rattle.cept_parser.specs.Items.{reading_at, items, closed_items, closing_items};
+ghost use Rattle.cept_parser.specs.Items.{said_at_end};
 ghost use Rattle.cept_parser.specs.Valid.{AreValid, AreMeasured};
 ghost use Rattle.cept_parser.specs.Waits.{Waits};
 
-use crate::context::{Closed, Context, Mode};
-use crate::fit::{Fit, alone, closed_of, cut, fit_of, is_c1, is_sign};
+use crate::context::{Context, Mode, Outcome};
+use crate::fit::{Fit, alone, fit_of, is_c1, is_sign, outcome_at_misfit, outcome_of};
 use arrayvec::ArrayVec;
 use cept_codes::{Command, Item, Reason, Said};
 use std::marker::Model;
 
-/// Makes bytes at this place an item that says this, with a context behind it.
-fn take(context: &mut Context, bytes: &mut ArrayVec<u8, 100>, at: u64, closed: Closed) -> Item
-    ensures item { result ≡ record { at = at; len = length bytes.old.items; what = closed.said } }
-    ensures context { context.new ≡ closed.next }
+/// Makes bytes at this place an item that says this, with a context after it.
+fn take(context: &mut Context, bytes: &mut ArrayVec<u8, 100>, at: u64, outcome: Outcome) -> Item
+    ensures item { result ≡ record { at = at; len = length bytes.old.items; what = outcome.said } }
+    ensures context { context.new ≡ outcome.next }
     ensures pending { bytes.new.items ≡ [] }
 {
     let len = bytes.len() as u8;
     bytes.clear();
-    *context = closed.next;
+    *context = outcome.next;
     Item {
         at,
         len,
-        what: closed.said,
+        what: outcome.said,
     }
 }
 
 /// Takes an item off bytes that fit and stand at this place, if they are one.
 fn settle(context: &mut Context, bytes: &mut ArrayVec<u8, 100>, at: u64) -> Option<Item>
     requires { fits context.old bytes.old.items ≡ true }
-    ensures item { option_to_list result ≡ (read context.old at bytes.old.items).items }
-    ensures context { context.new ≡ (read context.old at bytes.old.items).context }
-    ensures pending { bytes.new.items ≡ (read context.old at bytes.old.items).pending }
+    ensures item { option_to_list result ≡ (reading_at context.old at bytes.old.items).items }
+    ensures context { context.new ≡ (reading_at context.old at bytes.old.items).context }
+    ensures pending { bytes.new.items ≡ (reading_at context.old at bytes.old.items).pending }
 {
     match fit_of(context, bytes.as_slice()) {
         Fit::Whole => {
-            let closed = closed_of(context, bytes.as_slice());
-            Some(take(context, bytes, at, closed))
+            let outcome = outcome_of(context, bytes.as_slice());
+            Some(take(context, bytes, at, outcome))
         }
         Fit::Longer => None,
         Fit::Open => None,
@@ -46,21 +49,22 @@ fn settle(context: &mut Context, bytes: &mut ArrayVec<u8, 100>, at: u64) -> Opti
     }
 }
 
-/// What bytes say at the end of the input: their command where they are a unit, else they are truncated.
+/// What bytes say at the end of the input: their command where they are a unit, else they are
+/// truncated.
 fn said_at_end(context: &Context, bytes: &[u8]) -> Said
     requires { fits context.now bytes.now ≡ true }
     ensures { result ≡ said_at_end (unit context.now bytes.now) }
 {
     match fit_of(context, bytes) {
-        Fit::Whole => closed_of(context, bytes).said,
-        Fit::Longer => closed_of(context, bytes).said,
+        Fit::Whole => outcome_of(context, bytes).said,
+        Fit::Longer => outcome_of(context, bytes).said,
         Fit::Open => Said::Refused(Reason::Truncated),
         Fit::Misfit => Said::Refused(Reason::Truncated),
     }
 }
 
 /// The list of an item, if there is one.
-fn listed(item: Option<Item>) -> ArrayVec<Item, 2>
+fn list_of(item: Option<Item>) -> ArrayVec<Item, 2>
     ensures { result.items ≡ option_to_list item }
 {
     let mut items = ArrayVec::new();
@@ -71,7 +75,7 @@ fn listed(item: Option<Item>) -> ArrayVec<Item, 2>
 }
 
 /// The list of an item and a second one, if there is one.
-fn listed_behind(first: Item, second: Option<Item>) -> ArrayVec<Item, 2>
+fn list_of_two(first: Item, second: Option<Item>) -> ArrayVec<Item, 2>
     ensures { result.items ≡ first ∷ option_to_list second }
 {
     let mut items = ArrayVec::new();
@@ -82,7 +86,8 @@ fn listed_behind(first: Item, second: Option<Item>) -> ArrayVec<Item, 2>
     items
 }
 
-/// Takes the items off bytes that wait at this place and one byte more, which doesn't fit behind them.
+/// Takes the items off bytes that wait at this place and one byte more, which doesn't fit after
+/// them.
 fn feed_misfit(
     context: &mut Context,
     bytes: &mut ArrayVec<u8, 100>,
@@ -92,16 +97,19 @@ fn feed_misfit(
     requires waits { Waits context.old (at + length bytes.old.items) bytes.old.items }
     requires few { at + length bytes.old.items < 2 ^ 33 }
     requires misfit { fits context.old (bytes.old.items ++ byte ∷ []) ≡ false }
-    ensures items { result.items ≡ (read context.old at (bytes.old.items ++ byte ∷ [])).items }
-    ensures context { context.new ≡ (read context.old at (bytes.old.items ++ byte ∷ [])).context }
-    ensures pending { bytes.new.items ≡ (read context.old at (bytes.old.items ++ byte ∷ [])).pending }
+    ensures items { result.items
+        ≡ (reading_at context.old at (bytes.old.items ++ byte ∷ [])).items }
+    ensures context { context.new
+        ≡ (reading_at context.old at (bytes.old.items ++ byte ∷ [])).context }
+    ensures pending { bytes.new.items
+        ≡ (reading_at context.old at (bytes.old.items ++ byte ∷ [])).pending }
 {
-    let closed = cut(context, bytes.as_slice());
-    let item = take(context, bytes, at, closed);
+    let outcome = outcome_at_misfit(context, bytes.as_slice());
+    let item = take(context, bytes, at, outcome);
     let from = at + u64::from(item.len);
     bytes.push(byte);
     let next = settle(context, bytes, from);
-    listed_behind(item, next)
+    list_of_two(item, next)
 }
 
 /// Takes the items off bytes that wait at this place and one byte more, onto an empty list.
@@ -115,15 +123,18 @@ fn feed(
     requires waits { Waits context.old (at + length bytes.old.items) bytes.old.items }
     requires few { at + length bytes.old.items < 2 ^ 33 }
     requires empty { items.old.items ≡ [] }
-    ensures items { items.new.items ≡ (read context.old at (bytes.old.items ++ byte ∷ [])).items }
-    ensures context { context.new ≡ (read context.old at (bytes.old.items ++ byte ∷ [])).context }
-    ensures pending { bytes.new.items ≡ (read context.old at (bytes.old.items ++ byte ∷ [])).pending }
+    ensures items { items.new.items
+        ≡ (reading_at context.old at (bytes.old.items ++ byte ∷ [])).items }
+    ensures context { context.new
+        ≡ (reading_at context.old at (bytes.old.items ++ byte ∷ [])).context }
+    ensures pending { bytes.new.items
+        ≡ (reading_at context.old at (bytes.old.items ++ byte ∷ [])).pending }
 {
     bytes.push(byte);
     match fit_of(context, bytes.as_slice()) {
         Fit::Whole => {
-            let closed = closed_of(context, bytes.as_slice());
-            items.push(take(context, bytes, at, closed));
+            let outcome = outcome_of(context, bytes.as_slice());
+            items.push(take(context, bytes, at, outcome));
         }
         Fit::Longer => {}
         Fit::Open => {}
@@ -150,13 +161,20 @@ impl Model for Parser {
 
     ghost use Rattle.cept_parser.specs.Waits.{Waits};
 
-    ghost view = { λ p. record { place = p.place; context = p.context; pending = p.bytes.items; finished = p.finished } };
+    ghost view = { λ p. record {
+      place = p.place;
+      context = p.context;
+      pending = p.bytes.items;
+      finished = p.finished;
+    } };
 
     ghost invariant = { λ p. Waits p.context p.place p.bytes.items };
 }
 
 impl Parser {
-    ghost use Rattle.cept_parser.specs.State.{ParserState, Leads, reading_with, state_after, pending_reading, finished_state};
+    ghost use Rattle.cept_parser.specs.State.{ParserState, Leads, reading_with, parser_after};
+    ghost use Rattle.cept_parser.specs.State.{pending_reading};
+    ghost use Rattle.cept_parser.specs.State.{finished_state};
 
     /// A parser before the first byte.
     pub fn new() -> Parser
@@ -185,28 +203,28 @@ impl Parser {
         self.bytes.len()
     }
 
-    /// Reads one byte more, which is a whole unit or refused shape, where nothing is pending. Its item goes on an empty list:
-    /// items are large, and this one is made where it stays.
+    /// Reads one byte more, which is a whole unit or refused shape, where nothing is pending. Its
+    /// item goes on an empty list: items are large, and this one is made where it stays.
     #[inline]
-    fn read_alone(&mut self, byte: u8, closed: Closed, items: &mut ArrayVec<Item, 2>)
+    fn read_alone(&mut self, byte: u8, outcome: Outcome, items: &mut ArrayVec<Item, 2>)
         requires idle { self.old.pending ≡ [] }
-        requires whole { unit self.old.context (byte ∷ []) ≡ Some closed }
+        requires whole { unit self.old.context (byte ∷ []) ≡ Some outcome }
         requires end { grows self.old.context (byte ∷ []) ≡ false }
         requires few { self.old.place < 2 ^ 32 }
         requires empty { items.old.items ≡ [] }
         ensures items { items.new.items ≡ (reading_with self.old byte).items }
-        ensures state { self.new ≡ state_after self.old byte }
+        ensures state { self.new ≡ parser_after self.old byte }
         ensures few_pending { length self.new.pending ≤ 99 }
         ensures valid { AreValid items.new.items }
         ensures measured { AreMeasured items.new.items }
     {
         let at = self.place;
         self.place += 1;
-        self.context = closed.next;
+        self.context = outcome.next;
         items.push(Item {
             at,
             len: 1,
-            what: closed.said,
+            what: outcome.said,
         });
     }
 
@@ -215,7 +233,7 @@ impl Parser {
         requires few { self.old.place < 2 ^ 32 }
         requires empty { items.old.items ≡ [] }
         ensures items { items.new.items ≡ (reading_with self.old byte).items }
-        ensures state { self.new ≡ state_after self.old byte }
+        ensures state { self.new ≡ parser_after self.old byte }
         ensures few_pending { length self.new.pending ≤ 99 }
         ensures valid { AreValid items.new.items }
         ensures measured { AreMeasured items.new.items }
@@ -225,19 +243,21 @@ impl Parser {
         self.place += 1;
     }
 
-    /// Reads one byte more, and answers the items that it closes, in order. The caller pushes at most 2^32 bytes, and none
-    /// after `finish`.
+    /// Reads one byte more, and answers the items that it closes, in order. The caller pushes at
+    /// most 2^32 bytes, and none after `finish`.
     pub fn push(&mut self, byte: u8) -> ArrayVec<Item, 2>
         requires running { self.old.finished ≡ false }
         requires few { self.old.place < 2 ^ 32 }
 
-        // Whatever bytes led here, the items of these and this byte are the items before and then those answered.
-        ensures items { (b : List ℕ) → Leads b self.old → items (b ++ byte ∷ []) ≡ items b ++ result.items }
+        // Whatever bytes led here, the items of these and this byte are the items before and then
+        // those answered.
+        ensures items { (b : List ℕ) → Leads b self.old
+            → items (b ++ byte ∷ []) ≡ items b ++ result.items }
         ensures leads { (b : List ℕ) → Leads b self.old → Leads (b ++ byte ∷ []) self.new }
 
         // The same of what is pending, where nobody knows the bytes before.
         ensures answer { result.items ≡ (reading_with self.old byte).items }
-        ensures state { self.new ≡ state_after self.old byte }
+        ensures state { self.new ≡ parser_after self.old byte }
         ensures place { self.new.place ≡ self.old.place + 1 }
         ensures still_running { self.new.finished ≡ false }
 
@@ -250,32 +270,34 @@ impl Parser {
         items
     }
 
-    /// As `push`, onto an empty list of the caller's. Items are large, and so they are made where they stay.
+    /// As `push`, onto an empty list of the caller's. Items are large, and so they are made where
+    /// they stay.
     #[inline]
     pub fn push_into(&mut self, byte: u8, list: &mut ArrayVec<Item, 2>)
         requires running { self.old.finished ≡ false }
         requires few { self.old.place < 2 ^ 32 }
         requires empty { list.old.items ≡ [] }
-        ensures items { (b : List ℕ) → Leads b self.old → items (b ++ byte ∷ []) ≡ items b ++ list.new.items }
+        ensures items { (b : List ℕ) → Leads b self.old
+            → items (b ++ byte ∷ []) ≡ items b ++ list.new.items }
         ensures leads { (b : List ℕ) → Leads b self.old → Leads (b ++ byte ∷ []) self.new }
         ensures answer { list.new.items ≡ (reading_with self.old byte).items }
-        ensures state { self.new ≡ state_after self.old byte }
+        ensures state { self.new ≡ parser_after self.old byte }
         ensures place { self.new.place ≡ self.old.place + 1 }
         ensures still_running { self.new.finished ≡ false }
         ensures few_pending { length self.new.pending ≤ 99 }
         ensures valid { AreValid list.new.items }
         ensures measured { AreMeasured list.new.items }
     {
-        self.read_byte(byte, list);
+        self.take_byte(byte, list);
     }
 
     /// Reads one byte more onto an empty list of items.
     #[inline]
-    fn read_byte(&mut self, byte: u8, items: &mut ArrayVec<Item, 2>)
+    fn take_byte(&mut self, byte: u8, items: &mut ArrayVec<Item, 2>)
         requires few { self.old.place < 2 ^ 32 }
         requires empty { items.old.items ≡ [] }
         ensures items { items.new.items ≡ (reading_with self.old byte).items }
-        ensures state { self.new ≡ state_after self.old byte }
+        ensures state { self.new ≡ parser_after self.old byte }
         ensures few_pending { length self.new.pending ≤ 99 }
         ensures valid { AreValid items.new.items }
         ensures measured { AreMeasured items.new.items }
@@ -283,26 +305,28 @@ impl Parser {
         if self.bytes.is_empty() {
             if is_sign(&self.context, byte) {
                 let said = Said::Command(Command::Graphic(byte));
-                let closed = self.context.closed(Mode::Text, said);
-                return self.read_alone(byte, closed, items);
+                let outcome = self.context.outcome(Mode::Text, said);
+                return self.read_alone(byte, outcome, items);
             }
             if is_c1(byte) {
                 let said = Said::Command(Command::C1(byte - 0x80));
-                let closed = self.context.closed(Mode::Text, said);
-                return self.read_alone(byte, closed, items);
+                let outcome = self.context.outcome(Mode::Text, said);
+                return self.read_alone(byte, outcome, items);
             }
-            if let Some(closed) = alone(&self.context, byte) {
-                return self.read_alone(byte, closed, items);
+            if let Some(outcome) = alone(&self.context, byte) {
+                return self.read_alone(byte, outcome, items);
             }
         }
         self.read_other(byte, items);
     }
 
-    /// Closes the input: what is pending is an item, its command where the bytes are a whole unit, else truncated.
+    /// Closes the input: what is pending is an item, its command where the bytes are a whole unit,
+    /// else truncated.
     pub fn finish(&mut self) -> ArrayVec<Item, 2>
         requires { self.old.finished ≡ false }
-        ensures closed { (b : List ℕ) → Leads b self.old → closed_items b ≡ items b ++ result.items }
-        ensures answer { result.items ≡ closing (pending_reading self.old) }
+        ensures closed { (b : List ℕ) → Leads b self.old
+            → closed_items b ≡ items b ++ result.items }
+        ensures answer { result.items ≡ closing_items (pending_reading self.old) }
         ensures state { self.new ≡ finished_state self.old }
         ensures valid { AreValid result.items }
         ensures measured { AreMeasured result.items }
@@ -310,12 +334,12 @@ impl Parser {
         let item = self.last_item();
         self.bytes.clear();
         self.finished = true;
-        listed(item)
+        list_of(item)
     }
 
     /// What is pending, as an item at the end of the input.
     fn last_item(&self) -> Option<Item>
-        ensures { option_to_list result ≡ closing (pending_reading self.now) }
+        ensures { option_to_list result ≡ closing_items (pending_reading self.now) }
     {
         if self.bytes.is_empty() {
             return None;

@@ -1,19 +1,23 @@
 ghost use Rattle.std.specs.Prelude.{◌≡◌, ◌≤◌, ◌<◌, ◌+◌, true, false, Option, Some};
-ghost use Rattle.cept_parser.specs.declared.context.Closed.{Closed};
+ghost use Rattle.cept_parser.specs.declared.context.Outcome.{Outcome};
 ghost use Rattle.cept_parser.specs.Bytes.{is_empty, begins_plain, with_plain};
 ghost use Rattle.cept_parser.specs.Fit.{fit_by};
-ghost use Rattle.cept_parser.specs.Told.{run_told};
-ghost use Rattle.cept_parser.specs.Runs.{misplaced, has_six_bits, bit, colour_part, colour, entry, look_up, pattern_unit, begins_pattern, pattern_grows, run_unit, begins_run, run_grows};
+ghost use Rattle.cept_parser.specs.Outcome.{run_outcome};
+ghost use Rattle.cept_parser.specs.Runs.{misplacement, has_six_bits, bit, colour_part, colour};
+ghost use Rattle.cept_parser.specs.Runs.{table_entry};
+ghost use Rattle.cept_parser.specs.Runs.{dclut_value, pattern_unit, begins_pattern, pattern_grows};
+ghost use Rattle.cept_parser.specs.Runs.{run_unit};
+ghost use Rattle.cept_parser.specs.Runs.{begins_run, run_grows};
 
-use crate::context::{Closed, Context, Mode};
-use crate::fit::{Fit, complete_fit, first_of, plain_fit};
+use crate::context::{Context, Mode, Outcome};
+use crate::fit::{Fit, complete_fit, first_byte, plain_fit};
 use cept_codes::{Command, Reason, Rgb, Said};
 
 /// A plain byte that can't begin or continue the unit of its run.
-fn misplaced(context: &Context) -> Closed
-    ensures { result ≡ misplaced context.now }
+fn misplacement(context: &Context) -> Outcome
+    ensures { result ≡ misplacement context.now }
 {
-    context.closed(Mode::Skip, Said::Refused(Reason::BadParameter))
+    context.outcome(Mode::Skip, Said::Refused(Reason::BadParameter))
 }
 
 /// A byte of columns 4 to 7, which carries six bits.
@@ -52,40 +56,42 @@ fn colour(first: u8, second: u8) -> Rgb
 }
 
 /// The second byte of a colour entry.
-#[tactic(auto, unfolding(crate::specs::Runs::entry))]
-fn entry(context: &Context, place: u8, first: u8, second: u8) -> Closed
+#[tactic(auto, unfolding(crate::specs::Runs::table_entry))]
+fn table_entry(context: &Context, place: u8, first: u8, second: u8) -> Outcome
     requires { place < 32 }
-    ensures { result ≡ entry context.now place first second }
+    ensures { result ≡ table_entry context.now place first second }
 {
     if has_six_bits(second) {
-        context.closed(
+        context.outcome(
             Mode::TableRun(place + 1),
             Said::Command(Command::Entry(place, colour(first, second))),
         )
     } else {
-        misplaced(context)
+        misplacement(context)
     }
 }
 
 /// A value of the DCLUT.
-#[tactic(auto, unfolding(crate::specs::Runs::look_up))]
-fn look_up(context: &Context, place: u8, byte: u8) -> Closed
-    ensures { result ≡ look_up context.now place byte }
+#[tactic(auto, unfolding(crate::specs::Runs::dclut_value))]
+fn dclut_value(context: &Context, place: u8, byte: u8) -> Outcome
+    ensures { result ≡ dclut_value context.now place byte }
 {
     if place < 4 && has_six_bits(byte) {
-        context.closed(
+        context.outcome(
             Mode::DclutRun(place + 1),
             Said::Command(Command::Dclut(place, byte % 32)),
         )
     } else {
-        misplaced(context)
+        misplacement(context)
     }
 }
 
 /// A run of colours for the table.
-#[tactic(auto, unfolding(crate::specs::Runs::run_unit, crate::specs::Runs::begins_run, crate::specs::Runs::run_grows))]
+#[tactic(auto, unfolding(crate::specs::Runs::begins_run))]
 fn table_fit(context: &Context, place: u8, byte: u8, rest: &[u8]) -> Fit
-    ensures { result ≡ fit_by (begins_run (Mode.TableRun place) context.now byte rest.now) false (run_unit (Mode.TableRun place) context.now byte rest.now) }
+    ensures { result
+        ≡ fit_by (begins_run (Mode.TableRun place) context.now byte rest.now) false
+        (run_unit (Mode.TableRun place) context.now byte rest.now) }
 {
     if place < 32 && has_six_bits(byte) {
         plain_fit(rest)
@@ -95,17 +101,23 @@ fn table_fit(context: &Context, place: u8, byte: u8, rest: &[u8]) -> Fit
 }
 
 /// A run of patterns, none yet.
-#[tactic(auto, unfolding(crate::specs::Runs::pattern_unit, crate::specs::Runs::begins_pattern, crate::specs::Runs::pattern_grows))]
+#[tactic(auto, unfolding(crate::specs::Runs::pattern_unit))]
 fn pattern_fit(context: &Context, code: u8, byte: u8, rest: &[u8]) -> Fit
-    ensures { result ≡ fit_by (begins_pattern context.now code byte rest.now) (pattern_grows context.now code byte rest.now) (pattern_unit context.now code byte rest.now) }
+    ensures { result
+        ≡ fit_by (begins_pattern context.now code byte rest.now)
+        (pattern_grows context.now code byte rest.now)
+        (pattern_unit context.now code byte rest.now) }
 {
     complete_fit(rest)
 }
 
 /// How bytes stand to the mode that begin with a plain byte.
-#[tactic(auto, unfolding(crate::specs::Runs::run_unit, crate::specs::Runs::begins_run, crate::specs::Runs::run_grows))]
+#[tactic(auto, unfolding(crate::specs::Runs::begins_run))]
 pub fn run_fit(context: &Context, byte: u8, rest: &[u8]) -> Fit
-    ensures { result ≡ fit_by (begins_run context.now.mode context.now byte rest.now) (run_grows context.now.mode context.now byte rest.now) (run_unit context.now.mode context.now byte rest.now) }
+    ensures { result
+        ≡ fit_by (begins_run context.now.mode context.now byte rest.now)
+        (run_grows context.now.mode context.now byte rest.now)
+        (run_unit context.now.mode context.now byte rest.now) }
 {
     match context.mode {
         Mode::Text => complete_fit(rest),
@@ -117,27 +129,27 @@ pub fn run_fit(context: &Context, byte: u8, rest: &[u8]) -> Fit
 }
 
 /// What a whole unit of a run of colours for the table says.
-#[tactic(auto, unfolding(crate::specs::Told::run_told))]
-fn table_closed(context: &Context, place: u8, byte: u8, rest: &[u8]) -> Closed
-    ensures { result ≡ run_told (Mode.TableRun place) context.now byte rest.now }
+#[tactic(auto, unfolding(crate::specs::Outcome::run_outcome))]
+fn table_outcome(context: &Context, place: u8, byte: u8, rest: &[u8]) -> Outcome
+    ensures { result ≡ run_outcome (Mode.TableRun place) context.now byte rest.now }
 {
     if place < 32 && has_six_bits(byte) {
-        entry(context, place, byte, first_of(rest))
+        table_entry(context, place, byte, first_byte(rest))
     } else {
-        misplaced(context)
+        misplacement(context)
     }
 }
 
 /// What whole bytes say in the mode that begin with a plain byte.
-#[tactic(auto, unfolding(crate::specs::Told::run_told))]
-pub fn run_closed(context: &Context, byte: u8, rest: &[u8]) -> Closed
-    ensures { result ≡ run_told context.now.mode context.now byte rest.now }
+#[tactic(auto, unfolding(crate::specs::Outcome::run_outcome))]
+pub fn run_outcome(context: &Context, byte: u8, rest: &[u8]) -> Outcome
+    ensures { result ≡ run_outcome context.now.mode context.now byte rest.now }
 {
     match context.mode {
-        Mode::Text => context.closed(Mode::Text, Said::Command(Command::Graphic(byte))),
-        Mode::Skip => context.closed(Mode::Skip, Said::Command(Command::Skipped)),
-        Mode::TableRun(place) => table_closed(context, place, byte, rest),
-        Mode::DclutRun(place) => look_up(context, place, byte),
-        Mode::DrcsRun(_) => misplaced(context),
+        Mode::Text => context.outcome(Mode::Text, Said::Command(Command::Graphic(byte))),
+        Mode::Skip => context.outcome(Mode::Skip, Said::Command(Command::Skipped)),
+        Mode::TableRun(place) => table_outcome(context, place, byte, rest),
+        Mode::DclutRun(place) => dclut_value(context, place, byte),
+        Mode::DrcsRun(_) => misplacement(context),
     }
 }

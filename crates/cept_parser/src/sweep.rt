@@ -1,10 +1,10 @@
-//! Every page of one and of two bytes, and every tail of two bytes behind each mode and each beginning, against the tables of
-//! the grammar in `tables.rt`.
+//! Every page of one and of two bytes, and every tail of two bytes after each mode and each
+//! beginning, against the tables of the grammar in `tables.rt`.
 
 ghost use Rattle.std.specs.Prelude.{◌<◌, length};
 
 use crate::parser::Parser;
-use crate::tables::{Row, goes_on, kind_behind, row};
+use crate::tables::{Row, goes_on, kind_after, row};
 use crate::tests::items_of;
 use crate::{ColourKind, Mode};
 use arrayvec::ArrayVec;
@@ -29,7 +29,8 @@ fn longest(mode: Mode, kind: ColourKind, bytes: &[u8]) -> Option<(usize, Row)> {
     None
 }
 
-/// Bytes of which no beginning is a row: those before the next breaker are interrupted, else all are truncated.
+/// Bytes of which no beginning is a row: those before the next breaker are interrupted, else all
+/// are truncated.
 fn cut_off(bytes: &[u8]) -> (usize, Row) {
     for (len, byte) in bytes.iter().enumerate() {
         if len > 0 && !is_left(*byte) {
@@ -55,7 +56,7 @@ fn expected(alloc: Global, page: &[u8]) -> Result<Vec<Item>, Fail>
             mode = Mode::Text;
         }
         let rest = &page[at..];
-        let (len, (what, behind)) = match longest(mode, kind, rest) {
+        let (len, (what, after)) = match longest(mode, kind, rest) {
             Some(found) => found,
             None => cut_off(rest),
         };
@@ -64,14 +65,15 @@ fn expected(alloc: Global, page: &[u8]) -> Result<Vec<Item>, Fail>
             len: u8::try_from(len).unwrap_or(0),
             what,
         })?;
-        mode = behind;
-        kind = kind_behind(kind, what);
+        mode = after;
+        kind = kind_after(kind, what);
         next = at.saturating_add(len);
     }
     Ok(items)
 }
 
-/// How many bytes of a page are still pending at its end: those of a last item that is truncated, or that may go on.
+/// How many bytes of a page are still pending at its end: those of a last item that is truncated,
+/// or that may go on.
 fn left_of(page: &[u8], items: &[Item]) -> usize {
     match items {
         [.., last] => {
@@ -98,24 +100,25 @@ fn watched(rt: &impl Abort, alloc: Global, page: &[u8], left: usize) -> Result<V
 {
     let mut parser = Parser::new();
     let mut items = Vec::new(alloc);
-    let mut closed = ArrayVec::new();
+    let mut outcome = ArrayVec::new();
     let mut pushed = 0;
     for byte in page {
-        closed.clear();
-        parser.push_into(*byte, &mut closed);
-        items.extend_from_slice(closed.as_slice())?;
+        outcome.clear();
+        parser.push_into(*byte, &mut outcome);
+        items.extend_from_slice(outcome.as_slice())?;
         pushed += 1;
         let end = end_of(items.as_slice()).wrapping_add(parser.pending() as u64);
         assert_eq!(rt; parser.place(), pushed, "of {page:?}");
         assert_eq!(rt; end, pushed, "of {page:?}");
     }
     assert_eq!(rt; parser.pending(), left, "of {page:?}");
-    let closed = parser.finish();
-    items.extend_from_slice(closed.as_slice())?;
+    let outcome = parser.finish();
+    items.extend_from_slice(outcome.as_slice())?;
     Ok(items)
 }
 
-/// A page of these two parts gives the items of the tables, whether or not somebody looks at each byte.
+/// A page of these two parts gives the items of the tables, whether or not somebody looks at each
+/// byte.
 fn check(rt: &impl Abort, alloc: Global, beginning: &[u8], tail: &[u8]) -> Result<(), Fail>
     requires beginning { length beginning.now < 16 }
     requires tail { length tail.now < 3 }
@@ -133,7 +136,7 @@ fn check(rt: &impl Abort, alloc: Global, beginning: &[u8], tail: &[u8]) -> Resul
     Ok(())
 }
 
-/// All tails of at most two bytes behind a beginning.
+/// All tails of at most two bytes after a beginning.
 fn sweep(rt: &impl Abort, alloc: Global, beginning: &[u8]) -> Result<(), Fail>
     requires { length beginning.now < 16 }
 {
@@ -177,7 +180,7 @@ fn tails_in_the_dclut(rt: HostRuntime) -> Result<(), Fail> {
 }
 
 #[test]
-fn tails_behind_escape(rt: HostRuntime) -> Result<(), Fail> {
+fn tails_after_escape(rt: HostRuntime) -> Result<(), Fail> {
     sweep(&rt, rt.alloc(), &[0x12])?;
     sweep(&rt, rt.alloc(), &[0x1B])?;
     sweep(&rt, rt.alloc(), &[0x1B, 0x20])?;
@@ -190,7 +193,7 @@ fn tails_behind_escape(rt: HostRuntime) -> Result<(), Fail> {
 }
 
 #[test]
-fn tails_behind_csi(rt: HostRuntime) -> Result<(), Fail> {
+fn tails_after_csi(rt: HostRuntime) -> Result<(), Fail> {
     sweep(&rt, rt.alloc(), &[0x9B])?;
     for number in 0x30..0x40u8 {
         sweep(&rt, rt.alloc(), &[0x9B, number])?;
@@ -212,7 +215,7 @@ fn tails_behind_csi(rt: HostRuntime) -> Result<(), Fail> {
 }
 
 #[test]
-fn tails_behind_us(rt: HostRuntime) -> Result<(), Fail> {
+fn tails_after_us(rt: HostRuntime) -> Result<(), Fail> {
     sweep(&rt, rt.alloc(), &[0x1F])?;
     sweep(&rt, rt.alloc(), &[0x1F, 0x23])?;
     sweep(&rt, rt.alloc(), &[0x1F, 0x23, 0x20])?;

@@ -1,12 +1,12 @@
-//! The tables of the grammar, written out for the sweep: a row an arm, in the order in which they are told. Each says what
-//! bytes are that are wholly one unit or refusal. Nothing here calls the parser.
+//! The tables of the grammar, written out for the sweep: a row an arm, in their order. Each says
+//! what bytes are that are wholly one unit or refusal. Nothing here calls the parser.
 
 ghost use Rattle.std.specs.Prelude.{◌≤◌};
 
 use crate::{ColourKind, Mode};
 use cept_codes::{C1Set, Command, Form, Reason, Rgb, Said, SetId};
 
-/// What bytes say, and the mode behind them.
+/// What bytes say, and the mode after them.
 pub type Row = (Said, Mode);
 
 /// Units of one byte, in any mode. Text follows.
@@ -71,8 +71,8 @@ fn longer_unit(bytes: &[u8]) -> Option<Command> {
     Some(command)
 }
 
-/// The bytes behind CSI.
-fn behind_csi(bytes: &[u8]) -> Option<&[u8]> {
+/// The bytes after CSI.
+fn bytes_after_csi(bytes: &[u8]) -> Option<&[u8]> {
     match bytes {
         [0x9B, rest @ ..] => Some(rest),
         [0x1B, 0x5B, rest @ ..] => Some(rest),
@@ -224,7 +224,7 @@ fn unit_with_parts(bytes: &[u8]) -> Option<(Command, Mode)> {
     }
 }
 
-/// A further part may stand behind a header or a format: its last part isn't there.
+/// A further part may stand after a header or a format: its last part isn't there.
 pub fn goes_on(bytes: &[u8]) -> bool {
     match bytes {
         [0x1F, 0x23, 0x20, .., 0x41 | 0x42 | 0x44] => false,
@@ -314,7 +314,7 @@ fn is_refused_in_run(mode: Mode, bytes: &[u8]) -> bool {
     }
 }
 
-/// Refusals but those after CSI and in a run: their reason, and the mode behind them.
+/// Refusals but those after CSI and in a run: their reason, and the mode after them.
 fn refusal(bytes: &[u8]) -> Option<(Reason, Mode)> {
     match bytes {
         [0x01..=0x07 | 0x10 | 0x13 | 0x15..=0x17 | 0x1A | 0x1C] => {
@@ -365,24 +365,25 @@ pub fn row(mode: Mode, kind: ColourKind, bytes: &[u8]) -> Option<Row> {
     if let Some(command) = longer_unit(bytes) {
         return Some((Said::Command(command), Mode::Text));
     }
-    if let Some(rest) = behind_csi(bytes) {
+    if let Some(rest) = bytes_after_csi(bytes) {
         return Some((row_after_csi(rest)?, Mode::Text));
     }
-    if let Some((command, behind)) = unit_from_1f(kind, bytes) {
-        return Some((Said::Command(command), behind));
+    if let Some((command, after)) = unit_from_1f(kind, bytes) {
+        return Some((Said::Command(command), after));
     }
-    if let Some((command, behind)) = unit_in_run(mode, bytes) {
-        return Some((Said::Command(command), behind));
+    if let Some((command, after)) = unit_in_run(mode, bytes) {
+        return Some((Said::Command(command), after));
     }
     if is_refused_in_run(mode, bytes) {
         return Some((Said::Refused(Reason::BadParameter), Mode::Skip));
     }
-    let (reason, behind) = refusal(bytes)?;
-    Some((Said::Refused(reason), behind))
+    let (reason, after) = refusal(bytes)?;
+    Some((Said::Refused(reason), after))
 }
 
-/// The kind of colours behind what is said: the header of colours sets it, and full defaults bring back the table.
-pub fn kind_behind(kind: ColourKind, said: Said) -> ColourKind {
+/// The kind of colours after what is said: the header of colours sets it, and full defaults bring
+/// back the table.
+pub fn kind_after(kind: ColourKind, said: Said) -> ColourKind {
     match said {
         Said::Command(Command::ColourHeader(true)) => ColourKind::LookUpTable,
         Said::Command(Command::ColourHeader(false)) => ColourKind::ColourTable,

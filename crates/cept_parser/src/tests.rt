@@ -1,4 +1,5 @@
-//! Longer pages than the sweep has: parts behind parts, numbers of two digits, and what outlives a unit.
+//! Longer pages than the sweep has: parts after parts, numbers of two digits, and what outlives a
+//! unit.
 
 ghost use Rattle.std.specs.Prelude.{◌<◌, length};
 
@@ -35,11 +36,11 @@ pub fn items_of(alloc: Global, page: &[u8]) -> Result<Vec<Item>, Fail>
     let mut parser = Parser::new();
     let mut items = Vec::new(alloc);
     for byte in page {
-        let closed = parser.push(*byte);
-        items.extend_from_slice(closed.as_slice())?;
+        let outcome = parser.push(*byte);
+        items.extend_from_slice(outcome.as_slice())?;
     }
-    let closed = parser.finish();
-    items.extend_from_slice(closed.as_slice())?;
+    let outcome = parser.finish();
+    items.extend_from_slice(outcome.as_slice())?;
     Ok(items)
 }
 

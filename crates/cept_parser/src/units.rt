@@ -1,24 +1,38 @@
-ghost use Rattle.std.specs.Prelude.{◌≡◌, ◌≤◌, ◌<◌, ◌∷◌, [], true, false, Option, Some, None, if◌then◌else◌};
-ghost use Rattle.cept_parser.specs.Bytes.{is_plain, is_digit, is_empty, begins_plain, with_plain, are_options, are_options_left, with_options};
-ghost use Rattle.cept_parser.specs.Context.{start};
-ghost use Rattle.cept_parser.specs.declared.context.Closed.{Closed};
-ghost use Rattle.cept_parser.specs.Fit.{fit_by, behind};
-ghost use Rattle.cept_parser.specs.Told.{drcs_told, colour_told, service_told, us_told};
-ghost use Rattle.cept_parser.specs.Units.{position, drcs_parts, drcs_width, drcs_height, drcs_planes, drcs_header, drcs_unit, begins_drcs, colour_parts, colour_header, last_place, run_from, colours_from, colour_start, colour_unit, begins_colour, format_parts, format, service_break, service, service_unit, begins_service, us_unit, begins_us, header_grows, us_grows};
+ghost use Rattle.std.specs.Prelude.{◌≡◌, ◌≤◌, ◌<◌, ◌∷◌, [], true, false, Option, Some, None};
+ghost use Rattle.std.specs.Prelude.{if◌then◌else◌};
+ghost use Rattle.cept_parser.specs.Bytes.{is_plain, is_digit, is_empty, begins_plain, with_plain};
+ghost use Rattle.cept_parser.specs.Bytes.{are_options};
+ghost use Rattle.cept_parser.specs.Bytes.{are_options_left, with_options};
+ghost use Rattle.cept_parser.specs.Context.{start_context};
+ghost use Rattle.cept_parser.specs.declared.context.Outcome.{Outcome};
+ghost use Rattle.cept_parser.specs.Fit.{fit_by, bytes_after};
+ghost use Rattle.cept_parser.specs.Outcome.{drcs_outcome, colour_outcome, service_outcome};
+ghost use Rattle.cept_parser.specs.Outcome.{us_outcome};
+ghost use Rattle.cept_parser.specs.Units.{us_position, drcs_parts, drcs_width, drcs_height};
+ghost use Rattle.cept_parser.specs.Units.{drcs_planes, drcs_header};
+ghost use Rattle.cept_parser.specs.Units.{drcs_unit, begins_drcs, colour_parts, colour_header};
+ghost use Rattle.cept_parser.specs.Units.{last_place, run_from};
+ghost use Rattle.cept_parser.specs.Units.{colours_from, colour_start, colour_unit, begins_colour};
+ghost use Rattle.cept_parser.specs.Units.{format_parts, format};
+ghost use Rattle.cept_parser.specs.Units.{service_break, service, service_unit, begins_service};
+ghost use Rattle.cept_parser.specs.Units.{us_unit, begins_us};
+ghost use Rattle.cept_parser.specs.Units.{header_grows, us_grows};
 
 use crate::bytes::{is_column, is_digit, is_plain, is_row, two_digits};
-use crate::context::{Closed, ColourKind, Context, Mode};
-use crate::fit::{Fit, behind, complete_fit, first_of, plain_fit};
+use crate::context::{ColourKind, Context, Mode, Outcome};
+use crate::fit::{Fit, bytes_after, complete_fit, first_byte, plain_fit};
 use cept_codes::{C1Set, Command, Form, Reason, Said};
 
 /// How bytes stand to the grammar before which the last optional part is left, whatever they say.
 fn last_part_fit(part: &[u8], bytes: &[u8]) -> Fit
-    ensures { (k : Closed) → result ≡ fit_by (is_empty (behind part.now bytes.now)) (is_empty bytes.now) (if is_empty (behind part.now bytes.now) then Some k else None) }
+    ensures { (k : Outcome) → result
+        ≡ fit_by (is_empty (bytes_after part.now bytes.now)) (is_empty bytes.now)
+        (if is_empty (bytes_after part.now bytes.now) then Some k else None) }
 {
     if bytes.is_empty() {
         return Fit::Longer;
     }
-    if behind(part, bytes).is_empty() {
+    if bytes_after(part, bytes).is_empty() {
         Fit::Whole
     } else {
         Fit::Misfit
@@ -73,7 +87,7 @@ fn drcs_planes(bytes: &[u8]) -> u8
 
 /// The header of downloaded characters.
 #[tactic(auto, unfolding(crate::specs::Units::drcs_header))]
-fn drcs_header(context: &Context, bytes: &[u8]) -> Closed
+fn drcs_header(context: &Context, bytes: &[u8]) -> Outcome
     ensures { result ≡ drcs_header context.now bytes.now }
 {
     let form = Form {
@@ -81,7 +95,7 @@ fn drcs_header(context: &Context, bytes: &[u8]) -> Closed
         h: drcs_height(bytes),
         planes: drcs_planes(bytes),
     };
-    Closed {
+    Outcome {
         said: Said::Command(Command::DrcsHeader(bytes.contains(&0x28), form)),
         next: Context {
             mode: Mode::Skip,
@@ -91,20 +105,24 @@ fn drcs_header(context: &Context, bytes: &[u8]) -> Closed
     }
 }
 
-/// What stands behind 1F 23 20.
+/// What stands after 1F 23 20.
 fn drcs_header_fit(context: &Context, bytes: &[u8]) -> Fit
-    ensures { result ≡ fit_by (are_options drcs_parts bytes.now) (are_options_left drcs_parts bytes.now) (with_options drcs_parts bytes.now (drcs_header context.now bytes.now)) }
+    ensures { result
+        ≡ fit_by (are_options drcs_parts bytes.now) (are_options_left drcs_parts bytes.now)
+        (with_options drcs_parts bytes.now (drcs_header context.now bytes.now)) }
 {
-    let rest = behind(&[0x20, 0x28], bytes);
-    let rest = behind(&[0x40], rest);
-    let rest = behind(&[0x36, 0x37, 0x3A, 0x3B, 0x3C, 0x3F], rest);
+    let rest = bytes_after(&[0x20, 0x28], bytes);
+    let rest = bytes_after(&[0x40], rest);
+    let rest = bytes_after(&[0x36, 0x37, 0x3A, 0x3B, 0x3C, 0x3F], rest);
     last_part_fit(&[0x41, 0x42, 0x44], rest)
 }
 
-/// The bytes behind 1F 23 and a byte.
-#[tactic(auto, unfolding(crate::specs::Units::drcs_unit, crate::specs::Units::begins_drcs, crate::specs::Units::header_grows))]
-fn drcs_behind(context: &Context, byte: u8, rest: &[u8]) -> Fit
-    ensures { result ≡ fit_by (begins_drcs (byte ∷ rest.now)) (header_grows drcs_parts (byte ∷ rest.now)) (drcs_unit context.now (byte ∷ rest.now)) }
+/// The bytes after 1F 23 and a byte.
+#[tactic(auto, unfolding(crate::specs::Units::drcs_unit))]
+fn drcs_after(context: &Context, byte: u8, rest: &[u8]) -> Fit
+    ensures { result
+        ≡ fit_by (begins_drcs (byte ∷ rest.now)) (header_grows drcs_parts (byte ∷ rest.now))
+        (drcs_unit context.now (byte ∷ rest.now)) }
 {
     match byte {
         0x20 => drcs_header_fit(context, rest),
@@ -114,24 +132,26 @@ fn drcs_behind(context: &Context, byte: u8, rest: &[u8]) -> Fit
     }
 }
 
-/// Downloaded characters: what stands behind 1F 23.
-#[tactic(auto, unfolding(crate::specs::Units::drcs_unit, crate::specs::Units::begins_drcs, crate::specs::Units::header_grows))]
+/// Downloaded characters: what stands after 1F 23.
+#[tactic(auto, unfolding(crate::specs::Units::drcs_unit))]
 fn drcs_fit(context: &Context, bytes: &[u8]) -> Fit
-    ensures { result ≡ fit_by (begins_drcs bytes.now) (header_grows drcs_parts bytes.now) (drcs_unit context.now bytes.now) }
+    ensures { result
+        ≡ fit_by (begins_drcs bytes.now) (header_grows drcs_parts bytes.now)
+        (drcs_unit context.now bytes.now) }
 {
     match bytes {
         [] => Fit::Open,
-        [byte, rest @ ..] => drcs_behind(context, *byte, rest),
+        [byte, rest @ ..] => drcs_after(context, *byte, rest),
     }
 }
 
 /// The header of colours.
 #[tactic(auto, unfolding(crate::specs::Units::colour_header))]
-fn colour_header(context: &Context, bytes: &[u8]) -> Closed
+fn colour_header(context: &Context, bytes: &[u8]) -> Outcome
     ensures { result ≡ colour_header context.now bytes.now }
 {
     let dclut = bytes.contains(&0x22);
-    Closed {
+    Outcome {
         said: Said::Command(Command::ColourHeader(dclut)),
         next: Context {
             mode: Mode::Skip,
@@ -152,12 +172,14 @@ fn kind_of(dclut: bool) -> ColourKind
     }
 }
 
-/// What stands behind 1F 26 20.
+/// What stands after 1F 26 20.
 fn colour_header_fit(context: &Context, bytes: &[u8]) -> Fit
-    ensures { result ≡ fit_by (are_options colour_parts bytes.now) (are_options_left colour_parts bytes.now) (with_options colour_parts bytes.now (colour_header context.now bytes.now)) }
+    ensures { result
+        ≡ fit_by (are_options colour_parts bytes.now) (are_options_left colour_parts bytes.now)
+        (with_options colour_parts bytes.now (colour_header context.now bytes.now)) }
 {
-    let rest = behind(&[0x20, 0x22], bytes);
-    let rest = behind(&[0x34], rest);
+    let rest = bytes_after(&[0x20, 0x22], bytes);
+    let rest = bytes_after(&[0x34], rest);
     last_part_fit(&[0x40], rest)
 }
 
@@ -183,36 +205,38 @@ fn run_from(kind: ColourKind, place: u8) -> Mode
 
 /// Colours begin at a place.
 #[tactic(auto, unfolding(crate::specs::Units::colours_from))]
-fn colours_from(context: &Context, place: u8) -> Closed
+fn colours_from(context: &Context, place: u8) -> Outcome
     ensures { result ≡ colours_from context.now place }
 {
     if place <= last_place(context.kind) {
-        context.closed(
+        context.outcome(
             run_from(context.kind, place),
             Said::Command(Command::ColourStart(place)),
         )
     } else {
-        context.closed(Mode::Skip, Said::Refused(Reason::BadParameter))
+        context.outcome(Mode::Skip, Said::Refused(Reason::BadParameter))
     }
 }
 
 /// Colours begin at a place of two digits.
 #[tactic(auto, unfolding(crate::specs::Units::colour_start))]
-fn colour_start(context: &Context, tens: u8, ones: u8) -> Closed
+fn colour_start(context: &Context, tens: u8, ones: u8) -> Outcome
     requires { is_digit tens ≡ true }
     ensures { result ≡ colour_start context.now tens ones }
 {
     if is_digit(ones) {
         colours_from(context, two_digits(tens, ones))
     } else {
-        context.closed(Mode::Skip, Said::Refused(Reason::BadParameter))
+        context.outcome(Mode::Skip, Said::Refused(Reason::BadParameter))
     }
 }
 
-/// The bytes behind 1F 26 and a byte.
-#[tactic(auto, unfolding(crate::specs::Units::colour_unit, crate::specs::Units::begins_colour, crate::specs::Units::header_grows))]
-fn colour_behind(context: &Context, byte: u8, rest: &[u8]) -> Fit
-    ensures { result ≡ fit_by (begins_colour (byte ∷ rest.now)) (header_grows colour_parts (byte ∷ rest.now)) (colour_unit context.now (byte ∷ rest.now)) }
+/// The bytes after 1F 26 and a byte.
+#[tactic(auto, unfolding(crate::specs::Units::colour_unit))]
+fn colour_after(context: &Context, byte: u8, rest: &[u8]) -> Fit
+    ensures { result
+        ≡ fit_by (begins_colour (byte ∷ rest.now)) (header_grows colour_parts (byte ∷ rest.now))
+        (colour_unit context.now (byte ∷ rest.now)) }
 {
     match byte {
         0x20 => colour_header_fit(context, rest),
@@ -223,78 +247,84 @@ fn colour_behind(context: &Context, byte: u8, rest: &[u8]) -> Fit
     }
 }
 
-/// Colours: what stands behind 1F 26.
-#[tactic(auto, unfolding(crate::specs::Units::colour_unit, crate::specs::Units::begins_colour, crate::specs::Units::header_grows))]
+/// Colours: what stands after 1F 26.
+#[tactic(auto, unfolding(crate::specs::Units::colour_unit))]
 fn colour_fit(context: &Context, bytes: &[u8]) -> Fit
-    ensures { result ≡ fit_by (begins_colour bytes.now) (header_grows colour_parts bytes.now) (colour_unit context.now bytes.now) }
+    ensures { result
+        ≡ fit_by (begins_colour bytes.now) (header_grows colour_parts bytes.now)
+        (colour_unit context.now bytes.now) }
 {
     match bytes {
         [] => Fit::Open,
-        [byte, rest @ ..] => colour_behind(context, *byte, rest),
+        [byte, rest @ ..] => colour_after(context, *byte, rest),
     }
 }
 
 /// The format.
 #[tactic(auto, unfolding(crate::specs::Units::format))]
-fn format(context: &Context, bytes: &[u8]) -> Closed
+fn format(context: &Context, bytes: &[u8]) -> Outcome
     ensures { result ≡ format context.now bytes.now }
 {
     let rows = if bytes.contains(&0x42) { 20 } else { 24 };
     let wrap = !bytes.contains(&0x71);
-    context.closed(Mode::Text, Said::Command(Command::Format(rows, wrap)))
+    context.outcome(Mode::Text, Said::Command(Command::Format(rows, wrap)))
 }
 
-/// The format: what stands behind 1F 2D.
+/// The format: what stands after 1F 2D.
 fn format_fit(context: &Context, bytes: &[u8]) -> Fit
-    ensures { result ≡ fit_by (are_options format_parts bytes.now) (are_options_left format_parts bytes.now) (with_options format_parts bytes.now (format context.now bytes.now)) }
+    ensures { result
+        ≡ fit_by (are_options format_parts bytes.now) (are_options_left format_parts bytes.now)
+        (with_options format_parts bytes.now (format context.now bytes.now)) }
 {
-    let rest = behind(&[0x41, 0x42], bytes);
+    let rest = bytes_after(&[0x41, 0x42], bytes);
     last_part_fit(&[0x70, 0x71], rest)
 }
 
 /// The service is broken at a row.
 #[tactic(auto, unfolding(crate::specs::Units::service_break))]
-fn service_break(context: &Context, row: u8) -> Closed
+fn service_break(context: &Context, row: u8) -> Outcome
     ensures { result ≡ service_break context.now row }
 {
     if is_row(row) {
-        context.closed(Mode::Text, Said::Command(Command::ServiceBreak(row - 0x40)))
+        context.outcome(Mode::Text, Said::Command(Command::ServiceBreak(row - 0x40)))
     } else {
-        context.closed(Mode::Skip, Said::Refused(Reason::BadParameter))
+        context.outcome(Mode::Skip, Said::Refused(Reason::BadParameter))
     }
 }
 
 /// The other units of the service. Full defaults bring back the first context.
 #[tactic(auto, unfolding(crate::specs::Units::service))]
-fn service(context: &Context, byte: u8) -> Closed
+fn service(context: &Context, byte: u8) -> Outcome
     ensures { result ≡ service context.now byte }
 {
     match byte {
-        0x4F => context.closed(Mode::Text, Said::Command(Command::ServiceEnd)),
-        0x41 => Context::start().closed(
+        0x4F => context.outcome(Mode::Text, Said::Command(Command::ServiceEnd)),
+        0x41 => Context::start().outcome(
             Mode::Text,
             Said::Command(Command::FullDefaults(C1Set::Serial)),
         ),
-        0x42 => Context::start().closed(
+        0x42 => Context::start().outcome(
             Mode::Text,
             Said::Command(Command::FullDefaults(C1Set::Parallel)),
         ),
-        0x43 => context.closed(
+        0x43 => context.outcome(
             Mode::Text,
             Said::Command(Command::ControlDefaults(C1Set::Serial)),
         ),
-        0x44 => context.closed(
+        0x44 => context.outcome(
             Mode::Text,
             Said::Command(Command::ControlDefaults(C1Set::Parallel)),
         ),
-        _ => context.closed(Mode::Skip, Said::Refused(Reason::BadParameter)),
+        _ => context.outcome(Mode::Skip, Said::Refused(Reason::BadParameter)),
     }
 }
 
-/// The bytes behind 1F 2F and a byte.
+/// The bytes after 1F 2F and a byte.
 #[tactic(auto, unfolding(crate::specs::Units::service_unit, crate::specs::Units::begins_service))]
-fn service_behind(context: &Context, byte: u8, rest: &[u8]) -> Fit
-    ensures { result ≡ fit_by (begins_service (byte ∷ rest.now)) false (service_unit context.now (byte ∷ rest.now)) }
+fn service_after(context: &Context, byte: u8, rest: &[u8]) -> Fit
+    ensures { result
+        ≡ fit_by (begins_service (byte ∷ rest.now)) false (service_unit context.now (byte
+        ∷ rest.now)) }
 {
     match byte {
         0x40 => plain_fit(rest),
@@ -303,36 +333,39 @@ fn service_behind(context: &Context, byte: u8, rest: &[u8]) -> Fit
     }
 }
 
-/// The service: what stands behind 1F 2F.
+/// The service: what stands after 1F 2F.
 #[tactic(auto, unfolding(crate::specs::Units::service_unit, crate::specs::Units::begins_service))]
 fn service_fit(context: &Context, bytes: &[u8]) -> Fit
-    ensures { result ≡ fit_by (begins_service bytes.now) false (service_unit context.now bytes.now) }
+    ensures { result
+        ≡ fit_by (begins_service bytes.now) false (service_unit context.now bytes.now) }
 {
     match bytes {
         [] => Fit::Open,
-        [byte, rest @ ..] => service_behind(context, *byte, rest),
+        [byte, rest @ ..] => service_after(context, *byte, rest),
     }
 }
 
 /// A position.
-#[tactic(auto, unfolding(crate::specs::Units::position))]
-fn position(context: &Context, row: u8, column: u8) -> Closed
-    ensures { result ≡ position context.now row column }
+#[tactic(auto, unfolding(crate::specs::Units::us_position))]
+fn us_position(context: &Context, row: u8, column: u8) -> Outcome
+    ensures { result ≡ us_position context.now row column }
 {
     if is_row(row) && is_column(column) {
-        context.closed(
+        context.outcome(
             Mode::Text,
             Said::Command(Command::Position(row - 0x40, column - 0x40)),
         )
     } else {
-        context.closed(Mode::Text, Said::Refused(Reason::BadParameter))
+        context.outcome(Mode::Text, Said::Refused(Reason::BadParameter))
     }
 }
 
-/// The bytes behind 1F and a byte.
+/// The bytes after 1F and a byte.
 #[tactic(auto, unfolding(crate::specs::Units::us_unit, crate::specs::Units::begins_us, crate::specs::Units::us_grows))]
-fn us_behind(context: &Context, byte: u8, rest: &[u8]) -> Fit
-    ensures { result ≡ fit_by (begins_us (byte ∷ rest.now)) (us_grows (byte ∷ rest.now)) (us_unit context.now (byte ∷ rest.now)) }
+fn us_after(context: &Context, byte: u8, rest: &[u8]) -> Fit
+    ensures { result
+        ≡ fit_by (begins_us (byte ∷ rest.now)) (us_grows (byte ∷ rest.now))
+        (us_unit context.now (byte ∷ rest.now)) }
 {
     match byte {
         0x23 => drcs_fit(context, rest),
@@ -345,108 +378,112 @@ fn us_behind(context: &Context, byte: u8, rest: &[u8]) -> Fit
     }
 }
 
-/// US: what stands behind 1F.
+/// US: what stands after 1F.
 #[tactic(auto, unfolding(crate::specs::Units::us_unit, crate::specs::Units::begins_us, crate::specs::Units::us_grows))]
 pub fn us_fit(context: &Context, bytes: &[u8]) -> Fit
-    ensures { result ≡ fit_by (begins_us bytes.now) (us_grows bytes.now) (us_unit context.now bytes.now) }
+    ensures { result
+        ≡ fit_by (begins_us bytes.now) (us_grows bytes.now) (us_unit context.now bytes.now) }
 {
     match bytes {
         [] => Fit::Open,
-        [byte, rest @ ..] => us_behind(context, *byte, rest),
+        [byte, rest @ ..] => us_after(context, *byte, rest),
     }
 }
 
-/// What whole bytes say behind 1F 23 and a byte.
-#[tactic(auto, unfolding(crate::specs::Told::drcs_told))]
-fn drcs_closed_behind(context: &Context, byte: u8, rest: &[u8]) -> Closed
-    ensures { result ≡ drcs_told context.now (byte ∷ rest.now) }
+/// What whole bytes say after 1F 23 and a byte.
+#[tactic(auto, unfolding(crate::specs::Outcome::drcs_outcome))]
+fn drcs_closed_after(context: &Context, byte: u8, rest: &[u8]) -> Outcome
+    ensures { result ≡ drcs_outcome context.now (byte ∷ rest.now) }
 {
     match byte {
         0x20 => drcs_header(context, rest),
-        0x21..=0x7E => context.closed(Mode::DrcsRun(byte), Said::Command(Command::DrcsStart(byte))),
-        _ => context.closed(Mode::Skip, Said::Refused(Reason::BadParameter)),
+        0x21..=0x7E => context.outcome(
+            Mode::DrcsRun(byte),
+            Said::Command(Command::DrcsStart(byte)),
+        ),
+        _ => context.outcome(Mode::Skip, Said::Refused(Reason::BadParameter)),
     }
 }
 
-/// What whole bytes say behind 1F 23.
-#[tactic(auto, unfolding(crate::specs::Told::drcs_told))]
-fn drcs_closed(context: &Context, bytes: &[u8]) -> Closed
-    ensures { result ≡ drcs_told context.now bytes.now }
+/// What whole bytes say after 1F 23.
+#[tactic(auto, unfolding(crate::specs::Outcome::drcs_outcome))]
+fn drcs_outcome(context: &Context, bytes: &[u8]) -> Outcome
+    ensures { result ≡ drcs_outcome context.now bytes.now }
 {
     match bytes {
-        [] => context.closed(Mode::Skip, Said::Refused(Reason::BadParameter)),
-        [byte, rest @ ..] => drcs_closed_behind(context, *byte, rest),
+        [] => context.outcome(Mode::Skip, Said::Refused(Reason::BadParameter)),
+        [byte, rest @ ..] => drcs_closed_after(context, *byte, rest),
     }
 }
 
-/// What whole bytes say behind 1F 26 and a byte.
-#[tactic(auto, unfolding(crate::specs::Told::colour_told))]
-fn colour_closed_behind(context: &Context, byte: u8, rest: &[u8]) -> Closed
-    ensures { result ≡ colour_told context.now (byte ∷ rest.now) }
+/// What whole bytes say after 1F 26 and a byte.
+#[tactic(auto, unfolding(crate::specs::Outcome::colour_outcome))]
+fn colour_closed_after(context: &Context, byte: u8, rest: &[u8]) -> Outcome
+    ensures { result ≡ colour_outcome context.now (byte ∷ rest.now) }
 {
     match byte {
         0x20 => colour_header(context, rest),
-        0x21 => context.closed(Mode::Skip, Said::Command(Command::ColourDefaults)),
-        0x30..=0x39 => colour_start(context, byte, first_of(rest)),
-        _ => context.closed(Mode::Skip, Said::Refused(Reason::BadParameter)),
+        0x21 => context.outcome(Mode::Skip, Said::Command(Command::ColourDefaults)),
+        0x30..=0x39 => colour_start(context, byte, first_byte(rest)),
+        _ => context.outcome(Mode::Skip, Said::Refused(Reason::BadParameter)),
     }
 }
 
-/// What whole bytes say behind 1F 26.
-#[tactic(auto, unfolding(crate::specs::Told::colour_told))]
-fn colour_closed(context: &Context, bytes: &[u8]) -> Closed
-    ensures { result ≡ colour_told context.now bytes.now }
+/// What whole bytes say after 1F 26.
+#[tactic(auto, unfolding(crate::specs::Outcome::colour_outcome))]
+fn colour_outcome(context: &Context, bytes: &[u8]) -> Outcome
+    ensures { result ≡ colour_outcome context.now bytes.now }
 {
     match bytes {
-        [] => context.closed(Mode::Skip, Said::Refused(Reason::BadParameter)),
-        [byte, rest @ ..] => colour_closed_behind(context, *byte, rest),
+        [] => context.outcome(Mode::Skip, Said::Refused(Reason::BadParameter)),
+        [byte, rest @ ..] => colour_closed_after(context, *byte, rest),
     }
 }
 
-/// What whole bytes say behind 1F 2F and a byte.
-#[tactic(auto, unfolding(crate::specs::Told::service_told))]
-fn service_closed_behind(context: &Context, byte: u8, rest: &[u8]) -> Closed
-    ensures { result ≡ service_told context.now (byte ∷ rest.now) }
+/// What whole bytes say after 1F 2F and a byte.
+#[tactic(auto, unfolding(crate::specs::Outcome::service_outcome))]
+fn service_closed_after(context: &Context, byte: u8, rest: &[u8]) -> Outcome
+    ensures { result ≡ service_outcome context.now (byte ∷ rest.now) }
 {
     match byte {
-        0x40 => service_break(context, first_of(rest)),
+        0x40 => service_break(context, first_byte(rest)),
         _ => service(context, byte),
     }
 }
 
-/// What whole bytes say behind 1F 2F.
-#[tactic(auto, unfolding(crate::specs::Told::service_told))]
-fn service_closed(context: &Context, bytes: &[u8]) -> Closed
-    ensures { result ≡ service_told context.now bytes.now }
+/// What whole bytes say after 1F 2F.
+#[tactic(auto, unfolding(crate::specs::Outcome::service_outcome))]
+fn service_outcome(context: &Context, bytes: &[u8]) -> Outcome
+    ensures { result ≡ service_outcome context.now bytes.now }
 {
     match bytes {
-        [] => context.closed(Mode::Skip, Said::Refused(Reason::BadParameter)),
-        [byte, rest @ ..] => service_closed_behind(context, *byte, rest),
+        [] => context.outcome(Mode::Skip, Said::Refused(Reason::BadParameter)),
+        [byte, rest @ ..] => service_closed_after(context, *byte, rest),
     }
 }
 
-/// What whole bytes say behind 1F and a byte.
-#[tactic(auto, unfolding(crate::specs::Told::us_told))]
-fn us_closed_behind(context: &Context, byte: u8, rest: &[u8]) -> Closed
-    ensures { result ≡ us_told context.now (byte ∷ rest.now) }
+/// What whole bytes say after 1F and a byte.
+#[tactic(auto, unfolding(crate::specs::Outcome::us_outcome))]
+fn us_closed_after(context: &Context, byte: u8, rest: &[u8]) -> Outcome
+    ensures { result ≡ us_outcome context.now (byte ∷ rest.now) }
 {
     match byte {
-        0x23 => drcs_closed(context, rest),
-        0x26 => colour_closed(context, rest),
+        0x23 => drcs_outcome(context, rest),
+        0x26 => colour_outcome(context, rest),
         0x2D => format(context, rest),
-        0x2F => service_closed(context, rest),
-        0x20..=0x3F => context.closed(Mode::Skip, Said::Refused(Reason::UnknownUnit)),
-        _ => position(context, byte, first_of(rest)),
+        0x2F => service_outcome(context, rest),
+        0x20..=0x3F => context.outcome(Mode::Skip, Said::Refused(Reason::UnknownUnit)),
+        _ => us_position(context, byte, first_byte(rest)),
     }
 }
 
-/// What whole bytes say behind 1F.
-#[tactic(auto, unfolding(crate::specs::Told::us_told))]
-pub fn us_closed(context: &Context, bytes: &[u8]) -> Closed
-    ensures { result ≡ us_told context.now bytes.now }
+/// What whole bytes say after 1F.
+#[tactic(auto, unfolding(crate::specs::Outcome::us_outcome))]
+pub fn us_outcome(context: &Context, bytes: &[u8]) -> Outcome
+    ensures { result ≡ us_outcome context.now bytes.now }
 {
     match bytes {
-        [] => context.closed(Mode::Skip, Said::Refused(Reason::UnknownUnit)),
-        [byte, rest @ ..] => us_closed_behind(context, *byte, rest),
+        [] => context.outcome(Mode::Skip, Said::Refused(Reason::UnknownUnit)),
+        [byte, rest @ ..] => us_closed_after(context, *byte, rest),
     }
 }

@@ -1,11 +1,14 @@
 -- Valid control: the initial state is valid, and every valid command keeps it valid.
-use Rattle.std.proofs.Common.{◌≡◌, ℕ, ◌+◌, ◌-◌, ◌≤◌, zero, suc, Bool, true, false, min, cond, eqb, leb, ltb, Option, Some, None, inl, inr, refl, subst, arith}
+use Rattle.std.proofs.Common.{◌≡◌, ℕ, ◌+◌, ◌-◌, ◌≤◌, zero, suc, Bool, true, false, min, cond, eqb, leb, ltb, Option}
+use Rattle.std.proofs.Common.{Some, None, inl, inr, refl, subst, arith}
 use Rattle.std.specs.Prelude.{IfSome}
 use Rattle.std.proofs.lemmas.Bool.{cond_both, eqb-false, ltb-true, leb-true}
 use Rattle.std.proofs.lemmas.Bool.Decides.{nat_tests}
 use Rattle.cept_codes.specs.declared.attribute.Attr.{Attr}
 use Rattle.cept_codes.specs.declared.attribute.Attr.TheVariants as attrs
 use Rattle.cept_codes.specs.declared.attribute.Pen.{Pen}
+use Rattle.cept_codes.specs.declared.cell.Marker.{Marker}
+use Rattle.cept_codes.specs.declared.cell.Marker.TheVariants as markers
 use Rattle.cept_codes.specs.declared.command.C1Set.{C1Set}
 use Rattle.cept_codes.specs.declared.command.C1Set.TheVariants as c1sets
 use Rattle.cept_codes.specs.declared.command.Command.{Command}
@@ -15,38 +18,46 @@ use Rattle.cept_codes.specs.declared.glyph.Read.{Read}
 use Rattle.cept_codes.specs.declared.glyph.Read.TheVariants as reads
 use Rattle.cept_codes.specs.declared.glyph.SetId.{SetId}
 use Rattle.cept_codes.specs.declared.glyph.SetId.TheVariants as sets
-use Rattle.cept_codes.specs.Attribute.{IsValidAttr, IsValidPen, unset}
+use Rattle.cept_codes.specs.Attribute.{IsValidAttr, IsValidPen, unset_pen}
 use Rattle.cept_codes.specs.Command.{IsGraphic, IsValidCommand}
 use Rattle.cept_codes.specs.Glyph.{IsCodeOf, IsValidGlyph}
 use Rattle.cept_codes.specs.Place.{OnScreen}
-use Rattle.cept_profile.specs.Control.{Working, ControlState, initial, initial_sets, initial_working, with_working, moved_to, with_sets, run_ended, pen_unset, accent_dropped, leaves_accent, ready, working_after, control_after}
-use Rattle.cept_profile.specs.Motions.{row_below, row_above, moved_on, moved_back}
-use Rattle.cept_profile.specs.Pens.{attribute_of, with_attribute, with_any, is_flash, coded, fast_after, flash_of, flashing, revealed}
-use Rattle.cept_profile.specs.Sets.{Sets, IsAccent, IsValidRead, code_of, designated, locked_left, locked_right, set_of, shifted, unshifted}
+use Rattle.cept_profile.specs.Control.{Working, ControlState, initial_control, initial_sets, initial_working}
+use Rattle.cept_profile.specs.Control.{control_with, working_at, working_with_sets, with_c1, working_without_run}
+use Rattle.cept_profile.specs.Control.{working_without_pen, working_without_accent, finds_accent, state_for_effect}
+use Rattle.cept_profile.specs.Control.{control_effect, control_after}
+use Rattle.cept_profile.specs.Markers.{marker_of, run_after, working_after_any_marker, working_after_marker}
+use Rattle.cept_profile.specs.Motions.{row_below, row_above, working_ahead, working_back}
+use Rattle.cept_profile.specs.Pens.{attribute_of, pen_with, pen_with_any, is_flash, working_after_code, fast_after}
+use Rattle.cept_profile.specs.Pens.{fast_after_code, flash_of, working_after_flash, working_after_reveal}
+use Rattle.cept_profile.specs.Sets.{Sets, IsAccent, IsValidRead, code_of, sets_with, sets_with_left, sets_with_right}
+use Rattle.cept_profile.specs.Sets.{set_of, sets_with_single, sets_without_single}
 use Rattle.cept_profile.specs.Valid.{AreValidSets, IsValidWorking, IsValidControl}
-use Rattle.cept_profile.specs.Writing.{accented, behind_copies, behind_read, repeated, taken, with_taken, written}
-use Rattle.cept_profile.proofs.Reading.{IsCode-code_of, IsValidRead-read_as}
+use Rattle.cept_profile.specs.Writing.{sign_with_accent, control_after_copies, working_after_read, working_after_repeat}
+use Rattle.cept_profile.specs.Writing.{graphic_result, control_with_result, working_after_sign}
+use Rattle.cept_profile.proofs.CodesRead.{IsCode-code_of, IsValidRead-read_as}
 
-pub IsValidPen-unset : IsValidPen unset
-IsValidPen-unset = record { fore = tt; back = tt }
+pub IsValidPen-unset_pen : IsValidPen unset_pen
+IsValidPen-unset_pen = record { fore = tt; back = tt }
 
-AreValidSets-initial : AreValidSets initial_sets
-AreValidSets-initial = record { left = omega arith; right = (omega arith, omega arith); single = tt }
+AreValidSets-initial_control : AreValidSets initial_sets
+AreValidSets-initial_control = record { left = omega arith; right = (omega arith, omega arith); single = tt }
 
-pub IsValidWorking-initial : IsValidWorking initial_working
-IsValidWorking-initial = record {
+pub IsValidWorking-initial_control : IsValidWorking initial_working
+IsValidWorking-initial_control = record {
   place = record { from_top = omega arith; to_bottom = omega arith; from_left = omega arith; to_right = omega arith };
-  sets = AreValidSets-initial;
+  sets = AreValidSets-initial_control;
   accent = tt;
   last = tt;
-  pen = IsValidPen-unset;
+  pen = IsValidPen-unset_pen;
   fast = omega arith;
   step = inl refl;
   table = omega arith;
 }
 
-pub IsValidControl-initial : IsValidControl initial
-IsValidControl-initial = record { working = IsValidWorking-initial; rows = inl refl; within = omega arith; area = tt; kept = tt }
+pub IsValidControl-initial_control : IsValidControl initial_control
+IsValidControl-initial_control = record
+    { working = IsValidWorking-initial_control; rows = inl refl; within = omega arith; area = tt; kept = tt }
 
 -- ---- the working state of a format of so many rows
 
@@ -57,28 +68,58 @@ pub record IsWithin (rows : ℕ) (w : Working) : Type 0 where
 pub IsWithin-control : (s : ControlState) → IsValidControl s → IsWithin s.rows s.working
 IsWithin-control s is = record { valid = is.working; row = is.within }
 
-pub IsWithin-moved_to : (rows r c : ℕ) (w : Working) → IsWithin rows w → OnScreen r c → r ≤ rows → IsWithin rows (moved_to r c w)
-IsWithin-moved_to rows r c w is on row = record {
-  valid = record { place = on; sets = is.valid.sets; accent = is.valid.accent; last = is.valid.last; pen = is.valid.pen; fast = is.valid.fast; step = is.valid.step; table = is.valid.table };
+pub IsWithin-working_at : (rows r c : ℕ) (w : Working) → IsWithin rows w → OnScreen r c → r ≤ rows
+    → IsWithin rows (working_at r c w)
+IsWithin-working_at rows r c w is on row = record {
+  valid = record {
+    place = on;
+    sets = is.valid.sets;
+    accent = is.valid.accent;
+    last = is.valid.last;
+    pen = is.valid.pen;
+    fast = is.valid.fast;
+    step = is.valid.step;
+    table = is.valid.table;
+  };
   row = row;
 }
 
-pub IsWithin-run_ended : (rows : ℕ) (w : Working) → IsWithin rows w → IsWithin rows (run_ended w)
-IsWithin-run_ended rows w is = record {
-  valid = record { place = is.valid.place; sets = is.valid.sets; accent = is.valid.accent; last = is.valid.last; pen = is.valid.pen; fast = is.valid.fast; step = inl refl; table = is.valid.table };
+pub IsWithin-working_without_run : (rows : ℕ) (w : Working) → IsWithin rows w → IsWithin rows (working_without_run w)
+IsWithin-working_without_run rows w is = record {
+  valid = record {
+    place = is.valid.place;
+    sets = is.valid.sets;
+    accent = is.valid.accent;
+    last = is.valid.last;
+    pen = is.valid.pen;
+    fast = is.valid.fast;
+    step = inl refl;
+    table = is.valid.table;
+  };
   row = is.row;
 }
 
-pub IsWithin-pen_unset : (rows : ℕ) (w : Working) → IsWithin rows w → IsWithin rows (pen_unset w)
-IsWithin-pen_unset rows w is = record {
-  valid = record { place = is.valid.place; sets = is.valid.sets; accent = is.valid.accent; last = is.valid.last; pen = IsValidPen-unset; fast = omega arith; step = is.valid.step; table = is.valid.table };
+pub IsWithin-working_without_pen : (rows : ℕ) (w : Working) → IsWithin rows w → IsWithin rows (working_without_pen w)
+IsWithin-working_without_pen rows w is = record {
+  valid = record {
+    place = is.valid.place;
+    sets = is.valid.sets;
+    accent = is.valid.accent;
+    last = is.valid.last;
+    pen = IsValidPen-unset_pen;
+    fast = omega arith;
+    step = is.valid.step;
+    table = is.valid.table;
+  };
   row = is.row;
 }
 
 -- at another place, with no run and no pen
-pub IsWithin-fresh : (rows r c : ℕ) (w : Working) → IsWithin rows w → OnScreen r c → r ≤ rows → IsWithin rows (pen_unset (run_ended (moved_to r c w)))
+pub IsWithin-fresh : (rows r c : ℕ) (w : Working) → IsWithin rows w → OnScreen r c → r ≤ rows
+    → IsWithin rows (working_without_pen (working_without_run (working_at r c w)))
 IsWithin-fresh rows r c w is on row =
-    IsWithin-pen_unset rows (run_ended (moved_to r c w)) (IsWithin-run_ended rows (moved_to r c w) (IsWithin-moved_to rows r c w is on row))
+    IsWithin-working_without_pen rows (working_without_run (working_at r c w))
+    (IsWithin-working_without_run rows (working_at r c w) (IsWithin-working_at rows r c w is on row))
 
 -- the row below is a row of the format
 pub row_below-from_top : (s : ControlState) (r : ℕ) → 1 ≤ r → 1 ≤ row_below s r
@@ -96,24 +137,34 @@ row_below-within s r top within =
 pub rows-bounds : (s : ControlState) → IsValidControl s → (20 ≤ s.rows) × (s.rows ≤ 24)
 rows-bounds s is = (omega (arith, is.rows), omega (arith, is.rows))
 
-pub OnScreen-row_below : (s : ControlState) (r c : ℕ) → IsValidControl s → OnScreen r c → r ≤ s.rows → OnScreen (row_below s r) c
+pub OnScreen-row_below : (s : ControlState) (r c : ℕ) → IsValidControl s → OnScreen r c → r ≤ s.rows
+    → OnScreen (row_below s r) c
 OnScreen-row_below s r c is on row =
     let low = row_below-from_top s r on.from_top in
     let high = row_below-within s r on.from_top row in
     let bounds = rows-bounds s is in
     record { from_top = low; to_bottom = omega arith; from_left = on.from_left; to_right = on.to_right }
 
-pub IsWithin-moved_on : (s : ControlState) (n : ℕ) → IsValidControl s → IsWithin s.rows (moved_on s n s.working)
-IsWithin-moved_on s n is =
+pub IsWithin-working_ahead : (s : ControlState) (n : ℕ) → IsValidControl s
+    → IsWithin s.rows (working_ahead s n s.working)
+IsWithin-working_ahead s n is =
     let w : Working = s.working in
     let on : OnScreen w.row w.column = is.working.place in
     let bounds = rows-bounds s is in
-    cond_both (leb (w.column + n) 40) (moved_to w.row (w.column + n) w) (cond s.wrap (moved_to (row_below s w.row) 1 w) (moved_to w.row 40 w)) (IsWithin s.rows)
+    cond_both (leb (w.column + n) 40) (working_at w.row (w.column + n) w)
+    (cond s.wrap (working_at (row_below s w.row) 1 w) (working_at w.row 40 w)) (IsWithin s.rows)
     (λ e. let within = leb-true (w.column + n) 40 e in
-    IsWithin-moved_to s.rows w.row (w.column + n) w (IsWithin-control s is) (record { from_top = on.from_top; to_bottom = on.to_bottom; from_left = omega arith; to_right = within }) is.within)
-    (λ e. cond_both s.wrap (moved_to (row_below s w.row) 1 w) (moved_to w.row 40 w) (IsWithin s.rows)
-    (λ wraps. IsWithin-moved_to s.rows (row_below s w.row) 1 w (IsWithin-control s is) (OnScreen-row_below s w.row 1 is (record { from_top = on.from_top; to_bottom = on.to_bottom; from_left = omega arith; to_right = omega arith }) is.within) (row_below-within s w.row on.from_top is.within))
-    (λ stays. IsWithin-moved_to s.rows w.row 40 w (IsWithin-control s is) (record { from_top = on.from_top; to_bottom = on.to_bottom; from_left = omega arith; to_right = omega arith }) is.within))
+    IsWithin-working_at s.rows w.row (w.column + n) w (IsWithin-control s is)
+    (record { from_top = on.from_top; to_bottom = on.to_bottom; from_left = omega arith; to_right = within })
+    is.within)
+    (λ e. cond_both s.wrap (working_at (row_below s w.row) 1 w) (working_at w.row 40 w) (IsWithin s.rows)
+    (λ wraps. IsWithin-working_at s.rows (row_below s w.row) 1 w (IsWithin-control s is)
+    (OnScreen-row_below s w.row 1 is
+    (record { from_top = on.from_top; to_bottom = on.to_bottom; from_left = omega arith; to_right = omega arith })
+    is.within) (row_below-within s w.row on.from_top is.within))
+    (λ stays. IsWithin-working_at s.rows w.row 40 w (IsWithin-control s is)
+    (record { from_top = on.from_top; to_bottom = on.to_bottom; from_left = omega arith; to_right = omega arith })
+    is.within))
 
 -- the row above is a row of the format
 pub row_above-from_top : (s : ControlState) (r : ℕ) → 1 ≤ s.rows → 1 ≤ r → 1 ≤ row_above s r
@@ -129,67 +180,101 @@ row_above-within s r within =
     (λ e. omega arith)
 
 -- a row of the format, in a column
-IsWithin-row : (s : ControlState) (r c : ℕ) → IsValidControl s → 1 ≤ r → r ≤ s.rows → 1 ≤ c → c ≤ 40 → IsWithin s.rows (moved_to r c s.working)
+IsWithin-row : (s : ControlState) (r c : ℕ) → IsValidControl s → 1 ≤ r → r ≤ s.rows → 1 ≤ c → c ≤ 40
+    → IsWithin s.rows (working_at r c s.working)
 IsWithin-row s r c is top within left right =
     let bounds = rows-bounds s is in
-    IsWithin-moved_to s.rows r c s.working (IsWithin-control s is) (record { from_top = top; to_bottom = omega arith; from_left = left; to_right = right }) within
+    IsWithin-working_at s.rows r c s.working (IsWithin-control s is)
+    (record { from_top = top; to_bottom = omega arith; from_left = left; to_right = right }) within
 
-pub IsWithin-row_above : (s : ControlState) (c : ℕ) → IsValidControl s → 1 ≤ c → c ≤ 40 → IsWithin s.rows (moved_to (row_above s s.working.row) c s.working)
+pub IsWithin-row_above : (s : ControlState) (c : ℕ) → IsValidControl s → 1 ≤ c → c ≤ 40
+    → IsWithin s.rows (working_at (row_above s s.working.row) c s.working)
 IsWithin-row_above s c is left right =
     let bounds = rows-bounds s is in
-    IsWithin-row s (row_above s s.working.row) c is (row_above-from_top s s.working.row (omega arith) is.working.place.from_top) (row_above-within s s.working.row is.within) left right
+    IsWithin-row s (row_above s s.working.row) c is
+    (row_above-from_top s s.working.row (omega arith) is.working.place.from_top)
+    (row_above-within s s.working.row is.within) left right
 
-pub IsWithin-moved_back : (s : ControlState) → IsValidControl s → IsWithin s.rows (moved_back s s.working)
-IsWithin-moved_back s is =
+pub IsWithin-working_back : (s : ControlState) → IsValidControl s → IsWithin s.rows (working_back s s.working)
+IsWithin-working_back s is =
     let w : Working = s.working in
     let on : OnScreen w.row w.column = is.working.place in
-    cond_both (eqb w.column 1) (cond s.wrap (moved_to (row_above s w.row) 40 w) w) (moved_to w.row (w.column - 1) w) (IsWithin s.rows)
-    (λ e. cond_both s.wrap (moved_to (row_above s w.row) 40 w) w (IsWithin s.rows) (λ wraps. IsWithin-row_above s 40 is (omega arith) (omega arith)) (λ stays. IsWithin-control s is))
-    (λ e. let other = eqb-false w.column 1 e in IsWithin-row s w.row (w.column - 1) is on.from_top is.within (omega arith) (omega arith))
+    cond_both (eqb w.column 1) (cond s.wrap (working_at (row_above s w.row) 40 w) w)
+    (working_at w.row (w.column - 1) w) (IsWithin s.rows)
+    (λ e. cond_both s.wrap (working_at (row_above s w.row) 40 w) w (IsWithin s.rows)
+    (λ wraps. IsWithin-row_above s 40 is (omega arith) (omega arith)) (λ stays. IsWithin-control s is))
+    (λ e. let other = eqb-false w.column 1 e in IsWithin-row s w.row (w.column - 1) is on.from_top is.within
+    (omega arith) (omega arith))
 
 -- ---- sets
 
-pub AreValidSets-designated : (s : Sets) (g : ℕ) (set : SetId) → AreValidSets s → AreValidSets (designated s g set)
-AreValidSets-designated s g set is =
-    cond_both (eqb g 0) (record s { g0 = set }) (cond (eqb g 1) (record s { g1 = set }) (cond (eqb g 2) (record s { g2 = set }) (record s { g3 = set }))) AreValidSets
+pub AreValidSets-sets_with : (s : Sets) (g : ℕ) (set : SetId) → AreValidSets s → AreValidSets (sets_with s g set)
+AreValidSets-sets_with s g set is =
+    cond_both (eqb g 0) (record s { g0 = set })
+    (cond (eqb g 1) (record s { g1 = set })
+    (cond (eqb g 2) (record s { g2 = set }) (record s { g3 = set }))) AreValidSets
     (λ e. record { left = is.left; right = is.right; single = is.single })
-    (λ e. cond_both (eqb g 1) (record s { g1 = set }) (cond (eqb g 2) (record s { g2 = set }) (record s { g3 = set })) AreValidSets
+    (λ e. cond_both (eqb g 1) (record s { g1 = set })
+    (cond (eqb g 2) (record s { g2 = set }) (record s { g3 = set })) AreValidSets
     (λ e'. record { left = is.left; right = is.right; single = is.single })
     (λ e'. cond_both (eqb g 2) (record s { g2 = set }) (record s { g3 = set }) AreValidSets
     (λ e''. record { left = is.left; right = is.right; single = is.single })
     (λ e''. record { left = is.left; right = is.right; single = is.single })))
 
-pub IsWithin-with_sets : (rows : ℕ) (sets : Sets) (w : Working) → IsWithin rows w → AreValidSets sets → IsWithin rows (with_sets sets w)
-IsWithin-with_sets rows sets w is valid = record {
-  valid = record { place = is.valid.place; sets = valid; accent = is.valid.accent; last = is.valid.last; pen = is.valid.pen; fast = is.valid.fast; step = is.valid.step; table = is.valid.table };
+pub IsWithin-working_with_sets : (rows : ℕ) (sets : Sets) (w : Working) → IsWithin rows w → AreValidSets sets
+    → IsWithin rows (working_with_sets sets w)
+IsWithin-working_with_sets rows sets w is valid = record {
+  valid = record {
+    place = is.valid.place;
+    sets = valid;
+    accent = is.valid.accent;
+    last = is.valid.last;
+    pen = is.valid.pen;
+    fast = is.valid.fast;
+    step = is.valid.step;
+    table = is.valid.table;
+  };
   row = is.row;
 }
 
 -- ---- pens
 
-pub IsWithin-pen : (rows : ℕ) (pen : Pen) (fast : ℕ) (w : Working) → IsWithin rows w → IsValidPen pen → fast ≤ 3 → IsWithin rows (record w { pen = pen; fast = fast })
+pub IsWithin-pen : (rows : ℕ) (pen : Pen) (fast : ℕ) (w : Working) → IsWithin rows w → IsValidPen pen → fast ≤ 3
+    → IsWithin rows (record w { pen = pen; fast = fast })
 IsWithin-pen rows pen fast w is valid_pen valid_fast = record {
-  valid = record { place = is.valid.place; sets = is.valid.sets; accent = is.valid.accent; last = is.valid.last; pen = valid_pen; fast = valid_fast; step = is.valid.step; table = is.valid.table };
+  valid = record {
+    place = is.valid.place;
+    sets = is.valid.sets;
+    accent = is.valid.accent;
+    last = is.valid.last;
+    pen = valid_pen;
+    fast = valid_fast;
+    step = is.valid.step;
+    table = is.valid.table;
+  };
   row = is.row;
 }
 
-pub IsValidPen-with_attribute : (attribute : Attr) (p : Pen) → IsValidAttr attribute → IsValidPen p → IsValidPen (with_attribute attribute p)
-IsValidPen-with_attribute (attrs.Fore e) p valid is = record { fore = valid; back = is.back }
-IsValidPen-with_attribute (attrs.Back e) p valid is = record { fore = is.fore; back = valid }
-IsValidPen-with_attribute attrs.NoBack p valid is = record { fore = is.fore; back = tt }
-IsValidPen-with_attribute (attrs.Flash f) p valid is = record { fore = is.fore; back = is.back }
-IsValidPen-with_attribute (attrs.Conceal b) p valid is = record { fore = is.fore; back = is.back }
-IsValidPen-with_attribute (attrs.Lined b) p valid is = record { fore = is.fore; back = is.back }
-IsValidPen-with_attribute (attrs.Boxed b) p valid is = record { fore = is.fore; back = is.back }
-IsValidPen-with_attribute (attrs.Size s) p valid is = record { fore = is.fore; back = is.back }
-IsValidPen-with_attribute (attrs.Invert b) p valid is = record { fore = is.fore; back = is.back }
+pub IsValidPen-pen_with : (attribute : Attr) (p : Pen) → IsValidAttr attribute → IsValidPen p
+    → IsValidPen (pen_with attribute p)
+IsValidPen-pen_with (attrs.Fore e) p valid is = record { fore = valid; back = is.back }
+IsValidPen-pen_with (attrs.Back e) p valid is = record { fore = is.fore; back = valid }
+IsValidPen-pen_with attrs.NoBack p valid is = record { fore = is.fore; back = tt }
+IsValidPen-pen_with (attrs.Flash f) p valid is = record { fore = is.fore; back = is.back }
+IsValidPen-pen_with (attrs.Conceal b) p valid is = record { fore = is.fore; back = is.back }
+IsValidPen-pen_with (attrs.Lined b) p valid is = record { fore = is.fore; back = is.back }
+IsValidPen-pen_with (attrs.Boxed b) p valid is = record { fore = is.fore; back = is.back }
+IsValidPen-pen_with (attrs.Size s) p valid is = record { fore = is.fore; back = is.back }
+IsValidPen-pen_with (attrs.Invert b) p valid is = record { fore = is.fore; back = is.back }
 
-IsValidPen-with_any : (attribute : Option Attr) (p : Pen) → IfSome attribute IsValidAttr → IsValidPen p → IsValidPen (with_any attribute p)
-IsValidPen-with_any None p valid is = is
-IsValidPen-with_any (Some attribute) p valid is = IsValidPen-with_attribute attribute p valid is
+IsValidPen-pen_with_any : (attribute : Option Attr) (p : Pen) → IfSome attribute IsValidAttr → IsValidPen p
+    → IsValidPen (pen_with_any attribute p)
+IsValidPen-pen_with_any None p valid is = is
+IsValidPen-pen_with_any (Some attribute) p valid is = IsValidPen-pen_with attribute p valid is
 
 -- an attribute, or none, of a choice
-IsValid-choice : (test : Bool) (x y : Option Attr) → (test ≡ true → IfSome x IsValidAttr) → (test ≡ false → IfSome y IsValidAttr) → IfSome (cond test x y) IsValidAttr
+IsValid-choice : (test : Bool) (x y : Option Attr) → (test ≡ true → IfSome x IsValidAttr)
+    → (test ≡ false → IfSome y IsValidAttr) → IfSome (cond test x y) IsValidAttr
 IsValid-choice test x y holds fails = cond_both test x y (λ a. IfSome a IsValidAttr) holds fails
 
 pub IsValid-attribute_of : (table n : ℕ) → table ≤ 3 → IfSome (attribute_of table n) IsValidAttr
@@ -213,139 +298,305 @@ IsValid-attribute_of table n low =
 pub fast_after-in_range : (mode fast : ℕ) → fast ≤ 3 → fast_after mode fast ≤ 3
 fast_after-in_range mode fast low = grind (arith, nat_tests)
 
-IsWithin-coded : (rows : ℕ) (c1 : C1Set) (n : ℕ) (w : Working) → IsWithin rows w → IsWithin rows (coded c1 n w)
-IsWithin-coded rows c1sets.Parallel n w is =
-    IsWithin-pen rows (with_any (attribute_of w.table n) w.pen) (cond (is_flash n) 0 w.fast) w is
-    (IsValidPen-with_any (attribute_of w.table n) w.pen (IsValid-attribute_of w.table n is.valid.table) is.valid.pen)
-    (cond_both (is_flash n) 0 w.fast (λ k. k ≤ 3) (λ e. omega arith) (λ e. is.valid.fast))
-IsWithin-coded rows c1sets.Serial n w is = is
+-- the fast flash after a code of flash or another
+fast_after_code-in_range : (n fast : ℕ) → fast ≤ 3 → fast_after_code n fast ≤ 3
+fast_after_code-in_range n fast low = cond_both (is_flash n) 0 fast (λ k. k ≤ 3) (λ e. omega arith) (λ e. low)
 
-IsWithin-flashing : (rows : ℕ) (c1 : C1Set) (mode : ℕ) (w : Working) → IsWithin rows w → IsWithin rows (flashing c1 mode w)
-IsWithin-flashing rows c1sets.Parallel mode w is =
-    IsWithin-pen rows (with_attribute (attrs.Flash (flash_of mode w.fast)) w.pen) (fast_after mode w.fast) w is
-    (IsValidPen-with_attribute (attrs.Flash (flash_of mode w.fast)) w.pen tt is.valid.pen)
-    (fast_after-in_range mode w.fast is.valid.fast)
-IsWithin-flashing rows c1sets.Serial mode w is = is
-
-IsWithin-revealed : (rows : ℕ) (c1 : C1Set) (w : Working) → IsWithin rows w → IsWithin rows (revealed c1 w)
-IsWithin-revealed rows c1sets.Parallel w is =
-    IsWithin-pen rows (with_attribute (attrs.Conceal false) w.pen) w.fast w is (IsValidPen-with_attribute (attrs.Conceal false) w.pen tt is.valid.pen) is.valid.fast
-IsWithin-revealed rows c1sets.Serial w is = is
-
--- ---- signs and accents
-
-pub IsValidControl-with_working : (s : ControlState) (w : Working) → IsValidControl s → IsWithin s.rows w → IsValidControl (with_working s w)
-IsValidControl-with_working s w is within = record { working = within.valid; rows = is.rows; within = within.row; area = is.area; kept = is.kept }
-
-IsWithin-accent : (rows : ℕ) (accent : Option ℕ) (w : Working) → IsWithin rows w → IfSome accent IsAccent → IsWithin rows (record w { accent = accent })
-IsWithin-accent rows accent w is valid = record {
-  valid = record { place = is.valid.place; sets = is.valid.sets; accent = valid; last = is.valid.last; pen = is.valid.pen; fast = is.valid.fast; step = is.valid.step; table = is.valid.table };
+-- another run, and another fast flash
+IsWithin-run : (rows : ℕ) (run : Bool) (w : Working) → IsWithin rows w → IsWithin rows (record w { run = run })
+IsWithin-run rows run w is = record {
+  valid = record {
+    place = is.valid.place;
+    sets = is.valid.sets;
+    accent = is.valid.accent;
+    last = is.valid.last;
+    pen = is.valid.pen;
+    fast = is.valid.fast;
+    step = is.valid.step;
+    table = is.valid.table;
+  };
   row = is.row;
 }
 
-pub IsWithin-written : (s : ControlState) (g : Glyph) → IsValidControl s → IsValidGlyph g → IsWithin s.rows (written s g)
-IsWithin-written s g is valid =
-    let moved = IsWithin-moved_on s 1 is in
+IsWithin-fast : (rows : ℕ) (fast : ℕ) (w : Working) → IsWithin rows w → fast ≤ 3
+    → IsWithin rows (record w { fast = fast })
+IsWithin-fast rows fast w is valid_fast = IsWithin-pen rows w.pen fast w is is.valid.pen valid_fast
+
+-- a marker moves the position on
+IsWithin-marker : (s : ControlState) (m : Marker) → IsValidControl s → IsWithin s.rows (working_after_marker s m)
+IsWithin-marker s m is =
+    IsWithin-run s.rows (run_after m s.working.run) (working_ahead s 1 s.working) (IsWithin-working_ahead s 1 is)
+
+IsWithin-any_marker : (s : ControlState) (m : Option Marker) → IsValidControl s
+    → IsWithin s.rows (working_after_any_marker s m)
+IsWithin-any_marker s None is = IsWithin-control s is
+IsWithin-any_marker s (Some m) is = IsWithin-marker s m is
+
+IsWithin-working_after_code : (s : ControlState) (c1 : C1Set) (n : ℕ) → IsValidControl s
+    → IsWithin s.rows (working_after_code c1 n s)
+IsWithin-working_after_code s c1sets.Parallel n is =
+    IsWithin-pen s.rows (pen_with_any (attribute_of s.working.table n) s.working.pen)
+    (fast_after_code n s.working.fast) s.working
+    (IsWithin-control s is)
+    (IsValidPen-pen_with_any (attribute_of s.working.table n) s.working.pen
+    (IsValid-attribute_of s.working.table n is.working.table)
+    is.working.pen)
+    (fast_after_code-in_range n s.working.fast is.working.fast)
+IsWithin-working_after_code s c1sets.Serial n is =
+    IsWithin-fast s.rows (fast_after_code n s.working.fast) (working_after_any_marker s (marker_of s.working.table n))
+    (IsWithin-any_marker s (marker_of s.working.table n) is)
+    (fast_after_code-in_range n s.working.fast is.working.fast)
+
+IsWithin-working_after_flash : (s : ControlState) (c1 : C1Set) (mode : ℕ) → IsValidControl s
+    → IsWithin s.rows (working_after_flash c1 mode s)
+IsWithin-working_after_flash s c1sets.Parallel mode is =
+    IsWithin-pen s.rows (pen_with (attrs.Flash (flash_of mode s.working.fast)) s.working.pen)
+    (fast_after mode s.working.fast)
+    s.working (IsWithin-control s is)
+    (IsValidPen-pen_with (attrs.Flash (flash_of mode s.working.fast)) s.working.pen tt is.working.pen)
+    (fast_after-in_range mode s.working.fast is.working.fast)
+IsWithin-working_after_flash s c1sets.Serial mode is =
+    let m = markers.Flash (flash_of mode s.working.fast) in
+    IsWithin-fast s.rows (fast_after mode s.working.fast) (working_after_marker s m) (IsWithin-marker s m is)
+    (fast_after-in_range mode s.working.fast is.working.fast)
+
+IsWithin-working_after_reveal : (s : ControlState) (c1 : C1Set) → IsValidControl s
+    → IsWithin s.rows (working_after_reveal c1 s)
+IsWithin-working_after_reveal s c1sets.Parallel is =
+    IsWithin-pen s.rows (pen_with (attrs.Conceal false) s.working.pen) s.working.fast s.working (IsWithin-control s is)
+    (IsValidPen-pen_with (attrs.Conceal false) s.working.pen tt is.working.pen) is.working.fast
+IsWithin-working_after_reveal s c1sets.Serial is = IsWithin-marker s (markers.Conceal false) is
+
+-- under another C1 set
+IsWithin-with_c1 : (rows : ℕ) (set : C1Set) (w : Working) → IsWithin rows w → IsWithin rows (with_c1 set w)
+IsWithin-with_c1 rows set w is = record {
+  valid = record {
+    place = is.valid.place;
+    sets = is.valid.sets;
+    accent = is.valid.accent;
+    last = is.valid.last;
+    pen = is.valid.pen;
+    fast = is.valid.fast;
+    step = is.valid.step;
+    table = is.valid.table;
+  };
+  row = is.row;
+}
+
+-- ---- signs and accents
+
+pub IsValidControl-control_with : (s : ControlState) (w : Working) → IsValidControl s → IsWithin s.rows w
+    → IsValidControl (control_with s w)
+IsValidControl-control_with s w is within = record
+    { working = within.valid; rows = is.rows; within = within.row; area = is.area; kept = is.kept }
+
+IsWithin-accent : (rows : ℕ) (accent : Option ℕ) (w : Working) → IsWithin rows w → IfSome accent IsAccent
+    → IsWithin rows (record w { accent = accent })
+IsWithin-accent rows accent w is valid = record {
+  valid = record {
+    place = is.valid.place;
+    sets = is.valid.sets;
+    accent = valid;
+    last = is.valid.last;
+    pen = is.valid.pen;
+    fast = is.valid.fast;
+    step = is.valid.step;
+    table = is.valid.table;
+  };
+  row = is.row;
+}
+
+pub IsWithin-working_after_sign : (s : ControlState) (g : Glyph) → IsValidControl s → IsValidGlyph g
+    → IsWithin s.rows (working_after_sign s g)
+IsWithin-working_after_sign s g is valid =
+    let moved = IsWithin-working_ahead s 1 is in
     record {
-      valid = record { place = moved.valid.place; sets = moved.valid.sets; accent = tt; last = valid; pen = moved.valid.pen; fast = moved.valid.fast; step = moved.valid.step; table = moved.valid.table };
+      valid = record {
+        place = moved.valid.place;
+        sets = moved.valid.sets;
+        accent = tt;
+        last = valid;
+        pen = moved.valid.pen;
+        fast = moved.valid.fast;
+        step = moved.valid.step;
+        table = moved.valid.table;
+      };
       row = moved.row;
     }
 
 -- a sign with the accent that waits is a sign
-pub IsValidGlyph-accented : (set : SetId) (code : ℕ) (accent : Option ℕ) → IsCodeOf set code → IfSome accent IsAccent → IsValidGlyph (accented set code accent)
-IsValidGlyph-accented sets.P code None is valid = record { code = is; accent = inl refl }
-IsValidGlyph-accented sets.P code (Some accent) is valid = record { code = is; accent = inr valid }
-IsValidGlyph-accented sets.S code None is valid = record { code = is; accent = refl }
-IsValidGlyph-accented sets.S code (Some accent) is valid = record { code = is; accent = refl }
-IsValidGlyph-accented sets.M code None is valid = record { code = is; accent = refl }
-IsValidGlyph-accented sets.M code (Some accent) is valid = record { code = is; accent = refl }
-IsValidGlyph-accented sets.N code None is valid = record { code = is; accent = refl }
-IsValidGlyph-accented sets.N code (Some accent) is valid = record { code = is; accent = refl }
-IsValidGlyph-accented sets.D code None is valid = record { code = is; accent = refl }
-IsValidGlyph-accented sets.D code (Some accent) is valid = record { code = is; accent = refl }
+pub IsValidGlyph-sign_with_accent : (set : SetId) (code : ℕ) (accent : Option ℕ) → IsCodeOf set code
+    → IfSome accent IsAccent
+    → IsValidGlyph (sign_with_accent set code accent)
+IsValidGlyph-sign_with_accent sets.P code None is valid = record { code = is; accent = inl refl }
+IsValidGlyph-sign_with_accent sets.P code (Some accent) is valid = record { code = is; accent = inr valid }
+IsValidGlyph-sign_with_accent sets.S code None is valid = record { code = is; accent = refl }
+IsValidGlyph-sign_with_accent sets.S code (Some accent) is valid = record { code = is; accent = refl }
+IsValidGlyph-sign_with_accent sets.M code None is valid = record { code = is; accent = refl }
+IsValidGlyph-sign_with_accent sets.M code (Some accent) is valid = record { code = is; accent = refl }
+IsValidGlyph-sign_with_accent sets.N code None is valid = record { code = is; accent = refl }
+IsValidGlyph-sign_with_accent sets.N code (Some accent) is valid = record { code = is; accent = refl }
+IsValidGlyph-sign_with_accent sets.D code None is valid = record { code = is; accent = refl }
+IsValidGlyph-sign_with_accent sets.D code (Some accent) is valid = record { code = is; accent = refl }
 
-IsWithin-behind_read : (s : ControlState) (read : Read) → IsValidControl s → IsValidRead read → IsWithin s.rows (behind_read s read)
-IsWithin-behind_read s (reads.Accent code) is valid = IsWithin-accent s.rows (Some code) s.working (IsWithin-control s is) valid
-IsWithin-behind_read s (reads.Glyph g) is valid =
-    IsWithin-written s (accented g.set g.code s.working.accent) is (IsValidGlyph-accented g.set g.code s.working.accent valid.code is.working.accent)
+IsWithin-working_after_read : (s : ControlState) (read : Read) → IsValidControl s → IsValidRead read
+    → IsWithin s.rows (working_after_read s read)
+IsWithin-working_after_read s (reads.Accent code) is valid =
+    IsWithin-accent s.rows (Some code) s.working (IsWithin-control s is) valid
+IsWithin-working_after_read s (reads.Glyph g) is valid =
+    IsWithin-working_after_sign s (sign_with_accent g.set g.code s.working.accent) is
+    (IsValidGlyph-sign_with_accent g.set g.code s.working.accent valid.code is.working.accent)
 
--- what a graphic byte gives is valid, and so are the sets behind it
-pub IsValidRead-taken : (s : ControlState) (byte : ℕ) → IsGraphic byte → IsValidRead (taken s byte).read
-IsValidRead-taken s byte graphic = IsValidRead-read_as (set_of s.working.sets byte s.working.run) (code_of byte) (IsCode-code_of byte graphic)
+-- what a graphic byte gives is valid, and so are the sets after it
+pub IsValidRead-graphic_result : (s : ControlState) (byte : ℕ) → IsGraphic byte
+    → IsValidRead (graphic_result s byte).read
+IsValidRead-graphic_result s byte graphic =
+    IsValidRead-read_as (set_of s.working.sets byte s.working.run) (code_of byte) (IsCode-code_of byte graphic)
 
-pub IsValidControl-with_taken : (s : ControlState) (byte : ℕ) → IsValidControl s → IsValidControl (with_taken s byte)
-IsValidControl-with_taken s byte is =
-    let sets : AreValidSets (unshifted s.working.sets) = record { left = is.working.sets.left; right = is.working.sets.right; single = tt } in
-    IsValidControl-with_working s (with_sets (unshifted s.working.sets) s.working) is (IsWithin-with_sets s.rows (unshifted s.working.sets) s.working (IsWithin-control s is) sets)
+pub IsValidControl-control_with_result : (s : ControlState) (byte : ℕ) → IsValidControl s
+    → IsValidControl (control_with_result s byte)
+IsValidControl-control_with_result s byte is =
+    let sets : AreValidSets (sets_without_single s.working.sets) = record
+    { left = is.working.sets.left; right = is.working.sets.right; single = tt } in
+    IsValidControl-control_with s (working_with_sets (sets_without_single s.working.sets) s.working) is
+    (IsWithin-working_with_sets s.rows (sets_without_single s.working.sets) s.working (IsWithin-control s is) sets)
 
 -- copies leave the format, and keep control valid
-pub rows-behind_copies : (n : ℕ) (s : ControlState) (g : Glyph) → (behind_copies n s g).rows ≡ s.rows
-unfolding behind_copies
-rows-behind_copies zero s g = refl
-rows-behind_copies (suc n) s g = rows-behind_copies n s g
+pub rows-control_after_copies : (n : ℕ) (s : ControlState) (g : Glyph) → (control_after_copies n s g).rows ≡ s.rows
+unfolding control_after_copies
+rows-control_after_copies zero s g = refl
+rows-control_after_copies (suc n) s g = rows-control_after_copies n s g
 
-pub IsValidControl-behind_copies : (n : ℕ) (s : ControlState) (g : Glyph) → IsValidControl s → IsValidGlyph g → IsValidControl (behind_copies n s g)
-unfolding behind_copies
-IsValidControl-behind_copies zero s g is valid = is
-IsValidControl-behind_copies (suc n) s g is valid =
-    let earlier = IsValidControl-behind_copies n s g is valid in
-    IsValidControl-with_working (behind_copies n s g) (written (behind_copies n s g) g) earlier (IsWithin-written (behind_copies n s g) g earlier valid)
+pub IsValidControl-control_after_copies : (n : ℕ) (s : ControlState) (g : Glyph) → IsValidControl s → IsValidGlyph g
+    → IsValidControl (control_after_copies n s g)
+unfolding control_after_copies
+IsValidControl-control_after_copies zero s g is valid = is
+IsValidControl-control_after_copies (suc n) s g is valid =
+    let earlier = IsValidControl-control_after_copies n s g is valid in
+    IsValidControl-control_with (control_after_copies n s g) (working_after_sign (control_after_copies n s g) g) earlier
+    (IsWithin-working_after_sign (control_after_copies n s g) g earlier valid)
 
-IsWithin-repeated : (n : ℕ) (s : ControlState) (last : Option Glyph) → IsValidControl s → IfSome last IsValidGlyph → IsWithin s.rows (repeated n s last)
-IsWithin-repeated n s None is valid = IsWithin-control s is
-IsWithin-repeated n s (Some g) is valid =
-    subst (λ rows. IsWithin rows (behind_copies n s g).working) (rows-behind_copies n s g) (IsWithin-control (behind_copies n s g) (IsValidControl-behind_copies n s g is valid))
+IsWithin-working_after_repeat : (n : ℕ) (s : ControlState) (last : Option Glyph) → IsValidControl s
+    → IfSome last IsValidGlyph
+    → IsWithin s.rows (working_after_repeat n s last)
+IsWithin-working_after_repeat n s None is valid = IsWithin-control s is
+IsWithin-working_after_repeat n s (Some g) is valid =
+    subst (λ rows. IsWithin rows (control_after_copies n s g).working) (rows-control_after_copies n s g)
+    (IsWithin-control (control_after_copies n s g) (IsValidControl-control_after_copies n s g is valid))
 
 -- ---- commands
 
-IsWithin-down : (s : ControlState) → IsValidControl s → IsWithin s.rows (moved_to (row_below s s.working.row) s.working.column s.working)
+IsWithin-down : (s : ControlState) → IsValidControl s
+    → IsWithin s.rows (working_at (row_below s s.working.row) s.working.column s.working)
 IsWithin-down s is =
     let on : OnScreen s.working.row s.working.column = is.working.place in
-    IsWithin-row s (row_below s s.working.row) s.working.column is (row_below-from_top s s.working.row on.from_top) (row_below-within s s.working.row on.from_top is.within) on.from_left on.to_right
+    IsWithin-row s (row_below s s.working.row) s.working.column is (row_below-from_top s s.working.row on.from_top)
+    (row_below-within s s.working.row on.from_top is.within) on.from_left on.to_right
 
 -- at the first place, with no run and no pen
-IsWithin-home : (s : ControlState) → IsValidControl s → IsWithin s.rows (pen_unset (run_ended (moved_to 1 1 s.working)))
+IsWithin-home : (s : ControlState) → IsValidControl s
+    → IsWithin s.rows (working_without_pen (working_without_run (working_at 1 1 s.working)))
 IsWithin-home s is =
     let bounds = rows-bounds s is in
-    let on : OnScreen 1 1 = record { from_top = omega arith; to_bottom = omega arith; from_left = omega arith; to_right = omega arith } in
+    let on : OnScreen 1 1 = record
+    { from_top = omega arith; to_bottom = omega arith; from_left = omega arith; to_right = omega arith } in
     IsWithin-fresh s.rows 1 1 s.working (IsWithin-control s is) on (omega arith)
 
-pub IsWithin-working_after : (s : ControlState) (command : Command) → IsValidControl s → IsValidCommand command → IsWithin s.rows (working_after s command)
-IsWithin-working_after s commands.Back is valid = IsWithin-run_ended s.rows (moved_back s s.working) (IsWithin-moved_back s is)
-IsWithin-working_after s commands.Forward is valid = IsWithin-run_ended s.rows (moved_on s 1 s.working) (IsWithin-moved_on s 1 is)
-IsWithin-working_after s commands.Down is valid = IsWithin-run_ended s.rows (moved_to (row_below s s.working.row) s.working.column s.working) (IsWithin-down s is)
-IsWithin-working_after s commands.Up is valid =
-    IsWithin-run_ended s.rows (moved_to (row_above s s.working.row) s.working.column s.working) (IsWithin-row_above s s.working.column is is.working.place.from_left is.working.place.to_right)
-IsWithin-working_after s commands.Return is valid =
-    IsWithin-run_ended s.rows (moved_to s.working.row 1 s.working) (IsWithin-row s s.working.row 1 is is.working.place.from_top is.within (omega arith) (omega arith))
-IsWithin-working_after s commands.Home is valid = IsWithin-home s is
-IsWithin-working_after s commands.Clear is valid = IsWithin-home s is
-IsWithin-working_after s (commands.Position r c) is valid =
+-- ---- the whole state
+
+-- the state with another working state
+IsValidControl-working : (s : ControlState) {w : Working} → IsValidControl s → IsWithin s.rows w
+    → IsValidControl (control_with s w)
+IsValidControl-working s {w} is within = IsValidControl-control_with s w is within
+
+IsWithin-position : (s : ControlState) (r c : ℕ) → IsValidControl s → OnScreen r c
+    → IsWithin s.rows (working_without_pen (working_without_run (working_at (min r s.rows) c s.working)))
+IsWithin-position s r c is valid =
     let bounds = rows-bounds s is in
-    let on : OnScreen (min r s.rows) c = record { from_top = omega (arith, valid); to_bottom = omega (arith, valid); from_left = valid.from_left; to_right = valid.to_right } in
+    let on : OnScreen (min r s.rows) c = record {
+      from_top = omega (arith, valid);
+      to_bottom = omega (arith, valid);
+      from_left = valid.from_left;
+      to_right = valid.to_right;
+    } in
     IsWithin-fresh s.rows (min r s.rows) c s.working (IsWithin-control s is) on (omega arith)
-IsWithin-working_after s (commands.LockLeft g) is valid =
-    IsWithin-with_sets s.rows (locked_left s.working.sets g) s.working (IsWithin-control s is) (record { left = valid; right = is.working.sets.right; single = is.working.sets.single })
-IsWithin-working_after s (commands.LockRight g) is valid =
-    IsWithin-with_sets s.rows (locked_right s.working.sets g) s.working (IsWithin-control s is) (record { left = is.working.sets.left; right = valid; single = is.working.sets.single })
-IsWithin-working_after s (commands.Single g) is valid =
-    IsWithin-with_sets s.rows (shifted s.working.sets g) s.working (IsWithin-control s is) (record { left = is.working.sets.left; right = is.working.sets.right; single = valid })
-IsWithin-working_after s (commands.Designate g set) is valid =
-    IsWithin-with_sets s.rows (designated s.working.sets g set) s.working (IsWithin-control s is) (AreValidSets-designated s.working.sets g set is.working.sets)
-IsWithin-working_after s (commands.Graphic byte) is valid =
-    IsWithin-behind_read (with_taken s byte) (taken s byte).read (IsValidControl-with_taken s byte is) (IsValidRead-taken s byte valid)
-IsWithin-working_after s (commands.Repeat n) is valid = IsWithin-repeated n s s.working.last is is.working.last
-IsWithin-working_after s (commands.C1 n) is valid = IsWithin-coded s.rows s.working.c1 n s.working (IsWithin-control s is)
-IsWithin-working_after s (commands.FlashMode k) is valid = IsWithin-flashing s.rows s.working.c1 k s.working (IsWithin-control s is)
-IsWithin-working_after s commands.StopConceal is valid = IsWithin-revealed s.rows s.working.c1 s.working (IsWithin-control s is)
-IsWithin-working_after s _ is valid = IsWithin-control s is
 
-pub IsValidControl-ready : (s : ControlState) (command : Command) → IsValidControl s → IsValidControl (ready s command)
-IsValidControl-ready s command is =
-    IsValidControl-with_working s (cond (leaves_accent command) s.working (accent_dropped s.working)) is
-    (cond_both (leaves_accent command) s.working (accent_dropped s.working) (IsWithin s.rows) (λ e. IsWithin-control s is) (λ e. IsWithin-accent s.rows None s.working (IsWithin-control s is) tt))
+-- the state with other sets
+IsValidControl-sets : (s : ControlState) (sets : Sets) → IsValidControl s → AreValidSets sets
+    → IsValidControl (control_with s (working_with_sets sets s.working))
+IsValidControl-sets s sets is valid =
+    IsValidControl-control_with s (working_with_sets sets s.working) is
+    (IsWithin-working_with_sets s.rows sets s.working (IsWithin-control s is) valid)
 
-pub IsValidControl-control_after : (s : ControlState) (command : Command) → IsValidControl s → IsValidCommand command → IsValidControl (control_after s command)
+-- the state without an accent that waits
+IsValidControl-working_without_accent : (s : ControlState) → IsValidControl s
+    → IsValidControl (control_with s (working_without_accent s.working))
+IsValidControl-working_without_accent s is =
+    IsValidControl-control_with s (working_without_accent s.working) is
+    (IsWithin-accent s.rows None s.working (IsWithin-control s is) tt)
+
+pub IsValidControl-control_effect : (s : ControlState) (command : Command) → IsValidControl s → IsValidCommand command
+    → IsValidControl (control_effect s command)
+IsValidControl-control_effect s commands.Back is valid =
+    IsValidControl-working s is (IsWithin-working_without_run s.rows (working_back s s.working)
+    (IsWithin-working_back s is))
+IsValidControl-control_effect s commands.Forward is valid =
+    IsValidControl-working s is (IsWithin-working_without_run s.rows (working_ahead s 1 s.working)
+    (IsWithin-working_ahead s 1 is))
+IsValidControl-control_effect s commands.Down is valid =
+    IsValidControl-working s is
+    (IsWithin-working_without_run s.rows
+    (working_at (row_below s s.working.row) s.working.column s.working) (IsWithin-down s is))
+IsValidControl-control_effect s commands.Up is valid =
+    IsValidControl-working s is
+    (IsWithin-working_without_run s.rows (working_at (row_above s s.working.row) s.working.column s.working)
+    (IsWithin-row_above s s.working.column is is.working.place.from_left is.working.place.to_right))
+IsValidControl-control_effect s commands.Return is valid =
+    IsValidControl-working s is
+    (IsWithin-working_without_run s.rows (working_at s.working.row 1 s.working)
+    (IsWithin-row s s.working.row 1 is is.working.place.from_top is.within (omega arith) (omega arith)))
+IsValidControl-control_effect s commands.Home is valid = IsValidControl-working s is (IsWithin-home s is)
+IsValidControl-control_effect s commands.Clear is valid = IsValidControl-working s is (IsWithin-home s is)
+IsValidControl-control_effect s (commands.Position r c) is valid =
+    IsValidControl-working s is (IsWithin-position s r c is valid)
+IsValidControl-control_effect s (commands.LockLeft g) is valid =
+    IsValidControl-sets s (sets_with_left s.working.sets g) is
+    (record { left = valid; right = is.working.sets.right; single = is.working.sets.single })
+IsValidControl-control_effect s (commands.LockRight g) is valid =
+    IsValidControl-sets s (sets_with_right s.working.sets g) is
+    (record { left = is.working.sets.left; right = valid; single = is.working.sets.single })
+IsValidControl-control_effect s (commands.Single g) is valid =
+    IsValidControl-sets s (sets_with_single s.working.sets g) is
+    (record { left = is.working.sets.left; right = is.working.sets.right; single = valid })
+IsValidControl-control_effect s (commands.Designate g set) is valid =
+    IsValidControl-sets s (sets_with s.working.sets g set) is
+    (AreValidSets-sets_with s.working.sets g set is.working.sets)
+IsValidControl-control_effect s (commands.Graphic byte) is valid =
+    IsValidControl-working s is (IsWithin-working_after_read (control_with_result s byte) (graphic_result s byte).read
+    (IsValidControl-control_with_result s byte is) (IsValidRead-graphic_result s byte valid))
+IsValidControl-control_effect s (commands.Repeat n) is valid =
+    IsValidControl-working s is (IsWithin-working_after_repeat n s s.working.last is is.working.last)
+IsValidControl-control_effect s (commands.C1 n) is valid =
+    IsValidControl-working s is (IsWithin-working_after_code s s.working.c1 n is)
+IsValidControl-control_effect s (commands.DesignateC1 set) is valid =
+    IsValidControl-working s is
+    (IsWithin-working_without_run s.rows (with_c1 set s.working)
+    (IsWithin-with_c1 s.rows set s.working (IsWithin-control s is)))
+IsValidControl-control_effect s (commands.FlashMode k) is valid =
+    IsValidControl-working s is (IsWithin-working_after_flash s s.working.c1 k is)
+IsValidControl-control_effect s commands.StopConceal is valid =
+    IsValidControl-working s is (IsWithin-working_after_reveal s s.working.c1 is)
+IsValidControl-control_effect s (commands.ServiceBreak row) is valid = IsValidControl-working_without_accent s is
+IsValidControl-control_effect s _ is valid = is
+
+pub IsValidControl-state_for_effect : (s : ControlState) (command : Command) → IsValidControl s
+    → IsValidControl (state_for_effect s command)
+IsValidControl-state_for_effect s command is =
+    cond_both (finds_accent command) s.working (working_without_accent s.working)
+    (λ (w : Working). IsValidControl (control_with s w)) (λ e. is) (λ e. IsValidControl-working_without_accent s is)
+
+pub IsValidControl-control_after : (s : ControlState) (command : Command) → IsValidControl s → IsValidCommand command
+    → IsValidControl (control_after s command)
 IsValidControl-control_after s command is valid =
-    let before = IsValidControl-ready s command is in
-    IsValidControl-with_working (ready s command) (working_after (ready s command) command) before (IsWithin-working_after (ready s command) command before valid)
+    IsValidControl-control_effect (state_for_effect s command) command (IsValidControl-state_for_effect s command is)
+    valid

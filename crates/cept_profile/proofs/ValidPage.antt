@@ -1,10 +1,13 @@
 -- Valid pages: the strokes of a valid command in a valid state keep them valid.
-use Rattle.std.proofs.Common.{◌≡◌, ℕ, ◌<◌, ◌≤◌, zero, suc, false, not, ◌&&◌, eqb, Option, Some, None, List, [], ◌∷◌, ◌++◌, length, refl, sym, ◌∙◌, subst, arith}
+use Rattle.std.proofs.Common.{◌≡◌, ℕ, ◌<◌, ◌≤◌, zero, suc, Bool, true, false, not, ◌&&◌, cond, eqb, leb, ltb, Option}
+use Rattle.std.proofs.Common.{Some, None, List, [], ◌∷◌, ◌++◌, length, refl, sym, ◌∙◌, ap, subst, arith}
 use Rattle.std.specs.List.{AllByRecursion}
 use Rattle.std.specs.Prelude.{IfSome}
-use Rattle.std.proofs.lemmas.Bool.{cond_both, and_parts, eqb-true}
+use Rattle.std.proofs.lemmas.Bool.{cond_both, and_parts, eqb-true, ltb-true}
 use Rattle.cept_codes.specs.declared.attribute.Pen.{Pen}
 use Rattle.cept_codes.specs.declared.cell.Cell.{Cell}
+use Rattle.cept_codes.specs.declared.cell.Marker.{Marker}
+use Rattle.cept_codes.specs.declared.cell.Marker.TheVariants as markers
 use Rattle.cept_codes.specs.declared.cell.What.TheVariants as whats
 use Rattle.cept_codes.specs.declared.command.Command.{Command}
 use Rattle.cept_codes.specs.declared.command.Command.TheVariants as commands
@@ -16,21 +19,28 @@ use Rattle.cept_codes.specs.declared.command.C1Set.TheVariants as c1sets
 use Rattle.cept_codes.specs.declared.glyph.Read.{Read}
 use Rattle.cept_codes.specs.declared.glyph.Read.TheVariants as reads
 use Rattle.cept_codes.specs.Attribute.{IsValidPen}
-use Rattle.cept_codes.specs.Cell.{IsValidCell, IsValidWhat, blank}
+use Rattle.cept_codes.specs.Cell.{IsValidCell, IsValidMarker, IsValidWhat, blank_cell}
 use Rattle.cept_codes.specs.Command.{IsValidCommand}
 use Rattle.cept_codes.specs.Glyph.{IsValidGlyph}
 use Rattle.cept_codes.specs.Place.{Place, OnScreen}
 use Rattle.cept_codes.specs.Stroke.{IsValidStroke}
-use Rattle.cept_codes.specs.Table.{table, at, IsTable}
-use Rattle.cept_codes.proofs.Laws.{at-table, IsTable-table}
-use Rattle.cept_profile.specs.Cells.{is_at, seen, struck, struck_all}
-use Rattle.cept_profile.specs.Control.{ControlState, ready}
+use Rattle.cept_codes.specs.Table.{table, value_at, IsTable}
+use Rattle.cept_codes.proofs.Laws.{value_at-table, IsTable-table}
+use Rattle.cept_profile.specs.Cells.{is_at, cell_after, cells_after, cells_after_all}
+use Rattle.cept_profile.specs.Control.{ControlState, state_for_effect}
+use Rattle.cept_profile.specs.Markers.{marker_of, strokes_of_any_marker, strokes_of_marker}
+use Rattle.cept_profile.specs.Motions.{on_strokes, back_strokes}
+use Rattle.cept_profile.specs.Pens.{flash_of, strokes_of_code, strokes_of_flash, strokes_of_reveal}
 use Rattle.cept_profile.specs.Sets.{IsValidRead}
 use Rattle.cept_profile.specs.Strokes.{strokes_when, strokes_of}
 use Rattle.cept_profile.specs.Valid.{IsValidControl}
-use Rattle.cept_profile.specs.Writing.{accented, behind_copies, content, copies, read_of, repeat_of, taken, write_of}
-use Rattle.cept_profile.proofs.Copies.{length-copies}
-use Rattle.cept_profile.proofs.ValidControl.{IsValidControl-behind_copies, IsValidControl-ready, IsValidGlyph-accented, IsValidRead-taken, rows-behind_copies}
+use Rattle.cept_profile.specs.Writing.{sign_with_accent, control_after_copies, content, strokes_of_copies}
+use Rattle.cept_profile.specs.Writing.{strokes_of_read, strokes_of_repeat, graphic_result, strokes_of_sign}
+use Rattle.cept_profile.proofs.CopiesOfSigns.{length-strokes_of_copies}
+use Rattle.cept_profile.proofs.MotionStrokes.{on_strokes-none, back_strokes-none}
+use Rattle.cept_profile.proofs.ValidControl.{IsValidControl-control_after_copies, IsValidControl-state_for_effect}
+use Rattle.cept_profile.proofs.ValidControl.{IsValidGlyph-sign_with_accent, IsValidRead-graphic_result}
+use Rattle.cept_profile.proofs.ValidControl.{rows-control_after_copies}
 
 -- ---- cells, place by place
 
@@ -38,11 +48,11 @@ use Rattle.cept_profile.proofs.ValidControl.{IsValidControl-behind_copies, IsVal
 abbrev pub IsFree : Cell → Type 0
 IsFree cell = cell.what ≡ whats.Blank → cell.protected ≡ false
 
--- valid cells of a format of so many rows: behind its last row they are blank
+-- valid cells of a format of so many rows: after its last row they are blank
 pub record AreValidCells (rows : ℕ) (cells : ℕ → ℕ → Cell) : Type 0 where
   pub valid : (r c : ℕ) → OnScreen r c → IsValidCell (cells r c)
   pub free : (r c : ℕ) → OnScreen r c → IsFree (cells r c)
-  pub past : (r c : ℕ) → OnScreen r c → rows < r → cells r c ≡ blank
+  pub past : (r c : ℕ) → OnScreen r c → rows < r → cells r c ≡ blank_cell
 
 -- a stroke that keeps them valid
 abbrev pub IsSafe : ℕ → Stroke → Type 0
@@ -66,54 +76,83 @@ IsValidStroke-safe rows strokes.DrcsClear safe = tt
 IsValidStroke-safe rows (strokes.Drcs code pattern) safe = safe
 IsValidStroke-safe rows (strokes.Format count) safe = absurd safe
 
-pub AreValidCells-blank : (rows : ℕ) → AreValidCells rows (λ r c. blank)
-AreValidCells-blank rows = record { valid = λ r c on. tt; free = λ r c on is. refl; past = λ r c on behind. refl }
+pub AreValidCells-blank_cell : (rows : ℕ) → AreValidCells rows (λ r c. blank_cell)
+AreValidCells-blank_cell rows = record { valid = λ r c on. tt; free = λ r c on is. refl; past = λ r c on after. refl }
 
-AreValidCells-put : (rows : ℕ) (p : Place) (cell : Cell) (was : ℕ → ℕ → Cell) → AreValidCells rows was → OnScreen p.row p.column → p.row ≤ rows → IsValidCell cell → IsFree cell → AreValidCells rows (seen (strokes.Put p cell) was)
+AreValidCells-put : (rows : ℕ) (p : Place) (cell : Cell) (was : ℕ → ℕ → Cell) → AreValidCells rows was
+    → OnScreen p.row p.column → p.row ≤ rows → IsValidCell cell → IsFree cell
+    → AreValidCells rows (cell_after (strokes.Put p cell) was)
 AreValidCells-put rows p cell was is place within valid_cell free_cell = record {
-  valid = λ r c on. cond_both (is_at p r c && not (was r c).protected) cell (was r c) IsValidCell (λ e. valid_cell) (λ e. is.valid r c on);
-  free = λ r c on. cond_both (is_at p r c && not (was r c).protected) cell (was r c) IsFree (λ e. free_cell) (λ e. is.free r c on);
-  past = λ r c on behind. cond_both (is_at p r c && not (was r c).protected) cell (was r c) (λ x. x ≡ blank)
-      (λ e. let row = eqb-true p.row r (and_parts (eqb p.row r) (eqb p.column c) (and_parts (is_at p r c) (not (was r c).protected) e).0).0 in absurd (omega arith))
-      (λ e. is.past r c on behind);
+  valid = λ r c on. cond_both (is_at p r c && not (was r c).protected) cell (was r c) IsValidCell (λ e. valid_cell)
+      (λ e. is.valid r c on);
+  free = λ r c on. cond_both (is_at p r c && not (was r c).protected) cell (was r c) IsFree
+      (λ e. free_cell) (λ e. is.free r c on);
+  past = λ r c on after. cond_both (is_at p r c && not (was r c).protected) cell (was r c) (λ x. x ≡ blank_cell)
+      (λ e. let row = eqb-true p.row r
+      (and_parts (eqb p.row r) (eqb p.column c) (and_parts (is_at p r c) (not (was r c).protected) e).0).0
+      in absurd (omega arith))
+      (λ e. is.past r c on after);
 }
 
-pub AreValidCells-seen : (rows : ℕ) (stroke : Stroke) (was : ℕ → ℕ → Cell) → AreValidCells rows was → IsSafe rows stroke → AreValidCells rows (seen stroke was)
-AreValidCells-seen rows (strokes.Put p cell) was is safe = AreValidCells-put rows p cell was is safe.0 safe.1 safe.2 safe.3
-AreValidCells-seen rows strokes.Wipe was is safe = AreValidCells-blank rows
-AreValidCells-seen rows (strokes.Erase r from) was is safe = is
-AreValidCells-seen rows (strokes.Shift a b way) was is safe = is
-AreValidCells-seen rows (strokes.RowAttr r attr) was is safe = is
-AreValidCells-seen rows (strokes.ScreenAttr attr) was is safe = is
-AreValidCells-seen rows strokes.ScreenClear was is safe = is
-AreValidCells-seen rows (strokes.Colour i paint) was is safe = is
-AreValidCells-seen rows (strokes.Dclut i v) was is safe = is
-AreValidCells-seen rows strokes.ColourDefaults was is safe = is
-AreValidCells-seen rows strokes.DrcsClear was is safe = is
-AreValidCells-seen rows (strokes.Drcs code pattern) was is safe = is
-AreValidCells-seen rows (strokes.Format count) was is safe = is
+AreValidCells-erase : (rows row from : ℕ) (was : ℕ → ℕ → Cell) → AreValidCells rows was
+    → AreValidCells rows (cell_after (strokes.Erase row from) was)
+AreValidCells-erase rows row from was is = record {
+  valid = λ r c on.
+      cond_both (eqb r row && leb from c && not (was r c).protected) blank_cell (was r c) IsValidCell (λ e. tt)
+      (λ e. is.valid r c on);
+  free = λ r c on.
+      cond_both (eqb r row && leb from c && not (was r c).protected) blank_cell (was r c) IsFree (λ e. λ _. refl)
+      (λ e. is.free r c on);
+  past = λ r c on below.
+      cond_both (eqb r row && leb from c && not (was r c).protected) blank_cell (was r c) (λ x. x
+      ≡ blank_cell) (λ e. refl)
+      (λ e. is.past r c on below);
+}
+
+pub AreValidCells-cell_after : (rows : ℕ) (stroke : Stroke) (was : ℕ → ℕ → Cell) → AreValidCells rows was
+    → IsSafe rows stroke → AreValidCells rows (cell_after stroke was)
+AreValidCells-cell_after rows (strokes.Put p cell) was is safe =
+    AreValidCells-put rows p cell was is safe.0 safe.1 safe.2 safe.3
+AreValidCells-cell_after rows strokes.Wipe was is safe = AreValidCells-blank_cell rows
+AreValidCells-cell_after rows (strokes.Erase r from) was is safe = AreValidCells-erase rows r from was is
+AreValidCells-cell_after rows (strokes.Shift a b way) was is safe = is
+AreValidCells-cell_after rows (strokes.RowAttr r attr) was is safe = is
+AreValidCells-cell_after rows (strokes.ScreenAttr attr) was is safe = is
+AreValidCells-cell_after rows strokes.ScreenClear was is safe = is
+AreValidCells-cell_after rows (strokes.Colour i paint) was is safe = is
+AreValidCells-cell_after rows (strokes.Dclut i v) was is safe = is
+AreValidCells-cell_after rows strokes.ColourDefaults was is safe = is
+AreValidCells-cell_after rows strokes.DrcsClear was is safe = is
+AreValidCells-cell_after rows (strokes.Drcs code pattern) was is safe = is
+AreValidCells-cell_after rows (strokes.Format count) was is safe = is
 
 -- ---- tables of cells
 
-AreValidCells-table : (rows : ℕ) (cells : ℕ → ℕ → Cell) → AreValidCells rows cells → AreValidCells rows (at blank (table cells))
+AreValidCells-table : (rows : ℕ) (cells : ℕ → ℕ → Cell) → AreValidCells rows cells
+    → AreValidCells rows (value_at blank_cell (table cells))
 AreValidCells-table rows cells is = record {
-  valid = λ r c on. subst IsValidCell (sym (at-table cells blank r c on)) (is.valid r c on);
-  free = λ r c on. subst IsFree (sym (at-table cells blank r c on)) (is.free r c on);
-  past = λ r c on behind. at-table cells blank r c on ∙ is.past r c on behind;
+  valid = λ r c on. subst IsValidCell (sym (value_at-table cells blank_cell r c on)) (is.valid r c on);
+  free = λ r c on. subst IsFree (sym (value_at-table cells blank_cell r c on)) (is.free r c on);
+  past = λ r c on after. value_at-table cells blank_cell r c on ∙ is.past r c on after;
 }
 
 pub record AreValidTables (rows : ℕ) (cells : List (List Cell)) : Type 0 where
   pub shape : IsTable cells
-  pub all : AreValidCells rows (at blank cells)
+  pub all : AreValidCells rows (value_at blank_cell cells)
 
-pub AreValidTables-table : (rows : ℕ) (cells : ℕ → ℕ → Cell) → AreValidCells rows cells → AreValidTables rows (table cells)
+pub AreValidTables-table : (rows : ℕ) (cells : ℕ → ℕ → Cell) → AreValidCells rows cells
+    → AreValidTables rows (table cells)
 AreValidTables-table rows cells is = record { shape = IsTable-table cells; all = AreValidCells-table rows cells is }
 
-pub AreValidTables-struck_all : (rows : ℕ) (cells : List (List Cell)) (xs : List Stroke) → AreValidTables rows cells → AllByRecursion (IsSafe rows) xs → AreValidTables rows (struck_all cells xs)
-unfolding struck_all
-AreValidTables-struck_all rows cells [] is safe = is
-AreValidTables-struck_all rows cells (x ∷ xs) is safe =
-    AreValidTables-struck_all rows (struck cells x) xs (AreValidTables-table rows (seen x (at blank cells)) (AreValidCells-seen rows x (at blank cells) is.all safe.0)) safe.1
+pub AreValidTables-cells_after_all : (rows : ℕ) (cells : List (List Cell)) (xs : List Stroke)
+    → AreValidTables rows cells
+    → AllByRecursion (IsSafe rows) xs → AreValidTables rows (cells_after_all cells xs)
+unfolding cells_after_all
+AreValidTables-cells_after_all rows cells [] is safe = is
+AreValidTables-cells_after_all rows cells (x ∷ xs) is safe =
+    AreValidTables-cells_after_all rows (cells_after cells x) xs
+    (AreValidTables-table rows (cell_after x (value_at blank_cell cells))
+    (AreValidCells-cell_after rows x (value_at blank_cell cells) is.all safe.0)) safe.1
 
 -- ---- the strokes of a command
 
@@ -124,7 +163,8 @@ serial_is_not_blank : (g : Glyph) → whats.Serial g ≡ whats.Blank → ⊥
 serial_is_not_blank g e = cc
 
 -- what a sign makes is valid, and no blank cell
-IsValidWhat-content : (c1 : C1Set) (g : Glyph) (pen : Pen) → IsValidGlyph g → IsValidPen pen → IsValidWhat (content c1 g pen)
+IsValidWhat-content : (c1 : C1Set) (g : Glyph) (pen : Pen) → IsValidGlyph g → IsValidPen pen
+    → IsValidWhat (content c1 g pen)
 IsValidWhat-content c1sets.Parallel g pen sign valid = (sign, valid)
 IsValidWhat-content c1sets.Serial g pen sign valid = sign
 
@@ -132,52 +172,167 @@ content_is_not_blank : (c1 : C1Set) (g : Glyph) (pen : Pen) → content c1 g pen
 content_is_not_blank c1sets.Parallel g pen e = parallel_is_not_blank g pen e
 content_is_not_blank c1sets.Serial g pen e = serial_is_not_blank g e
 
-pub IsSafe-write_of : (s : ControlState) (g : Glyph) → IsValidControl s → IsValidGlyph g → AllByRecursion (IsSafe s.rows) (write_of s g)
-IsSafe-write_of s g is valid =
-    ((is.working.place, is.within, IsValidWhat-content s.working.c1 g s.working.pen valid is.working.pen, λ blank_is. absurd (content_is_not_blank s.working.c1 g s.working.pen blank_is)), tt)
+-- the strokes of motions
+IsSafe-on_strokes : (s : ControlState) (n : ℕ) → AllByRecursion (IsSafe s.rows) (on_strokes s n)
+IsSafe-on_strokes s n = subst (λ (xs : List Stroke). AllByRecursion (IsSafe s.rows) xs) (sym (on_strokes-none s n)) tt
 
-IsSafe-read_of : (s : ControlState) (read : Read) → IsValidControl s → IsValidRead read → AllByRecursion (IsSafe s.rows) (read_of s read)
-IsSafe-read_of s (reads.Accent code) is valid = tt
-IsSafe-read_of s (reads.Glyph g) is valid =
-    IsSafe-write_of s (accented g.set g.code s.working.accent) is (IsValidGlyph-accented g.set g.code s.working.accent valid.code is.working.accent)
+IsSafe-back_strokes : (s : ControlState) → AllByRecursion (IsSafe s.rows) (back_strokes s)
+IsSafe-back_strokes s = subst (λ (xs : List Stroke). AllByRecursion (IsSafe s.rows) xs) (sym (back_strokes-none s)) tt
 
-pub AllByRecursion-append : {X : Type 0} (P : X → Type 0) (xs ys : List X) → AllByRecursion P xs → AllByRecursion P ys → AllByRecursion P (xs ++ ys)
+pub IsSafe-strokes_of_sign : (s : ControlState) (g : Glyph) → IsValidControl s → IsValidGlyph g
+    → AllByRecursion (IsSafe s.rows) (strokes_of_sign s g)
+IsSafe-strokes_of_sign s g is valid = (
+  (
+    is.working.place,
+    is.within,
+    IsValidWhat-content s.working.c1 g s.working.pen valid is.working.pen,
+    λ blank_is.
+        absurd (content_is_not_blank s.working.c1 g s.working.pen blank_is),
+  ),
+  IsSafe-on_strokes s 1,
+)
+
+IsSafe-strokes_of_read : (s : ControlState) (read : Read) → IsValidControl s → IsValidRead read
+    → AllByRecursion (IsSafe s.rows) (strokes_of_read s read)
+IsSafe-strokes_of_read s (reads.Accent code) is valid = tt
+IsSafe-strokes_of_read s (reads.Glyph g) is valid =
+    IsSafe-strokes_of_sign s (sign_with_accent g.set g.code s.working.accent) is
+    (IsValidGlyph-sign_with_accent g.set g.code s.working.accent valid.code is.working.accent)
+
+pub AllByRecursion-append : {X : Type 0} (P : X → Type 0) (xs ys : List X) → AllByRecursion P xs → AllByRecursion P ys
+    → AllByRecursion P (xs ++ ys)
 AllByRecursion-append P [] ys all more = more
 AllByRecursion-append P (x ∷ xs) ys all more = (all.0, AllByRecursion-append P xs ys all.1 more)
 
-IsSafe-copies : (n : ℕ) (s : ControlState) (g : Glyph) → IsValidControl s → IsValidGlyph g → AllByRecursion (IsSafe s.rows) (copies n s g)
-unfolding copies
-IsSafe-copies zero s g is valid = tt
-IsSafe-copies (suc n) s g is valid =
-    AllByRecursion-append (IsSafe s.rows) (copies n s g) (write_of (behind_copies n s g) g) (IsSafe-copies n s g is valid)
-    (subst (λ (rows : ℕ). AllByRecursion (IsSafe rows) (write_of (behind_copies n s g) g)) (rows-behind_copies n s g) (IsSafe-write_of (behind_copies n s g) g (IsValidControl-behind_copies n s g is valid) valid))
+IsSafe-strokes_of_copies : (n : ℕ) (s : ControlState) (g : Glyph) → IsValidControl s → IsValidGlyph g
+    → AllByRecursion (IsSafe s.rows) (strokes_of_copies n s g)
+unfolding strokes_of_copies
+IsSafe-strokes_of_copies zero s g is valid = tt
+IsSafe-strokes_of_copies (suc n) s g is valid =
+    AllByRecursion-append (IsSafe s.rows) (strokes_of_copies n s g) (strokes_of_sign (control_after_copies n s g) g)
+    (IsSafe-strokes_of_copies n s g is valid)
+    (subst (λ (rows : ℕ). AllByRecursion (IsSafe rows) (strokes_of_sign (control_after_copies n s g) g))
+    (rows-control_after_copies n s g)
+    (IsSafe-strokes_of_sign (control_after_copies n s g) g (IsValidControl-control_after_copies n s g is valid) valid))
 
-IsSafe-repeat_of : (n : ℕ) (s : ControlState) (last : Option Glyph) → IsValidControl s → IfSome last IsValidGlyph → AllByRecursion (IsSafe s.rows) (repeat_of n s last)
-IsSafe-repeat_of n s None is valid = tt
-IsSafe-repeat_of n s (Some g) is valid = IsSafe-copies n s g is valid
+IsSafe-strokes_of_repeat : (n : ℕ) (s : ControlState) (last : Option Glyph) → IsValidControl s
+    → IfSome last IsValidGlyph
+    → AllByRecursion (IsSafe s.rows) (strokes_of_repeat n s last)
+IsSafe-strokes_of_repeat n s None is valid = tt
+IsSafe-strokes_of_repeat n s (Some g) is valid = IsSafe-strokes_of_copies n s g is valid
 
-IsSafe-strokes_when : (s : ControlState) (command : Command) → IsValidControl s → IsValidCommand command → AllByRecursion (IsSafe s.rows) (strokes_when s command)
+marker_is_not_blank : (m : Marker) → whats.Marker m ≡ whats.Blank → ⊥
+marker_is_not_blank m e = cc
+
+-- a valid marker makes a valid cell
+IsSafe-marker : (s : ControlState) (m : Marker) → IsValidControl s → IsValidMarker m
+    → AllByRecursion (IsSafe s.rows) (strokes_of_marker s m)
+IsSafe-marker s m is valid =
+    ((is.working.place, is.within, valid, λ blank_is. absurd (marker_is_not_blank m blank_is)), IsSafe-on_strokes s 1)
+
+IsSafe-any_marker : (s : ControlState) (m : Option Marker) → IsValidControl s → IfSome m IsValidMarker
+    → AllByRecursion (IsSafe s.rows) (strokes_of_any_marker s m)
+IsSafe-any_marker s None is valid = tt
+IsSafe-any_marker s (Some m) is valid = IsSafe-marker s m is valid
+
+-- a marker, or none, of a choice
+IsValid-choice : (test : Bool) (x y : Option Marker) → (test ≡ true → IfSome x IsValidMarker)
+    → (test ≡ false → IfSome y IsValidMarker) → IfSome (cond test x y) IsValidMarker
+IsValid-choice test x y holds fails = cond_both test x y (λ m. IfSome m IsValidMarker) holds fails
+
+IsValid-marker_of : (table n : ℕ) → table ≤ 3 → IfSome (marker_of table n) IsValidMarker
+IsValid-marker_of table n low =
+    IsValid-choice (ltb n 8) _ _ (λ e. let below = ltb-true n 8 e in omega arith)
+    (λ _. IsValid-choice (eqb n 8) _ _ (λ _. tt)
+    (λ _. IsValid-choice (eqb n 9) _ _ (λ _. tt)
+    (λ _. IsValid-choice (eqb n 10) _ _ (λ _. tt)
+    (λ _. IsValid-choice (eqb n 11) _ _ (λ _. tt)
+    (λ _. IsValid-choice (ltb n 16) _ _ (λ _. tt)
+    (λ _. IsValid-choice (ltb n 24) _ _ (λ e. let below = ltb-true n 24 e in omega arith)
+    (λ _. IsValid-choice (eqb n 24) _ _ (λ _. tt)
+    (λ _. IsValid-choice (eqb n 25) _ _ (λ _. tt)
+    (λ _. IsValid-choice (eqb n 26) _ _ (λ _. tt)
+    (λ _. IsValid-choice (eqb n 28) _ _ (λ _. tt)
+    (λ _. IsValid-choice (eqb n 29) _ _ (λ _. tt)
+    (λ _. IsValid-choice (eqb n 30) _ _ (λ _. tt)
+    (λ _. IsValid-choice (eqb n 31) _ _ (λ _. tt)
+    (λ _. tt))))))))))))))
+
+IsSafe-code : (s : ControlState) (c1 : C1Set) (n : ℕ) → IsValidControl s
+    → AllByRecursion (IsSafe s.rows) (strokes_of_code c1 n s)
+IsSafe-code s c1sets.Parallel n is = tt
+IsSafe-code s c1sets.Serial n is =
+    IsSafe-any_marker s (marker_of s.working.table n) is (IsValid-marker_of s.working.table n is.working.table)
+
+IsSafe-flash : (s : ControlState) (c1 : C1Set) (k : ℕ) → IsValidControl s
+    → AllByRecursion (IsSafe s.rows) (strokes_of_flash c1 k s)
+IsSafe-flash s c1sets.Parallel k is = tt
+IsSafe-flash s c1sets.Serial k is = IsSafe-marker s (markers.Flash (flash_of k s.working.fast)) is tt
+
+IsSafe-reveal : (s : ControlState) (c1 : C1Set) → IsValidControl s
+    → AllByRecursion (IsSafe s.rows) (strokes_of_reveal c1 s)
+IsSafe-reveal s c1sets.Parallel is = tt
+IsSafe-reveal s c1sets.Serial is = IsSafe-marker s (markers.Conceal false) is tt
+
+IsSafe-strokes_when : (s : ControlState) (command : Command) → IsValidControl s → IsValidCommand command
+    → AllByRecursion (IsSafe s.rows) (strokes_when s command)
+IsSafe-strokes_when s commands.Back is valid = IsSafe-back_strokes s
+IsSafe-strokes_when s commands.Forward is valid = IsSafe-on_strokes s 1
 IsSafe-strokes_when s commands.Clear is valid = (tt, tt)
-IsSafe-strokes_when s (commands.Graphic byte) is valid = IsSafe-read_of s (taken s byte).read is (IsValidRead-taken s byte valid)
-IsSafe-strokes_when s (commands.Repeat n) is valid = IsSafe-repeat_of n s s.working.last is is.working.last
+IsSafe-strokes_when s (commands.Graphic byte) is valid =
+    IsSafe-strokes_of_read s (graphic_result s byte).read is (IsValidRead-graphic_result s byte valid)
+IsSafe-strokes_when s (commands.Repeat n) is valid = IsSafe-strokes_of_repeat n s s.working.last is is.working.last
+IsSafe-strokes_when s commands.Cancel is valid = (is.working.place, tt)
+IsSafe-strokes_when s (commands.C1 n) is valid = IsSafe-code s s.working.c1 n is
+IsSafe-strokes_when s (commands.FlashMode k) is valid = IsSafe-flash s s.working.c1 k is
+IsSafe-strokes_when s commands.StopConceal is valid = IsSafe-reveal s s.working.c1 is
 IsSafe-strokes_when s _ is valid = tt
 
-pub IsSafe-strokes_of : (s : ControlState) (command : Command) → IsValidControl s → IsValidCommand command → AllByRecursion (IsSafe s.rows) (strokes_of s command)
-IsSafe-strokes_of s command is valid = IsSafe-strokes_when (ready s command) command (IsValidControl-ready s command is) valid
+pub IsSafe-strokes_of : (s : ControlState) (command : Command) → IsValidControl s → IsValidCommand command
+    → AllByRecursion (IsSafe s.rows) (strokes_of s command)
+IsSafe-strokes_of s command is valid =
+    IsSafe-strokes_when (state_for_effect s command) command (IsValidControl-state_for_effect s command is) valid
 
-length-read_of : (s : ControlState) (read : Read) → length (read_of s read) ≤ 128
-length-read_of s (reads.Accent code) = omega arith
-length-read_of s (reads.Glyph g) = omega arith
+length-strokes_of_read : (s : ControlState) (read : Read) → length (strokes_of_read s read) ≤ 128
+length-strokes_of_read s (reads.Accent code) = omega arith
+length-strokes_of_read s (reads.Glyph g) = omega (arith, ap length (on_strokes-none s 1))
 
-length-repeat_of : (n : ℕ) (s : ControlState) (last : Option Glyph) → n ≤ 63 → length (repeat_of n s last) ≤ 128
-length-repeat_of n s None low = omega arith
-length-repeat_of n s (Some g) low = omega (arith, length-copies n s g)
+length-strokes_of_repeat : (n : ℕ) (s : ControlState) (last : Option Glyph) → n ≤ 63
+    → length (strokes_of_repeat n s last) ≤ 128
+length-strokes_of_repeat n s None low = omega arith
+length-strokes_of_repeat n s (Some g) low = omega (arith, length-strokes_of_copies n s g)
 
-length-strokes_when : (s : ControlState) (command : Command) → IsValidCommand command → length (strokes_when s command) ≤ 128
+length-marker : (s : ControlState) (m : Marker) → length (strokes_of_marker s m) ≤ 128
+length-marker s m = omega (arith, ap length (on_strokes-none s 1))
+
+length-any_marker : (s : ControlState) (m : Option Marker) → length (strokes_of_any_marker s m) ≤ 128
+length-any_marker s None = omega arith
+length-any_marker s (Some m) = length-marker s m
+
+length-code : (s : ControlState) (c1 : C1Set) (n : ℕ) → length (strokes_of_code c1 n s) ≤ 128
+length-code s c1sets.Parallel n = omega arith
+length-code s c1sets.Serial n = length-any_marker s (marker_of s.working.table n)
+
+length-flash : (s : ControlState) (c1 : C1Set) (k : ℕ) → length (strokes_of_flash c1 k s) ≤ 128
+length-flash s c1sets.Parallel k = omega arith
+length-flash s c1sets.Serial k = length-marker s (markers.Flash (flash_of k s.working.fast))
+
+length-reveal : (s : ControlState) (c1 : C1Set) → length (strokes_of_reveal c1 s) ≤ 128
+length-reveal s c1sets.Parallel = omega arith
+length-reveal s c1sets.Serial = length-marker s (markers.Conceal false)
+
+length-strokes_when : (s : ControlState) (command : Command) → IsValidCommand command
+    → length (strokes_when s command) ≤ 128
+length-strokes_when s commands.Back valid = omega (arith, ap length (back_strokes-none s))
+length-strokes_when s commands.Forward valid = omega (arith, ap length (on_strokes-none s 1))
 length-strokes_when s commands.Clear valid = omega arith
-length-strokes_when s (commands.Graphic byte) valid = length-read_of s (taken s byte).read
-length-strokes_when s (commands.Repeat n) valid = length-repeat_of n s s.working.last valid
+length-strokes_when s (commands.Graphic byte) valid = length-strokes_of_read s (graphic_result s byte).read
+length-strokes_when s (commands.Repeat n) valid = length-strokes_of_repeat n s s.working.last valid
+length-strokes_when s (commands.C1 n) valid = length-code s s.working.c1 n
+length-strokes_when s (commands.FlashMode k) valid = length-flash s s.working.c1 k
+length-strokes_when s commands.StopConceal valid = length-reveal s s.working.c1
 length-strokes_when s _ valid = omega arith
 
-pub length-strokes_of : (s : ControlState) (command : Command) → IsValidCommand command → length (strokes_of s command) ≤ 128
-length-strokes_of s command valid = length-strokes_when (ready s command) command valid
+pub length-strokes_of : (s : ControlState) (command : Command) → IsValidCommand command
+    → length (strokes_of s command) ≤ 128
+length-strokes_of s command valid = length-strokes_when (state_for_effect s command) command valid

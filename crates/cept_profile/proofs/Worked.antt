@@ -3,88 +3,99 @@ use Rattle.std.proofs.Common.{◌≡◌, ℕ, List, [], ◌∷◌, Some, None, t
 use Rattle.cept_codes.specs.declared.cell.Cell.{Cell}
 use Rattle.cept_codes.specs.declared.cell.What.TheVariants as whats
 use Rattle.cept_codes.specs.declared.attribute.Flash.TheVariants.{Fast1, Fast2, Fast3}
-use Rattle.cept_codes.specs.declared.command.Command.TheVariants.{Nul, CursorOn, Graphic, Position, Clear, Home, Return, Back, Down, Up, Single, LockRight, Designate, Repeat, C1, FlashMode, StopConceal, Cancel}
+use Rattle.cept_codes.specs.declared.command.Command.TheVariants.{Nul, CursorOn, Graphic, Position, Clear, Home, Return}
+use Rattle.cept_codes.specs.declared.command.Command.TheVariants.{Back, Down, Up, Single, LockRight, Designate, Repeat}
+use Rattle.cept_codes.specs.declared.command.Command.TheVariants.{C1, FlashMode, StopConceal, Cancel}
 use Rattle.cept_codes.specs.declared.glyph.Glyph.{Glyph}
 use Rattle.cept_codes.specs.declared.glyph.SetId.TheVariants.{P, S}
 use Rattle.cept_codes.specs.declared.look.Look.{Look}
 use Rattle.cept_codes.specs.declared.look.Shape.TheVariants as shapes
 use Rattle.cept_codes.specs.declared.stroke.Stroke.{Stroke}
 use Rattle.cept_codes.specs.declared.stroke.Stroke.TheVariants.{Put}
-use Rattle.cept_codes.specs.Attribute.{unset}
-use Rattle.cept_codes.specs.Cell.{blank}
+use Rattle.cept_codes.specs.Attribute.{unset_pen}
+use Rattle.cept_codes.specs.Cell.{blank_cell}
 use Rattle.cept_codes.specs.Look.{blank_look}
-use Rattle.cept_codes.specs.Table.{row_of, table, at}
+use Rattle.cept_codes.specs.Table.{row_of, table, value_at}
 use Rattle.cept_profile.specs.Cells.{cell_back}
-use Rattle.cept_profile.specs.Changes.{differences, listed, changes}
+use Rattle.cept_profile.specs.Changes.{differences, marked_looks, changes}
 use Rattle.cept_profile.specs.Colours.{default_paints}
-use Rattle.cept_profile.specs.Control.{ControlState, initial, initial_working, moved_to, control}
+use Rattle.cept_profile.specs.Control.{ControlState, initial_control, initial_working, working_at, control}
 use Rattle.cept_profile.specs.Sets.{set_of, read_as}
-use Rattle.cept_profile.specs.Look.{look_of}
+use Rattle.cept_profile.specs.Look.{look_in_row}
+use Rattle.cept_profile.specs.Serial.{serial_attributes, column_in_force, is_holding, kept_sign}
 use Rattle.cept_profile.specs.State.{page}
 use Rattle.cept_profile.specs.Strokes.{strokes_in, strokes_of}
-use Rattle.cept_profile.specs.Writing.{behind_copies, copies}
+use Rattle.cept_profile.specs.Writing.{control_after_copies, strokes_of_copies}
 
 abbrev pub sign : ℕ → Glyph
 sign code = record { set = P; code = code; accent = 0 }
 
 abbrev pub cell_with : ℕ → Cell
-cell_with code = record { what = whats.Parallel (sign code) unset; protected = false }
+cell_with code = record { what = whats.Parallel (sign code) unset_pen; protected = false }
 
 abbrev pub look_with : ℕ → Look
 look_with code = record blank_look { shape = shapes.Char (sign code) }
 
 -- the initial state at another place
 abbrev pub at_place : ℕ → ℕ → ControlState
-at_place r c = record initial { working = moved_to r c initial_working }
+at_place r c = record initial_control { working = working_at r c initial_working }
 
 -- a sign stands at the first place
-pub sign_at_first_place : at blank (page (Graphic 0x41 ∷ [])).cells 1 1 ≡ cell_with 0x41
+pub sign_at_first_place : value_at blank_cell (page (Graphic 0x41 ∷ [])).cells 1 1 ≡ cell_with 0x41
 unfolding table row_of cell_back set_of read_as
 sign_at_first_place = refl
 
-pub nothing_beside_it : at blank (page (Graphic 0x41 ∷ [])).cells 1 2 ≡ blank
+pub nothing_beside_it : value_at blank_cell (page (Graphic 0x41 ∷ [])).cells 1 2 ≡ blank_cell
 unfolding table row_of cell_back set_of read_as
 nothing_beside_it = refl
 
 -- and is the only change
 pub one_change : changes [] (Graphic 0x41) ≡ (record { row = 1; column = 1 }, look_with 0x41) ∷ []
-unfolding table row_of cell_back differences listed set_of read_as look_of default_paints
+unfolding table row_of cell_back differences marked_looks set_of read_as look_in_row serial_attributes column_in_force
+    is_holding kept_sign default_paints
 one_change = refl
 
 -- a space is no change, though a sign stands there
 pub space_changes_nothing : changes [] (Graphic 0x20) ≡ []
-unfolding table row_of cell_back differences listed set_of read_as look_of default_paints
+unfolding table row_of cell_back differences marked_looks set_of read_as look_in_row serial_attributes column_in_force
+    is_holding kept_sign default_paints
 space_changes_nothing = refl
 
-pub space_stands : at blank (page (Graphic 0x20 ∷ [])).cells 1 1 ≡ cell_with 0x20
+pub space_stands : value_at blank_cell (page (Graphic 0x20 ∷ [])).cells 1 1 ≡ cell_with 0x20
 unfolding table row_of cell_back set_of read_as
 space_stands = refl
 
--- behind the last place comes the first
-pub last_place : at blank (page (Position 24 40 ∷ Graphic 0x41 ∷ Graphic 0x42 ∷ [])).cells 24 40 ≡ cell_with 0x41
+-- after the last place comes the first
+pub last_place : value_at blank_cell (page (Position 24 40 ∷ Graphic 0x41 ∷ Graphic 0x42 ∷ [])).cells 24 40
+    ≡ cell_with 0x41
 unfolding table row_of cell_back set_of read_as
 last_place = refl
 
-pub behind_the_last_place : at blank (page (Position 24 40 ∷ Graphic 0x41 ∷ Graphic 0x42 ∷ [])).cells 1 1 ≡ cell_with 0x42
+pub after_the_last_place : value_at blank_cell
+    (page (Position 24 40 ∷ Graphic 0x41 ∷ Graphic 0x42 ∷ [])).cells 1 1 ≡ cell_with 0x42
 unfolding table row_of cell_back set_of read_as
-behind_the_last_place = refl
+after_the_last_place = refl
 
 -- an end of a row goes on in the row below
-pub end_of_row : control (Position 3 40 ∷ Graphic 0x41 ∷ []) ≡ record initial { working = record (moved_to 4 1 initial_working) { last = Some (sign 0x41) } }
+pub end_of_row : control (Position 3 40 ∷ Graphic 0x41 ∷ [])
+    ≡ record initial_control { working = record (working_at 4 1 initial_working) { last = Some (sign 0x41) } }
 unfolding set_of read_as
 end_of_row = refl
 
 -- the same sign again is no change
 pub same_sign_again : changes (Graphic 0x41 ∷ Return ∷ []) (Graphic 0x41) ≡ []
-unfolding table row_of cell_back differences listed set_of read_as look_of default_paints
+unfolding table row_of cell_back differences marked_looks set_of read_as look_in_row serial_attributes column_in_force
+    is_holding kept_sign default_paints
 same_sign_again = refl
 
 -- Clear blanks and goes home, and tells what it blanked in reading order
-pub clear_blanks : changes (Position 2 1 ∷ Graphic 0x41 ∷ Position 1 40 ∷ Graphic 0x42 ∷ []) Clear ≡ (record { row = 1; column = 40 }, blank_look) ∷ (record { row = 2; column = 1 }, blank_look) ∷ []
-unfolding table row_of cell_back differences listed set_of read_as look_of default_paints
+pub clear_blanks : changes (Position 2 1 ∷ Graphic 0x41 ∷ Position 1 40 ∷ Graphic 0x42 ∷ []) Clear
+    ≡ (record { row = 1; column = 40 }, blank_look) ∷ (record { row = 2; column = 1 }, blank_look) ∷ []
+unfolding table row_of cell_back differences marked_looks set_of read_as look_in_row serial_attributes column_in_force
+    is_holding kept_sign default_paints
 clear_blanks = refl
 
-pub clear_goes_home : control (Position 9 9 ∷ Clear ∷ []) ≡ initial
+pub clear_goes_home : control (Position 9 9 ∷ Clear ∷ []) ≡ initial_control
 clear_goes_home = refl
 
 -- the last sign written survives Clear
@@ -107,7 +118,7 @@ pub unbuilt_leaves : control (Graphic 0x41 ∷ Cancel ∷ []) ≡ control (Graph
 unfolding set_of read_as
 unbuilt_leaves = refl
 
-pub unbuilt_drops_the_accent : control (Graphic 0xC8 ∷ Cancel ∷ []) ≡ initial
+pub unbuilt_drops_the_accent : control (Graphic 0xC8 ∷ Cancel ∷ []) ≡ initial_control
 unfolding set_of read_as
 unbuilt_drops_the_accent = refl
 
@@ -115,7 +126,7 @@ unbuilt_drops_the_accent = refl
 
 -- a cell with this sign and no attribute
 abbrev pub cell_of_sign : Glyph → Cell
-cell_of_sign g = record { what = whats.Parallel g unset; protected = false }
+cell_of_sign g = record { what = whats.Parallel g unset_pen; protected = false }
 
 abbrev pub put_at_first : Glyph → List Stroke
 put_at_first g = Put (record { row = 1; column = 1 }) (cell_of_sign g) ∷ []
@@ -152,27 +163,29 @@ pub later_accent_replaces : strokes_in (Graphic 0xC1 ∷ Graphic 0xC8 ∷ Graphi
 unfolding set_of read_as
 later_accent_replaces = refl
 
-pub mosaic_takes_no_accent : strokes_in (Graphic 0xC8 ∷ Graphic 0xA1 ∷ []) ≡ put_at_first (record { set = S; code = 0x21; accent = 0 })
+pub mosaic_takes_no_accent : strokes_in (Graphic 0xC8 ∷ Graphic 0xA1 ∷ [])
+    ≡ put_at_first (record { set = S; code = 0x21; accent = 0 })
 unfolding set_of read_as
 mosaic_takes_no_accent = refl
 
-pub no_accent_waits_behind : (control (Graphic 0xC8 ∷ Graphic 0xA1 ∷ [])).working.accent ≡ None
+pub no_accent_waits_after : (control (Graphic 0xC8 ∷ Graphic 0xA1 ∷ [])).working.accent ≡ None
 unfolding set_of read_as
-no_accent_waits_behind = refl
+no_accent_waits_after = refl
 
 -- ---- copies
 
 -- a sign and 63 copies take a row and 24 places of the next
 pub sixty_three_copies : length (strokes_of (control (Graphic 0x41 ∷ [])) (Repeat 63)) ≡ 63
-unfolding set_of read_as behind_copies copies
+unfolding set_of read_as control_after_copies strokes_of_copies
 sixty_three_copies = refl
 
-pub last_copy : drop 62 (strokes_of (control (Graphic 0x41 ∷ [])) (Repeat 63)) ≡ Put (record { row = 2; column = 24 }) (cell_with 0x41) ∷ []
-unfolding set_of read_as behind_copies copies
+pub last_copy : drop 62 (strokes_of (control (Graphic 0x41 ∷ [])) (Repeat 63))
+    ≡ Put (record { row = 2; column = 24 }) (cell_with 0x41) ∷ []
+unfolding set_of read_as control_after_copies strokes_of_copies
 last_copy = refl
 
 pub no_copies : strokes_in (Graphic 0x41 ∷ Repeat 0 ∷ []) ≡ put_at_first (sign 0x41)
-unfolding set_of read_as behind_copies copies
+unfolding set_of read_as control_after_copies strokes_of_copies
 no_copies = refl
 
 pub nothing_to_copy : strokes_in (Repeat 5 ∷ []) ≡ []
@@ -180,31 +193,34 @@ nothing_to_copy = refl
 
 -- ---- pens
 
-pub inverted : strokes_in (C1 29 ∷ Graphic 0x43 ∷ []) ≡ Put (record { row = 1; column = 1 }) (record { what = whats.Parallel (sign 0x43) (record unset { invert = Some true }); protected = false }) ∷ []
+pub inverted : strokes_in (C1 29 ∷ Graphic 0x43 ∷ [])
+    ≡ Put (record { row = 1; column = 1 })
+    (record { what = whats.Parallel (sign 0x43) (record unset_pen { invert = Some true }); protected = false }) ∷ []
 unfolding set_of read_as
 inverted = refl
 
-pub background_set : (control (C1 21 ∷ [])).working.pen ≡ record unset { back = Some 5 }
+pub background_set : (control (C1 21 ∷ [])).working.pen ≡ record unset_pen { back = Some 5 }
 background_set = refl
 
-pub background_unset : (control (C1 21 ∷ Graphic 0x41 ∷ C1 30 ∷ [])).working.pen ≡ unset
+pub background_unset : (control (C1 21 ∷ Graphic 0x41 ∷ C1 30 ∷ [])).working.pen ≡ unset_pen
 unfolding set_of read_as
 background_unset = refl
 
-pub foreground_set : (control (C1 3 ∷ [])).working.pen ≡ record unset { fore = Some 3 }
+pub foreground_set : (control (C1 3 ∷ [])).working.pen ≡ record unset_pen { fore = Some 3 }
 foreground_set = refl
 
-pub concealed : (control (C1 24 ∷ [])).working.pen ≡ record unset { conceal = Some true }
+pub concealed : (control (C1 24 ∷ [])).working.pen ≡ record unset_pen { conceal = Some true }
 concealed = refl
 
-pub concealing_stops : (control (C1 24 ∷ StopConceal ∷ [])).working.pen ≡ record unset { conceal = Some false }
+pub concealing_stops : (control (C1 24 ∷ StopConceal ∷ [])).working.pen ≡ record unset_pen { conceal = Some false }
 concealing_stops = refl
 
-pub home_unsets_the_pen : control (C1 3 ∷ FlashMode 3 ∷ Home ∷ []) ≡ initial
+pub home_unsets_the_pen : control (C1 3 ∷ FlashMode 3 ∷ Home ∷ []) ≡ initial_control
 home_unsets_the_pen = refl
 
 -- the fast flashes go round in a circle of three
-pub fast_forwards : (control (FlashMode 5 ∷ FlashMode 5 ∷ FlashMode 5 ∷ FlashMode 5 ∷ [])).working.pen.flash ≡ Some Fast1
+pub fast_forwards : (control (FlashMode 5 ∷ FlashMode 5 ∷ FlashMode 5 ∷ FlashMode 5 ∷ [])).working.pen.flash
+    ≡ Some Fast1
 fast_forwards = refl
 
 pub fast_backwards : (control (FlashMode 6 ∷ FlashMode 6 ∷ [])).working.pen.flash ≡ Some Fast2
@@ -242,6 +258,7 @@ pub single_shift_is_spent : control (Position 24 40 ∷ Single 2 ∷ Graphic 0x4
 unfolding set_of read_as
 single_shift_is_spent = refl
 
-pub designated_and_locked : strokes_in (Designate 1 S ∷ LockRight 1 ∷ Graphic 0xA1 ∷ []) ≡ put_at_first (record { set = S; code = 0x21; accent = 0 })
+pub designated_and_locked : strokes_in (Designate 1 S ∷ LockRight 1 ∷ Graphic 0xA1 ∷ [])
+    ≡ put_at_first (record { set = S; code = 0x21; accent = 0 })
 unfolding set_of read_as
 designated_and_locked = refl

@@ -10,8 +10,8 @@ use Rattle.cept_codes.specs.declared.look.Look.{Look}
 use Rattle.cept_codes.specs.declared.look.Paint.{Paint}
 use Rattle.cept_codes.specs.declared.look.Paint.TheVariants as paints
 use Rattle.cept_codes.specs.declared.look.Shape.TheVariants as shapes
-use Rattle.cept_codes.specs.Attribute.{unset}
-use Rattle.cept_codes.specs.Look.{blank_look, black, white}
+use Rattle.cept_codes.specs.Attribute.{unset_pen}
+use Rattle.cept_codes.specs.Look.{blank_look, black_paint, white_paint}
 use Rattle.cept_profile.specs.Attributes.{cascade}
 use Rattle.cept_profile.specs.Colours.{ink, default_paints, default_paint}
 use Rattle.cept_profile.specs.Look.{look_of}
@@ -27,33 +27,36 @@ abbrev pub written : ℕ → Pen → What
 written code pen = whats.Parallel (glyph code 0) pen
 
 -- `95 41 9E 42 9D 43`: a magenta background, which 9/14 ends by black, and then inverted; each pen is what these set
-abbrev pub magenta_behind : Pen
-magenta_behind = record unset { back = Some 5 }
+abbrev pub magenta_after : Pen
+magenta_after = record unset_pen { back = Some 5 }
 
-abbrev pub black_behind : Pen
-black_behind = record unset { back = Some 0 }
+abbrev pub black_after : Pen
+black_after = record unset_pen { back = Some 0 }
 
 abbrev pub inverted : Pen
-inverted = record black_behind { invert = Some true }
+inverted = record black_after { invert = Some true }
 
-pub sign_on_magenta : look_of (written 0x41 magenta_behind) ≡ in_paints 0x41 white (ink 15 0 15)
+pub sign_on_magenta : look_of (written 0x41 magenta_after) ≡ in_paints 0x41 white_paint (ink 15 0 15)
 unfolding look_of default_paints
 sign_on_magenta = refl
 
-pub sign_on_black : look_of (written 0x42 black_behind) ≡ in_paints 0x42 white black
+pub sign_on_black : look_of (written 0x42 black_after) ≡ in_paints 0x42 white_paint black_paint
 unfolding look_of default_paints
 sign_on_black = refl
 
-pub sign_inverted : look_of (written 0x43 inverted) ≡ in_paints 0x43 black white
+pub sign_inverted : look_of (written 0x43 inverted) ≡ in_paints 0x43 black_paint white_paint
 unfolding look_of default_paints
 sign_inverted = refl
 
 -- a sign that would show the picture behind is as its background, which is transparent under invert
-pub no_sign_shows_the_picture : look_of (written 0x41 (record unset { fore = Some 8; back = Some 1 })) ≡ in_paints 0x41 (ink 15 0 0) (ink 15 0 0)
+pub no_sign_shows_the_picture : look_of (written 0x41 (record unset_pen { fore = Some 8; back = Some 1 }))
+    ≡ in_paints 0x41 (ink 15 0 0) (ink 15 0 0)
 unfolding look_of default_paints
 no_sign_shows_the_picture = refl
 
-pub picture_behind_inverted : look_of (written 0x41 (record unset { fore = Some 24; back = Some 1; invert = Some true })) ≡ in_paints 0x41 (ink 15 0 0) paints.Video
+pub picture_behind_inverted : look_of
+    (written 0x41 (record unset_pen { fore = Some 24; back = Some 1; invert = Some true }))
+    ≡ in_paints 0x41 (ink 15 0 0) paints.Video
 unfolding look_of default_paints
 picture_behind_inverted = refl
 
@@ -63,11 +66,12 @@ unfolding default_paints
 reduced_green = refl
 
 -- an accent is of its sign; a space with an accent is drawn, one without is not
-pub accent_of_its_sign : look_of (whats.Parallel (glyph 0x61 0x48) unset) ≡ record blank_look { shape = shapes.Char (glyph 0x61 0x48) }
+pub accent_of_its_sign : look_of (whats.Parallel (glyph 0x61 0x48) unset_pen)
+    ≡ record blank_look { shape = shapes.Char (glyph 0x61 0x48) }
 unfolding look_of default_paints
 accent_of_its_sign = refl
 
-pub space_is_not_drawn : look_of (written 0x20 magenta_behind) ≡ record blank_look { back = ink 15 0 15 }
+pub space_is_not_drawn : look_of (written 0x20 magenta_after) ≡ record blank_look { back = ink 15 0 15 }
 unfolding look_of default_paints
 space_is_not_drawn = refl
 
@@ -77,11 +81,12 @@ unfolding look_of default_paints
 marker_is_blank = refl
 
 -- the pen comes before the row, and the row before the screen
-pub pen_first : (cascade (record unset { fore = Some 1 }) (record unset { fore = Some 2 }) (record unset { fore = Some 3 })).fore ≡ 1
+pub pen_first : (cascade (record unset_pen { fore = Some 1 }) (record unset_pen { fore = Some 2 })
+    (record unset_pen { fore = Some 3 })).fore ≡ 1
 pen_first = refl
 
-pub row_next : (cascade unset (record unset { fore = Some 2 }) (record unset { fore = Some 3 })).fore ≡ 2
+pub row_next : (cascade unset_pen (record unset_pen { fore = Some 2 }) (record unset_pen { fore = Some 3 })).fore ≡ 2
 row_next = refl
 
-pub screen_last : (cascade unset unset (record unset { fore = Some 3 })).fore ≡ 3
+pub screen_last : (cascade unset_pen unset_pen (record unset_pen { fore = Some 3 })).fore ≡ 3
 screen_last = refl

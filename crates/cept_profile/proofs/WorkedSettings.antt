@@ -1,27 +1,36 @@
 -- Worked cases of looking back: services, and settings of commands that aren't built yet, by computing.
 use Rattle.std.proofs.Common.{◌≡◌, [], ◌∷◌, Some, None, false, refl}
 use Rattle.cept_codes.specs.declared.command.C1Set.TheVariants.{Serial, Parallel}
-use Rattle.cept_codes.specs.declared.command.Command.TheVariants.{Graphic, C1, DesignateC1, Table, StopConceal, Home, Designate, AreaCreate, AreaDelete, Format, ServiceBreak, ServiceEnd, FullDefaults, ControlDefaults}
+use Rattle.cept_codes.specs.declared.command.Command.TheVariants.{Graphic, C1, DesignateC1, Table, StopConceal, Home}
+use Rattle.cept_codes.specs.declared.command.Command.TheVariants.{Designate, AreaCreate, AreaDelete, Format}
+use Rattle.cept_codes.specs.declared.command.Command.TheVariants.{ServiceBreak, ServiceEnd, FullDefaults}
+use Rattle.cept_codes.specs.declared.command.Command.TheVariants.{ControlDefaults}
 use Rattle.cept_codes.specs.declared.glyph.SetId.TheVariants.{P, N}
-use Rattle.cept_profile.specs.ControlSettings.{outer, c1_back, set_back, class_back, fore_in, back_in, conceal_in, rows_back, area_back, settings}
+use Rattle.cept_profile.specs.ControlSettings.{outer_history, c1_back, set_back, class_back, fore_in, back_in}
+use Rattle.cept_profile.specs.ControlSettings.{conceal_in, rows_back, area_back, settings}
 
 -- ---- services, in their order
 
-pub closed_service_is_left_out : outer (C1 1 ∷ ServiceBreak 24 ∷ C1 2 ∷ ServiceEnd ∷ C1 3 ∷ []) ≡ C1 1 ∷ C1 3 ∷ []
+pub closed_service_is_left_out : outer_history (C1 1 ∷ ServiceBreak 24 ∷ C1 2 ∷ ServiceEnd ∷ C1 3 ∷ [])
+    ≡ C1 1 ∷ C1 3 ∷ []
 closed_service_is_left_out = refl
 
 -- the first of two breaks begins the service
-pub second_break_begins_none : outer (C1 1 ∷ ServiceBreak 24 ∷ C1 2 ∷ ServiceBreak 24 ∷ C1 3 ∷ ServiceEnd ∷ []) ≡ C1 1 ∷ []
+pub second_break_begins_none : outer_history
+    (C1 1 ∷ ServiceBreak 24 ∷ C1 2 ∷ ServiceBreak 24 ∷ C1 3 ∷ ServiceEnd ∷ []) ≡ C1 1 ∷ []
 second_break_begins_none = refl
 
-pub open_service_stays : outer (C1 1 ∷ ServiceBreak 24 ∷ C1 2 ∷ []) ≡ C1 1 ∷ ServiceBreak 24 ∷ C1 2 ∷ []
+pub open_service_stays : outer_history (C1 1 ∷ ServiceBreak 24 ∷ C1 2 ∷ []) ≡ C1 1 ∷ ServiceBreak 24 ∷ C1 2 ∷ []
 open_service_stays = refl
 
 -- full defaults end a service without closing it, so that the end closes none
-pub full_defaults_close_none : outer (ServiceBreak 24 ∷ FullDefaults Serial ∷ ServiceEnd ∷ []) ≡ ServiceBreak 24 ∷ FullDefaults Serial ∷ ServiceEnd ∷ []
+pub full_defaults_close_none : outer_history (ServiceBreak 24 ∷ FullDefaults Serial ∷ ServiceEnd ∷ []) ≡ ServiceBreak 24
+    ∷ FullDefaults Serial ∷ ServiceEnd ∷ []
 full_defaults_close_none = refl
 
-pub two_services : outer (ServiceBreak 24 ∷ C1 1 ∷ ServiceEnd ∷ C1 2 ∷ ServiceBreak 24 ∷ ServiceEnd ∷ ServiceEnd ∷ []) ≡ C1 2 ∷ ServiceEnd ∷ []
+pub two_services : outer_history (ServiceBreak 24 ∷ C1 1 ∷ ServiceEnd ∷ C1 2 ∷ ServiceBreak 24 ∷ ServiceEnd
+    ∷ ServiceEnd ∷ [])
+    ≡ C1 2 ∷ ServiceEnd ∷ []
 two_services = refl
 
 -- ---- settings, the newest command first

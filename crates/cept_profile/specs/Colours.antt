@@ -1,16 +1,16 @@
--- Colours: entries in tables of eight (ETS 300 072, colour tables). Which paint each has by default, and that a foreground
--- never shows the picture behind, are this profile's own.
+-- Colours: entries in tables of eight (ETS 300 072, colour tables). Which paint each has by default, and that a
+-- foreground never shows the picture behind, are this profile's own.
 use Rattle.std.specs.Prelude.{ℕ, ◌%◌, List, [], ◌∷◌, slice_index_or, if◌then◌else◌}
 use Rattle.cept_codes.specs.declared.attribute.Full.{Full}
 use Rattle.cept_codes.specs.declared.look.Paint.{Paint}
 use Rattle.cept_codes.specs.declared.look.Paint.TheVariants as paints
-use Rattle.cept_codes.specs.Look.{black}
+use Rattle.cept_codes.specs.Look.{black_paint}
 
 -- red, green and blue, 0 to 15 each
 abbrev pub ink : ℕ → ℕ → ℕ → Paint
 ink r g b = paints.Ink (record { r = r; g = g; b = b })
 
--- entries 0 to 15 of the default colour table: full colours, then the one that shows the picture behind, then reduced colours
+-- entries 0 to 15 of the default colour table: full colours, the one that shows the picture behind, reduced colours
 unfoldable pub default_paints : List Paint
 default_paints =
     ink 0 0 0 ∷ ink 15 0 0 ∷ ink 0 15 0 ∷ ink 15 15 0 ∷ ink 0 0 15 ∷ ink 15 0 15 ∷ ink 0 15 15 ∷ ink 15 15 15 ∷
@@ -18,7 +18,7 @@ default_paints =
 
 -- entries 16 to 31 are as those
 abbrev pub default_paint : ℕ → Paint
-default_paint i = slice_index_or default_paints (i % 16) black
+default_paint i = slice_index_or default_paints (i % 16) black_paint
 
 -- the paint of the foreground: that of its entry, and under invert that of the background's
 abbrev pub fore_paint : Full → Paint
@@ -29,6 +29,6 @@ abbrev pub back_paint : Full → Paint
 back_paint f = default_paint (if f.invert then f.fore else f.back)
 
 -- a foreground that would show the picture behind is as the background
-abbrev pub over : Paint → Paint → Paint
-over paints.Video back = back
-over (paints.Ink c) back = paints.Ink c
+abbrev pub paint_over : Paint → Paint → Paint
+paint_over paints.Video back = back
+paint_over (paints.Ink c) back = paints.Ink c

@@ -1,14 +1,16 @@
--- Control: what each command makes of the state of the decoder beside the page (T/CD 6-1, the C0 control functions; code
--- extension after ISO 2022). What ends a mosaic run, unsets the pen or drops an accent is this profile's own. Until a command
--- is built it only drops a waiting accent.
+-- Control: what each command makes of the state of the decoder beside the page (T/CD 6-1, the C0 control functions;
+-- code extension after ISO 2022). What ends a mosaic run, unsets the pen or drops an accent is this profile's own.
+-- Until a command is built it only drops a waiting accent.
 use Rattle.std.specs.Prelude.{Bool, true, false, List, [], ◌∷◌, reverse, min, if◌then◌else◌}
 use Rattle.cept_codes.specs.declared.command.Command.{Command}
 use Rattle.cept_codes.specs.declared.command.Command.TheVariants as commands
-use Rattle.cept_profile.specs.Motions.{row_below, row_above, moved_on, moved_back}
-use Rattle.cept_profile.specs.Pens.{coded, flashing, revealed}
-use Rattle.cept_profile.specs.Sets.{designated, locked_left, locked_right, shifted}
-use Rattle.cept_profile.specs.Writing.{repeated, behind_read, taken, with_taken}
-pub use Rattle.cept_profile.specs.Working.{Working, ControlState, Sets, initial_sets, initial_working, initial, with_working, moved_to, with_sets, run_ended, pen_unset, accent_dropped}
+use Rattle.cept_profile.specs.Motions.{row_below, row_above, working_ahead, working_back}
+use Rattle.cept_profile.specs.Pens.{working_after_code, working_after_flash, working_after_reveal}
+use Rattle.cept_profile.specs.Sets.{sets_with, sets_with_left, sets_with_right, sets_with_single}
+use Rattle.cept_profile.specs.Writing.{working_after_repeat, working_after_read, graphic_result, control_with_result}
+pub use Rattle.cept_profile.specs.Working.{Working, ControlState, Sets, initial_sets, initial_working, initial_control}
+pub use Rattle.cept_profile.specs.Working.{control_with, working_at, working_with_sets, with_c1, working_without_run}
+pub use Rattle.cept_profile.specs.Working.{working_without_pen, working_without_accent}
 
 -- every command but these drops an accent that waits
 abbrev pub leaves_accent : Command → Bool
@@ -17,42 +19,82 @@ leaves_accent commands.Skipped = true
 leaves_accent (commands.Graphic byte) = true
 leaves_accent _ = false
 
--- the state in which a command takes effect
-abbrev pub ready : ControlState → Command → ControlState
-ready s command = with_working s (if leaves_accent command then s.working else accent_dropped s.working)
+-- every command but these takes effect without the accent: a break of the service finds it, since the state that it
+-- keeps for the service's end has it
+abbrev pub finds_accent : Command → Bool
+finds_accent (commands.ServiceBreak row) = true
+finds_accent command = leaves_accent command
 
--- what a command that takes effect makes of the working state
-abbrev pub working_after : ControlState → Command → Working
-working_after s commands.Back = run_ended (moved_back s s.working)
-working_after s commands.Forward = run_ended (moved_on s 1 s.working)
-working_after s commands.Down = run_ended (moved_to (row_below s s.working.row) s.working.column s.working)
-working_after s commands.Up = run_ended (moved_to (row_above s s.working.row) s.working.column s.working)
-working_after s commands.Return = run_ended (moved_to s.working.row 1 s.working)
-working_after s commands.Home = pen_unset (run_ended (moved_to 1 1 s.working))
-working_after s commands.Clear = pen_unset (run_ended (moved_to 1 1 s.working))
-working_after s (commands.Position r c) = pen_unset (run_ended (moved_to (min r s.rows) c s.working))
-working_after s (commands.LockLeft g) = with_sets (locked_left s.working.sets g) s.working
-working_after s (commands.LockRight g) = with_sets (locked_right s.working.sets g) s.working
-working_after s (commands.Single g) = with_sets (shifted s.working.sets g) s.working
-working_after s (commands.Designate g set) = with_sets (designated s.working.sets g set) s.working
-working_after s (commands.Graphic byte) = behind_read (with_taken s byte) (taken s byte).read
-working_after s (commands.Repeat n) = repeated n s s.working.last
-working_after s (commands.C1 n) = coded s.working.c1 n s.working
-working_after s (commands.FlashMode k) = flashing s.working.c1 k s.working
-working_after s commands.StopConceal = revealed s.working.c1 s.working
-working_after s _ = s.working
+-- the state in which a command takes effect
+abbrev pub state_for_effect : ControlState → Command → ControlState
+state_for_effect s command = control_with s (if finds_accent command then s.working
+    else working_without_accent s.working)
 
 -- the state after a command that takes effect in this state
-abbrev pub obeyed : ControlState → Command → ControlState
-obeyed s command = with_working s (working_after s command)
+abbrev pub control_effect : ControlState → Command → ControlState
+control_effect s commands.Back = control_with s (working_without_run (working_back s s.working))
+control_effect s commands.Forward = control_with s (working_without_run (working_ahead s 1 s.working))
+control_effect s commands.Down =
+    control_with s (working_without_run (working_at (row_below s s.working.row) s.working.column s.working))
+control_effect s commands.Up =
+    control_with s (working_without_run (working_at (row_above s s.working.row) s.working.column s.working))
+control_effect s commands.Return = control_with s (working_without_run (working_at s.working.row 1 s.working))
+control_effect s commands.Home = control_with s (working_without_pen (working_without_run (working_at 1 1 s.working)))
+control_effect s commands.Clear = control_with s (working_without_pen (working_without_run (working_at 1 1 s.working)))
+control_effect s (commands.Position r c) =
+    control_with s (working_without_pen (working_without_run (working_at (min r s.rows) c s.working)))
+control_effect s (commands.LockLeft g) = control_with s (working_with_sets (sets_with_left s.working.sets g) s.working)
+control_effect s (commands.LockRight g) =
+    control_with s (working_with_sets (sets_with_right s.working.sets g) s.working)
+control_effect s (commands.Single g) = control_with s (working_with_sets (sets_with_single s.working.sets g) s.working)
+control_effect s (commands.Designate g set) =
+    control_with s (working_with_sets (sets_with s.working.sets g set) s.working)
+control_effect s (commands.Graphic byte) =
+    control_with s (working_after_read (control_with_result s byte) (graphic_result s byte).read)
+control_effect s (commands.Repeat n) = control_with s (working_after_repeat n s s.working.last)
+control_effect s (commands.C1 n) = control_with s (working_after_code s.working.c1 n s)
+control_effect s (commands.FlashMode k) = control_with s (working_after_flash s.working.c1 k s)
+control_effect s commands.StopConceal = control_with s (working_after_reveal s.working.c1 s)
+control_effect s (commands.DesignateC1 set) = control_with s (working_without_run (with_c1 set s.working))
+-- a service isn't built; that its break drops a waiting accent is its own doing
+control_effect s (commands.ServiceBreak row) = control_with s (working_without_accent s.working)
+-- these leave control as it is
+control_effect s commands.Nul = s
+control_effect s commands.Skipped = s
+control_effect s commands.CursorOn = s
+control_effect s commands.CursorOff = s
+control_effect s commands.Cancel = s
+control_effect s (commands.Marked on) = s
+control_effect s (commands.ColourHeader dclut) = s
+control_effect s (commands.ColourStart i) = s
+control_effect s (commands.DrcsStart code) = s
+-- not built yet: no effect
+control_effect s (commands.Table k) = s
+control_effect s commands.ScrollUp = s
+control_effect s commands.ScrollDown = s
+control_effect s (commands.Implicit on) = s
+control_effect s (commands.Protect on) = s
+control_effect s (commands.AreaCreate first last) = s
+control_effect s (commands.AreaDelete first last) = s
+control_effect s (commands.FullScreen n) = s
+control_effect s (commands.FullRow n) = s
+control_effect s commands.ColourDefaults = s
+control_effect s (commands.Entry i colour) = s
+control_effect s (commands.Dclut i entry) = s
+control_effect s (commands.DrcsHeader delete form) = s
+control_effect s (commands.DrcsPattern code pattern) = s
+control_effect s (commands.Format rows wrap) = s
+control_effect s commands.ServiceEnd = s
+control_effect s (commands.FullDefaults set) = s
+control_effect s (commands.ControlDefaults set) = s
 
 -- the state after one more command
 abbrev pub control_after : ControlState → Command → ControlState
-control_after s command = obeyed (ready s command) command
+control_after s command = control_effect (state_for_effect s command) command
 
 -- the state after the commands, the newest first
 abbrev pub control_back : List Command → ControlState
-control_back [] = initial
+control_back [] = initial_control
 control_back (command ∷ earlier) = control_after (control_back earlier) command
 
 -- the state after the commands in their order

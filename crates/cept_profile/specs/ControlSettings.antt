@@ -1,6 +1,7 @@
--- Settings of control by looking back: each is what the last command says that sets it, else its initial value (which command
--- sets and resets what is this profile's own). Inside, commands stand with the newest first.
-use Rattle.std.specs.Prelude.{ℕ, Bool, true, false, not, Option, Some, None, unwrap_or, List, [], ◌∷◌, filter, reverse, ◌&&◌, ◌==◌, if◌then◌else◌}
+-- Settings of control by looking back: each is what the last command says that sets it, else its initial value (which
+-- command sets and resets what is this profile's own). Inside, commands stand with the newest first.
+use Rattle.std.specs.Prelude.{ℕ, Bool, true, false, not, Option, Some, None, unwrap_or, List, [], ◌∷◌, filter, reverse}
+use Rattle.std.specs.Prelude.{◌&&◌, ◌==◌, if◌then◌else◌}
 use Rattle.cept_codes.specs.declared.attribute.Attr.{Attr}
 use Rattle.cept_codes.specs.declared.attribute.Attr.TheVariants as attrs
 use Rattle.cept_codes.specs.declared.attribute.Size.{Size}
@@ -39,18 +40,18 @@ abbrev mutual
   -- the same before the service that runs: its break is the first, since a break while it runs begins none
   pub before_service : List Command → List Command
   before_service [] = []
-  before_service (commands.ServiceBreak row ∷ earlier) = if is_running earlier then before_service earlier else outer_back earlier
+  before_service (commands.ServiceBreak row ∷ earlier) =
+      if is_running earlier then before_service earlier else outer_back earlier
   before_service (_ ∷ earlier) = before_service earlier
 
 -- a history without each closed service
-abbrev pub outer : List Command → List Command
-outer history = reverse (outer_back (reverse history))
+abbrev pub outer_history : List Command → List Command
+outer_history history = reverse (outer_back (reverse history))
 
 -- ---- the commands that are asked
 
 -- commands that will set control and aren't built: until they are, they set nothing
 abbrev pub is_unbuilt : Command → Bool
-is_unbuilt (commands.DesignateC1 set) = true
 is_unbuilt (commands.Table k) = true
 is_unbuilt (commands.Implicit on) = true
 is_unbuilt (commands.Protect on) = true
@@ -64,8 +65,8 @@ is_unbuilt (commands.ControlDefaults set) = true
 is_unbuilt _ = false
 
 -- the others
-abbrev pub counted : List Command → List Command
-counted history = filter (λ command. not (is_unbuilt command)) history
+abbrev pub built_commands : List Command → List Command
+built_commands history = filter (λ command. not (is_unbuilt command)) history
 
 -- ---- looking back
 
@@ -254,7 +255,7 @@ area_back = last_said (λ earlier. area_said (created_back earlier)) None
 
 -- ---- all settings
 
--- what control keeps that a command says at once: all but the position, the run, the step, flash, what waits and the last sign
+-- what control keeps that a command says at once: all but position, run, step, flash, what waits and the last sign
 pub record Settings : Type 0 where
   pub c1 : C1Set
   pub table : ℕ
@@ -330,5 +331,5 @@ settings_back outside all = record {
 -- the settings after the commands
 abbrev pub settings : List Command → Settings
 settings history =
-    let all = counted (reverse history) in
+    let all = built_commands (reverse history) in
     settings_back (outer_back all) all

@@ -14,3 +14,6 @@ pub mod Strokes
 pub mod Valid
 pub mod Working
 pub mod Writing
+pub mod Markers
+pub mod Serial
+pub mod Carry

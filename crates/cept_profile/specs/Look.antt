@@ -1,5 +1,5 @@
--- Looks (own): what is seen at each place of a page.
-use Rattle.std.specs.Prelude.{ℕ, List, ◌&&◌, ◌==◌, if◌then◌else◌}
+-- Looks (own): what is seen at each place of a core.
+use Rattle.std.specs.Prelude.{ℕ, Option, Some, List, ◌&&◌, ◌==◌, if◌then◌else◌}
 use Rattle.cept_codes.specs.declared.attribute.Full.{Full}
 use Rattle.cept_codes.specs.declared.cell.What.{What}
 use Rattle.cept_codes.specs.declared.cell.What.TheVariants as whats
@@ -8,12 +8,13 @@ use Rattle.cept_codes.specs.declared.glyph.Glyph.{Glyph}
 use Rattle.cept_codes.specs.declared.look.Look.{Look}
 use Rattle.cept_codes.specs.declared.look.Shape.{Shape}
 use Rattle.cept_codes.specs.declared.look.Shape.TheVariants as shapes
-use Rattle.cept_codes.specs.Attribute.{unset}
-use Rattle.cept_codes.specs.Cell.{blank}
-use Rattle.cept_codes.specs.Table.{table, at}
+use Rattle.cept_codes.specs.Attribute.{unset_pen}
+use Rattle.cept_codes.specs.Cell.{blank_cell}
+use Rattle.cept_codes.specs.Table.{table, value_at}
 use Rattle.cept_profile.specs.Attributes.{cascade}
-use Rattle.cept_profile.specs.Colours.{fore_paint, back_paint, over}
-use Rattle.cept_profile.specs.State.{Page, page}
+use Rattle.cept_profile.specs.Colours.{fore_paint, back_paint, paint_over}
+use Rattle.cept_profile.specs.Serial.{held_sign, own_attributes}
+use Rattle.cept_profile.specs.State.{Core, core}
 
 -- a sign is drawn as itself, the space without accent as nothing
 abbrev pub shape_of_sign : Glyph → Shape
@@ -28,8 +29,8 @@ shape_of (whats.Marker m) = shapes.Space
 
 -- the attributes of what stands in a cell, on a screen on which none is set: a sign that took a pen has its own
 abbrev pub attributes_of : What → Full
-attributes_of (whats.Parallel g pen) = cascade pen unset unset
-attributes_of _ = cascade unset unset unset
+attributes_of (whats.Parallel g pen) = cascade pen unset_pen unset_pen
+attributes_of _ = cascade unset_pen unset_pen unset_pen
 
 -- a shape of single size with its attributes
 abbrev pub look_with : Shape → Full → Look
@@ -39,7 +40,7 @@ look_with shape f = record {
   dx = 0;
   w = 1;
   h = 1;
-  fore = over (fore_paint f) (back_paint f);
+  fore = paint_over (fore_paint f) (back_paint f);
   back = back_paint f;
   flash = f.flash;
   conceal = f.conceal;
@@ -47,18 +48,31 @@ look_with shape f = record {
   boxed = f.boxed;
 }
 
--- the look of what stands in a cell
+-- the look of what stands in a cell by itself, in a row without markers
 unfoldable pub look_of : What → Look
 look_of what = look_with (shape_of what) (attributes_of what)
 
--- the look at row r and column c
-abbrev pub look : Page → ℕ → ℕ → Look
-look p r c = look_of (at blank p.cells r c).what
+-- the shape of what stands in a cell that holds a sign or none: a marker shows the sign that it holds
+abbrev pub shape_in : What → Option Glyph → Shape
+shape_in (whats.Marker m) (Some g) = shape_of_sign g
+shape_in what _ = shape_of what
 
--- all looks of a page
-abbrev pub looks_of : Page → List (List Look)
-looks_of p = table (look p)
+-- the look at a column of a row, on a screen on which no attribute is set for the row or the whole
+unfoldable pub look_in_row : (ℕ → What) → ℕ → Look
+look_in_row row c = look_with (shape_in (row c) (held_sign row c)) (own_attributes row unset_pen unset_pen c)
+
+-- what stands in each column of row r of a core
+abbrev pub contents_of_row : Core → ℕ → ℕ → What
+contents_of_row k r c = (value_at blank_cell k.page.cells r c).what
+
+-- the look at row r and column c
+abbrev pub look : Core → ℕ → ℕ → Look
+look k r c = look_in_row (contents_of_row k r) c
+
+-- all looks of a core
+abbrev pub looks_of : Core → List (List Look)
+looks_of k = table (look k)
 
 -- the grid of looks after the commands
 abbrev pub grid : List Command → List (List Look)
-grid history = looks_of (page history)
+grid history = looks_of (core history)

@@ -1,14 +1,20 @@
--- Pens: the attributes that go with each sign under the parallel set (T/CD 6-1, the parallel supplementary control functions;
--- what each code does is this profile's own). The sizes aren't built.
-use Rattle.std.specs.Prelude.{ℕ, ◌+◌, ◌-◌, ◌*◌, Bool, true, false, ◌||◌, Option, Some, None, nat_lt, nat_le, ◌==◌, if◌then◌else◌}
+-- Pens: the attributes that go with each sign under the parallel set (T/CD 6-1, the parallel supplementary control
+-- functions; what each code does is this profile's own), and what the same functions make of control under the serial
+-- set, where each leaves a marker. The sizes aren't built.
+use Rattle.std.specs.Prelude.{ℕ, ◌+◌, ◌-◌, ◌*◌, Bool, true, false, ◌||◌, Option, Some, None, List, [], nat_lt, nat_le}
+use Rattle.std.specs.Prelude.{◌==◌, if◌then◌else◌}
 use Rattle.cept_codes.specs.declared.attribute.Attr.{Attr}
 use Rattle.cept_codes.specs.declared.attribute.Attr.TheVariants as attrs
 use Rattle.cept_codes.specs.declared.attribute.Flash.{Flash}
 use Rattle.cept_codes.specs.declared.attribute.Flash.TheVariants as flashes
 use Rattle.cept_codes.specs.declared.attribute.Pen.{Pen}
+use Rattle.cept_codes.specs.declared.cell.Marker.TheVariants as markers
 use Rattle.cept_codes.specs.declared.command.C1Set.{C1Set}
 use Rattle.cept_codes.specs.declared.command.C1Set.TheVariants as c1sets
-use Rattle.cept_profile.specs.Working.{Working}
+use Rattle.cept_codes.specs.declared.stroke.Stroke.{Stroke}
+use Rattle.cept_profile.specs.Markers.{marker_of, strokes_of_any_marker, strokes_of_marker, working_after_any_marker}
+use Rattle.cept_profile.specs.Markers.{working_after_marker}
+use Rattle.cept_profile.specs.Working.{Working, ControlState}
 
 -- the attribute of a C1 code, counted from 8/0, with a colour table of eight entries
 abbrev pub attribute_of : ℕ → ℕ → Option Attr
@@ -30,30 +36,40 @@ attribute_of table n =
     None
 
 -- a pen with one class set by an attribute, or with no background
-abbrev pub with_attribute : Attr → Pen → Pen
-with_attribute (attrs.Fore e) p = record p { fore = Some e }
-with_attribute (attrs.Back e) p = record p { back = Some e }
-with_attribute attrs.NoBack p = record p { back = None }
-with_attribute (attrs.Flash f) p = record p { flash = Some f }
-with_attribute (attrs.Conceal b) p = record p { conceal = Some b }
-with_attribute (attrs.Lined b) p = record p { lined = Some b }
-with_attribute (attrs.Boxed b) p = record p { boxed = Some b }
-with_attribute (attrs.Size s) p = record p { size = Some s }
-with_attribute (attrs.Invert b) p = record p { invert = Some b }
+abbrev pub pen_with : Attr → Pen → Pen
+pen_with (attrs.Fore e) p = record p { fore = Some e }
+pen_with (attrs.Back e) p = record p { back = Some e }
+pen_with attrs.NoBack p = record p { back = None }
+pen_with (attrs.Flash f) p = record p { flash = Some f }
+pen_with (attrs.Conceal b) p = record p { conceal = Some b }
+pen_with (attrs.Lined b) p = record p { lined = Some b }
+pen_with (attrs.Boxed b) p = record p { boxed = Some b }
+pen_with (attrs.Size s) p = record p { size = Some s }
+pen_with (attrs.Invert b) p = record p { invert = Some b }
 
 -- a pen with an attribute, if there is one
-abbrev pub with_any : Option Attr → Pen → Pen
-with_any None p = p
-with_any (Some attr) p = with_attribute attr p
+abbrev pub pen_with_any : Option Attr → Pen → Pen
+pen_with_any None p = p
+pen_with_any (Some attr) p = pen_with attr p
 
 -- the C1 codes of flash, which end a fast one
 abbrev pub is_flash : ℕ → Bool
 is_flash n = n == 8 || n == 9
 
--- a C1 code: under the parallel set the pen takes its attribute
-abbrev pub coded : C1Set → ℕ → Working → Working
-coded c1sets.Parallel n w = record w { pen = with_any (attribute_of w.table n) w.pen; fast = if is_flash n then 0 else w.fast }
-coded c1sets.Serial n w = w
+-- the fast flash in force after a C1 code: the codes of flash end it, under either set
+abbrev pub fast_after_code : ℕ → ℕ → ℕ
+fast_after_code n fast = if is_flash n then 0 else fast
+
+-- a C1 code: under the parallel set the pen takes its attribute, under the serial set its marker is left
+abbrev pub working_after_code : C1Set → ℕ → ControlState → Working
+working_after_code c1sets.Parallel n s =
+    record s.working {
+      pen = pen_with_any (attribute_of s.working.table n) s.working.pen;
+      fast =
+          fast_after_code n s.working.fast;
+    }
+working_after_code c1sets.Serial n s =
+    record (working_after_any_marker s (marker_of s.working.table n)) { fast = fast_after_code n s.working.fast }
 
 -- the fast flash of the next number in the circle 1, 2, 3, which begins with 1
 abbrev pub next_fast : ℕ → ℕ
@@ -63,7 +79,7 @@ next_fast fast = if fast == 3 then 1 else fast + 1
 abbrev pub fast_before : ℕ → ℕ
 fast_before fast = if nat_le fast 1 then 3 else fast - 1
 
--- the fast flash that a flash mode leaves in force, 0 for none: modes 2, 3 and 4 name one, 5 takes the next and 6 the one before
+-- the fast flash that a flash mode leaves in force, 0 for none: 2, 3 and 4 name one, 5 takes the next, 6 the one before
 abbrev pub fast_after : ℕ → ℕ → ℕ
 fast_after mode fast =
     if mode == 2 then 1 else
@@ -84,12 +100,35 @@ flash_of mode fast =
     if mode == 1 then flashes.Reduced else
     fast_flash (fast_after mode fast)
 
--- a flash mode: under the parallel set the pen takes its flash
-abbrev pub flashing : C1Set → ℕ → Working → Working
-flashing c1sets.Parallel mode w = record w { pen = with_attribute (attrs.Flash (flash_of mode w.fast)) w.pen; fast = fast_after mode w.fast }
-flashing c1sets.Serial mode w = w
+-- a flash mode: under the parallel set the pen takes its flash, under the serial set its marker is left
+abbrev pub working_after_flash : C1Set → ℕ → ControlState → Working
+working_after_flash c1sets.Parallel mode s =
+    record s.working {
+      pen = pen_with (attrs.Flash (flash_of mode s.working.fast)) s.working.pen;
+      fast = fast_after mode s.working.fast;
+    }
+working_after_flash c1sets.Serial mode s =
+    record (working_after_marker s (markers.Flash (flash_of mode s.working.fast))) {
+      fast =
+          fast_after mode s.working.fast;
+    }
 
--- concealing stops: under the parallel set the pen conceals no more
-abbrev pub revealed : C1Set → Working → Working
-revealed c1sets.Parallel w = record w { pen = with_attribute (attrs.Conceal false) w.pen }
-revealed c1sets.Serial w = w
+-- concealing stops: under the parallel set the pen conceals no more, under the serial set a marker says so
+abbrev pub working_after_reveal : C1Set → ControlState → Working
+working_after_reveal c1sets.Parallel s = record s.working { pen = pen_with (attrs.Conceal false) s.working.pen }
+working_after_reveal c1sets.Serial s = working_after_marker s (markers.Conceal false)
+
+-- the strokes of a C1 code: under the serial set its marker
+abbrev pub strokes_of_code : C1Set → ℕ → ControlState → List Stroke
+strokes_of_code c1sets.Parallel n s = []
+strokes_of_code c1sets.Serial n s = strokes_of_any_marker s (marker_of s.working.table n)
+
+-- of a flash mode
+abbrev pub strokes_of_flash : C1Set → ℕ → ControlState → List Stroke
+strokes_of_flash c1sets.Parallel mode s = []
+strokes_of_flash c1sets.Serial mode s = strokes_of_marker s (markers.Flash (flash_of mode s.working.fast))
+
+-- of the end of concealing
+abbrev pub strokes_of_reveal : C1Set → ControlState → List Stroke
+strokes_of_reveal c1sets.Parallel s = []
+strokes_of_reveal c1sets.Serial s = strokes_of_marker s (markers.Conceal false)

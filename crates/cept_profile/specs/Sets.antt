@@ -1,5 +1,5 @@
--- Sets of graphic signs: code extension after ISO 2022, and accents before their sign after ISO 6937. Which sets there are,
--- which stand where at the start, and the mosaic run are this profile's own.
+-- Sets of graphic signs: code extension after ISO 2022, and accents before their sign after ISO 6937. Which sets there
+-- are, which stand where at the start, and the mosaic run are this profile's own.
 use Rattle.std.specs.Prelude.{ℕ, ◌%◌, ◌≤◌, Bool, false, ◌&&◌, Option, Some, None, nat_lt, nat_le, ◌==◌, if◌then◌else◌}
 use Rattle.cept_codes.specs.declared.glyph.Glyph.{Glyph}
 use Rattle.cept_codes.specs.declared.glyph.Read.{Read}
@@ -23,8 +23,8 @@ abbrev pub initial_sets : Sets
 initial_sets = record { g0 = sets.P; g1 = sets.M; g2 = sets.S; g3 = sets.N; left = 0; right = 2; single = None }
 
 -- a set is designated to this one of G0 to G3
-abbrev pub designated : Sets → ℕ → SetId → Sets
-designated s g set =
+abbrev pub sets_with : Sets → ℕ → SetId → Sets
+sets_with s g set =
     if g == 0 then record s { g0 = set } else
     if g == 1 then record s { g1 = set } else
     if g == 2 then record s { g2 = set } else
@@ -35,20 +35,20 @@ abbrev pub set_in : Sets → ℕ → SetId
 set_in s g = if g == 0 then s.g0 else if g == 1 then s.g1 else if g == 2 then s.g2 else s.g3
 
 -- a locking shift: left bytes take this one of G0 to G3
-abbrev pub locked_left : Sets → ℕ → Sets
-locked_left s g = record s { left = g }
+abbrev pub sets_with_left : Sets → ℕ → Sets
+sets_with_left s g = record s { left = g }
 
 -- a locking shift: right bytes take this one of G1 to G3
-abbrev pub locked_right : Sets → ℕ → Sets
-locked_right s g = record s { right = g }
+abbrev pub sets_with_right : Sets → ℕ → Sets
+sets_with_right s g = record s { right = g }
 
 -- a single shift: the next graphic byte takes G2 or G3, and a shift that waited is forgotten
-abbrev pub shifted : Sets → ℕ → Sets
-shifted s g = record s { single = Some g }
+abbrev pub sets_with_single : Sets → ℕ → Sets
+sets_with_single s g = record s { single = Some g }
 
 -- no single shift waits
-abbrev pub unshifted : Sets → Sets
-unshifted s = record s { single = None }
+abbrev pub sets_without_single : Sets → Sets
+sets_without_single s = record s { single = None }
 
 -- a byte of the left half, 2/0 to 7/15
 abbrev pub is_left : ℕ → Bool
@@ -58,7 +58,7 @@ is_left byte = nat_lt byte 0x80
 abbrev pub code_of : ℕ → ℕ
 code_of byte = byte % 0x80
 
--- the set of a byte where no single shift waits: M for a left byte in a mosaic run, else the one locked to the byte's side
+-- the set of a byte where no single shift waits: M for a left byte in a mosaic run, else the one locked to its side
 abbrev pub locked_set : Sets → ℕ → Bool → SetId
 locked_set s byte run =
     if run && is_left byte then sets.M else
@@ -94,14 +94,14 @@ read_as set code =
     if is_accent set code then reads.Accent code else
     reads.Glyph (sign set code)
 
--- what was read, and the sets behind it
-pub record Taken : Type 0 where
+-- what was read, and the sets after it
+pub record GraphicResult : Type 0 where
   pub read : Read
   pub sets : Sets
 
 -- what a graphic byte gives, in a mosaic run or outside: it spends a single shift that waits
-abbrev pub graphic : Sets → ℕ → Bool → Taken
-graphic s byte run = record { read = read_as (set_of s byte run) (code_of byte); sets = unshifted s }
+abbrev pub graphic : Sets → ℕ → Bool → GraphicResult
+graphic s byte run = record { read = read_as (set_of s byte run) (code_of byte); sets = sets_without_single s }
 
 -- a valid sign, or an accent
 abbrev pub IsValidRead : Read → Type 0

@@ -4,19 +4,65 @@ use Rattle.cept_codes.specs.declared.command.Command.{Command}
 use Rattle.cept_codes.specs.declared.command.Command.TheVariants as commands
 use Rattle.cept_codes.specs.declared.stroke.Stroke.{Stroke}
 use Rattle.cept_codes.specs.declared.stroke.Stroke.TheVariants as strokes
-use Rattle.cept_profile.specs.Control.{ControlState, ready, control_back}
-use Rattle.cept_profile.specs.Writing.{read_of, repeat_of, taken}
+use Rattle.cept_profile.specs.Control.{ControlState, state_for_effect, control_back}
+use Rattle.cept_profile.specs.Motions.{below_strokes, above_strokes, on_strokes, back_strokes}
+use Rattle.cept_profile.specs.Pens.{strokes_of_code, strokes_of_flash, strokes_of_reveal}
+use Rattle.cept_profile.specs.Writing.{strokes_of_read, strokes_of_repeat, graphic_result}
 
 -- the strokes of a command that takes effect in this state
 abbrev pub strokes_when : ControlState → Command → List Stroke
+strokes_when s commands.Back = back_strokes s
+strokes_when s commands.Forward = on_strokes s 1
+strokes_when s commands.Down = below_strokes s s.working.row
+strokes_when s commands.Up = above_strokes s s.working.row
 strokes_when s commands.Clear = strokes.Wipe ∷ []
-strokes_when s (commands.Graphic byte) = read_of s (taken s byte).read
-strokes_when s (commands.Repeat n) = repeat_of n s s.working.last
-strokes_when s _ = []
+strokes_when s (commands.Graphic byte) = strokes_of_read s (graphic_result s byte).read
+strokes_when s (commands.Repeat n) = strokes_of_repeat n s s.working.last
+strokes_when s commands.Cancel = strokes.Erase s.working.row s.working.column ∷ []
+strokes_when s (commands.C1 n) = strokes_of_code s.working.c1 n s
+strokes_when s (commands.FlashMode k) = strokes_of_flash s.working.c1 k s
+strokes_when s commands.StopConceal = strokes_of_reveal s.working.c1 s
+-- these make no strokes
+strokes_when s commands.Nul = []
+strokes_when s commands.Skipped = []
+strokes_when s commands.Return = []
+strokes_when s commands.Home = []
+strokes_when s commands.CursorOn = []
+strokes_when s commands.CursorOff = []
+strokes_when s (commands.LockLeft g) = []
+strokes_when s (commands.LockRight g) = []
+strokes_when s (commands.Single g) = []
+strokes_when s (commands.Position r c) = []
+strokes_when s (commands.DesignateC1 set) = []
+strokes_when s (commands.Designate g set) = []
+strokes_when s (commands.Table k) = []
+strokes_when s (commands.Implicit on) = []
+strokes_when s (commands.Protect on) = []
+strokes_when s (commands.Marked on) = []
+strokes_when s (commands.AreaCreate first last) = []
+strokes_when s (commands.AreaDelete first last) = []
+strokes_when s (commands.ColourHeader dclut) = []
+strokes_when s (commands.ColourStart i) = []
+strokes_when s (commands.DrcsStart code) = []
+strokes_when s (commands.ServiceBreak row) = []
+strokes_when s commands.ServiceEnd = []
+strokes_when s (commands.ControlDefaults set) = []
+-- not built yet: no effect
+strokes_when s commands.ScrollUp = []
+strokes_when s commands.ScrollDown = []
+strokes_when s (commands.FullScreen n) = []
+strokes_when s (commands.FullRow n) = []
+strokes_when s commands.ColourDefaults = []
+strokes_when s (commands.Entry i colour) = []
+strokes_when s (commands.Dclut i entry) = []
+strokes_when s (commands.DrcsHeader delete form) = []
+strokes_when s (commands.DrcsPattern code pattern) = []
+strokes_when s (commands.Format rows wrap) = []
+strokes_when s (commands.FullDefaults set) = []
 
 -- the strokes of one more command
 abbrev pub strokes_of : ControlState → Command → List Stroke
-strokes_of s command = strokes_when (ready s command) command
+strokes_of s command = strokes_when (state_for_effect s command) command
 
 -- the strokes of the commands, the newest first
 abbrev pub strokes_back : List Command → List Stroke

@@ -5,15 +5,15 @@ use Rattle.cept_codes.specs.declared.cell.What.TheVariants as whats
 use Rattle.cept_codes.specs.declared.command.Command.{Command}
 use Rattle.cept_codes.specs.declared.look.Look.{Look}
 use Rattle.cept_codes.specs.Attribute.{IsValidPen}
-use Rattle.cept_codes.specs.Cell.{IsValidCell, blank}
+use Rattle.cept_codes.specs.Cell.{IsValidCell, blank_cell}
 use Rattle.cept_codes.specs.Command.{IsArea, IsValidCommand}
 use Rattle.cept_codes.specs.Glyph.{IsValidGlyph}
 use Rattle.cept_codes.specs.Look.{IsValidLook, blank_look}
 use Rattle.cept_codes.specs.Place.{OnScreen}
-use Rattle.cept_codes.specs.Table.{IsTable, at}
+use Rattle.cept_codes.specs.Table.{IsTable, value_at}
 use Rattle.cept_profile.specs.Control.{Working, ControlState}
 use Rattle.cept_profile.specs.Sets.{Sets}
-use Rattle.cept_profile.specs.State.{Page, State}
+use Rattle.cept_profile.specs.State.{Core, Page, State}
 
 -- a list of valid commands
 abbrev pub AllValid : List Command → Type 0
@@ -47,16 +47,24 @@ pub record IsValidControl (s : ControlState) : Type 0 where
 -- 24 rows of 40 valid cells, the blank ones unprotected
 pub record IsValidPage (p : Page) : Type 0 where
   pub table : IsTable p.cells
-  pub cells : (r c : ℕ) → OnScreen r c → IsValidCell (at blank p.cells r c)
-  pub free : (r c : ℕ) → OnScreen r c → (at blank p.cells r c).what ≡ whats.Blank → (at blank p.cells r c).protected ≡ false
+  pub cells : (r c : ℕ) → OnScreen r c → IsValidCell (value_at blank_cell p.cells r c)
+  pub free : (r c : ℕ) → OnScreen r c → (value_at blank_cell p.cells r c).what ≡ whats.Blank
+      → (value_at blank_cell p.cells r c).protected ≡ false
 
 -- a valid page and valid control, and nothing past the format
 pub record IsValidState (s : State) : Type 0 where
   pub page : IsValidPage s.page
   pub control : IsValidControl s.control
-  pub past : (r c : ℕ) → OnScreen r c → s.control.rows < r → at blank s.page.cells r c ≡ blank
+  pub past : (r c : ℕ) → OnScreen r c → s.control.rows < r → value_at blank_cell s.page.cells r c ≡ blank_cell
+
+-- a valid page, and nothing past the format
+pub record IsValidCore (k : Core) : Type 0 where
+  pub page : IsValidPage k.page
+  pub rows : (k.rows ≡ 24) ⊎ (k.rows ≡ 20)
+  pub area : IfSome k.area (λ a. IsArea a.0 a.1)
+  pub past : (r c : ℕ) → OnScreen r c → k.rows < r → value_at blank_cell k.page.cells r c ≡ blank_cell
 
 -- a grid of 24 rows of 40 valid looks
 pub record IsValidGrid (g : List (List Look)) : Type 0 where
   pub table : IsTable g
-  pub looks : (r c : ℕ) → OnScreen r c → IsValidLook (at blank_look g r c)
+  pub looks : (r c : ℕ) → OnScreen r c → IsValidLook (value_at blank_look g r c)

@@ -1,11 +1,11 @@
--- The state of control: what the decoder keeps beside the page. Which state there is, and what ends a mosaic run or unsets
--- the pen, is this profile's own.
+-- The state of control: what the decoder keeps beside the page. Which state there is, and what ends a mosaic run or
+-- unsets the pen, is this profile's own.
 use Rattle.std.specs.Prelude.{ℕ, Bool, true, false, Option, None}
 use Rattle.cept_codes.specs.declared.attribute.Pen.{Pen}
 use Rattle.cept_codes.specs.declared.command.C1Set.{C1Set}
 use Rattle.cept_codes.specs.declared.command.C1Set.TheVariants as c1sets
 use Rattle.cept_codes.specs.declared.glyph.Glyph.{Glyph}
-use Rattle.cept_codes.specs.Attribute.{unset}
+use Rattle.cept_codes.specs.Attribute.{unset_pen}
 pub use Rattle.cept_profile.specs.Sets.{Sets, initial_sets}
 
 -- the state that a break of the service keeps
@@ -41,7 +41,7 @@ initial_working = record {
   sets = initial_sets;
   accent = None;
   last = None;
-  pen = unset;
+  pen = unset_pen;
   fast = 0;
   run = false;
   step = 1;
@@ -50,29 +50,41 @@ initial_working = record {
 }
 
 -- the state at the start
-abbrev pub initial : ControlState
-initial = record { working = initial_working; rows = 24; wrap = true; area = None; implicit = false; kept = None }
+abbrev pub initial_control : ControlState
+initial_control = record {
+  working = initial_working;
+  rows = 24;
+  wrap = true;
+  area = None;
+  implicit = false;
+  kept =
+      None;
+}
 
 -- the state with this working state
-abbrev pub with_working : ControlState → Working → ControlState
-with_working s w = record s { working = w }
+abbrev pub control_with : ControlState → Working → ControlState
+control_with s w = record s { working = w }
 
 -- the state at another place
-abbrev pub moved_to : ℕ → ℕ → Working → Working
-moved_to r c w = record w { row = r; column = c }
+abbrev pub working_at : ℕ → ℕ → Working → Working
+working_at r c w = record w { row = r; column = c }
 
 -- the state with other sets
-abbrev pub with_sets : Sets → Working → Working
-with_sets sets w = record w { sets = sets }
+abbrev pub working_with_sets : Sets → Working → Working
+working_with_sets sets w = record w { sets = sets }
+
+-- the state under another C1 set
+abbrev pub with_c1 : C1Set → Working → Working
+with_c1 set w = record w { c1 = set }
 
 -- the mosaic run is over
-abbrev pub run_ended : Working → Working
-run_ended w = record w { run = false; step = 1 }
+abbrev pub working_without_run : Working → Working
+working_without_run w = record w { run = false; step = 1 }
 
 -- no class of the pen is set
-abbrev pub pen_unset : Working → Working
-pen_unset w = record w { pen = unset; fast = 0 }
+abbrev pub working_without_pen : Working → Working
+working_without_pen w = record w { pen = unset_pen; fast = 0 }
 
 -- no accent waits
-abbrev pub accent_dropped : Working → Working
-accent_dropped w = record w { accent = None }
+abbrev pub working_without_accent : Working → Working
+working_without_accent w = record w { accent = None }

@@ -1,5 +1,5 @@
--- Writing: signs, the accents that wait for them, and how often a sign is written (ISO 6937, accents before their sign; T/CD 6-1,
--- RPT). The sizes aren't built, so each sign moves on by one column.
+-- Writing: signs, the accents that wait for them, and how often a sign is written (ISO 6937, accents before their
+-- sign; T/CD 6-1, RPT). The sizes aren't built, so each sign moves on by one column.
 use Rattle.std.specs.Prelude.{ℕ, zero, suc, Option, Some, None, List, [], ◌∷◌, ◌++◌}
 use Rattle.cept_codes.specs.declared.attribute.Pen.{Pen}
 use Rattle.cept_codes.specs.declared.cell.Cell.{Cell}
@@ -14,9 +14,9 @@ use Rattle.cept_codes.specs.declared.glyph.SetId.{SetId}
 use Rattle.cept_codes.specs.declared.glyph.SetId.TheVariants as sets
 use Rattle.cept_codes.specs.declared.stroke.Stroke.{Stroke}
 use Rattle.cept_codes.specs.declared.stroke.Stroke.TheVariants as strokes
-use Rattle.cept_profile.specs.Motions.{moved_on}
-use Rattle.cept_profile.specs.Sets.{Taken, graphic}
-use Rattle.cept_profile.specs.Working.{Working, ControlState, with_working, with_sets}
+use Rattle.cept_profile.specs.Motions.{working_ahead, on_strokes}
+use Rattle.cept_profile.specs.Sets.{GraphicResult, graphic}
+use Rattle.cept_profile.specs.Working.{Working, ControlState, control_with, working_with_sets}
 
 -- what a sign is under a C1 set: under the parallel one the pen goes with it
 abbrev pub content : C1Set → Glyph → Pen → What
@@ -27,53 +27,55 @@ content c1sets.Serial g pen = whats.Serial g
 abbrev pub cell_of : ControlState → Glyph → Cell
 cell_of s g = record { what = content s.working.c1 g s.working.pen; protected = s.working.protect }
 
--- a sign is written at the position
-abbrev pub write_of : ControlState → Glyph → List Stroke
-write_of s g = strokes.Put (record { row = s.working.row; column = s.working.column }) (cell_of s g) ∷ []
+-- a sign is written at the position: its cell is put there, and the step after it makes its strokes
+abbrev pub strokes_of_sign : ControlState → Glyph → List Stroke
+strokes_of_sign s g = strokes.Put (record { row = s.working.row; column = s.working.column }) (cell_of s g)
+    ∷ on_strokes s 1
 
--- behind it: the position moved on, it is the last sign, and no accent waits
-abbrev pub written : ControlState → Glyph → Working
-written s g = record (moved_on s 1 s.working) { last = Some g; accent = None }
+-- after it: the position moved on, it is the last sign, and no accent waits
+abbrev pub working_after_sign : ControlState → Glyph → Working
+working_after_sign s g = record (working_ahead s 1 s.working) { last = Some g; accent = None }
 
--- the state behind n copies of a sign
-unfoldable pub behind_copies : ℕ → ControlState → Glyph → ControlState
-behind_copies zero s g = s
-behind_copies (suc n) s g = with_working (behind_copies n s g) (written (behind_copies n s g) g)
+-- the state after n copies of a sign
+unfoldable pub control_after_copies : ℕ → ControlState → Glyph → ControlState
+control_after_copies zero s g = s
+control_after_copies (suc n) s g =
+    control_with (control_after_copies n s g) (working_after_sign (control_after_copies n s g) g)
 
 -- the strokes of n copies of a sign
-unfoldable pub copies : ℕ → ControlState → Glyph → List Stroke
-copies zero s g = []
-copies (suc n) s g = copies n s g ++ write_of (behind_copies n s g) g
+unfoldable pub strokes_of_copies : ℕ → ControlState → Glyph → List Stroke
+strokes_of_copies zero s g = []
+strokes_of_copies (suc n) s g = strokes_of_copies n s g ++ strokes_of_sign (control_after_copies n s g) g
 
 -- the last sign, if there is one, is written n times
-abbrev pub repeated : ℕ → ControlState → Option Glyph → Working
-repeated n s None = s.working
-repeated n s (Some g) = (behind_copies n s g).working
+abbrev pub working_after_repeat : ℕ → ControlState → Option Glyph → Working
+working_after_repeat n s None = s.working
+working_after_repeat n s (Some g) = (control_after_copies n s g).working
 
 -- its strokes
-abbrev pub repeat_of : ℕ → ControlState → Option Glyph → List Stroke
-repeat_of n s None = []
-repeat_of n s (Some g) = copies n s g
+abbrev pub strokes_of_repeat : ℕ → ControlState → Option Glyph → List Stroke
+strokes_of_repeat n s None = []
+strokes_of_repeat n s (Some g) = strokes_of_copies n s g
 
 -- a sign with an accent: only signs of set P take one
-abbrev pub accented : SetId → ℕ → Option ℕ → Glyph
-accented sets.P code (Some accent) = record { set = sets.P; code = code; accent = accent }
-accented set code _ = record { set = set; code = code; accent = 0 }
+abbrev pub sign_with_accent : SetId → ℕ → Option ℕ → Glyph
+sign_with_accent sets.P code (Some accent) = record { set = sets.P; code = code; accent = accent }
+sign_with_accent set code _ = record { set = set; code = code; accent = 0 }
 
 -- what was read: an accent waits, in place of one that waited, and a sign is written with the accent that waits
-abbrev pub behind_read : ControlState → Read → Working
-behind_read s (reads.Accent code) = record s.working { accent = Some code }
-behind_read s (reads.Glyph g) = written s (accented g.set g.code s.working.accent)
+abbrev pub working_after_read : ControlState → Read → Working
+working_after_read s (reads.Accent code) = record s.working { accent = Some code }
+working_after_read s (reads.Glyph g) = working_after_sign s (sign_with_accent g.set g.code s.working.accent)
 
 -- its strokes
-abbrev pub read_of : ControlState → Read → List Stroke
-read_of s (reads.Accent code) = []
-read_of s (reads.Glyph g) = write_of s (accented g.set g.code s.working.accent)
+abbrev pub strokes_of_read : ControlState → Read → List Stroke
+strokes_of_read s (reads.Accent code) = []
+strokes_of_read s (reads.Glyph g) = strokes_of_sign s (sign_with_accent g.set g.code s.working.accent)
 
 -- what a graphic byte gives in this state
-abbrev pub taken : ControlState → ℕ → Taken
-taken s byte = graphic s.working.sets byte s.working.run
+abbrev pub graphic_result : ControlState → ℕ → GraphicResult
+graphic_result s byte = graphic s.working.sets byte s.working.run
 
 -- the state in which the sets took a graphic byte
-abbrev pub with_taken : ControlState → ℕ → ControlState
-with_taken s byte = with_working s (with_sets (taken s byte).sets s.working)
+abbrev pub control_with_result : ControlState → ℕ → ControlState
+control_with_result s byte = control_with s (working_with_sets (graphic_result s byte).sets s.working)

@@ -1,27 +1,17 @@
-//! The meaning of the profile: control, strokes, cells, looks and changes after any list of commands, and the laws that
-//! these definitions obey. It has no code that computes a page and knows no bytes.
+//! The meaning of the profile: control, strokes, cells, looks and changes after any list of
+//! commands, and the laws that these definitions obey. It has no code that computes a page and
+//! knows no bytes.
 #![tactic(auto)]
 
-mod accents;
-mod codes_of_sets;
-mod control_settings;
-mod first_grid;
-mod motions;
-mod one_more;
-mod painting;
-mod protected_cells;
-mod reach;
-mod repeated_signs;
-mod validity;
+mod law;
 
-pub use accents::{accents_wait, single_shifts_wait};
-pub use codes_of_sets::codes_give_signs_or_accents;
-pub use control_settings::{closed_services_are_left_out, settings_look_back};
-pub use first_grid::{clearing_blanks_the_page, the_first_grid};
-pub use motions::motions_go_round_the_places;
-pub use one_more::{looking_back_is_drawing, one_more_command, one_more_command_by_parts};
-pub use painting::{each_command_is_shown, marked_places_in_order, painting_the_changes};
-pub use protected_cells::protection;
-pub use reach::rows_out_of_reach_stay;
-pub use repeated_signs::copies_are_written_in_turn;
-pub use validity::{looks_are_valid, strokes_are_valid, validity_is_kept};
+pub use law::{
+    accents_wait, cells_to_the_right_count_for_nothing, clearing_blanks_the_page,
+    closed_services_are_left_out, codes_give_signs_or_accents, copies_are_written_in_turn,
+    each_command_is_shown, looking_back_is_drawing, looks_are_valid,
+    looks_hang_on_cells_to_the_left, marked_places_in_order, motions_go_round_the_places,
+    one_more_cell, one_more_command, one_more_command_by_parts, painting_the_changes, protection,
+    rows_out_of_reach_stay, serial_attributes_are_valid, settings_look_back, single_shifts_wait,
+    strokes_are_valid, the_first_grid, the_nearest_marker_is_in_force, validity_is_kept,
+    without_markers,
+};

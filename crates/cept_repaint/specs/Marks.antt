@@ -7,15 +7,15 @@ abbrev pub is_marked : List Bool → ℕ → Bool
 is_marked marks n = slice_index_or marks n false
 
 -- no place is marked
-unfoldable pub unmarked : List Bool
-unmarked = replicate 960 false
+unfoldable pub no_marks : List Bool
+no_marks = replicate 960 false
 
 -- no place is marked whose number is below `first`, or `end` or more (own)
 pub record AreWithin (marks : List Bool) (first end : ℕ) : Type 0 where
   pub in_order : first ≤ end
   pub places : end ≤ 960
   pub before : (n : ℕ) → n < first → is_marked marks n ≡ false
-  pub behind : (n : ℕ) → end ≤ n → is_marked marks n ≡ false
+  pub after : (n : ℕ) → end ≤ n → is_marked marks n ≡ false
 
 -- the first marked place with a number of at least `from`
 pub record IsFirstFrom (marks : List Bool) (from : ℕ) (place : Place) : Type 0 where

@@ -10,9 +10,10 @@ pub record Tape : Type 0 where
   pub over : Bool
 
 -- the tape after one more paint
-abbrev pub taped : Tape → Place → Look → Tape
-taped t p l = if nat_lt (length t.kept) t.room then record t { kept = t.kept ++ (p, l) ∷ [] } else record t { over = true }
+abbrev pub tape_after : Tape → Place → Look → Tape
+tape_after t p l = if nat_lt (length t.kept) t.room then record t { kept = t.kept ++ (p, l) ∷ [] }
+    else record t { over = true }
 
 -- all paints, as long as there was room for them
-abbrev pub told : Tape → Option (List (Place × Look))
-told t = if t.over then None else Some t.kept
+abbrev pub tape_paints : Tape → Option (List (Place × Look))
+tape_paints t = if t.over then None else Some t.kept

@@ -2,7 +2,7 @@
 use Rattle.cept_repaint.specs.declared.tape_glass.TapeGlass.{TapeGlass}
 use Rattle.cept_repaint.specs.GlassState.{GlassState}
 use Rattle.cept_repaint.specs.GridGlass.{grid_glass_state}
-use Rattle.cept_repaint.specs.Tape.{Tape, told}
+use Rattle.cept_repaint.specs.Tape.{Tape, tape_paints}
 
 -- the tape of a glass
 abbrev pub tape_of : TapeGlass → Tape
@@ -10,4 +10,4 @@ tape_of glass = record { kept = glass.paints.items; room = glass.room; over = gl
 
 -- the grid, and the list of the tape
 abbrev pub tape_glass_state : TapeGlass → GlassState
-tape_glass_state glass = record { grid = (grid_glass_state glass.glass).grid; paints = told (tape_of glass) }
+tape_glass_state glass = record { grid = (grid_glass_state glass.glass).grid; paints = tape_paints (tape_of glass) }

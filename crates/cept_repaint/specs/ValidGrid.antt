@@ -1,4 +1,5 @@
 -- Valid paints, and that valid grids and paints are facts with one proof at most, which a glass may keep beside them.
+-- The proofs stand here and not in proofs/, since the ghost fields of glasses take nothing from there.
 use Rattle.std.specs.Prelude.{ℕ, ◌<◌, ◌⊎◌, List}
 use Rattle.std.specs.List.{AllByRecursion, AllByRecursion-prop}
 use Rattle.std.proofs.Props.{props}

@@ -1,5 +1,6 @@
 ghost use Rattle.std.specs.Prelude.{◌≡◌};
-ghost use Rattle.cept_profile.specs.Colours.{back_paint, default_paint, fore_paint, ink, over};
+ghost use Rattle.cept_profile.specs.Colours.{back_paint, default_paint, fore_paint, ink};
+ghost use Rattle.cept_profile.specs.Colours.{paint_over};
 
 use cept_codes::{Full, Paint, Rgb};
 
@@ -36,7 +37,7 @@ fn ink(r: u8, g: u8, b: u8) -> Paint
 
 /// The paint of the foreground. One that would show the picture behind is as the background.
 pub(crate) fn fore_of(full: &Full) -> Paint
-    ensures { result ≡ over (fore_paint full.now) (back_paint full.now) }
+    ensures { result ≡ paint_over (fore_paint full.now) (back_paint full.now) }
 {
     let entry = if full.invert { full.back } else { full.fore };
     match default_paint(entry) {

@@ -2,6 +2,7 @@ ghost use Rattle.std.specs.Prelude.{◌≡◌};
 ghost use Rattle.cept_codes.specs.Look.{IsValidLook};
 ghost use Rattle.cept_profile.specs.Changes.{look_at};
 ghost use Rattle.cept_profile.specs.Look.{looks_of};
+ghost use Rattle.cept_profile.specs.State.{core_of};
 ghost use Rattle.cept_profile.specs.Valid.{IsValidGrid};
 ghost use Rattle.cept_repaint.specs.GlassState.{GlassState, Paints};
 
@@ -15,7 +16,8 @@ pub trait Glass {
 
     /// Paints the screen's look at a place. No other place changes.
     fn paint(&mut self, at: Pos, screen: &Screen)
-        ensures { Paints (state self.old) at (look_at (looks_of screen.now.page) at) (state self.new) };
+        ensures { Paints (state self.old) at (look_at (looks_of (core_of screen.now)) at)
+            (state self.new) };
 
     /// The look that is shown at a place.
     fn shown(&self, at: Pos) -> Look

@@ -22,7 +22,8 @@ impl GridGlass {
 
     /// A glass that is blank everywhere.
     pub fn new(alloc: Global) -> Result<GridGlass, NoMemory>
-        ensures blank { IfOk result (λ glass. (grid_glass_state glass).grid ≡ table (λ _ _. blank_look)) }
+        ensures blank { IfOk result (λ glass. (grid_glass_state glass).grid
+            ≡ table (λ _ _. blank_look)) }
         ensures untold { IfOk result (λ glass. (grid_glass_state glass).paints ≡ None) }
     {
         let looks = Looks::new(alloc)?;

@@ -1,11 +1,10 @@
-//! The screen: it applies commands to a page and its control, marks the places whose look changes and paints them on
-//! a glass. It knows no bytes and keeps no history.
+//! The screen: it applies commands to a page and its control, marks the places whose look changes
+//! and paints them on a glass. It knows no bytes and keeps no history.
 #![tactic(auto)]
 
 mod cell_look;
 mod colours;
 mod glass;
-mod grid;
 mod grid_glass;
 mod looks;
 mod marks;

@@ -1,10 +1,9 @@
-ghost use Rattle.std.specs.Prelude.{◌≡◌, ℕ, ◌+◌, ◌*◌, ◌<◌, ◌≤◌, ◌||◌, true, false, [], length, slice_index_or, slice_set, if◌then◌else◌, IfOk};
+ghost use Rattle.std.specs.Prelude.{◌≡◌, ◌+◌, ◌-◌, ◌*◌, ◌≤◌, false, length, IfOk};
 ghost use Rattle.cept_codes.specs.Look.{blank_look};
-ghost use Rattle.cept_codes.specs.Place.{OnScreen};
-ghost use Rattle.cept_codes.specs.Table.{table, IsTable};
-ghost use Rattle.cept_profile.specs.Changes.{look_at, painted};
-ghost use Rattle.cept_repaint.specs.Kept.{differ};
-ghost use Rattle.cept_repaint.specs.Marks.{is_marked};
+ghost use Rattle.cept_codes.specs.Place.{OnScreen, number};
+ghost use Rattle.cept_codes.specs.Table.{table, entry, IsTable};
+ghost use Rattle.cept_profile.specs.Changes.{look_at, grid_with_paint};
+ghost use Rattle.cept_repaint.specs.Kept.{looks_differ, IsRefreshed};
 
 use crate::marks::Marks;
 use cept_codes::{Look, NoMemory, Pos};
@@ -47,7 +46,6 @@ impl Looks {
     /// The look at a place, where it stands.
     pub(crate) fn at(&self, place: Pos) -> &Look
         ensures look { result.now ≡ look_at self.now place }
-        ensures whole { IsTable self.now }
         ensures on_screen { OnScreen place.row place.column }
     {
         &self.rows[usize::from(place.row()) - 1][usize::from(place.col()) - 1]
@@ -56,89 +54,60 @@ impl Looks {
     /// The look at a place.
     pub(crate) fn get(&self, place: Pos) -> Look
         ensures look { result ≡ look_at self.now place }
-        ensures whole { IsTable self.now }
         ensures on_screen { OnScreen place.row place.column }
     {
         self.rows[usize::from(place.row()) - 1][usize::from(place.col()) - 1]
     }
 
+    /// Tells the prover that there are 24 rows of 40: reading a field opens the model.
+    pub(crate) fn tell_whole(&self)
+        ensures { IsTable self.now }
+    {
+        let _rows = &self.rows;
+    }
+
     /// Replaces the look at a place.
     pub(crate) fn set(&mut self, place: Pos, look: Look)
-        ensures { self.new ≡ painted self.old place look }
+        ensures { self.new ≡ grid_with_paint self.old place look }
     {
         self.rows[usize::from(place.row()) - 1][usize::from(place.col()) - 1] = look;
     }
 
-    /// Replaces the look at a place if this one differs from it, and answers whether it does.
-    pub(crate) fn refresh(&mut self, place: Pos, fresh: &Look) -> bool
-        ensures answer { result ≡ differ (look_at self.old place) fresh.now }
-        ensures looks { self.new ≡ painted self.old place fresh.now }
-        ensures whole { IsTable self.old }
+    /// Replaces the look at a place if this one differs from it, and marks the place if it does.
+    pub(crate) fn refresh(&mut self, place: Pos, fresh: &Look, marks: &mut Marks)
+        ensures refreshed { IsRefreshed (λ _ _. fresh.now) self.old self.new marks.old marks.new
+            (number place.row place.column) (number place.row place.column + 1) }
         ensures on_screen { OnScreen place.row place.column }
     {
-        let changed = differ(self.at(place), fresh);
-        if changed {
+        self.tell_whole();
+        marks.tell_places();
+        if differ(self.at(place), fresh) {
             self.set(place, *fresh);
+            marks.mark(place);
         }
-        changed
     }
 
-    /// Replaces the looks of the row with this index that differ, and marks their places.
-    pub(crate) fn refresh_row(&mut self, i: usize, fresh: &[Look; 40], marks: &mut Marks)
-        requires on_screen { i < 24 }
+    /// Replaces the looks of a row that differ from these, and marks their places.
+    pub(crate) fn refresh_row(&mut self, row: u8, fresh: &[Look; 40], marks: &mut Marks)
+        requires from_top { 1 ≤ row }
+        requires to_bottom { row ≤ 24 }
         requires columns { length fresh.now ≡ 40 }
-        requires places { length marks.old ≡ 960 }
-        ensures looks { self.new ≡ slice_set self.old i fresh.now }
-        ensures places { length marks.new ≡ 960 }
-        ensures above { (n : ℕ) → n < 40 * i → is_marked marks.new n ≡ is_marked marks.old n }
-        ensures below { (n : ℕ) → 40 * (i + 1) ≤ n → is_marked marks.new n ≡ is_marked marks.old n }
-        ensures row { (k : ℕ) → k < 40 → is_marked marks.new (40 * i + k)
-            ≡ (is_marked marks.old (40 * i + k) || differ
-            (slice_index_or (slice_index_or self.old i []) k blank_look) (slice_index_or fresh.now k blank_look)) }
+        ensures { IsRefreshed (λ _ c. entry blank_look 1 fresh.now c) self.old self.new marks.old
+            marks.new
+            (40 * (row - 1)) (40 * row) }
     {
-        refresh_row(i, fresh, &mut self.rows[i], marks);
-    }
-}
-
-/// Stores the looks of the row with this index that differ from the kept ones, and marks their places.
-fn refresh_row(i: usize, fresh: &[Look; 40], kept: &mut [Look; 40], marks: &mut Marks)
-    requires on_screen { i < 24 }
-    requires columns { length fresh.now ≡ 40 }
-    requires kept_columns { length kept.old ≡ 40 }
-    requires places { length marks.old ≡ 960 }
-    ensures looks { kept.new ≡ fresh.now }
-    ensures places { length marks.new ≡ 960 }
-    ensures above { (n : ℕ) → n < 40 * i → is_marked marks.new n ≡ is_marked marks.old n }
-    ensures below { (n : ℕ) → 40 * (i + 1) ≤ n → is_marked marks.new n ≡ is_marked marks.old n }
-    ensures row { (k : ℕ) → k < 40 → is_marked marks.new (40 * i + k)
-        ≡ (is_marked marks.old (40 * i + k)
-        || differ (slice_index_or kept.old k blank_look) (slice_index_or fresh.now k blank_look)) }
-{
-    for k in 0..40usize {
-        refresh_cell(i, k, fresh, kept, marks);
-    }
-}
-
-/// Stores the look with this index in the row if it differs from the kept one, and marks its place.
-fn refresh_cell(i: usize, k: usize, fresh: &[Look; 40], kept: &mut [Look; 40], marks: &mut Marks)
-    requires row { i < 24 }
-    requires column { k < 40 }
-    requires columns { length fresh.now ≡ 40 }
-    requires kept_columns { length kept.old ≡ 40 }
-    ensures looks { kept.new ≡ slice_set kept.old k (slice_index_or fresh.now k blank_look) }
-    ensures marks { marks.new
-        ≡ (if differ (slice_index_or kept.old k blank_look) (slice_index_or fresh.now k blank_look)
-        then slice_set marks.old (40 * i + k) true else marks.old) }
-{
-    if differ(&kept[k], &fresh[k]) {
-        kept[k] = fresh[k];
-        marks.mark(40 * i + k);
+        self.tell_whole();
+        marks.tell_places();
+        for column in 1..41u8 {
+            let place = Pos::new(row, column).unwrap();
+            self.refresh(place, &fresh[usize::from(column) - 1], marks);
+        }
     }
 }
 
 /// Whether two looks differ.
 fn differ(a: &Look, b: &Look) -> bool
-    ensures differ { result ≡ differ a.now b.now }
+    ensures differ { result ≡ looks_differ a.now b.now }
     ensures same { result ≡ false → a.now ≡ b.now }
 {
     *a != *b

@@ -1,12 +1,13 @@
-ghost use Rattle.std.specs.Prelude.{◌≡◌, ℕ, ◌≤◌, ◌<◌, Bool, true, false, length, slice_set, count_by, IsNone, IfSome, ◌↔◌};
+ghost use Rattle.std.specs.Prelude.{◌≡◌, ℕ, ◌≤◌, ◌<◌, Bool, true, false, length, slice_set};
+ghost use Rattle.std.specs.Prelude.{count_by, IsNone, IfSome, ◌↔◌};
 ghost use Rattle.cept_codes.specs.Place.{number, OnScreen};
-ghost use Rattle.cept_repaint.specs.Marks.{is_marked, unmarked, AreWithin, IsFirstFrom};
+ghost use Rattle.cept_repaint.specs.Marks.{is_marked, no_marks, AreWithin, IsFirstFrom};
 
 use cept_codes::Pos;
 use std::marker::Model;
 
-/// A set of places of the screen, in fixed memory. Beside the flags it keeps from which number on and below which
-/// number places may be marked, so that one who has marked few looks through few.
+/// A set of places of the screen, in fixed memory. Beside the flags it keeps from which number on
+/// and below which number places may be marked, so that one who has marked few looks through few.
 #[derive(Drop)]
 pub struct Marks {
     flags: [bool; 960],
@@ -28,7 +29,7 @@ impl Model for Marks {
 impl Marks {
     /// No place is marked.
     pub fn new() -> Marks
-        ensures { result ≡ unmarked }
+        ensures { result ≡ no_marks }
     {
         Marks {
             flags: [false; 960],
@@ -53,31 +54,38 @@ impl Marks {
         count_set(&self.flags[self.first..self.end])
     }
 
-    /// The first marked place whose number is at least `from`. Places are numbered from 0 in reading order, rows from the
-    /// top and columns from the left.
+    /// The first marked place whose number is at least `from`. Places are numbered from 0 in
+    /// reading order, rows from the top and columns from the left.
     pub fn next_from(&self, from: u16) -> Option<Pos>
         ensures none { IsNone result ↔ ((n : ℕ) → from ≤ n → is_marked self.now n ≡ false) }
         ensures first { IfSome result (IsFirstFrom self.now from) }
         ensures places { length self.now ≡ 960 }
     {
         let n = first_marked(&self.flags, self.first, self.end, usize::from(from))?;
-        Pos::new((n / 40) as u8 + 1, (n % 40) as u8 + 1)
+        Pos::from_number(n as u16)
+    }
+
+    /// Tells the prover that there are 960 flags: reading a field opens the model.
+    pub(crate) fn tell_places(&self)
+        ensures { length self.now ≡ 960 }
+    {
+        let _flags = &self.flags;
     }
 
     /// Unmarks all places.
     pub(crate) fn clear(&mut self)
-        ensures { self.new ≡ unmarked }
+        ensures { self.new ≡ no_marks }
     {
         unmark(&mut self.flags[self.first..self.end]);
         self.first = 0;
         self.end = 0;
     }
 
-    /// Marks the place with this number.
-    pub(crate) fn mark(&mut self, n: usize)
-        requires { n < 960 }
-        ensures { self.new ≡ slice_set self.old n true }
+    /// Marks a place.
+    pub(crate) fn mark(&mut self, at: Pos)
+        ensures { self.new ≡ slice_set self.old (number at.row at.column) true }
     {
+        let n = usize::from(at.number());
         self.flags[n] = true;
         if self.first == self.end {
             self.first = n;
@@ -106,7 +114,8 @@ fn unmark(flags: &mut [bool])
     }
 }
 
-/// The first set flag at `from` or behind it, where none is set before `first`, at `end` or behind it.
+/// The first set flag at `from` or after it, where none is set before `first`, at `end` or after
+/// it.
 fn first_marked(flags: &[bool], first: usize, end: usize, from: usize) -> Option<usize>
     requires within { AreWithin flags.now first end }
     requires places { length flags.now ≡ 960 }
@@ -114,7 +123,8 @@ fn first_marked(flags: &[bool], first: usize, end: usize, from: usize) -> Option
     ensures there { IfSome result (λ n. n < 960) }
     ensures at_least { IfSome result (λ n. from ≤ n) }
     ensures marked { IfSome result (λ n. is_marked flags.now n ≡ true) }
-    ensures first { IfSome result (λ n. (k : ℕ) → from ≤ k → k < n → is_marked flags.now k ≡ false) }
+    ensures first { IfSome result (λ n. (k : ℕ) → from ≤ k → k < n
+        → is_marked flags.now k ≡ false) }
 {
     for n in first.max(from)..end {
         if flags[n] {

@@ -1,6 +1,7 @@
 ghost use Rattle.std.specs.Prelude.{◌≡◌, ◌+◌};
-ghost use Rattle.cept_profile.specs.Changes.{listed, painted_all};
+ghost use Rattle.cept_profile.specs.Changes.{marked_looks, grid_with_paints};
 ghost use Rattle.cept_profile.specs.Look.{looks_of};
+ghost use Rattle.cept_profile.specs.State.{core_of};
 ghost use Rattle.cept_repaint.specs.GlassState.{Lists};
 
 use crate::glass::Glass;
@@ -9,10 +10,10 @@ use crate::screen::Screen;
 
 /// Paints the marked places in reading order, each once, with the screen's look.
 pub(crate) fn paint_marked<G: Glass>(screen: &Screen, glass: &mut G, marks: &Marks)
-    ensures shown { (G.state glass.new).grid ≡ painted_all (G.state glass.old).grid
-        (listed marks.now (looks_of screen.now.page)) }
+    ensures shown { (G.state glass.new).grid ≡ grid_with_paints (G.state glass.old).grid
+        (marked_looks marks.now (looks_of (core_of screen.now))) }
     ensures told { Lists (G.state glass.old).paints
-        (listed marks.now (looks_of screen.now.page)) (G.state glass.new).paints }
+        (marked_looks marks.now (looks_of (core_of screen.now))) (G.state glass.new).paints }
 {
     let mut from = 0;
     while let Some(place) = marks.next_from(from) {

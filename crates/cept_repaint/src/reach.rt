@@ -1,7 +1,8 @@
-ghost use Rattle.std.specs.Prelude.{◌≡◌, ◌≤◌, ◌<◌, ◌+◌, ◌||◌, ℕ, false, [], ◌∷◌, length, map, slice_index_or, IfSome};
-ghost use Rattle.std.specs.List.{range_with_len};
+ghost use Rattle.std.specs.Prelude.{◌≡◌, ◌≤◌, ◌<◌, ◌+◌, ◌-◌, ◌||◌, ℕ, false, [], ◌∷◌, length};
+ghost use Rattle.std.specs.Prelude.{slice_index_or, IfSome};
 ghost use Rattle.cept_codes.specs.declared.cell.Cell.{Cell};
-ghost use Rattle.cept_profile.specs.Reach.{in_reach, reaches};
+ghost use Rattle.cept_codes.specs.Table.{list_by_index, entry};
+ghost use Rattle.cept_profile.specs.Reach.{one_reaches, reaches};
 
 use cept_codes::{Pos, Stroke};
 
@@ -18,27 +19,42 @@ pub(crate) fn only_place(strokes: &[Stroke]) -> Option<Pos>
     }
 }
 
-/// For each row from the top, whether it is in reach of the strokes.
-pub(crate) fn rows_in_reach(strokes: &[Stroke]) -> [bool; 24]
-    ensures { result ≡ map (in_reach strokes.now) (range_with_len 1 24) }
+/// For each row from the top, whether one of the strokes reaches it.
+pub(crate) fn rows_reached(strokes: &[Stroke]) -> [bool; 24]
+    ensures { result ≡ list_by_index 1 24 (one_reaches strokes.now) }
 {
     let mut rows = [false; 24];
     for stroke in strokes {
-        flag_reach(stroke, &mut rows);
+        flag_reached(stroke, &mut rows);
     }
     rows
 }
 
-/// Flags the rows that a stroke can change.
-fn flag_reach(stroke: &Stroke, rows: &mut [bool; 24])
+/// Flags the rows that a stroke reaches.
+fn flag_reached(stroke: &Stroke, rows: &mut [bool; 24])
     requires flags { length rows.old ≡ 24 }
     ensures flags { length rows.new ≡ 24 }
-    ensures rows { (i : ℕ) → i < 24 → slice_index_or rows.new i false
-        ≡ (slice_index_or rows.old i false || reaches stroke.now (i + 1)) }
+    ensures rows { (r : ℕ) → 1 ≤ r → r ≤ 24
+        → entry false 1 rows.new r ≡ (entry false 1 rows.old r || reaches stroke.now r) }
 {
     match stroke {
         Stroke::Put(place, _) => rows[usize::from(place.row()) - 1] = true,
+        Stroke::Erase(row, _) => {
+            if 1 <= *row && *row <= 24 {
+                rows[usize::from(*row) - 1] = true;
+            }
+        }
         Stroke::Wipe => *rows = [true; 24],
-        _ => {}
+        // Not built yet: no effect.
+        Stroke::Shift(_, _, _)
+        | Stroke::RowAttr(_, _)
+        | Stroke::ScreenAttr(_)
+        | Stroke::ScreenClear
+        | Stroke::Colour(_, _)
+        | Stroke::Dclut(_, _)
+        | Stroke::ColourDefaults
+        | Stroke::DrcsClear
+        | Stroke::Drcs(_, _)
+        | Stroke::Format(_) => {}
     }
 }

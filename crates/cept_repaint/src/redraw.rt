@@ -1,26 +1,27 @@
-ghost use Rattle.std.specs.Prelude.{◌≡◌, ◌≤◌, ◌+◌, ◌-◌, ℕ, false, length, count_by, map, slice_index_or};
-ghost use Rattle.std.specs.List.{range_with_len};
+ghost use Rattle.std.specs.Prelude.{◌≡◌, ◌≤◌, ◌+◌, ◌-◌, ℕ, false, length, count_by, slice_index_or};
+ghost use Rattle.std.specs.Prelude.{Some, IfSome};
 ghost use Rattle.cept_codes.specs.Look.{blank_look};
 ghost use Rattle.cept_codes.specs.Place.{OnScreen};
-ghost use Rattle.cept_codes.specs.Table.{at, IsTable};
+ghost use Rattle.cept_codes.specs.Table.{value_at, entry};
 ghost use Rattle.cept_profile.specs.Cells.{is_at};
 ghost use Rattle.cept_profile.specs.Changes.{differences};
 ghost use Rattle.cept_profile.specs.Look.{look, looks_of};
-ghost use Rattle.cept_profile.specs.Reach.{in_reach, rows_in_reach};
-ghost use Rattle.cept_profile.specs.State.{drawn};
-ghost use Rattle.cept_repaint.specs.Marks.{unmarked};
+ghost use Rattle.cept_profile.specs.State.{State, core_of, page_after};
+ghost use Rattle.cept_repaint.specs.Kept.{core_on, reached_rows};
+ghost use Rattle.cept_repaint.specs.MarkedRows.{HasNoMarkers};
+ghost use Rattle.cept_repaint.specs.Marks.{no_marks};
 
 use crate::looks::Looks;
 use crate::marks::Marks;
 use crate::page::Page;
-use crate::reach::{only_place, rows_in_reach};
+use crate::reach::{only_place, rows_reached};
 use cept_codes::{Pos, Stroke};
 use cept_outside::Steps;
-use cept_profile::rows_out_of_reach_stay;
 use std::sync::ledger::Ledger;
 
-/// Draws the strokes on the page, resolves the rows in their reach and no others, one tick each, and stores the looks that
-/// differ from the kept ones. Marks their places and no others.
+/// Draws the strokes on the page, resolves the rows that they reach and no others, and keeps the
+/// looks that differ from the kept ones. Marks their places and no others. Whatever the control is,
+/// before and after: no look shows it yet.
 pub(crate) fn redraw<L: Ledger>(
     page: &mut Page,
     strokes: &[Stroke],
@@ -28,26 +29,38 @@ pub(crate) fn redraw<L: Ledger>(
     marks: &mut Marks,
     steps: &mut Steps<L>,
 )
-    requires kept { looks.old ≡ looks_of page.old }
-    ensures page { page.new ≡ drawn page.old strokes.now }
-    ensures looks { looks.new ≡ looks_of page.new }
-    ensures marks { marks.new ≡ differences looks.old (looks_of page.new) }
-    ensures cost { steps.new ≤ steps.old + rows_in_reach strokes.now }
-    ensures at_most_24 { steps.new ≤ steps.old + 24 }
+    requires kept { (s : State) → s.page ≡ page.old → looks.old ≡ looks_of (core_of s) }
+    ensures page { page.new ≡ page_after page.old strokes.now }
+    ensures looks { (s : State) → s.page ≡ page.new → looks.new ≡ looks_of (core_of s) }
+    ensures marks { marks.new ≡ differences looks.old looks.new }
+    ensures cost { steps.new ≤ steps.old + reached_rows strokes.now }
 {
-    rows_out_of_reach_stay();
     marks.clear();
     if strokes.is_empty() {
         return;
     }
+    let place = plain_place(page, only_place(strokes));
     page.draw_all(strokes);
-    match only_place(strokes) {
+    match plain_place(page, place) {
         Some(place) => refresh_place(page, place, looks, marks, steps),
-        None => refresh_rows(page, &rows_in_reach(strokes), looks, marks, steps),
+        None => refresh_rows(page, &rows_reached(strokes), looks, marks, steps),
     }
 }
 
-/// Resolves one place, where all others have the looks that are kept. One tick.
+/// The place, where no marker stands in its row.
+fn plain_place(page: &Page, place: Option<Pos>) -> Option<Pos>
+    ensures same { IfSome result (λ p. place ≡ Some p) }
+    ensures plain { IfSome result (λ p. HasNoMarkers page.now.cells p.row) }
+{
+    let place = place?;
+    if page.is_plain(place.row()) {
+        Some(place)
+    } else {
+        None
+    }
+}
+
+/// Resolves one place in a row without markers, where all others have the looks that are kept.
 fn refresh_place<L: Ledger>(
     page: &Page,
     place: Pos,
@@ -55,42 +68,39 @@ fn refresh_place<L: Ledger>(
     marks: &mut Marks,
     steps: &mut Steps<L>,
 )
-    requires none { marks.old ≡ unmarked }
+    requires none { marks.old ≡ no_marks }
+    requires plain { HasNoMarkers page.now.cells place.row }
     requires others { (r c : ℕ) → OnScreen r c → is_at place r c ≡ false
-        → at blank_look looks.old r c ≡ look page.now r c }
-    ensures looks { looks.new ≡ looks_of page.now }
-    ensures marks { marks.new ≡ differences looks.old (looks_of page.now) }
+        → value_at blank_look looks.old r c ≡ look (core_on page.now) r c }
+    ensures looks { looks.new ≡ looks_of (core_on page.now) }
+    ensures marks { marks.new ≡ differences looks.old looks.new }
     ensures cost { steps.new ≡ steps.old + 1 }
     ensures on_screen { OnScreen place.row place.column }
 {
-    steps.tick();
-    if looks.refresh(place, &page.look(place)) {
-        marks.mark(usize::from(place.number()));
-    }
+    looks.refresh(place, &page.resolve(place, steps), marks);
 }
 
-/// Resolves the rows that are flagged, from the top, where all others have the looks that are kept. One tick each.
+/// Resolves the rows that are flagged, from the top, where all others have the looks that are kept.
 fn refresh_rows<L: Ledger>(
     page: &Page,
-    rows: &[bool; 24],
+    reached: &[bool; 24],
     looks: &mut Looks,
     marks: &mut Marks,
     steps: &mut Steps<L>,
 )
-    requires none { marks.old ≡ unmarked }
-    requires whole { IsTable looks.old }
-    requires others { (r c : ℕ) → OnScreen r c → slice_index_or rows.now (r - 1) false ≡ false
-        → at blank_look looks.old r c ≡ look page.now r c }
-    requires flags { length rows.now ≡ 24 }
-    ensures looks { looks.new ≡ looks_of page.now }
-    ensures marks { marks.new ≡ differences looks.old (looks_of page.now) }
-    ensures cost { steps.new ≡ steps.old + count_by (λ reached. reached) rows.now }
+    requires none { marks.old ≡ no_marks }
+    requires flags { length reached.now ≡ 24 }
+    requires others { (r c : ℕ) → OnScreen r c → entry false 1 reached.now r ≡ false
+        → value_at blank_look looks.old r c ≡ look (core_on page.now) r c }
+    ensures looks { looks.new ≡ looks_of (core_on page.now) }
+    ensures marks { marks.new ≡ differences looks.old looks.new }
+    ensures cost { steps.new ≡ steps.old + count_by (λ flag. flag) reached.now }
 {
-    for i in 0..24usize {
-        if !rows[i] {
+    looks.tell_whole();
+    for row in 1..25u8 {
+        if !reached[usize::from(row) - 1] {
             continue;
         }
-        steps.tick();
-        looks.refresh_row(i, &page.looks_of_row(i as u8 + 1), marks);
+        looks.refresh_row(row, &page.resolve_row(row, steps), marks);
     }
 }

@@ -3,11 +3,11 @@ ghost use Rattle.cept_codes.specs.declared.command.Command.{Command};
 ghost use Rattle.cept_codes.specs.Cell.{IsValidCell};
 ghost use Rattle.cept_codes.specs.Command.{IsValidCommand};
 ghost use Rattle.cept_codes.specs.Look.{IsValidLook};
-ghost use Rattle.cept_profile.specs.Changes.{look_at, differences, changed, painted_all};
+ghost use Rattle.cept_profile.specs.Changes.{look_at, differences, changes_between};
+ghost use Rattle.cept_profile.specs.Changes.{grid_with_paints};
 ghost use Rattle.cept_profile.specs.Look.{looks_of};
 ghost use Rattle.cept_profile.specs.Reach.{rows_in_reach};
-ghost use Rattle.cept_profile.specs.State.{state, after};
-ghost use Rattle.cept_profile.specs.Strokes.{strokes_of};
+ghost use Rattle.cept_profile.specs.State.{state, state_after, core_of};
 ghost use Rattle.cept_profile.specs.Valid.{AllValid, IsValidState};
 ghost use Rattle.cept_repaint.specs.GlassState.{Lists};
 ghost use Rattle.cept_repaint.specs.Kept.{cell_at};
@@ -61,8 +61,8 @@ impl Screen {
         })
     }
 
-    /// Applies a command: makes its strokes, marks exactly the places whose look changes, and paints each of them once, in
-    /// reading order, with its new look. Takes no memory.
+    /// Applies a command: makes its strokes, marks exactly the places whose look changes, and
+    /// paints each of them once, in reading order, with its new look. Takes no memory.
     pub fn apply<G: Glass, L: Ledger>(
         &mut self,
         command: Command,
@@ -73,13 +73,15 @@ impl Screen {
         requires { IsValidCommand command }
         ensures goes_on { (history : List Command) → AllValid history → self.old ≡ state history
             → self.new ≡ state (history ++ command ∷ []) }
-        ensures after { self.new ≡ after self.old command }
-        ensures marks { marks.new ≡ differences (looks_of self.old.page) (looks_of self.new.page) }
-        ensures shown { (G.state glass.new).grid ≡ painted_all (G.state glass.old).grid
-            (changed (looks_of self.old.page) (looks_of self.new.page)) }
+        ensures after { self.new ≡ state_after self.old command }
+        ensures marks { marks.new
+            ≡ differences (looks_of (core_of self.old)) (looks_of (core_of self.new)) }
+        ensures shown { (G.state glass.new).grid ≡ grid_with_paints (G.state glass.old).grid
+            (changes_between (looks_of (core_of self.old)) (looks_of (core_of self.new))) }
         ensures told { Lists (G.state glass.old).paints
-            (changed (looks_of self.old.page) (looks_of self.new.page)) (G.state glass.new).paints }
-        ensures cost { steps.new ≤ steps.old + rows_in_reach (strokes_of self.old.control command) }
+            (changes_between (looks_of (core_of self.old)) (looks_of (core_of self.new)))
+            (G.state glass.new).paints }
+        ensures cost { steps.new ≤ steps.old + rows_in_reach self.old command }
         ensures at_most_24 { steps.new ≤ steps.old + 24 }
     {
         self.write(command, marks, steps);
@@ -89,9 +91,10 @@ impl Screen {
     /// Makes the strokes of a command, and marks the places whose look changes.
     fn write<L: Ledger>(&mut self, command: Command, marks: &mut Marks, steps: &mut Steps<L>)
         requires { IsValidCommand command }
-        ensures after { self.new ≡ after self.old command }
-        ensures marks { marks.new ≡ differences (looks_of self.old.page) (looks_of self.new.page) }
-        ensures cost { steps.new ≤ steps.old + rows_in_reach (strokes_of self.old.control command) }
+        ensures after { self.new ≡ state_after self.old command }
+        ensures marks { marks.new
+            ≡ differences (looks_of (core_of self.old)) (looks_of (core_of self.new)) }
+        ensures cost { steps.new ≤ steps.old + rows_in_reach self.old command }
         ensures at_most_24 { steps.new ≤ steps.old + 24 }
     {
         self.control.step_into(command, &mut self.strokes);
@@ -101,7 +104,7 @@ impl Screen {
 
     /// The look at a place.
     pub fn look(&self, at: Pos) -> Look
-        ensures look { result ≡ look_at (looks_of self.now.page) at }
+        ensures look { result ≡ look_at (looks_of (core_of self.now)) at }
         ensures valid { IsValidLook result }
     {
         self.looks.get(at)

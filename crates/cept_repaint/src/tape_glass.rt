@@ -3,8 +3,9 @@ ghost use Rattle.cept_codes.specs.Look.{IsValidLook, blank_look};
 ghost use Rattle.cept_codes.specs.Table.{table};
 ghost use Rattle.cept_profile.specs.Changes.{look_at};
 ghost use Rattle.cept_profile.specs.Look.{looks_of};
+ghost use Rattle.cept_profile.specs.State.{core_of};
 ghost use Rattle.cept_repaint.specs.GlassState.{Paints};
-ghost use Rattle.cept_repaint.specs.Tape.{taped};
+ghost use Rattle.cept_repaint.specs.Tape.{tape_after};
 ghost use Rattle.cept_repaint.specs.ValidGrid.{AreValidPaints, AreValidPaints-prop};
 
 use crate::glass::Glass;
@@ -13,7 +14,8 @@ use crate::screen::Screen;
 use cept_codes::{Look, NoMemory, Pos};
 use std::alloc::Global;
 
-/// A glass in memory that keeps the first paints besides. It tells its list as long as all paints had room.
+/// A glass in memory that keeps the first paints besides. It tells its list as long as all paints
+/// had room.
 #[derive(Drop)]
 pub struct TapeGlass {
     glass: GridGlass,
@@ -30,8 +32,10 @@ impl TapeGlass {
 
     /// A glass that is blank everywhere, with room for so many paints.
     pub fn new(alloc: Global, room: u32) -> Result<TapeGlass, NoMemory>
-        ensures blank { IfOk result (λ glass. (tape_glass_state glass).grid ≡ table (λ _ _. blank_look)) }
-        ensures empty { IfOk result (λ glass. tape_of glass ≡ record { kept = []; room = room; over = false }) }
+        ensures blank { IfOk result (λ glass. (tape_glass_state glass).grid
+            ≡ table (λ _ _. blank_look)) }
+        ensures empty { IfOk result (λ glass. tape_of glass
+            ≡ record { kept = []; room = room; over = false }) }
     {
         let glass = GridGlass::new(alloc)?;
         let paints = Vec::with_capacity(alloc, room as usize)?;
@@ -59,8 +63,9 @@ impl Glass for TapeGlass {
 
     fn paint(&mut self, at: Pos, screen: &Screen)
         ensures paints { Paints (tape_glass_state self.old)
-            at (look_at (looks_of screen.now.page) at) (tape_glass_state self.new) }
-        ensures tape { tape_of self.new ≡ taped (tape_of self.old) at (look_at (looks_of screen.now.page) at) }
+            at (look_at (looks_of (core_of screen.now)) at) (tape_glass_state self.new) }
+        ensures tape { tape_of self.new
+            ≡ tape_after (tape_of self.old) at (look_at (looks_of (core_of screen.now)) at) }
     {
         self.glass.paint(at, screen);
         if self.paints.len() < self.room {

@@ -1,7 +1,7 @@
 ghost use Rattle.std.specs.Prelude.{◌≡◌, ◌<◌};
 
 use crate::{Glass, GridGlass, Marks, Screen, TapeGlass};
-use cept_codes::{Command, Glyph, Look, NoMemory, Pos, SetId, Shape};
+use cept_codes::{C1Set, Command, Glyph, Look, NoMemory, Paint, Pos, Rgb, SetId, Shape};
 use cept_outside::Steps;
 use std::alloc::Global;
 use std::marker::Brand;
@@ -20,7 +20,8 @@ fn sign(code: u8) -> Look {
     }
 }
 
-/// A sign twice at the first place, one at the last place and one that goes on at the first, and all cleared.
+/// A sign twice at the first place, one at the last place and one that goes on at the first, and
+/// all cleared.
 fn painted<L: Ledger>(alloc: Global, blank: Blank) -> Result<TapeGlass, NoMemory>
     requires name { blank.name ≡ L.name }
     requires parts { blank.parts ≡ L.parts }
@@ -74,5 +75,48 @@ fn a_new_glass_is_blank(rt: HostRuntime) -> Result<(), Fail> {
     let glass = GridGlass::new(rt.alloc())?;
     let last = Pos::new(24, 40).ok_or("no place")?;
     assert!(rt; glass.shown(last) == Look::BLANK);
+    Ok(())
+}
+
+/// A red foreground, a new background of it, and a sign, each in a cell of its own.
+fn marked<L: Ledger>(alloc: Global, blank: Blank) -> Result<Screen, NoMemory>
+    requires name { blank.name ≡ L.name }
+    requires parts { blank.parts ≡ L.parts }
+    requires some { 0 < blank.parts }
+{
+    let mut screen = Screen::new(alloc)?;
+    let mut glass = GridGlass::new(alloc)?;
+    let mut marks = Marks::new();
+    let mut steps = Steps::<L>::new(blank);
+    let serial = Command::DesignateC1(C1Set::Serial);
+    screen.apply(serial, &mut glass, &mut marks, &mut steps);
+    screen.apply(Command::C1(1), &mut glass, &mut marks, &mut steps);
+    screen.apply(Command::C1(29), &mut glass, &mut marks, &mut steps);
+    screen.apply(Command::Graphic(0x41), &mut glass, &mut marks, &mut steps);
+    Ok(screen)
+}
+
+#[test]
+fn markers_colour_their_row_to_its_end(rt: HostRuntime) -> Result<(), Fail> {
+    let screen = marked::<Brand>(rt.alloc(), Blank::new(1))?;
+    let red = Paint::Ink(Rgb { r: 15, g: 0, b: 0 });
+    for column in 1..41u8 {
+        let shown = screen.look(Pos::new(1, column).ok_or("no place")?);
+        let coloured = Look {
+            fore: red,
+            back: red,
+            ..Look::BLANK
+        };
+        let wanted = match column {
+            1 => Look::BLANK,
+            3 => Look {
+                shape: sign(0x41).shape,
+                ..coloured
+            },
+            _ => coloured,
+        };
+        assert!(rt; shown == wanted);
+    }
+    assert!(rt; screen.look(Pos::new(2, 1).ok_or("no place")?) == Look::BLANK);
     Ok(())
 }

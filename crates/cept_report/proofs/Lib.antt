@@ -1,4 +1,4 @@
-pub mod Pieces
-pub mod Putting
+pub mod TextsInPieces
+pub mod LinesPut
 pub mod ScreenLines
 pub mod Worked

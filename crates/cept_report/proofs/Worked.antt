@@ -12,14 +12,18 @@ use Rattle.cept_report.specs.Text.{look_text}
 
 -- an a with diaeresis, white on magenta
 abbrev pub umlaut : Look
-umlaut = record blank_look { shape = shapes.Char (record { set = P; code = 0x61; accent = 0x48 }); back = paints.Ink (record { r = 15; g = 0; b = 15 }) }
+umlaut = record blank_look {
+  shape = shapes.Char (record { set = P; code = 0x61; accent = 0x48 });
+  back =
+      paints.Ink (record { r = 15; g = 0; b = 15 });
+}
 
-pub accent_is_told : look_text umlaut ≡ codes "P61+48 11.00 FFF F0F S---"
-accent_is_told = refl
+pub accent_is_reported : look_text umlaut ≡ codes "P61+48 11.00 FFF F0F S---"
+accent_is_reported = refl
 
-pub blank_cell_is_not_told : cell_text (record { row = 24; column = 40 }) blank_look ≡ []
+pub blank_cell_is_not_reported : cell_text (record { row = 24; column = 40 }) blank_look ≡ []
 unfolding cell_text
-blank_cell_is_not_told = refl
+blank_cell_is_not_reported = refl
 
 -- the sign and its mark
 pub accent_is_shown : look_sign umlaut ≡ 0x61 ∷ 0xCC ∷ 0x88 ∷ []
@@ -34,5 +38,6 @@ pub lower_part_is_a_space : look_sign (record umlaut { dy = 1; h = 2 }) ≡ code
 unfolding look_sign
 lower_part_is_a_space = refl
 
-pub picture_behind_is_told : look_text (record blank_look { back = paints.Video; lined = true }) ≡ codes "- 11.00 FFF --- S-l-"
-picture_behind_is_told = refl
+pub picture_behind_is_reported : look_text (record blank_look { back = paints.Video; lined = true })
+    ≡ codes "- 11.00 FFF --- S-l-"
+picture_behind_is_reported = refl

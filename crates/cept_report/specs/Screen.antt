@@ -1,5 +1,6 @@
 -- Texts of a screen, in UTF-8: its signs, and its looks that aren't blank. They are this project's own.
-use Rattle.std.specs.Prelude.{ℕ, ◌*◌, Bool, ◌||◌, List, [], ◌∷◌, ◌++◌, codes, decimal, encode_utf8, flat_map, nat_lt, if◌then◌else◌}
+use Rattle.std.specs.Prelude.{ℕ, ◌*◌, Bool, ◌||◌, List, [], ◌∷◌, ◌++◌, codes, decimal, encode_utf8, flat_map, nat_lt}
+use Rattle.std.specs.Prelude.{if◌then◌else◌}
 use Rattle.std.specs.List.{join_with_byte, range_with_len}
 use Rattle.cept_codes.specs.declared.look.Look.{Look}
 use Rattle.cept_codes.specs.declared.look.Shape.{Shape}
@@ -7,9 +8,10 @@ use Rattle.cept_codes.specs.declared.look.Shape.TheVariants as shapes
 use Rattle.cept_codes.specs.Look.{blank_look}
 use Rattle.cept_codes.specs.Place.{Place, place_of}
 use Rattle.cept_codes.specs.Same.{same_look}
-use Rattle.cept_codes.specs.Table.{at}
+use Rattle.cept_codes.specs.Table.{value_at}
 use Rattle.cept_charsets.specs.Rendition.{rendition}
 use Rattle.cept_profile.specs.Changes.{look_at}
+use Rattle.cept_report.specs.Ascii.{ascii}
 use Rattle.cept_report.specs.Text.{look_text}
 
 -- a space, the rendition of a sign, or a white square for a pattern
@@ -28,7 +30,7 @@ look_sign l = if is_hidden l then codes " " else shape_sign l.shape
 
 -- the signs of row r from the left, and a line feed
 unfoldable pub row_line : List (List Look) → ℕ → List ℕ
-row_line g r = flat_map (λ c. look_sign (at blank_look g r c)) (range_with_len 1 40) ++ 10 ∷ []
+row_line g r = flat_map (λ c. look_sign (value_at blank_look g r c)) (range_with_len 1 40) ++ ascii "\n" ∷ []
 
 -- so many rows from the top
 unfoldable pub screen_text : List (List Look) → ℕ → List ℕ
@@ -36,7 +38,7 @@ screen_text g rows = flat_map (row_line g) (range_with_len 1 rows)
 
 -- the row, the column and the look
 abbrev pub cell_line : Place → Look → List ℕ
-cell_line p l = join_with_byte 32 (decimal p.row ∷ decimal p.column ∷ look_text l ∷ []) ++ 10 ∷ []
+cell_line p l = join_with_byte (ascii " ") (decimal p.row ∷ decimal p.column ∷ look_text l ∷ []) ++ ascii "\n" ∷ []
 
 -- the line of a place, and none where its look is blank
 unfoldable pub cell_text : Place → Look → List ℕ

@@ -1,6 +1,7 @@
--- The texts of a report, as bytes. They are this project's own. Numbers are decimal without leading zeros, and each line ends
--- with a line feed.
-use Rattle.std.specs.Prelude.{ℕ, ◌+◌, ◌/◌, ◌%◌, Bool, List, [], ◌∷◌, ◌++◌, codes, decimal, nat_lt, ◌==◌, if◌then◌else◌}
+-- The texts of a report, as bytes. They are this project's own. Numbers are decimal without leading zeros, and each
+-- line ends with a line feed.
+use Rattle.std.specs.Prelude.{ℕ, ◌+◌, ◌-◌, ◌/◌, ◌%◌, Bool, List, [], ◌∷◌, ◌++◌, codes, decimal, nat_lt, ◌==◌}
+use Rattle.std.specs.Prelude.{if◌then◌else◌}
 use Rattle.std.specs.List.{join_with_byte}
 use Rattle.cept_codes.specs.declared.attribute.Flash.{Flash}
 use Rattle.cept_codes.specs.declared.attribute.Flash.TheVariants as flashes
@@ -15,10 +16,11 @@ use Rattle.cept_codes.specs.declared.look.Paint.TheVariants as paints
 use Rattle.cept_codes.specs.declared.look.Shape.{Shape}
 use Rattle.cept_codes.specs.declared.look.Shape.TheVariants as shapes
 use Rattle.cept_codes.specs.Place.{Place}
+use Rattle.cept_report.specs.Ascii.{ascii}
 
 -- a hexadecimal digit in upper case
 abbrev pub hex_digit : ℕ → ℕ
-hex_digit n = if nat_lt n 10 then 48 + n else 55 + n
+hex_digit n = if nat_lt n 10 then ascii "0" + n else ascii "A" - 10 + n
 
 -- a byte as two hexadecimal digits
 abbrev pub hex_byte : ℕ → List ℕ
@@ -26,21 +28,21 @@ hex_byte n = hex_digit (n / 16) ∷ hex_digit (n % 16) ∷ []
 
 -- the letter of a set
 abbrev pub set_letter : SetId → ℕ
-set_letter sets.P = 80
-set_letter sets.S = 83
-set_letter sets.M = 77
-set_letter sets.N = 78
-set_letter sets.D = 68
+set_letter sets.P = ascii "P"
+set_letter sets.S = ascii "S"
+set_letter sets.M = ascii "M"
+set_letter sets.N = ascii "N"
+set_letter sets.D = ascii "D"
 
 -- a plus and the accent's code, where there is an accent
 abbrev pub accent_text : ℕ → List ℕ
-accent_text accent = if accent == 0 then [] else 43 ∷ hex_byte accent
+accent_text accent = if accent == 0 then [] else ascii "+" ∷ hex_byte accent
 
 -- the set's letter, the code and the accent
 abbrev pub sign_text : Glyph → List ℕ
 sign_text g = set_letter g.set ∷ hex_byte g.code ++ accent_text g.accent
 
--- a minus for a space, a sign, or a percent sign for a pattern, whose pixels no text tells yet
+-- a minus for a space, a sign, or a percent sign for a pattern, whose pixels no text has yet
 abbrev pub shape_text : Shape → List ℕ
 shape_text shapes.Space = codes "-"
 shape_text (shapes.Char g) = sign_text g
@@ -48,38 +50,44 @@ shape_text (shapes.Drcs pattern inks) = codes "%"
 
 -- height, width, a full stop, how far down and how far right, a digit each
 abbrev pub part_text : Look → List ℕ
-part_text l = (48 + l.h) ∷ (48 + l.w) ∷ 46 ∷ (48 + l.dy) ∷ (48 + l.dx) ∷ []
+part_text l =
+    (ascii "0" + l.h) ∷ (ascii "0" + l.w) ∷ ascii "." ∷ (ascii "0" + l.dy) ∷ (ascii "0" + l.dx) ∷ []
 
--- red, green and blue as a digit each, or three minus signs for what lies behind the screen
+-- red, green and blue as a digit each, or three minus signs for the picture behind
 abbrev pub paint_text : Paint → List ℕ
 paint_text (paints.Ink c) = hex_digit c.r ∷ hex_digit c.g ∷ hex_digit c.b ∷ []
 paint_text paints.Video = codes "---"
 
 -- the letter of a flash, or the digit of a fast one
 abbrev pub flash_letter : Flash → ℕ
-flash_letter flashes.Steady = 83
-flash_letter flashes.Plain = 70
-flash_letter flashes.Inverted = 73
-flash_letter flashes.Reduced = 82
-flash_letter flashes.Fast1 = 49
-flash_letter flashes.Fast2 = 50
-flash_letter flashes.Fast3 = 51
+flash_letter flashes.Steady = ascii "S"
+flash_letter flashes.Plain = ascii "F"
+flash_letter flashes.Inverted = ascii "I"
+flash_letter flashes.Reduced = ascii "R"
+flash_letter flashes.Fast1 = ascii "1"
+flash_letter flashes.Fast2 = ascii "2"
+flash_letter flashes.Fast3 = ascii "3"
 
 -- a letter where the flag is set, else a minus
 abbrev pub flag_letter : ℕ → Bool → ℕ
-flag_letter letter flag = if flag then letter else 45
+flag_letter letter flag = if flag then letter else ascii "-"
 
 -- the flash, and c for concealed, l for lined, b for boxed
 abbrev pub signs_text : Look → List ℕ
-signs_text l = flash_letter l.flash ∷ flag_letter 99 l.conceal ∷ flag_letter 108 l.lined ∷ flag_letter 98 l.boxed ∷ []
+signs_text l =
+    flash_letter l.flash ∷ flag_letter (ascii "c") l.conceal ∷ flag_letter (ascii "l") l.lined
+    ∷ flag_letter (ascii "b") l.boxed ∷ []
 
 -- five fields: shape, part, foreground, background, and the four signs
 abbrev pub look_text : Look → List ℕ
-look_text l = join_with_byte 32 (shape_text l.shape ∷ part_text l ∷ paint_text l.fore ∷ paint_text l.back ∷ signs_text l ∷ [])
+look_text l = join_with_byte (ascii " ")
+    (shape_text l.shape ∷ part_text l ∷ paint_text l.fore ∷ paint_text l.back ∷ signs_text l ∷ [])
 
 -- the label, the row, the column and the look
 abbrev pub change_line : ℕ → Place → Look → List ℕ
-change_line label p l = join_with_byte 32 (decimal label ∷ decimal p.row ∷ decimal p.column ∷ look_text l ∷ []) ++ 10 ∷ []
+change_line label p l =
+    join_with_byte (ascii " ") (decimal label ∷ decimal p.row ∷ decimal p.column ∷ look_text l ∷ [])
+    ++ ascii "\n" ∷ []
 
 -- a line for each changed place
 unfoldable pub change_lines : ℕ → List (Place × Look) → List ℕ
@@ -108,8 +116,12 @@ reason_name reasons.Truncated = codes "Truncated"
 
 -- an exclamation mark, the place, the length, and the reason's number and name
 abbrev pub refusal_line : ℕ → ℕ → Reason → List ℕ
-refusal_line place size reason = join_with_byte 32 (codes "!" ∷ decimal place ∷ decimal size ∷ decimal (reason_number reason) ∷ reason_name reason ∷ []) ++ 10 ∷ []
+refusal_line place size reason = join_with_byte (ascii " ")
+    (codes "!" ∷ decimal place ∷ decimal size ∷ decimal (reason_number reason) ∷ reason_name reason ∷ [])
+    ++ ascii "\n" ∷ []
 
 -- how many items there are, and how many of them are refused
 abbrev pub check_line : ℕ → ℕ → List ℕ
-check_line items refused = join_with_byte 32 (codes "items" ∷ decimal items ∷ codes "refused" ∷ decimal refused ∷ []) ++ 10 ∷ []
+check_line items refused =
+    join_with_byte (ascii " ") (codes "items" ∷ decimal items ∷ codes "refused" ∷ decimal refused ∷ [])
+    ++ ascii "\n" ∷ []

@@ -1,5 +1,5 @@
-//! The texts of a report: the lines of changes, refusals, counts and cells, and the screen, each put exactly. It knows no bytes of
-//! a page and no history.
+//! The texts of a report: the lines of changes, refusals, counts and cells, and the screen, each
+//! put exactly. It knows no bytes of a page and no history.
 #![tactic(auto)]
 
 mod line;

@@ -2,7 +2,9 @@ ghost use Rattle.std.specs.Prelude.{◌≡◌, ◌+◌, ◌≤◌, ◌<◌, ◌�
 ghost use Rattle.arrayvec.specs.ArrayVec.{array_vec_len};
 ghost use Rattle.cept_codes.specs.Look.{IsValidLook};
 ghost use Rattle.cept_report.specs.Screen.{cell_line, cell_text};
-ghost use Rattle.cept_report.specs.Text.{reason_number, reason_name, change_line, check_line, refusal_line};
+ghost use Rattle.cept_report.specs.Ascii.{ascii};
+ghost use Rattle.cept_report.specs.Text.{reason_number, reason_name, change_line, check_line};
+ghost use Rattle.cept_report.specs.Text.{refusal_line};
 
 use crate::line::{Line, add_byte, add_number, add_text};
 use crate::look::add_look;
@@ -100,7 +102,8 @@ fn add_name(line: &mut Line, reason: Reason)
 
 fn add_reason(line: &mut Line, reason: Reason)
     requires { array_vec_len line.old + 38 ≤ 256 }
-    ensures text { line.new.items ≡ line.old.items ++ (decimal (reason_number reason) ++ 32 ∷ reason_name reason) }
+    ensures text { line.new.items ≡ line.old.items
+        ++ (decimal (reason_number reason) ++ ascii " " ∷ reason_name reason) }
     ensures len { array_vec_len line.new ≤ array_vec_len line.old + 38 }
 {
     add_number(line, u64::from(number_of(reason)));

@@ -1,7 +1,9 @@
 ghost use Rattle.std.specs.Prelude.{◌≡◌, ◌+◌, ◌≤◌, ◌<◌, ◌∷◌, [], ◌++◌, length};
 ghost use Rattle.arrayvec.specs.ArrayVec.{array_vec_len};
 ghost use Rattle.cept_codes.specs.Look.{IsValidLook, IsValidPaint, IsValidShape};
-ghost use Rattle.cept_report.specs.Text.{set_letter, accent_text, sign_text, shape_text, part_text, paint_text, flash_letter, flag_letter, signs_text, look_text};
+ghost use Rattle.cept_report.specs.Text.{set_letter, accent_text, sign_text, shape_text, part_text};
+ghost use Rattle.cept_report.specs.Text.{paint_text, flash_letter, flag_letter, signs_text};
+ghost use Rattle.cept_report.specs.Text.{look_text};
 
 use crate::line::{Line, add_byte, add_hex_byte, add_text, hex_digit};
 use cept_codes::{Flash, Glyph, Look, Paint, SetId, Shape};

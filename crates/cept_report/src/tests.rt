@@ -37,7 +37,7 @@ fn an_empty_screen_is_24_rows_of_spaces(rt: HostRuntime) -> Result<(), Fail> {
 }
 
 #[test]
-fn a_painted_sign_is_shown_and_told(rt: HostRuntime) -> Result<(), Fail> {
+fn a_painted_sign_is_shown_and_reported(rt: HostRuntime) -> Result<(), Fail> {
     let glass = painted::<Brand>(rt.alloc(), Blank::new(1))?;
     let mut sink = MemSink::new(rt.alloc(), 128)?;
     put_screen(&mut sink, &glass, 1)?;

@@ -14,51 +14,53 @@ use Rattle.cept_profile.specs.Control.{control}
 use Rattle.cept_profile.specs.Look.{grid}
 use Rattle.cept_report.specs.Screen.{screen_text, cells_text}
 use Rattle.cept_report.specs.Text.{change_lines, refusal_line, check_line}
-use Rattle.cept_tool.specs.declared.words.Order.{Order}
-use Rattle.cept_tool.specs.declared.words.Order.TheVariants as orders
+use Rattle.cept_tool.specs.declared.words.Action.{Action}
+use Rattle.cept_tool.specs.declared.words.Action.TheVariants as actions
 use Rattle.cept_tool.specs.Words.{is_painting}
 
 -- the commands that were applied of these items
-abbrev pub applied : Order → List Item → List Command
-applied order items = if is_painting order then commands_of items else []
+abbrev pub applied_commands : Action → List Item → List Command
+applied_commands action items = if is_painting action then commands_of items else []
 
--- what is told of the places that a command changes
-abbrev pub lines_text : Order → ℕ → List (Place × Look) → List ℕ
-lines_text orders.Changes place xs = change_lines place xs
-lines_text orders.Check place xs = []
-lines_text orders.Show place xs = []
-lines_text orders.Cells place xs = []
+-- what is reported of the places that a command changes
+abbrev pub lines_text : Action → ℕ → List (Place × Look) → List ℕ
+lines_text actions.Changes place xs = change_lines place xs
+lines_text actions.Check place xs = []
+lines_text actions.Show place xs = []
+lines_text actions.Cells place xs = []
 
--- what is told of a command at this place, behind these commands
-abbrev pub command_text : Order → ℕ → List Command → Command → List ℕ
-command_text order place history command = lines_text order place (changes history command)
+-- what is reported of a command at this place, after these commands
+abbrev pub command_text : Action → ℕ → List Command → Command → List ℕ
+command_text action place history command = lines_text action place (changes history command)
 
--- what is told of refused bytes
-abbrev pub refusal_text : Order → ℕ → ℕ → Reason → List ℕ
-refusal_text orders.Changes place size reason = refusal_line place size reason
-refusal_text orders.Check place size reason = refusal_line place size reason
-refusal_text orders.Show place size reason = []
-refusal_text orders.Cells place size reason = []
+-- what is reported of refused bytes
+abbrev pub refusal_text : Action → ℕ → ℕ → Reason → List ℕ
+refusal_text actions.Changes place size reason = refusal_line place size reason
+refusal_text actions.Check place size reason = refusal_line place size reason
+refusal_text actions.Show place size reason = []
+refusal_text actions.Cells place size reason = []
 
--- what is told of an item, behind these commands
-abbrev pub item_text : Order → List Command → Item → Said → List ℕ
-item_text order history item (said.Command command) = command_text order item.at history command
-item_text order history item (said.Refused reason) = refusal_text order item.at item.len reason
+-- what is reported of an item, after these commands
+abbrev pub item_text : Action → List Command → Item → Said → List ℕ
+item_text action history item (said.Command command) = command_text action item.at history command
+item_text action history item (said.Refused reason) = refusal_text action item.at item.len reason
 
 -- the places that an item changes: a refusal changes none
-abbrev pub item_paints : Order → List Command → Said → List (Place × Look)
-item_paints order history (said.Command command) = if is_painting order then changes history command else []
-item_paints order history (said.Refused reason) = []
+abbrev pub item_paints : Action → List Command → Said → List (Place × Look)
+item_paints action history (said.Command command) = if is_painting action then changes history command else []
+item_paints action history (said.Refused reason) = []
 
--- what is told of items: of each behind the commands of those before it
-unfoldable pub told_behind : Order → List Item → List Item → List ℕ
-told_behind order earlier [] = []
-told_behind order earlier (i ∷ is) = item_text order (applied order earlier) i i.what ++ told_behind order (earlier ++ i ∷ []) is
+-- what is reported of items: of each after the commands of those before it
+unfoldable pub items_text : Action → List Item → List Item → List ℕ
+items_text action earlier [] = []
+items_text action earlier (i ∷ is) =
+    item_text action (applied_commands action earlier) i i.what ++ items_text action (earlier ++ i ∷ []) is
 
--- the places that items change, in order: of each behind the commands of those before it
-unfoldable pub painted_behind : Order → List Item → List Item → List (Place × Look)
-painted_behind order earlier [] = []
-painted_behind order earlier (i ∷ is) = item_paints order (applied order earlier) i.what ++ painted_behind order (earlier ++ i ∷ []) is
+-- the places that items change, in order: of each after the commands of those before it
+unfoldable pub items_paints : Action → List Item → List Item → List (Place × Look)
+items_paints action earlier [] = []
+items_paints action earlier (i ∷ is) =
+    item_paints action (applied_commands action earlier) i.what ++ items_paints action (earlier ++ i ∷ []) is
 
 -- it says that bytes are refused
 abbrev pub is_refused : Said → Bool
@@ -73,17 +75,17 @@ refused_count items = count_by (λ i. is_refused i.what) items
 abbrev pub has_refusal : List Item → Bool
 has_refusal items = nat_lt 0 (refused_count items)
 
--- how many rows the page has behind the commands
-abbrev pub rows_behind : List Command → ℕ
-rows_behind history = (control history).rows
+-- how many rows the page has after the commands
+abbrev pub rows_after : List Command → ℕ
+rows_after history = (control history).rows
 
--- the text behind the last item
-abbrev pub final_text : Order → List Item → List ℕ
-final_text orders.Changes items = []
-final_text orders.Check items = check_line (length items) (refused_count items)
-final_text orders.Show items = screen_text (grid (commands_of items)) (rows_behind (commands_of items))
-final_text orders.Cells items = cells_text (grid (commands_of items)) (rows_behind (commands_of items))
+-- the text after the last item
+abbrev pub final_text : Action → List Item → List ℕ
+final_text actions.Changes items = []
+final_text actions.Check items = check_line (length items) (refused_count items)
+final_text actions.Show items = screen_text (grid (commands_of items)) (rows_after (commands_of items))
+final_text actions.Cells items = cells_text (grid (commands_of items)) (rows_after (commands_of items))
 
 -- the whole report of a page
-abbrev pub report : Order → List ℕ → List ℕ
-report order page = told_behind order [] (closed_items page) ++ final_text order (closed_items page)
+abbrev pub report : Action → List ℕ → List ℕ
+report action page = items_text action [] (closed_items page) ++ final_text action (closed_items page)

@@ -1,4 +1,6 @@
 pub mod Events
+pub mod Outside
+pub mod Page
 pub mod Run
-pub mod Told
+pub mod Progress
 pub mod Words

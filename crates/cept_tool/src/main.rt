@@ -1,5 +1,5 @@
-//! The program: it reads the words, a stored page and the commands in it, paints a screen, and puts the report on standard
-//! output.
+//! The program: it reads the words, a stored page and the commands in it, paints a screen, and puts
+//! the report on standard output.
 #![tactic(auto)]
 
 mod decoder;
@@ -35,7 +35,8 @@ fn status(rt: &HostRuntime) -> Status {
     let mut shelf = FileShelf::new(rt);
     let mut sink = StdSink::new(io::writer(rt));
     let status = run(rt.alloc(), &words, &mut shelf, &mut sink, &mut glass);
-    // An early end doesn't flush: what was put before it is handed on here, as far as the output takes it.
+    // An early end doesn't flush: what was put before it is handed on here, as far as the output
+    // takes it.
     let _ = sink.hand_on();
     status
 }

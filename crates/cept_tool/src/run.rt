@@ -1,18 +1,18 @@
-ghost use Rattle.std.specs.Prelude.{◌≡◌, ◌≢◌, ◌+◌, ◌-◌, ◌^◌, ◌<◌, ◌≤◌, ◌↔◌, ◌⊎◌, IfOk, OnOk, ◌∷◌, [], ◌++◌, ℕ, List, false, true, length, take, map, Some, None, IsSome, IsTrue, is_some, string_bytes};
-ghost use Rattle.cept_outside.specs.Causes.{Rose};
+ghost use Rattle.std.specs.Prelude.{◌≡◌, ◌≢◌, ◌^◌, ◌<◌, ◌≤◌, ◌⊎◌, [], List, ℕ, OnErr, Option, Some};
+ghost use Rattle.std.specs.Prelude.{None};
+ghost use Rattle.std.specs.Prelude.{map, string_bytes, length};
 ghost use Rattle.cept_outside.specs.QuietShelf.{quiet_shelf_state};
 ghost use Rattle.cept_outside.specs.QuietSink.{quiet_sink_state};
-ghost use Rattle.cept_outside.specs.ShelfState.{Holds, KeepsFiles, bytes_under};
-ghost use Rattle.cept_parser.specs.Items.{items, closed_items};
-ghost use Rattle.cept_profile.specs.Look.{grid};
-ghost use Rattle.cept_tool.specs.Events.{has_refusal, report};
-ghost use Rattle.cept_tool.specs.Run.{IsWhole, IsUntouched, Reports, status_number, status_of};
-ghost use Rattle.cept_tool.specs.Told.{HasRead, HasTold, HasBegun};
-ghost use Rattle.cept_tool.specs.Words.{Form, ReadsGlass, form_of};
+ghost use Rattle.cept_outside.specs.ShelfState.{Holds};
+ghost use Rattle.cept_outside.specs.SinkState.{HasPut};
+ghost use Rattle.cept_tool.specs.Outside.{outside_of};
+ghost use Rattle.cept_tool.specs.Run.{Ends, Keeps, Runs, status_number, status_of, status_at_end};
+ghost use Rattle.cept_tool.specs.Progress.{HasRead};
+ghost use Rattle.cept_tool.specs.Words.{Request, request_of, request_with};
 
 use crate::decoder::Decoder;
 use crate::page::{Stop, read_page};
-use crate::words::{Order, form_of};
+use crate::words::{Action, request_of};
 use cept_outside::{QuietShelf, QuietSink, Shelf, Sink, Steps};
 use cept_repaint::Glass;
 use std::alloc::Global;
@@ -26,7 +26,7 @@ pub enum Status {
     Done,
     /// The page was read to its end, and an item in it is refused.
     Refusals,
-    /// The words are no form.
+    /// The words are no request.
     Usage,
     /// The page can't be opened or read.
     ReadFault,
@@ -56,8 +56,7 @@ impl Status {
 
     /// The status of a page that was read to its end.
     fn of_whole(refused: bool) -> Status
-        ensures whole { IsWhole result }
-        ensures refused { (result ≡ Status.Refusals) ↔ (refused ≡ true) }
+        ensures { result ≡ status_at_end (Ok refused) }
     {
         if refused {
             Status::Refusals
@@ -76,10 +75,21 @@ impl Status {
             Stop::TooLong => Status::TooLong,
         }
     }
+
+    /// The status of what was answered: whether an item was refused, or why the page wasn't read to
+    /// its end.
+    fn at_end(answer: Result<bool, Stop>) -> Status
+        ensures { result ≡ status_at_end answer }
+    {
+        match answer {
+            Ok(refused) => Status::of_whole(refused),
+            Err(stop) => Status::of_stop(stop),
+        }
+    }
 }
 
-/// Selects a page, tells it to its end and flushes. Answers whether an item was refused.
-fn tell_page<F: Shelf, T: Sink, G: Glass, L: Ledger>(
+/// Selects a page, reports it to its end and flushes. Answers whether an item was refused.
+fn report_page<F: Shelf, T: Sink, G: Glass, L: Ledger>(
     decoder: &mut Decoder,
     page: &String,
     shelf: &mut F,
@@ -92,58 +102,38 @@ fn tell_page<F: Shelf, T: Sink, G: Glass, L: Ledger>(
     requires name { blank.name ≡ L.name }
     requires parts { blank.parts ≡ L.parts }
     requires some { 0 < blank.parts }
-    ensures files { KeepsFiles (F.state shelf.old) (F.state shelf.new) }
-    ensures missed { IsSome (bytes_under (F.state shelf.old) (string_bytes page.now)) → (F.state shelf.new).missed ≡ (F.state shelf.old).missed }
-    ensures shelf_faults { (F.state shelf.old).faults ≤ (F.state shelf.new).faults }
-    ensures sink_faults { (T.state sink.old).faults ≤ (T.state sink.new).faults }
-    ensures idle { decoder.old.desk.easel ≡ None → G.state glass.new ≡ G.state glass.old }
-
-    ensures short { OnOk result ((F.state shelf.new).taken ≤ 2 ^ 24) }
-    ensures flushed { OnOk result ((T.state sink.new).unflushed ≡ false) }
-    ensures refused { IfOk result (λ refused. (bytes : List ℕ) → Holds (F.state shelf.old) (string_bytes page.now) bytes
-        → refused ≡ has_refusal (closed_items bytes)) }
-    ensures reports { OnOk result ((bytes : List ℕ) → Holds (F.state shelf.old) (string_bytes page.now) bytes
-        → Reports (record { order = decoder.old.desk.order; page = string_bytes page.now }) bytes (T.state sink.old) (T.state sink.new) (G.state glass.old) (G.state glass.new)) }
-
-    ensures read_fault { result ≡ Err Stop.ReadFault → Rose (F.state shelf.old).faults (F.state shelf.new).faults }
-    ensures read_fault_short { result ≡ Err Stop.ReadFault → (F.state shelf.new).taken ≤ 2 ^ 24 }
-    ensures read_fault_told { result ≡ Err Stop.ReadFault → (bytes : List ℕ) → Holds (F.state shelf.old) (string_bytes page.now) bytes
-        → HasTold decoder.old.desk.order (items (take (F.state shelf.new).taken bytes)) (T.state sink.old) (T.state sink.new) (G.state glass.old) (G.state glass.new) }
-
-    ensures too_long { result ≡ Err Stop.TooLong → 2 ^ 24 < (F.state shelf.new).taken }
-    ensures too_long_told { result ≡ Err Stop.TooLong → (bytes : List ℕ) → Holds (F.state shelf.old) (string_bytes page.now) bytes
-        → HasTold decoder.old.desk.order (items (take (2 ^ 24) bytes)) (T.state sink.old) (T.state sink.new) (G.state glass.old) (G.state glass.new) }
-
-    ensures write_fault { result ≡ Err Stop.WriteFault → Rose (T.state sink.old).faults (T.state sink.new).faults }
-    ensures write_fault_told { result ≡ Err Stop.WriteFault → (bytes : List ℕ) → Holds (F.state shelf.old) (string_bytes page.now) bytes
-        → (ReadsGlass decoder.old.desk.order → (G.state glass.old).grid ≡ grid [])
-        → HasBegun (report decoder.old.desk.order bytes) (T.state sink.old) (T.state sink.new) }
+    ensures ends { let before =
+        outside_of (F.state shelf.old) (T.state sink.old) (G.state glass.old) in
+        let after = outside_of (F.state shelf.new) (T.state sink.new) (G.state glass.new) in
+        Ends (request_with decoder.old.desk.action (string_bytes page.now)) before after
+        (status_at_end result) }
+    ensures keeps { let before =
+        outside_of (F.state shelf.old) (T.state sink.old) (G.state glass.old) in
+        let after = outside_of (F.state shelf.new) (T.state sink.new) (G.state glass.new) in
+        Keeps (request_with decoder.old.desk.action (string_bytes page.now)) before after }
+    ensures selects { (chosen : Option (List ℕ)) → (F.state shelf.new).selected ≡ Some chosen
+        → (chosen ≡ None) ⊎ (chosen ≡ Some (string_bytes page.now)) }
+    ensures unflushed { OnErr result (HasPut (T.state sink.old) (T.state sink.new)) }
 {
-    match shelf.select(page.as_str()) {
-        Ok(()) => {}
-        Err(_) => return Err(Stop::ReadFault),
-    }
+    let Ok(()) = shelf.select(page.as_str()) else {
+        return Err(Stop::ReadFault);
+    };
     let mut steps = Steps::<L>::new(blank);
-    match read_page(decoder, shelf, sink, glass, &mut steps) {
-        Ok(()) => {}
-        Err(stop) => return Err(stop),
-    }
-    match decoder.desk.put_end(sink, glass) {
-        Ok(()) => {}
-        Err(_) => return Err(Stop::WriteFault),
-    }
-    match sink.flush() {
-        Ok(()) => Ok(decoder.desk.refused > 0),
-        Err(_) => Err(Stop::WriteFault),
-    }
+    read_page(decoder, shelf, sink, glass, &mut steps)?;
+    decoder.desk.put_end(sink, glass)?;
+    let Ok(()) = sink.flush() else {
+        return Err(Stop::WriteFault);
+    };
+    Ok(decoder.desk.refused > 0)
 }
 
 /// Runs the program on its words, those after the program's name, over a shelf, a sink and a glass.
 ///
-/// `changes PAGE`, `show PAGE` and `cells PAGE` apply the commands of the page one after the other, and paint behind each
-/// the cells that it changed on the glass. `changes` puts their lines; `show` and `cells` put behind the last item what
-/// the glass shows. `check PAGE` applies and paints nothing: it puts how many items there are and how many are refused.
-/// `changes` and `check` put the line of a refused item, which changes nothing.
+/// `changes PAGE`, `show PAGE` and `cells PAGE` apply the commands of the page one after the other,
+/// and paint after each the cells that it changed on the glass. `changes` puts their lines; `show`
+/// and `cells` put after the last item what the glass shows. `check PAGE` applies and paints
+/// nothing: it puts how many items there are and how many are refused. `changes` and `check` put
+/// the line of a refused item, which changes nothing.
 pub fn run<F: Shelf, T: Sink, G: Glass>(
     alloc: Global,
     words: &Vec<String>,
@@ -151,65 +141,24 @@ pub fn run<F: Shelf, T: Sink, G: Glass>(
     sink: &mut T,
     glass: &mut G,
 ) -> Status
-    // A page read to its end: the whole report, in whatever pieces the shelf gives the page and the sink takes the text.
-    ensures reports { IsWhole result → (form : Form) (page : List ℕ) → form_of (map string_bytes words.now.items) ≡ Some form
-        → Holds (F.state shelf.old) form.page page
-        → Reports form page (T.state sink.old) (T.state sink.new) (G.state glass.old) (G.state glass.new) }
-    ensures refusals { IsWhole result → (form : Form) (page : List ℕ) → form_of (map string_bytes words.now.items) ≡ Some form
-        → Holds (F.state shelf.old) form.page page
-        → (result ≡ Status.Refusals) ↔ (has_refusal (closed_items page) ≡ true) }
-    ensures flushed { IsWhole result → (T.state sink.new).unflushed ≡ false }
-
-    // Words that are no form, and want of memory, which comes before the page is selected.
-    ensures usage { (result ≡ Status.Usage) ↔ (form_of (map string_bytes words.now.items) ≡ None) }
-    ensures memory { result ≡ Status.NoMemory → (form : Form) → form_of (map string_bytes words.now.items) ≡ Some form → form.order ≢ Order.Check }
-    ensures untouched { IsUntouched result
-        → (F.state shelf.new ≡ F.state shelf.old) × (T.state sink.new ≡ T.state sink.old) × (G.state glass.new ≡ G.state glass.old) }
-
-    // To check a page the glass isn't touched, however the run ends.
-    ensures check { (form : Form) → form_of (map string_bytes words.now.items) ≡ Some form → form.order ≡ Order.Check → G.state glass.new ≡ G.state glass.old }
-
-    // A fault is answered only where it rose. Of a page that can't be read on, the bytes taken are told; where the sink failed
-    // a beginning of the report was put.
-    ensures read_fault { result ≡ Status.ReadFault → Rose (F.state shelf.old).faults (F.state shelf.new).faults }
-    ensures read_fault_told { result ≡ Status.ReadFault → (form : Form) (page : List ℕ) → form_of (map string_bytes words.now.items) ≡ Some form
-        → Holds (F.state shelf.old) form.page page
-        → HasTold form.order (items (take (F.state shelf.new).taken page)) (T.state sink.old) (T.state sink.new) (G.state glass.old) (G.state glass.new) }
-    ensures write_fault { result ≡ Status.WriteFault → Rose (T.state sink.old).faults (T.state sink.new).faults }
-    ensures write_fault_told { result ≡ Status.WriteFault → (form : Form) (page : List ℕ) → form_of (map string_bytes words.now.items) ≡ Some form
-        → Holds (F.state shelf.old) form.page page → (ReadsGlass form.order → (G.state glass.old).grid ≡ grid [])
-        → HasBegun (report form.order page) (T.state sink.old) (T.state sink.new) }
-
-    // A page is too long where more than 2^24 bytes of it were taken. Then exactly the first 2^24 are told.
-    ensures too_long { result ≡ Status.TooLong → 2 ^ 24 < (F.state shelf.new).taken }
-    ensures not_too_long { IsWhole result ⊎ (result ≡ Status.ReadFault) → (F.state shelf.new).taken ≤ 2 ^ 24 }
-    ensures too_long_told { result ≡ Status.TooLong → (form : Form) (page : List ℕ) → form_of (map string_bytes words.now.items) ≡ Some form
-        → Holds (F.state shelf.old) form.page page
-        → HasTold form.order (items (take (2 ^ 24) page)) (T.state sink.old) (T.state sink.new) (G.state glass.old) (G.state glass.new) }
-
-    // Where the shelf has the page no file is missed; the shelf's files stay, and no count of faults falls.
-    ensures missed { (form : Form) → form_of (map string_bytes words.now.items) ≡ Some form
-        → IsSome (bytes_under (F.state shelf.old) form.page) → (F.state shelf.new).missed ≡ (F.state shelf.old).missed }
-    ensures files { KeepsFiles (F.state shelf.old) (F.state shelf.new) }
-    ensures faults { ((F.state shelf.old).faults ≤ (F.state shelf.new).faults) × ((T.state sink.old).faults ≤ (T.state sink.new).faults) }
+    ensures runs { let before =
+        outside_of (F.state shelf.old) (T.state sink.old) (G.state glass.old) in
+        let after = outside_of (F.state shelf.new) (T.state sink.new) (G.state glass.new) in
+        Runs (map string_bytes words.now.items) before after result }
 {
-    match form_of(words.as_slice()) {
-        None => Status::Usage,
-        Some((order, page)) => match Decoder::new(alloc, order) {
-            Err(_) => Status::NoMemory,
-            Ok(mut decoder) => {
-                // No step is counted: the ledger is a blank one.
-                let blank = Blank::new(1);
-                match tell_page::<F, T, G, Brand>(&mut decoder, page, shelf, sink, glass, blank) {
-                    Ok(refused) => Status::of_whole(refused),
-                    Err(stop) => Status::of_stop(stop),
-                }
-            }
-        },
-    }
+    let Some((action, page)) = request_of(words.as_slice()) else {
+        return Status::Usage;
+    };
+    let Ok(mut decoder) = Decoder::new(alloc, action) else {
+        return Status::NoMemory;
+    };
+    // No step is counted: the ledger is a blank one.
+    let blank = Blank::new(1);
+    Status::at_end(report_page::<F, T, G, Brand>(&mut decoder, page, shelf, sink, glass, blank))
 }
 
-/// Runs the program over a shelf and a sink that never fail: then no fault is answered, and a whole run reports as `run` does.
+/// Runs the program over a shelf and a sink that never fail: it does all that `run` does, no fault
+/// is answered, and only a page that is too long ends so.
 pub fn run_quietly<G: Glass>(
     alloc: Global,
     words: &Vec<String>,
@@ -217,16 +166,17 @@ pub fn run_quietly<G: Glass>(
     sink: &mut QuietSink,
     glass: &mut G,
 ) -> Status
+    ensures runs { let before = outside_of (quiet_shelf_state shelf.old) (quiet_sink_state sink.old)
+        (G.state glass.old) in
+        let after = outside_of (quiet_shelf_state shelf.new) (quiet_sink_state sink.new)
+        (G.state glass.new) in
+        Runs (map string_bytes words.now.items) before after result }
     ensures read_fault { result ≢ Status.ReadFault }
     ensures write_fault { result ≢ Status.WriteFault }
-    ensures reports { IsWhole result → (form : Form) (page : List ℕ) → form_of (map string_bytes words.now.items) ≡ Some form
-        → Holds (quiet_shelf_state shelf.old) form.page page
-        → Reports form page (quiet_sink_state sink.old) (quiet_sink_state sink.new) (G.state glass.old) (G.state glass.new) }
-    ensures refusals { IsWhole result → (form : Form) (page : List ℕ) → form_of (map string_bytes words.now.items) ≡ Some form
-        → Holds (quiet_shelf_state shelf.old) form.page page
-        → (result ≡ Status.Refusals) ↔ (has_refusal (closed_items page) ≡ true) }
-    ensures usage { (result ≡ Status.Usage) ↔ (form_of (map string_bytes words.now.items) ≡ None) }
-    ensures files { KeepsFiles (quiet_shelf_state shelf.old) (quiet_shelf_state shelf.new) }
+    ensures too_long { (request : Request) (page : List ℕ)
+        → request_of (map string_bytes words.now.items) ≡ Some request
+        → Holds (quiet_shelf_state shelf.old) request.page page → length page ≤ 2 ^ 24
+        → result ≢ Status.TooLong }
 {
     run(alloc, words, shelf, sink, glass)
 }

@@ -1,6 +1,6 @@
-use crate::run::{Status, run};
+use crate::run::{Status, run, run_quietly};
 use cept_codes::Pos;
-use cept_outside::{MemShelf, MemSink};
+use cept_outside::{MemShelf, MemSink, QuietShelf, QuietSink};
 use cept_repaint::{Glass, GridGlass};
 use std::alloc::{AllocError, Global};
 use std::process::Abort;
@@ -15,16 +15,16 @@ fn words(alloc: Global, all: &[&str]) -> Result<Vec<String>, AllocError> {
     Ok(words)
 }
 
-/// Tells a page, with ample memory, and compares what was put and the status.
+/// Reports a page, with ample memory, and compares what was put and the status.
 fn compare(
     rt: &impl Abort,
     alloc: Global,
-    order: &str,
+    word: &str,
     page: &[u8],
     want: &str,
     status: Status,
 ) -> Result<(), Fail> {
-    let words = words(alloc, &[order, "page"])?;
+    let words = words(alloc, &[word, "page"])?;
     let mut shelf = MemShelf::new(alloc);
     shelf.add("page", page)?;
     let mut sink = MemSink::new(alloc, 4096)?;
@@ -36,7 +36,7 @@ fn compare(
 }
 
 #[test]
-fn tells_worked_pages(rt: HostRuntime) -> Result<(), Fail> {
+fn reports_worked_pages(rt: HostRuntime) -> Result<(), Fail> {
     let pages = [
         (b"".as_slice(), "", Status::Done),
         (b"A", "0 1 1 P41 11.00 FFF 000 S---\n", Status::Done),
@@ -70,6 +70,11 @@ fn tells_worked_pages(rt: HostRuntime) -> Result<(), Fail> {
         (b"\x9B9@", "! 0 3 3 UnknownCsi\n", Status::Refusals),
         (b"\x1F1A\x0D", "! 0 2 4 UnknownUnit\n", Status::Refusals),
         (b"\x1B", "! 0 1 7 Truncated\n", Status::Refusals),
+        (
+            b"\x1B\x22\x40\x1FAh\x91s",
+            "7 2 1 M73 11.00 FFF 000 S---\n",
+            Status::Done,
+        ),
     ];
     for (page, want, status) in pages {
         compare(&rt, rt.alloc(), "changes", page, want, status)?;
@@ -78,7 +83,7 @@ fn tells_worked_pages(rt: HostRuntime) -> Result<(), Fail> {
 }
 
 #[test]
-fn tells_what_stands_at_the_end(rt: HostRuntime) -> Result<(), Fail> {
+fn reports_what_stands_at_the_end(rt: HostRuntime) -> Result<(), Fail> {
     let pages = [
         (
             "check",
@@ -104,11 +109,24 @@ fn tells_what_stands_at_the_end(rt: HostRuntime) -> Result<(), Fail> {
             "1 1 P41 11.00 FFF F0F S---\n1 2 P42 11.00 FFF 000 S---\n1 3 P43 11.00 000 FFF S---\n",
             Status::Done,
         ),
+        (
+            "cells",
+            b"\x1B\x22\x40\x88A\x89B",
+            "1 2 P41 11.00 FFF 000 F---\n1 4 P42 11.00 FFF 000 S---\n",
+            Status::Done,
+        ),
+        (
+            "cells",
+            b"\x1B\x22\x40\x98A\x9BBB",
+            "1 1 - 11.00 FFF 000 Sc--\n1 2 P41 11.00 FFF 000 Sc--\n\
+             1 3 - 11.00 FFF 000 Sc--\n1 4 P42 11.00 FFF 000 S---\n",
+            Status::Done,
+        ),
         ("cells", b"", "", Status::Done),
         ("cells", b"A", "1 1 P41 11.00 FFF 000 S---\n", Status::Done),
     ];
-    for (order, page, want, status) in pages {
-        compare(&rt, rt.alloc(), order, page, want, status)?;
+    for (word, page, want, status) in pages {
+        compare(&rt, rt.alloc(), word, page, want, status)?;
     }
     Ok(())
 }
@@ -116,13 +134,13 @@ fn tells_what_stands_at_the_end(rt: HostRuntime) -> Result<(), Fail> {
 #[test]
 fn repeats_to_the_end_of_the_second_row(rt: HostRuntime) -> Result<(), Fail> {
     let alloc = rt.alloc();
-    let form = words(alloc, &["changes", "page"])?;
+    let request = words(alloc, &["changes", "page"])?;
     let mut shelf = MemShelf::new(alloc);
     shelf.add("page", b"A\x12\x7F")?;
     let mut sink = MemSink::new(alloc, 4096)?;
     let mut glass = GridGlass::new(alloc)?;
     assert_eq!(rt;
-        run(alloc, &form, &mut shelf, &mut sink, &mut glass),
+        run(alloc, &request, &mut shelf, &mut sink, &mut glass),
         Status::Done
     );
     let lines = sink.bytes().iter().filter(|byte| **byte == b'\n').count();
@@ -136,14 +154,14 @@ fn repeats_to_the_end_of_the_second_row(rt: HostRuntime) -> Result<(), Fail> {
 #[test]
 fn stops_at_a_page_that_is_too_long(rt: HostRuntime) -> Result<(), Fail> {
     let alloc = rt.alloc();
-    let form = words(alloc, &["check", "page"])?;
+    let request = words(alloc, &["check", "page"])?;
     let page = Vec::from_elem(alloc, 0u8, (1 << 24) + 1)?;
     let mut shelf = MemShelf::new(alloc);
     shelf.add("page", page.as_slice())?;
     let mut sink = MemSink::new(alloc, 64)?;
     let mut glass = GridGlass::new(alloc)?;
     assert_eq!(rt;
-        run(alloc, &form, &mut shelf, &mut sink, &mut glass),
+        run(alloc, &request, &mut shelf, &mut sink, &mut glass),
         Status::TooLong
     );
     assert_eq!(rt; sink.bytes().len(), 0);
@@ -153,13 +171,13 @@ fn stops_at_a_page_that_is_too_long(rt: HostRuntime) -> Result<(), Fail> {
 #[test]
 fn shows_an_accented_letter(rt: HostRuntime) -> Result<(), Fail> {
     let alloc = rt.alloc();
-    let form = words(alloc, &["show", "page"])?;
+    let request = words(alloc, &["show", "page"])?;
     let mut shelf = MemShelf::new(alloc);
     shelf.add("page", b"\xC8a")?;
     let mut sink = MemSink::new(alloc, 4096)?;
     let mut glass = GridGlass::new(alloc)?;
     assert_eq!(rt;
-        run(alloc, &form, &mut shelf, &mut sink, &mut glass),
+        run(alloc, &request, &mut shelf, &mut sink, &mut glass),
         Status::Done
     );
     // The letter and its accent, 39 spaces and the end of the line, and 23 empty rows.
@@ -169,16 +187,16 @@ fn shows_an_accented_letter(rt: HostRuntime) -> Result<(), Fail> {
 }
 
 #[test]
-fn tells_what_came_before_a_fault(rt: HostRuntime) -> Result<(), Fail> {
+fn reports_what_came_before_a_fault(rt: HostRuntime) -> Result<(), Fail> {
     let alloc = rt.alloc();
-    let form = words(alloc, &["changes", "page"])?;
+    let request = words(alloc, &["changes", "page"])?;
     let mut shelf = MemShelf::new(alloc);
     shelf.add("page", b"A")?;
     shelf.fail_at(3);
     let mut sink = MemSink::new(alloc, 4096)?;
     let mut glass = GridGlass::new(alloc)?;
     assert_eq!(rt;
-        run(alloc, &form, &mut shelf, &mut sink, &mut glass),
+        run(alloc, &request, &mut shelf, &mut sink, &mut glass),
         Status::ReadFault
     );
     assert_eq!(rt; sink.bytes(), b"0 1 1 P41 11.00 FFF 000 S---\n".as_slice());
@@ -188,12 +206,12 @@ fn tells_what_came_before_a_fault(rt: HostRuntime) -> Result<(), Fail> {
 #[test]
 fn ends_at_faults_and_bad_words(rt: HostRuntime) -> Result<(), Fail> {
     let alloc = rt.alloc();
-    let form = words(alloc, &["changes", "page"])?;
+    let request = words(alloc, &["changes", "page"])?;
     let mut glass = GridGlass::new(alloc)?;
     let mut sink = MemSink::new(alloc, 4096)?;
     let mut shelf = MemShelf::new(alloc);
     assert_eq!(rt;
-        run(alloc, &form, &mut shelf, &mut sink, &mut glass),
+        run(alloc, &request, &mut shelf, &mut sink, &mut glass),
         Status::ReadFault
     );
     shelf.add("page", b"A")?;
@@ -210,7 +228,7 @@ fn ends_at_faults_and_bad_words(rt: HostRuntime) -> Result<(), Fail> {
     assert_eq!(rt; sink.bytes().len(), 0);
     let mut full = MemSink::new(alloc, 0)?;
     assert_eq!(rt;
-        run(alloc, &form, &mut shelf, &mut full, &mut glass),
+        run(alloc, &request, &mut shelf, &mut full, &mut glass),
         Status::WriteFault
     );
     let first = Pos::new(1, 1).ok_or("no place")?;
@@ -222,5 +240,26 @@ fn ends_at_faults_and_bad_words(rt: HostRuntime) -> Result<(), Fail> {
                 accent: 0
             })
     );
+    Ok(())
+}
+
+#[test]
+fn runs_quietly(rt: HostRuntime) -> Result<(), Fail> {
+    let alloc = rt.alloc();
+    let mut shelf = QuietShelf::new(alloc);
+    shelf.add("page", b"A\x1C")?;
+    let mut glass = GridGlass::new(alloc)?;
+    for (request, want, count) in [
+        (words(alloc, &["changes", "page"])?, Status::Refusals, 55),
+        (words(alloc, &["check", "page"])?, Status::Refusals, 44),
+        (words(alloc, &["check", "other"])?, Status::Done, 18),
+        (words(alloc, &["changes", "other"])?, Status::Done, 0),
+        (words(alloc, &["changes"])?, Status::Usage, 0),
+    ] {
+        let mut sink = QuietSink::new();
+        let ended = run_quietly(alloc, &request, &mut shelf, &mut sink, &mut glass);
+        assert_eq!(rt; ended, want);
+        assert_eq!(rt; sink.count(), count);
+    }
     Ok(())
 }

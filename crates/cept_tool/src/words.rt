@@ -1,10 +1,10 @@
 ghost use Rattle.std.specs.Prelude.{◌≡◌, ◌∷◌, [], map, codes, string_bytes};
 ghost use Rattle.std.specs.Option.{option_map};
-ghost use Rattle.cept_tool.specs.Words.{Form, order_of, form_of, is_painting};
+ghost use Rattle.cept_tool.specs.Words.{Request, action_of, request_of, is_painting};
 
 /// What the program is asked for.
 #[derive(Clone, Copy, Debug, PartialEq, Eq)]
-pub enum Order {
+pub enum Action {
     /// `changes PAGE`: the changed cells of each item, and the refused items.
     Changes,
     /// `check PAGE`: the refused items, and how many items there are.
@@ -15,32 +15,37 @@ pub enum Order {
     Cells,
 }
 
-/// The order of a word.
-fn order_of(word: &str) -> Option<Order>
-    ensures { result ≡ order_of word.now }
+/// The action of a word.
+fn action_of(word: &str) -> Option<Action>
+    ensures { result ≡ action_of word.now }
 {
     if word == "changes" {
-        Some(Order::Changes)
+        Some(Action::Changes)
     } else if word == "check" {
-        Some(Order::Check)
+        Some(Action::Check)
     } else if word == "show" {
-        Some(Order::Show)
+        Some(Action::Show)
     } else if word == "cells" {
-        Some(Order::Cells)
+        Some(Action::Cells)
     } else {
         None
     }
 }
 
-/// What the words ask for and the name of the page, where they are a form.
-#[tactic(auto, unfolding(crate::specs::Words::form_of))]
-pub fn form_of(words: &[String]) -> Option<(Order, &String)>
-    ensures { option_map (λ form. record { order = form.0; page = string_bytes form.1.now }) result ≡ form_of (map string_bytes words.now) }
+/// What the words ask for and the name of the page, where they are a request.
+#[tactic(auto, unfolding(crate::specs::Words::request_of))]
+pub fn request_of(words: &[String]) -> Option<(Action, &String)>
+    ensures { option_map (λ request. record {
+      action = request.0;
+      page =
+          string_bytes request.1.now;
+    }) result
+        ≡ request_of (map string_bytes words.now) }
 {
     match words {
         [word, page] if !page.is_empty() => {
-            let order = order_of(word.as_str())?;
-            Some((order, page))
+            let action = action_of(word.as_str())?;
+            Some((action, page))
         }
         _ => None,
     }

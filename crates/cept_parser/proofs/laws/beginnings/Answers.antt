@@ -1,6 +1,10 @@
-use Rattle.cept_parser.proofs.Beginnings.{fits_beginning, beginning_fits, grows_continued, continued_grows}
+use Rattle.cept_parser.proofs.BeginningLemmas.{fits_beginning, beginning_fits, grows_continued, continued_grows}
 use Rattle.cept_parser.proofs.laws.beginnings.Goals as goal
 
 pub returns : goal.returns
 returns c =
-    record { fits = λ x u. (fits_beginning x u, beginning_fits x u); grows = λ x u o e. (grows_continued x u o e, continued_grows x u o e) }
+    record {
+      fits = λ x u. (fits_beginning x u, beginning_fits x u);
+      grows =
+          λ x u o e. (grows_continued x u o e, continued_grows x u o e);
+    }

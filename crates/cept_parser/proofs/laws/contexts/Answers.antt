@@ -1,7 +1,7 @@
 use Rattle.std.proofs.Common.{subst}
 use Rattle.cept_parser.specs.Valid.{IsValidMode}
-use Rattle.cept_parser.proofs.ValidLaws.{start_valid, unit_valid}
-use Rattle.cept_parser.proofs.Sound.{read_sound}
+use Rattle.cept_parser.proofs.ValidOutcomeLemmas.{start_valid, unit_valid}
+use Rattle.cept_parser.proofs.ValidItemLemmas.{read_sound}
 use Rattle.cept_parser.proofs.laws.contexts.Goals as goal
 
 pub returns : goal.returns

@@ -1,5 +1,5 @@
-use Rattle.cept_parser.proofs.GrammarLaws.{open_small, refused_small}
-use Rattle.cept_parser.proofs.ValidLaws.{fits_hundred}
+use Rattle.cept_parser.proofs.GrammarLemmas.{open_small, refused_small}
+use Rattle.cept_parser.proofs.ValidOutcomeLemmas.{fits_hundred}
 use Rattle.cept_parser.proofs.laws.lengths.Goals as goal
 
 pub returns : goal.returns

@@ -1,5 +1,5 @@
-use Rattle.cept_parser.proofs.GrammarLaws.{whole_fits}
-use Rattle.cept_parser.proofs.Steps.{read_unit}
+use Rattle.cept_parser.proofs.GrammarLemmas.{whole_fits}
+use Rattle.cept_parser.proofs.OneByteMoreLemmas.{read_unit}
 use Rattle.cept_parser.proofs.laws.unit_then_rest.Goals as goal
 
 pub returns : goal.returns

@@ -1,32 +1,56 @@
-use Rattle.std.proofs.Common.{◌≡◌, ◌+◌, ◌-◌, true, false, get_or, sym, ap, ◌∙◌, arith}
-use Rattle.std.proofs.lemmas.List.Sums.{count_by_more_yes, count_by_more_no}
-use Rattle.cept_repaint.proofs.RefreshLemmas.{RowsSoFar-none, RowsSoFar-more, RowsSoFar-skip, RowsSoFar-looks, RowsSoFar-marks}
+use Rattle.std.proofs.Common.{◌-◌, false, get_or, length, sym, ap, ◌∙◌, arith}
+use Rattle.cept_profile.specs.Look.{look}
+use Rattle.cept_repaint.specs.Kept.{core_on}
+use Rattle.cept_repaint.proofs.Refreshed.{IsRefreshed-none, IsRefreshed-row, IsRefreshed-row_kept, IsRefreshed-looks}
+use Rattle.cept_repaint.proofs.Refreshed.{IsRefreshed-marks}
+use Rattle.cept_repaint.proofs.RowsReached.{ticks-no, ticks-yes, ticks-all}
+use Rattle.cept_repaint.proofs.Unmarked.{length-no_marks}
 use Rattle.cept_repaint.proofs.redraw.refresh_rows.Goals as goal
 
-pub loop-i-init : goal.loop-i-init
-loop-i-init g c = record { rows = RowsSoFar-none c.args.page.now c.args.looks.now c.args.marks.now c.requires.whole c.requires.none; ticks = omega arith }
+pub loop-row-init : goal.loop-row-init
+loop-row-init g c = record {
+  refreshed = IsRefreshed-none (look (core_on c.args.page.now)) c.args.looks.now c.args.marks.now 0 c.tell_whole.ensures
+      (ap length c.requires.none ∙ length-no_marks);
+  ticks = omega arith;
+}
 
-pub loop-i-preserved-then-not-rows-i : goal.loop-i-preserved-then-not-rows-i
-loop-i-preserved-then-not-rows-i g c =
-    let flag : get_or c.args.rows.now c.loop-i.i false ≡ false = c.if-not-rows-i.true in
-    let back : c.loop-i.i + 1 - 1 ≡ c.loop-i.i = omega arith in
-    let same = count_by_more_no (λ reached. reached) c.args.rows.now c.loop-i.i false (omega (arith, c.requires.flags)) flag in
+pub loop-row-preserved-then-not-reached-from : goal.loop-row-preserved-then-not-reached-from
+loop-row-preserved-then-not-reached-from g c =
+    let row = c.loop-row.row in
+    let flag = ap (λ n. get_or c.args.reached.now (n - 1) false) (sym c.from.ensures) ∙ c.if-not-reached-from.true in
     record {
-      rows = RowsSoFar-skip c.loop-i.invariant.rows c.loop-i-test.true (λ column on. c.requires.others (c.loop-i.i + 1) column on (ap (λ k. get_or c.args.rows.now k false) back ∙ flag));
-      ticks = c.loop-i.invariant.ticks ∙ ap (λ n. c.args.steps.now + n) (sym same);
+      refreshed = IsRefreshed-row_kept (look (core_on c.args.page.now)) c.args.looks.now c.loop-row.looks
+          c.args.marks.now c.loop-row.marks row c.loop-row.auto.row (omega arith)
+          (λ column on. c.requires.others row column on flag) c.loop-row.invariant.refreshed;
+      ticks = ticks-no c.args.reached.now row c.args.steps.now c.loop-row.steps c.loop-row.auto.row (omega arith) flag
+          c.loop-row.invariant.ticks;
     }
 
-pub loop-i-preserved : goal.loop-i-preserved
-loop-i-preserved g c =
-    let row = c.refresh_row.ensures in
-    let flag : get_or c.args.rows.now c.loop-i.i false ≡ true = c.if-not-rows-i.false in
+pub loop-row-preserved : goal.loop-row-preserved
+loop-row-preserved g c =
+    let row = c.loop-row.row in
+    let flag = ap (λ n. get_or c.args.reached.now (n - 1) false) (sym c.from.ensures) ∙ c.if-not-reached-from.false in
     record {
-      rows = RowsSoFar-more c.loop-i.invariant.rows c.loop-i-test.true c.looks_of_row.result c.refresh_row.new.self c.refresh_row.new.marks c.looks_of_row.ensures row.looks row.places row.above row.below row.row;
-      ticks = omega (arith, c.loop-i.invariant.ticks, c.tick.ensures, count_by_more_yes (λ reached. reached) c.args.rows.now c.loop-i.i false (omega (arith, c.requires.flags)) flag);
+      refreshed = IsRefreshed-row (look (core_on c.args.page.now)) c.args.looks.now c.loop-row.looks
+          c.refresh_row.new.self c.args.marks.now c.loop-row.marks c.refresh_row.new.marks row c.resolve_row.result
+          c.loop-row.auto.row (omega arith) c.resolve_row.ensures.looks
+          c.loop-row.invariant.refreshed c.refresh_row.ensures;
+      ticks = ticks-yes c.args.reached.now row c.args.steps.now c.loop-row.steps c.resolve_row.new.steps
+          c.loop-row.auto.row (omega arith) flag c.loop-row.invariant.ticks c.resolve_row.ensures.tick;
     }
+
+pub returns-clause-cost : goal.returns-clause-cost
+returns-clause-cost g c =
+    ticks-all c.args.reached.now c.loop-row.row c.args.steps.now c.loop-row.steps (omega arith)
+    c.loop-row.invariant.ticks
 
 pub returns-clause-looks : goal.returns-clause-looks
-returns-clause-looks g c = RowsSoFar-looks c.loop-i.invariant.rows (omega arith)
+returns-clause-looks g c =
+    IsRefreshed-looks (look (core_on c.args.page.now)) c.args.looks.now c.loop-row.looks c.args.marks.now
+    c.loop-row.marks _ _ c.loop-row.invariant.refreshed
+    (λ r c' on away. absurd (away (omega arith, omega (arith, on))))
 
 pub returns-clause-marks : goal.returns-clause-marks
-returns-clause-marks g c = RowsSoFar-marks c.loop-i.invariant.rows (omega arith)
+returns-clause-marks g c =
+    IsRefreshed-marks (look (core_on c.args.page.now)) c.args.looks.now c.loop-row.looks c.args.marks.now
+    c.loop-row.marks _ _ c.requires.none c.loop-row.invariant.refreshed

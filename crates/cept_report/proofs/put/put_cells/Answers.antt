@@ -1,27 +1,45 @@
-use Rattle.std.proofs.Common.{◌≡◌, ◌*◌, ◌∙◌, arith}
-use Rattle.cept_report.proofs.Pieces.{Gains-no_piece, Gains-piece}
+use Rattle.std.proofs.Common.{◌≡◌, ◌*◌, ◌∙◌, arith, refl}
+use Rattle.cept_report.proofs.TextsInPieces.{Gains-no_piece, Gains-piece}
 use Rattle.cept_report.proofs.ScreenLines.{line_at, line_at-is, Gains-cell_failed, Gains-cells}
+use Rattle.cept_outside.proofs.Laws.{HasPut-more}
+use Rattle.std.proofs.lemmas.Option.{MatchOption-at_some}
+use Rattle.std.proofs.lemmas.Result.{err_from_is_err_and}
 use Rattle.cept_report.proofs.put.put_cells.Goals as goal
 
 pub loop-n-init : goal.loop-n-init
 loop-n-init g c = record {
   put = Gains-no_piece (g.T.Sink.state c.args.sink.now) (line_at (g.G.Glass.state c.args.glass.now).grid) 0;
-  later = omega arith;
+  stays = refl;
 }
 
 pub loop-n-preserved : goal.loop-n-preserved
 loop-n-preserved g c =
-    let line = c.as_slice.ensures.value ∙ c.cell_text.ensures ∙ line_at-is _ _ _ _ c.place-at.ensures c.shown.ensures.look in
+    let line = c.as_slice.ensures.value ∙ c.cell_text.ensures
+    ∙ line_at-is _ _ _ _
+    (MatchOption-at_some _ _ c.unwrap-at.result c.unwrap-at.ensures c.from_number.ensures.place)
+    c.shown.ensures.look in
     record {
-      put = Gains-piece _ _ _ _ _ _ _ line c.loop-n.invariant.put c.in-Ok.ensures.whole;
-      later = omega (arith, c.put_all.ensures.cause.later);
+      put = Gains-piece _ _ _ _ _ _ _ line c.loop-n.invariant.put c.in_ok-put_all.ensures.whole;
+      stays = c.in_ok-put_all.ensures.cause.stays ∙ c.loop-n.invariant.stays;
     }
 
-pub returns-in-Err-clause-part : goal.returns-in-Err-clause-part
-returns-in-Err-clause-part g c =
-    let line = c.as_slice.ensures.value ∙ c.cell_text.ensures ∙ line_at-is _ _ _ _ c.place-at.ensures c.shown.ensures.look in
-    Gains-cell_failed _ _ _ _ _ c.args.rows _ (omega arith) line c.loop-n.invariant.put c.in-Err.ensures.part
+pub returns-in_err-put_all-clause-part : goal.returns-in_err-put_all-clause-part
+returns-in_err-put_all-clause-part g c =
+    let line = c.as_slice.ensures.value ∙ c.cell_text.ensures
+    ∙ line_at-is _ _ _ _
+    (MatchOption-at_some _ _ c.unwrap-at.result c.unwrap-at.ensures c.from_number.ensures.place)
+    c.shown.ensures.look in
+    rw (err_from_is_err_and c.from_residual.result c.from_residual.ensures.1).1
+    (Gains-cell_failed _ _ _ _ _ c.args.rows _ (omega arith) line c.loop-n.invariant.put
+    c.in_err-put_all.ensures.part)
 
 pub returns-clause-whole : goal.returns-clause-whole
 returns-clause-whole g c =
     Gains-cells _ _ _ _ _ (let e : c.loop-n.n ≡ 40 * c.args.rows = omega arith in e) c.loop-n.invariant.put
+
+pub returns-in_err-put_all-clause-puts : goal.returns-in_err-put_all-clause-puts
+returns-in_err-put_all-clause-puts g c =
+    HasPut-more _ _ _ (record { part = _; gains = c.loop-n.invariant.put }) c.put_all.ensures.puts
+
+pub returns-clause-puts : goal.returns-clause-puts
+returns-clause-puts g c = record { part = _; gains = c.loop-n.invariant.put }

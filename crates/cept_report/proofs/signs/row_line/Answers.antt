@@ -1,5 +1,5 @@
 use Rattle.std.proofs.Common.{◌≡◌, ℕ, List, [], ◌∷◌, ◌++◌, length, sym, ◌∙◌, ap, arith}
-use Rattle.cept_report.proofs.Pieces.{pieces, pieces-none}
+use Rattle.cept_report.proofs.TextsInPieces.{pieces, pieces-none}
 use Rattle.cept_report.proofs.ScreenLines.{sign_at, row_line-is, row_line-more}
 use Rattle.cept_report.proofs.signs.row_line.Goals as goal
 
@@ -11,11 +11,14 @@ loop-i-init g c = record {
 
 pub loop-i-preserved : goal.loop-i-preserved
 loop-i-preserved g c = record {
-  text = row_line-more _ _ _ _ _ _ _ c.loop-i.invariant.text c.place.ensures c.shown.ensures.look c.add_look_sign.ensures.text;
+  text = row_line-more _ _ _ _ _ _ _ c.loop-i.invariant.text c.place.ensures c.shown.ensures.look
+      c.add_look_sign.ensures.text;
   room = omega arith;
 }
 
 pub returns : goal.returns
 returns g c =
-    c.add_byte.ensures.text ∙ ap (λ (l : List ℕ). l ++ 10 ∷ []) (c.loop-i.invariant.text ∙ ap (pieces (sign_at (g.G.Glass.state c.args.glass.now).grid c.args.row) 1) (let e : c.loop-i.i ≡ 40 = omega arith in e))
+    c.add_byte.ensures.text ∙ ap (λ (l : List ℕ). l ++ 10 ∷ [])
+    (c.loop-i.invariant.text ∙ ap (pieces (sign_at (g.G.Glass.state c.args.glass.now).grid c.args.row) 1)
+    (let e : c.loop-i.i ≡ 40 = omega arith in e))
     ∙ sym (row_line-is (g.G.Glass.state c.args.glass.now).grid c.args.row)

@@ -1,6 +1,6 @@
 use Rattle.std.proofs.Common.{◌≡◌, ◌*◌, ◌≤◌}
 use Rattle.arrayvec.specs.ArrayVec.{array_vec_len}
-use Rattle.cept_report.proofs.Pieces.{pieces}
+use Rattle.cept_report.proofs.TextsInPieces.{pieces}
 use Rattle.cept_report.proofs.ScreenLines.{sign_at}
 use Rattle.cept_report.proofs.signs.row_line.Given as goal
 

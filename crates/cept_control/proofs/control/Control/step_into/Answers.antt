@@ -2,7 +2,7 @@ use Rattle.std.proofs.Common.{◌≡◌, ◌≤◌, List, length, sym, subst, ap
 use Rattle.std.specs.List.{AllByRecursion}
 use Rattle.cept_codes.specs.declared.stroke.Stroke.{Stroke}
 use Rattle.cept_codes.specs.Stroke.{IsValidStroke}
-use Rattle.cept_profile.specs.Control.{ControlState, control_after, obeyed}
+use Rattle.cept_profile.specs.Control.{ControlState, control_after, control_effect}
 use Rattle.cept_profile.specs.Strokes.{strokes_of, strokes_when}
 use Rattle.cept_profile.specs.Valid.{IsValidControl}
 use Rattle.cept_profile.proofs.Laws.{IsValidControl-control_after}
@@ -12,15 +12,21 @@ use Rattle.cept_control.proofs.control.Control.step_into.Goals as goal
 
 pub returns-clause-valid : goal.returns-clause-valid
 returns-clause-valid c =
-    let state : c.obey.new.self ≡ control_after c.args.self.now c.args.command = c.obey.ensures.state ∙ ap (λ (s : ControlState). obeyed s c.args.command) c.make_ready.ensures.ready in
-    subst (λ (s : ControlState). IsValidControl s) (sym state) (IsValidControl-control_after c.args.self.now c.args.command c.make_ready.ensures.was_valid c.requires)
+    let state : c.take_effect.new.self ≡ control_after c.args.self.now c.args.command =
+    c.take_effect.ensures.state ∙ ap (λ (s : ControlState). control_effect s c.args.command) c.prepare.ensures.ready in
+    subst (λ (s : ControlState). IsValidControl s) (sym state)
+    (IsValidControl-control_after c.args.self.now c.args.command c.prepare.ensures.was_valid c.requires)
 
 pub returns-clause-valid_strokes : goal.returns-clause-valid_strokes
 returns-clause-valid_strokes c =
-    let strokes : c.obey.new.strokes.items ≡ strokes_of c.args.self.now c.args.command = c.obey.ensures.strokes ∙ ap (λ (s : ControlState). strokes_when s c.args.command) c.make_ready.ensures.ready in
-    subst (λ (xs : List Stroke). AllByRecursion IsValidStroke xs) (sym strokes) (IsValidStroke-strokes_of c.args.self.now c.args.command c.make_ready.ensures.was_valid c.requires)
+    let strokes : c.take_effect.new.strokes.items ≡ strokes_of c.args.self.now c.args.command =
+    c.take_effect.ensures.strokes ∙ ap (λ (s : ControlState). strokes_when s c.args.command) c.prepare.ensures.ready in
+    subst (λ (xs : List Stroke). AllByRecursion IsValidStroke xs) (sym strokes)
+    (IsValidStroke-strokes_of c.args.self.now c.args.command c.prepare.ensures.was_valid c.requires)
 
 pub returns-clause-few : goal.returns-clause-few
 returns-clause-few c =
-    let strokes : c.obey.new.strokes.items ≡ strokes_of c.args.self.now c.args.command = c.obey.ensures.strokes ∙ ap (λ (s : ControlState). strokes_when s c.args.command) c.make_ready.ensures.ready in
-    subst (λ (xs : List Stroke). length xs ≤ 128) (sym strokes) (length-strokes_of c.args.self.now c.args.command c.requires)
+    let strokes : c.take_effect.new.strokes.items ≡ strokes_of c.args.self.now c.args.command =
+    c.take_effect.ensures.strokes ∙ ap (λ (s : ControlState). strokes_when s c.args.command) c.prepare.ensures.ready in
+    subst (λ (xs : List Stroke). length xs ≤ 128) (sym strokes)
+    (length-strokes_of c.args.self.now c.args.command c.requires)

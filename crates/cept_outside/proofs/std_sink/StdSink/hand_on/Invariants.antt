@@ -1,13 +1,13 @@
 use Rattle.std.proofs.Common.{◌≡◌, ◌-◌, length}
 use Rattle.std.specs.Io.KnownBytes.{Keeps}
-use Rattle.cept_outside.specs.StdSink.{written_and_held}
+use Rattle.cept_outside.specs.StdSink.{std_sink_state, written_and_held}
 use Rattle.cept_outside.proofs.std_sink.StdSink.hand_on.Given as goal
 
 abbrev pub invariant-loop-self : goal.invariant-loop-self
 invariant-loop-self g l = record {
   kept : Keeps (written_and_held g.W.Write.contents l.initial.self) (written_and_held g.W.Write.contents l.self);
-  unflushed : l.self.unflushed ≡ l.initial.self.unflushed;
-  faults : l.self.faults ≡ l.initial.self.faults;
+  unflushed : (std_sink_state l.self).unflushed ≡ (std_sink_state l.initial.self).unflushed;
+  faults : (std_sink_state l.self).faults ≡ (std_sink_state l.initial.self).faults;
 }
 
 abbrev pub decreases-loop-self : goal.decreases-loop-self

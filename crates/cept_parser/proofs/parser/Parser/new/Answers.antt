@@ -1,11 +1,11 @@
 use Rattle.std.proofs.Common.{refl}
-use Rattle.cept_parser.specs.Items.{read_within}
-use Rattle.cept_parser.proofs.Waiting.{none_waits}
+use Rattle.cept_parser.specs.Items.{reading_within}
+use Rattle.cept_parser.proofs.WaitingLemmas.{none_waits}
 use Rattle.cept_parser.proofs.parser.Parser.new.Goals as goal
 
 pub invariant_of-result : goal.invariant_of-result
 invariant_of-result c = rw (c.start.ensures, c.new.ensures) none_waits
 
 pub returns : goal.returns
-unfolding read_within
+unfolding reading_within
 returns c = record { place = refl; context = c.start.ensures; pending = c.new.ensures; running = refl }

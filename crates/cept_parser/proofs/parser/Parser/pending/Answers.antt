@@ -1,5 +1,5 @@
 use Rattle.std.proofs.Common.{arith}
-use Rattle.cept_parser.proofs.Waiting.{waits_small}
+use Rattle.cept_parser.proofs.WaitingLemmas.{waits_small}
 use Rattle.cept_parser.proofs.parser.Parser.pending.Goals as goal
 
 pub returns-clause-few : goal.returns-clause-few

@@ -1,5 +1,5 @@
 use Rattle.std.proofs.Common.{arith}
-use Rattle.cept_repaint.proofs.WithinLemmas.{cleared}
+use Rattle.cept_repaint.proofs.MarkedWithin.{cleared}
 use Rattle.cept_repaint.proofs.marks.Marks.clear.Goals as goal
 
 pub returns : goal.returns

@@ -4,13 +4,16 @@ use Rattle.cept_profile.specs.Look.{looks_of}
 use Rattle.cept_profile.specs.State.{Page, State, state}
 use Rattle.cept_profile.specs.Valid.{IsValidState}
 use Rattle.cept_profile.proofs.Laws.{IsValidState-start}
-use Rattle.cept_repaint.proofs.StateLemmas.{same_state}
+use Rattle.cept_repaint.specs.Kept.{core_on}
+use Rattle.cept_repaint.proofs.KeptAfter.{same_state}
 use Rattle.cept_repaint.proofs.screen.Screen.new.Goals as goal
 
 pub invariant_of-result : goal.invariant_of-result
 invariant_of-result c =
-    let at_start : (let s : State = record { page = c.in_ok-page.page; control = c.new-3.result } in s) ≡ state [] = same_state _ _ _ _ c.in_ok-page.ensures c.new-3.ensures.start in
+    let at_start : (let s : State = record { page = c.in_ok-page.page; control = c.new-3.result } in s)
+    ≡ state [] = same_state _ _ _ _ c.in_ok-page.ensures c.new-3.ensures.start in
     record {
       valid = subst (λ (s : State). IsValidState s) (sym at_start) IsValidState-start;
-      looks = c.in_ok-looks.ensures ∙ sym grid-none ∙ ap (λ (p : Page). looks_of p) (sym c.in_ok-page.ensures);
+      looks = c.in_ok-looks.ensures ∙ sym grid-none
+          ∙ ap (λ (p : Page). looks_of (core_on p)) (sym c.in_ok-page.ensures);
     }

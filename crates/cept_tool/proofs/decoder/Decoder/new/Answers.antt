@@ -1,4 +1,4 @@
-use Rattle.cept_tool.proofs.Standing.{HasRead-nothing}
+use Rattle.cept_tool.proofs.DeskAfterItems.{HasRead-nothing}
 use Rattle.cept_tool.proofs.decoder.Decoder.new.Goals as goal
 
 pub returns-clause-read : goal.returns-clause-read

@@ -1,5 +1,5 @@
 use Rattle.std.proofs.Common.{refl}
-use Rattle.cept_tool.proofs.Standing.{Stands-nothing}
+use Rattle.cept_tool.proofs.DeskAfterItems.{Stands-nothing}
 use Rattle.cept_tool.proofs.desk.Desk.new.Goals as goal
 
 pub returns-clause-stands : goal.returns-clause-stands

@@ -1,0 +1,173 @@
+-- One more cell in the numbers of the walk, from 0: what is carried to it and what it leaves.
+use Rattle.std.proofs.Common.{◌+◌, ◌-◌, ◌≢◌, List, length, slice_index_or, slice_set, get_or-set_other, get_or-set_same}
+use Rattle.std.proofs.Common.{below_more, add-one, ◌≡◌, ℕ, ◌≤◌, ◌<◌, zero, suc, Bool, true, false, not, ◌&&◌, ◌||◌}
+use Rattle.std.proofs.Common.{cond, nat_lt, Option, Some, None, refl, sym, ◌∙◌, ap, arith}
+use Rattle.std.proofs.lemmas.Bool.{lt-ltb, le-ltb, cond_both}
+use Rattle.cept_profile.specs.Serial.{Class, Fore, Back, Hold, Flashing, Concealing, Lining, Boxing, Sizing}
+use Rattle.cept_codes.specs.declared.attribute.Flash.TheVariants as flashes
+use Rattle.cept_codes.specs.declared.attribute.Full.{Full}
+use Rattle.cept_codes.specs.declared.attribute.Pen.{Pen}
+use Rattle.cept_codes.specs.declared.attribute.Size.TheVariants as sizes
+use Rattle.cept_codes.specs.Cell.{blank_cell}
+use Rattle.cept_codes.specs.declared.cell.Cell.{Cell}
+use Rattle.cept_codes.specs.declared.cell.Marker.{Marker}
+use Rattle.cept_codes.specs.declared.cell.Marker.TheVariants as markers
+use Rattle.cept_codes.specs.declared.cell.What.{What}
+use Rattle.cept_codes.specs.declared.cell.What.TheVariants as whats
+use Rattle.cept_codes.specs.declared.glyph.Glyph.{Glyph}
+use Rattle.cept_codes.specs.Attribute.{unset_pen}
+use Rattle.cept_profile.specs.Attributes.{cascade, first_value}
+use Rattle.cept_profile.specs.Serial.{row_in, is_of, is_marker, acts_there, nearest_column, column_in_force, fore_at}
+use Rattle.cept_profile.specs.Serial.{pen_of, value_found, serial_attributes, is_holding, kept_sign, held_sign}
+use Rattle.cept_profile.specs.Serial.{lies_after, mosaic_of, fore_said}
+use Rattle.cept_profile.specs.Carry.{Carry, nearest_marker, carry, carry_after}
+use Rattle.cept_profile.specs.Carry.{carry_in, held_sign_in}
+use Rattle.cept_attrs.specs.Walk.{carry_with_sign, carry_with_sign_at}
+use Rattle.cept_profile.proofs.Laws.{carry-start, carry-suc, serial_attributes-suc, held_sign-suc, in_plain, unmarked}
+
+-- ---- in the code's numbers, from 0
+
+cell_at : (cells : List Cell) (k : ℕ) → row_in cells (suc k) ≡ (slice_index_or cells k blank_cell).what
+cell_at cells k = let e : suc k - 1 ≡ k = omega arith in ap (λ n. (slice_index_or cells n blank_cell).what) e
+
+pub carry-next : (cells : List Cell) (pen screen : Pen) (k : ℕ)
+    → carry (row_in cells) pen screen (k + 1)
+    ≡ carry_after (slice_index_or cells k blank_cell).what (carry (row_in cells) pen screen k)
+carry-next cells pen screen k =
+    rw (
+      add-one k,
+      carry-suc (row_in cells) pen screen k,
+    )
+    (ap (λ w. carry_after w (carry (row_in cells) pen screen k)) (cell_at cells k))
+
+pub serial_attributes-next : (cells : List Cell) (pen screen : Pen) (k : ℕ)
+    → serial_attributes (row_in cells) pen screen (k + 1)
+    ≡ (carry_in (slice_index_or cells k blank_cell).what (carry (row_in cells) pen screen k)).full
+serial_attributes-next cells pen screen k =
+    rw (
+      add-one k,
+      serial_attributes-suc (row_in cells) pen screen k,
+    )
+    (ap (λ w. (carry_in w (carry (row_in cells) pen screen k)).full) (cell_at cells k))
+
+pub held_sign-next : (cells : List Cell) (pen screen : Pen) (k : ℕ)
+    → held_sign (row_in cells) (k + 1)
+    ≡ held_sign_in (slice_index_or cells k blank_cell).what (carry (row_in cells) pen screen k)
+held_sign-next cells pen screen k =
+    let e : k + 1 ≡ suc k = add-one k in
+    ap (λ n. held_sign (row_in cells) n) e ∙ held_sign-suc (row_in cells) pen screen k
+    ∙ ap (λ w. held_sign_in w (carry (row_in cells) pen screen k)) (cell_at cells k)
+
+-- a list that is done up to an index, and one more
+pub one_done : {X : Type 0} (xs : List X) (i : ℕ) (x : X) (f : ℕ → X) → i < length xs
+    → ((k : ℕ) (d : X) → k < i → slice_index_or xs k d ≡ f k)
+    → x ≡ f i → (k : ℕ) (d : X) → k < i + 1 → slice_index_or (slice_set xs i x) k d ≡ f k
+one_done {X = X} xs i x f long done here k d h =
+    below_more (λ k. (d : X) → slice_index_or (slice_set xs i x) k d ≡ f k) i
+    (λ k below d. let other : k ≢ i = omega arith in rw get_or-set_other (done k d below))
+    (λ d. rw get_or-set_same here)
+    k h d
+
+-- ---- a sign that is taken up only at a marker
+
+-- at a marker the cell to the left is the one before it, or in the first column the marker itself
+pub settled_here : (cells : List Cell) (k : ℕ) (s : Carry) → is_marker (slice_index_or cells k blank_cell).what ≡ true
+    → carry_with_sign (row_in cells k) s ≡ carry_with_sign_at (row_in cells) k s
+settled_here cells zero s marked = rw marked refl
+settled_here cells (suc k) s marked = refl
+
+-- after a cell without a marker its sign waits
+settled_by : (w : What) (s t : Carry) → is_marker w ≡ false → t.full ≡ s.full → t.hold ≡ s.hold
+    → carry_with_sign w s ≡ carry_after w t
+settled_by (whats.Marker m) s t plain f h = cc
+settled_by w s t plain f h = rw (f, h) refl
+
+-- to take up a sign changes no attribute and no hold
+settled_full : (row : ℕ → What) (k : ℕ) (s : Carry) → (carry_with_sign_at row k s).full ≡ s.full
+settled_full row zero s = refl
+settled_full row (suc k) s = refl
+
+settled_hold : (row : ℕ → What) (k : ℕ) (s : Carry) → (carry_with_sign_at row k s).hold ≡ s.hold
+settled_hold row zero s = refl
+settled_hold row (suc k) s = refl
+
+pub plain_held : (w : What) (s : Carry) → is_marker w ≡ false → held_sign_in w s ≡ None
+plain_held w s plain = rw plain refl
+
+-- in a row without markers the attributes are those of the row and the screen everywhere, and no sign is held
+pub unmarked_full : (row : ℕ → What) (pen screen : Pen) (c : ℕ) → ((d : ℕ) → 1 ≤ d → d ≤ 40 → is_marker (row d) ≡ false)
+    → 1 ≤ c → c ≤ 40 → serial_attributes row pen screen c ≡ cascade unset_pen pen screen
+unmarked_full row pen screen zero plain low high = absurd (omega arith)
+unmarked_full row pen screen (suc c) plain low high =
+    rw (serial_attributes-suc row pen screen c)
+    (in_plain (row (suc c)) (carry row pen screen c) (plain (suc c) low high)
+    ∙ unmarked row pen screen c (λ d from to. plain d from (omega arith)))
+
+pub unmarked_held : (row : ℕ → What) (c : ℕ) → ((d : ℕ) → 1 ≤ d → d ≤ 40 → is_marker (row d) ≡ false)
+    → 1 ≤ c → c ≤ 40 → held_sign row c ≡ None
+unmarked_held row c plain low high = rw (plain c low high) refl
+
+-- what is not a marker
+pub plain_from : (w : What) → ((m : Marker) → w ≡ whats.Marker m → ⊥) → is_marker w ≡ false
+plain_from (whats.Marker m) h = absurd (h m refl)
+plain_from w h = refl
+
+-- ---- a marker, in plain values: what stands there, what was carried with the sign to the left taken up, and what
+-- the marker makes of it
+
+pub record IsMarked (cells : List Cell) (pen screen : Pen) (k : ℕ) (m : Marker) (s : Carry) : Type 0 where
+  pub there : (slice_index_or cells k blank_cell).what ≡ whats.Marker m
+  pub carry : carry (row_in cells) pen screen k ≡ s
+
+-- the sign of a cell waits for the next one
+waits : (cells : List Cell) (k : ℕ) (s : Carry)
+    → carry_with_sign_at (row_in cells) (k + 1) s ≡ carry_with_sign (slice_index_or cells k blank_cell).what s
+waits cells k s = rw (add-one k) (ap (λ w. carry_with_sign w s) (cell_at cells k))
+
+pub is_marked : (cells : List Cell) (pen screen : Pen) (k left : ℕ) (m : Marker) (s t : Carry)
+    → (slice_index_or cells k blank_cell).what ≡ whats.Marker m
+    → left ≡ k - 1 → carry (row_in cells) pen screen k ≡ carry_with_sign_at (row_in cells) k s
+    → t ≡ carry_with_sign (slice_index_or cells left blank_cell).what s
+    → IsMarked cells pen screen k m t
+is_marked cells pen screen k left m s t there l c e = record {
+  there = there;
+  carry = c ∙ sym (settled_here cells k s (ap is_marker there))
+      ∙ sym (e ∙ ap (λ n. carry_with_sign (slice_index_or cells n blank_cell).what s) l);
+}
+
+pub marked_carried : (cells : List Cell) (pen screen : Pen) (k : ℕ) (m : Marker) (s t : Carry)
+    → IsMarked cells pen screen k m s
+    → t ≡ carry_after (whats.Marker m) s → carry (row_in cells) pen screen (k + 1)
+    ≡ carry_with_sign_at (row_in cells) (k + 1) t
+marked_carried cells pen screen k m s t h e =
+    rw (waits cells k t, carry-next cells pen screen k, h.there, h.carry) (sym e)
+
+pub marked_full : (cells : List Cell) (pen screen : Pen) (k : ℕ) (m : Marker) (s : Carry) (full : Full)
+    → IsMarked cells pen screen k m s
+    → full ≡ (carry_in (whats.Marker m) s).full → full ≡ serial_attributes (row_in cells) pen screen (k + 1)
+marked_full cells pen screen k m s full h e = rw (serial_attributes-next cells pen screen k, h.there, h.carry) e
+
+pub marked_held : (cells : List Cell) (pen screen : Pen) (k : ℕ) (m : Marker) (s : Carry) (sign : Option Glyph)
+    → IsMarked cells pen screen k m s
+    → sign ≡ held_sign_in (whats.Marker m) s → sign ≡ held_sign (row_in cells) (k + 1)
+marked_held cells pen screen k m s sign h e = rw (held_sign-next cells pen screen k, h.there, h.carry) e
+
+-- ---- another cell, in plain values
+
+pub record IsPlain (cells : List Cell) (pen screen : Pen) (k : ℕ) (s : Carry) : Type 0 where
+  pub there : is_marker (slice_index_or cells k blank_cell).what ≡ false
+  pub carry : carry (row_in cells) pen screen k ≡ carry_with_sign_at (row_in cells) k s
+
+pub plain_carried : (cells : List Cell) (pen screen : Pen) (k : ℕ) (s : Carry) → IsPlain cells pen screen k s
+    → carry (row_in cells) pen screen (k + 1) ≡ carry_with_sign_at (row_in cells) (k + 1) s
+plain_carried cells pen screen k s h =
+    rw (waits cells k s, carry-next cells pen screen k, h.carry)
+    (sym (settled_by (slice_index_or cells k blank_cell).what s (carry_with_sign_at (row_in cells) k s) h.there
+    (settled_full (row_in cells) k s) (settled_hold (row_in cells) k s)))
+
+pub plain_full : (cells : List Cell) (pen screen : Pen) (k : ℕ) (s : Carry) → IsPlain cells pen screen k s
+    → s.full ≡ serial_attributes (row_in cells) pen screen (k + 1)
+plain_full cells pen screen k s h =
+    rw (serial_attributes-next cells pen screen k, h.carry)
+    (sym (in_plain (slice_index_or cells k blank_cell).what (carry_with_sign_at (row_in cells) k s) h.there
+    ∙ settled_full (row_in cells) k s))

@@ -1,0 +1,2 @@
+mod CellsAfterStrokes
+pub mod Laws

@@ -1,0 +1,180 @@
+ghost use Rattle.std.specs.Prelude.{◌≡◌, ℕ, ◌-◌, ◌<◌, ◌≤◌, Bool, false, not, List, length};
+ghost use Rattle.std.specs.Prelude.{slice_index_or, IfOk};
+ghost use Rattle.std.specs.Prelude.{if◌then◌else◌};
+ghost use Rattle.cept_codes.specs.declared.cell.Cell.{Cell};
+ghost use Rattle.cept_codes.specs.Cell.{blank_cell};
+ghost use Rattle.cept_codes.specs.Place.{OnScreen};
+ghost use Rattle.cept_codes.specs.Table.{table, value_at, entry, list_by_index, IsTable};
+ghost use Rattle.cept_profile.specs.Cells.{cells_after};
+ghost use Rattle.cept_cells.specs.Erased.{cell_after_erasing};
+
+use cept_codes::{Cell, NoMemory, Pos, RowCells, Stroke};
+use std::alloc::Global;
+use std::marker::Model;
+
+/// A row into which nothing was written.
+const BLANK_ROW: [Cell; 40] = [Cell::BLANK; 40];
+
+/// The cells of the screen: 24 rows of 40.
+#[derive(Drop)]
+pub struct Grid {
+    rows: Vec<[Cell; 40]>,
+}
+
+impl Model for Grid {
+    ghost use Rattle.std.specs.Prelude.{List};
+    ghost use Rattle.cept_codes.specs.declared.cell.Cell.{Cell};
+    ghost use Rattle.cept_codes.specs.Table.{IsTable};
+
+    ghost Value = { List (List Cell) };
+
+    ghost view = { λ g. g.rows.items };
+
+    ghost invariant = { λ g. IsTable g.rows.items };
+}
+
+impl Grid {
+    /// All cells blank and unprotected.
+    pub fn new(alloc: Global) -> Result<Grid, NoMemory>
+        ensures { IfOk result (λ cells. cells ≡ table (λ _ _. blank_cell)) }
+    {
+        let mut rows = Vec::with_capacity(alloc, 24)?;
+        for _row in 0..24usize {
+            rows.push(BLANK_ROW)?;
+        }
+        Ok(Grid { rows })
+    }
+
+    /// The cell at a place, where it stands.
+    pub fn at(&self, place: Pos) -> &Cell
+        ensures cell { result.now ≡ value_at blank_cell self.now place.row place.column }
+        ensures on_screen { OnScreen place.row place.column }
+    {
+        &self.rows[usize::from(place.row()) - 1][usize::from(place.col()) - 1]
+    }
+
+    /// The cell at a place.
+    pub fn get(&self, place: Pos) -> Cell
+        ensures { result ≡ value_at blank_cell self.now place.row place.column }
+    {
+        self.rows[usize::from(place.row()) - 1][usize::from(place.col()) - 1]
+    }
+
+    /// Writes a cell, unless the cell there is protected. Answers whether it was written.
+    pub fn put(&mut self, place: Pos, cell: Cell) -> bool
+        ensures answer { result
+            ≡ not (value_at blank_cell self.old place.row place.column).protected }
+        ensures refused { result ≡ false → self.new ≡ self.old }
+        ensures cells { self.new ≡ cells_after self.old (Stroke.Put place cell) }
+    {
+        self.tell_whole();
+        let free = !self.get(place).protected;
+        if free {
+            self.rows[usize::from(place.row()) - 1][usize::from(place.col()) - 1] = cell;
+        }
+        free
+    }
+
+    /// The cells of a row, from the left.
+    pub fn row(&self, row: u8) -> RowCells
+        requires from_top { 1 ≤ row }
+        requires to_bottom { row ≤ 24 }
+        ensures cells { (d : List Cell) → result.cells ≡ slice_index_or self.now (row - 1) d }
+        ensures columns { length result.cells ≡ 40 }
+    {
+        RowCells {
+            cells: *self.cells(row),
+        }
+    }
+
+    /// The cells of a row, from the left, where they stand.
+    pub fn cells(&self, row: u8) -> &[Cell; 40]
+        requires from_top { 1 ≤ row }
+        requires to_bottom { row ≤ 24 }
+        ensures cells { (d : List Cell) → result.now ≡ slice_index_or self.now (row - 1) d }
+        ensures columns { length result.now ≡ 40 }
+    {
+        &self.rows[usize::from(row) - 1]
+    }
+
+    /// Tells the prover that there are 24 rows of 40: reading a field opens the model.
+    fn tell_whole(&self)
+        ensures { IsTable self.now }
+    {
+        let _rows = &self.rows;
+    }
+
+    /// Changes the cells as a stroke does.
+    pub fn strike(&mut self, stroke: &Stroke)
+        ensures { self.new ≡ cells_after self.old stroke.now }
+    {
+        self.tell_whole();
+        match stroke {
+            Stroke::Put(place, cell) => {
+                let _ = self.put(*place, *cell);
+            }
+            Stroke::Erase(row, from) => {
+                if 1 <= *row && *row <= 24 {
+                    self.erase(*row, *from);
+                }
+            }
+            Stroke::Wipe => self.wipe(),
+            // These change no cell.
+            Stroke::RowAttr(_, _)
+            | Stroke::ScreenAttr(_)
+            | Stroke::ScreenClear
+            | Stroke::Colour(_, _)
+            | Stroke::Dclut(_, _)
+            | Stroke::ColourDefaults
+            | Stroke::DrcsClear
+            | Stroke::Drcs(_, _)
+            | Stroke::Format(_) => {}
+            // Not built yet: no effect.
+            Stroke::Shift(_, _, _) => {}
+        }
+    }
+
+    /// Blanks the free cells of a row from this column on.
+    pub fn erase(&mut self, row: u8, from: u8)
+        requires from_top { 1 ≤ row }
+        requires to_bottom { row ≤ 24 }
+        ensures { self.new ≡ cells_after self.old (Stroke.Erase row from) }
+    {
+        erase_from(&mut self.rows[usize::from(row) - 1], from);
+    }
+
+    /// Makes every cell blank and unprotected.
+    pub fn wipe(&mut self)
+        ensures { self.new ≡ cells_after self.old Stroke.Wipe }
+    {
+        blank_rows(&mut self.rows);
+    }
+}
+
+/// Blanks all cells of these rows.
+fn blank_rows(rows: &mut [[Cell; 40]])
+    ensures { (i : ℕ) (d : List Cell) → i < length rows.old
+        → slice_index_or rows.new i d ≡ BLANK_ROW }
+{
+    for row in rows.iter_mut() {
+        *row = BLANK_ROW;
+    }
+}
+
+/// Blanks the free cells of a row from this column on.
+fn erase_from(cells: &mut [Cell; 40], from: u8)
+    requires columns { length cells.old ≡ 40 }
+    ensures { cells.new
+        ≡ list_by_index 1 40 (cell_after_erasing from (entry blank_cell 1 cells.old)) }
+{
+    for i in usize::from(from).saturating_sub(1).min(40)..40 {
+        cells[i] = cell_after_erasing(&cells[i]);
+    }
+}
+
+/// A protected cell as it is, any other blank.
+fn cell_after_erasing(cell: &Cell) -> Cell
+    ensures { result ≡ (if cell.now.protected then cell.now else blank_cell) }
+{
+    if cell.protected { *cell } else { Cell::BLANK }
+}

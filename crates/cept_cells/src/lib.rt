@@ -1,0 +1,9 @@
+//! The cells of the screen, and what strokes make of them. It knows no pens, no looks and no
+//! histories.
+#![tactic(auto)]
+
+mod grid;
+#[cfg(test)]
+mod tests;
+
+pub use grid::Grid;

@@ -1,5 +1,0 @@
-use Rattle.cept_codes.proofs.Equal.{stroke_decides}
-use Rattle.cept_codes.proofs.equality.strokes_compare_by_their_fields.Goals as goal
-
-pub returns : goal.returns
-returns c = stroke_decides

@@ -1,0 +1,12 @@
+use Rattle.cept_outside.proofs.Laws
+use Rattle.cept_outside.proofs.law.texts_are_put_in_parts.Goals as goal
+
+pub returns : goal.returns
+returns c = record {
+  nothing = Laws.Gains-nil;
+  parts = Laws.Gains-append;
+  put_nothing = Laws.HasPut-nothing;
+  put_more = Laws.HasPut-more;
+  no_bytes = Laws.append_known-nil;
+  bytes = Laws.append_known-append_known;
+}

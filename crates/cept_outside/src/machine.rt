@@ -1,0 +1,149 @@
+//! Readers and writers of the machine, whose errors are counted as faults. A count of faults rises
+//! nowhere else.
+ghost use Rattle.std.specs.Prelude.{◌≡◌, ℕ, ◌+◌, ◌-◌, ◌^◌, ◌<◌, ◌≤◌, min, length, Some, None, Ok};
+ghost use Rattle.std.specs.Prelude.{false, true};
+ghost use Rattle.std.specs.Prelude.{is_some, IsOk, IsErr, IfOk, OnOk, OnErr};
+ghost use Rattle.std.specs.Io.KnownBytes.{Keeps, ReadConsumes, WriteAppends};
+ghost use Rattle.cept_outside.specs.Causes.{HasCause};
+ghost use Rattle.cept_outside.specs.Machine.{bytes_ahead};
+
+use crate::fault::Failed;
+use std::io::{self, Read, Write};
+
+/// A count of faults, up to the greatest u64.
+#[derive(Drop)]
+pub struct Faults {
+    count: u64,
+    ghost counted: { count < 2 ^ 64 },
+}
+
+impl Faults {
+    fn new() -> Faults
+        ensures { result.count ≡ 0 }
+    {
+        Faults { count: 0 }
+    }
+
+    /// Counts a fault.
+    fn rise(&mut self) -> Failed
+        ensures { self.new.count ≡ min (self.old.count + 1) (2 ^ 64 - 1) }
+    {
+        self.count = self.count.saturating_add(1);
+        Failed
+    }
+
+    /// Hands on what the machine answered, and counts an error.
+    fn judge<X>(&mut self, answer: io::Result<X>) -> Result<X, Failed>
+        ensures value { IfOk answer (λ x. result ≡ Ok x) }
+        ensures failed { OnErr answer (IsErr result) }
+        ensures cause { HasCause self.old.count self.new.count result }
+    {
+        match answer {
+            Ok(value) => Ok(value),
+            Err(_) => Err(self.rise()),
+        }
+    }
+}
+
+/// A file of the machine, where one is open.
+#[derive(Drop)]
+pub struct Reader<F> {
+    file: Option<F>,
+    faults: Faults,
+}
+
+impl<F: Read + Drop> Reader<F> {
+    /// No file is open.
+    pub fn new() -> Reader<F>
+        ensures closed { result.file ≡ None }
+        ensures faults { result.faults.count ≡ 0 }
+    {
+        Reader {
+            file: None,
+            faults: Faults::new(),
+        }
+    }
+
+    /// Closes the file that was open, for the one that the machine answered.
+    pub fn open(&mut self, answer: io::Result<F>) -> Result<(), Failed>
+        ensures opened { IfOk answer (λ file. IsOk result × (self.new.file ≡ Some file)) }
+        ensures failed { OnErr answer (IsErr result × (self.new.file ≡ None)) }
+        ensures cause { HasCause self.old.faults.count self.new.faults.count result }
+    {
+        self.file = None;
+        self.file = Some(self.faults.judge(answer)?);
+        Ok(())
+    }
+
+    /// Reads the next bytes of the open file to the front of the slice, none where no file is open.
+    pub fn read(&mut self, into: &mut [u8]) -> Result<usize, Failed>
+        ensures within { IfOk result (λ n. n ≤ length into.new) }
+        ensures bytes { ReadConsumes (bytes_ahead F.remaining self.old.file)
+            (bytes_ahead F.remaining self.new.file)
+            result into.new }
+        ensures open { is_some self.new.file ≡ is_some self.old.file }
+        ensures closed { self.old.file ≡ None → IsOk result }
+        ensures cause { HasCause self.old.faults.count self.new.faults.count result }
+    {
+        let Some(file) = &mut self.file else {
+            return Ok(0);
+        };
+        let answer = file.read(into);
+        self.faults.judge(answer)
+    }
+}
+
+/// A writer, and whether bytes were written since its last flush that succeeded.
+#[derive(Drop)]
+pub struct Writer<W> {
+    out: W,
+    unflushed: bool,
+    faults: Faults,
+}
+
+impl<W: Write> Writer<W> {
+    /// Nothing was written.
+    pub fn new(out: W) -> Writer<W>
+        ensures out { result.out ≡ out }
+        ensures unflushed { result.unflushed ≡ false }
+        ensures faults { result.faults.count ≡ 0 }
+    {
+        Writer {
+            out,
+            unflushed: false,
+            faults: Faults::new(),
+        }
+    }
+
+    /// Writes the front of the bytes, at least one. To write nothing is a fault.
+    pub fn write(&mut self, bytes: &[u8]) -> Result<usize, Failed>
+        ensures some { IfOk result (λ n. 1 ≤ n) }
+        ensures within { IfOk result (λ n. n ≤ length bytes.now) }
+        ensures appends { WriteAppends (W.contents self.old.out) (W.contents self.new.out) result
+            bytes.now }
+        ensures unflushed { OnOk result (self.new.unflushed ≡ true) }
+        ensures failed { OnErr result (self.new.unflushed ≡ self.old.unflushed) }
+        ensures cause { HasCause self.old.faults.count self.new.faults.count result }
+    {
+        let answer = self.out.write(bytes);
+        let count = self.faults.judge(answer)?;
+        if count == 0 {
+            return Err(self.faults.rise());
+        }
+        self.unflushed = true;
+        Ok(count)
+    }
+
+    /// Flushes the writer.
+    pub fn flush(&mut self) -> Result<(), Failed>
+        ensures kept { Keeps (W.contents self.old.out) (W.contents self.new.out) }
+        ensures flushed { OnOk result (self.new.unflushed ≡ false) }
+        ensures failed { OnErr result (self.new.unflushed ≡ self.old.unflushed) }
+        ensures cause { HasCause self.old.faults.count self.new.faults.count result }
+    {
+        let answer = self.out.flush();
+        self.faults.judge(answer)?;
+        self.unflushed = false;
+        Ok(())
+    }
+}

@@ -1,0 +1,445 @@
+-- Every whole unit says something valid and leads to a valid context, and what fits has few bytes.
+use Rattle.std.proofs.Common.{◌≡◌, ℕ, ◌+◌, ◌-◌, ◌<◌, ◌≤◌, Bool, true, false, not, ◌&&◌, ◌||◌, cond, eqb, ltb, leb, List}
+use Rattle.std.proofs.Common.{[], ◌∷◌, length, Option, Some, None, refl, subst, arith, ◌⊎◌, inl, inr}
+use Rattle.std.proofs.lemmas.Bool.{and_parts, cases_lt, not-true, not-false, leb-true, ltb-true}
+use Rattle.std.proofs.lemmas.Bool.Decides.{nat_tests}
+use Rattle.cept_codes.specs.Command.{IsValidSaid, IsValidForm, IsGraphic, IsC1, IsScreenC1, IsArea}
+use Rattle.cept_codes.specs.Look.{IsValidRgb, is_pattern_size, is_plane_count}
+use Rattle.cept_codes.specs.Place.{OnScreen}
+use Rattle.cept_codes.specs.declared.item.Said.{Said}
+use Rattle.cept_parser.specs.declared.context.Mode.{Mode}
+use Rattle.cept_parser.specs.declared.context.Mode.TheVariants.{Text, TableRun, DclutRun, DrcsRun, Skip}
+use Rattle.cept_parser.specs.declared.context.ColourKind.{ColourKind}
+use Rattle.cept_parser.specs.declared.context.ColourKind.TheVariants.{ColourTable, LookUpTable}
+use Rattle.cept_parser.specs.declared.context.Context.{Context}
+use Rattle.cept_parser.specs.declared.context.Outcome.{Outcome}
+use Rattle.cept_parser.specs.Context.{with_mode, start_context}
+use Rattle.cept_parser.specs.Bytes.{is_between, is_plain, is_digit, two_digits, is_row, is_column, is_empty, contains}
+use Rattle.cept_parser.specs.Bytes.{outcome, whole_outcome, with_plain, with_options, are_options, is_sequence}
+use Rattle.cept_parser.specs.Controls.{one_byte}
+use Rattle.cept_parser.specs.Escape.{is_c1_final, escape_1, designation, designation_of_c1, escape_2, full_screen}
+use Rattle.cept_parser.specs.Escape.{full_row}
+use Rattle.cept_parser.specs.Escape.{designation_of_drcs, escape_3, escape}
+use Rattle.cept_parser.specs.Csi.{csi_1, csi_2, area, is_area_final, csi_4, csi_1_2, csi_2_1, csi_5, csi_6, csi}
+use Rattle.cept_parser.specs.Units.{us_position, drcs_parts, drcs_width, drcs_height, drcs_planes, drcs_form}
+use Rattle.cept_parser.specs.Units.{drcs_header, drcs_unit, colour_parts, colour_header, last_place, run_from}
+use Rattle.cept_parser.specs.Units.{colours_from, colour_start, colour_unit, format_parts, format, service_break}
+use Rattle.cept_parser.specs.Units.{service, service_unit, us_unit}
+use Rattle.cept_parser.specs.Runs.{misplacement, has_six_bits, bit, colour_part, colour, table_entry, dclut_value}
+use Rattle.cept_parser.specs.Runs.{run_unit, pattern_unit}
+use Rattle.cept_parser.specs.Grammar.{repetition, csi_unit, escape_unit, unit, fits}
+use Rattle.cept_parser.specs.Valid.{IsValidContext, IsValidMode, AreBytes}
+use Rattle.cept_parser.proofs.ChoiceLemmas.{each_test}
+use Rattle.cept_parser.proofs.GrammarLemmas.{fits_small}
+
+-- a closed unit says something valid, and the context after it is valid
+pub record IsValidOutcome (o : Outcome) : Type 0 where
+  pub said : IsValidSaid o.said
+  pub next : IsValidContext o.next
+
+-- what is whole is valid
+abbrev pub Valid : Option Outcome → Type 0
+Valid whole = (o : Outcome) → whole ≡ Some o → IsValidOutcome o
+
+pub text_valid : (x : Context) → IsValidContext x → IsValidContext (with_mode x Text)
+text_valid x v = record { mode = tt; form = v.form }
+
+pub start_valid : IsValidContext start_context
+start_valid = record { mode = tt; form = record { size = refl; planes = refl } }
+
+-- what is said is valid, and so is the mode after it
+said_valid : (x : Context) (m : Mode) (s : Said) → IsValidContext x → IsValidMode m → IsValidSaid s
+    → IsValidOutcome (outcome x m s)
+said_valid x m s v n h = record { said = h; next = record { mode = n; form = v.form } }
+
+some_valid : (k : Outcome) → IsValidOutcome k → Valid (Some k)
+some_valid k h o e = let s : k ≡ o = cc in subst IsValidOutcome s h
+
+none_valid : Valid None
+none_valid o e = absurd cc
+
+complete_valid : (u : List ℕ) (k : Outcome) → IsValidOutcome k → Valid (whole_outcome u k)
+complete_valid u k h = each_test Valid (is_empty u) (λ _. some_valid k h) (λ _. none_valid)
+
+-- what a plain byte decides is valid for every plain byte
+plain_valid : (u : List ℕ) (k : ℕ → Outcome) → ((c : ℕ) → is_plain c ≡ true → IsValidOutcome (k c))
+    → Valid (with_plain k u)
+plain_valid [] k h = none_valid
+plain_valid (c ∷ u) k h =
+    each_test Valid (is_plain c) (λ p. complete_valid u (k c) (h c p)) (λ _. none_valid)
+
+options_valid : (parts : List (List ℕ)) (u : List ℕ) (k : Outcome) → IsValidOutcome k → Valid (with_options parts u k)
+options_valid parts u k h = each_test Valid (are_options parts u) (λ _. some_valid k h) (λ _. none_valid)
+
+abbrev Fine : Said → Type 0
+Fine s = IsValidSaid s
+
+-- C0, C1 and the right half
+c1_byte : (a : ℕ) → eqb a 0x9B ≡ false → is_between 0x80 0x9F a ≡ true → IsC1 (a - 0x80)
+c1_byte a c h = (grind (arith, nat_tests), grind (arith, nat_tests))
+
+above_controls : (a : ℕ) → leb a 0x1F ≡ false → 0x20 ≤ a
+above_controls a l = grind (arith, nat_tests)
+
+above_c1 : (a : ℕ) → 0x80 ≤ a → is_between 0x80 0x9F a ≡ false → 0xA0 ≤ a
+above_c1 a g h = grind (arith, nat_tests)
+
+graphic_byte : (a : ℕ) → a < 256 → leb a 0x1F ≡ false → is_between 0x80 0x9F a ≡ false → IsGraphic a
+graphic_byte a b l h =
+    let low = above_controls a l in
+    let high : 0x80 ≤ a → (0xA0 ≤ a) × (a ≤ 0xFF) = λ g. (above_c1 a g h, omega arith) in
+    elim (cases_lt a 0x80) [ inl s ↦ inl (low, omega arith) | inr g ↦ inr (high g) ]
+
+control_valid : (a : ℕ) → a < 256 → eqb a 0x9B ≡ false → IsValidSaid (one_byte a)
+unfolding one_byte
+control_valid a b c =
+    each_test Fine (eqb a 0x00) (λ _. tt) (λ _.
+    each_test Fine (eqb a 0x08) (λ _. tt) (λ _.
+    each_test Fine (eqb a 0x09) (λ _. tt) (λ _.
+    each_test Fine (eqb a 0x0A) (λ _. tt) (λ _.
+    each_test Fine (eqb a 0x0B) (λ _. tt) (λ _.
+    each_test Fine (eqb a 0x0C) (λ _. tt) (λ _.
+    each_test Fine (eqb a 0x0D) (λ _. tt) (λ _.
+    each_test Fine (eqb a 0x0E) (λ _. omega arith) (λ _.
+    each_test Fine (eqb a 0x0F) (λ _. omega arith) (λ _.
+    each_test Fine (eqb a 0x11) (λ _. tt) (λ _.
+    each_test Fine (eqb a 0x14) (λ _. tt) (λ _.
+    each_test Fine (eqb a 0x18) (λ _. tt) (λ _.
+    each_test Fine (eqb a 0x19) (λ _. omega arith) (λ _.
+    each_test Fine (eqb a 0x1D) (λ _. omega arith) (λ _.
+    each_test Fine (eqb a 0x1E) (λ _. tt) (λ _.
+    each_test Fine (leb a 0x1F) (λ _. tt) (λ l.
+    each_test Fine (is_between 0x80 0x9F a) (λ h. c1_byte a c h) (λ h. graphic_byte a b l h)))))))))))))))))
+
+-- escape sequences
+c1_final : (f : ℕ) → is_c1_final f ≡ true → IsC1 (f - 0x40)
+c1_final f h = (grind (arith, nat_tests), grind (arith, nat_tests))
+
+screen_above : (f : ℕ) → not (is_between 0x4C 0x4F f) ≡ true → 12 ≤ f - 0x40 → 15 < f - 0x40
+screen_above f k l = let n : is_between 0x4C 0x4F f ≡ false = not-true _ k in grind (arith, nat_tests)
+
+screen_final : (f : ℕ) → is_c1_final f ≡ true → not (is_between 0x4C 0x4F f) ≡ true → IsScreenC1 (f - 0x40)
+screen_final f h k =
+    let above : 12 ≤ f - 0x40 → 15 < f - 0x40 = λ l. screen_above f k l in
+    (c1_final f h, elim (cases_lt (f - 0x40) 12) [ inl l ↦ inl l | inr l ↦ inr (above l) ])
+
+escape_1_valid : (f : ℕ) → IsValidSaid (escape_1 f)
+unfolding escape_1
+escape_1_valid f =
+    each_test Fine (is_c1_final f) (λ h. c1_final f h) (λ _.
+    each_test Fine (eqb f 0x6E) (λ _. omega arith) (λ _.
+    each_test Fine (eqb f 0x6F) (λ _. omega arith) (λ _.
+    each_test Fine (eqb f 0x7E) (λ _. omega arith) (λ _.
+    each_test Fine (eqb f 0x7D) (λ _. omega arith) (λ _.
+    each_test Fine (eqb f 0x7C) (λ _. omega arith) (λ _. tt))))))
+
+designate_valid : (g f : ℕ) → g ≤ 3 → IsValidSaid (designation g f)
+unfolding designation
+designate_valid g f l =
+    each_test Fine (eqb f 0x40) (λ _. l) (λ _. each_test Fine (eqb f 0x62) (λ _. l)
+    (λ _. each_test Fine (eqb f 0x63) (λ _. l) (λ _. each_test Fine (eqb f 0x64) (λ _. l) (λ _. tt))))
+
+designate_c1_valid : (f : ℕ) → IsValidSaid (designation_of_c1 f)
+unfolding designation_of_c1
+designate_c1_valid f = each_test Fine (eqb f 0x40) (λ _. tt) (λ _. each_test Fine (eqb f 0x41) (λ _. tt) (λ _. tt))
+
+set_number : (i : ℕ) → is_between 0x28 0x2B i ≡ true → i - 0x28 ≤ 3
+set_number i h = grind (arith, nat_tests)
+
+escape_2_valid : (i f : ℕ) → IsValidSaid (escape_2 i f)
+unfolding escape_2
+escape_2_valid i f =
+    each_test Fine (eqb i 0x22) (λ _. designate_c1_valid f)
+    (λ _. each_test Fine (is_between 0x28 0x2B i) (λ h. designate_valid (i - 0x28) f (set_number i h)) (λ _. tt))
+
+escape_3_valid : (i j f : ℕ) → IsValidSaid (escape_3 i j f)
+unfolding escape_3 full_screen full_row designation_of_drcs
+escape_3_valid i j f =
+    each_test Fine (eqb i 0x23 && eqb j 0x20) (λ _. each_test Fine (is_c1_final f
+    && not (is_between 0x4C 0x4F f)) (λ h. let p = and_parts _ _ h in
+    screen_final f p.0 p.1) (λ _. tt)) (λ _. each_test Fine (eqb i 0x23
+    && eqb j 0x21) (λ _. each_test Fine (is_c1_final f) (λ h. c1_final f h) (λ _. tt))
+    (λ _. each_test Fine (is_between 0x28 0x2B i
+    && (eqb j 0x20 && eqb f 0x40)) (λ h. set_number i ((and_parts _ _ h).0)) (λ _. tt)))
+
+escape_valid : (u : List ℕ) → IsValidSaid (escape u)
+unfolding escape
+escape_valid [] = tt
+escape_valid (f ∷ []) = escape_1_valid f
+escape_valid (i ∷ f ∷ []) = escape_2_valid i f
+escape_valid (i ∷ j ∷ f ∷ []) = escape_3_valid i j f
+escape_valid (i ∷ j ∷ f ∷ a ∷ u) = tt
+
+-- control sequences
+table_number : (p : ℕ) → is_between 0x30 0x33 p ≡ true → p - 0x30 ≤ 3
+table_number p h = grind (arith, nat_tests)
+
+flash_number : (p : ℕ) → is_between 0x30 0x36 p ≡ true → p - 0x30 ≤ 6
+flash_number p h = grind (arith, nat_tests)
+
+csi_2_valid : (p f : ℕ) → IsValidSaid (csi_2 p f)
+unfolding csi_2
+csi_2_valid p f =
+    each_test Fine (is_between 0x30 0x33 p && eqb f 0x40) (λ h. table_number p (and_parts _ _ h).0) (λ _.
+    each_test Fine (is_between 0x30 0x36 p && eqb f 0x41) (λ h. flash_number p (and_parts _ _ h).0) (λ _.
+    each_test Fine (eqb p 0x30 && eqb f 0x60) (λ _. tt) (λ _.
+    each_test Fine (eqb p 0x31 && eqb f 0x60) (λ _. tt) (λ _.
+    each_test Fine (eqb p 0x32 && eqb f 0x60) (λ _. tt) (λ _.
+    each_test Fine (eqb p 0x33 && eqb f 0x60) (λ _. tt) (λ _.
+    each_test Fine (eqb p 0x31 && eqb f 0x50) (λ _. tt) (λ _.
+    each_test Fine (eqb p 0x31 && eqb f 0x51) (λ _. tt) (λ _.
+    each_test Fine (eqb p 0x32 && eqb f 0x53) (λ _. tt) (λ _.
+    each_test Fine (eqb p 0x32 && eqb f 0x54) (λ _. tt) (λ _. tt))))))))))
+
+area_rows : (n m : ℕ) → (leb 1 n && (leb n m && leb m 24)) ≡ true → IsArea n m
+area_rows n m h =
+    let p = and_parts (leb 1 n) _ h in
+    let q = and_parts (leb n m) (leb m 24) p.1 in
+    (leb-true 1 n p.0, leb-true n m q.0, leb-true m 24 q.1)
+
+area_valid : (n m f : ℕ) → IsValidSaid (area n m f)
+unfolding area
+area_valid n m f =
+    each_test Fine (not (leb 1 n && (leb n m && leb m 24))) (λ _. tt) (λ h. let r = area_rows n m (not-false _ h) in
+    each_test Fine (eqb f 0x55) (λ _. r) (λ _. r))
+
+csi_valid : (u : List ℕ) → IsValidSaid (csi u)
+unfolding csi csi_1 csi_4 csi_5 csi_1_2 csi_2_1 csi_6
+csi_valid [] = tt
+csi_valid (f ∷ []) = each_test Fine (eqb f 0x42) (λ _. tt) (λ _. tt)
+csi_valid (p ∷ f ∷ []) = csi_2_valid p f
+csi_valid (n ∷ s ∷ f ∷ []) = tt
+csi_valid (n ∷ s ∷ m ∷ f ∷ []) =
+    each_test Fine (is_digit n && (eqb s 0x3B && (is_digit m && is_area_final f))) (λ _. area_valid _ _ f) (λ _. tt)
+csi_valid (a ∷ b ∷ c ∷ d ∷ f ∷ []) =
+    each_test Fine (eqb b 0x3B) (λ _. each_test Fine (is_digit a
+    && (eqb b 0x3B && (is_digit c && (is_digit d && is_area_final f)))) (λ _. area_valid _ _ f) (λ _. tt))
+    (λ _. each_test Fine (is_digit a && (is_digit b
+    && (eqb c 0x3B && (is_digit d && is_area_final f)))) (λ _. area_valid _ _ f) (λ _. tt))
+csi_valid (n ∷ o ∷ s ∷ m ∷ p ∷ f ∷ []) =
+    each_test Fine (is_digit n && (is_digit o
+    && (eqb s 0x3B && (is_digit m && (is_digit p && is_area_final f))))) (λ _. area_valid _ _ f) (λ _. tt)
+csi_valid (n ∷ o ∷ s ∷ m ∷ p ∷ f ∷ a ∷ u) = tt
+
+-- units after US
+on_screen : (r c : ℕ) → is_row r ≡ true → is_column c ≡ true → OnScreen (r - 0x40) (c - 0x40)
+on_screen r c h g =
+    record {
+      from_top = grind (arith, nat_tests);
+      to_bottom = grind (arith, nat_tests);
+      from_left =
+          grind (arith, nat_tests);
+      to_right = grind (arith, nat_tests);
+    }
+
+position_valid : (x : Context) (r c : ℕ) → IsValidContext x → IsValidOutcome (us_position x r c)
+unfolding us_position
+position_valid x r c v =
+    each_test IsValidOutcome (is_row r && is_column c) (λ h. let p = and_parts (is_row r) (is_column c) h in
+    said_valid x Text _ v tt (on_screen r c p.0 p.1)) (λ _. said_valid x Text _ v tt tt)
+
+-- every choice of sizes is one of the six: 3/10, 3/11, 3/12 and 3/15 are narrow
+size_valid : (a b c d e : Bool)
+    → is_pattern_size (cond (a || (b || (c || d))) 6 12) (cond (e || a) 12 (cond c 5 (cond d 6 10))) ≡ true
+size_valid true b c d true = refl
+size_valid true b c d false = refl
+size_valid false true c d true = refl
+size_valid false true true d false = refl
+size_valid false true false true false = refl
+size_valid false true false false false = refl
+size_valid false false true d true = refl
+size_valid false false true d false = refl
+size_valid false false false true true = refl
+size_valid false false false true false = refl
+size_valid false false false false true = refl
+size_valid false false false false false = refl
+
+planes_valid : (a b : Bool) → is_plane_count (cond a 2 (cond b 4 1)) ≡ true
+planes_valid true b = refl
+planes_valid false true = refl
+planes_valid false false = refl
+
+form_valid : (u : List ℕ) → IsValidForm (drcs_form u)
+unfolding drcs_width drcs_height drcs_planes
+form_valid u =
+    record {
+      size =
+          size_valid (contains u 0x3A) (contains u 0x3B) (contains u 0x3C) (contains u 0x3F) (contains u 0x36);
+      planes =
+          planes_valid (contains u 0x42) (contains u 0x44);
+    }
+
+drcs_code : (c : ℕ) → is_between 0x21 0x7E c ≡ true → (0x21 ≤ c) × (c ≤ 0x7E)
+drcs_code c h = (grind (arith, nat_tests), grind (arith, nat_tests))
+
+drcs_valid : (x : Context) (u : List ℕ) → IsValidContext x → Valid (drcs_unit x u)
+unfolding drcs_unit drcs_header
+drcs_valid x [] v = none_valid
+drcs_valid x (c ∷ u) v =
+    each_test Valid (eqb c 0x20) (λ _. options_valid drcs_parts u _ (record {
+      said = form_valid u;
+      next =
+          record { mode = tt; form = form_valid u };
+    })) (λ _.
+    each_test Valid (is_between 0x21 0x7E c) (λ h. let d = drcs_code c h in
+    complete_valid u _ (said_valid x (DrcsRun c) _ v (d.0, omega arith) d)) (λ _.
+    each_test Valid (eqb c 0x7F) (λ _. complete_valid u _ (said_valid x Skip _ v tt tt)) (λ _. none_valid)))
+
+run_from_valid : (k : ColourKind) (n : ℕ) → leb n (last_place k) ≡ true → IsValidMode (run_from k n) × (n ≤ 31)
+run_from_valid ColourTable n h = let l = leb-true n 31 h in (omega arith, omega arith)
+run_from_valid LookUpTable n h = let l = leb-true n 3 h in (omega arith, omega arith)
+
+colours_from_valid : (x : Context) (i : ℕ) → IsValidContext x → IsValidOutcome (colours_from x i)
+unfolding colours_from
+colours_from_valid x i v =
+    each_test IsValidOutcome (leb i (last_place x.kind)) (λ h. let r = run_from_valid x.kind i h in
+    said_valid x (run_from x.kind i) _ v r.0 r.1) (λ _. said_valid x Skip _ v tt tt)
+
+colour_start_valid : (x : Context) (t o : ℕ) → IsValidContext x → IsValidOutcome (colour_start x t o)
+unfolding colour_start
+colour_start_valid x t o v =
+    each_test IsValidOutcome (is_digit o) (λ _. colours_from_valid x (two_digits t o) v)
+    (λ _. said_valid x Skip _ v tt tt)
+
+colour_valid : (x : Context) (u : List ℕ) → IsValidContext x → Valid (colour_unit x u)
+unfolding colour_unit colour_header
+colour_valid x [] v = none_valid
+colour_valid x (a ∷ u) v =
+    each_test Valid (eqb a 0x20) (λ _. options_valid colour_parts u _ (record {
+      said = tt;
+      next =
+          record { mode = tt; form = v.form };
+    })) (λ _.
+    each_test Valid (eqb a 0x21) (λ _. complete_valid u _ (said_valid x Skip _ v tt tt)) (λ _.
+    each_test Valid (is_digit a) (λ _. plain_valid u _ (λ o _. colour_start_valid x a o v)) (λ _.
+    each_test Valid (is_plain a) (λ _. complete_valid u _ (said_valid x Skip _ v tt tt)) (λ _. none_valid))))
+
+format_valid : (x : Context) (u : List ℕ) → IsValidContext x → IsValidOutcome (format x u)
+unfolding format
+format_valid x u v =
+    said_valid x Text _ v tt (each_test (λ (r : ℕ). (r ≡ 24)
+    ⊎ (r ≡ 20)) (contains u 0x42) (λ _. inr refl) (λ _. inl refl))
+
+row_number : (r : ℕ) → is_row r ≡ true → (1 ≤ r - 0x40) × (r - 0x40 ≤ 24)
+row_number r h = (grind (arith, nat_tests), grind (arith, nat_tests))
+
+break_valid : (x : Context) (r : ℕ) → IsValidContext x → IsValidOutcome (service_break x r)
+unfolding service_break
+break_valid x r v =
+    each_test IsValidOutcome (is_row r) (λ h. said_valid x Text _ v tt (row_number r h))
+    (λ _. said_valid x Skip _ v tt tt)
+
+service_valid : (x : Context) (a : ℕ) → IsValidContext x → IsValidOutcome (service x a)
+unfolding service
+service_valid x a v =
+    each_test IsValidOutcome (eqb a 0x4F) (λ _. said_valid x Text _ v tt tt) (λ _.
+    each_test IsValidOutcome (eqb a 0x41) (λ _. said_valid start_context Text _ start_valid tt tt) (λ _.
+    each_test IsValidOutcome (eqb a 0x42) (λ _. said_valid start_context Text _ start_valid tt tt) (λ _.
+    each_test IsValidOutcome (eqb a 0x43) (λ _. said_valid x Text _ v tt tt) (λ _.
+    each_test IsValidOutcome (eqb a 0x44) (λ _. said_valid x Text _ v tt tt) (λ _. said_valid x Skip _ v tt tt)))))
+
+service_unit_valid : (x : Context) (u : List ℕ) → IsValidContext x → Valid (service_unit x u)
+unfolding service_unit
+service_unit_valid x [] v = none_valid
+service_unit_valid x (a ∷ u) v =
+    each_test Valid (eqb a 0x40) (λ _. plain_valid u _ (λ r _. break_valid x r v)) (λ _.
+    each_test Valid (is_plain a) (λ _. complete_valid u _ (service_valid x a v)) (λ _. none_valid))
+
+us_valid : (x : Context) (u : List ℕ) → IsValidContext x → Valid (us_unit x u)
+unfolding us_unit
+us_valid x [] v = none_valid
+us_valid x (a ∷ u) v =
+    each_test Valid (eqb a 0x23) (λ _. drcs_valid x u v) (λ _.
+    each_test Valid (eqb a 0x26) (λ _. colour_valid x u v) (λ _.
+    each_test Valid (eqb a 0x2D) (λ _. options_valid format_parts u _ (format_valid x u v)) (λ _.
+    each_test Valid (eqb a 0x2F) (λ _. service_unit_valid x u v) (λ _.
+    each_test Valid (is_between 0x20 0x3F a) (λ _. complete_valid u _ (said_valid x Skip _ v tt tt)) (λ _.
+    each_test Valid (is_plain a) (λ _. plain_valid u _ (λ c _. position_valid x a c v)) (λ _. none_valid))))))
+
+-- units of a run
+bit_small : (k a : ℕ) → bit k a ≤ 1
+bit_small k a = omega arith
+
+part_small : (k a b : ℕ) → colour_part k a b ≤ 15
+part_small k a b =
+    let p = bit_small (k + 3) a in
+    let q = bit_small k a in
+    let r = bit_small (k + 3) b in
+    let s = bit_small k b in
+    omega arith
+
+colour_fine : (a b : ℕ) → IsValidRgb (colour a b)
+unfolding colour
+colour_fine a b = record { r = part_small 2 a b; g = part_small 1 a b; b = part_small 0 a b }
+
+misplaced_valid : (x : Context) → IsValidContext x → IsValidOutcome (misplacement x)
+misplaced_valid x v = said_valid x Skip _ v tt tt
+
+entry_valid : (x : Context) (i a b : ℕ) → IsValidContext x → i < 32 → IsValidOutcome (table_entry x i a b)
+unfolding table_entry
+entry_valid x i a b v l =
+    each_test IsValidOutcome (has_six_bits b) (λ _. said_valid x (TableRun (i + 1)) _ v (omega arith) (
+      omega arith,
+      colour_fine a b,
+    )) (λ _. misplaced_valid x v)
+
+look_up_valid : (x : Context) (i a : ℕ) → IsValidContext x → IsValidOutcome (dclut_value x i a)
+unfolding dclut_value
+look_up_valid x i a v =
+    each_test IsValidOutcome (ltb i 4 && has_six_bits a) (λ h. let l = ltb-true i 4 (and_parts _ _ h).0 in
+    said_valid x (DclutRun (i + 1)) _ v (omega arith) (omega arith, omega arith)) (λ _. misplaced_valid x v)
+
+plain_graphic : (a : ℕ) → is_plain a ≡ true → IsGraphic a
+plain_graphic a h = inl (grind (arith, nat_tests), grind (arith, nat_tests))
+
+run_valid : (m : Mode) (x : Context) (a : ℕ) (u : List ℕ) → IsValidMode m → IsValidContext x → is_plain a ≡ true
+    → Valid (run_unit m x a u)
+unfolding run_unit pattern_unit
+run_valid Text x a u n v p = complete_valid u _ (said_valid x Text _ v tt (plain_graphic a p))
+run_valid Skip x a u n v p = complete_valid u _ (said_valid x Skip _ v tt tt)
+run_valid (TableRun i) x a u n v p =
+    each_test Valid (ltb i 32 && has_six_bits a)
+    (λ h. plain_valid u _ (λ b _. entry_valid x i a b v (ltb-true i 32 (and_parts _ _ h).0)))
+    (λ _. complete_valid u _ (misplaced_valid x v))
+run_valid (DclutRun i) x a u n v p = complete_valid u _ (look_up_valid x i a v)
+run_valid (DrcsRun c) x a u n v p = complete_valid u _ (misplaced_valid x v)
+
+repeat_valid : (x : Context) (c : ℕ) → IsValidContext x → is_plain c ≡ true → IsValidOutcome (repetition x c)
+unfolding repetition
+repeat_valid x c v p =
+    each_test IsValidOutcome (leb 0x40 c) (λ _. said_valid x Text _ v tt (repeat_number c p))
+    (λ _. said_valid x Text _ v tt tt)
+  where
+    repeat_number : (c : ℕ) → is_plain c ≡ true → c - 0x40 ≤ 63
+    repeat_number c p = grind (arith, nat_tests)
+
+csi_unit_valid : (x : Context) (u : List ℕ) → IsValidContext x → Valid (csi_unit x u)
+unfolding csi_unit
+csi_unit_valid x u v =
+    each_test Valid (is_sequence 0x40 7 u) (λ _. some_valid _ (said_valid x Text _ v tt (csi_valid u)))
+    (λ _. none_valid)
+
+escape_unit_valid : (x : Context) (u : List ℕ) → IsValidContext x → Valid (escape_unit x u)
+unfolding escape_unit
+escape_unit_valid x [] v = none_valid
+escape_unit_valid x (a ∷ u) v =
+    each_test Valid (eqb a 0x5B) (λ _. csi_unit_valid x u v)
+    (λ _. each_test Valid (is_sequence 0x30 3 (a ∷ u))
+    (λ _. some_valid _ (said_valid x Text _ v tt (escape_valid (a ∷ u)))) (λ _. none_valid))
+
+-- what is whole is valid, in a valid context
+pub unit_valid : (x : Context) (u : List ℕ) (o : Outcome) → IsValidContext x → AreBytes u → unit x u ≡ Some o
+    → IsValidOutcome o
+unfolding unit
+unit_valid x [] o v b e = none_valid o e
+unit_valid x (a ∷ u) o v b e =
+    each_test Valid (is_plain a) (λ p. run_valid x.mode x a u v.mode v p) (λ p.
+    each_test Valid (eqb a 0x12) (λ _. plain_valid u _ (λ c q. repeat_valid x c v q)) (λ _.
+    each_test Valid (eqb a 0x1B) (λ _. escape_unit_valid x u v) (λ _.
+    each_test Valid (eqb a 0x9B) (λ _. csi_unit_valid x u v) (λ c.
+    each_test Valid (eqb a 0x1F) (λ _. us_valid x u v)
+    (λ _. complete_valid u _ (said_valid x Text _ v tt (control_valid a b.0 c))))))) o e
+
+-- what fits has at most a hundred bytes
+pub fits_hundred : (x : Context) (u : List ℕ) → IsValidContext x → fits x u ≡ true → length u ≤ 100
+fits_hundred x u v h = omega (arith, fits_small x u h)

@@ -1,0 +1,173 @@
+-- Laws of serial attributes.
+use Rattle.std.proofs.Common.{◌≡◌, ℕ, ◌≤◌, ◌<◌, zero, suc, Bool, true, false, ◌&&◌, Option, Some, None, MatchOption}
+use Rattle.std.proofs.Common.{IfSome, sym, ◌∙◌, ap, subst, inl, inr, arith}
+use Rattle.std.proofs.lemmas.Bool.{cases_eq, cond_both}
+use Rattle.cept_profile.specs.Serial.{Class}
+use Rattle.cept_codes.specs.declared.attribute.Full.{Full}
+use Rattle.cept_codes.specs.declared.attribute.Pen.{Pen}
+use Rattle.cept_codes.specs.declared.cell.Marker.{Marker}
+use Rattle.cept_codes.specs.declared.cell.Marker.TheVariants as markers
+use Rattle.cept_codes.specs.declared.cell.What.{What}
+use Rattle.cept_codes.specs.declared.cell.What.TheVariants as whats
+use Rattle.cept_codes.specs.declared.glyph.Glyph.{Glyph}
+use Rattle.cept_codes.specs.Attribute.{IsValidFull, IsValidPen, IsEntry, unset_pen}
+use Rattle.cept_codes.specs.Cell.{IsValidMarker, IsValidWhat}
+use Rattle.cept_codes.specs.Glyph.{IsValidGlyph}
+use Rattle.cept_profile.specs.Attributes.{cascade, first_value}
+use Rattle.cept_profile.specs.Serial.{acts, acts_there, held_sign, column_in_force, is_marker, is_mosaic, mosaic_of}
+use Rattle.cept_profile.specs.Serial.{nearest_column, serial_attributes}
+use Rattle.cept_profile.specs.Carry.{Carry, carry_after, carry, held_sign_in, carry_in, kept_sign_after, full_after}
+use Rattle.cept_profile.proofs.OneMoreCell.{carry-start, carry-suc, serial_attributes-suc, held_sign-suc, unmarked}
+use Rattle.cept_profile.proofs.OneMoreCell.{in_plain}
+
+-- ---- the greatest column
+
+-- the greatest column up to c of which something is so, if there is one
+abbrev pub IsGreatest : (ℕ → Bool) → ℕ → Option ℕ → Type 0
+IsGreatest p c found =
+    MatchOption found ((d : ℕ) → 1 ≤ d → d ≤ c → p d ≡ false)
+    (λ d. (1 ≤ d) × (d ≤ c) × (p d ≡ true) × ((e : ℕ) → d < e → e ≤ c → p e ≡ false))
+
+further : (p : ℕ → Bool) (c d : ℕ) → p (suc c) ≡ false → (d ≤ c → p d ≡ false) → d ≤ suc c → p d ≡ false
+further p c d miss before h =
+    elim (cases_eq d (suc c)) [ inl e ↦ rw e miss | inr other ↦ before (omega arith) ]
+
+one_less : (p : ℕ → Bool) (c : ℕ) (found : Option ℕ) → p (suc c) ≡ false → IsGreatest p c found
+    → IsGreatest p (suc c) found
+one_less p c None miss h = λ d low high. further p c d miss (h d low) high
+one_less p c (Some d) miss h = (h.0, omega (arith, h.1), h.2, λ e low high. further p c e miss (h.3 e low) high)
+
+nearest_column-greatest : (p : ℕ → Bool) (c : ℕ) → IsGreatest p c (nearest_column p c)
+nearest_column-greatest p zero = λ d low high. absurd (omega arith)
+nearest_column-greatest p (suc c) =
+    cond_both (p (suc c)) (Some (suc c)) (nearest_column p c) (IsGreatest p (suc c))
+    (λ hit. (omega arith, omega arith, hit, λ e low high. absurd (omega arith)))
+    (λ miss. one_less p c (nearest_column p c) miss (nearest_column-greatest p c))
+
+pub column_in_force-greatest : (row : ℕ → What) (class : Class) (c : ℕ)
+    → IsGreatest (acts row class c) c (column_in_force row class c)
+unfolding column_in_force
+column_in_force-greatest row class c = nearest_column-greatest (acts row class c) c
+
+-- ---- cells to the right
+
+carry-alike : (f g : ℕ → What) (pen screen : Pen) (c : ℕ) → ((d : ℕ) → 1 ≤ d → d ≤ c → f d ≡ g d)
+    → carry f pen screen c ≡ carry g pen screen c
+carry-alike f g pen screen zero same = sym (carry-start f pen screen) ∙ carry-start g pen screen
+carry-alike f g pen screen (suc c) same =
+    carry-suc f pen screen c
+    ∙ ap (λ w. carry_after w (carry f pen screen c)) (same (suc c) (omega arith) (omega arith))
+    ∙ ap (λ s. carry_after (g (suc c)) s) (carry-alike f g pen screen c (λ d low high. same d low (omega arith)))
+    ∙ sym (carry-suc g pen screen c)
+
+pub serial_attributes-alike : (f g : ℕ → What) (pen screen : Pen) (c : ℕ) → 1 ≤ c
+    → ((d : ℕ) → 1 ≤ d → d ≤ c → f d ≡ g d)
+    → serial_attributes f pen screen c ≡ serial_attributes g pen screen c
+serial_attributes-alike f g pen screen zero low same = absurd (omega arith)
+serial_attributes-alike f g pen screen (suc c) low same =
+    serial_attributes-suc f pen screen c
+    ∙ ap (λ w. (carry_in w (carry f pen screen c)).full) (same (suc c) (omega arith) (omega arith))
+    ∙ ap (λ s. (carry_in (g (suc c)) s).full) (carry-alike f g pen screen c (λ d low high. same d low (omega arith)))
+    ∙ sym (serial_attributes-suc g pen screen c)
+
+pub held_sign-alike : (f g : ℕ → What) (c : ℕ) → 1 ≤ c → ((d : ℕ) → 1 ≤ d → d ≤ c → f d ≡ g d)
+    → held_sign f c ≡ held_sign g c
+held_sign-alike f g zero low same = absurd (omega arith)
+held_sign-alike f g (suc c) low same =
+    held_sign-suc f unset_pen unset_pen c
+    ∙ ap (λ w. held_sign_in w (carry f unset_pen unset_pen c)) (same (suc c) (omega arith) (omega arith))
+    ∙ ap (λ s. held_sign_in (g (suc c)) s)
+    (carry-alike f g unset_pen unset_pen c (λ d low high. same d low (omega arith)))
+    ∙ sym (held_sign-suc g unset_pen unset_pen c)
+
+-- ---- rows without markers
+
+pub serial_attributes-unmarked : (row : ℕ → What) (pen screen : Pen) (c : ℕ) → 1 ≤ c
+    → ((d : ℕ) → 1 ≤ d → d ≤ c → is_marker (row d) ≡ false)
+    → serial_attributes row pen screen c ≡ cascade unset_pen pen screen
+serial_attributes-unmarked row pen screen zero low plain = absurd (omega arith)
+serial_attributes-unmarked row pen screen (suc c) low plain =
+    serial_attributes-suc row pen screen c
+    ∙ in_plain (row (suc c)) (carry row pen screen c) (plain (suc c) low (omega arith))
+    ∙ unmarked row pen screen c (λ d from to. plain d from (omega arith))
+
+-- ---- validity
+
+record IsValidCarried (s : Carry) : Type 0 where
+  pub full : IsValidFull s.full
+  pub kept_sign : IfSome s.kept_sign IsValidGlyph
+
+first_value-entry : (a b : Option ℕ) (e : ℕ) → IfSome a IsEntry → IfSome b IsEntry → IsEntry e
+    → IsEntry (first_value None a b e)
+first_value-entry (Some x) b e p q r = p
+first_value-entry None (Some y) e p q r = q
+first_value-entry None None e p q r = r
+
+mosaic_of-valid : (w : What) → IsValidWhat w → IfSome (mosaic_of w) IsValidGlyph
+mosaic_of-valid (whats.Serial g) v =
+    cond_both (is_mosaic g.set) (Some g) None (λ o. IfSome o IsValidGlyph) (λ e. v) (λ e. tt)
+mosaic_of-valid w v = tt
+
+full_after-valid : (m : Marker) (f : Full) → IsValidMarker m → IsValidFull f → IsValidFull (full_after m f)
+full_after-valid (markers.Alpha e) f v h = record { fore = v; back = h.back }
+full_after-valid (markers.Mosaic e) f v h = record { fore = v; back = h.back }
+full_after-valid markers.BlackBack f v h = record { fore = h.fore; back = omega arith }
+full_after-valid markers.NewBack f v h = record { fore = h.fore; back = h.fore }
+full_after-valid m f v h = record { fore = h.fore; back = h.back }
+
+kept_sign_after-valid : (m : Marker) (g : Option Glyph) → IfSome g IsValidGlyph
+    → IfSome (kept_sign_after m g) IsValidGlyph
+kept_sign_after-valid (markers.Size s) g v = tt
+kept_sign_after-valid m g v = v
+
+carry_after-valid : (w : What) (s : Carry) → IsValidWhat w → IsValidCarried s → IsValidCarried (carry_after w s)
+carry_after-valid (whats.Marker m) s v h =
+    record { full = full_after-valid m s.full v h.full; kept_sign = kept_sign_after-valid m s.kept_sign h.kept_sign }
+carry_after-valid w s v h = record {
+  full = record { fore = h.full.fore; back = h.full.back };
+  kept_sign =
+      mosaic_of-valid w v;
+}
+
+carry-valid : (row : ℕ → What) (pen screen : Pen) (c : ℕ) → IsValidPen pen → IsValidPen screen
+    → ((d : ℕ) → 1 ≤ d → d ≤ c → IsValidWhat (row d)) → IsValidCarried (carry row pen screen c)
+carry-valid row pen screen zero p s v =
+    subst IsValidCarried (carry-start row pen screen)
+    (record {
+      full = record {
+        fore = first_value-entry pen.fore screen.fore 7 p.fore s.fore (omega arith);
+        back = first_value-entry pen.back screen.back 0 p.back s.back (omega arith);
+      };
+      kept_sign = tt;
+    })
+carry-valid row pen screen (suc c) p s v =
+    subst IsValidCarried (sym (carry-suc row pen screen c))
+    (carry_after-valid (row (suc c)) (carry row pen screen c) (v (suc c) (omega arith) (omega arith))
+    (carry-valid row pen screen c p s (λ d low high. v d low (omega arith))))
+
+carry_in-valid : (w : What) (s : Carry) → IsValidWhat w → IsValidCarried s → IsValidCarried (carry_in w s)
+carry_in-valid w s v h =
+    cond_both (acts_there w) (carry_after w s) s IsValidCarried (λ e. carry_after-valid w s v h) (λ e. h)
+
+pub serial_attributes-valid : (row : ℕ → What) (pen screen : Pen) (c : ℕ) → 1 ≤ c → IsValidPen pen → IsValidPen screen
+    → ((d : ℕ) → 1 ≤ d → d ≤ c → IsValidWhat (row d)) → IsValidFull (serial_attributes row pen screen c)
+serial_attributes-valid row pen screen zero low p s v = absurd (omega arith)
+serial_attributes-valid row pen screen (suc c) low p s v =
+    subst IsValidFull (sym (serial_attributes-suc row pen screen c))
+    (carry_in-valid (row (suc c)) (carry row pen screen c) (v (suc c) low (omega arith))
+    (carry-valid row pen screen c p s (λ d from to. v d from (omega arith)))).full
+
+unset_pen-valid : IsValidPen unset_pen
+unset_pen-valid = record { fore = tt; back = tt }
+
+pub held_sign-valid : (row : ℕ → What) (c : ℕ) → 1 ≤ c → ((d : ℕ) → 1 ≤ d → d ≤ c → IsValidWhat (row d))
+    → IfSome (held_sign row c) IsValidGlyph
+held_sign-valid row zero low v = absurd (omega arith)
+held_sign-valid row (suc c) low v =
+    subst (λ g. IfSome g IsValidGlyph) (sym (held_sign-suc row unset_pen unset_pen c))
+    (cond_both (is_marker (row (suc c)) && (carry_in (row (suc c)) (carry row unset_pen unset_pen c)).hold)
+    (carry_after (row (suc c)) (carry row unset_pen unset_pen c)).kept_sign None (λ g. IfSome g IsValidGlyph)
+    (λ e. (carry_after-valid (row (suc c)) (carry row unset_pen unset_pen c) (v (suc c) low (omega arith))
+    (carry-valid row unset_pen unset_pen c unset_pen-valid unset_pen-valid
+    (λ d from to. v d from (omega arith)))).kept_sign)
+    (λ e. tt))

@@ -1,0 +1,97 @@
+-- Protected cells, and wiped ones.
+use Rattle.std.proofs.Common.{◌≡◌, ◌≢◌, ℕ, ◌≤◌, ◌<◌, ◌⊎◌, Bool, false, not, ◌&&◌, eqb, leb, List, [], ◌∷◌, ◌++◌, refl}
+use Rattle.std.proofs.Common.{sym, ◌∙◌, subst, inl, inr, arith}
+use Rattle.std.specs.List.{Contains}
+use Rattle.std.specs.Prelude.{IsTrue}
+use Rattle.std.proofs.lemmas.Bool.{cond-false, cond-true, and_from, and_left, and_right, eq-eqb, eqb-true, le-leb}
+use Rattle.std.proofs.lemmas.Bool.{lt-leb, not_from_true, not_from_false, false_from_ne_true}
+use Rattle.std.proofs.lemmas.List.Elements.{Contains-append_right}
+use Rattle.cept_codes.specs.declared.cell.Cell.{Cell}
+use Rattle.cept_codes.specs.declared.stroke.Stroke.{Stroke}
+use Rattle.cept_codes.specs.declared.stroke.Stroke.TheVariants as strokes
+use Rattle.cept_codes.specs.Cell.{blank_cell}
+use Rattle.cept_codes.specs.Place.{Place, OnScreen}
+use Rattle.cept_codes.specs.Table.{value_at}
+use Rattle.cept_codes.proofs.Laws.{value_at-table}
+use Rattle.cept_profile.specs.Cells.{is_at, cell_after, cells_after, cells_after_all}
+use Rattle.cept_profile.proofs.PaintedPlaces.{place-is_at}
+
+pub cell_after-elsewhere : (p q : Place) (cell : Cell) (was : ℕ → ℕ → Cell) → p ≢ q
+    → cell_after (strokes.Put p cell) was q.row q.column ≡ was q.row q.column
+cell_after-elsewhere p q cell was other =
+    let here : Bool = is_at p q.row q.column in
+    cond-false (here && not (was q.row q.column).protected) cell (was q.row q.column)
+    (and_left here (not (was q.row q.column).protected) (false_from_ne_true here (λ e. other (place-is_at p q e))))
+
+pub cell_after-written : (p : Place) (cell : Cell) (was : ℕ → ℕ → Cell) → (was p.row p.column).protected ≡ false
+    → cell_after (strokes.Put p cell) was p.row p.column ≡ cell
+cell_after-written p cell was free =
+    cond-true (is_at p p.row p.column && not (was p.row p.column).protected) cell (was p.row p.column)
+    (and_from (is_at p p.row p.column) (not (was p.row p.column).protected)
+    (and_from (eqb p.row p.row) (eqb p.column p.column) (eq-eqb p.row p.row refl) (eq-eqb p.column p.column refl))
+    (not_from_false (was p.row p.column).protected free))
+
+pub cell_after-erased : (row from : ℕ) (was : ℕ → ℕ → Cell) (c : ℕ) → from ≤ c → (was row c).protected ≡ false
+    → cell_after (strokes.Erase row from) was row c ≡ blank_cell
+cell_after-erased row from was c right free =
+    cond-true (eqb row row && leb from c && not (was row c).protected) blank_cell (was row c)
+    (and_from (eqb row row && leb from c) (not (was row c).protected)
+    (and_from (eqb row row) (leb from c) (eq-eqb row row refl) (le-leb from c right))
+    (not_from_false (was row c).protected free))
+
+pub cell_after-not_erased : (row from : ℕ) (was : ℕ → ℕ → Cell) (r c : ℕ) → (r ≢ row) ⊎ (c < from)
+    → cell_after (strokes.Erase row from) was r c ≡ was r c
+cell_after-not_erased row from was r c out =
+    cond-false (eqb r row && leb from c && not (was r c).protected) blank_cell (was r c)
+    (and_left (eqb r row && leb from c) (not (was r c).protected) (elim out [
+      | inl other ↦ and_left (eqb r row) (leb from c) (false_from_ne_true (eqb r row) (λ e. other (eqb-true r row e)))
+      | inr left ↦ and_right (eqb r row) (leb from c) (lt-leb from c left)
+    ]))
+
+pub cell_after-protected : (stroke : Stroke) (was : ℕ → ℕ → Cell) (r c : ℕ) → IsTrue (was r c).protected
+    → (stroke ≡ strokes.Wipe) ⊎ (cell_after stroke was r c ≡ was r c)
+cell_after-protected (strokes.Put p cell) was r c protected =
+    inr (cond-false (is_at p r c && not (was r c).protected) cell (was r c)
+    (and_right (is_at p r c) (not (was r c).protected) (not_from_true (was r c).protected protected)))
+cell_after-protected strokes.Wipe was r c protected = inl refl
+cell_after-protected (strokes.Erase row from) was r c protected =
+    inr (cond-false (eqb r row && leb from c && not (was r c).protected) blank_cell (was r c)
+    (and_right (eqb r row && leb from c) (not (was r c).protected) (not_from_true (was r c).protected protected)))
+cell_after-protected (strokes.Shift a b way) was r c protected = inr refl
+cell_after-protected (strokes.RowAttr row attr) was r c protected = inr refl
+cell_after-protected (strokes.ScreenAttr attr) was r c protected = inr refl
+cell_after-protected strokes.ScreenClear was r c protected = inr refl
+cell_after-protected (strokes.Colour i paint) was r c protected = inr refl
+cell_after-protected (strokes.Dclut i v) was r c protected = inr refl
+cell_after-protected strokes.ColourDefaults was r c protected = inr refl
+cell_after-protected strokes.DrcsClear was r c protected = inr refl
+cell_after-protected (strokes.Drcs code pattern) was r c protected = inr refl
+cell_after-protected (strokes.Format rows) was r c protected = inr refl
+
+pub cells_after_all-protected : (cells : List (List Cell)) (xs : List Stroke) (r c : ℕ) → OnScreen r c
+    → IsTrue (value_at blank_cell cells r c).protected → Contains xs strokes.Wipe
+    ⊎ (value_at blank_cell (cells_after_all cells xs) r c ≡ value_at blank_cell cells r c)
+unfolding cells_after_all
+cells_after_all-protected cells [] r c on protected = inr refl
+cells_after_all-protected cells (x ∷ xs) r c on protected =
+    elim (cell_after-protected x (value_at blank_cell cells) r c protected) [
+      | inl wipe ↦ inl (0, omega arith, wipe)
+      | inr stays ↦
+          let same : value_at blank_cell (cells_after cells x) r c ≡ value_at blank_cell cells r c =
+          value_at-table (cell_after x (value_at blank_cell cells)) blank_cell r c on ∙ stays in
+          elim (cells_after_all-protected (cells_after cells x) xs r c on
+          (subst (λ cell. IsTrue cell.protected) (sym same) protected)) [
+            | inl wiped ↦ inl (Contains-append_right (x ∷ []) xs strokes.Wipe wiped)
+            | inr kept ↦ inr (kept ∙ same)
+          ]
+    ]
+
+pub cell_after-wiped : (was : ℕ → ℕ → Cell) (r c : ℕ) → OnScreen r c → cell_after strokes.Wipe was r c ≡ blank_cell
+cell_after-wiped was r c on = refl
+
+-- after a wipe that is last
+pub cells_after_all-wiped : (cells : List (List Cell)) (xs : List Stroke) (r c : ℕ) → OnScreen r c
+    → value_at blank_cell (cells_after_all cells (xs ++ strokes.Wipe ∷ [])) r c ≡ blank_cell
+unfolding cells_after_all
+cells_after_all-wiped cells [] r c on = value_at-table (λ q k. blank_cell) blank_cell r c on
+cells_after_all-wiped cells (x ∷ xs) r c on = cells_after_all-wiped (cells_after cells x) xs r c on

@@ -1,0 +1,126 @@
+-- Accents and single shifts: how long they wait.
+use Rattle.std.proofs.Common.{◌≡◌, ℕ, ◌+◌, ◌-◌, zero, suc, false, cond, eqb, leb, Option, Some, None, refl, sym, ap}
+use Rattle.std.proofs.lemmas.Bool.{cond_both, false≢true}
+use Rattle.cept_codes.specs.declared.cell.Marker.{Marker}
+use Rattle.cept_codes.specs.declared.command.C1Set.{C1Set}
+use Rattle.cept_codes.specs.declared.command.C1Set.TheVariants as c1sets
+use Rattle.cept_codes.specs.declared.command.Command.{Command}
+use Rattle.cept_codes.specs.declared.command.Command.TheVariants as commands
+use Rattle.cept_codes.specs.declared.glyph.Glyph.{Glyph}
+use Rattle.cept_codes.specs.declared.glyph.Read.{Read}
+use Rattle.cept_codes.specs.declared.glyph.Read.TheVariants as reads
+use Rattle.cept_profile.specs.Control.{Working, ControlState, working_at, working_without_accent, leaves_accent}
+use Rattle.cept_profile.specs.Control.{state_for_effect, control_after}
+use Rattle.cept_profile.specs.Markers.{marker_of, working_after_any_marker}
+use Rattle.cept_profile.specs.Motions.{row_below, row_above, working_ahead, working_back}
+use Rattle.cept_profile.specs.Pens.{working_after_code, working_after_flash, working_after_reveal}
+use Rattle.cept_profile.specs.Writing.{control_after_copies, working_after_repeat, sign_with_accent, working_after_read}
+use Rattle.cept_profile.specs.Writing.{graphic_result, control_with_result}
+
+-- what moves leaves the accent and the sets
+working_ahead-accent : (s : ControlState) (n : ℕ) (w : Working) → (working_ahead s n w).accent ≡ w.accent
+working_ahead-accent s n w =
+    cond_both (leb (w.column + n) 40) (working_at w.row (w.column + n) w)
+    (cond s.wrap (working_at (row_below s w.row) 1 w) (working_at w.row 40 w)) (λ v. v.accent ≡ w.accent)
+    (λ e. refl)
+    (λ e. cond_both s.wrap (working_at (row_below s w.row) 1 w) (working_at w.row 40 w) (λ v. v.accent ≡ w.accent)
+    (λ e1. refl) (λ e1. refl))
+
+working_back-accent : (s : ControlState) (w : Working) → (working_back s w).accent ≡ w.accent
+working_back-accent s w =
+    cond_both (eqb w.column 1) (cond s.wrap (working_at (row_above s w.row) 40 w) w) (working_at w.row (w.column - 1) w)
+    (λ v. v.accent ≡ w.accent)
+    (λ e. cond_both s.wrap (working_at (row_above s w.row) 40 w) w (λ v. v.accent ≡ w.accent) (λ e1. refl) (λ e1. refl))
+    (λ e. refl)
+
+working_ahead-single : (s : ControlState) (n : ℕ) (w : Working) → (working_ahead s n w).sets.single ≡ w.sets.single
+working_ahead-single s n w =
+    cond_both (leb (w.column + n) 40) (working_at w.row (w.column + n) w)
+    (cond s.wrap (working_at (row_below s w.row) 1 w) (working_at w.row 40 w)) (λ v. v.sets.single ≡ w.sets.single)
+    (λ e. refl)
+    (λ e. cond_both s.wrap (working_at (row_below s w.row) 1 w) (working_at w.row 40 w)
+    (λ v. v.sets.single ≡ w.sets.single) (λ e1. refl) (λ e1. refl))
+
+-- after copies no accent waits
+control_after_copies-accent : (n : ℕ) (s : ControlState) (g : Glyph) → s.working.accent ≡ None
+    → (control_after_copies n s g).working.accent ≡ None
+unfolding control_after_copies
+control_after_copies-accent zero s g none = none
+control_after_copies-accent (suc n) s g none = refl
+
+working_after_repeat-accent : (n : ℕ) (s : ControlState) (last : Option Glyph) → s.working.accent ≡ None
+    → (working_after_repeat n s last).accent ≡ None
+working_after_repeat-accent n s None none = none
+working_after_repeat-accent n s (Some g) none = control_after_copies-accent n s g none
+
+-- and so do pens and markers
+marker-accent : (s : ControlState) (m : Option Marker) → (working_after_any_marker s m).accent ≡ s.working.accent
+marker-accent s None = refl
+marker-accent s (Some m) = working_ahead-accent s 1 s.working
+
+working_after_code-accent : (set : C1Set) (n : ℕ) (s : ControlState)
+    → (working_after_code set n s).accent ≡ s.working.accent
+working_after_code-accent c1sets.Parallel n s = refl
+working_after_code-accent c1sets.Serial n s = marker-accent s (marker_of s.working.table n)
+
+working_after_flash-accent : (set : C1Set) (k : ℕ) (s : ControlState)
+    → (working_after_flash set k s).accent ≡ s.working.accent
+working_after_flash-accent c1sets.Parallel k s = refl
+working_after_flash-accent c1sets.Serial k s = working_ahead-accent s 1 s.working
+
+working_after_reveal-accent : (set : C1Set) (s : ControlState) → (working_after_reveal set s).accent ≡ s.working.accent
+working_after_reveal-accent c1sets.Parallel s = refl
+working_after_reveal-accent c1sets.Serial s = working_ahead-accent s 1 s.working
+
+-- every other command drops it
+pub accent-dropped : (s : ControlState) (command : Command) → leaves_accent command ≡ false
+    → (control_after s command).working.accent ≡ None
+accent-dropped s commands.Nul drops = absurd (false≢true (sym drops))
+accent-dropped s commands.Skipped drops = absurd (false≢true (sym drops))
+accent-dropped s (commands.Graphic byte) drops = absurd (false≢true (sym drops))
+accent-dropped s commands.Back drops =
+    working_back-accent (state_for_effect s commands.Back) (working_without_accent s.working)
+accent-dropped s commands.Forward drops =
+    working_ahead-accent (state_for_effect s commands.Forward) 1 (working_without_accent s.working)
+accent-dropped s (commands.Repeat n) drops =
+    working_after_repeat-accent n (state_for_effect s (commands.Repeat n)) s.working.last refl
+accent-dropped s (commands.C1 n) drops = working_after_code-accent s.working.c1 n (state_for_effect s (commands.C1 n))
+accent-dropped s (commands.FlashMode k) drops =
+    working_after_flash-accent s.working.c1 k (state_for_effect s (commands.FlashMode k))
+accent-dropped s commands.StopConceal drops =
+    working_after_reveal-accent s.working.c1 (state_for_effect s commands.StopConceal)
+accent-dropped s _ drops = refl
+
+-- an accent that was read waits
+pub accent-waits : (s : ControlState) (byte code : ℕ) → (graphic_result s byte).read ≡ reads.Accent code
+    → (control_after s (commands.Graphic byte)).working.accent ≡ Some code
+accent-waits s byte code e = ap (λ (read : Read). (working_after_read (control_with_result s byte) read).accent) e
+
+-- a sign that was read takes it, if it is of set P
+pub accent-graphic_result : (s : ControlState) (byte : ℕ) (g : Glyph) → (graphic_result s byte).read ≡ reads.Glyph g
+    → (control_after s (commands.Graphic byte)).working.last ≡ Some (sign_with_accent g.set g.code s.working.accent)
+accent-graphic_result s byte g e = ap (λ (read : Read). (working_after_read (control_with_result s byte) read).last) e
+
+-- and no accent waits after it
+pub accent-spent : (s : ControlState) (byte : ℕ) (g : Glyph) → (graphic_result s byte).read ≡ reads.Glyph g
+    → (control_after s (commands.Graphic byte)).working.accent ≡ None
+accent-spent s byte g e = ap (λ (read : Read). (working_after_read (control_with_result s byte) read).accent) e
+
+-- the commands without effect
+pub nul_leaves : (s : ControlState) → control_after s commands.Nul ≡ s
+nul_leaves s = refl
+
+pub skipped_leaves : (s : ControlState) → control_after s commands.Skipped ≡ s
+skipped_leaves s = refl
+
+-- a single shift waits until the next graphic byte
+working_after_read-single : (s : ControlState) (read : Read)
+    → (working_after_read s read).sets.single ≡ s.working.sets.single
+working_after_read-single s (reads.Accent code) = refl
+working_after_read-single s (reads.Glyph g) = working_ahead-single s 1 s.working
+
+pub shift-spent : (s : ControlState) (byte : ℕ) → (control_after s (commands.Graphic byte)).working.sets.single ≡ None
+shift-spent s byte = working_after_read-single (control_with_result s byte) (graphic_result s byte).read
+
+pub shift-waits : (s : ControlState) (g : ℕ) → (control_after s (commands.Single g)).working.sets.single ≡ Some g
+shift-waits s g = refl

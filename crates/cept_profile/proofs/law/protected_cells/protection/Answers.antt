@@ -1,0 +1,18 @@
+use Rattle.cept_profile.proofs.ProtectedCells.{cell_after-written, cell_after-elsewhere, cell_after-erased}
+use Rattle.cept_profile.proofs.ProtectedCells.{cell_after-not_erased, cell_after-protected, cells_after_all-protected}
+use Rattle.cept_profile.proofs.ProtectedCells.{cell_after-wiped, cells_after_all-wiped}
+use Rattle.cept_profile.proofs.law.protected_cells.protection.Goals as goal
+
+pub returns : goal.returns
+returns c = record {
+  written = cell_after-written;
+  elsewhere = cell_after-elsewhere;
+  erased =
+      cell_after-erased;
+  not_erased = cell_after-not_erased;
+  stays = cell_after-protected;
+  stays_on =
+      cells_after_all-protected;
+  wiped = cell_after-wiped;
+  wiped_last = cells_after_all-wiped;
+}

@@ -1,5 +1,0 @@
-use Rattle.cept_profile.proofs.Laws
-use Rattle.cept_profile.proofs.one_more.one_more_command.Goals as goal
-
-pub returns : goal.returns
-returns c = Laws.state-one_more

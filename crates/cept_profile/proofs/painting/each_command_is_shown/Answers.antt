@@ -1,5 +1,0 @@
-use Rattle.cept_profile.proofs.Laws
-use Rattle.cept_profile.proofs.painting.each_command_is_shown.Goals as goal
-
-pub returns : goal.returns
-returns c = Laws.painted_all-changes

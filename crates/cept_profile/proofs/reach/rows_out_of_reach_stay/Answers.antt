@@ -1,5 +1,0 @@
-use Rattle.cept_profile.proofs.Laws
-use Rattle.cept_profile.proofs.reach.rows_out_of_reach_stay.Goals as goal
-
-pub returns : goal.returns
-returns c = record { looks = Laws.look-out_of_reach; at_most_24 = Laws.rows_in_reach-le }

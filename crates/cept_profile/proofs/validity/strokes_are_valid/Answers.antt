@@ -1,8 +1,0 @@
-use Rattle.cept_profile.proofs.Laws
-use Rattle.cept_profile.proofs.validity.strokes_are_valid.Goals as goal
-
-pub returns : goal.returns
-returns c = record {
-  valid = Laws.IsValidStroke-strokes_of;
-  few = Laws.length-strokes_of;
-}

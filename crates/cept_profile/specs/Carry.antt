@@ -1,0 +1,79 @@
+-- What is carried along a row (own): what the cells up to a column leave for those after it, and what one more cell
+-- makes of it.
+use Rattle.std.specs.Prelude.{ℕ, Bool, true, false, ◌&&◌, Option, None, unwrap_or, if◌then◌else◌}
+use Rattle.cept_profile.specs.Serial.{Class, Hold}
+use Rattle.cept_codes.specs.declared.attribute.Full.{Full}
+use Rattle.cept_codes.specs.declared.attribute.Pen.{Pen}
+use Rattle.cept_codes.specs.declared.cell.Marker.{Marker}
+use Rattle.cept_codes.specs.declared.cell.Marker.TheVariants as markers
+use Rattle.cept_codes.specs.declared.cell.What.{What}
+use Rattle.cept_codes.specs.declared.cell.What.TheVariants as whats
+use Rattle.cept_codes.specs.declared.glyph.Glyph.{Glyph}
+use Rattle.cept_profile.specs.Attributes.{cascade}
+use Rattle.cept_profile.specs.Serial.{acts_there, fore_at, hold_said, is_marker, is_of, kept_sign, mosaic_of}
+use Rattle.cept_profile.specs.Serial.{nearest_column, pen_of, value_found}
+
+-- what is carried along a row: attributes, whether hold is on, and the sign that is kept for markers
+pub record Carry : Type 0 where
+  pub full : Full
+  pub hold : Bool
+  pub kept_sign : Option Glyph
+
+-- ---- by looking back
+
+-- the nearest marker of a class, wherever it begins to act
+abbrev pub nearest_marker : (ℕ → What) → ℕ → Class → Option ℕ
+nearest_marker row c class = nearest_column (λ d. is_of class (row d)) c
+
+-- attributes, hold and the kept sign by the cells up to a column, each marker counted wherever it begins to act
+unfoldable pub carry : (ℕ → What) → Pen → Pen → ℕ → Carry
+carry row pen screen c = record {
+  full = cascade (pen_of row (fore_at row pen screen) (nearest_marker row c)) pen screen;
+  hold = unwrap_or (value_found (λ d. hold_said (row d)) (nearest_marker row c Hold)) false;
+  kept_sign = kept_sign row c;
+}
+
+-- ---- one more cell
+
+-- attributes after a marker
+abbrev pub full_after : Marker → Full → Full
+full_after (markers.Alpha e) f = record f { fore = e }
+full_after (markers.Mosaic e) f = record f { fore = e }
+full_after markers.BlackBack f = record f { back = 0 }
+full_after markers.NewBack f = record f { back = f.fore }
+full_after markers.Hold f = f
+full_after markers.Release f = f
+full_after (markers.Flash v) f = record f { flash = v }
+full_after (markers.Conceal b) f = record f { conceal = b }
+full_after (markers.Lined b) f = record f { lined = b }
+full_after (markers.Boxed b) f = record f { boxed = b }
+full_after (markers.Size s) f = record f { size = s }
+
+-- hold after a marker
+abbrev pub hold_after : Marker → Bool → Bool
+hold_after markers.Hold h = true
+hold_after markers.Release h = false
+hold_after _ h = h
+
+-- the kept sign after a marker
+abbrev pub kept_sign_after : Marker → Option Glyph → Option Glyph
+kept_sign_after (markers.Size s) g = None
+kept_sign_after _ g = g
+
+-- what is carried after a cell, by what is carried to it
+abbrev pub carry_after : What → Carry → Carry
+carry_after (whats.Marker m) s = record {
+  full = full_after m s.full;
+  hold = hold_after m s.hold;
+  kept_sign =
+      kept_sign_after m s.kept_sign;
+}
+carry_after w s = record s { kept_sign = mosaic_of w }
+
+-- what is in force in a cell: what is carried after it where its marker acts there, else what is carried to it
+abbrev pub carry_in : What → Carry → Carry
+carry_in w s = if acts_there w then carry_after w s else s
+
+-- the sign that is held in a cell
+abbrev pub held_sign_in : What → Carry → Option Glyph
+held_sign_in w s = if is_marker w && (carry_in w s).hold then (carry_after w s).kept_sign else None

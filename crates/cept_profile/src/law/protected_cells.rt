@@ -1,0 +1,41 @@
+//! Laws of cells: what a sign that is put and an erased end of a row change, that a protected cell
+//! outlives all strokes but a wipe, and that a wipe blanks every cell.
+ghost use Rattle.std.specs.Prelude.{◌≡◌, ◌≢◌, ◌⊎◌, ◌≤◌, ◌<◌, ℕ, false, IsTrue, List, [], ◌∷◌, ◌++◌};
+ghost use Rattle.std.specs.List.{Contains};
+ghost use Rattle.cept_codes.specs.declared.cell.Cell.{Cell};
+ghost use Rattle.cept_codes.specs.declared.stroke.Stroke.{Stroke};
+ghost use Rattle.cept_codes.specs.Cell.{blank_cell};
+ghost use Rattle.cept_codes.specs.Place.{Place, OnScreen};
+ghost use Rattle.cept_codes.specs.Table.{value_at};
+ghost use Rattle.cept_profile.specs.Cells.{cell_after, cells_after_all};
+
+use cept_codes::Stroke;
+
+/// A cell that is put stands at its place where the cell there wasn't protected, and no other place
+/// changes. The end of a row that is erased is blank where it wasn't protected, and no other place
+/// changes. A protected cell changes only by `Wipe`, which blanks each cell: after a wipe that is
+/// last none is left, protected or not.
+pub fn protection()
+    ensures written { (p : Place) (cell : Cell) (was : ℕ → ℕ → Cell)
+        → (was p.row p.column).protected ≡ false
+        → cell_after (Stroke.Put p cell) was p.row p.column ≡ cell }
+    ensures elsewhere { (p q : Place) (cell : Cell) (was : ℕ → ℕ → Cell) → p ≢ q
+        → cell_after (Stroke.Put p cell) was q.row q.column ≡ was q.row q.column }
+    ensures erased { (row from : ℕ) (was : ℕ → ℕ → Cell) (c : ℕ) → from ≤ c
+        → (was row c).protected ≡ false
+        → cell_after (Stroke.Erase row from) was row c ≡ blank_cell }
+    ensures not_erased { (row from : ℕ) (was : ℕ → ℕ → Cell) (r c : ℕ) → (r ≢ row) ⊎ (c < from)
+        → cell_after (Stroke.Erase row from) was r c ≡ was r c }
+    ensures stays { (stroke : Stroke) (was : ℕ → ℕ → Cell) (r c : ℕ) → IsTrue (was r c).protected
+        → (stroke ≡ Stroke.Wipe) ⊎ (cell_after stroke was r c ≡ was r c) }
+    ensures stays_on { (cells : List (List Cell)) (strokes : List Stroke) (r c : ℕ) → OnScreen r c
+        → IsTrue (value_at blank_cell cells r c).protected
+        → Contains strokes Stroke.Wipe
+        ⊎ (value_at blank_cell (cells_after_all cells strokes) r c
+        ≡ value_at blank_cell cells r c) }
+    ensures wiped { (was : ℕ → ℕ → Cell) (r c : ℕ) → OnScreen r c
+        → cell_after Stroke.Wipe was r c ≡ blank_cell }
+    ensures wiped_last { (cells : List (List Cell)) (strokes : List Stroke) (r c : ℕ) → OnScreen r c
+        → value_at blank_cell (cells_after_all cells (strokes ++ Stroke.Wipe ∷ [])) r c
+        ≡ blank_cell }
+{}

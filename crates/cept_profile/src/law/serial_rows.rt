@@ -1,0 +1,67 @@
+//! Laws of serial attributes: the nearest marker of a class is in force, and a walk along the row
+//! needs only what is carried to a cell.
+ghost use Rattle.std.specs.Prelude.{◌≡◌, ℕ, ◌+◌, ◌≤◌, ◌<◌, Bool, true, false, MatchOption, IfSome};
+ghost use Rattle.std.specs.Prelude.{List};
+ghost use Rattle.cept_codes.specs.declared.attribute.Pen.{Pen};
+ghost use Rattle.cept_codes.specs.declared.cell.What.{What};
+ghost use Rattle.cept_codes.specs.Attribute.{IsValidFull, IsValidPen, unset_pen};
+ghost use Rattle.cept_codes.specs.Cell.{IsValidWhat};
+ghost use Rattle.cept_codes.specs.Glyph.{IsValidGlyph};
+ghost use Rattle.cept_profile.specs.Attributes.{cascade};
+ghost use Rattle.cept_profile.specs.Serial.{Class, acts, column_in_force, held_sign, is_marker};
+ghost use Rattle.cept_profile.specs.Serial.{serial_attributes};
+ghost use Rattle.cept_profile.specs.Carry.{carry_after, carry, held_sign_in, carry_in};
+
+/// The marker in force stands in the greatest column in which one of the class acts at the cell;
+/// there is none where none does.
+pub fn the_nearest_marker_is_in_force()
+    ensures { (row : ℕ → What) (class : Class) (c : ℕ)
+        → MatchOption (column_in_force row class c) ((d : ℕ) → 1 ≤ d → d ≤ c
+        → acts row class c d ≡ false) (λ d. (1 ≤ d) × (d ≤ c) × (acts row class c d ≡ true)
+        × ((e : ℕ) → d < e → e ≤ c → acts row class c e ≡ false)) }
+{}
+
+/// One more cell needs what is carried to it alone: its attributes, the sign that it holds, and
+/// what is carried on.
+pub fn one_more_cell()
+    ensures at_first { (row : ℕ → What) (pen screen : Pen)
+        → carry row pen screen 0 ≡ record {
+          full = cascade unset_pen pen screen;
+          hold =
+              false;
+          kept_sign = None;
+        } }
+    ensures attributes { (row : ℕ → What) (pen screen : Pen) (c : ℕ)
+        → serial_attributes row pen screen (c + 1)
+        ≡ (carry_in (row (c + 1)) (carry row pen screen c)).full }
+    ensures sign { (row : ℕ → What) (pen screen : Pen) (c : ℕ)
+        → held_sign row (c + 1) ≡ held_sign_in (row (c + 1)) (carry row pen screen c) }
+    ensures carry { (row : ℕ → What) (pen screen : Pen) (c : ℕ)
+        → carry row pen screen (c + 1) ≡ carry_after (row (c + 1)) (carry row pen screen c) }
+{}
+
+/// A cell counts for itself and for those to its right: rows that agree up to a column have the
+/// same attributes and the same held sign there.
+pub fn cells_to_the_right_count_for_nothing()
+    ensures attributes { (f g : ℕ → What) (pen screen : Pen) (c : ℕ) → 1 ≤ c
+        → ((d : ℕ) → 1 ≤ d → d ≤ c → f d ≡ g d)
+        → serial_attributes f pen screen c ≡ serial_attributes g pen screen c }
+    ensures sign { (f g : ℕ → What) (c : ℕ) → 1 ≤ c → ((d : ℕ) → 1 ≤ d → d ≤ c → f d ≡ g d)
+        → held_sign f c ≡ held_sign g c }
+{}
+
+/// In a row without markers the row and the screen alone decide.
+pub fn without_markers()
+    ensures { (row : ℕ → What) (pen screen : Pen) (c : ℕ) → 1 ≤ c
+        → ((d : ℕ) → 1 ≤ d → d ≤ c → is_marker (row d) ≡ false)
+        → serial_attributes row pen screen c ≡ cascade unset_pen pen screen }
+{}
+
+/// Valid cells under valid pens have valid attributes and hold valid signs.
+pub fn serial_attributes_are_valid()
+    ensures attributes { (row : ℕ → What) (pen screen : Pen) (c : ℕ) → 1 ≤ c → IsValidPen pen
+        → IsValidPen screen → ((d : ℕ) → 1 ≤ d → d ≤ c → IsValidWhat (row d))
+        → IsValidFull (serial_attributes row pen screen c) }
+    ensures sign { (row : ℕ → What) (c : ℕ) → 1 ≤ c
+        → ((d : ℕ) → 1 ≤ d → d ≤ c → IsValidWhat (row d)) → IfSome (held_sign row c) IsValidGlyph }
+{}

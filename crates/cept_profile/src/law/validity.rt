@@ -1,0 +1,49 @@
+//! Laws of valid states: the initial state is valid, and valid commands keep it valid, with valid
+//! strokes and looks.
+ghost use Rattle.std.specs.Prelude.{ℕ, ◌≤◌, List, [], length};
+ghost use Rattle.std.specs.List.{AllByRecursion};
+ghost use Rattle.cept_codes.specs.declared.cell.What.{What};
+ghost use Rattle.cept_codes.specs.declared.command.Command.{Command};
+ghost use Rattle.cept_codes.specs.Cell.{IsValidWhat};
+ghost use Rattle.cept_codes.specs.Command.{IsValidCommand};
+ghost use Rattle.cept_codes.specs.Look.{IsValidLook};
+ghost use Rattle.cept_codes.specs.Stroke.{IsValidStroke};
+ghost use Rattle.cept_profile.specs.Control.{ControlState, control_after};
+ghost use Rattle.cept_profile.specs.Look.{grid, look_in_row, look_of, looks_of};
+ghost use Rattle.cept_profile.specs.State.{Core, State, core_of, state, state_after};
+ghost use Rattle.cept_profile.specs.Strokes.{strokes_of};
+ghost use Rattle.cept_profile.specs.Valid.{AllValid, IsValidControl, IsValidCore, IsValidGrid};
+ghost use Rattle.cept_profile.specs.Valid.{IsValidPage, IsValidState};
+
+/// The state is valid at the start and after any list of valid commands, since each valid command
+/// keeps a valid state valid. The core of a valid state is valid.
+pub fn validity_is_kept()
+    ensures start { IsValidState (state []) }
+    ensures control { (s : ControlState) (command : Command) → IsValidControl s
+        → IsValidCommand command
+        → IsValidControl (control_after s command) }
+    ensures kept { (s : State) (command : Command) → IsValidState s → IsValidCommand command
+        → IsValidState (state_after s command) }
+    ensures always { (history : List Command) → AllValid history → IsValidState (state history) }
+    ensures core { (s : State) → IsValidState s → IsValidCore (core_of s) }
+{}
+
+/// In a valid state of control a valid command makes valid strokes, and at most 128 of them.
+pub fn strokes_are_valid()
+    ensures valid { (s : ControlState) (command : Command) → IsValidControl s
+        → IsValidCommand command
+        → AllByRecursion IsValidStroke (strokes_of s command) }
+    ensures few { (s : ControlState) (command : Command) → IsValidCommand command
+        → length (strokes_of s command) ≤ 128 }
+{}
+
+/// What stands in a valid cell has a valid look, by itself and in a row of valid cells. So the
+/// looks of a core with a valid page are valid, and so is the grid after any list of valid
+/// commands.
+pub fn looks_are_valid()
+    ensures of_cell { (what : What) → IsValidWhat what → IsValidLook (look_of what) }
+    ensures in_row { (row : ℕ → What) (c : ℕ) → 1 ≤ c
+        → ((d : ℕ) → 1 ≤ d → d ≤ c → IsValidWhat (row d)) → IsValidLook (look_in_row row c) }
+    ensures of_core { (k : Core) → IsValidPage k.page → IsValidGrid (looks_of k) }
+    ensures always { (history : List Command) → AllValid history → IsValidGrid (grid history) }
+{}

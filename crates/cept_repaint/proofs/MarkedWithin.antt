@@ -1,0 +1,118 @@
+-- Marks with a range outside of which no place is marked: made, widened, emptied and counted.
+use Rattle.std.proofs.Common.{◌≡◌, ◌≢◌, ℕ, ◌+◌, ◌-◌, ◌<◌, ◌≤◌, suc, Bool, true, false, cond, List, [], ◌∷◌, ◌++◌, set}
+use Rattle.std.proofs.Common.{get_or, take, drop, length, refl, sym, ap, ◌∙◌, inl, inr, arith}
+use Rattle.std.specs.List.{count_by}
+use Rattle.std.proofs.lemmas.Bool.{cases_lt}
+use Rattle.std.proofs.lemmas.List.{ext_get_or, length-append, length-take, length-drop, get_or-set_other}
+use Rattle.std.proofs.lemmas.List.{get_or_append_left, get_or-take, get_or-drop}
+use Rattle.std.proofs.lemmas.List.Sums.{sum_by-cons, sum_by-take-drop}
+use Rattle.std.proofs.Math.Seq.{get_or-append_right}
+use Rattle.cept_repaint.specs.Marks.{is_marked, no_marks, AreWithin}
+use Rattle.cept_repaint.proofs.Unmarked.{length-no_marks, is_marked-no_marks}
+
+pub AreWithin-none : AreWithin no_marks 0 0
+AreWithin-none = record {
+  in_order = omega arith;
+  places = omega arith;
+  before = λ n _. is_marked-no_marks n;
+  after = λ n _. is_marked-no_marks n;
+}
+
+-- the first place that is marked
+pub AreWithin-first : {marks : List Bool} {first end : ℕ} → AreWithin marks first end → first ≡ end → (n : ℕ)
+    → n < 960 → AreWithin (set marks n true) n (n + 1)
+AreWithin-first {marks} {first} {end} w e n below =
+    let none : (k : ℕ) → is_marked marks k
+    ≡ false = λ k. elim (cases_lt k first) [ inl up ↦ w.before k up | inr not_up ↦ w.after k (omega arith) ] in
+    record {
+      in_order = omega arith;
+      places = omega arith;
+      before = λ k up. let ne : k ≢ n = λ same. omega arith in get_or-set_other marks n k true false ne ∙ none k;
+      after = λ k past. let ne : k ≢ n = λ same. omega arith in get_or-set_other marks n k true false ne ∙ none k;
+    }
+
+-- one place more
+pub AreWithin-more : {marks : List Bool} {first end : ℕ} → AreWithin marks first end → (n from to : ℕ) → n < 960
+    → from ≤ first → from ≤ n → end ≤ to → n < to → to ≤ 960 → AreWithin (set marks n true) from to
+AreWithin-more {marks} {first} {end} w n from to below lower low higher high within = record {
+  in_order = omega arith;
+  places = within;
+  before = λ k up. let ne : k ≢ n = λ same. omega arith in get_or-set_other marks n k true false ne
+      ∙ w.before k (omega arith);
+  after = λ k past. let ne : k ≢ n = λ same. omega arith in get_or-set_other marks n k true false ne
+      ∙ w.after k (omega arith);
+}
+
+-- flags of which none is set
+pub unmarked_is : (flags : List Bool) → length flags ≡ 960
+    → ((n : ℕ) → n < 960 → is_marked flags n ≡ false) → flags ≡ no_marks
+unmarked_is flags places none =
+    ext_get_or false flags no_marks (places ∙ sym length-no_marks)
+    (λ n below. none n (omega (arith, places)) ∙ sym (is_marked-no_marks n))
+
+-- the range unset
+pub cleared : {flags : List Bool} {first end : ℕ} → AreWithin flags first end → length flags ≡ 960 → (mid : List Bool)
+    → length mid ≡ end - first → ((n : ℕ) → is_marked mid n ≡ false) → take first flags
+    ++ (mid ++ drop (end - first) (drop first flags)) ≡ no_marks
+cleared {flags} {first} {end} w places mid long none =
+    let rest : List Bool = drop (end - first) (drop first flags) in
+    let front : length (take first flags)
+    ≡ first = omega (arith, length-take first flags, w.in_order, w.places, places) in
+    let back : length rest ≡ 960 - end = omega
+    (arith, length-drop (end - first) (drop first flags), length-drop first flags, w.in_order, places) in
+    unmarked_is (take first flags ++ (mid ++ rest))
+    (omega (
+      arith,
+      front,
+      back,
+      length-append (take first flags) (mid ++ rest),
+      length-append mid rest,
+      long,
+      w.in_order,
+      w.places,
+    )) (λ n below.
+    elim (cases_lt n first) [
+      | inl up ↦ get_or_append_left (take first flags) (mid ++ rest) false n (omega (arith, front))
+          ∙ get_or-take first flags n false up ∙ w.before n up
+      | inr not_up ↦ get_or-append_right (take first flags) (mid ++ rest) n false (omega (arith, front))
+          ∙ after_front (n - length (take first flags))
+    ])
+  where
+    after_front : (k : ℕ) → get_or (mid ++ drop (end - first) (drop first flags)) k false ≡ false
+    after_front k = elim (cases_lt k (length mid)) [
+      | inl inside ↦ get_or_append_left mid (drop (end - first) (drop first flags)) false k inside ∙ none k
+      | inr past ↦ get_or-append_right mid (drop (end - first) (drop first flags)) k false (omega arith)
+          ∙ get_or-drop (end - first) (drop first flags) (k - length mid) false
+          ∙ get_or-drop first flags (end - first + (k - length mid)) false
+          ∙ w.after (first + (end - first + (k - length mid))) (omega (arith, w.in_order))
+    ]
+
+-- flags of which none is set count nothing
+count_none : (flags : List Bool) → ((n : ℕ) → n < length flags → is_marked flags n ≡ false)
+    → count_by (λ marked. marked) flags ≡ 0
+count_none [] none = refl
+count_none (x ∷ xs) none =
+    let head : cond {A = ℕ} x 1 0 ≡ 0 = ap (λ b. cond b 1 0) (none 0 (omega arith)) in
+    let tail : count_by (λ marked. marked) xs ≡ 0 = count_none xs (λ n below. none (suc n) (omega arith)) in
+    omega (arith, sum_by-cons (λ marked. cond marked 1 0) x xs, head, tail)
+
+-- as many are marked as are in the range
+pub count_within : {flags : List Bool} {first end : ℕ} → AreWithin flags first end
+    → count_by (λ marked. marked) (take (end - first) (drop first flags)) ≡ count_by (λ marked. marked) flags
+count_within {flags} {first} {end} w =
+    let rest : List Bool = drop first flags in
+    let front : count_by (λ marked. marked) (take first flags) ≡ 0 = count_none (take first flags) (λ n below.
+    let up : n < first = omega (arith, below, length-take first flags) in
+    get_or-take first flags n false up ∙ w.before n up) in
+    let back : count_by (λ marked. marked) (drop (end - first) rest)
+    ≡ 0 = count_none (drop (end - first) rest)
+    (λ n below. get_or-drop (end - first) rest n false ∙ get_or-drop first flags (end - first + n) false
+    ∙ w.after (first + (end - first + n)) (omega (arith, w.in_order))) in
+    omega (
+      arith,
+      front,
+      back,
+      sum_by-take-drop (λ marked. cond marked 1 0) flags first,
+      sum_by-take-drop
+          (λ marked. cond marked 1 0) rest (end - first),
+    )
