@@ -115,6 +115,8 @@ ends_stopped request before after mid x stops.TooLong sound sound_after selects 
   too_long = ends.cause;
   longer = λ page holds. ends.longer page (selects.found page holds).1;
   too_long_reported = λ page holds is. ends.reported page (selects.found page holds).1;
+  shelf_stays = ends.shelf_stays ∙ stays;
+  sink_stays = ends.sink_stays;
 }
 
 -- the text after the last item couldn't be put, or not be flushed

@@ -48,6 +48,9 @@ pub record PageTooLong (action : Action) (before after : Outside) : Type 0 where
   -- exactly the first 2^24 bytes are reported
   pub reported : (page : List ℕ) → before.shelf.left ≡ Some page
       → HasReported action (items (take (2 ^ 24) page)) before after
+  -- no fault was counted
+  pub shelf_stays : after.shelf.faults ≡ before.shelf.faults
+  pub sink_stays : after.sink.faults ≡ before.sink.faults
 
 -- it wasn't read to its end, for this reason
 abbrev pub PageStops : Action → Outside → Outside → Stop → Type 0

@@ -104,6 +104,9 @@ pub record EndsTooLong (request : Request) (before after : Outside) : Type 0 whe
   pub too_long_reported : (page : List ℕ) → Holds before.shelf request.page page
       → after.shelf.selected ≡ Some (Some request.page)
       → HasReported request.action (items (take (2 ^ 24) page)) before after
+  -- no fault was counted on the way
+  pub shelf_stays : after.shelf.faults ≡ before.shelf.faults
+  pub sink_stays : after.sink.faults ≡ before.sink.faults
 
 -- what a run of a request did, by its status
 abbrev pub Ends : Request → Outside → Outside → Status → Type 0

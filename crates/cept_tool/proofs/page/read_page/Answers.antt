@@ -170,6 +170,8 @@ returns-then-fitting-count-clause-ends g c =
           _ _ _ _ _ _ _ _ come c.in-Ok.ensures.takes.moved c.in-Ok.ensures.takes.within (omega arith)
           c.loop-count.invariant.action c.in_ok-read_piece.ensures.read c.in_ok-read_piece.ensures.reported in
           ReportsItems-action _ _ _ _ _ _ _ _ refl (ap (λ k. items (take k page)) limit) more.1;
+      shelf_stays = c.in-Ok.ensures.cause.stays ∙ c.loop-count.invariant.shelf_stays;
+      sink_stays = c.in_ok-read_piece.ensures.cause.stays ∙ c.loop-count.invariant.sink_stays;
     }
 
 pub returns-then-fitting-count-clause-reads : goal.returns-then-fitting-count-clause-reads
