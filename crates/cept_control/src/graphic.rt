@@ -1,18 +1,20 @@
-ghost use Rattle.std.specs.Prelude.{◌≡◌, ◌≤◌, ◌<◌, [], ◌++◌, length, IfSome};
+ghost use Rattle.std.specs.Prelude.{◌≡◌, ◌≤◌, ◌<◌, ◌⊎◌, [], ◌++◌, length, IfSome};
 ghost use Rattle.cept_codes.specs.Cell.{IsValidCell};
 ghost use Rattle.cept_codes.specs.Command.{IsGraphic};
 ghost use Rattle.cept_codes.specs.Glyph.{IsValidGlyph};
 ghost use Rattle.cept_profile.specs.Control.{control_effect, control_with};
 ghost use Rattle.cept_profile.specs.Sets.{IsAccent, IsValidRead};
 ghost use Rattle.cept_profile.specs.Strokes.{strokes_when};
+ghost use Rattle.cept_profile.specs.Tiling.{columns_of_size};
 ghost use Rattle.cept_profile.specs.Writing.{sign_with_accent, control_after_copies, cell_of};
-ghost use Rattle.cept_profile.specs.Writing.{strokes_of_copies, graphic_result};
+ghost use Rattle.cept_profile.specs.Writing.{columns_of_set, columns_of_sign, strokes_of_copies};
+ghost use Rattle.cept_profile.specs.Writing.{graphic_result};
 ghost use Rattle.cept_profile.specs.Writing.{control_with_result, strokes_of_sign};
 ghost use Rattle.cept_profile.specs.Writing.{working_after_sign};
 
 use crate::control::Control;
 use arrayvec::ArrayVec;
-use cept_codes::{C1Set, Cell, Command, Glyph, Read, SetId, Stroke, What};
+use cept_codes::{C1Set, Cell, Command, Glyph, Read, SetId, Size, Stroke, What};
 
 /// Signs, and their copies.
 impl Control {
@@ -71,10 +73,22 @@ impl Control {
         ensures state { self.new ≡ control_with self.old (working_after_sign self.old sign) }
         ensures strokes { strokes.new.items ≡ strokes.old.items ++ strokes_of_sign self.old sign }
     {
+        let columns = self.columns_of_sign();
         strokes.push(Stroke::Put(self.active(), self.cell_of(sign)));
-        self.move_on(1);
+        self.move_on(columns);
         self.working.last = Some(sign);
         self.working.accent = None;
+    }
+
+    /// How many columns a sign moves on.
+    fn columns_of_sign(&self) -> u8
+        ensures columns { result ≡ columns_of_sign self.now }
+        ensures few { result ≤ 2 }
+    {
+        match self.working.c1 {
+            C1Set::Parallel => columns_of_set(self.working.pen.size),
+            C1Set::Serial => self.working.step,
+        }
     }
 
     /// The cell that a sign makes.
@@ -89,6 +103,28 @@ impl Control {
             what,
             protected: self.working.protect,
         }
+    }
+}
+
+/// How many columns a sign with this size set takes.
+fn columns_of_set(size: Option<Size>) -> u8
+    ensures columns { result ≡ columns_of_set size }
+    ensures few { result ≤ 2 }
+{
+    match size {
+        Some(size) => columns_of_size(size),
+        None => 1,
+    }
+}
+
+/// How many columns a sign of this size takes.
+pub(crate) fn columns_of_size(size: Size) -> u8
+    ensures columns { result ≡ columns_of_size size }
+    ensures one_or_two { (result ≡ 1) ⊎ (result ≡ 2) }
+{
+    match size {
+        Size::Normal | Size::High => 1,
+        Size::Wide | Size::Both => 2,
     }
 }
 

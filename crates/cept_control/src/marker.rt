@@ -1,14 +1,16 @@
-ghost use Rattle.std.specs.Prelude.{◌≡◌, ◌≤◌, ◌<◌, [], ◌++◌, length, IfSome};
+ghost use Rattle.std.specs.Prelude.{◌≡◌, ◌≤◌, ◌<◌, ◌⊎◌, [], ◌++◌, length, IfSome};
 ghost use Rattle.cept_codes.specs.Cell.{IsValidMarker};
 ghost use Rattle.cept_codes.specs.Command.{IsC1};
 ghost use Rattle.cept_profile.specs.Control.{control_effect, control_with};
-ghost use Rattle.cept_profile.specs.Markers.{marker_of, run_after, strokes_of_marker};
+ghost use Rattle.cept_profile.specs.Markers.{marker_of, run_after, step_after};
+ghost use Rattle.cept_profile.specs.Markers.{strokes_of_marker};
 ghost use Rattle.cept_profile.specs.Markers.{working_after_marker};
 ghost use Rattle.cept_profile.specs.Strokes.{strokes_when};
 
 use crate::control::Control;
+use crate::graphic::columns_of_size;
 use arrayvec::ArrayVec;
-use cept_codes::{C1Set, Cell, Command, Flash, Marker, Stroke, What};
+use cept_codes::{C1Set, Cell, Command, Flash, Marker, Size, Stroke, What};
 
 /// Markers under the serial set, the C1 set, and the erasing of the end of a row.
 impl Control {
@@ -35,6 +37,7 @@ impl Control {
             ≡ strokes.old.items ++ strokes_of_marker self.old marker }
     {
         let run = run_after(marker, self.working.run);
+        let step = step_after(marker, self.working.step);
         let cell = Cell {
             what: What::Marker(marker),
             protected: self.working.protect,
@@ -42,6 +45,7 @@ impl Control {
         strokes.push(Stroke::Put(self.active(), cell));
         self.move_on(1);
         self.working.run = run;
+        self.working.step = step;
     }
 }
 
@@ -53,6 +57,18 @@ fn run_after(marker: Marker, run: bool) -> bool
         Marker::Mosaic(_) => true,
         Marker::Alpha(_) => false,
         _ => run,
+    }
+}
+
+/// How far signs move on after a marker.
+fn step_after(marker: Marker, step: u8) -> u8
+    requires step { (step ≡ 1) ⊎ (step ≡ 2) }
+    ensures step { result ≡ step_after marker step }
+    ensures one_or_two { (result ≡ 1) ⊎ (result ≡ 2) }
+{
+    match marker {
+        Marker::Size(size) => columns_of_size(size),
+        _ => step,
     }
 }
 
@@ -69,6 +85,10 @@ pub(crate) fn marker_of(table: u8, n: u8) -> Option<Marker>
         9 => Some(Marker::Flash(Flash::Steady)),
         10 => Some(Marker::Boxed(false)),
         11 => Some(Marker::Boxed(true)),
+        12 => Some(Marker::Size(Size::Normal)),
+        13 => Some(Marker::Size(Size::High)),
+        14 => Some(Marker::Size(Size::Wide)),
+        15 => Some(Marker::Size(Size::Both)),
         16..=23 => Some(Marker::Mosaic(8 * table + (n - 16))),
         24 => Some(Marker::Conceal(true)),
         25 => Some(Marker::Lined(false)),

@@ -9,7 +9,7 @@ ghost use Rattle.cept_profile.specs.Pens.{fast_flash, flash_of, next_fast, pen_w
 use crate::control::Control;
 use crate::marker::marker_of;
 use arrayvec::ArrayVec;
-use cept_codes::{Attr, C1Set, Command, Flash, Marker, Pen, Stroke};
+use cept_codes::{Attr, C1Set, Command, Flash, Marker, Pen, Size, Stroke};
 
 /// What sets attributes: under the parallel set those of the pen, under the serial set markers.
 impl Control {
@@ -89,6 +89,10 @@ fn attribute_of(table: u8, n: u8) -> Option<Attr>
         9 => Some(Attr::Flash(Flash::Steady)),
         10 => Some(Attr::Boxed(false)),
         11 => Some(Attr::Boxed(true)),
+        12 => Some(Attr::Size(Size::Normal)),
+        13 => Some(Attr::Size(Size::High)),
+        14 => Some(Attr::Size(Size::Wide)),
+        15 => Some(Attr::Size(Size::Both)),
         16..=23 => Some(Attr::Back(8 * table + (n - 16))),
         24 => Some(Attr::Conceal(true)),
         25 => Some(Attr::Lined(false)),

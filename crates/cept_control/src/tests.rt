@@ -1,5 +1,5 @@
 use crate::control::Control;
-use cept_codes::{Cell, Command, Glyph, Pen, Pos, SetId, Stroke, What};
+use cept_codes::{Cell, Command, Glyph, Pen, Pos, SetId, Size, Stroke, What};
 
 /// The sign is put at this place, with the pen.
 fn put(place: Option<Pos>, code: u8, accent: u8, pen: Pen) -> Option<Stroke> {
@@ -75,4 +75,26 @@ fn a_sign_takes_the_pen(rt: HostRuntime) {
         strokes.first().copied(),
         put(Pos::new(1, 1), 0x41, 0, Pen::UNSET)
     );
+}
+
+#[test]
+fn a_wide_sign_at_column_39_goes_on_in_the_row_below(rt: HostRuntime) {
+    let mut control = Control::new();
+    assert_eq!(rt; control.step(Command::Position(1, 39)).len(), 0);
+    assert_eq!(rt; control.step(Command::C1(14)).len(), 0);
+    let wide = Pen {
+        size: Some(Size::Wide),
+        ..Pen::UNSET
+    };
+    let strokes = control.step(Command::Graphic(0x41));
+    assert_eq!(rt;
+        strokes.first().copied(),
+        put(Pos::new(1, 39), 0x41, 0, wide)
+    );
+    let strokes = control.step(Command::Graphic(0x42));
+    assert_eq!(rt;
+        strokes.first().copied(),
+        put(Pos::new(2, 1), 0x42, 0, wide)
+    );
+    assert_eq!(rt; Some(control.active()), Pos::new(2, 3));
 }

@@ -29,7 +29,7 @@ use Rattle.cept_profile.specs.Pens.{flash_of, working_after_flash, working_after
 use Rattle.cept_profile.specs.Sets.{sets_with}
 use Rattle.cept_profile.specs.Valid.{AllValid}
 use Rattle.cept_profile.specs.Writing.{control_after_copies, working_after_repeat, working_after_read, graphic_result}
-use Rattle.cept_profile.specs.Writing.{control_with_result}
+use Rattle.cept_profile.specs.Writing.{columns_of_sign, control_with_result}
 use Rattle.cept_profile.proofs.CopiesOfSigns.{control_with-control_after_copies}
 use Rattle.cept_profile.proofs.ValidState.{AllByRecursion-reverse}
 
@@ -121,8 +121,8 @@ control_after_copies-same : (n : ℕ) (s : ControlState) (g : Glyph)
 unfolding control_after_copies
 control_after_copies-same zero s g = refl
 control_after_copies-same (suc n) s g =
-    working_ahead-same (control_after_copies n s g) (control_after_copies n s g) 1 (control_after_copies n s g).working
-    ∙ control_after_copies-same n s g
+    let t : ControlState = control_after_copies n s g in
+    working_ahead-same t t (columns_of_sign t) t.working ∙ control_after_copies-same n s g
 
 working_after_repeat-same : (n : ℕ) (s : ControlState) (last : Option Glyph)
     → settings_of (control_with s (working_after_repeat n s last)) ≡ settings_of s
@@ -134,7 +134,8 @@ read-same : (s : ControlState) (byte : ℕ) (read : Read)
     → settings_of (control_with s (working_after_read (control_with_result s byte) read)) ≡ settings_of s
 read-same s byte (reads.Accent code) = refl
 read-same s byte (reads.Glyph g) =
-    working_ahead-same s (control_with_result s byte) 1 (control_with_result s byte).working
+    let t : ControlState = control_with_result s byte in
+    working_ahead-same s t (columns_of_sign t) t.working
 
 -- a C1 code sets the class of its attribute
 any-told : (attr : Option Attr) (s : ControlState) (fast : ℕ) (earlier : List Command)

@@ -2,7 +2,8 @@
 use Rattle.std.proofs.Common.{◌≡◌, ℕ, ◌+◌, zero, suc, [], ◌++◌, length, refl, ap, arith, length-append, add-one}
 use Rattle.cept_codes.specs.declared.glyph.Glyph.{Glyph}
 use Rattle.cept_profile.specs.Control.{ControlState, control_with}
-use Rattle.cept_profile.specs.Writing.{control_after_copies, strokes_of_copies, strokes_of_sign, working_after_sign}
+use Rattle.cept_profile.specs.Writing.{columns_of_sign, control_after_copies, strokes_of_copies, strokes_of_sign}
+use Rattle.cept_profile.specs.Writing.{working_after_sign}
 use Rattle.cept_profile.proofs.MotionStrokes.{on_strokes-none}
 
 pub control_after_copies-more : (n : ℕ) (s : ControlState) (g : Glyph) → control_after_copies (n + 1) s g
@@ -34,7 +35,7 @@ length-strokes_of_copies (suc n) s g =
       length-strokes_of_copies n s g,
       length-append (strokes_of_copies n s g) (strokes_of_sign (control_after_copies n s g) g),
       ap length
-          (on_strokes-none (control_after_copies n s g) 1),
+          (on_strokes-none (control_after_copies n s g) (columns_of_sign (control_after_copies n s g))),
     )
 
 -- copies change the working state alone

@@ -13,6 +13,7 @@ pub use Rattle.cept_profile.proofs.ValidState.{IsValidStroke-strokes_of}
 pub use Rattle.cept_profile.proofs.ValidPage.{length-strokes_of}
 -- ---- looks_are_valid
 pub use Rattle.cept_profile.proofs.ValidLook.{IsValidLook-look_of, IsValidLook-look_in_row, IsValidGrid-looks_of}
+pub use Rattle.cept_profile.proofs.ValidLook.{IsValidLook-row_from_above}
 -- ---- painting_the_changes, each_command_is_shown
 pub use Rattle.cept_profile.proofs.PaintedPlaces.{grid_with_paints-append}
 pub use Rattle.cept_profile.proofs.ListOfChanges.{grid_with_paints-changes}
@@ -25,15 +26,27 @@ pub use Rattle.cept_profile.proofs.CopiesOfSigns.{control_after_copies-none, str
 pub use Rattle.cept_profile.proofs.CopiesOfSigns.{control_after_copies-more, strokes_of_copies-more}
 pub use Rattle.cept_profile.proofs.CopiesOfSigns.{length-strokes_of_copies, control_with-control_after_copies}
 -- ---- rows_out_of_reach_stay
-pub use Rattle.cept_profile.proofs.RowsInReach.{look-out_of_reach, rows_in_reach-le, in_reach-strokes}
-pub use Rattle.cept_profile.proofs.RowsInReach.{rows_in_reach-strokes, look-not_reached}
+pub use Rattle.cept_profile.proofs.RowsInReach.{look-out_of_reach, rows_in_reach-le, in_reach-by}
+pub use Rattle.cept_profile.proofs.RowsInReach.{rows_in_reach-counted}
+-- ---- untouched_rows_stay
+pub use Rattle.cept_profile.proofs.RowsInReach.{cell-untouched, look-untouched}
+-- ---- exactly_one_row_is_tiled, exactly_one_table_is_tiled, parts_are_valid
+pub use Rattle.cept_profile.proofs.TiledTables.{IsTiledRow-tiled_row, IsTiledRow-only, IsTiled-tiled_table, IsTiled-only}
+pub use Rattle.cept_profile.proofs.TiledTables.{tiled_row-beneath, IsValidPart-part_at, OnScreen-origin}
+-- ---- looks_come_from_above_or_the_left
+pub use Rattle.cept_profile.proofs.LooksFromAbove.{look-above, look-left, look-itself, looks_in-from_above}
+-- ---- rows_stay_under_what_covers_them
+pub use Rattle.cept_profile.proofs.LooksFromAbove.{row_from_above-same, looks_in-same, covering-same}
+-- ---- rows_of_single_size_cover_nothing
+pub use Rattle.cept_profile.proofs.LooksFromAbove.{covers_nothing, covers_nothing-first, look-single}
 -- ---- motions make no strokes while no area scrolls: no clause says it, since it will not stay
 pub use Rattle.cept_profile.proofs.MotionStrokes.{on_strokes-none, back_strokes-none}
 -- ---- one_more_cell, without_markers
 pub use Rattle.cept_profile.proofs.OneMoreCell.{carry-start, carry-suc, serial_attributes-suc, held_sign-suc, in_plain}
 pub use Rattle.cept_profile.proofs.OneMoreCell.{unmarked}
--- ---- looks_hang_on_cells_to_the_left
-pub use Rattle.cept_profile.proofs.LooksInRows.{look_in_row-alike, look_in_row-unmarked}
+-- ---- looks_hang_on_cells_to_the_left, the_page_and_the_rows_are_seen
+pub use Rattle.cept_profile.proofs.LooksInRows.{look_in_row-alike, size_in_row-alike, look_in_row-unmarked}
+pub use Rattle.cept_profile.proofs.LooksInRows.{size_in_row-single, looks_of-alike}
 -- ---- codes_give_signs_or_accents
 pub use Rattle.cept_profile.proofs.CodesRead.{IsCode-code_of, IsValidRead-read_as, read_as-accent}
 

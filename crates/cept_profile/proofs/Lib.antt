@@ -33,4 +33,15 @@ mod WorkedLooks
 mod WorkedPens
 mod WorkedSaid
 mod WorkedSets
+mod WorkedSteps
 mod WorkedSettings
+mod TiledTables
+mod LooksFromAbove
+mod ColumnEntries
+mod TiledRows
+mod LookByNeighbours
+mod LooksOfOrigins
+mod WorkedRows
+mod PlainPages
+mod WorkedReach
+mod WorkedTiling

@@ -1,26 +1,45 @@
 -- Looks in rows: cells to the right count for nothing, and in a row without markers a cell looks as it does by itself.
-use Rattle.std.proofs.Common.{◌≡◌, ℕ, ◌≤◌, false, None, refl, ap, ◌∙◌, arith}
+use Rattle.std.proofs.Common.{◌≡◌, ℕ, ◌≤◌, false, Option, Some, None, refl, ap, ◌∙◌, arith}
+use Rattle.std.proofs.lemmas.Bool.{true≢false}
+use Rattle.cept_codes.specs.declared.attribute.Pen.{Pen}
+use Rattle.cept_codes.specs.declared.attribute.Size.{Size}
+use Rattle.cept_codes.specs.declared.attribute.Size.TheVariants as sizes
+use Rattle.cept_codes.specs.declared.cell.Marker.TheVariants as markers
 use Rattle.cept_codes.specs.declared.cell.What.{What}
 use Rattle.cept_codes.specs.declared.cell.What.TheVariants as whats
 use Rattle.cept_codes.specs.Attribute.{unset_pen}
-use Rattle.cept_profile.specs.Attributes.{cascade}
-use Rattle.cept_profile.specs.Look.{attributes_of, look_in_row, look_of, look_with, shape_in, shape_of}
-use Rattle.cept_profile.specs.Serial.{held_sign, is_marker, own_attributes, own_attributes_of, serial_attributes}
-use Rattle.cept_profile.proofs.MarkersInForce.{held_sign-alike, serial_attributes-alike, serial_attributes-unmarked}
+use Rattle.cept_profile.specs.Attributes.{cascade, first_value}
+use Rattle.cept_profile.specs.Look.{attributes_of, is_double_set, look, look_in_row, look_of, look_with, looks_of}
+use Rattle.cept_profile.specs.Look.{sets_size, shape_in, shape_of, size_in_row}
+use Rattle.cept_profile.specs.Serial.{Sizing, acts, column_in_force, held_sign, is_marker, own_attributes}
+use Rattle.cept_profile.specs.Serial.{own_attributes_of, serial_attributes, size_said, value_found}
+use Rattle.cept_profile.specs.State.{Core}
+use Rattle.cept_profile.proofs.MarkersInForce.{IsGreatest, column_in_force-greatest, held_sign-alike}
+use Rattle.cept_profile.proofs.MarkersInForce.{serial_attributes-alike, serial_attributes-unmarked}
 
 -- rows that agree up to a column have the same look there
-pub look_in_row-alike : (f g : ℕ → What) (c : ℕ) → 1 ≤ c → ((d : ℕ) → 1 ≤ d → d ≤ c → f d ≡ g d)
-    → look_in_row f c ≡ look_in_row g c
+pub look_in_row-alike : (f g : ℕ → What) (pen screen : Pen) (c : ℕ) → 1 ≤ c → ((d : ℕ) → 1 ≤ d → d ≤ c → f d ≡ g d)
+    → look_in_row f pen screen c ≡ look_in_row g pen screen c
 unfolding look_in_row
-look_in_row-alike f g c low same =
+look_in_row-alike f g pen screen c low same =
     let here : f c ≡ g c = same c low (omega arith) in
     ap (λ w. look_with (shape_in w (held_sign f c))
-    (own_attributes_of w unset_pen unset_pen (serial_attributes f unset_pen unset_pen c))) here
+    (own_attributes_of w pen screen (serial_attributes f pen screen c))) here
     ∙ ap (λ o. look_with (shape_in (g c) o)
-    (own_attributes_of (g c) unset_pen unset_pen (serial_attributes f unset_pen unset_pen c)))
+    (own_attributes_of (g c) pen screen (serial_attributes f pen screen c)))
     (held_sign-alike f g c low same)
-    ∙ ap (λ s. look_with (shape_in (g c) (held_sign g c)) (own_attributes_of (g c) unset_pen unset_pen s))
-    (serial_attributes-alike f g unset_pen unset_pen c low same)
+    ∙ ap (λ s. look_with (shape_in (g c) (held_sign g c)) (own_attributes_of (g c) pen screen s))
+    (serial_attributes-alike f g pen screen c low same)
+
+-- and the same size
+pub size_in_row-alike : (f g : ℕ → What) (pen screen : Pen) (c : ℕ) → 1 ≤ c → ((d : ℕ) → 1 ≤ d → d ≤ c → f d ≡ g d)
+    → size_in_row f pen screen c ≡ size_in_row g pen screen c
+unfolding size_in_row
+size_in_row-alike f g pen screen c low same =
+    ap (λ w. (own_attributes_of w pen screen (serial_attributes f pen screen c)).size) (same c low (omega arith))
+    ∙ ap (λ s. (own_attributes_of (g c) pen screen s).size) (serial_attributes-alike f g pen screen c low same)
+
+-- ---- rows without markers
 
 -- a cell that is no marker holds no sign
 plain-none : (row : ℕ → What) (c : ℕ) → is_marker (row c) ≡ false → held_sign row c ≡ None
@@ -38,7 +57,7 @@ own-plain w = refl
 
 -- in a row without markers up to a column the look there is that of the cell by itself
 pub look_in_row-unmarked : (row : ℕ → What) (c : ℕ) → 1 ≤ c → ((d : ℕ) → 1 ≤ d → d ≤ c → is_marker (row d) ≡ false)
-    → look_in_row row c ≡ look_of (row c)
+    → look_in_row row unset_pen unset_pen c ≡ look_of (row c)
 unfolding look_in_row look_of
 look_in_row-unmarked row c low plain =
     let here : is_marker (row c) ≡ false = plain c low (omega arith) in
@@ -47,3 +66,49 @@ look_in_row-unmarked row c low plain =
     ∙ ap (λ f. look_with (shape_of (row c)) (own_attributes_of (row c) unset_pen unset_pen f))
     (serial_attributes-unmarked row unset_pen unset_pen c low plain)
     ∙ ap (λ f. look_with (shape_of (row c)) f) (own-plain (row c))
+
+-- ---- rows without sizes
+
+-- a size that is set and not double is the single one
+single-set : (size : Option Size) → is_double_set size ≡ false → first_value size None None sizes.Normal ≡ sizes.Normal
+single-set None plain = refl
+single-set (Some sizes.Normal) plain = refl
+single-set (Some size) plain = absurd (true≢false plain)
+
+-- what sets no size says none, or the single one
+single-said : (w : What) → sets_size w ≡ false → first_value (size_said w) None None sizes.Normal ≡ sizes.Normal
+single-said (whats.Marker (markers.Size size)) plain = single-set (Some size) plain
+single-said w plain = refl
+
+-- so does what is found among such
+single-found : (row : ℕ → What) (c : ℕ) (found : Option ℕ) → ((d : ℕ) → 1 ≤ d → d ≤ c → sets_size (row d) ≡ false)
+    → IsGreatest (acts row Sizing c) c found
+    → first_value (value_found (λ d. size_said (row d)) found) None None sizes.Normal ≡ sizes.Normal
+single-found row c None plain greatest = refl
+single-found row c (Some d) plain greatest = single-said (row d) (plain d greatest.0 greatest.1)
+
+serial-single : (row : ℕ → What) (c : ℕ) → ((d : ℕ) → 1 ≤ d → d ≤ c → sets_size (row d) ≡ false)
+    → (serial_attributes row unset_pen unset_pen c).size ≡ sizes.Normal
+unfolding serial_attributes
+serial-single row c plain =
+    single-found row c (column_in_force row Sizing c) plain (column_in_force-greatest row Sizing c)
+
+own-single : (row : ℕ → What) (c : ℕ) (w : What) → sets_size w ≡ false
+    → (serial_attributes row unset_pen unset_pen c).size ≡ sizes.Normal
+    → (own_attributes_of w unset_pen unset_pen (serial_attributes row unset_pen unset_pen c)).size ≡ sizes.Normal
+own-single row c (whats.Parallel g pen) plain serial = single-set pen.size plain
+own-single row c w plain serial = serial
+
+-- where nothing up to a column sets a size, what stands there is of single size
+pub size_in_row-single : (row : ℕ → What) (c : ℕ) → 1 ≤ c → ((d : ℕ) → 1 ≤ d → d ≤ c → sets_size (row d) ≡ false)
+    → size_in_row row unset_pen unset_pen c ≡ sizes.Normal
+unfolding size_in_row
+size_in_row-single row c low plain =
+    own-single row c (row c) (plain c low (omega arith)) (serial-single row c plain)
+
+-- ---- cores
+
+-- of a core the page and the number of its rows are seen
+pub looks_of-alike : (k m : Core) → k.page ≡ m.page → k.rows ≡ m.rows → looks_of k ≡ looks_of m
+unfolding look
+looks_of-alike k m page rows = λ i. looks_of (record k { page = page i; rows = rows i })

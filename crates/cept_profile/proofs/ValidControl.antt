@@ -1,12 +1,14 @@
 -- Valid control: the initial state is valid, and every valid command keeps it valid.
-use Rattle.std.proofs.Common.{◌≡◌, ℕ, ◌+◌, ◌-◌, ◌≤◌, zero, suc, Bool, true, false, min, cond, eqb, leb, ltb, Option}
-use Rattle.std.proofs.Common.{Some, None, inl, inr, refl, subst, arith}
+use Rattle.std.proofs.Common.{◌≡◌, ◌⊎◌, ℕ, ◌+◌, ◌-◌, ◌≤◌, zero, suc, Bool, true, false, min, cond, eqb, leb, ltb}
+use Rattle.std.proofs.Common.{Option, Some, None, inl, inr, refl, subst, arith}
 use Rattle.std.specs.Prelude.{IfSome}
 use Rattle.std.proofs.lemmas.Bool.{cond_both, eqb-false, ltb-true, leb-true}
 use Rattle.std.proofs.lemmas.Bool.Decides.{nat_tests}
 use Rattle.cept_codes.specs.declared.attribute.Attr.{Attr}
 use Rattle.cept_codes.specs.declared.attribute.Attr.TheVariants as attrs
 use Rattle.cept_codes.specs.declared.attribute.Pen.{Pen}
+use Rattle.cept_codes.specs.declared.attribute.Size.{Size}
+use Rattle.cept_codes.specs.declared.attribute.Size.TheVariants as sizes
 use Rattle.cept_codes.specs.declared.cell.Marker.{Marker}
 use Rattle.cept_codes.specs.declared.cell.Marker.TheVariants as markers
 use Rattle.cept_codes.specs.declared.command.C1Set.{C1Set}
@@ -26,15 +28,16 @@ use Rattle.cept_profile.specs.Control.{Working, ControlState, initial_control, i
 use Rattle.cept_profile.specs.Control.{control_with, working_at, working_with_sets, with_c1, working_without_run}
 use Rattle.cept_profile.specs.Control.{working_without_pen, working_without_accent, finds_accent, state_for_effect}
 use Rattle.cept_profile.specs.Control.{control_effect, control_after}
-use Rattle.cept_profile.specs.Markers.{marker_of, run_after, working_after_any_marker, working_after_marker}
+use Rattle.cept_profile.specs.Markers.{marker_of, run_after, step_after, working_after_any_marker, working_after_marker}
 use Rattle.cept_profile.specs.Motions.{row_below, row_above, working_ahead, working_back}
 use Rattle.cept_profile.specs.Pens.{attribute_of, pen_with, pen_with_any, is_flash, working_after_code, fast_after}
 use Rattle.cept_profile.specs.Pens.{fast_after_code, flash_of, working_after_flash, working_after_reveal}
 use Rattle.cept_profile.specs.Sets.{Sets, IsAccent, IsValidRead, code_of, sets_with, sets_with_left, sets_with_right}
 use Rattle.cept_profile.specs.Sets.{set_of, sets_with_single, sets_without_single}
+use Rattle.cept_profile.specs.Tiling.{columns_of_size}
 use Rattle.cept_profile.specs.Valid.{AreValidSets, IsValidWorking, IsValidControl}
 use Rattle.cept_profile.specs.Writing.{sign_with_accent, control_after_copies, working_after_read, working_after_repeat}
-use Rattle.cept_profile.specs.Writing.{graphic_result, control_with_result, working_after_sign}
+use Rattle.cept_profile.specs.Writing.{graphic_result, control_with_result, columns_of_sign, working_after_sign}
 use Rattle.cept_profile.proofs.CodesRead.{IsCode-code_of, IsValidRead-read_as}
 
 pub IsValidPen-unset_pen : IsValidPen unset_pen
@@ -284,7 +287,10 @@ IsValid-attribute_of table n low =
     (λ _. IsValid-choice (eqb n 9) _ _ (λ _. tt)
     (λ _. IsValid-choice (eqb n 10) _ _ (λ _. tt)
     (λ _. IsValid-choice (eqb n 11) _ _ (λ _. tt)
-    (λ _. IsValid-choice (ltb n 16) _ _ (λ _. tt)
+    (λ _. IsValid-choice (eqb n 12) _ _ (λ _. tt)
+    (λ _. IsValid-choice (eqb n 13) _ _ (λ _. tt)
+    (λ _. IsValid-choice (eqb n 14) _ _ (λ _. tt)
+    (λ _. IsValid-choice (eqb n 15) _ _ (λ _. tt)
     (λ _. IsValid-choice (ltb n 24) _ _ (λ e. let below = ltb-true n 24 e in omega arith)
     (λ _. IsValid-choice (eqb n 24) _ _ (λ _. tt)
     (λ _. IsValid-choice (eqb n 25) _ _ (λ _. tt)
@@ -293,7 +299,7 @@ IsValid-attribute_of table n low =
     (λ _. IsValid-choice (eqb n 29) _ _ (λ _. tt)
     (λ _. IsValid-choice (eqb n 30) _ _ (λ _. tt)
     (λ _. IsValid-choice (eqb n 31) _ _ (λ _. tt)
-    (λ _. tt))))))))))))))
+    (λ _. tt)))))))))))))))))
 
 pub fast_after-in_range : (mode fast : ℕ) → fast ≤ 3 → fast_after mode fast ≤ 3
 fast_after-in_range mode fast low = grind (arith, nat_tests)
@@ -302,9 +308,23 @@ fast_after-in_range mode fast low = grind (arith, nat_tests)
 fast_after_code-in_range : (n fast : ℕ) → fast ≤ 3 → fast_after_code n fast ≤ 3
 fast_after_code-in_range n fast low = cond_both (is_flash n) 0 fast (λ k. k ≤ 3) (λ e. omega arith) (λ e. low)
 
--- another run, and another fast flash
-IsWithin-run : (rows : ℕ) (run : Bool) (w : Working) → IsWithin rows w → IsWithin rows (record w { run = run })
-IsWithin-run rows run w is = record {
+-- a sign takes one column or two
+columns_of_size-in_range : (size : Size) → (columns_of_size size ≡ 1) ⊎ (columns_of_size size ≡ 2)
+columns_of_size-in_range sizes.Normal = inl refl
+columns_of_size-in_range sizes.High = inl refl
+columns_of_size-in_range sizes.Wide = inr refl
+columns_of_size-in_range sizes.Both = inr refl
+
+-- and so far signs move on after a marker
+step_after-in_range : (m : Marker) (step : ℕ) → (step ≡ 1) ⊎ (step ≡ 2)
+    → (step_after m step ≡ 1) ⊎ (step_after m step ≡ 2)
+step_after-in_range (markers.Size size) step is = columns_of_size-in_range size
+step_after-in_range _ step is = is
+
+-- another run and step, and another fast flash
+IsWithin-run : (rows : ℕ) (run : Bool) (step : ℕ) (w : Working) → IsWithin rows w → (step ≡ 1) ⊎ (step ≡ 2)
+    → IsWithin rows (record w { run = run; step = step })
+IsWithin-run rows run step w is valid_step = record {
   valid = record {
     place = is.valid.place;
     sets = is.valid.sets;
@@ -312,7 +332,7 @@ IsWithin-run rows run w is = record {
     last = is.valid.last;
     pen = is.valid.pen;
     fast = is.valid.fast;
-    step = is.valid.step;
+    step = valid_step;
     table = is.valid.table;
   };
   row = is.row;
@@ -325,7 +345,8 @@ IsWithin-fast rows fast w is valid_fast = IsWithin-pen rows w.pen fast w is is.v
 -- a marker moves the position on
 IsWithin-marker : (s : ControlState) (m : Marker) → IsValidControl s → IsWithin s.rows (working_after_marker s m)
 IsWithin-marker s m is =
-    IsWithin-run s.rows (run_after m s.working.run) (working_ahead s 1 s.working) (IsWithin-working_ahead s 1 is)
+    IsWithin-run s.rows (run_after m s.working.run) (step_after m s.working.step) (working_ahead s 1 s.working)
+    (IsWithin-working_ahead s 1 is) (step_after-in_range m s.working.step is.working.step)
 
 IsWithin-any_marker : (s : ControlState) (m : Option Marker) → IsValidControl s
     → IsWithin s.rows (working_after_any_marker s m)
@@ -409,7 +430,7 @@ IsWithin-accent rows accent w is valid = record {
 pub IsWithin-working_after_sign : (s : ControlState) (g : Glyph) → IsValidControl s → IsValidGlyph g
     → IsWithin s.rows (working_after_sign s g)
 IsWithin-working_after_sign s g is valid =
-    let moved = IsWithin-working_ahead s 1 is in
+    let moved = IsWithin-working_ahead s (columns_of_sign s) is in
     record {
       valid = record {
         place = moved.valid.place;

@@ -1,28 +1,39 @@
 -- Valid looks: those of a core with a valid page.
-use Rattle.std.proofs.Common.{ℕ, ◌≤◌, ◌%◌, zero, suc, ◌&&◌, eqb, Option, Some, None, List, [], ◌∷◌, sym, subst, arith}
-use Rattle.std.proofs.Common.{rules}
+use Rattle.std.proofs.Common.{◌≡◌, ℕ, ◌≤◌, ◌-◌, ◌%◌, Bool, true, false, not, cond, zero, suc, ◌&&◌, eqb, Option, Some}
+use Rattle.std.proofs.Common.{None}
+use Rattle.std.proofs.Common.{List, [], ◌∷◌, sym, subst, ◌∙◌, arith, rules}
 use Rattle.std.specs.List.{AllByRecursion}
-use Rattle.std.specs.Prelude.{IfSome, slice_index_or}
+use Rattle.std.specs.Prelude.{IfSome, nat_lt, slice_index_or}
 use Rattle.std.proofs.lemmas.Bool.{cond_both}
 use Rattle.cept_codes.specs.declared.attribute.Pen.{Pen}
+use Rattle.cept_codes.specs.declared.attribute.Size.{Size}
 use Rattle.cept_codes.specs.declared.cell.What.{What}
 use Rattle.cept_codes.specs.declared.cell.What.TheVariants as whats
 use Rattle.cept_codes.specs.declared.command.Command.{Command}
 use Rattle.cept_codes.specs.declared.glyph.Glyph.{Glyph}
+use Rattle.cept_codes.specs.declared.look.Look.{Look}
+use Rattle.cept_codes.specs.declared.look.Part.{Part}
 use Rattle.cept_codes.specs.declared.look.Paint.{Paint}
 use Rattle.cept_codes.specs.declared.look.Paint.TheVariants as paints
 use Rattle.cept_codes.specs.declared.look.Shape.TheVariants as shapes
-use Rattle.cept_codes.specs.Attribute.{IsEntry, IsValidPen, IsValidFull}
+use Rattle.cept_codes.specs.Attribute.{IsEntry, IsValidPen, IsValidFull, unset_pen}
 use Rattle.cept_codes.specs.Cell.{IsValidWhat}
 use Rattle.cept_codes.specs.Glyph.{IsValidGlyph}
-use Rattle.cept_codes.specs.Look.{IsValidPaint, IsValidShape, IsValidLook, black_paint, blank_look}
+use Rattle.cept_codes.specs.Look.{IsValidPaint, IsValidPart, IsValidShape, IsValidLook, black_paint, blank_look}
 use Rattle.cept_codes.specs.Place.{OnScreen}
 use Rattle.cept_codes.proofs.Laws.{value_at-table, IsTable-table}
 use Rattle.cept_profile.specs.Attributes.{first_value, cascade}
 use Rattle.cept_profile.specs.Colours.{ink, default_paints, default_paint, fore_paint, back_paint, paint_over}
 use Rattle.cept_profile.specs.Look.{shape_of, shape_of_sign, attributes_of, look_of, look, looks_of, grid}
-use Rattle.cept_profile.specs.Look.{contents_of_row, look_in_row, shape_in}
+use Rattle.cept_profile.specs.Look.{contents_of_row, is_last_row, look_in_row, look_with_part, own_look, own_size}
+use Rattle.cept_profile.specs.Look.{part_of}
+use Rattle.cept_profile.specs.Look.{shape_in}
+use Rattle.cept_profile.specs.RowsFromAbove.{look_by, look_from, look_seen, looks_in, row_from_above}
 use Rattle.cept_profile.specs.Serial.{held_sign}
+use Rattle.cept_profile.specs.Tiling.{column_entry, covers_below, is_covered_from_left, is_high, is_wide, origin_part}
+use Rattle.cept_profile.specs.Tiling.{part_below, part_to_the_right}
+use Rattle.cept_profile.proofs.ColumnEntries.{column_entry-default, column_entry-row_of}
+use Rattle.cept_profile.proofs.LooksFromAbove.{look-seen, looks_in-from_above}
 use Rattle.cept_profile.proofs.MarkersInForce.{held_sign-valid}
 use Rattle.cept_profile.specs.State.{Core, core}
 use Rattle.cept_profile.specs.Valid.{AllValid, IsValidPage, IsValidGrid}
@@ -105,10 +116,10 @@ IsValidShape-shape_in (whats.Parallel g pen) held valid is = IsValidShape-sign g
 IsValidShape-shape_in (whats.Marker m) None valid is = tt
 
 -- the look at a column of a row of valid cells
-pub IsValidLook-look_in_row : (row : ℕ → What) (c : ℕ) → 1 ≤ c → ((d : ℕ) → 1 ≤ d → d ≤ c → IsValidWhat (row d))
-    → IsValidLook (look_in_row row c)
+pub IsValidLook-look_in_row : (row : ℕ → What) (pen screen : Pen) (c : ℕ) → 1 ≤ c
+    → ((d : ℕ) → 1 ≤ d → d ≤ c → IsValidWhat (row d)) → IsValidLook (look_in_row row pen screen c)
 unfolding look_in_row
-IsValidLook-look_in_row row c low valid = record {
+IsValidLook-look_in_row row pen screen c low valid = record {
   shape = IsValidShape-shape_in (row c) (held_sign row c) (valid c low (omega arith)) (held_sign-valid row c low valid);
   part = record {
     down = omega arith;
@@ -120,15 +131,117 @@ IsValidLook-look_in_row row c low valid = record {
   back = IsValidPaint-default_paint _;
 }
 
+-- ---- rows beneath valid looks
+
+IsValidLook-with_part : (p : Part) (l : Look) → IsValidPart p → IsValidLook l → IsValidLook (look_with_part p l)
+IsValidLook-with_part p l part valid =
+    record { shape = valid.shape; part = part; fore = valid.fore; back = valid.back }
+
+one_or_two : (b : Bool) → (1 ≤ cond b 2 1) × (cond b 2 1 ≤ 2)
+one_or_two true = (omega arith, omega arith)
+one_or_two false = (omega arith, omega arith)
+
+IsValidLook-look_by : (a al ar l own : Look) (size : Size) (last : Bool) (c : ℕ) → IsValidLook a → IsValidLook l
+    → IsValidLook own → IsValidLook (look_by a al ar l own size last c)
+IsValidLook-look_by a al ar l own size last c above before here =
+    let wide : Bool = is_wide size && nat_lt c 40 && not (covers_below (part_of ar)) in
+    let high : Bool = is_high size && not last in
+    let origin : IsValidPart (origin_part wide high) = record {
+      down = omega arith;
+      right = omega arith;
+      wide = one_or_two wide;
+      high = one_or_two high;
+    } in
+    cond_both (covers_below (part_of a)) (look_with_part (part_below (part_of a)) a)
+    (cond (is_covered_from_left (part_of al) (part_of l)) (look_with_part (part_to_the_right (part_of l)) l)
+    (look_with_part (origin_part wide high) own)) IsValidLook
+    (λ _. IsValidLook-with_part (part_below (part_of a)) a (record {
+      down = omega arith;
+      right = above.part.right;
+      wide = above.part.wide;
+      high = above.part.high;
+    }) above)
+    (λ _. cond_both (is_covered_from_left (part_of al) (part_of l))
+    (look_with_part (part_to_the_right (part_of l)) l) (look_with_part (origin_part wide high) own) IsValidLook
+    (λ _. IsValidLook-with_part (part_to_the_right (part_of l)) l (record {
+      down = omega arith;
+      right = omega arith;
+      wide = before.part.wide;
+      high = before.part.high;
+    }) before)
+    (λ _. IsValidLook-with_part (origin_part wide high) own origin here))
+
+IsValidLook-blank_look : IsValidLook blank_look
+IsValidLook-blank_look = record {
+  shape = tt;
+  part = record {
+    down = omega arith;
+    right = omega arith;
+    wide = (omega arith, omega arith);
+    high = (omega arith, omega arith);
+  };
+  fore = IsValidPaint-ink 15 15 15 (omega arith) (omega arith) (omega arith);
+  back = IsValidPaint-black_paint;
+}
+
+IsValidLook-look_from : (above own : ℕ → Look) (wanted : ℕ → Size) (last : Bool)
+    → ((c : ℕ) → 1 ≤ c → c ≤ 40 → IsValidLook (above c)) → ((c : ℕ) → 1 ≤ c → c ≤ 40 → IsValidLook (own c)) → (c : ℕ)
+    → c ≤ 40 → IsValidLook (look_from above own wanted last c)
+unfolding look_from
+IsValidLook-look_from above own wanted last valid here zero high = IsValidLook-blank_look
+IsValidLook-look_from above own wanted last valid here (suc c) high =
+    IsValidLook-look_by (above (suc c)) (above c) (above (suc (suc c))) (look_from above own wanted last c)
+    (own (suc c)) (wanted (suc c)) last (suc c) (valid (suc c) (omega arith) high)
+    (IsValidLook-look_from above own wanted last valid here c (omega arith)) (here (suc c) (omega arith) high)
+
+pub IsValidLook-row_from_above : (above : List Look) (own : ℕ → Look) (wanted : ℕ → Size) (last : Bool)
+    → ((c : ℕ) → 1 ≤ c → c ≤ 40 → IsValidLook (column_entry blank_look above c))
+    → ((c : ℕ) → 1 ≤ c → c ≤ 40 → IsValidLook (own c)) → (c : ℕ) → 1 ≤ c → c ≤ 40
+    → IsValidLook (column_entry blank_look (row_from_above above own wanted last) c)
+unfolding row_from_above
+IsValidLook-row_from_above above own wanted last valid here c low high =
+    subst IsValidLook
+    (sym (column_entry-row_of blank_look (look_from (column_entry blank_look above) own wanted last) c low high))
+    (IsValidLook-look_from (column_entry blank_look above) own wanted last valid here c high)
+
+-- ---- grids
+
+IsValidLook-own_look : (k : Core) → IsValidPage k.page → (r c : ℕ) → OnScreen r c → IsValidLook (own_look k r c)
+IsValidLook-own_look k is r c on =
+    IsValidLook-look_in_row (contents_of_row k r) unset_pen unset_pen c on.from_left (λ d low high.
+    is.cells r d (record {
+      from_top = on.from_top;
+      to_bottom = on.to_bottom;
+      from_left = low;
+      to_right = omega (arith, on);
+    }))
+
+-- the rows from the top
+IsValidLook-look_seen : (k : Core) → IsValidPage k.page → (r : ℕ) → r ≤ 24 → (c : ℕ) → 1 ≤ c → c ≤ 40
+    → IsValidLook (look_seen (looks_of k) r c)
+IsValidLook-look_seen k is zero high c from to =
+    subst IsValidLook (sym (column_entry-default blank_look c)) IsValidLook-blank_look
+IsValidLook-look_seen k is (suc r) high c from to =
+    let back : suc r - 1 ≡ r = omega arith in
+    subst (λ (row : List Look). IsValidLook (column_entry blank_look row c))
+    (sym (looks_in-from_above k (suc r) (omega arith) high))
+    (IsValidLook-row_from_above (looks_in (looks_of k) (suc r - 1)) (own_look k (suc r)) (own_size k (suc r))
+    (is_last_row k.rows (suc r))
+    (λ d low left. subst (λ (q : ℕ). IsValidLook (look_seen (looks_of k) q d)) (sym back)
+    (IsValidLook-look_seen k is r (omega arith) d low left))
+    (λ d low left. IsValidLook-own_look k is (suc r) d (record {
+      from_top = omega arith;
+      to_bottom = high;
+      from_left = low;
+      to_right = left;
+    })) c from to)
+
 pub IsValidGrid-looks_of : (k : Core) → IsValidPage k.page → IsValidGrid (looks_of k)
 IsValidGrid-looks_of k is = record {
   table = IsTable-table (look k);
-  looks = λ r c on. subst IsValidLook (sym (value_at-table (look k) blank_look r c on))
-      (IsValidLook-look_in_row (contents_of_row k r) c on.from_left
-      (λ d low high.
-      let there : OnScreen r d =
-      record { from_top = on.from_top; to_bottom = on.to_bottom; from_left = low; to_right = omega arith } in
-      is.cells r d there));
+  looks = λ r c on.
+      subst IsValidLook (look-seen k r c on ∙ sym (value_at-table (look k) blank_look r c on))
+      (IsValidLook-look_seen k is r on.to_bottom c on.from_left on.to_right);
 }
 
 pub IsValidGrid-grid : (history : List Command) → AllValid history → IsValidGrid (grid history)

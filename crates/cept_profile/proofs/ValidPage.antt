@@ -34,8 +34,9 @@ use Rattle.cept_profile.specs.Pens.{flash_of, strokes_of_code, strokes_of_flash,
 use Rattle.cept_profile.specs.Sets.{IsValidRead}
 use Rattle.cept_profile.specs.Strokes.{strokes_when, strokes_of}
 use Rattle.cept_profile.specs.Valid.{IsValidControl}
-use Rattle.cept_profile.specs.Writing.{sign_with_accent, control_after_copies, content, strokes_of_copies}
-use Rattle.cept_profile.specs.Writing.{strokes_of_read, strokes_of_repeat, graphic_result, strokes_of_sign}
+use Rattle.cept_profile.specs.Writing.{columns_of_sign, sign_with_accent, control_after_copies, content}
+use Rattle.cept_profile.specs.Writing.{strokes_of_copies, strokes_of_read, strokes_of_repeat, graphic_result}
+use Rattle.cept_profile.specs.Writing.{strokes_of_sign}
 use Rattle.cept_profile.proofs.CopiesOfSigns.{length-strokes_of_copies}
 use Rattle.cept_profile.proofs.MotionStrokes.{on_strokes-none, back_strokes-none}
 use Rattle.cept_profile.proofs.ValidControl.{IsValidControl-control_after_copies, IsValidControl-state_for_effect}
@@ -189,7 +190,7 @@ IsSafe-strokes_of_sign s g is valid = (
     λ blank_is.
         absurd (content_is_not_blank s.working.c1 g s.working.pen blank_is),
   ),
-  IsSafe-on_strokes s 1,
+  IsSafe-on_strokes s (columns_of_sign s),
 )
 
 IsSafe-strokes_of_read : (s : ControlState) (read : Read) → IsValidControl s → IsValidRead read
@@ -247,7 +248,10 @@ IsValid-marker_of table n low =
     (λ _. IsValid-choice (eqb n 9) _ _ (λ _. tt)
     (λ _. IsValid-choice (eqb n 10) _ _ (λ _. tt)
     (λ _. IsValid-choice (eqb n 11) _ _ (λ _. tt)
-    (λ _. IsValid-choice (ltb n 16) _ _ (λ _. tt)
+    (λ _. IsValid-choice (eqb n 12) _ _ (λ _. tt)
+    (λ _. IsValid-choice (eqb n 13) _ _ (λ _. tt)
+    (λ _. IsValid-choice (eqb n 14) _ _ (λ _. tt)
+    (λ _. IsValid-choice (eqb n 15) _ _ (λ _. tt)
     (λ _. IsValid-choice (ltb n 24) _ _ (λ e. let below = ltb-true n 24 e in omega arith)
     (λ _. IsValid-choice (eqb n 24) _ _ (λ _. tt)
     (λ _. IsValid-choice (eqb n 25) _ _ (λ _. tt)
@@ -256,7 +260,7 @@ IsValid-marker_of table n low =
     (λ _. IsValid-choice (eqb n 29) _ _ (λ _. tt)
     (λ _. IsValid-choice (eqb n 30) _ _ (λ _. tt)
     (λ _. IsValid-choice (eqb n 31) _ _ (λ _. tt)
-    (λ _. tt))))))))))))))
+    (λ _. tt)))))))))))))))))
 
 IsSafe-code : (s : ControlState) (c1 : C1Set) (n : ℕ) → IsValidControl s
     → AllByRecursion (IsSafe s.rows) (strokes_of_code c1 n s)
@@ -295,7 +299,7 @@ IsSafe-strokes_of s command is valid =
 
 length-strokes_of_read : (s : ControlState) (read : Read) → length (strokes_of_read s read) ≤ 128
 length-strokes_of_read s (reads.Accent code) = omega arith
-length-strokes_of_read s (reads.Glyph g) = omega (arith, ap length (on_strokes-none s 1))
+length-strokes_of_read s (reads.Glyph g) = omega (arith, ap length (on_strokes-none s (columns_of_sign s)))
 
 length-strokes_of_repeat : (n : ℕ) (s : ControlState) (last : Option Glyph) → n ≤ 63
     → length (strokes_of_repeat n s last) ≤ 128

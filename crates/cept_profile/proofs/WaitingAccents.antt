@@ -15,7 +15,7 @@ use Rattle.cept_profile.specs.Markers.{marker_of, working_after_any_marker}
 use Rattle.cept_profile.specs.Motions.{row_below, row_above, working_ahead, working_back}
 use Rattle.cept_profile.specs.Pens.{working_after_code, working_after_flash, working_after_reveal}
 use Rattle.cept_profile.specs.Writing.{control_after_copies, working_after_repeat, sign_with_accent, working_after_read}
-use Rattle.cept_profile.specs.Writing.{graphic_result, control_with_result}
+use Rattle.cept_profile.specs.Writing.{columns_of_sign, graphic_result, control_with_result}
 
 -- what moves leaves the accent and the sets
 working_ahead-accent : (s : ControlState) (n : ℕ) (w : Working) → (working_ahead s n w).accent ≡ w.accent
@@ -117,7 +117,7 @@ skipped_leaves s = refl
 working_after_read-single : (s : ControlState) (read : Read)
     → (working_after_read s read).sets.single ≡ s.working.sets.single
 working_after_read-single s (reads.Accent code) = refl
-working_after_read-single s (reads.Glyph g) = working_ahead-single s 1 s.working
+working_after_read-single s (reads.Glyph g) = working_ahead-single s (columns_of_sign s) s.working
 
 pub shift-spent : (s : ControlState) (byte : ℕ) → (control_after s (commands.Graphic byte)).working.sets.single ≡ None
 shift-spent s byte = working_after_read-single (control_with_result s byte) (graphic_result s byte).read

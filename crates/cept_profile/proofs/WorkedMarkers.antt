@@ -3,9 +3,10 @@
 use Rattle.std.proofs.Common.{◌≡◌, List, [], ◌∷◌, map, Some, None, true, false, refl}
 use Rattle.std.specs.List.{range_with_len}
 use Rattle.cept_codes.specs.declared.attribute.Flash.TheVariants as flashes
+use Rattle.cept_codes.specs.declared.attribute.Size.TheVariants.{Normal, High, Wide, Both}
 use Rattle.cept_codes.specs.declared.cell.Marker.{Marker}
 use Rattle.cept_codes.specs.declared.cell.Marker.TheVariants.{Alpha, Mosaic, BlackBack, NewBack, Hold, Release}
-use Rattle.cept_codes.specs.declared.cell.Marker.TheVariants.{Flash, Conceal, Lined, Boxed}
+use Rattle.cept_codes.specs.declared.cell.Marker.TheVariants.{Flash, Conceal, Lined, Boxed, Size}
 use Rattle.cept_codes.specs.declared.cell.What.TheVariants as whats
 use Rattle.cept_codes.specs.declared.command.C1Set.TheVariants.{Serial}
 use Rattle.cept_codes.specs.declared.command.Command.{Command}
@@ -19,13 +20,13 @@ use Rattle.cept_profile.specs.Strokes.{strokes_of}
 
 -- ---- the markers of the codes
 
--- every C1 code from 8/0 to 9/15 with the colour table 1: the sizes 8/12 to 8/15 and 9/11 leave none
+-- every C1 code from 8/0 to 9/15 with the colour table 1: only 9/11 leaves none
 pub markers_of_codes : map (marker_of 1) (range_with_len 0 32)
     ≡ Some (Alpha 8) ∷ Some (Alpha 9) ∷ Some (Alpha 10) ∷ Some (Alpha 11) ∷ Some (Alpha 12) ∷ Some (Alpha 13)
     ∷ Some (Alpha 14)
     ∷ Some (Alpha 15) ∷ Some (Flash flashes.Plain) ∷ Some (Flash flashes.Steady) ∷ Some (Boxed false)
-    ∷ Some (Boxed true) ∷ None
-    ∷ None ∷ None ∷ None ∷ Some (Mosaic 8) ∷ Some (Mosaic 9) ∷ Some (Mosaic 10) ∷ Some (Mosaic 11) ∷ Some (Mosaic 12)
+    ∷ Some (Boxed true) ∷ Some (Size Normal)
+    ∷ Some (Size High) ∷ Some (Size Wide) ∷ Some (Size Both) ∷ Some (Mosaic 8) ∷ Some (Mosaic 9) ∷ Some (Mosaic 10) ∷ Some (Mosaic 11) ∷ Some (Mosaic 12)
     ∷ Some (Mosaic 13) ∷ Some (Mosaic 14) ∷ Some (Mosaic 15) ∷ Some (Conceal true) ∷ Some (Lined false)
     ∷ Some (Lined true) ∷ None
     ∷ Some BlackBack ∷ Some NewBack ∷ Some Hold ∷ Some Release ∷ []
@@ -81,13 +82,23 @@ pub flash_codes : map after (commands.C1 8 ∷ commands.C1 9 ∷ [])
     ≡ state_of (record below { fast = 0 }) ∷ state_of (record below { fast = 0 }) ∷ []
 flash_codes = refl
 
--- a size leaves nothing yet
-pub no_sizes : map strokes_after (commands.C1 12 ∷ commands.C1 13 ∷ commands.C1 14 ∷ commands.C1 15 ∷ [])
-    ≡ [] ∷ [] ∷ [] ∷ [] ∷ []
-no_sizes = refl
+-- a size leaves its marker, and the step is as many columns as a sign of it takes
+abbrev pub size_codes : List Command
+size_codes = commands.C1 12 ∷ commands.C1 13 ∷ commands.C1 14 ∷ commands.C1 15 ∷ []
 
-pub sizes_stay : map after (commands.C1 12 ∷ commands.C1 15 ∷ []) ≡ state_of serial ∷ state_of serial ∷ []
-sizes_stay = refl
+pub sizes_left : map strokes_after size_codes
+    ≡ left (Size Normal) ∷ left (Size High) ∷ left (Size Wide) ∷ left (Size Both) ∷ []
+sizes_left = refl
+
+pub steps_of_sizes : map after size_codes ≡
+    state_of (record below { step = 1 }) ∷ state_of (record below { step = 1 }) ∷ state_of below ∷ state_of below ∷ []
+steps_of_sizes = refl
+
+-- also from step 1, and within a row
+pub steps_within_a_row : map (control_after (state_of (record serial { column = 3; step = 1 }))) size_codes ≡
+    state_of (record serial { column = 4; step = 1 }) ∷ state_of (record serial { column = 4; step = 1 })
+    ∷ state_of (record serial { column = 4 }) ∷ state_of (record serial { column = 4 }) ∷ []
+steps_within_a_row = refl
 
 -- each flash mode leaves its marker and its fast flash
 pub flash_modes : map (λ k. strokes_after (commands.FlashMode k)) (range_with_len 0 7)

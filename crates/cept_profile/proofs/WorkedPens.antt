@@ -6,7 +6,7 @@ use Rattle.cept_codes.specs.declared.attribute.Attr.TheVariants as attrs
 use Rattle.cept_codes.specs.declared.attribute.Flash.{Flash}
 use Rattle.cept_codes.specs.declared.attribute.Flash.TheVariants.{Steady, Plain, Inverted, Reduced, Fast1, Fast2, Fast3}
 use Rattle.cept_codes.specs.declared.attribute.Pen.{Pen}
-use Rattle.cept_codes.specs.declared.attribute.Size.TheVariants.{Wide, Both}
+use Rattle.cept_codes.specs.declared.attribute.Size.TheVariants.{Normal, High, Wide, Both}
 use Rattle.cept_codes.specs.declared.command.Command.{Command}
 use Rattle.cept_codes.specs.declared.command.Command.TheVariants.{C1, FlashMode, StopConceal}
 use Rattle.cept_codes.specs.Attribute.{unset_pen}
@@ -29,11 +29,12 @@ pub eight_foregrounds : map pen_of_code (range_with_len 0 8) ≡ fore 0 ∷ fore
     ∷ fore 5 ∷ fore 6 ∷ fore 7 ∷ []
 eight_foregrounds = refl
 
--- flash plain and steady, boxed off and on, and the sizes, which aren't built
+-- flash plain and steady, boxed off and on, single size, high, wide, and both
 pub flash_box_and_sizes : map pen_of_code (range_with_len 8 8) ≡
     record unset_pen { flash = Some Plain } ∷ record unset_pen { flash = Some Steady }
     ∷ record unset_pen { boxed = Some false } ∷ record unset_pen { boxed = Some true }
-    ∷ unset_pen ∷ unset_pen ∷ unset_pen ∷ unset_pen ∷ []
+    ∷ record unset_pen { size = Some Normal } ∷ record unset_pen { size = Some High }
+    ∷ record unset_pen { size = Some Wide } ∷ record unset_pen { size = Some Both } ∷ []
 flash_box_and_sizes = refl
 
 pub eight_backgrounds : map pen_of_code (range_with_len 16 8) ≡ back 0 ∷ back 1 ∷ back 2 ∷ back 3 ∷ back 4

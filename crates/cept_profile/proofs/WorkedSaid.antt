@@ -2,6 +2,7 @@
 use Rattle.std.proofs.Common.{◌≡◌, List, [], ◌∷◌, ◌++◌, map, Option, Some, None, true, false, refl}
 use Rattle.std.specs.List.{range_with_len}
 use Rattle.cept_codes.specs.declared.attribute.Attr.{Attr}
+use Rattle.cept_codes.specs.declared.attribute.Size.TheVariants.{Normal, High, Wide, Both}
 use Rattle.cept_codes.specs.declared.command.C1Set.TheVariants.{Serial, Parallel}
 use Rattle.cept_codes.specs.declared.command.Command.{Command}
 use Rattle.cept_codes.specs.declared.command.Command.TheVariants as commands
@@ -121,8 +122,8 @@ pub of_box : (pattern : Pattern) → class_by boxed_in pattern ≡ unset_by ++ (
     ∷ (commands.C1 11, Some true) ∷ []
 of_box pattern = refl
 
--- no code sets a size, since sizes aren't built
-pub of_size : (pattern : Pattern) → class_by size_in pattern ≡ unset_by
+pub of_size : (pattern : Pattern) → class_by size_in pattern ≡ unset_by ++ (commands.C1 12, Some Normal)
+    ∷ (commands.C1 13, Some High) ∷ (commands.C1 14, Some Wide) ∷ (commands.C1 15, Some Both) ∷ []
 of_size pattern = refl
 
 pub of_polarity : (pattern : Pattern) → class_by invert_in pattern ≡ unset_by ++ (commands.C1 28, Some false)
@@ -138,6 +139,9 @@ of_no_foreground pattern = refl
 
 pub of_no_conceal : (pattern : Pattern) → serial_by conceal_in pattern ≡ unset_by
 of_no_conceal pattern = refl
+
+pub of_no_size : (pattern : Pattern) → serial_by size_in pattern ≡ unset_by
+of_no_size pattern = refl
 
 -- ---- what services leave alone
 

@@ -17,3 +17,5 @@ pub mod Writing
 pub mod Markers
 pub mod Serial
 pub mod Carry
+pub mod Tiling
+pub mod RowsFromAbove

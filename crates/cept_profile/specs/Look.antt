@@ -1,11 +1,17 @@
 -- Looks (own): what is seen at each place of a core.
-use Rattle.std.specs.Prelude.{ℕ, Option, Some, List, ◌&&◌, ◌==◌, if◌then◌else◌}
+use Rattle.std.specs.Prelude.{ℕ, Bool, true, false, Option, Some, None, List, ◌-◌, ◌&&◌, ◌==◌, nat_le}
+use Rattle.std.specs.Prelude.{if◌then◌else◌}
 use Rattle.cept_codes.specs.declared.attribute.Full.{Full}
+use Rattle.cept_codes.specs.declared.attribute.Pen.{Pen}
+use Rattle.cept_codes.specs.declared.attribute.Size.{Size}
+use Rattle.cept_codes.specs.declared.attribute.Size.TheVariants as sizes
+use Rattle.cept_codes.specs.declared.cell.Marker.TheVariants as markers
 use Rattle.cept_codes.specs.declared.cell.What.{What}
 use Rattle.cept_codes.specs.declared.cell.What.TheVariants as whats
 use Rattle.cept_codes.specs.declared.command.Command.{Command}
 use Rattle.cept_codes.specs.declared.glyph.Glyph.{Glyph}
 use Rattle.cept_codes.specs.declared.look.Look.{Look}
+use Rattle.cept_codes.specs.declared.look.Part.{Part}
 use Rattle.cept_codes.specs.declared.look.Shape.{Shape}
 use Rattle.cept_codes.specs.declared.look.Shape.TheVariants as shapes
 use Rattle.cept_codes.specs.Attribute.{unset_pen}
@@ -15,6 +21,7 @@ use Rattle.cept_profile.specs.Attributes.{cascade}
 use Rattle.cept_profile.specs.Colours.{fore_paint, back_paint, paint_over}
 use Rattle.cept_profile.specs.Serial.{held_sign, own_attributes}
 use Rattle.cept_profile.specs.State.{Core, core}
+use Rattle.cept_profile.specs.Tiling.{part_at, tiled_table}
 
 -- a sign is drawn as itself, the space without accent as nothing
 abbrev pub shape_of_sign : Glyph → Shape
@@ -57,17 +64,69 @@ abbrev pub shape_in : What → Option Glyph → Shape
 shape_in (whats.Marker m) (Some g) = shape_of_sign g
 shape_in what _ = shape_of what
 
--- the look at a column of a row, on a screen on which no attribute is set for the row or the whole
-unfoldable pub look_in_row : (ℕ → What) → ℕ → Look
-look_in_row row c = look_with (shape_in (row c) (held_sign row c)) (own_attributes row unset_pen unset_pen c)
+-- ---- one row by itself
+
+-- what stands in a column of a row, in single size, by its own attributes, those of the row and those of the screen
+unfoldable pub look_in_row : (ℕ → What) → Pen → Pen → ℕ → Look
+look_in_row row pen screen c = look_with (shape_in (row c) (held_sign row c)) (own_attributes row pen screen c)
+
+-- the size in which it is to be shown
+unfoldable pub size_in_row : (ℕ → What) → Pen → Pen → ℕ → Size
+size_in_row row pen screen c = (own_attributes row pen screen c).size
+
+-- a size other than the single one
+abbrev pub is_double : Size → Bool
+is_double sizes.Normal = false
+is_double _ = true
+
+-- the same, where one is set
+abbrev pub is_double_set : Option Size → Bool
+is_double_set None = false
+is_double_set (Some size) = is_double size
+
+-- what stands there sets a size other than the single one
+abbrev pub sets_size : What → Bool
+sets_size (whats.Parallel g pen) = is_double_set pen.size
+sets_size (whats.Marker (markers.Size size)) = is_double size
+sets_size _ = false
+
+-- ---- all rows, each place by its origin
 
 -- what stands in each column of row r of a core
 abbrev pub contents_of_row : Core → ℕ → ℕ → What
 contents_of_row k r c = (value_at blank_cell k.page.cells r c).what
 
--- the look at row r and column c
-abbrev pub look : Core → ℕ → ℕ → Look
-look k r c = look_in_row (contents_of_row k r) c
+-- what stands at row r and column c by itself, on a screen on which no attribute is set for the row or the whole
+abbrev pub own_look : Core → ℕ → ℕ → Look
+own_look k r c = look_in_row (contents_of_row k r) unset_pen unset_pen c
+
+-- the size in which it is to be shown
+abbrev pub own_size : Core → ℕ → ℕ → Size
+own_size k r c = size_in_row (contents_of_row k r) unset_pen unset_pen c
+
+-- a row from `rows` on is last: no sign in it is high
+abbrev pub is_last_row : ℕ → ℕ → Bool
+is_last_row rows r = nat_le rows r
+
+-- which part of a sign each place of a core shows: the one table that is tiled by the sizes
+abbrev pub parts_of : Core → List (List Part)
+parts_of k = tiled_table (own_size k) (is_last_row k.rows)
+
+-- the part that a look shows
+abbrev pub part_of : Look → Part
+part_of l = record { dy = l.dy; dx = l.dx; w = l.w; h = l.h }
+
+-- a look with this part in place of its own
+abbrev pub look_with_part : Part → Look → Look
+look_with_part p l = record l { dy = p.dy; dx = p.dx; w = p.w; h = p.h }
+
+-- this part, at row r and column c, of what stands at its origin, dy rows up and dx columns left
+abbrev pub look_of_origin : (ℕ → ℕ → Look) → ℕ → ℕ → Part → Look
+look_of_origin own r c p = look_with_part p (own (r - p.dy) (c - p.dx))
+
+-- the look at row r and column c: its part of what stands at its origin
+unfoldable pub look : Core → ℕ → ℕ → Look
+look k r c = look_of_origin (own_look k) r c (part_at (parts_of k) r c)
 
 -- all looks of a core
 abbrev pub looks_of : Core → List (List Look)

@@ -1,9 +1,10 @@
 -- Markers: what a control function leaves in its cell under the serial set (ETS 300 072 and T/CD 6-1, the serial
--- supplementary control functions; what each code leaves, and when the mosaic run begins and ends, is this profile's
--- own). The sizes aren't built.
+-- supplementary control functions; what each code leaves, when the mosaic run begins and ends, and how far signs move on
+-- after a size, is this profile's own).
 use Rattle.std.specs.Prelude.{ℕ, ◌+◌, ◌-◌, ◌*◌, Bool, true, false, Option, Some, None, List, [], ◌∷◌, nat_lt, ◌==◌}
 use Rattle.std.specs.Prelude.{if◌then◌else◌}
 use Rattle.cept_codes.specs.declared.attribute.Flash.TheVariants as flashes
+use Rattle.cept_codes.specs.declared.attribute.Size.TheVariants as sizes
 use Rattle.cept_codes.specs.declared.cell.Cell.{Cell}
 use Rattle.cept_codes.specs.declared.cell.Marker.{Marker}
 use Rattle.cept_codes.specs.declared.cell.Marker.TheVariants as markers
@@ -11,6 +12,7 @@ use Rattle.cept_codes.specs.declared.cell.What.TheVariants as whats
 use Rattle.cept_codes.specs.declared.stroke.Stroke.{Stroke}
 use Rattle.cept_codes.specs.declared.stroke.Stroke.TheVariants as strokes
 use Rattle.cept_profile.specs.Motions.{working_ahead, on_strokes}
+use Rattle.cept_profile.specs.Tiling.{columns_of_size}
 use Rattle.cept_profile.specs.Working.{Working, ControlState}
 
 -- the marker of a C1 code, counted from 8/0, with a colour table of eight entries
@@ -21,7 +23,10 @@ marker_of table n =
     if n == 9 then Some (markers.Flash flashes.Steady) else
     if n == 10 then Some (markers.Boxed false) else
     if n == 11 then Some (markers.Boxed true) else
-    if nat_lt n 16 then None else
+    if n == 12 then Some (markers.Size sizes.Normal) else
+    if n == 13 then Some (markers.Size sizes.High) else
+    if n == 14 then Some (markers.Size sizes.Wide) else
+    if n == 15 then Some (markers.Size sizes.Both) else
     if nat_lt n 24 then Some (markers.Mosaic (8 * table + (n - 16))) else
     if n == 24 then Some (markers.Conceal true) else
     if n == 25 then Some (markers.Lined false) else
@@ -38,6 +43,11 @@ run_after (markers.Mosaic e) run = true
 run_after (markers.Alpha e) run = false
 run_after _ run = run
 
+-- how far signs move on after a marker: after a size as many columns as a sign of it takes
+abbrev pub step_after : Marker → ℕ → ℕ
+step_after (markers.Size size) step = columns_of_size size
+step_after _ step = step
+
 -- the cell that a marker makes, protected as protection says
 abbrev pub cell_of_marker : ControlState → Marker → Cell
 cell_of_marker s m = record { what = whats.Marker m; protected = s.working.protect }
@@ -47,9 +57,10 @@ abbrev pub strokes_of_marker : ControlState → Marker → List Stroke
 strokes_of_marker s m =
     strokes.Put (record { row = s.working.row; column = s.working.column }) (cell_of_marker s m) ∷ on_strokes s 1
 
--- after it: the position moved on by one column, and the mosaic run as the marker says
+-- after it: the position moved on by one column, and the mosaic run and the step as the marker says
 abbrev pub working_after_marker : ControlState → Marker → Working
-working_after_marker s m = record (working_ahead s 1 s.working) { run = run_after m s.working.run }
+working_after_marker s m =
+    record (working_ahead s 1 s.working) { run = run_after m s.working.run; step = step_after m s.working.step }
 
 -- the strokes of a marker, if there is one
 abbrev pub strokes_of_any_marker : ControlState → Option Marker → List Stroke

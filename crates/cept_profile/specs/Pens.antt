@@ -1,6 +1,6 @@
 -- Pens: the attributes that go with each sign under the parallel set (T/CD 6-1, the parallel supplementary control
 -- functions; what each code does is this profile's own), and what the same functions make of control under the serial
--- set, where each leaves a marker. The sizes aren't built.
+-- set, where each leaves a marker.
 use Rattle.std.specs.Prelude.{ℕ, ◌+◌, ◌-◌, ◌*◌, Bool, true, false, ◌||◌, Option, Some, None, List, [], nat_lt, nat_le}
 use Rattle.std.specs.Prelude.{◌==◌, if◌then◌else◌}
 use Rattle.cept_codes.specs.declared.attribute.Attr.{Attr}
@@ -8,6 +8,7 @@ use Rattle.cept_codes.specs.declared.attribute.Attr.TheVariants as attrs
 use Rattle.cept_codes.specs.declared.attribute.Flash.{Flash}
 use Rattle.cept_codes.specs.declared.attribute.Flash.TheVariants as flashes
 use Rattle.cept_codes.specs.declared.attribute.Pen.{Pen}
+use Rattle.cept_codes.specs.declared.attribute.Size.TheVariants as sizes
 use Rattle.cept_codes.specs.declared.cell.Marker.TheVariants as markers
 use Rattle.cept_codes.specs.declared.command.C1Set.{C1Set}
 use Rattle.cept_codes.specs.declared.command.C1Set.TheVariants as c1sets
@@ -24,7 +25,10 @@ attribute_of table n =
     if n == 9 then Some (attrs.Flash flashes.Steady) else
     if n == 10 then Some (attrs.Boxed false) else
     if n == 11 then Some (attrs.Boxed true) else
-    if nat_lt n 16 then None else
+    if n == 12 then Some (attrs.Size sizes.Normal) else
+    if n == 13 then Some (attrs.Size sizes.High) else
+    if n == 14 then Some (attrs.Size sizes.Wide) else
+    if n == 15 then Some (attrs.Size sizes.Both) else
     if nat_lt n 24 then Some (attrs.Back (8 * table + (n - 16))) else
     if n == 24 then Some (attrs.Conceal true) else
     if n == 25 then Some (attrs.Lined false) else

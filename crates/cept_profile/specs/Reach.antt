@@ -1,36 +1,50 @@
 -- Reach: the rows in which a command can change what is seen (the rule is this profile's own).
-use Rattle.std.specs.Prelude.{ℕ, Bool, true, false, ◌==◌, List}
+use Rattle.std.specs.Prelude.{ℕ, Bool, true, false, ◌==◌, ◌||◌, ◌&&◌, not, List}
 use Rattle.std.specs.List.{count_by, list_any, range_with_len}
 use Rattle.cept_codes.specs.declared.command.Command.{Command}
 use Rattle.cept_codes.specs.declared.stroke.Stroke.{Stroke}
 use Rattle.cept_codes.specs.declared.stroke.Stroke.TheVariants as strokes
-use Rattle.cept_profile.specs.State.{State}
+use Rattle.cept_profile.specs.Look.{is_last_row, looks_of}
+use Rattle.cept_profile.specs.RowsFromAbove.{covering_differs}
+use Rattle.cept_profile.specs.State.{State, core_of, state_after}
 use Rattle.cept_profile.specs.Strokes.{strokes_of}
 
--- the stroke can change this row: a cell that is put and an erased end of a row their own, a wipe each (own)
-abbrev pub reaches : Stroke → ℕ → Bool
-reaches (strokes.Put p cell) r = p.row == r
-reaches (strokes.Erase row from) r = row == r
-reaches strokes.Wipe r = true
+-- the stroke can change cells of this row: a cell that is put and an erased end of a row their own, a wipe each (own)
+abbrev pub touches : Stroke → ℕ → Bool
+touches (strokes.Put p cell) r = p.row == r
+touches (strokes.Erase row from) r = row == r
+touches strokes.Wipe r = true
 -- not built yet: no effect
-reaches (strokes.Shift first last way) r = false
-reaches (strokes.RowAttr row attr) r = false
-reaches (strokes.ScreenAttr attr) r = false
-reaches strokes.ScreenClear r = false
-reaches (strokes.Colour i paint) r = false
-reaches (strokes.Dclut i entry) r = false
-reaches strokes.ColourDefaults r = false
-reaches strokes.DrcsClear r = false
-reaches (strokes.Drcs code pattern) r = false
-reaches (strokes.Format rows) r = false
+touches (strokes.Shift first last way) r = false
+touches (strokes.RowAttr row attr) r = false
+touches (strokes.ScreenAttr attr) r = false
+touches strokes.ScreenClear r = false
+touches (strokes.Colour i paint) r = false
+touches (strokes.Dclut i entry) r = false
+touches strokes.ColourDefaults r = false
+touches strokes.DrcsClear r = false
+touches (strokes.Drcs code pattern) r = false
+touches (strokes.Format rows) r = false
 
--- one of the strokes can change this row (own)
-unfoldable pub one_reaches : List Stroke → ℕ → Bool
-one_reaches strokes r = list_any (λ stroke. reaches stroke r) strokes
+-- one of the strokes can change cells of this row (own)
+unfoldable pub one_touches : List Stroke → ℕ → Bool
+one_touches strokes r = list_any (λ stroke. touches stroke r) strokes
 
--- in this state the command can change this row: one of its strokes can (own)
+-- the row is last under one number of rows and not under the other
+abbrev pub becomes_last : ℕ → ℕ → ℕ → Bool
+becomes_last before after r =
+    (is_last_row before r && not (is_last_row after r)) || (is_last_row after r && not (is_last_row before r))
+
+-- the row itself changes: the strokes can change its cells, or it becomes last or is so no longer
+abbrev pub is_row_touched : List Stroke → ℕ → ℕ → ℕ → Bool
+is_row_touched strokes before after r = one_touches strokes r || becomes_last before after r
+
+-- in this state the command can change what is seen in this row: it touches the row itself, or changes what covers it
+-- from above (own)
 unfoldable pub in_reach : State → Command → ℕ → Bool
-in_reach s command r = one_reaches (strokes_of s.control command) r
+in_reach s command r =
+    is_row_touched (strokes_of s.control command) s.control.rows (state_after s command).control.rows r
+    || covering_differs (looks_of (core_of s)) (looks_of (core_of (state_after s command))) r
 
 -- how many rows of the screen it can change (own)
 unfoldable pub rows_in_reach : State → Command → ℕ

@@ -19,7 +19,7 @@ pub record Working : Type 0 where
   pub pen : Pen
   pub fast : ℕ  -- the fast flash in force, 0 for none
   pub run : Bool  -- left bytes are mosaics
-  pub step : ℕ  -- how far a sign moves on under the serial set
+  pub step : ℕ  -- how many columns a sign moves on under the serial set
   pub table : ℕ  -- the colour table
   pub protect : Bool  -- written cells become protected
 

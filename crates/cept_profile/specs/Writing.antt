@@ -1,7 +1,8 @@
 -- Writing: signs, the accents that wait for them, and how often a sign is written (ISO 6937, accents before their
--- sign; T/CD 6-1, RPT). The sizes aren't built, so each sign moves on by one column.
+-- sign; T/CD 6-1, RPT). How many columns a sign moves on is this profile's own.
 use Rattle.std.specs.Prelude.{ℕ, zero, suc, Option, Some, None, List, [], ◌∷◌, ◌++◌}
 use Rattle.cept_codes.specs.declared.attribute.Pen.{Pen}
+use Rattle.cept_codes.specs.declared.attribute.Size.{Size}
 use Rattle.cept_codes.specs.declared.cell.Cell.{Cell}
 use Rattle.cept_codes.specs.declared.cell.What.{What}
 use Rattle.cept_codes.specs.declared.cell.What.TheVariants as whats
@@ -16,6 +17,7 @@ use Rattle.cept_codes.specs.declared.stroke.Stroke.{Stroke}
 use Rattle.cept_codes.specs.declared.stroke.Stroke.TheVariants as strokes
 use Rattle.cept_profile.specs.Motions.{working_ahead, on_strokes}
 use Rattle.cept_profile.specs.Sets.{GraphicResult, graphic}
+use Rattle.cept_profile.specs.Tiling.{columns_of_size}
 use Rattle.cept_profile.specs.Working.{Working, ControlState, control_with, working_with_sets}
 
 -- what a sign is under a C1 set: under the parallel one the pen goes with it
@@ -27,14 +29,28 @@ content c1sets.Serial g pen = whats.Serial g
 abbrev pub cell_of : ControlState → Glyph → Cell
 cell_of s g = record { what = content s.working.c1 g s.working.pen; protected = s.working.protect }
 
+-- how many columns a sign with this size set takes
+abbrev pub columns_of_set : Option Size → ℕ
+columns_of_set None = 1
+columns_of_set (Some size) = columns_of_size size
+
+-- how many columns a sign moves on: under the parallel set as many as the size of the pen takes, under the serial set as
+-- the last size marker said
+abbrev pub columns_under : C1Set → Working → ℕ
+columns_under c1sets.Parallel w = columns_of_set w.pen.size
+columns_under c1sets.Serial w = w.step
+
+abbrev pub columns_of_sign : ControlState → ℕ
+columns_of_sign s = columns_under s.working.c1 s.working
+
 -- a sign is written at the position: its cell is put there, and the step after it makes its strokes
 abbrev pub strokes_of_sign : ControlState → Glyph → List Stroke
 strokes_of_sign s g = strokes.Put (record { row = s.working.row; column = s.working.column }) (cell_of s g)
-    ∷ on_strokes s 1
+    ∷ on_strokes s (columns_of_sign s)
 
 -- after it: the position moved on, it is the last sign, and no accent waits
 abbrev pub working_after_sign : ControlState → Glyph → Working
-working_after_sign s g = record (working_ahead s 1 s.working) { last = Some g; accent = None }
+working_after_sign s g = record (working_ahead s (columns_of_sign s) s.working) { last = Some g; accent = None }
 
 -- the state after n copies of a sign
 unfoldable pub control_after_copies : ℕ → ControlState → Glyph → ControlState

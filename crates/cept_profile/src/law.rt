@@ -11,22 +11,29 @@ mod painting;
 mod protected_cells;
 mod reach;
 mod repeated_signs;
+mod rows_from_above;
 mod serial_rows;
+mod tiling;
 mod validity;
 
 pub use accents::{accents_wait, single_shifts_wait};
 pub use codes_of_sets::codes_give_signs_or_accents;
 pub use control_settings::{closed_services_are_left_out, settings_look_back};
 pub use first_grid::{clearing_blanks_the_page, the_first_grid};
-pub use looks_in_rows::looks_hang_on_cells_to_the_left;
+pub use looks_in_rows::{looks_hang_on_cells_to_the_left, the_page_and_the_rows_are_seen};
 pub use motions::motions_go_round_the_places;
 pub use one_more::{looking_back_is_drawing, one_more_command, one_more_command_by_parts};
 pub use painting::{each_command_is_shown, marked_places_in_order, painting_the_changes};
 pub use protected_cells::protection;
-pub use reach::rows_out_of_reach_stay;
+pub use reach::{rows_out_of_reach_stay, untouched_rows_stay};
 pub use repeated_signs::copies_are_written_in_turn;
+pub use rows_from_above::{
+    looks_come_from_above_or_the_left, rows_of_single_size_cover_nothing,
+    rows_stay_under_what_covers_them,
+};
 pub use serial_rows::{
     cells_to_the_right_count_for_nothing, one_more_cell, serial_attributes_are_valid,
     the_nearest_marker_is_in_force, without_markers,
 };
+pub use tiling::{exactly_one_row_is_tiled, exactly_one_table_is_tiled, parts_are_valid};
 pub use validity::{looks_are_valid, strokes_are_valid, validity_is_kept};

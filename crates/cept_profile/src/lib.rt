@@ -8,10 +8,12 @@ mod law;
 pub use law::{
     accents_wait, cells_to_the_right_count_for_nothing, clearing_blanks_the_page,
     closed_services_are_left_out, codes_give_signs_or_accents, copies_are_written_in_turn,
-    each_command_is_shown, looking_back_is_drawing, looks_are_valid,
+    each_command_is_shown, exactly_one_row_is_tiled, exactly_one_table_is_tiled,
+    looking_back_is_drawing, looks_are_valid, looks_come_from_above_or_the_left,
     looks_hang_on_cells_to_the_left, marked_places_in_order, motions_go_round_the_places,
-    one_more_cell, one_more_command, one_more_command_by_parts, painting_the_changes, protection,
-    rows_out_of_reach_stay, serial_attributes_are_valid, settings_look_back, single_shifts_wait,
-    strokes_are_valid, the_first_grid, the_nearest_marker_is_in_force, validity_is_kept,
-    without_markers,
+    one_more_cell, one_more_command, one_more_command_by_parts, painting_the_changes,
+    parts_are_valid, protection, rows_of_single_size_cover_nothing, rows_out_of_reach_stay,
+    rows_stay_under_what_covers_them, serial_attributes_are_valid, settings_look_back,
+    single_shifts_wait, strokes_are_valid, the_first_grid, the_nearest_marker_is_in_force,
+    the_page_and_the_rows_are_seen, untouched_rows_stay, validity_is_kept, without_markers,
 };

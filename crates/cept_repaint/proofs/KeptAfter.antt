@@ -1,5 +1,5 @@
 -- States by their parts, and what is kept of them at the start and after a command.
-use Rattle.std.proofs.Common.{◌≡◌, Bool, List, sym, ap, subst, ◌∙◌}
+use Rattle.std.proofs.Common.{◌≡◌, ℕ, Bool, List, refl, sym, ap, subst, ◌∙◌}
 use Rattle.cept_codes.specs.declared.command.Command.{Command}
 use Rattle.cept_codes.specs.declared.look.Look.{Look}
 use Rattle.cept_codes.specs.declared.stroke.Stroke.{Stroke}
@@ -7,38 +7,64 @@ use Rattle.cept_codes.specs.Command.{IsValidCommand}
 use Rattle.cept_profile.specs.Changes.{differences}
 use Rattle.cept_profile.specs.Control.{ControlState, control_after}
 use Rattle.cept_profile.specs.Look.{looks_of}
+use Rattle.cept_profile.specs.Reach.{rows_in_reach}
 use Rattle.cept_profile.specs.State.{Page, State, core_of, page_after, state_after}
 use Rattle.cept_profile.specs.Strokes.{strokes_of}
 use Rattle.cept_profile.specs.Valid.{IsValidState}
 use Rattle.cept_profile.proofs.Laws.{IsValidState-state_after}
-use Rattle.cept_repaint.specs.Kept.{IsKept, core_on}
+use Rattle.cept_repaint.specs.Kept.{IsKept, core_on, reached_rows}
+use Rattle.cept_repaint.proofs.RowsTouched.{reached-in_reach}
+use Rattle.cept_profile.proofs.Laws.{looks_of-alike}
 
 -- two states of the same page and the same control are the same
 pub same_state : (p q : Page) (c d : ControlState) → p ≡ q → c ≡ d
     → (let s : State = record { page = p; control = c } in s) ≡ (let t : State = record { page = q; control = d } in t)
 same_state p q c d e f = λ i. record { page = e i; control = f i }
 
--- the looks of a state are those of its page
-pub looks_of-page : (s : State) (p : Page) → s.page ≡ p → looks_of (core_of s) ≡ looks_of (core_on p)
-looks_of-page s p e = ap (λ (q : Page). looks_of (core_on q)) e
+-- the looks of a state are those of its page and of the number of its rows
+pub looks_of-state : (s : State) → looks_of (core_of s) ≡ looks_of (core_on s.page s.control.rows)
+looks_of-state s = looks_of-alike (core_of s) (core_on s.page s.control.rows) refl refl
 
--- what is kept after a command
+-- the state after a command, by its strokes
+pub state_after-drawn : (p : Page) (c : ControlState) (command : Command) (q : Page) (d : ControlState)
+    (strokes : List Stroke) → strokes ≡ strokes_of c command → q ≡ page_after p strokes → d ≡ control_after c command
+    → (let s : State = record { page = q; control = d } in s) ≡ state_after (record { page = p; control = c }) command
+state_after-drawn p c command q d strokes es eq ed =
+    same_state q (page_after p (strokes_of c command)) d (control_after c command)
+    (eq ∙ ap (λ (xs : List Stroke). page_after p xs) es) ed
+
+-- what is kept after it
 pub IsKept-state_after : {p : Page} {c : ControlState} {kept : List (List Look)}
     → IsKept (record { page = p; control = c }) kept
     → (command : Command) → IsValidCommand command
-    → (q : Page) (d : ControlState) (next : List (List Look)) (strokes : List Stroke)
-    → strokes ≡ strokes_of c command → q ≡ page_after p strokes → d ≡ control_after c command
+    → (q : Page) (d : ControlState) (next : List (List Look)) → (let s : State = record { page = q; control = d } in s)
+    ≡ state_after (record { page = p; control = c }) command
     → next ≡ looks_of (core_of (record { page = q; control = d })) → IsKept (record { page = q; control = d }) next
-IsKept-state_after {p} {c} {kept} is command valid q d next strokes es eq ed looks = record {
-  valid =
-      let made : q ≡ page_after p (strokes_of c command) = eq ∙ ap (λ (xs : List Stroke). page_after p xs) es in
-      let whole : (let s : State = record { page = q; control = d } in s)
-      ≡ state_after (record { page = p; control = c }) command =
-      same_state q (page_after p (strokes_of c command)) d (control_after c command) made ed in
-      subst (λ (s : State). IsValidState s) (sym whole)
+IsKept-state_after {p} {c} {kept} is command valid q d next whole looks = record {
+  valid = subst (λ (s : State). IsValidState s) (sym whole)
       (IsValidState-state_after (record { page = p; control = c }) command is.valid valid);
   looks = looks;
 }
+
+-- the looks after it are those of its page and of the number of its rows
+pub looks_of-drawn : (q : Page) (d : ControlState) (after : ℕ) (next : List (List Look)) → after ≡ d.rows
+    → next ≡ looks_of (core_on q after) → next ≡ looks_of (core_of (record { page = q; control = d }))
+looks_of-drawn q d after next ea e =
+    e ∙ ap (λ n. looks_of (core_on q n)) ea ∙ sym (looks_of-state (record { page = q; control = d }))
+
+-- its strokes reach as many rows as are in its reach
+pub reached-in_reach_of : {p : Page} {c : ControlState} {kept : List (List Look)}
+    → IsKept (record { page = p; control = c }) kept → (command : Command)
+    → (q : Page) (d : ControlState) (next : List (List Look)) (strokes : List Stroke) (before after : ℕ)
+    → strokes ≡ strokes_of c command → before ≡ c.rows → after ≡ d.rows
+    → (let s : State = record { page = q; control = d } in s) ≡ state_after (record { page = p; control = c }) command
+    → next ≡ looks_of (core_of (record { page = q; control = d }))
+    → (s : State) → (let was : State = record { page = p; control = c } in was) ≡ s
+    → reached_rows strokes before after kept next ≡ rows_in_reach s command
+reached-in_reach_of {p} {c} {kept} is command q d next strokes before after es eb ea whole looks s e =
+    reached-in_reach (record { page = p; control = c }) command strokes before after kept next es eb
+    (ea ∙ ap (λ (t : State). t.control.rows) whole) is.looks (looks ∙ ap (λ (t : State). looks_of (core_of t)) whole)
+    ∙ ap (λ (t : State). rows_in_reach t command) e
 
 -- marks are the differences of two states' looks, where both are kept
 pub marks-kept : (s t u : State) (was now : List (List Look)) (marks : List Bool) → was ≡ looks_of (core_of s) → s ≡ t

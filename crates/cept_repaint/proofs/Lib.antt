@@ -1,11 +1,14 @@
+pub mod AloneRows
 pub mod KeptAfter
 pub mod LooksWritten
+pub mod MarkedDifferences
 pub mod MarkedRows
 pub mod MarkedWithin
 pub mod OnePlace
 pub mod PaintedInOrder
 pub mod Refreshed
-pub mod RowsReached
-pub mod RowLooks
+pub mod RowsOfLooks
+pub mod RowsTouched
 pub mod Unmarked
 pub mod ValidGrids
+pub mod WalkedRows

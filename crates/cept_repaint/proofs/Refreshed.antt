@@ -11,12 +11,16 @@ use Rattle.cept_codes.specs.Look.{blank_look}
 use Rattle.cept_codes.specs.Place.{Place, OnScreen, number, place_of}
 use Rattle.cept_codes.specs.Same.{same_look}
 use Rattle.cept_codes.specs.Table.{value_at, entry, row_of, table, IsTable}
-use Rattle.cept_codes.proofs.Laws.{value_at-table, IsTable-table, look_decides, table-value_at, same_table}
+use Rattle.cept_codes.proofs.Laws.{value_at-table, IsTable-table, look_decides, set_row_is, table-value_at}
+use Rattle.cept_codes.proofs.Laws.{same_table}
 use Rattle.cept_codes.proofs.Laws.{OnScreen-place_of, number-place_of, row_of-list_by_index, entry-list_by_index}
 use Rattle.cept_profile.specs.Cells.{is_at}
 use Rattle.cept_profile.specs.Changes.{look_at, differences, grid_with_paint}
-use Rattle.cept_repaint.specs.Kept.{looks_differ, IsRefreshed}
+use Rattle.cept_profile.specs.RowsFromAbove.{looks_in}
+use Rattle.cept_profile.specs.Tiling.{column_entry}
+use Rattle.cept_repaint.specs.Kept.{looks_differ, HasMarkedRow, IsRefreshed, IsRefreshedRow}
 use Rattle.cept_repaint.specs.Marks.{is_marked, no_marks}
+use Rattle.cept_repaint.proofs.RowsOfLooks.{column_entry-at, look_seen-at}
 use Rattle.cept_repaint.proofs.Unmarked.{length-no_marks, is_marked-no_marks}
 
 -- looks that are the same don't differ
@@ -28,7 +32,7 @@ pub or_true : (b : Bool) → true ≡ (b || true)
 or_true true = refl
 or_true false = refl
 
-or_false : (b : Bool) → b ≡ (b || false)
+pub or_false : (b : Bool) → b ≡ (b || false)
 or_false true = refl
 or_false false = refl
 
@@ -209,35 +213,55 @@ IsRefreshed-range {f} {was} {now} {before} {marks} {a} {b} m first end ea eb =
     subst (λ n. IsRefreshed f was now before marks first n) eb
     (subst (λ n. IsRefreshed f was now before marks n b) ea m)
 
--- a place more of a row
-pub IsRefreshed-column : (fresh : List Look) (was mid now : List (List Look)) (before between marks : List Bool)
-    (row column : ℕ) (p : Place) (here : Look) → 1 ≤ row → row ≤ 24 → 1 ≤ column → column < 41
-    → p.row ≡ row → p.column ≡ column → here ≡ entry blank_look 1 fresh column
-    → IsRefreshed (λ _ c. entry blank_look 1 fresh c) was mid before between (40 * (row - 1))
-    (40 * (row - 1) + (column - 1))
-    → IsRefreshed (λ _ _. here) mid now between marks (number p.row p.column) (number p.row p.column + 1)
-    → IsRefreshed (λ _ c. entry blank_look 1 fresh c) was now before marks (40 * (row - 1))
-    (40 * (row - 1) + ((column + 1) - 1))
-IsRefreshed-column fresh was mid now before between marks row column p here top bottom left right er ec e m n =
-    let f : ℕ → ℕ → Look = λ _ c. entry blank_look 1 fresh c in
-    let own : IsRefreshed f mid now between marks (number p.row p.column) (number p.row p.column + 1) =
-    IsRefreshed-alike (λ _ _. here) f mid now between marks _ _ (λ r c on low high.
-    let same : column ≡ c = omega (arith, on) in
-    e ∙ ap (entry blank_look 1 fresh) same) n in
-    IsRefreshed-append f was mid now before between marks _ (40 * (row - 1) + (column - 1)) _ (omega arith)
-    (omega arith) m (IsRefreshed-range own _ _ (omega arith) (omega arith))
+-- a row replaced, whose places are marked where the looks differ
+pub IsRefreshedRow-made : (was now : List (List Look)) (before marks : List Bool) (row : ℕ) (fresh : List Look)
+    → IsTable was → length fresh ≡ 40 → 1 ≤ row → row ≤ 24 → now ≡ set was (row - 1) fresh
+    → HasMarkedRow (looks_in was row) fresh row 41 before marks → IsRefreshedRow fresh row was now before marks
+IsRefreshedRow-made was now before marks row fresh is long top bottom e m =
+    let f : ℕ → ℕ → Look =
+    λ r c. cond (row == r) (entry blank_look 1 fresh c) (value_at blank_look was r c) in
+    let made : now ≡ table f =
+    e ∙ set_row_is was blank_look (row - 1) row fresh is (omega arith) (omega arith) long in
+    let elsewhere : (r c : ℕ) → OnScreen r c → row ≢ r → value_at blank_look now r c ≡ value_at blank_look was r c =
+    λ r c on apart.
+    let other : (row == r) ≡ false = grind (arith, nat_tests) in
+    ap (λ (t : List (List Look)). value_at blank_look t r c) made ∙ value_at-table f blank_look r c on
+    ∙ cond-false (row == r) (entry blank_look 1 fresh c) (value_at blank_look was r c) other in
+    record {
+      is = subst (λ (t : List (List Look)). IsTable t) (sym made) (IsTable-table f);
+      places = m.places;
+      shown = λ r c on low high.
+          let same : row ≡ r = omega (arith, on) in
+          let here : (row == r) ≡ true = grind (arith, nat_tests) in
+          ap (λ (t : List (List Look)). value_at blank_look t r c) made ∙ value_at-table f blank_look r c on
+          ∙ cond-true (row == r) (entry blank_look 1 fresh c) (value_at blank_look was r c) here
+          ∙ sym (column_entry-at blank_look fresh c on.from_left);
+      marked = λ r c on low high.
+          let same : row ≡ r = omega (arith, on) in
+          let there : OnScreen row c = subst (λ q. OnScreen q c) (sym same) on in
+          ap (λ q. is_marked marks (number q c)) (sym same) ∙ m.marked c there (omega (arith, on))
+          ∙ ap (λ (l : Look). is_marked before (number row c) || looks_differ l (column_entry blank_look fresh c))
+          (look_seen-at was row c is there)
+          ∙ ap (λ q. is_marked before (number q c)
+          || looks_differ (value_at blank_look was q c) (column_entry blank_look fresh c)) same;
+      above = λ r c on up. elsewhere r c on (λ same. omega (arith, on));
+      below = λ r c on down. elsewhere r c on (λ same. omega (arith, on));
+      marks_above = λ n up. m.marks_above n (omega arith);
+      marks_below = λ n down. m.marks_below n (omega arith);
+    }
 
 -- a row more of the screen
 pub IsRefreshed-row : (f : ℕ → ℕ → Look) (was mid now : List (List Look)) (before between marks : List Bool) (row : ℕ)
     (fresh : List Look) → 1 ≤ row → row ≤ 24 → fresh ≡ row_of (f row)
     → IsRefreshed f was mid before between 0 (40 * (row - 1))
-    → IsRefreshed (λ _ c. entry blank_look 1 fresh c) mid now between marks (40 * (row - 1)) (40 * row)
+    → IsRefreshedRow fresh row mid now between marks
     → IsRefreshed f was now before marks 0 (40 * ((row + 1) - 1))
 IsRefreshed-row f was mid now before between marks row fresh top bottom e m n =
     let own : IsRefreshed f mid now between marks (40 * (row - 1)) (40 * row) =
-    IsRefreshed-alike (λ _ c. entry blank_look 1 fresh c) f mid now between marks _ _ (λ r c on low high.
+    IsRefreshed-alike (λ _ c. column_entry blank_look fresh c) f mid now between marks _ _ (λ r c on low high.
     let same : row ≡ r = omega (arith, on) in
-    ap (λ (l : List Look). entry blank_look 1 l c) (e ∙ row_of-list_by_index (f row))
+    column_entry-at blank_look fresh c on.from_left
+    ∙ ap (λ (l : List Look). entry blank_look 1 l c) (e ∙ row_of-list_by_index (f row))
     ∙ entry-list_by_index blank_look 1 40 (f row) c on.from_left (omega (arith, on)) ∙ ap (λ q. f q c) same) n in
     IsRefreshed-append f was mid now before between marks 0 (40 * (row - 1)) _ (omega arith) (omega arith) m
     (IsRefreshed-range own _ _ refl (omega arith))

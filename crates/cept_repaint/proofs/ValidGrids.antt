@@ -1,6 +1,5 @@
 -- Valid grids: the blank one, and a grid with a valid look painted.
-use Rattle.std.proofs.Common.{ℕ, Bool, true, false, cond, List, sym, subst}
-use Rattle.cept_codes.specs.declared.cell.What.TheVariants as whats
+use Rattle.std.proofs.Common.{ℕ, Bool, true, false, cond, List, sym, subst, arith}
 use Rattle.cept_codes.specs.declared.look.Look.{Look}
 use Rattle.cept_codes.specs.Look.{blank_look, IsValidLook}
 use Rattle.cept_codes.specs.Place.{Place, OnScreen}
@@ -9,8 +8,6 @@ use Rattle.cept_codes.proofs.Laws.{value_at-table, IsTable-table}
 use Rattle.cept_profile.specs.Cells.{is_at}
 use Rattle.cept_profile.specs.Changes.{grid_with_paint}
 use Rattle.cept_profile.specs.Valid.{IsValidGrid}
-use Rattle.cept_profile.proofs.Laws.{look_of-blank_cell}
-use Rattle.cept_profile.proofs.Laws.{IsValidLook-look_of}
 
 -- a table of valid looks is a valid grid
 IsValidGrid-table : (f : ℕ → ℕ → Look) → ((r c : ℕ) → OnScreen r c → IsValidLook (f r c)) → IsValidGrid (table f)
@@ -19,10 +16,21 @@ IsValidGrid-table f valid = record {
   looks = λ r c on. subst (λ (l : Look). IsValidLook l) (sym (value_at-table f blank_look r c on)) (valid r c on);
 }
 
+IsValidLook-blank : IsValidLook blank_look
+IsValidLook-blank = record {
+  shape = tt;
+  part = record {
+    down = omega arith;
+    right = omega arith;
+    wide = (omega arith, omega arith);
+    high = (omega arith, omega arith);
+  };
+  fore = record { r = omega arith; g = omega arith; b = omega arith };
+  back = record { r = omega arith; g = omega arith; b = omega arith };
+}
+
 pub IsValidGrid-blank : IsValidGrid (table (λ _ _. blank_look))
-IsValidGrid-blank =
-    IsValidGrid-table (λ _ _. blank_look)
-    (λ r c on. subst IsValidLook look_of-blank_cell (IsValidLook-look_of whats.Blank tt))
+IsValidGrid-blank = IsValidGrid-table (λ _ _. blank_look) (λ _ _ _. IsValidLook-blank)
 
 valid_choice : (here : Bool) (l old : Look) → IsValidLook l → IsValidLook old → IsValidLook (cond here l old)
 valid_choice true l old new was = new

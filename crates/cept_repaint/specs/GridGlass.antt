@@ -5,4 +5,4 @@ use Rattle.cept_repaint.specs.GlassState.{GlassState}
 
 -- the kept grid, and no list
 abbrev pub grid_glass_state : GridGlass → GlassState
-grid_glass_state glass = record { grid = glass.looks; paints = None }
+grid_glass_state glass = record { grid = glass.rows; paints = None }

@@ -1,19 +1,23 @@
 -- What a screen keeps beside its state (this project's own): the look at each place, and when looks are refreshed.
 -- Private clauses alone cite this file.
-use Rattle.std.specs.Prelude.{ℕ, ◌≡◌, ◌<◌, ◌≤◌, ◌||◌, Bool, not, List, length}
-use Rattle.std.specs.List.{count_by, range_with_len}
+use Rattle.std.specs.Prelude.{ℕ, ◌≡◌, ◌<◌, ◌≤◌, ◌*◌, ◌-◌, ◌||◌, Bool, true, false, not, None, List, length}
+use Rattle.std.specs.List.{count_by, list_any, range_with_len}
 use Rattle.cept_codes.specs.declared.cell.Cell.{Cell}
+use Rattle.cept_codes.specs.declared.cell.What.{What}
 use Rattle.cept_codes.specs.declared.look.Look.{Look}
 use Rattle.cept_codes.specs.declared.stroke.Stroke.{Stroke}
+use Rattle.cept_codes.specs.Attribute.{unset_pen}
 use Rattle.cept_codes.specs.Cell.{blank_cell}
 use Rattle.cept_codes.specs.Look.{blank_look}
 use Rattle.cept_codes.specs.Place.{Place, OnScreen, number}
 use Rattle.cept_codes.specs.Same.{same_look}
 use Rattle.cept_codes.specs.Table.{value_at, IsTable}
-use Rattle.cept_profile.specs.Control.{initial_control}
-use Rattle.cept_profile.specs.Look.{looks_of}
-use Rattle.cept_profile.specs.Reach.{one_reaches}
+use Rattle.cept_profile.specs.Cells.{is_at}
+use Rattle.cept_profile.specs.Look.{look, look_in_row, looks_of, size_in_row}
+use Rattle.cept_profile.specs.Reach.{is_row_touched}
+use Rattle.cept_profile.specs.RowsFromAbove.{covering_differs, is_other_covering, row_from_above}
 use Rattle.cept_profile.specs.State.{Core, Page, State, core_of}
+use Rattle.cept_profile.specs.Tiling.{column_entry}
 use Rattle.cept_profile.specs.Valid.{IsValidState}
 use Rattle.cept_repaint.specs.Marks.{is_marked}
 
@@ -21,13 +25,27 @@ use Rattle.cept_repaint.specs.Marks.{is_marked}
 abbrev pub cell_at : Page → Place → Cell
 cell_at p place = value_at blank_cell p.cells place.row place.column
 
--- a core with this page, and control as at the start: no look shows more of it yet
-abbrev pub core_on : Page → Core
-core_on p = core_of (record { page = p; control = initial_control })
+-- a core with this page and so many rows: no look shows more of control
+abbrev pub core_on : Page → ℕ → Core
+core_on p rows = record { page = p; rows = rows; wrap = true; area = None; implicit = false }
 
--- how many rows of the screen the strokes reach
-unfoldable pub reached_rows : List Stroke → ℕ
-reached_rows strokes = count_by (one_reaches strokes) (range_with_len 1 24)
+-- what stands in each column of row r of a page
+abbrev pub contents_in : Page → ℕ → ℕ → What
+contents_in p r c = (value_at blank_cell p.cells r c).what
+
+-- the looks of row r of a page beneath these looks
+abbrev pub row_beneath : List Look → Page → ℕ → Bool → List Look
+row_beneath above p r last =
+    row_from_above above (look_in_row (contents_in p r) unset_pen unset_pen)
+    (size_in_row (contents_in p r) unset_pen unset_pen) last
+
+-- strokes reach row r, where the page had so many rows before and has so many after, and these were and are its looks
+abbrev pub is_reached : List Stroke → ℕ → ℕ → List (List Look) → List (List Look) → ℕ → Bool
+is_reached strokes before after was now r = is_row_touched strokes before after r || covering_differs was now r
+
+-- how many rows of the screen they reach
+unfoldable pub reached_rows : List Stroke → ℕ → ℕ → List (List Look) → List (List Look) → ℕ
+reached_rows strokes before after was now = count_by (is_reached strokes before after was now) (range_with_len 1 24)
 
 -- the looks aren't the same
 unfoldable pub looks_differ : Look → Look → Bool
@@ -37,6 +55,31 @@ looks_differ a b = not (same_look a b)
 pub record IsKept (s : State) (kept : List (List Look)) : Type 0 where
   pub valid : IsValidState s
   pub looks : kept ≡ looks_of (core_of s)
+
+-- what covers the row below is not the same under two lists of looks
+unfoldable pub is_other_above : List Look → List Look → Bool
+is_other_above was fresh =
+    list_any (λ c. is_other_covering (column_entry blank_look was c) (column_entry blank_look fresh c))
+    (range_with_len 1 40)
+
+-- all places but this one look as they did
+abbrev pub OthersStay : List (List Look) → Core → Place → Type 0
+OthersStay was k place = (r c : ℕ) → OnScreen r c → is_at place r c ≡ false → value_at blank_look was r c ≡ look k r c
+
+-- all rows that strokes don't reach look as they did, where the page had so many rows before
+abbrev pub UnreachedStay : List Stroke → ℕ → List (List Look) → Core → Type 0
+UnreachedStay strokes before was k =
+    (r c : ℕ) → OnScreen r c → is_reached strokes before k.rows was (looks_of k) r ≡ false
+    → value_at blank_look was r c ≡ look k r c
+
+-- the places of row r in which two lists of looks differ are marked besides, in columns below `end`, and no others
+pub record HasMarkedRow (was fresh : List Look) (r end : ℕ) (before marks : List Bool) : Type 0 where
+  pub places : length marks ≡ 960
+  pub marked : (c : ℕ) → OnScreen r c → c < end
+      → is_marked marks (number r c) ≡ (is_marked before (number r c)
+      || looks_differ (column_entry blank_look was c) (column_entry blank_look fresh c))
+  pub marks_above : (n : ℕ) → n < number r 1 → is_marked marks n ≡ is_marked before n
+  pub marks_below : (n : ℕ) → number r end ≤ n → is_marked marks n ≡ is_marked before n
 
 -- each place with a number from `first` on and below `end` shows what f says, and is marked besides if it showed
 -- something else; all other places are as they were
@@ -52,3 +95,8 @@ pub record IsRefreshed (f : ℕ → ℕ
   pub below : (r c : ℕ) → OnScreen r c → end ≤ number r c → value_at blank_look now r c ≡ value_at blank_look was r c
   pub marks_above : (n : ℕ) → n < first → is_marked marks n ≡ is_marked before n
   pub marks_below : (n : ℕ) → end ≤ n → is_marked marks n ≡ is_marked before n
+
+-- row r shows these looks, and places of it that showed something else are marked besides; all others are as they were
+abbrev pub IsRefreshedRow : List Look → ℕ → List (List Look) → List (List Look) → List Bool → List Bool → Type 0
+IsRefreshedRow fresh r was now before marks =
+    IsRefreshed (λ _ c. column_entry blank_look fresh c) was now before marks (40 * (r - 1)) (40 * r)

@@ -5,7 +5,7 @@ ghost use Rattle.cept_profile.specs.Valid.{IsValidGrid};
 ghost use Rattle.cept_repaint.specs.ValidGrid.{IsValidGrid-prop};
 
 use crate::glass::Glass;
-use crate::looks::Looks;
+use crate::kept_rows::KeptRows;
 use crate::screen::Screen;
 use cept_codes::{Look, NoMemory, Pos};
 use std::alloc::Global;
@@ -13,8 +13,8 @@ use std::alloc::Global;
 /// A glass in memory. It keeps the look at each place, and tells no list of paints.
 #[derive(Drop)]
 pub struct GridGlass {
-    looks: Looks,
-    ghost valid: { IsValidGrid looks } by { IsValidGrid-prop looks },
+    rows: KeptRows,
+    ghost valid: { IsValidGrid rows } by { IsValidGrid-prop rows },
 }
 
 impl GridGlass {
@@ -26,8 +26,8 @@ impl GridGlass {
             ≡ table (λ _ _. blank_look)) }
         ensures untold { IfOk result (λ glass. (grid_glass_state glass).paints ≡ None) }
     {
-        let looks = Looks::new(alloc)?;
-        Ok(GridGlass { looks })
+        let rows = KeptRows::new(alloc)?;
+        Ok(GridGlass { rows })
     }
 }
 
@@ -37,11 +37,13 @@ impl Glass for GridGlass {
     ghost state = { grid_glass_state };
 
     fn paint(&mut self, at: Pos, screen: &Screen) {
-        self.looks.set(at, screen.look(at));
+        let looks = screen.row_looks(at.row());
+        looks.tell_columns();
+        self.rows.copy_at(at, looks);
     }
 
     fn shown(&self, at: Pos) -> Look {
-        self.looks.get(at)
+        self.rows.get(at)
     }
 
     ghost valid = { λ glass. glass.valid };

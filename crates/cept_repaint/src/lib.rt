@@ -2,11 +2,9 @@
 //! and paints them on a glass. It knows no bytes and keeps no history.
 #![tactic(auto)]
 
-mod cell_look;
-mod colours;
 mod glass;
 mod grid_glass;
-mod looks;
+mod kept_rows;
 mod marks;
 mod page;
 mod painting;

@@ -105,10 +105,14 @@ fn count_set(flags: &[bool]) -> u16
     flags.iter().filter(|marked| **marked).count() as u16
 }
 
-/// Unsets these flags.
+/// Unsets these flags; most often there is one.
 fn unmark(flags: &mut [bool])
     ensures { (n : ℕ) → is_marked flags.new n ≡ false }
 {
+    if flags.len() == 1 {
+        flags[0] = false;
+        return;
+    }
     for flag in flags.iter_mut() {
         *flag = false;
     }

@@ -1,30 +1,35 @@
-ghost use Rattle.std.specs.Prelude.{◌≡◌, ◌≤◌, ◌+◌, ℕ, true, false, [], length, IfOk};
-ghost use Rattle.cept_codes.specs.Cell.{blank_cell};
-ghost use Rattle.cept_codes.specs.Table.{value_at, entry, row_of};
+ghost use Rattle.std.specs.Prelude.{◌≡◌, ◌≤◌, ◌+◌, ◌==◌, ◌&&◌, ◌||◌, ℕ, true, false, [], length};
+ghost use Rattle.std.specs.Prelude.{IfOk};
+ghost use Rattle.cept_codes.specs.Cell.{IsValidWhat, blank_cell};
+ghost use Rattle.cept_codes.specs.Table.{value_at, entry};
 ghost use Rattle.cept_profile.specs.Cells.{cells_after};
-ghost use Rattle.cept_profile.specs.Look.{look};
+ghost use Rattle.cept_profile.specs.Look.{is_double, sets_size};
 ghost use Rattle.cept_profile.specs.Serial.{is_marker};
 ghost use Rattle.cept_profile.specs.State.{page, page_after};
-ghost use Rattle.cept_repaint.specs.Kept.{core_on};
-ghost use Rattle.cept_repaint.specs.MarkedRows.{HasNoMarkers, flag_after};
+ghost use Rattle.cept_profile.specs.Valid.{IsValidPage};
+ghost use Rattle.cept_repaint.specs.Kept.{row_beneath};
+ghost use Rattle.cept_repaint.specs.MarkedRows.{StandsAlone, flag_after};
 
-use crate::cell_look::{look_of, looks_alone, looks_in_row};
 use cept_cells::Grid;
-use cept_codes::{Cell, Look, NoMemory, Pos, Stroke, What};
+use cept_codes::{Cell, Marker, NoMemory, Pen, Pos, Size, Stroke, What};
 use cept_outside::Steps;
+use cept_rows::{RowLooks, resolve_cells};
 use std::alloc::Global;
 use std::marker::Model;
 use std::sync::ledger::Ledger;
 
 /// What strokes change: the cells of the screen. Beside them stands for each row whether it may
-/// have a marker.
+/// have a marker, and whether a double size may be set in it.
 #[derive(Drop)]
 pub(crate) struct Page {
     grid: Grid,
     marked: [bool; 24],
+    sized: [bool; 24],
 }
 
 impl Model for Page {
+    ghost use Rattle.cept_profile.specs.Look.{sets_size};
+    ghost use Rattle.cept_profile.specs.Serial.{is_marker};
     ghost use Rattle.cept_profile.specs.State.{Page as PageOfCells};
     ghost use Rattle.cept_repaint.specs.MarkedRows.{AreRowFlags};
 
@@ -32,7 +37,8 @@ impl Model for Page {
 
     ghost view = { λ p. record { cells = p.grid } };
 
-    ghost invariant = { λ p. AreRowFlags p.grid p.marked };
+    ghost invariant = { λ p. AreRowFlags is_marker p.grid p.marked
+        × AreRowFlags sets_size p.grid p.sized };
 }
 
 impl Page {
@@ -44,6 +50,7 @@ impl Page {
         Ok(Page {
             grid,
             marked: [false; 24],
+            sized: [false; 24],
         })
     }
 
@@ -54,40 +61,44 @@ impl Page {
         self.grid.get(place)
     }
 
-    /// Whether no marker stands in the row. Where one stood before, the answer may be no until all
-    /// is wiped.
-    pub(crate) fn is_plain(&self, row: u8) -> bool
-        requires from_top { 1 ≤ row }
-        requires to_bottom { row ≤ 24 }
-        ensures { result ≡ true → HasNoMarkers self.now.cells row }
+    /// What stands in the cell at a place, where it stands.
+    pub(crate) fn what(&self, place: Pos) -> &What
+        requires { IsValidPage self.now }
+        ensures what { result.now
+            ≡ (value_at blank_cell self.now.cells place.row place.column).what }
+        ensures valid { IsValidWhat result.now }
     {
-        !self.marked[usize::from(row) - 1]
+        &self.grid.at(place).what
     }
 
-    /// The look at a place in a row without markers. One tick.
-    pub(crate) fn resolve<L: Ledger>(&self, place: Pos, steps: &mut Steps<L>) -> Look
-        requires plain { HasNoMarkers self.now.cells place.row }
-        ensures look { result ≡ look (core_on self.now) place.row place.column }
-        ensures tick { steps.new ≡ steps.old + 1 }
-    {
-        steps.tick();
-        look_of(&self.grid.at(place).what)
-    }
-
-    /// The looks of a row, from the left. One tick.
-    pub(crate) fn resolve_row<L: Ledger>(&self, row: u8, steps: &mut Steps<L>) -> [Look; 40]
+    /// Whether each cell of the row looks as it does by itself: no marker stands in it, and neither
+    /// in it nor in the row above is a double size set. Where one was before, the answer may be no
+    /// until all is wiped.
+    pub(crate) fn stands_alone(&self, row: u8) -> bool
         requires from_top { 1 ≤ row }
         requires to_bottom { row ≤ 24 }
-        ensures looks { result ≡ row_of (look (core_on self.now) row) }
+        ensures { result ≡ true → StandsAlone self.now.cells row }
+    {
+        let index = usize::from(row) - 1;
+        !self.marked[index] && !self.sized[index] && (index == 0 || !self.sized[index - 1])
+    }
+
+    /// The looks of a row beneath those of the row above. One tick.
+    pub(crate) fn resolve_row<L: Ledger>(
+        &self,
+        row: u8,
+        above: &RowLooks,
+        last: bool,
+        steps: &mut Steps<L>,
+    ) -> RowLooks
+        requires from_top { 1 ≤ row }
+        requires to_bottom { row ≤ 24 }
+        requires valid { IsValidPage self.now }
+        ensures looks { result ≡ row_beneath above.now self.now row last }
         ensures tick { steps.new ≡ steps.old + 1 }
     {
         let cells = self.grid.cells(row);
-        steps.tick();
-        if self.is_plain(row) {
-            looks_alone(cells)
-        } else {
-            looks_in_row(cells)
-        }
+        resolve_cells(cells, &Pen::UNSET, &Pen::UNSET, above, last, steps)
     }
 
     /// Changes the page as the strokes do, one after the other.
@@ -104,25 +115,34 @@ impl Page {
         ensures { self.new.cells ≡ cells_after self.old.cells stroke.now }
     {
         self.grid.strike(stroke);
-        flag_markers(stroke, &mut self.marked);
+        flag_rows(stroke, &mut self.marked, &mut self.sized);
     }
 }
 
-/// Flags the row of a marker that is put, and unflags all where all is wiped.
-fn flag_markers(stroke: &Stroke, rows: &mut [bool; 24])
-    requires flags { length rows.old ≡ 24 }
-    ensures flags { length rows.new ≡ 24 }
-    ensures rows { (r : ℕ) → 1 ≤ r → r ≤ 24
-        → entry false 1 rows.new r ≡ flag_after stroke.now (entry false 1 rows.old r) r }
+/// Flags the row of a cell that is put: one flag where it is a marker, one where it sets a double
+/// size. Unflags all rows where all is wiped.
+fn flag_rows(stroke: &Stroke, marked: &mut [bool; 24], sized: &mut [bool; 24])
+    requires marked_rows { length marked.old ≡ 24 }
+    requires sized_rows { length sized.old ≡ 24 }
+    ensures marked_rows { length marked.new ≡ 24 }
+    ensures sized_rows { length sized.new ≡ 24 }
+    ensures marked { (r : ℕ) → 1 ≤ r → r ≤ 24
+        → entry false 1 marked.new r
+        ≡ flag_after is_marker stroke.now (entry false 1 marked.old r) r }
+    ensures sized { (r : ℕ) → 1 ≤ r → r ≤ 24
+        → entry false 1 sized.new r
+        ≡ flag_after sets_size stroke.now (entry false 1 sized.old r) r }
 {
     match stroke {
         Stroke::Put(place, cell) => {
-            if is_marker(&cell.what) {
-                rows[usize::from(place.row()) - 1] = true;
-            }
+            flag_row(*place, is_marker(&cell.what), marked);
+            flag_row(*place, sets_size(&cell.what), sized);
         }
-        Stroke::Wipe => *rows = [false; 24],
-        // These put no marker.
+        Stroke::Wipe => {
+            *marked = [false; 24];
+            *sized = [false; 24];
+        }
+        // These put no cell.
         Stroke::Erase(_, _)
         | Stroke::RowAttr(_, _)
         | Stroke::ScreenAttr(_)
@@ -138,6 +158,18 @@ fn flag_markers(stroke: &Stroke, rows: &mut [bool; 24])
     }
 }
 
+/// Flags the row of a place, where this is so.
+fn flag_row(place: Pos, so: bool, rows: &mut [bool; 24])
+    requires flags { length rows.old ≡ 24 }
+    ensures flags { length rows.new ≡ 24 }
+    ensures rows { (r : ℕ) → 1 ≤ r → r ≤ 24
+        → entry false 1 rows.new r ≡ (entry false 1 rows.old r || (place.row == r && so)) }
+{
+    if so {
+        rows[usize::from(place.row()) - 1] = true;
+    }
+}
+
 /// Whether a marker stands there.
 fn is_marker(what: &What) -> bool
     ensures { result ≡ is_marker what.now }
@@ -145,5 +177,29 @@ fn is_marker(what: &What) -> bool
     match what {
         What::Marker(_) => true,
         What::Blank | What::Serial(_) | What::Parallel(_, _) => false,
+    }
+}
+
+/// Whether what stands there sets a double size.
+fn sets_size(what: &What) -> bool
+    ensures { result ≡ sets_size what.now }
+{
+    match what {
+        What::Parallel(_, pen) => match pen.size {
+            Some(size) => is_double(size),
+            None => false,
+        },
+        What::Marker(Marker::Size(size)) => is_double(*size),
+        What::Blank | What::Serial(_) | What::Marker(_) => false,
+    }
+}
+
+/// A size other than the single one.
+fn is_double(size: Size) -> bool
+    ensures { result ≡ is_double size }
+{
+    match size {
+        Size::Normal => false,
+        Size::High | Size::Wide | Size::Both => true,
     }
 }

@@ -2,7 +2,8 @@ ghost use Rattle.std.specs.Prelude.{◌≡◌, ◌≤◌, ◌<◌, ◌+◌, ◌-
 ghost use Rattle.std.specs.Prelude.{slice_index_or, IfSome};
 ghost use Rattle.cept_codes.specs.declared.cell.Cell.{Cell};
 ghost use Rattle.cept_codes.specs.Table.{list_by_index, entry};
-ghost use Rattle.cept_profile.specs.Reach.{one_reaches, reaches};
+ghost use Rattle.cept_profile.specs.Look.{is_last_row};
+ghost use Rattle.cept_profile.specs.Reach.{becomes_last, one_touches, touches};
 
 use cept_codes::{Pos, Stroke};
 
@@ -19,23 +20,23 @@ pub(crate) fn only_place(strokes: &[Stroke]) -> Option<Pos>
     }
 }
 
-/// For each row from the top, whether one of the strokes reaches it.
-pub(crate) fn rows_reached(strokes: &[Stroke]) -> [bool; 24]
-    ensures { result ≡ list_by_index 1 24 (one_reaches strokes.now) }
+/// For each row from the top, whether one of the strokes touches its cells.
+pub(crate) fn rows_touched(strokes: &[Stroke]) -> [bool; 24]
+    ensures { result ≡ list_by_index 1 24 (one_touches strokes.now) }
 {
     let mut rows = [false; 24];
     for stroke in strokes {
-        flag_reached(stroke, &mut rows);
+        flag_touched(stroke, &mut rows);
     }
     rows
 }
 
-/// Flags the rows that a stroke reaches.
-fn flag_reached(stroke: &Stroke, rows: &mut [bool; 24])
+/// Flags the rows whose cells a stroke touches.
+fn flag_touched(stroke: &Stroke, rows: &mut [bool; 24])
     requires flags { length rows.old ≡ 24 }
     ensures flags { length rows.new ≡ 24 }
     ensures rows { (r : ℕ) → 1 ≤ r → r ≤ 24
-        → entry false 1 rows.new r ≡ (entry false 1 rows.old r || reaches stroke.now r) }
+        → entry false 1 rows.new r ≡ (entry false 1 rows.old r || touches stroke.now r) }
 {
     match stroke {
         Stroke::Put(place, _) => rows[usize::from(place.row()) - 1] = true,
@@ -57,4 +58,18 @@ fn flag_reached(stroke: &Stroke, rows: &mut [bool; 24])
         | Stroke::Drcs(_, _)
         | Stroke::Format(_) => {}
     }
+}
+
+/// Whether a row from this many on is last: no sign in it is high.
+pub(crate) fn is_last_row(rows: u8, row: u8) -> bool
+    ensures { result ≡ is_last_row rows row }
+{
+    rows <= row
+}
+
+/// Whether a row becomes last, or is so no longer.
+pub(crate) fn becomes_last(before: u8, after: u8, row: u8) -> bool
+    ensures { result ≡ becomes_last before after row }
+{
+    is_last_row(before, row) != is_last_row(after, row)
 }

@@ -1,106 +1,197 @@
-ghost use Rattle.std.specs.Prelude.{◌≡◌, ◌≤◌, ◌+◌, ◌-◌, ℕ, false, length, count_by, slice_index_or};
-ghost use Rattle.std.specs.Prelude.{Some, IfSome};
+ghost use Rattle.std.specs.Prelude.{◌≡◌, ◌≤◌, ◌+◌, ◌-◌, ◌*◌, ◌||◌, ℕ, false, [], ◌∷◌, length, Some, IfSome};
+ghost use Rattle.std.specs.List.{list_any, range_with_len};
+ghost use Rattle.cept_codes.specs.declared.cell.Cell.{Cell};
 ghost use Rattle.cept_codes.specs.Look.{blank_look};
 ghost use Rattle.cept_codes.specs.Place.{OnScreen};
 ghost use Rattle.cept_codes.specs.Table.{value_at, entry};
 ghost use Rattle.cept_profile.specs.Cells.{is_at};
 ghost use Rattle.cept_profile.specs.Changes.{differences};
 ghost use Rattle.cept_profile.specs.Look.{look, looks_of};
-ghost use Rattle.cept_profile.specs.State.{State, core_of, page_after};
-ghost use Rattle.cept_repaint.specs.Kept.{core_on, reached_rows};
-ghost use Rattle.cept_repaint.specs.MarkedRows.{HasNoMarkers};
+ghost use Rattle.cept_profile.specs.Reach.{becomes_last, is_row_touched};
+ghost use Rattle.cept_profile.specs.RowsFromAbove.{covering_differs, is_other_covering, looks_in};
+ghost use Rattle.cept_profile.specs.State.{page_after};
+ghost use Rattle.cept_profile.specs.Tiling.{column_entry};
+ghost use Rattle.cept_profile.specs.Valid.{IsValidPage};
+ghost use Rattle.cept_repaint.specs.Kept.{core_on, is_other_above, reached_rows, row_beneath};
+ghost use Rattle.cept_repaint.specs.Kept.{HasMarkedRow, IsRefreshedRow, OthersStay, UnreachedStay};
+ghost use Rattle.cept_repaint.specs.MarkedRows.{StandsAlone};
 ghost use Rattle.cept_repaint.specs.Marks.{no_marks};
 
-use crate::looks::Looks;
+use crate::kept_rows::KeptRows;
 use crate::marks::Marks;
 use crate::page::Page;
-use crate::reach::{only_place, rows_reached};
+use crate::reach::{becomes_last, is_last_row, only_place, rows_touched};
 use cept_codes::{Pos, Stroke};
 use cept_outside::Steps;
+use cept_rows::RowLooks;
 use std::sync::ledger::Ledger;
 
-/// Draws the strokes on the page, resolves the rows that they reach and no others, and keeps the
-/// looks that differ from the kept ones. Marks their places and no others. Whatever the control is,
-/// before and after: no look shows it yet.
+/// Draws the strokes on the page, resolves the rows that they reach and no others, and keeps their
+/// looks. Marks the places at which these differ from those before, and no others. The page has so
+/// many rows before and so many after.
 pub(crate) fn redraw<L: Ledger>(
     page: &mut Page,
     strokes: &[Stroke],
-    looks: &mut Looks,
+    before: u8,
+    after: u8,
+    kept: &mut KeptRows,
     marks: &mut Marks,
     steps: &mut Steps<L>,
 )
-    requires kept { (s : State) → s.page ≡ page.old → looks.old ≡ looks_of (core_of s) }
+    requires kept { kept.old ≡ looks_of (core_on page.old before) }
+    requires valid { IsValidPage (page_after page.old strokes.now) }
     ensures page { page.new ≡ page_after page.old strokes.now }
-    ensures looks { (s : State) → s.page ≡ page.new → looks.new ≡ looks_of (core_of s) }
-    ensures marks { marks.new ≡ differences looks.old looks.new }
-    ensures cost { steps.new ≤ steps.old + reached_rows strokes.now }
+    ensures kept { kept.new ≡ looks_of (core_on page.new after) }
+    ensures marks { marks.new ≡ differences kept.old kept.new }
+    ensures cost { steps.new
+        ≤ steps.old + reached_rows strokes.now before after kept.old kept.new }
 {
     marks.clear();
+    if before != after {
+        page.draw_all(strokes);
+        refresh_rows(page, strokes, before, after, kept, marks, steps);
+        return;
+    }
     if strokes.is_empty() {
         return;
     }
-    let place = plain_place(page, only_place(strokes));
+    let place = lone_place(page, only_place(strokes));
     page.draw_all(strokes);
-    match plain_place(page, place) {
-        Some(place) => refresh_place(page, place, looks, marks, steps),
-        None => refresh_rows(page, &rows_reached(strokes), looks, marks, steps),
+    match lone_place(page, place) {
+        Some(place) => refresh_place(page, place, kept, marks, steps),
+        None => refresh_rows(page, strokes, before, after, kept, marks, steps),
     }
 }
 
-/// The place, where no marker stands in its row.
-fn plain_place(page: &Page, place: Option<Pos>) -> Option<Pos>
+/// The place, where each cell of its row looks as it does by itself.
+fn lone_place(page: &Page, place: Option<Pos>) -> Option<Pos>
     ensures same { IfSome result (λ p. place ≡ Some p) }
-    ensures plain { IfSome result (λ p. HasNoMarkers page.now.cells p.row) }
+    ensures alone { IfSome result (λ p. StandsAlone page.now.cells p.row) }
 {
     let place = place?;
-    if page.is_plain(place.row()) {
+    if page.stands_alone(place.row()) {
         Some(place)
     } else {
         None
     }
 }
 
-/// Resolves one place in a row without markers, where all others have the looks that are kept.
+/// Resolves one cell by itself: where all other places have the looks that are kept, so has this.
 fn refresh_place<L: Ledger>(
     page: &Page,
     place: Pos,
-    looks: &mut Looks,
+    kept: &mut KeptRows,
     marks: &mut Marks,
     steps: &mut Steps<L>,
 )
     requires none { marks.old ≡ no_marks }
-    requires plain { HasNoMarkers page.now.cells place.row }
-    requires others { (r c : ℕ) → OnScreen r c → is_at place r c ≡ false
-        → value_at blank_look looks.old r c ≡ look (core_on page.now) r c }
-    ensures looks { looks.new ≡ looks_of (core_on page.now) }
-    ensures marks { marks.new ≡ differences looks.old looks.new }
+    requires valid { IsValidPage page.now }
+    requires alone { StandsAlone page.now.cells place.row }
+    ensures kept { (rows : ℕ) → OthersStay kept.old (core_on page.now rows) place
+        → kept.new ≡ looks_of (core_on page.now rows) }
+    ensures marks { marks.new ≡ differences kept.old kept.new }
     ensures cost { steps.new ≡ steps.old + 1 }
     ensures on_screen { OnScreen place.row place.column }
 {
-    looks.refresh(place, &page.resolve(place, steps), marks);
+    kept.tell_whole();
+    marks.tell_places();
+    if kept.resolve_alone(place, page.what(place), steps) {
+        marks.mark(place);
+    }
 }
 
-/// Resolves the rows that are flagged, from the top, where all others have the looks that are kept.
+/// Resolves the rows that the strokes reach, from the top, where all others have the looks that are
+/// kept.
 fn refresh_rows<L: Ledger>(
     page: &Page,
-    reached: &[bool; 24],
-    looks: &mut Looks,
+    strokes: &[Stroke],
+    before: u8,
+    after: u8,
+    kept: &mut KeptRows,
     marks: &mut Marks,
     steps: &mut Steps<L>,
 )
     requires none { marks.old ≡ no_marks }
-    requires flags { length reached.now ≡ 24 }
-    requires others { (r c : ℕ) → OnScreen r c → entry false 1 reached.now r ≡ false
-        → value_at blank_look looks.old r c ≡ look (core_on page.now) r c }
-    ensures looks { looks.new ≡ looks_of (core_on page.now) }
-    ensures marks { marks.new ≡ differences looks.old looks.new }
-    ensures cost { steps.new ≡ steps.old + count_by (λ flag. flag) reached.now }
+    requires valid { IsValidPage page.now }
+    requires others { UnreachedStay strokes.now before kept.old (core_on page.now after) }
+    ensures kept { kept.new ≡ looks_of (core_on page.now after) }
+    ensures marks { marks.new ≡ differences kept.old kept.new }
+    ensures cost { steps.new
+        ≡ steps.old + reached_rows strokes.now before after kept.old kept.new }
 {
-    looks.tell_whole();
+    kept.tell_whole();
+    let touched = rows_touched(strokes);
+    let mut covered = false;
     for row in 1..25u8 {
-        if !reached[usize::from(row) - 1] {
+        let changed = touched[usize::from(row) - 1] | becomes_last(before, after, row);
+        if !(changed | covered) {
             continue;
         }
-        looks.refresh_row(row, &page.resolve_row(row, steps), marks);
+        covered = refresh_row(page, row, is_last_row(after, row), kept, marks, steps);
     }
+}
+
+/// Resolves a row beneath the looks kept of the row above, keeps its looks, and marks the places at
+/// which they differ from those before. Answers whether what covers the row below differs.
+fn refresh_row<L: Ledger>(
+    page: &Page,
+    row: u8,
+    last: bool,
+    kept: &mut KeptRows,
+    marks: &mut Marks,
+    steps: &mut Steps<L>,
+) -> bool
+    requires from_top { 1 ≤ row }
+    requires to_bottom { row ≤ 24 }
+    requires valid { IsValidPage page.now }
+    ensures refreshed { IsRefreshedRow (row_beneath (looks_in kept.old (row - 1)) page.now row last)
+        row kept.old kept.new marks.old marks.new }
+    ensures covering { result ≡ is_other_above (looks_in kept.old row) (looks_in kept.new row) }
+    ensures tick { steps.new ≡ steps.old + 1 }
+{
+    kept.tell_whole();
+    let fresh = resolve_beneath(page, row, last, kept, steps);
+    let covered = mark_differences(row, kept.row(row), &fresh, marks);
+    kept.replace(row, fresh);
+    covered
+}
+
+/// The looks of a row beneath the looks kept of the row above. One tick.
+fn resolve_beneath<L: Ledger>(
+    page: &Page,
+    row: u8,
+    last: bool,
+    kept: &KeptRows,
+    steps: &mut Steps<L>,
+) -> RowLooks
+    requires from_top { 1 ≤ row }
+    requires to_bottom { row ≤ 24 }
+    requires valid { IsValidPage page.now }
+    ensures looks { result ≡ row_beneath (looks_in kept.now (row - 1)) page.now row last }
+    ensures tick { steps.new ≡ steps.old + 1 }
+{
+    if row == 1 {
+        page.resolve_row(row, &RowLooks::flat(), last, steps)
+    } else {
+        page.resolve_row(row, kept.row(row - 1), last, steps)
+    }
+}
+
+/// Marks the places of a row at which two rows of looks differ. Answers whether one of the looks
+/// that differ covers the place below it.
+fn mark_differences(row: u8, was: &RowLooks, fresh: &RowLooks, marks: &mut Marks) -> bool
+    requires from_top { 1 ≤ row }
+    requires to_bottom { row ≤ 24 }
+    ensures marked { HasMarkedRow was.now fresh.now row 41 marks.old marks.new }
+    ensures covering { result ≡ is_other_above was.now fresh.now }
+{
+    marks.tell_places();
+    let mut covered = false;
+    let mut from = 1;
+    while let Some(column) = was.next_difference(fresh, from) {
+        marks.mark(Pos::new(row, column).unwrap());
+        covered = covered | was.covers_below(column) | fresh.covers_below(column);
+        from = column + 1;
+    }
+    covered
 }

@@ -7,13 +7,14 @@ ghost use Rattle.cept_profile.specs.Changes.{look_at, differences, changes_betwe
 ghost use Rattle.cept_profile.specs.Changes.{grid_with_paints};
 ghost use Rattle.cept_profile.specs.Look.{looks_of};
 ghost use Rattle.cept_profile.specs.Reach.{rows_in_reach};
+ghost use Rattle.cept_profile.specs.RowsFromAbove.{looks_in};
 ghost use Rattle.cept_profile.specs.State.{state, state_after, core_of};
 ghost use Rattle.cept_profile.specs.Valid.{AllValid, IsValidState};
 ghost use Rattle.cept_repaint.specs.GlassState.{Lists};
 ghost use Rattle.cept_repaint.specs.Kept.{cell_at};
 
 use crate::glass::Glass;
-use crate::looks::Looks;
+use crate::kept_rows::KeptRows;
 use crate::marks::Marks;
 use crate::page::Page;
 use crate::painting::paint_marked;
@@ -22,16 +23,17 @@ use arrayvec::ArrayVec;
 use cept_codes::{Cell, Command, Look, NoMemory, Pos, Stroke};
 use cept_control::Control;
 use cept_outside::Steps;
+use cept_rows::RowLooks;
 use std::alloc::Global;
 use std::marker::Model;
 use std::sync::ledger::Ledger;
 
-/// A decoder's screen: its page, its control, and the looks of all places.
+/// A decoder's screen: its page, its control, and the looks of all rows.
 #[derive(Drop)]
 pub struct Screen {
     page: Page,
     control: Control,
-    looks: Looks,
+    rows: KeptRows,
     strokes: ArrayVec<Stroke, 128>,
 }
 
@@ -43,7 +45,7 @@ impl Model for Screen {
 
     ghost view = { λ s. record { page = s.page; control = s.control } };
 
-    ghost invariant = { λ s. IsKept (record { page = s.page; control = s.control }) s.looks };
+    ghost invariant = { λ s. IsKept (record { page = s.page; control = s.control }) s.rows };
 }
 
 impl Screen {
@@ -52,11 +54,11 @@ impl Screen {
         ensures { IfOk result (λ screen. screen ≡ state []) }
     {
         let page = Page::new(alloc)?;
-        let looks = Looks::new(alloc)?;
+        let rows = KeptRows::new(alloc)?;
         Ok(Screen {
             page,
             control: Control::new(),
-            looks,
+            rows,
             strokes: ArrayVec::new(),
         })
     }
@@ -97,9 +99,19 @@ impl Screen {
         ensures cost { steps.new ≤ steps.old + rows_in_reach self.old command }
         ensures at_most_24 { steps.new ≤ steps.old + 24 }
     {
+        let before = self.control.rows();
         self.control.step_into(command, &mut self.strokes);
+        let after = self.control.rows();
         let strokes = self.strokes.as_slice();
-        redraw(&mut self.page, strokes, &mut self.looks, marks, steps);
+        redraw(
+            &mut self.page,
+            strokes,
+            before,
+            after,
+            &mut self.rows,
+            marks,
+            steps,
+        );
     }
 
     /// The look at a place.
@@ -107,7 +119,16 @@ impl Screen {
         ensures look { result ≡ look_at (looks_of (core_of self.now)) at }
         ensures valid { IsValidLook result }
     {
-        self.looks.get(at)
+        self.rows.get(at)
+    }
+
+    /// The looks of a row, where they stand.
+    pub fn row_looks(&self, row: u8) -> &RowLooks
+        requires from_top { 1 ≤ row }
+        requires to_bottom { row ≤ 24 }
+        ensures looks { result.now ≡ looks_in (looks_of (core_of self.now)) row }
+    {
+        self.rows.row(row)
     }
 
     /// The cell at a place.

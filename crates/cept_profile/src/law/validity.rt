@@ -1,18 +1,23 @@
 //! Laws of valid states: the initial state is valid, and valid commands keep it valid, with valid
 //! strokes and looks.
-ghost use Rattle.std.specs.Prelude.{ℕ, ◌≤◌, List, [], length};
+ghost use Rattle.std.specs.Prelude.{ℕ, ◌≤◌, Bool, List, [], length};
 ghost use Rattle.std.specs.List.{AllByRecursion};
+ghost use Rattle.cept_codes.specs.declared.attribute.Pen.{Pen};
+ghost use Rattle.cept_codes.specs.declared.attribute.Size.{Size};
 ghost use Rattle.cept_codes.specs.declared.cell.What.{What};
 ghost use Rattle.cept_codes.specs.declared.command.Command.{Command};
 ghost use Rattle.cept_codes.specs.Cell.{IsValidWhat};
 ghost use Rattle.cept_codes.specs.Command.{IsValidCommand};
-ghost use Rattle.cept_codes.specs.Look.{IsValidLook};
+ghost use Rattle.cept_codes.specs.declared.look.Look.{Look};
+ghost use Rattle.cept_codes.specs.Look.{IsValidLook, blank_look};
 ghost use Rattle.cept_codes.specs.Stroke.{IsValidStroke};
 ghost use Rattle.cept_profile.specs.Control.{ControlState, control_after};
 ghost use Rattle.cept_profile.specs.Look.{grid, look_in_row, look_of, looks_of};
+ghost use Rattle.cept_profile.specs.RowsFromAbove.{row_from_above};
 ghost use Rattle.cept_profile.specs.State.{Core, State, core_of, state, state_after};
 ghost use Rattle.cept_profile.specs.Strokes.{strokes_of};
 ghost use Rattle.cept_profile.specs.Valid.{AllValid, IsValidControl, IsValidCore, IsValidGrid};
+ghost use Rattle.cept_profile.specs.Tiling.{column_entry};
 ghost use Rattle.cept_profile.specs.Valid.{IsValidPage, IsValidState};
 
 /// The state is valid at the start and after any list of valid commands, since each valid command
@@ -37,13 +42,19 @@ pub fn strokes_are_valid()
         → length (strokes_of s command) ≤ 128 }
 {}
 
-/// What stands in a valid cell has a valid look, by itself and in a row of valid cells. So the
-/// looks of a core with a valid page are valid, and so is the grid after any list of valid
-/// commands.
+/// What stands in a valid cell has a valid look, by itself and in a row of valid cells, and a row
+/// beneath valid looks has valid ones. So the looks of a core with a valid page are valid, and so is
+/// the grid after any list of valid commands.
 pub fn looks_are_valid()
     ensures of_cell { (what : What) → IsValidWhat what → IsValidLook (look_of what) }
-    ensures in_row { (row : ℕ → What) (c : ℕ) → 1 ≤ c
-        → ((d : ℕ) → 1 ≤ d → d ≤ c → IsValidWhat (row d)) → IsValidLook (look_in_row row c) }
+    ensures in_row { (row : ℕ → What) (pen screen : Pen) (c : ℕ) → 1 ≤ c
+        → ((d : ℕ) → 1 ≤ d → d ≤ c → IsValidWhat (row d))
+        → IsValidLook (look_in_row row pen screen c) }
+    ensures from_above { (above : List Look) (own : ℕ → Look) (wanted : ℕ → Size) (last : Bool)
+        → ((c : ℕ) → 1 ≤ c → c ≤ 40 → IsValidLook (column_entry blank_look above c))
+        → ((c : ℕ) → 1 ≤ c → c ≤ 40 → IsValidLook (own c))
+        → (c : ℕ) → 1 ≤ c → c ≤ 40
+        → IsValidLook (column_entry blank_look (row_from_above above own wanted last) c) }
     ensures of_core { (k : Core) → IsValidPage k.page → IsValidGrid (looks_of k) }
     ensures always { (history : List Command) → AllValid history → IsValidGrid (grid history) }
 {}

@@ -1,54 +1,23 @@
+use Rattle.std.proofs.Common.{length, refl, sym, ap, ◌∙◌, arith}
 use Rattle.std.proofs.lemmas.Bool.{eqb-true}
-use Rattle.std.proofs.Common.{length, refl, sym, ◌∙◌, arith}
-use Rattle.cept_profile.specs.Control.{initial_control}
-use Rattle.cept_repaint.proofs.KeptAfter.{looks_of-page}
-use Rattle.cept_repaint.proofs.OnePlace.{OthersStay-put, IsAlone-found, page_after-none}
-use Rattle.cept_repaint.proofs.RowsReached.{kept-not_reached, count-rows, reach-put}
+use Rattle.cept_profile.specs.Look.{looks_of}
+use Rattle.cept_repaint.specs.Kept.{core_on}
+use Rattle.cept_repaint.proofs.AloneRows.{OthersStay-put}
+use Rattle.cept_repaint.proofs.OnePlace.{IsPutAlone-found, page_after-none}
 use Rattle.cept_repaint.proofs.Refreshed.{differences_none}
+use Rattle.cept_repaint.proofs.RowsTouched.{reach-put}
+use Rattle.cept_repaint.proofs.WalkedRows.{UnreachedStay-drawn}
 use Rattle.cept_repaint.proofs.redraw.redraw.Goals as goal
-
-pub refresh_place-requires-clause-others : goal.refresh_place-requires-clause-others
-refresh_place-requires-clause-others g c =
-    let alone =
-    IsAlone-found c.args.page.now c.draw_all.new.self c.args.strokes.now c.in-Some.place c.only_place.result
-    c.plain_place-place.result c.only_place.ensures c.plain_place-place.ensures.same
-    c.plain_place-place.ensures.plain c.in-Some.ensures.same c.in-Some.ensures.plain in
-    OthersStay-put c.args.page.now c.draw_all.new.self c.args.looks.now c.in-Some.place c.args.strokes.now
-    (c.requires.kept (record { page = c.args.page.now; control = initial_control }) refl) alone c.draw_all.ensures
 
 pub refresh_rows-requires-clause-others : goal.refresh_rows-requires-clause-others
 refresh_rows-requires-clause-others g c =
-    kept-not_reached c.args.page.now c.draw_all.new.self c.args.looks.now c.args.strokes.now c.rows_reached.result
-    (c.requires.kept (record { page = c.args.page.now; control = initial_control }) refl)
-    c.draw_all.ensures c.rows_reached.ensures
+    UnreachedStay-drawn c.args.page.now c.draw_all.new.self c.args.strokes.now c.args.before c.args.after
+    c.args.kept.now c.requires.kept c.draw_all.ensures
 
-pub returns-in-Some-clause-cost : goal.returns-in-Some-clause-cost
-returns-in-Some-clause-cost g c =
-    let alone =
-    IsAlone-found c.args.page.now c.draw_all.new.self c.args.strokes.now c.in-Some.place c.only_place.result
-    c.plain_place-place.result c.only_place.ensures c.plain_place-place.ensures.same
-    c.plain_place-place.ensures.plain c.in-Some.ensures.same c.in-Some.ensures.plain in
-    omega (
-      arith,
-      c.refresh_place.ensures.cost,
-      reach-put c.in-Some.place alone.put.0 c.args.strokes.now alone.put.1
-          c.refresh_place.ensures.on_screen,
-    )
-
-pub returns-in-None-clause-cost : goal.returns-in-None-clause-cost
-returns-in-None-clause-cost g c =
-    omega (
-      arith,
-      c.refresh_rows.ensures.cost,
-      count-rows c.args.strokes.now c.rows_reached.result
-          c.rows_reached.ensures,
-    )
-
-pub returns-in-Some-clause-looks : goal.returns-in-Some-clause-looks
-returns-in-Some-clause-looks g c = λ s e. c.refresh_place.ensures.looks ∙ sym (looks_of-page s _ e)
-
-pub returns-in-None-clause-looks : goal.returns-in-None-clause-looks
-returns-in-None-clause-looks g c = λ s e. c.refresh_rows.ensures.looks ∙ sym (looks_of-page s _ e)
+pub refresh_rows-requires-in-None-clause-others : goal.refresh_rows-requires-in-None-clause-others
+refresh_rows-requires-in-None-clause-others g c =
+    UnreachedStay-drawn c.args.page.now c.draw_all-2.new.self c.args.strokes.now c.args.before c.args.after
+    c.args.kept.now c.requires.kept c.draw_all-2.ensures
 
 pub returns-then-is_empty-clause-page : goal.returns-then-is_empty-clause-page
 returns-then-is_empty-clause-page g c =
@@ -56,4 +25,27 @@ returns-then-is_empty-clause-page g c =
     (eqb-true (length c.args.strokes.now) 0 (sym c.is_empty.ensures ∙ c.if-is_empty.true)))
 
 pub returns-then-is_empty-clause-marks : goal.returns-then-is_empty-clause-marks
-returns-then-is_empty-clause-marks g c = differences_none c.args.looks.now _ c.clear.new.self c.clear.ensures refl
+returns-then-is_empty-clause-marks g c = differences_none c.args.kept.now _ c.clear.new.self c.clear.ensures refl
+
+pub returns-in-Some-clause-kept : goal.returns-in-Some-clause-kept
+returns-in-Some-clause-kept g c =
+    let found =
+    IsPutAlone-found c.args.page.now c.draw_all-2.new.self c.args.strokes.now c.in-Some.place c.only_place.result
+    c.lone_place-place.result c.only_place.ensures c.lone_place-place.ensures.same c.lone_place-place.ensures.alone
+    c.in-Some.ensures.same c.draw_all-2.ensures c.refresh_place.ensures.on_screen c.in-Some.ensures.alone in
+    c.refresh_place.ensures.kept c.args.after
+    (OthersStay-put c.args.page.now c.draw_all-2.new.self c.args.after c.args.kept.now c.in-Some.place
+    (c.requires.kept ∙ ap (λ n. looks_of (core_on c.args.page.now n)) c.if-before-after.false) found.1)
+
+pub returns-in-Some-clause-cost : goal.returns-in-Some-clause-cost
+returns-in-Some-clause-cost g c =
+    let found =
+    IsPutAlone-found c.args.page.now c.draw_all-2.new.self c.args.strokes.now c.in-Some.place c.only_place.result
+    c.lone_place-place.result c.only_place.ensures c.lone_place-place.ensures.same c.lone_place-place.ensures.alone
+    c.in-Some.ensures.same c.draw_all-2.ensures c.refresh_place.ensures.on_screen c.in-Some.ensures.alone in
+    omega (
+      arith,
+      c.refresh_place.ensures.cost,
+      reach-put c.in-Some.place found.0.0 c.args.strokes.now c.args.before c.args.after c.args.kept.now
+          c.refresh_place.new.kept found.0.1 c.refresh_place.ensures.on_screen,
+    )

@@ -1,19 +1,41 @@
-use Rattle.cept_profile.specs.Look.{look}
-use Rattle.cept_repaint.specs.Kept.{core_on}
-use Rattle.cept_repaint.proofs.OnePlace.{IsRefreshed-own, Outside-place}
-use Rattle.cept_repaint.proofs.Refreshed.{IsRefreshed-looks, IsRefreshed-marks}
+use Rattle.std.proofs.Common.{true, false, refl, sym, ◌∙◌}
+use Rattle.cept_profile.specs.Look.{look_of}
+use Rattle.cept_repaint.proofs.OnePlace.{looks-refreshed}
+use Rattle.cept_repaint.proofs.Refreshed.{IsRefreshed-marks, IsRefreshed-place}
 use Rattle.cept_repaint.proofs.redraw.refresh_place.Goals as goal
 
-pub returns-clause-looks : goal.returns-clause-looks
-returns-clause-looks g c =
-    let own = IsRefreshed-own c.args.page.now c.args.looks.now c.refresh.new.self c.args.marks.now c.refresh.new.marks
-    c.args.place c.resolve.result c.refresh.ensures.on_screen c.resolve.ensures.look
-    c.refresh.ensures.refreshed in
-    IsRefreshed-looks (look (core_on c.args.page.now)) c.args.looks.now c.refresh.new.self c.args.marks.now
-    c.refresh.new.marks _ _ own
-    (Outside-place c.args.page.now c.args.looks.now c.args.place c.refresh.ensures.on_screen c.requires.others)
+pub returns-then-resolve_alone-clause-kept : goal.returns-then-resolve_alone-clause-kept
+returns-then-resolve_alone-clause-kept g c = λ rows others.
+    let on = c.resolve_alone.ensures.on_screen in
+    let refreshed = IsRefreshed-place c.args.kept.now c.resolve_alone.new.self c.args.marks.now c.mark.new.self
+    c.args.place (look_of c.what.result.now) true c.tell_places.ensures on
+    (sym c.if-resolve_alone.true ∙ c.resolve_alone.ensures.differs) c.resolve_alone.ensures.looks c.mark.ensures in
+    looks-refreshed c.args.page.now rows c.args.kept.now c.resolve_alone.new.self c.args.marks.now c.mark.new.self
+    c.args.place c.what.result.now on c.requires.alone c.what.ensures.what refreshed others
 
-pub returns-clause-marks : goal.returns-clause-marks
-returns-clause-marks g c =
-    IsRefreshed-marks (λ _ _. c.resolve.result) c.args.looks.now c.refresh.new.self c.args.marks.now
-    c.refresh.new.marks _ _ c.requires.none c.refresh.ensures.refreshed
+pub returns-then-resolve_alone-clause-marks : goal.returns-then-resolve_alone-clause-marks
+returns-then-resolve_alone-clause-marks g c =
+    let on = c.resolve_alone.ensures.on_screen in
+    let refreshed = IsRefreshed-place c.args.kept.now c.resolve_alone.new.self c.args.marks.now c.mark.new.self
+    c.args.place (look_of c.what.result.now) true c.tell_places.ensures on
+    (sym c.if-resolve_alone.true ∙ c.resolve_alone.ensures.differs) c.resolve_alone.ensures.looks c.mark.ensures in
+    IsRefreshed-marks (λ _ _. look_of c.what.result.now) c.args.kept.now c.resolve_alone.new.self c.args.marks.now
+    c.mark.new.self _ _ c.requires.none refreshed
+
+pub returns-else-resolve_alone-clause-kept : goal.returns-else-resolve_alone-clause-kept
+returns-else-resolve_alone-clause-kept g c = λ rows others.
+    let on = c.resolve_alone.ensures.on_screen in
+    let refreshed = IsRefreshed-place c.args.kept.now c.resolve_alone.new.self c.args.marks.now c.args.marks.now
+    c.args.place (look_of c.what.result.now) false c.tell_places.ensures on
+    (sym c.if-resolve_alone.false ∙ c.resolve_alone.ensures.differs) c.resolve_alone.ensures.looks refl in
+    looks-refreshed c.args.page.now rows c.args.kept.now c.resolve_alone.new.self c.args.marks.now c.args.marks.now
+    c.args.place c.what.result.now on c.requires.alone c.what.ensures.what refreshed others
+
+pub returns-else-resolve_alone-clause-marks : goal.returns-else-resolve_alone-clause-marks
+returns-else-resolve_alone-clause-marks g c =
+    let on = c.resolve_alone.ensures.on_screen in
+    let refreshed = IsRefreshed-place c.args.kept.now c.resolve_alone.new.self c.args.marks.now c.args.marks.now
+    c.args.place (look_of c.what.result.now) false c.tell_places.ensures on
+    (sym c.if-resolve_alone.false ∙ c.resolve_alone.ensures.differs) c.resolve_alone.ensures.looks refl in
+    IsRefreshed-marks (λ _ _. look_of c.what.result.now) c.args.kept.now c.resolve_alone.new.self c.args.marks.now
+    c.args.marks.now _ _ c.requires.none refreshed

@@ -5,7 +5,6 @@ pub returns : goal.returns
 returns c = record {
   looks = Laws.look-out_of_reach;
   at_most_24 = Laws.rows_in_reach-le;
-  strokes = Laws.in_reach-strokes;
-  counted = Laws.rows_in_reach-strokes;
-  drawn = Laws.look-not_reached;
+  reach = Laws.in_reach-by;
+  counted = Laws.rows_in_reach-counted;
 }

@@ -7,5 +7,5 @@ use Rattle.cept_repaint.proofs.grid_glass.GridGlass.new.Goals as goal
 pub invariant_of-result : goal.invariant_of-result
 invariant_of-result c = record {
   valid = subst (λ (g : List (List Look)). IsValidGrid g)
-      (sym c.in_ok-looks.ensures) IsValidGrid-blank;
+      (sym c.in_ok-rows.ensures) IsValidGrid-blank;
 }

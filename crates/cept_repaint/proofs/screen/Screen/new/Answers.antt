@@ -1,11 +1,10 @@
 use Rattle.std.proofs.Common.{◌≡◌, [], sym, ap, subst, ◌∙◌}
-use Rattle.cept_profile.proofs.Laws.{grid-none}
 use Rattle.cept_profile.specs.Look.{looks_of}
-use Rattle.cept_profile.specs.State.{Page, State, state}
+use Rattle.cept_profile.specs.State.{State, core_of, state}
 use Rattle.cept_profile.specs.Valid.{IsValidState}
 use Rattle.cept_profile.proofs.Laws.{IsValidState-start}
-use Rattle.cept_repaint.specs.Kept.{core_on}
 use Rattle.cept_repaint.proofs.KeptAfter.{same_state}
+use Rattle.cept_profile.proofs.Laws.{grid-none}
 use Rattle.cept_repaint.proofs.screen.Screen.new.Goals as goal
 
 pub invariant_of-result : goal.invariant_of-result
@@ -14,6 +13,6 @@ invariant_of-result c =
     ≡ state [] = same_state _ _ _ _ c.in_ok-page.ensures c.new-3.ensures.start in
     record {
       valid = subst (λ (s : State). IsValidState s) (sym at_start) IsValidState-start;
-      looks = c.in_ok-looks.ensures ∙ sym grid-none
-          ∙ ap (λ (p : Page). looks_of (core_on p)) (sym c.in_ok-page.ensures);
+      looks = c.in_ok-rows.ensures ∙ sym grid-none
+          ∙ ap (λ (s : State). looks_of (core_of s)) (sym at_start);
     }

@@ -1,48 +1,82 @@
-use Rattle.std.proofs.Common.{refl, sym, ap, ◌∙◌, arith}
-use Rattle.cept_profile.specs.State.{State}
-use Rattle.cept_profile.specs.Strokes.{strokes_of}
+use Rattle.std.proofs.Common.{List, sym, ap, subst, ◌∙◌, arith}
+use Rattle.cept_codes.specs.declared.stroke.Stroke.{Stroke}
+use Rattle.cept_profile.specs.Look.{looks_of}
+use Rattle.cept_profile.specs.State.{State, page_after, state_after}
+use Rattle.cept_profile.specs.Valid.{IsValidPage}
+use Rattle.cept_profile.proofs.Laws.{IsValidState-state_after}
+use Rattle.cept_repaint.specs.Kept.{core_on}
+use Rattle.cept_repaint.proofs.KeptAfter.{IsKept-state_after, looks_of-drawn, looks_of-state, marks-kept}
+use Rattle.cept_repaint.proofs.KeptAfter.{reached-in_reach_of, state_after-drawn}
 use Rattle.cept_profile.proofs.Laws.{rows_in_reach-le}
-use Rattle.cept_repaint.proofs.KeptAfter.{IsKept-state_after, looks_of-page, marks-kept}
-use Rattle.cept_repaint.proofs.RowsReached.{reached-in_reach}
 use Rattle.cept_repaint.proofs.screen.Screen.write.Goals as goal
 
-pub redraw-requires : goal.redraw-requires
-redraw-requires g c = record { kept = λ s e. c.self.invariant.looks ∙ sym (looks_of-page s _ e) }
+pub redraw-requires-clause-kept : goal.redraw-requires-clause-kept
+redraw-requires-clause-kept g c =
+    let was : State = record { page = c.self.inside.page; control = c.self.inside.control } in
+    c.self.invariant.looks ∙ looks_of-state was
+    ∙ ap (λ n. looks_of (core_on c.self.inside.page n)) (sym c.rows-before.ensures.rows)
+
+pub redraw-requires-clause-valid : goal.redraw-requires-clause-valid
+redraw-requires-clause-valid g c =
+    let was : State = record { page = c.self.inside.page; control = c.self.inside.control } in
+    subst (λ (xs : List Stroke). IsValidPage (page_after c.self.inside.page xs))
+    (sym (c.as_slice-strokes.ensures.value ∙ c.step_into.ensures.strokes))
+    (IsValidState-state_after was c.args.command c.self.invariant.valid c.requires).page
+
+pub returns-clause-after : goal.returns-clause-after
+returns-clause-after g c =
+    state_after-drawn c.self.inside.page c.self.inside.control c.args.command c.redraw.new.page
+    c.step_into.new.self c.as_slice-strokes.result.now
+    (c.as_slice-strokes.ensures.value ∙ c.step_into.ensures.strokes) c.redraw.ensures.page c.step_into.ensures.state
+    ∙ ap (λ (s : State). state_after s c.args.command) c.self.view_is
 
 pub returns-clause-marks : goal.returns-clause-marks
 returns-clause-marks g c =
+    let was : State = record { page = c.self.inside.page; control = c.self.inside.control } in
     let next : State = record { page = c.redraw.new.page; control = c.step_into.new.self } in
-    marks-kept (record { page = c.self.inside.page; control = c.self.inside.control }) c.args.self.now next
-    c.self.inside.looks c.redraw.new.looks c.redraw.new.marks c.self.invariant.looks c.self.view_is
-    (c.redraw.ensures.looks next refl) c.redraw.ensures.marks
+    marks-kept was c.args.self.now next c.self.inside.rows c.redraw.new.kept c.redraw.new.marks
+    c.self.invariant.looks c.self.view_is
+    (looks_of-drawn c.redraw.new.page c.step_into.new.self c.rows-after.result c.redraw.new.kept
+    c.rows-after.ensures.rows c.redraw.ensures.kept)
+    c.redraw.ensures.marks
 
 pub returns-clause-cost : goal.returns-clause-cost
 returns-clause-cost g c =
-    let made = c.as_slice-strokes.ensures.value ∙ c.step_into.ensures.strokes
-    ∙ ap (λ (s : State). strokes_of s.control c.args.command) c.self.view_is in
+    let strokes = c.as_slice-strokes.ensures.value ∙ c.step_into.ensures.strokes in
+    let whole = state_after-drawn c.self.inside.page c.self.inside.control c.args.command c.redraw.new.page
+    c.step_into.new.self c.as_slice-strokes.result.now strokes c.redraw.ensures.page c.step_into.ensures.state in
+    let looks = looks_of-drawn c.redraw.new.page c.step_into.new.self c.rows-after.result c.redraw.new.kept
+    c.rows-after.ensures.rows c.redraw.ensures.kept in
     omega (
       arith,
       c.redraw.ensures.cost,
-      reached-in_reach c.args.self.now c.args.command
-          c.as_slice-strokes.result.now made,
+      reached-in_reach_of c.self.invariant c.args.command c.redraw.new.page c.step_into.new.self c.redraw.new.kept
+          c.as_slice-strokes.result.now c.rows-before.result c.rows-after.result strokes
+          c.rows-before.ensures.rows c.rows-after.ensures.rows whole looks c.args.self.now c.self.view_is,
     )
 
 pub returns-clause-at_most_24 : goal.returns-clause-at_most_24
 returns-clause-at_most_24 g c =
-    let made = c.as_slice-strokes.ensures.value ∙ c.step_into.ensures.strokes
-    ∙ ap (λ (s : State). strokes_of s.control c.args.command) c.self.view_is in
+    let strokes = c.as_slice-strokes.ensures.value ∙ c.step_into.ensures.strokes in
+    let whole = state_after-drawn c.self.inside.page c.self.inside.control c.args.command c.redraw.new.page
+    c.step_into.new.self c.as_slice-strokes.result.now strokes c.redraw.ensures.page c.step_into.ensures.state in
+    let looks = looks_of-drawn c.redraw.new.page c.step_into.new.self c.rows-after.result c.redraw.new.kept
+    c.rows-after.ensures.rows c.redraw.ensures.kept in
     omega (
       arith,
       c.redraw.ensures.cost,
-      reached-in_reach c.args.self.now c.args.command c.as_slice-strokes.result.now
-          made,
+      reached-in_reach_of c.self.invariant c.args.command c.redraw.new.page c.step_into.new.self c.redraw.new.kept
+          c.as_slice-strokes.result.now c.rows-before.result c.rows-after.result strokes
+          c.rows-before.ensures.rows c.rows-after.ensures.rows whole looks c.args.self.now c.self.view_is,
       rows_in_reach-le c.args.self.now c.args.command,
     )
 
 pub invariant_of-self : goal.invariant_of-self
 invariant_of-self g c =
-    let next : State = record { page = c.redraw.new.page; control = c.step_into.new.self } in
+    let strokes = c.as_slice-strokes.ensures.value ∙ c.step_into.ensures.strokes in
     IsKept-state_after c.self.invariant c.args.command c.requires c.redraw.new.page c.step_into.new.self
-    c.redraw.new.looks
-    c.as_slice-strokes.result.now (c.as_slice-strokes.ensures.value ∙ c.step_into.ensures.strokes)
-    c.redraw.ensures.page c.step_into.ensures.state (c.redraw.ensures.looks next refl)
+    c.redraw.new.kept
+    (state_after-drawn c.self.inside.page c.self.inside.control c.args.command c.redraw.new.page
+    c.step_into.new.self c.as_slice-strokes.result.now strokes c.redraw.ensures.page c.step_into.ensures.state)
+    (looks_of-drawn c.redraw.new.page c.step_into.new.self c.rows-after.result c.redraw.new.kept
+    c.rows-after.ensures.rows c.redraw.ensures.kept)

@@ -1,0 +1,8 @@
+use Rattle.cept_profile.proofs.Laws
+use Rattle.cept_profile.proofs.law.reach.untouched_rows_stay.Goals as goal
+
+pub returns : goal.returns
+returns c = record {
+  cells = Laws.cell-untouched;
+  looks = Laws.look-untouched;
+}

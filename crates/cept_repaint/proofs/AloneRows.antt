@@ -1,0 +1,158 @@
+-- Rows whose cells look as they do by themselves, and one cell that is put in such a row.
+use Rattle.std.proofs.Common.{◌≡◌, ◌≢◌, ℕ, zero, suc, ◌+◌, ◌-◌, ◌≤◌, ◌<◌, ◌==◌, ◌&&◌, ◌||◌, not, false}
+use Rattle.std.proofs.Common.{List, [], ◌∷◌, inl, inr, sym, ap, subst, ◌∙◌, arith}
+use Rattle.std.proofs.lemmas.Bool.Decides.{nat_tests}
+use Rattle.std.proofs.lemmas.Bool.{and_left, cases_eq, cases_lt, cond-false, or_from}
+use Rattle.cept_codes.specs.declared.attribute.Size.TheVariants as sizes
+use Rattle.cept_codes.specs.declared.cell.Cell.{Cell}
+use Rattle.cept_codes.specs.declared.look.Look.{Look}
+use Rattle.cept_codes.specs.declared.stroke.Stroke.TheVariants as strokes
+use Rattle.cept_codes.specs.Cell.{blank_cell}
+use Rattle.cept_codes.specs.Look.{blank_look}
+use Rattle.cept_codes.specs.Place.{Place, OnScreen}
+use Rattle.cept_codes.specs.Same.{same_look}
+use Rattle.cept_codes.specs.Table.{value_at}
+use Rattle.cept_codes.proofs.Laws.{IsTable-table, look_decides, value_at-table}
+use Rattle.cept_profile.specs.Cells.{is_at, cell_after, cells_after_all}
+use Rattle.cept_profile.specs.Look.{contents_of_row, look, look_of, looks_of, own_size, part_of, sets_size}
+use Rattle.cept_profile.specs.Reach.{becomes_last, is_row_touched, one_touches}
+use Rattle.cept_profile.specs.RowsFromAbove.{covering_differs, look_seen, looks_in}
+use Rattle.cept_profile.specs.State.{Page, page_after}
+use Rattle.cept_profile.specs.Tiling.{covers_below}
+use Rattle.cept_repaint.specs.Kept.{OthersStay, core_on}
+use Rattle.cept_repaint.specs.MarkedRows.{HasNone, StandsAlone}
+use Rattle.cept_repaint.proofs.RowsOfLooks.{covering_differs-below, covering_differs-first, is_other_above-none}
+use Rattle.cept_repaint.proofs.RowsOfLooks.{is_other_covering-same, look_seen-at}
+use Rattle.cept_profile.proofs.Laws.{covers_nothing, covers_nothing-first, look-single, look-untouched}
+use Rattle.cept_profile.proofs.Laws.{look_in_row-unmarked, size_in_row-single}
+
+-- in a row in which no double size is set each cell is to be shown in single size
+own_size-single : (p : Page) (rows r : ℕ) → 1 ≤ r → r ≤ 24 → HasNone sets_size p.cells r → (c : ℕ) → 1 ≤ c → c ≤ 40
+    → own_size (core_on p rows) r c ≡ sizes.Normal
+own_size-single p rows r top bottom none c low high =
+    size_in_row-single (contents_of_row (core_on p rows) r) c low (λ d from to.
+    let on : OnScreen r d =
+    record { from_top = top; to_bottom = bottom; from_left = from; to_right = omega arith } in
+    none d on)
+
+-- and nothing in it covers the row below; nothing covers the first row
+covers_nothing-in : (p : Page) (rows r : ℕ) → r ≤ 24 → HasNone sets_size p.cells r → (c : ℕ)
+    → covers_below (part_of (look_seen (looks_of (core_on p rows)) r c)) ≡ false
+covers_nothing-in p rows zero bottom none c = covers_nothing-first (core_on p rows) c
+covers_nothing-in p rows (suc r) bottom none c =
+    covers_nothing (core_on p rows) (suc r) (omega arith) bottom
+    (own_size-single p rows (suc r) (omega arith) bottom none) c
+
+-- each cell of a row that stands alone looks as it does by itself
+pub look-alone : (p : Page) (rows r c : ℕ) → OnScreen r c → StandsAlone p.cells r
+    → look (core_on p rows) r c ≡ look_of (value_at blank_cell p.cells r c).what
+look-alone p rows r c on alone =
+    look-single (core_on p rows) r c on (own_size-single p rows r on.from_top on.to_bottom alone.single)
+    (covers_nothing-in p rows (r - 1) (omega (arith, on)) alone.single_above)
+    ∙ look_in_row-unmarked (contents_of_row (core_on p rows) r) c on.from_left (λ d low high.
+    let there : OnScreen r d =
+    record { from_top = on.from_top; to_bottom = on.to_bottom; from_left = low; to_right = omega (arith, on, high) } in
+    alone.unmarked d there)
+
+-- ---- one cell put in a row that stands alone before and after
+
+-- a cell that is put changes no other cell
+cell_elsewhere : (p : Page) (place : Place) (cell : Cell) (r c : ℕ) → OnScreen r c → is_at place r c ≡ false
+    → value_at blank_cell (page_after p (strokes.Put place cell ∷ [])).cells r c ≡ value_at blank_cell p.cells r c
+unfolding cells_after_all
+cell_elsewhere p place cell r c on other =
+    let was : Cell = value_at blank_cell p.cells r c in
+    value_at-table (cell_after (strokes.Put place cell) (value_at blank_cell p.cells)) blank_cell r c on
+    ∙ cond-false (is_at place r c && not was.protected) cell was (and_left (is_at place r c) (not was.protected) other)
+
+-- no row becomes last where the number of rows stays
+becomes_last-none : (rows r : ℕ) → becomes_last rows rows r ≡ false
+becomes_last-none rows r = grind (arith, nat_tests)
+
+-- and no other row is touched
+untouched : (place : Place) (cell : Cell) (rows r : ℕ) → place.row ≢ r
+    → is_row_touched (strokes.Put place cell ∷ []) rows rows r ≡ false
+unfolding one_touches
+untouched place cell rows r apart =
+    let no : (place.row == r) ≡ false = grind (arith, nat_tests) in
+    or_from (one_touches (strokes.Put place cell ∷ []) r) (becomes_last rows rows r) (ap (λ b. b || false) no)
+    (becomes_last-none rows r)
+
+-- a page before and after one cell is put, in a row that stands alone
+pub record IsPutAlone (p q : Page) (place : Place) : Type 0 where
+  pub cell : Cell
+  pub put : q ≡ page_after p (strokes.Put place cell ∷ [])
+  pub row : (1 ≤ place.row) × (place.row ≤ 24)
+  pub before : StandsAlone p.cells place.row
+  pub after : StandsAlone q.cells place.row
+
+-- all other places down to row n look as before
+abbrev OthersStayTo : Page → Page → ℕ → Place → ℕ → Type 0
+OthersStayTo p q rows place n =
+    (r c : ℕ) → OnScreen r c → r ≤ n → is_at place r c ≡ false → look (core_on q rows) r c ≡ look (core_on p rows) r c
+
+-- where all do down to the row above, what covers a row from above is the same
+covering_stays : (p q : Page) (rows : ℕ) (place : Place) → IsPutAlone p q place → (n : ℕ) → n < 24
+    → OthersStayTo p q rows place n
+    → covering_differs (looks_of (core_on p rows)) (looks_of (core_on q rows)) (n + 1) ≡ false
+covering_stays p q rows place put zero below stay =
+    covering_differs-first (looks_of (core_on p rows)) (looks_of (core_on q rows))
+covering_stays p q rows place put (suc n) below stay =
+    let g : List (List Look) = looks_of (core_on p rows) in
+    let h : List (List Look) = looks_of (core_on q rows) in
+    let r : ℕ = suc n in
+    covering_differs-below g h r
+    ∙ is_other_above-none (looks_in g r) (looks_in h r) (λ c low high. elim (cases_eq place.row r) [
+      | inl here ↦
+          let was = subst (λ k. HasNone sets_size p.cells k) here put.before.single in
+          let is = subst (λ k. HasNone sets_size q.cells k) here put.after.single in
+          and_left (covers_below (part_of (look_seen g r c)) || covers_below (part_of (look_seen h r c)))
+          (not (same_look (look_seen g r c) (look_seen h r c)))
+          (or_from (covers_below (part_of (look_seen g r c))) (covers_below (part_of (look_seen h r c)))
+          (covers_nothing-in p rows r (omega arith) was c) (covers_nothing-in q rows r (omega arith) is c))
+      | inr apart ↦
+          let on : OnScreen r c =
+          record { from_top = omega arith; to_bottom = omega arith; from_left = low; to_right = high } in
+          let row : (place.row == r) ≡ false = grind (arith, nat_tests) in
+          let other : is_at place r c ≡ false = and_left (place.row == r) (place.column == c) row in
+          let kept : look_seen g r c ≡ look (core_on p rows) r c =
+          look_seen-at g r c (IsTable-table (look (core_on p rows))) on
+          ∙ value_at-table (look (core_on p rows)) blank_look r c on in
+          let new : look_seen h r c ≡ look (core_on q rows) r c =
+          look_seen-at h r c (IsTable-table (look (core_on q rows))) on
+          ∙ value_at-table (look (core_on q rows)) blank_look r c on in
+          is_other_covering-same (look_seen g r c) (look_seen h r c)
+          ((look_decides (look_seen g r c) (look_seen h r c)).1
+          (kept ∙ sym (stay r c on (omega arith) other) ∙ sym new))
+    ])
+
+-- so all others look as before, one row after the other
+others_stay_to : (p q : Page) (rows : ℕ) (place : Place) → IsPutAlone p q place → (n : ℕ)
+    → OthersStayTo p q rows place n
+others_stay_to p q rows place put zero r c on none other = absurd (omega (arith, on))
+others_stay_to p q rows place put (suc n) r c on within other =
+    elim (cases_lt r (suc n)) [
+      | inl above ↦ others_stay_to p q rows place put n r c on (omega arith) other
+      | inr last ↦ elim (cases_eq place.row r) [
+        | inl here ↦
+            let was = subst (λ k. StandsAlone p.cells k) here put.before in
+            let is = subst (λ k. StandsAlone q.cells k) here put.after in
+            look-alone q rows r c on is
+            ∙ ap (λ (x : Cell). look_of x.what) (ap (λ (x : Page). value_at blank_cell x.cells r c) put.put
+            ∙ cell_elsewhere p place put.cell r c on other)
+            ∙ sym (look-alone p rows r c on was)
+        | inr apart ↦
+            let row : n + 1 ≡ r = omega arith in
+            look-untouched (core_on p rows) (core_on q rows) (strokes.Put place put.cell ∷ []) r c on put.put
+            (untouched place put.cell rows r apart)
+            (ap (covering_differs (looks_of (core_on p rows)) (looks_of (core_on q rows))) (sym row)
+            ∙ covering_stays p q rows place put n (omega (arith, on)) (others_stay_to p q rows place put n))
+      ]
+    ]
+
+pub OthersStay-put : (p q : Page) (rows : ℕ) (kept : List (List Look)) (place : Place) → kept ≡ looks_of (core_on p rows)
+    → IsPutAlone p q place → OthersStay kept (core_on q rows) place
+OthersStay-put p q rows kept place e put r c on other =
+    ap (λ (t : List (List Look)). value_at blank_look t r c) e
+    ∙ value_at-table (look (core_on p rows)) blank_look r c on
+    ∙ sym (others_stay_to p q rows place put r r c on (omega arith) other)

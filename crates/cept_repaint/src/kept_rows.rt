@@ -1,0 +1,108 @@
+ghost use Rattle.std.specs.Prelude.{◌≡◌, ◌+◌, ◌-◌, ◌≤◌, length, slice_set, IfOk};
+ghost use Rattle.cept_codes.specs.Cell.{IsValidWhat};
+ghost use Rattle.cept_codes.specs.Look.{IsValidLook, blank_look};
+ghost use Rattle.cept_codes.specs.Place.{OnScreen};
+ghost use Rattle.cept_codes.specs.Table.{table, IsTable};
+ghost use Rattle.cept_profile.specs.Changes.{look_at, grid_with_paint};
+ghost use Rattle.cept_profile.specs.Look.{look_of};
+ghost use Rattle.cept_profile.specs.RowsFromAbove.{looks_in};
+ghost use Rattle.cept_profile.specs.Tiling.{column_entry};
+ghost use Rattle.cept_repaint.specs.Kept.{looks_differ};
+
+use cept_codes::{Look, NoMemory, Pos, What};
+use cept_outside::Steps;
+use cept_rows::RowLooks;
+use std::alloc::Global;
+use std::marker::Model;
+use std::sync::ledger::Ledger;
+
+/// The looks of the screen, as they are kept: 24 rows of 40.
+#[derive(Drop)]
+pub(crate) struct KeptRows {
+    rows: Vec<RowLooks>,
+}
+
+impl Model for KeptRows {
+    ghost use Rattle.std.specs.Prelude.{List};
+    ghost use Rattle.cept_codes.specs.declared.look.Look.{Look};
+    ghost use Rattle.cept_codes.specs.Table.{IsTable};
+
+    ghost Value = { List (List Look) };
+
+    ghost view = { λ l. l.rows.items };
+
+    ghost invariant = { λ l. IsTable l.rows.items };
+}
+
+impl KeptRows {
+    /// All looks blank.
+    pub(crate) fn new(alloc: Global) -> Result<KeptRows, NoMemory>
+        ensures { IfOk result (λ looks. looks ≡ table (λ _ _. blank_look)) }
+    {
+        let mut rows = Vec::with_capacity(alloc, 24)?;
+        for _row in 0..24usize {
+            rows.push(RowLooks::flat())?;
+        }
+        Ok(KeptRows { rows })
+    }
+
+    /// The looks of a row, where they stand.
+    pub(crate) fn row(&self, row: u8) -> &RowLooks
+        requires from_top { 1 ≤ row }
+        requires to_bottom { row ≤ 24 }
+        ensures { result.now ≡ looks_in self.now row }
+    {
+        &self.rows[usize::from(row) - 1]
+    }
+
+    /// The look at a place.
+    pub(crate) fn get(&self, place: Pos) -> Look
+        ensures look { result ≡ look_at self.now place }
+        ensures valid { IsValidLook result }
+    {
+        self.rows[usize::from(place.row()) - 1].at(place.col())
+    }
+
+    /// Tells the prover that there are 24 rows of 40: reading a field opens the model.
+    pub(crate) fn tell_whole(&self)
+        ensures { IsTable self.now }
+    {
+        let _rows = &self.rows;
+    }
+
+    /// Replaces the looks of a row.
+    pub(crate) fn replace(&mut self, row: u8, looks: RowLooks)
+        requires from_top { 1 ≤ row }
+        requires to_bottom { row ≤ 24 }
+        ensures rows { self.new ≡ slice_set self.old (row - 1) looks }
+        ensures columns { length looks ≡ 40 }
+    {
+        looks.tell_columns();
+        self.rows[usize::from(row) - 1] = looks;
+    }
+
+    /// Takes over the look at a place from the looks of its row.
+    pub(crate) fn copy_at(&mut self, place: Pos, from: &RowLooks)
+        ensures { self.new
+            ≡ grid_with_paint self.old place (column_entry blank_look from.now place.column) }
+    {
+        self.rows[usize::from(place.row()) - 1].copy_at(place.col(), from);
+    }
+
+    /// Resolves the cell at a place by itself, and keeps its look. Answers whether it differs from
+    /// the one before. One tick.
+    pub(crate) fn resolve_alone<L: Ledger>(
+        &mut self,
+        place: Pos,
+        what: &What,
+        steps: &mut Steps<L>,
+    ) -> bool
+        requires { IsValidWhat what.now }
+        ensures looks { self.new ≡ grid_with_paint self.old place (look_of what.now) }
+        ensures differs { result ≡ looks_differ (look_at self.old place) (look_of what.now) }
+        ensures on_screen { OnScreen place.row place.column }
+        ensures tick { steps.new ≡ steps.old + 1 }
+    {
+        self.rows[usize::from(place.row()) - 1].resolve_alone(place.col(), what, steps)
+    }
+}

@@ -1,0 +1,68 @@
+-- Rows by their columns, from 1: read, compared, and made one column after the other.
+use Rattle.std.proofs.Common.{◌≡◌, ℕ, ◌+◌, ◌-◌, ◌<◌, ◌≤◌, ◌==◌, false, cond, List, length, get_or, set, zero, suc}
+use Rattle.std.proofs.Common.{inl, inr}
+use Rattle.std.proofs.Common.{refl, sym, ap, subst, ◌∙◌, arith, rules}
+use Rattle.std.proofs.lemmas.Bool.{cases_lt}
+use Rattle.std.proofs.lemmas.List.{get_or_past}
+use Rattle.std.proofs.lemmas.List.FromFn.{get_or-map-range_with_len, length-map-range_with_len}
+use Rattle.cept_codes.specs.Table.{row_of, HasMadeEntries}
+use Rattle.cept_codes.proofs.Laws.{HasMadeEntries-more, HasMadeEntries-all, row_of-list_by_index, same_indexed}
+use Rattle.cept_profile.specs.Tiling.{column_entry}
+
+-- a column stands at the index before
+pub column_entry-at : {X : Type 0} (d : X) (xs : List X) (c : ℕ) → 1 ≤ c → column_entry d xs c ≡ get_or xs (c - 1) d
+column_entry-at d xs c low =
+    let no : (c == 0) ≡ false = search rules in ap (λ b. cond b d (get_or xs (c - 1) d)) no
+
+-- past the last the default is read
+pub column_entry-past : {X : Type 0} (d : X) (xs : List X) (c : ℕ) → length xs ≡ 40 → 40 < c → column_entry d xs c ≡ d
+column_entry-past d xs c long past =
+    column_entry-at d xs c (omega arith) ∙ get_or_past xs (c - 1) d (omega (arith, past, long))
+
+-- a row that is made of a function of the column
+pub get_or-row_of : {X : Type 0} (f : ℕ → X) (c : ℕ) (d : X) → 1 ≤ c → c ≤ 40 → get_or (row_of f) (c - 1) d ≡ f c
+unfolding row_of
+get_or-row_of f c d low high = get_or-map-range_with_len f 1 40 (c - 1) c d (omega arith) (omega arith)
+
+-- has forty columns
+pub length-row_of : {X : Type 0} (f : ℕ → X) → length (row_of f) ≡ 40
+unfolding row_of
+length-row_of f = length-map-range_with_len f 1 40
+
+-- and is read by the column
+pub column_entry-row_of : {X : Type 0} (d : X) (f : ℕ → X) (c : ℕ) → 1 ≤ c → c ≤ 40 → column_entry d (row_of f) c ≡ f c
+column_entry-row_of d f c low high = column_entry-at d (row_of f) c low ∙ get_or-row_of f c d low high
+
+-- a function that gives the default outside the row
+pub column_entry-row_of_all : {X : Type 0} (d : X) (f : ℕ → X) → f 0 ≡ d → ((c : ℕ) → 40 < c → f c ≡ d) → (c : ℕ)
+    → column_entry d (row_of f) c ≡ f c
+column_entry-row_of_all d f first past zero = sym first
+column_entry-row_of_all d f first past (suc c) =
+    elim (cases_lt c 40) [
+      | inl below ↦ column_entry-row_of d f (suc c) (omega arith) (omega arith)
+      | inr beyond ↦
+          column_entry-past d (row_of f) (suc c) (length-row_of f) (omega arith) ∙ sym (past (suc c) (omega arith))
+    ]
+
+-- rows whose columns are the same
+pub same_rows : {X : Type 0} (f g : ℕ → X) → ((c : ℕ) → 1 ≤ c → c ≤ 40 → f c ≡ g c) → row_of f ≡ row_of g
+same_rows f g same =
+    row_of-list_by_index f ∙ same_indexed 1 40 f g (λ c low high. same c low (omega arith))
+    ∙ sym (row_of-list_by_index g)
+
+-- ---- made one column after the other
+
+-- one more
+pub made_next : {X : Type 0} (d x : X) (f g : ℕ → X) (list : List X) (c : ℕ)
+    → HasMadeEntries d 1 40 f g list (c - 1) → 1 ≤ c → c ≤ 40 → x ≡ f c
+    → HasMadeEntries d 1 40 f g (set list (c - 1) x) (c + 1 - 1)
+made_next d x f g list c made low high e =
+    let next : c - 1 + 1 ≡ c + 1 - 1 = omega arith in
+    subst (λ n. HasMadeEntries d 1 40 f g (set list (c - 1) x) n) next
+    (HasMadeEntries-more d x 1 40 f g list (c - 1) (c - 1) c made (omega arith) refl (omega arith) e)
+
+-- all of them
+pub made_all : {X : Type 0} (d : X) (f g : ℕ → X) (list : List X) (c : ℕ) → HasMadeEntries d 1 40 f g list (c - 1)
+    → 41 ≤ c → list ≡ row_of f
+made_all d f g list c made whole =
+    HasMadeEntries-all d 1 40 f g list (c - 1) made (omega arith) ∙ sym (row_of-list_by_index f)

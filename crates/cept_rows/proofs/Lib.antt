@@ -1,0 +1,5 @@
+pub mod Columns
+pub mod KeptLooks
+pub mod RowsAlone
+pub mod RowsByPart
+pub mod EntriesOver

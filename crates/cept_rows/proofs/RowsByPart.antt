@@ -1,0 +1,268 @@
+-- Rows by the parts that their places show: the parts of the looks are those that are tiled beneath the parts of the
+-- looks above, and each look is that of the place above, of the one to the left, or of what stands there itself.
+use Rattle.std.proofs.Common.{◌≡◌, ℕ, ◌+◌, ◌-◌, ◌≤◌, ◌<◌, ◌&&◌, ltb, Bool, true, false, not, cond, Option, List, zero}
+use Rattle.std.proofs.Common.{suc, length, get_or}
+use Rattle.std.proofs.Common.{refl, sym, ap, ◌∙◌, arith, rules}
+use Rattle.std.proofs.lemmas.Bool.{cond_both}
+use Rattle.cept_codes.specs.declared.attribute.Pen.{Pen}
+use Rattle.cept_codes.specs.declared.attribute.Size.{Size}
+use Rattle.cept_codes.specs.declared.attribute.Full.{Full}
+use Rattle.cept_codes.specs.declared.attribute.Size.TheVariants as sizes
+use Rattle.cept_codes.specs.declared.cell.Cell.{Cell}
+use Rattle.cept_codes.specs.declared.cell.What.{What}
+use Rattle.cept_codes.specs.declared.glyph.Glyph.{Glyph}
+use Rattle.cept_codes.specs.declared.look.Look.{Look}
+use Rattle.cept_codes.specs.declared.look.Part.{Part}
+use Rattle.cept_codes.specs.Cell.{IsValidWhat, blank_cell}
+use Rattle.cept_codes.specs.Table.{row_of}
+use Rattle.cept_codes.specs.Look.{IsValidPart, blank_look}
+use Rattle.cept_profile.specs.Look.{look_in_row, look_with, look_with_part, part_of, shape_in, size_in_row}
+use Rattle.cept_profile.specs.RowsFromAbove.{look_by, look_from}
+use Rattle.cept_profile.specs.Serial.{held_sign, own_attributes, own_attributes_of, row_in, serial_attributes}
+use Rattle.cept_profile.specs.Tiling.{covers_below, is_covered_from_left, is_high, is_wide, origin_part, part_below}
+use Rattle.cept_profile.specs.Tiling.{part_by, part_from}
+use Rattle.cept_profile.specs.Tiling.{column_entry, part_to_the_right, single_part, tiled_row}
+use Rattle.cept_profile.proofs.Laws.{IsValidLook-look_in_row}
+use Rattle.cept_rows.specs.RowsByCell.{look_by_part}
+use Rattle.cept_rows.specs.SmallLooks.{IsKeepable}
+use Rattle.cept_rows.proofs.Columns.{column_entry-past, column_entry-row_of, column_entry-row_of_all, get_or-row_of}
+use Rattle.cept_rows.proofs.KeptLooks.{HasNoPattern-shape_in, IsKeepable-blank_look}
+
+-- ---- one place
+
+-- the part of the look of a place, whichever it is
+part_of_tests : (x y : Bool) (p q r : Part) (a l own : Look)
+    → cond x p (cond y q r)
+    ≡ part_of (cond x (look_with_part p a) (cond y (look_with_part q l) (look_with_part r own)))
+part_of_tests true y p q r a l own = refl
+part_of_tests false true p q r a l own = refl
+part_of_tests false false p q r a l own = refl
+
+-- the same of the definitions
+part_of-look_by : (a al ar l own : Look) (size : Size) (last : Bool) (c : ℕ)
+    → part_by (part_of a) (part_of al) (part_of ar) (part_of l) size last c
+    ≡ part_of (look_by a al ar l own size last c)
+part_of-look_by a al ar l own size last c =
+    part_of_tests (covers_below (part_of a)) (is_covered_from_left (part_of al) (part_of l)) (part_below (part_of a))
+    (part_to_the_right (part_of l))
+    (origin_part (is_wide size && ltb c 40 && not (covers_below (part_of ar))) (is_high size && not last)) a l own
+
+-- the look of a place by its part, whichever it is
+by_part_tests : (x y wide high : Bool) (a l own : Look)
+    → cond x (look_with_part (part_below (part_of a)) a)
+    (cond y (look_with_part (part_to_the_right (part_of l)) l) (look_with_part (origin_part wide high) own))
+    ≡ look_by_part (cond x (part_below (part_of a)) (cond y (part_to_the_right (part_of l)) (origin_part wide high)))
+    a l own
+by_part_tests true y wide high a l own = refl
+by_part_tests false true wide high a l own = refl
+by_part_tests false false wide high a l own = refl
+
+-- the same of the definition
+look_by-by_part : (a al ar l own : Look) (size : Size) (last : Bool) (c : ℕ)
+    → look_by a al ar l own size last c
+    ≡ look_by_part (part_by (part_of a) (part_of al) (part_of ar) (part_of l) size last c) a l own
+look_by-by_part a al ar l own size last c =
+    by_part_tests (covers_below (part_of a)) (is_covered_from_left (part_of al) (part_of l))
+    (is_wide size && ltb c 40 && not (covers_below (part_of ar))) (is_high size && not last) a l own
+
+-- equal neighbours, equal parts
+part_by-alike : (a b al bl ar br l m : Part) (s t : Size) (last : Bool) (c : ℕ) → a ≡ b → al ≡ bl → ar ≡ br → l ≡ m
+    → s ≡ t → part_by a al ar l s last c ≡ part_by b bl br m t last c
+part_by-alike a b al bl ar br l m s t last c ea el er em es i = part_by (ea i) (el i) (er i) (em i) (es i) last c
+
+-- ---- the recursion, by a column and its neighbours
+
+pub look_from-0 : (above own : ℕ → Look) (wanted : ℕ → Size) (last : Bool) → look_from above own wanted last 0
+    ≡ blank_look
+unfolding look_from
+look_from-0 above own wanted last = refl
+
+look_from-at : (above own : ℕ → Look) (wanted : ℕ → Size) (last : Bool) (c : ℕ) → 1 ≤ c
+    → look_from above own wanted last c
+    ≡ look_by (above c) (above (c - 1)) (above (c + 1)) (look_from above own wanted last (c - 1)) (own c)
+    (wanted c) last c
+unfolding look_from
+look_from-at above own wanted last zero low = absurd (omega arith)
+look_from-at above own wanted last (suc c) low =
+    let e : suc c - 1 ≡ c = omega arith in
+    let f : suc c + 1 ≡ suc (suc c) = omega arith in rw (e, f) refl
+
+part_from-0 : (above : ℕ → Part) (wanted : ℕ → Size) (last : Bool) (own : ℕ → Look) (looks : ℕ → Look)
+    (sizes : ℕ → Size) → part_from above wanted last 0 ≡ part_of (look_from looks own sizes last 0)
+unfolding part_from look_from
+part_from-0 above wanted last own looks sizes = refl
+
+part_from-at : (above : ℕ → Part) (wanted : ℕ → Size) (last : Bool) (c : ℕ) → 1 ≤ c
+    → part_from above wanted last c
+    ≡ part_by (above c) (above (c - 1)) (above (c + 1)) (part_from above wanted last (c - 1)) (wanted c) last c
+unfolding part_from
+part_from-at above wanted last zero low = absurd (omega arith)
+part_from-at above wanted last (suc c) low =
+    let e : suc c - 1 ≡ c = omega arith in
+    let f : suc c + 1 ≡ suc (suc c) = omega arith in rw (e, f) refl
+
+-- the parts of the looks are tiled beneath those of the looks above
+pub part_from-look_from : (parts : ℕ → Part) (above own : ℕ → Look) (sizes wanted : ℕ → Size) (last : Bool)
+    → ((c : ℕ) → parts c ≡ part_of (above c)) → ((c : ℕ) → 1 ≤ c → c ≤ 40 → sizes c ≡ wanted c) → (c : ℕ) → c ≤ 40
+    → part_from parts sizes last c ≡ part_of (look_from above own wanted last c)
+part_from-look_from parts above own sizes wanted last same sized zero high =
+    part_from-0 parts sizes last own above wanted
+part_from-look_from parts above own sizes wanted last same sized (suc c) high =
+    let e : suc c - 1 ≡ c = omega arith in
+    part_from-at parts sizes last (suc c) (omega arith)
+    ∙ part_by-alike (parts (suc c)) (part_of (above (suc c))) (parts (suc c - 1)) (part_of (above (suc c - 1)))
+    (parts (suc c + 1)) (part_of (above (suc c + 1))) (part_from parts sizes last (suc c - 1))
+    (part_of (look_from above own wanted last (suc c - 1))) (sizes (suc c)) (wanted (suc c)) last (suc c)
+    (same (suc c)) (same (suc c - 1)) (same (suc c + 1))
+    (rw e (part_from-look_from parts above own sizes wanted last same sized c (omega arith)))
+    (sized (suc c) (omega arith) high)
+    ∙ part_of-look_by (above (suc c)) (above (suc c - 1)) (above (suc c + 1)) (look_from above own wanted last
+    (suc c - 1))
+    (own (suc c)) (wanted (suc c)) last (suc c)
+    ∙ ap part_of (sym (look_from-at above own wanted last (suc c) (omega arith)))
+
+-- a look by the part that is tiled there
+pub look_from-by_part : (parts : ℕ → Part) (above own : ℕ → Look) (sizes wanted : ℕ → Size) (last : Bool)
+    → ((c : ℕ) → parts c ≡ part_of (above c)) → ((c : ℕ) → 1 ≤ c → c ≤ 40 → sizes c ≡ wanted c) → (c : ℕ) → 1 ≤ c
+    → c ≤ 40
+    → look_by_part (part_from parts sizes last c) (above c) (look_from above own wanted last (c - 1)) (own c)
+    ≡ look_from above own wanted last c
+look_from-by_part parts above own sizes wanted last same sized c low high =
+    ap (λ p. look_by_part p (above c) (look_from above own wanted last (c - 1)) (own c))
+    (part_from-look_from parts above own sizes wanted last same sized c high
+    ∙ ap part_of (look_from-at above own wanted last c low)
+    ∙ sym (part_of-look_by (above c) (above (c - 1)) (above (c + 1)) (look_from above own wanted last (c - 1)) (own c)
+    (wanted c) last c))
+    ∙ sym (look_by-by_part (above c) (above (c - 1)) (above (c + 1)) (look_from above own wanted last (c - 1)) (own c)
+    (wanted c) last c)
+    ∙ sym (look_from-at above own wanted last c low)
+
+-- ---- what a row can keep
+
+-- the upper left part is valid
+origin_is_valid : (wide high : Bool) → IsValidPart (origin_part wide high)
+origin_is_valid true true = search rules
+origin_is_valid true false = search rules
+origin_is_valid false true = search rules
+origin_is_valid false false = search rules
+
+-- with another valid part it can be kept too
+IsKeepable-part : (p : Part) (l : Look) → IsValidPart p → IsKeepable l → IsKeepable (look_with_part p l)
+IsKeepable-part p l part k = record {
+  valid = record { shape = k.valid.shape; part = part; fore = k.valid.fore; back = k.valid.back };
+  plain = k.plain;
+}
+
+-- the look of a place, whichever it is, can be kept
+IsKeepable-look_by : (a al ar l own : Look) (size : Size) (last : Bool) (c : ℕ) → IsKeepable a → IsKeepable l
+    → IsKeepable own → IsKeepable (look_by a al ar l own size last c)
+IsKeepable-look_by a al ar l own size last c ka kl ko =
+    let wide : Bool = is_wide size && ltb c 40 && not (covers_below (part_of ar)) in
+    let high : Bool = is_high size && not last in
+    let by_left : Look = look_with_part (part_to_the_right (part_of l)) l in
+    let by_own : Look = look_with_part (origin_part wide high) own in
+    cond_both (covers_below (part_of a)) (look_with_part (part_below (part_of a)) a)
+    (cond (is_covered_from_left (part_of al) (part_of l)) by_left by_own) IsKeepable (λ e.
+    IsKeepable-part (part_below (part_of a)) a
+    (record { down = omega arith; right = ka.valid.part.right; wide = ka.valid.part.wide; high = ka.valid.part.high })
+    ka) (λ e.
+    cond_both (is_covered_from_left (part_of al) (part_of l)) by_left by_own IsKeepable (λ f.
+    IsKeepable-part (part_to_the_right (part_of l)) l
+    (record { down = omega arith; right = omega arith; wide = kl.valid.part.wide; high = kl.valid.part.high }) kl) (λ f.
+    IsKeepable-part (origin_part wide high) own (origin_is_valid wide high) ko))
+
+-- and so can those of a row
+pub IsKeepable-look_from : (above own : ℕ → Look) (wanted : ℕ → Size) (last : Bool) → ((c : ℕ) → IsKeepable (above c))
+    → ((c : ℕ) → 1 ≤ c → c ≤ 40 → IsKeepable (own c)) → (c : ℕ) → c ≤ 40
+    → IsKeepable (look_from above own wanted last c)
+IsKeepable-look_from above own wanted last ka ko zero high = rw (look_from-0 above own wanted last)
+    IsKeepable-blank_look
+IsKeepable-look_from above own wanted last ka ko (suc c) high =
+    let e : suc c - 1 ≡ c = omega arith in
+    rw (look_from-at above own wanted last (suc c) (omega arith))
+    (IsKeepable-look_by (above (suc c)) (above (suc c - 1)) (above (suc c + 1)) (look_from above own wanted last
+    (suc c - 1))
+    (own (suc c)) (wanted (suc c)) last (suc c) (ka (suc c))
+    (rw e (IsKeepable-look_from above own wanted last ka ko c (omega arith))) (ko (suc c) (omega arith) high))
+
+-- ---- the next place of a row
+
+-- the attributes of a cell, by those that were found in force there
+pub own_made : (cells : List Cell) (fulls : List Full) (row screen : Pen) (i : ℕ) (d made : Full) → i < 40
+    → ((c : ℕ) (d : Full) → 1 ≤ c → c ≤ 40 → get_or fulls (c - 1) d ≡ serial_attributes (row_in cells) row screen c)
+    → made ≡ own_attributes_of (get_or cells i blank_cell).what row screen (get_or fulls i d)
+    → made ≡ own_attributes (row_in cells) row screen (i + 1)
+own_made cells fulls row screen i d made below serial e =
+    let index : i ≡ i + 1 - 1 = omega arith in
+    e ∙ ap (λ k. own_attributes_of (get_or cells k blank_cell).what row screen (get_or fulls k d)) index
+    ∙ ap (λ f. own_attributes_of (row_in cells (i + 1)) row screen f) (serial (i + 1) d (omega arith) (omega arith))
+
+-- what was tiled, and what was found of the cells
+pub record IsTiledBeneath (above : List Look) (cells : List Cell) (row screen : Pen) (last : Bool)
+    (above_it : List Part)
+    (sizes_wanted : List Size) (parts_made : List Part) : Type 0 where
+  pub columns : length above ≡ 40
+  pub parts_above : above_it ≡ row_of (λ c. part_of (column_entry blank_look above c))
+  pub wanted : sizes_wanted ≡ row_of (size_in_row (row_in cells) row screen)
+  pub parts : parts_made ≡ tiled_row above_it (column_entry sizes.Normal sizes_wanted) last
+
+-- the look of what stands in a cell, by the attributes and the held signs that were found
+pub own_look_made : (cells : List Cell) (row screen : Pen) (fulls : List Full) (helds : List (Option Glyph)) (c : ℕ)
+    (df : Full)
+    (dh : Option Glyph) → 1 ≤ c → c ≤ 40
+    → ((c : ℕ) (d : Full) → 1 ≤ c → c ≤ 40 → get_or fulls (c - 1) d ≡ serial_attributes (row_in cells) row screen c)
+    → ((c : ℕ) (d : Option Glyph) → 1 ≤ c → c ≤ 40 → get_or helds (c - 1) d ≡ held_sign (row_in cells) c)
+    → look_with (shape_in (row_in cells c) (get_or helds (c - 1) dh))
+    (own_attributes_of (row_in cells c) row screen (get_or fulls (c - 1) df))
+    ≡ look_in_row (row_in cells) row screen c
+unfolding look_in_row
+own_look_made cells row screen fulls helds c df dh low high ef eh =
+    ap (λ o. look_with (shape_in (row_in cells c) o) (own_attributes_of (row_in cells c) row screen (get_or fulls
+    (c - 1) df)))
+    (eh c dh low high)
+    ∙ ap (λ f. look_with (shape_in (row_in cells c) (held_sign (row_in cells) c)) (own_attributes_of
+    (row_in cells c) row screen f))
+    (ef c df low high)
+
+-- a part that was tiled
+part_made : (parts_above : List Part) (wanted : List Size) (parts : List Part) (last : Bool) (c : ℕ) (d : Part) → 1 ≤ c
+    → c ≤ 40 → parts ≡ tiled_row parts_above (column_entry sizes.Normal wanted) last
+    → get_or parts (c - 1) d ≡ part_from (column_entry single_part parts_above) (column_entry sizes.Normal wanted)
+    last c
+unfolding tiled_row
+part_made parts_above wanted parts last c d low high e =
+    ap (λ l. get_or l (c - 1) d) e
+    ∙ get_or-row_of (part_from (column_entry single_part parts_above) (column_entry sizes.Normal wanted) last) c d low
+    high
+
+-- the look of a place by the part that was tiled there
+pub look_made : (above : List Look) (cells : List Cell) (row screen : Pen) (last : Bool) (parts_above : List Part)
+    (wanted : List Size) (parts : List Part) (c : ℕ) (d : Part)
+    → IsTiledBeneath above cells row screen last parts_above wanted parts → 1 ≤ c → c ≤ 40
+    → look_by_part (get_or parts (c - 1) d) (column_entry blank_look above c)
+    (look_from (column_entry blank_look above) (look_in_row (row_in cells) row screen) (size_in_row
+    (row_in cells) row screen)
+    last (c - 1)) (look_in_row (row_in cells) row screen c)
+    ≡ look_from (column_entry blank_look above) (look_in_row (row_in cells) row screen)
+    (size_in_row (row_in cells) row screen) last c
+look_made above cells row screen last parts_above wanted parts c d tiled low high =
+    let own : ℕ → Look = look_in_row (row_in cells) row screen in
+    let size : ℕ → Size = size_in_row (row_in cells) row screen in
+    let there : ℕ → Look = column_entry blank_look above in
+    ap (λ p. look_by_part p (there c) (look_from there own size last (c - 1)) (own c))
+    (part_made parts_above wanted parts last c d low high tiled.parts)
+    ∙ look_from-by_part (column_entry single_part parts_above) there own (column_entry sizes.Normal wanted) size last
+    (λ b. ap (λ l. column_entry single_part l b) tiled.parts_above
+    ∙ column_entry-row_of_all single_part (λ e. part_of (column_entry blank_look above e)) refl
+    (λ e past. ap part_of (column_entry-past blank_look above e tiled.columns past)) b)
+    (λ b from to. ap (λ l. column_entry sizes.Normal l b) tiled.wanted
+    ∙ column_entry-row_of sizes.Normal size b from to) c low high
+
+-- a row of valid cells
+pub IsKeepable-look_in_row : (row : ℕ → What) (pen screen : Pen) (c : ℕ) → 1 ≤ c → c ≤ 40
+    → ((d : ℕ) → 1 ≤ d → d ≤ 40 → IsValidWhat (row d)) → IsKeepable (look_in_row row pen screen c)
+unfolding look_in_row
+IsKeepable-look_in_row row pen screen c low high valid = record {
+  valid = IsValidLook-look_in_row row pen screen c low (λ d from to. valid d from (omega arith));
+  plain = HasNoPattern-shape_in (row c) (held_sign row c);
+}

@@ -1,0 +1,3 @@
+pub mod SmallLooks
+pub mod KeptRows
+pub mod RowsByCell

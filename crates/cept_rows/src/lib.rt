@@ -1,0 +1,12 @@
+//! Rows of looks in little room, each resolved from its own cells and the looks of the row above
+//! it. It knows no pages, no control and no histories.
+#![tactic(auto)]
+
+mod cell_look;
+mod colours;
+mod resolving;
+mod row_looks;
+mod small_look;
+
+pub use resolving::{resolve_cells, resolve_row};
+pub use row_looks::RowLooks;

@@ -1,0 +1,2 @@
+mod RowTiled
+mod ValidRow

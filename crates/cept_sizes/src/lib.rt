@@ -1,0 +1,10 @@
+//! Which part of a sign each place of a row shows. It knows no cells, no looks and no history.
+#![tactic(auto)]
+
+mod part;
+mod row;
+#[cfg(test)]
+mod tests;
+
+pub use cept_codes::Part;
+pub use row::{Parts, Wants, tile_row};
