@@ -1,29 +1,23 @@
 -- One more cell in the numbers of the walk, from 0: what is carried to it and what it leaves.
 use Rattle.std.proofs.Common.{◌+◌, ◌-◌, ◌≢◌, List, length, slice_index_or, slice_set, get_or-set_other, get_or-set_same}
-use Rattle.std.proofs.Common.{below_more, add-one, ◌≡◌, ℕ, ◌≤◌, ◌<◌, zero, suc, Bool, true, false, not, ◌&&◌, ◌||◌}
-use Rattle.std.proofs.Common.{cond, nat_lt, Option, Some, None, refl, sym, ◌∙◌, ap, arith}
-use Rattle.std.proofs.lemmas.Bool.{lt-ltb, le-ltb, cond_both}
-use Rattle.cept_profile.specs.Serial.{Class, Fore, Back, Hold, Flashing, Concealing, Lining, Boxing, Sizing}
-use Rattle.cept_codes.specs.declared.attribute.Flash.TheVariants as flashes
+use Rattle.std.proofs.Common.{below_more, add-one, ◌≡◌, ℕ, ◌≤◌, ◌<◌, zero, suc, true, false}
+use Rattle.std.proofs.Common.{Option, None, refl, sym, ◌∙◌, ap, arith}
 use Rattle.cept_codes.specs.declared.attribute.Full.{Full}
 use Rattle.cept_codes.specs.declared.attribute.Pen.{Pen}
-use Rattle.cept_codes.specs.declared.attribute.Size.TheVariants as sizes
 use Rattle.cept_codes.specs.Cell.{blank_cell}
 use Rattle.cept_codes.specs.declared.cell.Cell.{Cell}
 use Rattle.cept_codes.specs.declared.cell.Marker.{Marker}
-use Rattle.cept_codes.specs.declared.cell.Marker.TheVariants as markers
 use Rattle.cept_codes.specs.declared.cell.What.{What}
 use Rattle.cept_codes.specs.declared.cell.What.TheVariants as whats
 use Rattle.cept_codes.specs.declared.glyph.Glyph.{Glyph}
 use Rattle.cept_codes.specs.Attribute.{unset_pen}
-use Rattle.cept_profile.specs.Attributes.{cascade, first_value}
-use Rattle.cept_profile.specs.Serial.{row_in, is_of, is_marker, acts_there, nearest_column, column_in_force, fore_at}
-use Rattle.cept_profile.specs.Serial.{pen_of, value_found, serial_attributes, is_holding, kept_sign, held_sign}
-use Rattle.cept_profile.specs.Serial.{lies_after, mosaic_of, fore_said}
-use Rattle.cept_profile.specs.Carry.{Carry, nearest_marker, carry, carry_after}
+use Rattle.cept_profile.specs.Attributes.{cascade}
+use Rattle.cept_profile.specs.Serial.{row_in, is_marker}
+use Rattle.cept_profile.specs.Serial.{serial_attributes, held_sign}
+use Rattle.cept_profile.specs.Carry.{Carry, carry, carry_after}
 use Rattle.cept_profile.specs.Carry.{carry_in, held_sign_in}
 use Rattle.cept_attrs.specs.Walk.{carry_with_sign, carry_with_sign_at}
-use Rattle.cept_profile.proofs.Laws.{carry-start, carry-suc, serial_attributes-suc, held_sign-suc, in_plain, unmarked}
+use Rattle.cept_profile.proofs.Laws.{carry-suc, serial_attributes-suc, held_sign-suc, in_plain, unmarked}
 
 -- ---- in the code's numbers, from 0
 

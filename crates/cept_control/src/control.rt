@@ -82,7 +82,12 @@ impl Control {
         ensures valid_strokes { AllByRecursion IsValidStroke strokes.new.items }
         ensures few { length strokes.new.items ≤ 128 }
     {
-        strokes.clear();
+        // Of most commands one stroke is left, which is taken without a loop.
+        if strokes.len() == 1 {
+            let _ = strokes.pop();
+        } else {
+            strokes.clear();
+        }
         self.prepare(&command);
         self.take_effect(command, strokes);
     }
@@ -171,6 +176,12 @@ impl Control {
             Command::FlashMode(mode) => self.flash_mode(mode, strokes),
             Command::StopConceal => self.stop_conceal(strokes),
             Command::DesignateC1(set) => self.designate_c1(set),
+            Command::Table(table) => self.colour_table(table),
+            Command::FullScreen(n) => self.full_screen(n, strokes),
+            Command::FullRow(n) => self.full_row(n, strokes),
+            Command::ColourDefaults => self.colour_defaults(strokes),
+            Command::Entry(i, colour) => self.colour_entry(i, colour, strokes),
+            Command::Dclut(i, entry) => self.dclut_entry(i, entry, strokes),
             // a service isn't built: its break drops the accent that waits
             Command::ServiceBreak(_) => self.working.accent = None,
             // these leave control as it is
@@ -183,18 +194,12 @@ impl Control {
             | Command::ColourStart(_)
             | Command::DrcsStart(_) => {}
             // not built yet: no effect
-            Command::Table(_)
-            | Command::ScrollUp
+            Command::ScrollUp
             | Command::ScrollDown
             | Command::Implicit(_)
             | Command::Protect(_)
             | Command::AreaCreate(_, _)
             | Command::AreaDelete(_, _)
-            | Command::FullScreen(_)
-            | Command::FullRow(_)
-            | Command::ColourDefaults
-            | Command::Entry(_, _)
-            | Command::Dclut(_, _)
             | Command::DrcsHeader(_, _)
             | Command::DrcsPattern(_, _)
             | Command::Format(_, _)

@@ -2,6 +2,7 @@
 //! knows no bytes, sees no cell and no look, and keeps no history.
 #![tactic(auto)]
 
+mod colour;
 mod control;
 mod graphic;
 mod marker;

@@ -77,7 +77,7 @@ fn fast_after_code(n: u8, fast: u8) -> u8
 }
 
 /// The attribute of a C1 code with a colour table.
-fn attribute_of(table: u8, n: u8) -> Option<Attr>
+pub(crate) fn attribute_of(table: u8, n: u8) -> Option<Attr>
     requires table { table ≤ 3 }
     requires code { IsC1 n }
     ensures attribute { result ≡ attribute_of table n }

@@ -1,5 +1,7 @@
 use crate::control::Control;
-use cept_codes::{Cell, Command, Glyph, Pen, Pos, SetId, Size, Stroke, What};
+use cept_codes::{
+    Attr, C1Set, Cell, Command, Glyph, Paint, Pen, Pos, Rgb, SetId, Size, Stroke, What,
+};
 
 /// The sign is put at this place, with the pen.
 fn put(place: Option<Pos>, code: u8, accent: u8, pen: Pen) -> Option<Stroke> {
@@ -97,4 +99,38 @@ fn a_wide_sign_at_column_39_goes_on_in_the_row_below(rt: HostRuntime) {
         put(Pos::new(2, 1), 0x42, 0, wide)
     );
     assert_eq!(rt; Some(control.active()), Pos::new(2, 3));
+}
+
+#[test]
+fn a_row_and_the_screen_take_attributes(rt: HostRuntime) {
+    let mut control = Control::new();
+    assert_eq!(rt; control.step(Command::Position(5, 7)).len(), 0);
+    assert_eq!(rt; control.step(Command::Table(1)).len(), 0);
+    assert_eq!(rt; control.step(Command::DesignateC1(C1Set::Serial)).len(), 0);
+    let strokes = control.step(Command::FullRow(17));
+    assert_eq!(rt;
+        strokes.first().copied(),
+        Some(Stroke::RowAttr(5, Attr::Back(9)))
+    );
+    let strokes = control.step(Command::FullScreen(30));
+    assert_eq!(rt;
+        strokes.first().copied(),
+        Some(Stroke::ScreenAttr(Attr::NoBack))
+    );
+    assert_eq!(rt; Some(control.active()), Pos::new(5, 7));
+}
+
+#[test]
+fn colours_are_written_and_come_back(rt: HostRuntime) {
+    let mut control = Control::new();
+    let violet = Rgb { r: 9, g: 0, b: 15 };
+    let strokes = control.step(Command::Entry(24, violet));
+    assert_eq!(rt;
+        strokes.first().copied(),
+        Some(Stroke::Colour(24, Paint::Ink(violet)))
+    );
+    let strokes = control.step(Command::Dclut(3, 24));
+    assert_eq!(rt; strokes.first().copied(), Some(Stroke::Dclut(3, 24)));
+    let strokes = control.step(Command::ColourDefaults);
+    assert_eq!(rt; strokes.first().copied(), Some(Stroke::ColourDefaults));
 }

@@ -37,7 +37,6 @@ use Rattle.cept_profile.proofs.ValidState.{AllByRecursion-reverse}
 
 outer_back-built_commands : (history : List Command) → outer_back (built_commands history) ≡ built_commands history
 outer_back-built_commands [] = refl
-outer_back-built_commands (commands.Table k ∷ earlier) = outer_back-built_commands earlier
 outer_back-built_commands (commands.Implicit on ∷ earlier) = outer_back-built_commands earlier
 outer_back-built_commands (commands.Protect on ∷ earlier) = outer_back-built_commands earlier
 outer_back-built_commands (commands.AreaCreate a b ∷ earlier) = outer_back-built_commands earlier

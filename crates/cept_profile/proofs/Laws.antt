@@ -29,10 +29,18 @@ pub use Rattle.cept_profile.proofs.CopiesOfSigns.{length-strokes_of_copies, cont
 pub use Rattle.cept_profile.proofs.RowsInReach.{look-out_of_reach, rows_in_reach-le, in_reach-by}
 pub use Rattle.cept_profile.proofs.RowsInReach.{rows_in_reach-counted}
 -- ---- untouched_rows_stay
-pub use Rattle.cept_profile.proofs.RowsInReach.{cell-untouched, look-untouched}
+pub use Rattle.cept_profile.proofs.RowsInReach.{cell-untouched, row_pen-untouched, screen_pen-untouched}
+pub use Rattle.cept_profile.proofs.RowsInReach.{paint-untouched, dclut-untouched, look-untouched}
 -- ---- exactly_one_row_is_tiled, exactly_one_table_is_tiled, parts_are_valid
-pub use Rattle.cept_profile.proofs.TiledTables.{IsTiledRow-tiled_row, IsTiledRow-only, IsTiled-tiled_table, IsTiled-only}
+pub use Rattle.cept_profile.proofs.TiledTables.{
+  IsTiledRow-tiled_row,
+  IsTiledRow-only,
+  IsTiled-tiled_table,
+  IsTiled-only,
+}
 pub use Rattle.cept_profile.proofs.TiledTables.{tiled_row-beneath, IsValidPart-part_at, OnScreen-origin}
+-- ---- the_parts_of_a_core_are_the_tiled_ones
+pub use Rattle.cept_profile.proofs.LooksFromAbove.{tiled_parts, tiled_parts-only, look-by_origin, origin-on_screen}
 -- ---- looks_come_from_above_or_the_left
 pub use Rattle.cept_profile.proofs.LooksFromAbove.{look-above, look-left, look-itself, looks_in-from_above}
 -- ---- rows_stay_under_what_covers_them
@@ -44,6 +52,8 @@ pub use Rattle.cept_profile.proofs.MotionStrokes.{on_strokes-none, back_strokes-
 -- ---- one_more_cell, without_markers
 pub use Rattle.cept_profile.proofs.OneMoreCell.{carry-start, carry-suc, serial_attributes-suc, held_sign-suc, in_plain}
 pub use Rattle.cept_profile.proofs.OneMoreCell.{unmarked}
+-- ---- serial_attributes_are_valid
+pub use Rattle.cept_profile.proofs.MarkersInForce.{serial_attributes-valid}
 -- ---- looks_hang_on_cells_to_the_left, the_page_and_the_rows_are_seen
 pub use Rattle.cept_profile.proofs.LooksInRows.{look_in_row-alike, size_in_row-alike, look_in_row-unmarked}
 pub use Rattle.cept_profile.proofs.LooksInRows.{size_in_row-single, looks_of-alike}

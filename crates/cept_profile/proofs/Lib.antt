@@ -20,6 +20,10 @@ mod RisingLists
 mod ClosedServices
 mod FirstGrid
 mod OneMoreState
+mod PartsByStrokes
+mod ValidParts
+mod ValidAttributes
+mod WorkedParts
 mod ValidControl
 mod ValidLook
 mod ValidPage
@@ -45,3 +49,4 @@ mod WorkedRows
 mod PlainPages
 mod WorkedReach
 mod WorkedTiling
+mod WorkedPaints

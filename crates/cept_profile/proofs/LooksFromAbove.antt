@@ -7,14 +7,14 @@ use Rattle.std.proofs.lemmas.List.{length-map}
 use Rattle.cept_codes.specs.declared.attribute.Size.{Size}
 use Rattle.cept_codes.specs.declared.attribute.Size.TheVariants as sizes
 use Rattle.cept_codes.specs.declared.look.Look.{Look}
+use Rattle.cept_codes.specs.declared.look.Part.{Part}
 use Rattle.cept_codes.specs.Look.{blank_look}
 use Rattle.cept_codes.specs.Place.{OnScreen}
 use Rattle.cept_codes.specs.Same.{same_look}
 use Rattle.cept_codes.specs.Table.{IsTable}
 use Rattle.cept_codes.proofs.Laws.{look_decides}
 use Rattle.cept_profile.specs.Look.{is_last_row, look, look_in_row, look_with_part, looks_of, own_look, own_size}
-use Rattle.cept_profile.specs.Look.{part_of}
-use Rattle.cept_profile.specs.Look.{parts_of}
+use Rattle.cept_profile.specs.Look.{look_of_origin, part_of, parts_of}
 use Rattle.cept_profile.specs.RowsFromAbove.{covering, covering_differs, is_other_covering, look_by, look_seen}
 use Rattle.cept_profile.specs.RowsFromAbove.{looks_in}
 use Rattle.cept_profile.specs.RowsFromAbove.{row_from_above}
@@ -27,12 +27,28 @@ use Rattle.cept_profile.proofs.ColumnEntries.{same_columns}
 use Rattle.cept_profile.proofs.LookByNeighbours.{look_by-above, look_by-itself, look_by-left}
 use Rattle.cept_profile.proofs.LooksOfOrigins.{look_seen-by, look_seen-on, looks_in-by, looks_through}
 use Rattle.cept_profile.proofs.LooksOfOrigins.{row_from_above-alike, single_covers_nothing, single_shows_itself}
-use Rattle.cept_profile.proofs.TiledTables.{IsTiled-tiled_table}
+use Rattle.cept_profile.proofs.TiledTables.{IsTiled-only, IsTiled-tiled_table, OnScreen-origin}
 
 -- ---- a core's looks are those through the origins of its parts
 
-tiled_parts : (k : Core) → IsTiled (own_size k) (is_last_row k.rows) (parts_of k)
+pub tiled_parts : (k : Core) → IsTiled (own_size k) (is_last_row k.rows) (parts_of k)
 tiled_parts k = IsTiled-tiled_table (own_size k) (is_last_row k.rows)
+
+-- no other parts are tiled by the sizes of a core
+pub tiled_parts-only : (k : Core) (t : List (List Part)) → IsTiled (own_size k) (is_last_row k.rows) t → t ≡ parts_of k
+tiled_parts-only k t is = IsTiled-only (own_size k) (is_last_row k.rows) t is
+
+-- so a look is told by any parts that are tiled so, and each origin is on the screen
+pub look-by_origin : (k : Core) (t : List (List Part)) (r c : ℕ) → IsTiled (own_size k) (is_last_row k.rows) t
+    → look k r c ≡ look_of_origin (own_look k) r c (part_at t r c)
+unfolding look
+look-by_origin k t r c is =
+    ap (λ (parts : List (List Part)). look_of_origin (own_look k) r c (part_at parts r c))
+    (sym (tiled_parts-only k t is))
+
+pub origin-on_screen : (k : Core) (t : List (List Part)) (r c : ℕ) → IsTiled (own_size k) (is_last_row k.rows) t
+    → OnScreen r c → OnScreen (r - (part_at t r c).dy) (c - (part_at t r c).dx)
+origin-on_screen k t r c is on = OnScreen-origin (own_size k) (is_last_row k.rows) t r c is on
 
 looks-through : (k : Core) → looks_of k ≡ looks_through (own_look k) (parts_of k)
 unfolding look

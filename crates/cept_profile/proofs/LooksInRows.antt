@@ -7,10 +7,11 @@ use Rattle.cept_codes.specs.declared.attribute.Size.TheVariants as sizes
 use Rattle.cept_codes.specs.declared.cell.Marker.TheVariants as markers
 use Rattle.cept_codes.specs.declared.cell.What.{What}
 use Rattle.cept_codes.specs.declared.cell.What.TheVariants as whats
+use Rattle.cept_codes.specs.declared.look.Paint.{Paint}
 use Rattle.cept_codes.specs.Attribute.{unset_pen}
 use Rattle.cept_profile.specs.Attributes.{cascade, first_value}
-use Rattle.cept_profile.specs.Look.{attributes_of, is_double_set, look, look_in_row, look_of, look_with, looks_of}
-use Rattle.cept_profile.specs.Look.{sets_size, shape_in, shape_of, size_in_row}
+use Rattle.cept_profile.specs.Look.{attributes_of, is_double, is_double_set, look, look_in_row, look_of, look_with}
+use Rattle.cept_profile.specs.Look.{looks_of, sets_size, shape_in, shape_of, size_in_row}
 use Rattle.cept_profile.specs.Serial.{Sizing, acts, column_in_force, held_sign, is_marker, own_attributes}
 use Rattle.cept_profile.specs.Serial.{own_attributes_of, serial_attributes, size_said, value_found}
 use Rattle.cept_profile.specs.State.{Core}
@@ -18,17 +19,17 @@ use Rattle.cept_profile.proofs.MarkersInForce.{IsGreatest, column_in_force-great
 use Rattle.cept_profile.proofs.MarkersInForce.{serial_attributes-alike, serial_attributes-unmarked}
 
 -- rows that agree up to a column have the same look there
-pub look_in_row-alike : (f g : ℕ → What) (pen screen : Pen) (c : ℕ) → 1 ≤ c → ((d : ℕ) → 1 ≤ d → d ≤ c → f d ≡ g d)
-    → look_in_row f pen screen c ≡ look_in_row g pen screen c
+pub look_in_row-alike : (paint_of : ℕ → Paint) (f g : ℕ → What) (pen screen : Pen) (c : ℕ) → 1 ≤ c
+    → ((d : ℕ) → 1 ≤ d → d ≤ c → f d ≡ g d) → look_in_row paint_of f pen screen c ≡ look_in_row paint_of g pen screen c
 unfolding look_in_row
-look_in_row-alike f g pen screen c low same =
+look_in_row-alike paint_of f g pen screen c low same =
     let here : f c ≡ g c = same c low (omega arith) in
-    ap (λ w. look_with (shape_in w (held_sign f c))
+    ap (λ w. look_with paint_of (shape_in w (held_sign f c))
     (own_attributes_of w pen screen (serial_attributes f pen screen c))) here
-    ∙ ap (λ o. look_with (shape_in (g c) o)
+    ∙ ap (λ o. look_with paint_of (shape_in (g c) o)
     (own_attributes_of (g c) pen screen (serial_attributes f pen screen c)))
     (held_sign-alike f g c low same)
-    ∙ ap (λ s. look_with (shape_in (g c) (held_sign g c)) (own_attributes_of (g c) pen screen s))
+    ∙ ap (λ s. look_with paint_of (shape_in (g c) (held_sign g c)) (own_attributes_of (g c) pen screen s))
     (serial_attributes-alike f g pen screen c low same)
 
 -- and the same size
@@ -50,61 +51,74 @@ shape-plain : (w : What) → is_marker w ≡ false → shape_in w None ≡ shape
 shape-plain (whats.Marker m) plain = refl
 shape-plain w plain = refl
 
-own-plain : (w : What) → own_attributes_of w unset_pen unset_pen (cascade unset_pen unset_pen unset_pen)
-    ≡ attributes_of w
-own-plain (whats.Parallel g pen) = refl
-own-plain w = refl
+own-plain : (pen screen : Pen) (w : What) → own_attributes_of w pen screen (cascade unset_pen pen screen)
+    ≡ attributes_of pen screen w
+own-plain pen screen (whats.Parallel g p) = refl
+own-plain pen screen w = refl
 
 -- in a row without markers up to a column the look there is that of the cell by itself
-pub look_in_row-unmarked : (row : ℕ → What) (c : ℕ) → 1 ≤ c → ((d : ℕ) → 1 ≤ d → d ≤ c → is_marker (row d) ≡ false)
-    → look_in_row row unset_pen unset_pen c ≡ look_of (row c)
+pub look_in_row-unmarked : (paint_of : ℕ → Paint) (row : ℕ → What) (pen screen : Pen) (c : ℕ) → 1 ≤ c
+    → ((d : ℕ) → 1 ≤ d → d ≤ c → is_marker (row d) ≡ false)
+    → look_in_row paint_of row pen screen c ≡ look_of paint_of pen screen (row c)
 unfolding look_in_row look_of
-look_in_row-unmarked row c low plain =
+look_in_row-unmarked paint_of row pen screen c low plain =
     let here : is_marker (row c) ≡ false = plain c low (omega arith) in
-    ap (λ o. look_with (shape_in (row c) o) (own_attributes row unset_pen unset_pen c)) (plain-none row c here)
-    ∙ ap (λ s. look_with s (own_attributes row unset_pen unset_pen c)) (shape-plain (row c) here)
-    ∙ ap (λ f. look_with (shape_of (row c)) (own_attributes_of (row c) unset_pen unset_pen f))
-    (serial_attributes-unmarked row unset_pen unset_pen c low plain)
-    ∙ ap (λ f. look_with (shape_of (row c)) f) (own-plain (row c))
+    ap (λ o. look_with paint_of (shape_in (row c) o) (own_attributes row pen screen c)) (plain-none row c here)
+    ∙ ap (λ s. look_with paint_of s (own_attributes row pen screen c)) (shape-plain (row c) here)
+    ∙ ap (λ f. look_with paint_of (shape_of (row c)) (own_attributes_of (row c) pen screen f))
+    (serial_attributes-unmarked row pen screen c low plain)
+    ∙ ap (λ f. look_with paint_of (shape_of (row c)) f) (own-plain pen screen (row c))
 
 -- ---- rows without sizes
 
--- a size that is set and not double is the single one
-single-set : (size : Option Size) → is_double_set size ≡ false → first_value size None None sizes.Normal ≡ sizes.Normal
-single-set None plain = refl
-single-set (Some sizes.Normal) plain = refl
-single-set (Some size) plain = absurd (true≢false plain)
+-- a size that is not double is the single one
+single-size : (size : Size) → is_double size ≡ false → size ≡ sizes.Normal
+single-size sizes.Normal plain = refl
+single-size size plain = absurd (true≢false plain)
+
+-- so is the first of three that is set, where none that is set is double
+single-first : (own pen screen : Option Size) → is_double_set own ≡ false → is_double_set pen ≡ false
+    → is_double_set screen ≡ false → first_value own pen screen sizes.Normal ≡ sizes.Normal
+single-first (Some size) pen screen here row all = single-size size here
+single-first None (Some size) screen here row all = single-size size row
+single-first None None (Some size) here row all = single-size size all
+single-first None None None here row all = refl
 
 -- what sets no size says none, or the single one
-single-said : (w : What) → sets_size w ≡ false → first_value (size_said w) None None sizes.Normal ≡ sizes.Normal
-single-said (whats.Marker (markers.Size size)) plain = single-set (Some size) plain
+single-said : (w : What) → sets_size w ≡ false → is_double_set (size_said w) ≡ false
+single-said (whats.Marker (markers.Size size)) plain = plain
 single-said w plain = refl
 
 -- so does what is found among such
 single-found : (row : ℕ → What) (c : ℕ) (found : Option ℕ) → ((d : ℕ) → 1 ≤ d → d ≤ c → sets_size (row d) ≡ false)
-    → IsGreatest (acts row Sizing c) c found
-    → first_value (value_found (λ d. size_said (row d)) found) None None sizes.Normal ≡ sizes.Normal
+    → IsGreatest (acts row Sizing c) c found → is_double_set (value_found (λ d. size_said (row d)) found) ≡ false
 single-found row c None plain greatest = refl
 single-found row c (Some d) plain greatest = single-said (row d) (plain d greatest.0 greatest.1)
 
-serial-single : (row : ℕ → What) (c : ℕ) → ((d : ℕ) → 1 ≤ d → d ≤ c → sets_size (row d) ≡ false)
-    → (serial_attributes row unset_pen unset_pen c).size ≡ sizes.Normal
+serial-single : (row : ℕ → What) (pen screen : Pen) (c : ℕ) → ((d : ℕ) → 1 ≤ d → d ≤ c → sets_size (row d) ≡ false)
+    → is_double_set pen.size ≡ false → is_double_set screen.size ≡ false
+    → (serial_attributes row pen screen c).size ≡ sizes.Normal
 unfolding serial_attributes
-serial-single row c plain =
-    single-found row c (column_in_force row Sizing c) plain (column_in_force-greatest row Sizing c)
+serial-single row pen screen c plain in_row on_screen =
+    single-first (value_found (λ d. size_said (row d)) (column_in_force row Sizing c)) pen.size screen.size
+    (single-found row c (column_in_force row Sizing c) plain (column_in_force-greatest row Sizing c)) in_row on_screen
 
-own-single : (row : ℕ → What) (c : ℕ) (w : What) → sets_size w ≡ false
-    → (serial_attributes row unset_pen unset_pen c).size ≡ sizes.Normal
-    → (own_attributes_of w unset_pen unset_pen (serial_attributes row unset_pen unset_pen c)).size ≡ sizes.Normal
-own-single row c (whats.Parallel g pen) plain serial = single-set pen.size plain
-own-single row c w plain serial = serial
+own-single : (row : ℕ → What) (pen screen : Pen) (c : ℕ) (w : What) → sets_size w ≡ false
+    → is_double_set pen.size ≡ false → is_double_set screen.size ≡ false
+    → (serial_attributes row pen screen c).size ≡ sizes.Normal
+    → (own_attributes_of w pen screen (serial_attributes row pen screen c)).size ≡ sizes.Normal
+own-single row pen screen c (whats.Parallel g p) plain in_row on_screen serial =
+    single-first p.size pen.size screen.size plain in_row on_screen
+own-single row pen screen c w plain in_row on_screen serial = serial
 
--- where nothing up to a column sets a size, what stands there is of single size
-pub size_in_row-single : (row : ℕ → What) (c : ℕ) → 1 ≤ c → ((d : ℕ) → 1 ≤ d → d ≤ c → sets_size (row d) ≡ false)
-    → size_in_row row unset_pen unset_pen c ≡ sizes.Normal
+-- where nothing up to a column, the row or the screen sets a size, what stands there is of single size
+pub size_in_row-single : (row : ℕ → What) (pen screen : Pen) (c : ℕ) → 1 ≤ c
+    → ((d : ℕ) → 1 ≤ d → d ≤ c → sets_size (row d) ≡ false) → is_double_set pen.size ≡ false
+    → is_double_set screen.size ≡ false → size_in_row row pen screen c ≡ sizes.Normal
 unfolding size_in_row
-size_in_row-single row c low plain =
-    own-single row c (row c) (plain c low (omega arith)) (serial-single row c plain)
+size_in_row-single row pen screen c low plain in_row on_screen =
+    own-single row pen screen c (row c) (plain c low (omega arith)) in_row on_screen
+    (serial-single row pen screen c plain in_row on_screen)
 
 -- ---- cores
 

@@ -1,8 +1,8 @@
 -- Valid control: the initial state is valid, and every valid command keeps it valid.
-use Rattle.std.proofs.Common.{◌≡◌, ◌⊎◌, ℕ, ◌+◌, ◌-◌, ◌≤◌, zero, suc, Bool, true, false, min, cond, eqb, leb, ltb}
+use Rattle.std.proofs.Common.{◌≡◌, ◌⊎◌, ℕ, ◌+◌, ◌-◌, ◌≤◌, zero, suc, Bool, false, min, cond, eqb, leb}
 use Rattle.std.proofs.Common.{Option, Some, None, inl, inr, refl, subst, arith}
 use Rattle.std.specs.Prelude.{IfSome}
-use Rattle.std.proofs.lemmas.Bool.{cond_both, eqb-false, ltb-true, leb-true}
+use Rattle.std.proofs.lemmas.Bool.{cond_both, eqb-false, leb-true}
 use Rattle.std.proofs.lemmas.Bool.Decides.{nat_tests}
 use Rattle.cept_codes.specs.declared.attribute.Attr.{Attr}
 use Rattle.cept_codes.specs.declared.attribute.Attr.TheVariants as attrs
@@ -25,9 +25,9 @@ use Rattle.cept_codes.specs.Command.{IsGraphic, IsValidCommand}
 use Rattle.cept_codes.specs.Glyph.{IsCodeOf, IsValidGlyph}
 use Rattle.cept_codes.specs.Place.{OnScreen}
 use Rattle.cept_profile.specs.Control.{Working, ControlState, initial_control, initial_sets, initial_working}
-use Rattle.cept_profile.specs.Control.{control_with, working_at, working_with_sets, with_c1, working_without_run}
-use Rattle.cept_profile.specs.Control.{working_without_pen, working_without_accent, finds_accent, state_for_effect}
-use Rattle.cept_profile.specs.Control.{control_effect, control_after}
+use Rattle.cept_profile.specs.Control.{control_with, working_at, working_with_sets, with_c1, with_table}
+use Rattle.cept_profile.specs.Control.{working_without_run, working_without_pen, working_without_accent, finds_accent}
+use Rattle.cept_profile.specs.Control.{state_for_effect, control_effect, control_after}
 use Rattle.cept_profile.specs.Markers.{marker_of, run_after, step_after, working_after_any_marker, working_after_marker}
 use Rattle.cept_profile.specs.Motions.{row_below, row_above, working_ahead, working_back}
 use Rattle.cept_profile.specs.Pens.{attribute_of, pen_with, pen_with_any, is_flash, working_after_code, fast_after}
@@ -39,6 +39,7 @@ use Rattle.cept_profile.specs.Valid.{AreValidSets, IsValidWorking, IsValidContro
 use Rattle.cept_profile.specs.Writing.{sign_with_accent, control_after_copies, working_after_read, working_after_repeat}
 use Rattle.cept_profile.specs.Writing.{graphic_result, control_with_result, columns_of_sign, working_after_sign}
 use Rattle.cept_profile.proofs.CodesRead.{IsCode-code_of, IsValidRead-read_as}
+use Rattle.cept_profile.proofs.ValidAttributes.{IsValid-attribute_of}
 
 pub IsValidPen-unset_pen : IsValidPen unset_pen
 IsValidPen-unset_pen = record { fore = tt; back = tt }
@@ -275,32 +276,6 @@ IsValidPen-pen_with_any : (attribute : Option Attr) (p : Pen) → IfSome attribu
 IsValidPen-pen_with_any None p valid is = is
 IsValidPen-pen_with_any (Some attribute) p valid is = IsValidPen-pen_with attribute p valid is
 
--- an attribute, or none, of a choice
-IsValid-choice : (test : Bool) (x y : Option Attr) → (test ≡ true → IfSome x IsValidAttr)
-    → (test ≡ false → IfSome y IsValidAttr) → IfSome (cond test x y) IsValidAttr
-IsValid-choice test x y holds fails = cond_both test x y (λ a. IfSome a IsValidAttr) holds fails
-
-pub IsValid-attribute_of : (table n : ℕ) → table ≤ 3 → IfSome (attribute_of table n) IsValidAttr
-IsValid-attribute_of table n low =
-    IsValid-choice (ltb n 8) _ _ (λ e. let below = ltb-true n 8 e in omega arith)
-    (λ _. IsValid-choice (eqb n 8) _ _ (λ _. tt)
-    (λ _. IsValid-choice (eqb n 9) _ _ (λ _. tt)
-    (λ _. IsValid-choice (eqb n 10) _ _ (λ _. tt)
-    (λ _. IsValid-choice (eqb n 11) _ _ (λ _. tt)
-    (λ _. IsValid-choice (eqb n 12) _ _ (λ _. tt)
-    (λ _. IsValid-choice (eqb n 13) _ _ (λ _. tt)
-    (λ _. IsValid-choice (eqb n 14) _ _ (λ _. tt)
-    (λ _. IsValid-choice (eqb n 15) _ _ (λ _. tt)
-    (λ _. IsValid-choice (ltb n 24) _ _ (λ e. let below = ltb-true n 24 e in omega arith)
-    (λ _. IsValid-choice (eqb n 24) _ _ (λ _. tt)
-    (λ _. IsValid-choice (eqb n 25) _ _ (λ _. tt)
-    (λ _. IsValid-choice (eqb n 26) _ _ (λ _. tt)
-    (λ _. IsValid-choice (eqb n 28) _ _ (λ _. tt)
-    (λ _. IsValid-choice (eqb n 29) _ _ (λ _. tt)
-    (λ _. IsValid-choice (eqb n 30) _ _ (λ _. tt)
-    (λ _. IsValid-choice (eqb n 31) _ _ (λ _. tt)
-    (λ _. tt)))))))))))))))))
-
 pub fast_after-in_range : (mode fast : ℕ) → fast ≤ 3 → fast_after mode fast ≤ 3
 fast_after-in_range mode fast low = grind (arith, nat_tests)
 
@@ -400,6 +375,22 @@ IsWithin-with_c1 rows set w is = record {
     fast = is.valid.fast;
     step = is.valid.step;
     table = is.valid.table;
+  };
+  row = is.row;
+}
+
+-- with another colour table
+IsWithin-with_table : (rows k : ℕ) (w : Working) → IsWithin rows w → k ≤ 3 → IsWithin rows (with_table k w)
+IsWithin-with_table rows k w is low = record {
+  valid = record {
+    place = is.valid.place;
+    sets = is.valid.sets;
+    accent = is.valid.accent;
+    last = is.valid.last;
+    pen = is.valid.pen;
+    fast = is.valid.fast;
+    step = is.valid.step;
+    table = low;
   };
   row = is.row;
 }
@@ -607,6 +598,8 @@ IsValidControl-control_effect s (commands.FlashMode k) is valid =
     IsValidControl-working s is (IsWithin-working_after_flash s s.working.c1 k is)
 IsValidControl-control_effect s commands.StopConceal is valid =
     IsValidControl-working s is (IsWithin-working_after_reveal s s.working.c1 is)
+IsValidControl-control_effect s (commands.Table k) is valid =
+    IsValidControl-working s is (IsWithin-with_table s.rows k s.working (IsWithin-control s is) valid)
 IsValidControl-control_effect s (commands.ServiceBreak row) is valid = IsValidControl-working_without_accent s is
 IsValidControl-control_effect s _ is valid = is
 

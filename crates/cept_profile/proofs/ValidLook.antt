@@ -1,10 +1,9 @@
 -- Valid looks: those of a core with a valid page.
-use Rattle.std.proofs.Common.{◌≡◌, ℕ, ◌≤◌, ◌-◌, ◌%◌, Bool, true, false, not, cond, zero, suc, ◌&&◌, eqb, Option, Some}
-use Rattle.std.proofs.Common.{None}
-use Rattle.std.proofs.Common.{List, [], ◌∷◌, sym, subst, ◌∙◌, arith, rules}
+use Rattle.std.proofs.Common.{◌≡◌, ℕ, ◌≤◌, ◌-◌, ◌%◌, Bool, true, false, not, cond, zero, suc, ◌&&◌, eqb, Option}
+use Rattle.std.proofs.Common.{Some, None, List, [], ◌∷◌, sym, subst, ◌∙◌, inl, inr, arith, rules}
 use Rattle.std.specs.List.{AllByRecursion}
 use Rattle.std.specs.Prelude.{IfSome, nat_lt, slice_index_or}
-use Rattle.std.proofs.lemmas.Bool.{cond_both}
+use Rattle.std.proofs.lemmas.Bool.{cases_lt, cond_both}
 use Rattle.cept_codes.specs.declared.attribute.Pen.{Pen}
 use Rattle.cept_codes.specs.declared.attribute.Size.{Size}
 use Rattle.cept_codes.specs.declared.cell.What.{What}
@@ -21,21 +20,22 @@ use Rattle.cept_codes.specs.Cell.{IsValidWhat}
 use Rattle.cept_codes.specs.Glyph.{IsValidGlyph}
 use Rattle.cept_codes.specs.Look.{IsValidPaint, IsValidPart, IsValidShape, IsValidLook, black_paint, blank_look}
 use Rattle.cept_codes.specs.Place.{OnScreen}
-use Rattle.cept_codes.proofs.Laws.{value_at-table, IsTable-table}
+use Rattle.cept_codes.specs.Stroke.{IsPaintOf}
+use Rattle.cept_codes.proofs.Laws.{entry_past, value_at-table, IsTable-table}
 use Rattle.cept_profile.specs.Attributes.{first_value, cascade}
 use Rattle.cept_profile.specs.Colours.{ink, default_paints, default_paint, fore_paint, back_paint, paint_over}
 use Rattle.cept_profile.specs.Look.{shape_of, shape_of_sign, attributes_of, look_of, look, looks_of, grid}
 use Rattle.cept_profile.specs.Look.{contents_of_row, is_last_row, look_in_row, look_with_part, own_look, own_size}
-use Rattle.cept_profile.specs.Look.{part_of}
-use Rattle.cept_profile.specs.Look.{shape_in}
+use Rattle.cept_profile.specs.Look.{part_of, shape_in}
+use Rattle.cept_profile.specs.PageParts.{paint_in, row_pen_in}
 use Rattle.cept_profile.specs.RowsFromAbove.{look_by, look_from, look_seen, looks_in, row_from_above}
-use Rattle.cept_profile.specs.Serial.{held_sign}
+use Rattle.cept_profile.specs.Serial.{held_sign, own_attributes}
 use Rattle.cept_profile.specs.Tiling.{column_entry, covers_below, is_covered_from_left, is_high, is_wide, origin_part}
 use Rattle.cept_profile.specs.Tiling.{part_below, part_to_the_right}
 use Rattle.cept_profile.proofs.ColumnEntries.{column_entry-default, column_entry-row_of}
 use Rattle.cept_profile.proofs.LooksFromAbove.{look-seen, looks_in-from_above}
 use Rattle.cept_profile.proofs.MarkersInForce.{held_sign-valid}
-use Rattle.cept_profile.specs.State.{Core, core}
+use Rattle.cept_profile.specs.State.{Core, Page, core}
 use Rattle.cept_profile.specs.Valid.{AllValid, IsValidPage, IsValidGrid}
 use Rattle.cept_profile.proofs.ValidState.{IsValidState-state}
 
@@ -57,6 +57,9 @@ first_value-valid (Some x) b c d va vb vc vd = va
 first_value-valid None (Some x) c d va vb vc vd = vb
 first_value-valid None None (Some x) d va vb vc vd = vc
 first_value-valid None None None d va vb vc vd = vd
+
+pub unset_pen-valid : IsValidPen unset_pen
+unset_pen-valid = record { fore = tt; back = tt }
 
 pub IsValidFull-cascade : (pen row screen : Pen) → IsValidPen pen → IsValidPen row → IsValidPen screen
     → IsValidFull (cascade pen row screen)
@@ -92,9 +95,10 @@ IsValidPaint-paint_over (paints.Ink c) back is_fore is_back = is_fore
 
 -- ---- looks
 
-pub IsValidLook-look_of : (what : What) → IsValidWhat what → IsValidLook (look_of what)
+pub IsValidLook-look_of : (paint_of : ℕ → Paint) (row screen : Pen) (what : What)
+    → ((i : ℕ) → IsValidPaint (paint_of i)) → IsValidWhat what → IsValidLook (look_of paint_of row screen what)
 unfolding look_of
-IsValidLook-look_of what valid = record {
+IsValidLook-look_of paint_of row screen what paints valid = record {
   shape = IsValidShape-shape_of what valid;
   part = record {
     down = omega arith;
@@ -102,9 +106,9 @@ IsValidLook-look_of what valid = record {
     wide = (omega arith, omega arith);
     high = (omega arith, omega arith);
   };
-  fore = IsValidPaint-paint_over (fore_paint (attributes_of what)) (back_paint (attributes_of what))
-      (IsValidPaint-default_paint _) (IsValidPaint-default_paint _);
-  back = IsValidPaint-default_paint _;
+  fore = IsValidPaint-paint_over (fore_paint paint_of (attributes_of row screen what))
+      (back_paint paint_of (attributes_of row screen what)) (paints _) (paints _);
+  back = paints _;
 }
 
 IsValidShape-shape_in : (w : What) (held : Option Glyph) → IsValidWhat w → IfSome held IsValidGlyph
@@ -116,10 +120,11 @@ IsValidShape-shape_in (whats.Parallel g pen) held valid is = IsValidShape-sign g
 IsValidShape-shape_in (whats.Marker m) None valid is = tt
 
 -- the look at a column of a row of valid cells
-pub IsValidLook-look_in_row : (row : ℕ → What) (pen screen : Pen) (c : ℕ) → 1 ≤ c
-    → ((d : ℕ) → 1 ≤ d → d ≤ c → IsValidWhat (row d)) → IsValidLook (look_in_row row pen screen c)
+pub IsValidLook-look_in_row : (paint_of : ℕ → Paint) (row : ℕ → What) (pen screen : Pen) (c : ℕ) → 1 ≤ c
+    → ((i : ℕ) → IsValidPaint (paint_of i)) → ((d : ℕ) → 1 ≤ d → d ≤ c → IsValidWhat (row d))
+    → IsValidLook (look_in_row paint_of row pen screen c)
 unfolding look_in_row
-IsValidLook-look_in_row row pen screen c low valid = record {
+IsValidLook-look_in_row paint_of row pen screen c low paints valid = record {
   shape = IsValidShape-shape_in (row c) (held_sign row c) (valid c low (omega arith)) (held_sign-valid row c low valid);
   part = record {
     down = omega arith;
@@ -127,8 +132,9 @@ IsValidLook-look_in_row row pen screen c low valid = record {
     wide = (omega arith, omega arith);
     high = (omega arith, omega arith);
   };
-  fore = IsValidPaint-paint_over _ _ (IsValidPaint-default_paint _) (IsValidPaint-default_paint _);
-  back = IsValidPaint-default_paint _;
+  fore = IsValidPaint-paint_over (fore_paint paint_of (own_attributes row pen screen c))
+      (back_paint paint_of (own_attributes row pen screen c)) (paints _) (paints _);
+  back = paints _;
 }
 
 -- ---- rows beneath valid looks
@@ -206,10 +212,25 @@ IsValidLook-row_from_above above own wanted last valid here c low high =
 
 -- ---- grids
 
+-- a paint that an entry can have is valid
+IsValidPaint-of : (i : ℕ) (paint : Paint) → IsPaintOf i paint → IsValidPaint paint
+IsValidPaint-of i (paints.Ink c) is = is
+IsValidPaint-of i paints.Video is = tt
+
+-- so are the paints of a valid page, and what is read past the last entry
+pub IsValidPaint-paint_in : (p : Page) → IsValidPage p → (i : ℕ) → IsValidPaint (paint_in p.paints i)
+IsValidPaint-paint_in p is i =
+    elim (cases_lt i 32) [
+      | inl below ↦ IsValidPaint-of i (paint_in p.paints i) (is.paints i below)
+      | inr past ↦
+          subst IsValidPaint (sym (entry_past black_paint 0 p.paints i (omega (arith, is.colours, past))))
+          IsValidPaint-black_paint
+    ]
+
 IsValidLook-own_look : (k : Core) → IsValidPage k.page → (r c : ℕ) → OnScreen r c → IsValidLook (own_look k r c)
 IsValidLook-own_look k is r c on =
-    IsValidLook-look_in_row (contents_of_row k r) unset_pen unset_pen c on.from_left (λ d low high.
-    is.cells r d (record {
+    IsValidLook-look_in_row (paint_in k.page.paints) (contents_of_row k r) (row_pen_in k.page.row_pens r)
+    k.page.screen_pen c on.from_left (IsValidPaint-paint_in k.page is) (λ d low high. is.cells r d (record {
       from_top = on.from_top;
       to_bottom = on.to_bottom;
       from_left = low;

@@ -4,6 +4,7 @@ use Rattle.std.proofs.Common.{Some, None, List, [], ◌∷◌, ◌++◌, length,
 use Rattle.std.specs.List.{AllByRecursion}
 use Rattle.std.specs.Prelude.{IfSome}
 use Rattle.std.proofs.lemmas.Bool.{cond_both, and_parts, eqb-true, ltb-true}
+use Rattle.cept_codes.specs.declared.attribute.Attr.{Attr}
 use Rattle.cept_codes.specs.declared.attribute.Pen.{Pen}
 use Rattle.cept_codes.specs.declared.cell.Cell.{Cell}
 use Rattle.cept_codes.specs.declared.cell.Marker.{Marker}
@@ -18,19 +19,20 @@ use Rattle.cept_codes.specs.declared.command.C1Set.{C1Set}
 use Rattle.cept_codes.specs.declared.command.C1Set.TheVariants as c1sets
 use Rattle.cept_codes.specs.declared.glyph.Read.{Read}
 use Rattle.cept_codes.specs.declared.glyph.Read.TheVariants as reads
-use Rattle.cept_codes.specs.Attribute.{IsValidPen}
+use Rattle.cept_codes.specs.Attribute.{IsRowAttr, IsScreenAttr, IsValidPen}
 use Rattle.cept_codes.specs.Cell.{IsValidCell, IsValidMarker, IsValidWhat, blank_cell}
 use Rattle.cept_codes.specs.Command.{IsValidCommand}
 use Rattle.cept_codes.specs.Glyph.{IsValidGlyph}
 use Rattle.cept_codes.specs.Place.{Place, OnScreen}
-use Rattle.cept_codes.specs.Stroke.{IsValidStroke}
+use Rattle.cept_codes.specs.Stroke.{IsRow, IsValidStroke}
 use Rattle.cept_codes.specs.Table.{table, value_at, IsTable}
 use Rattle.cept_codes.proofs.Laws.{value_at-table, IsTable-table}
 use Rattle.cept_profile.specs.Cells.{is_at, cell_after, cells_after, cells_after_all}
 use Rattle.cept_profile.specs.Control.{ControlState, state_for_effect}
 use Rattle.cept_profile.specs.Markers.{marker_of, strokes_of_any_marker, strokes_of_marker}
 use Rattle.cept_profile.specs.Motions.{on_strokes, back_strokes}
-use Rattle.cept_profile.specs.Pens.{flash_of, strokes_of_code, strokes_of_flash, strokes_of_reveal}
+use Rattle.cept_profile.specs.Pens.{attribute_of, flash_of, strokes_of_attribute, strokes_of_code}
+use Rattle.cept_profile.specs.Pens.{strokes_of_flash, strokes_of_reveal, strokes_of_row_attribute}
 use Rattle.cept_profile.specs.Sets.{IsValidRead}
 use Rattle.cept_profile.specs.Strokes.{strokes_when, strokes_of}
 use Rattle.cept_profile.specs.Valid.{IsValidControl}
@@ -39,6 +41,7 @@ use Rattle.cept_profile.specs.Writing.{strokes_of_copies, strokes_of_read, strok
 use Rattle.cept_profile.specs.Writing.{strokes_of_sign}
 use Rattle.cept_profile.proofs.CopiesOfSigns.{length-strokes_of_copies}
 use Rattle.cept_profile.proofs.MotionStrokes.{on_strokes-none, back_strokes-none}
+use Rattle.cept_profile.proofs.ValidAttributes.{IsRowAttr-attribute_of, IsScreenAttr-attribute_of}
 use Rattle.cept_profile.proofs.ValidControl.{IsValidControl-control_after_copies, IsValidControl-state_for_effect}
 use Rattle.cept_profile.proofs.ValidControl.{IsValidGlyph-sign_with_accent, IsValidRead-graphic_result}
 use Rattle.cept_profile.proofs.ValidControl.{rows-control_after_copies}
@@ -58,6 +61,7 @@ pub record AreValidCells (rows : ℕ) (cells : ℕ → ℕ → Cell) : Type 0 wh
 -- a stroke that keeps them valid
 abbrev pub IsSafe : ℕ → Stroke → Type 0
 IsSafe rows (strokes.Put p cell) = OnScreen p.row p.column × (p.row ≤ rows) × IsValidCell cell × IsFree cell
+IsSafe rows (strokes.RowAttr r attr) = (r ≤ rows) × IsRow r × IsRowAttr attr
 IsSafe rows (strokes.Shift a b way) = ⊥
 IsSafe rows (strokes.Format count) = ⊥
 IsSafe rows stroke = IsValidStroke stroke
@@ -67,7 +71,7 @@ IsValidStroke-safe rows (strokes.Put p cell) safe = (safe.0, safe.2)
 IsValidStroke-safe rows (strokes.Erase r from) safe = safe
 IsValidStroke-safe rows strokes.Wipe safe = tt
 IsValidStroke-safe rows (strokes.Shift a b way) safe = absurd safe
-IsValidStroke-safe rows (strokes.RowAttr r attr) safe = safe
+IsValidStroke-safe rows (strokes.RowAttr r attr) safe = (safe.1, safe.2)
 IsValidStroke-safe rows (strokes.ScreenAttr attr) safe = safe
 IsValidStroke-safe rows strokes.ScreenClear safe = tt
 IsValidStroke-safe rows (strokes.Colour i paint) safe = safe
@@ -278,6 +282,18 @@ IsSafe-reveal : (s : ControlState) (c1 : C1Set) → IsValidControl s
 IsSafe-reveal s c1sets.Parallel is = tt
 IsSafe-reveal s c1sets.Serial is = IsSafe-marker s (markers.Conceal false) is tt
 
+-- an attribute of the active row, and one of the screen
+IsSafe-row_attribute : (s : ControlState) (attr : Option Attr) → IsValidControl s → IfSome attr IsRowAttr
+    → AllByRecursion (IsSafe s.rows) (strokes_of_row_attribute s.working.row attr)
+IsSafe-row_attribute s None is valid = tt
+IsSafe-row_attribute s (Some attr) is valid =
+    ((is.within, (is.working.place.from_top, is.working.place.to_bottom), valid), tt)
+
+IsSafe-attribute : (s : ControlState) (attr : Option Attr) → IfSome attr IsScreenAttr
+    → AllByRecursion (IsSafe s.rows) (strokes_of_attribute attr)
+IsSafe-attribute s None valid = tt
+IsSafe-attribute s (Some attr) valid = (valid, tt)
+
 IsSafe-strokes_when : (s : ControlState) (command : Command) → IsValidControl s → IsValidCommand command
     → AllByRecursion (IsSafe s.rows) (strokes_when s command)
 IsSafe-strokes_when s commands.Back is valid = IsSafe-back_strokes s
@@ -290,6 +306,15 @@ IsSafe-strokes_when s commands.Cancel is valid = (is.working.place, tt)
 IsSafe-strokes_when s (commands.C1 n) is valid = IsSafe-code s s.working.c1 n is
 IsSafe-strokes_when s (commands.FlashMode k) is valid = IsSafe-flash s s.working.c1 k is
 IsSafe-strokes_when s commands.StopConceal is valid = IsSafe-reveal s s.working.c1 is
+IsSafe-strokes_when s (commands.FullScreen n) is valid =
+    IsSafe-attribute s (attribute_of s.working.table n)
+    (IsScreenAttr-attribute_of s.working.table n is.working.table valid)
+IsSafe-strokes_when s (commands.FullRow n) is valid =
+    IsSafe-row_attribute s (attribute_of s.working.table n) is
+    (IsRowAttr-attribute_of s.working.table n is.working.table)
+IsSafe-strokes_when s commands.ColourDefaults is valid = (tt, tt)
+IsSafe-strokes_when s (commands.Entry i colour) is valid = ((omega (arith, valid.0), valid.1), tt)
+IsSafe-strokes_when s (commands.Dclut i entry) is valid = ((valid.0, omega (arith, valid.1)), tt)
 IsSafe-strokes_when s _ is valid = tt
 
 pub IsSafe-strokes_of : (s : ControlState) (command : Command) → IsValidControl s → IsValidCommand command
@@ -325,6 +350,14 @@ length-reveal : (s : ControlState) (c1 : C1Set) → length (strokes_of_reveal c1
 length-reveal s c1sets.Parallel = omega arith
 length-reveal s c1sets.Serial = length-marker s (markers.Conceal false)
 
+length-row_attribute : (r : ℕ) (attr : Option Attr) → length (strokes_of_row_attribute r attr) ≤ 128
+length-row_attribute r None = omega arith
+length-row_attribute r (Some attr) = omega arith
+
+length-attribute : (attr : Option Attr) → length (strokes_of_attribute attr) ≤ 128
+length-attribute None = omega arith
+length-attribute (Some attr) = omega arith
+
 length-strokes_when : (s : ControlState) (command : Command) → IsValidCommand command
     → length (strokes_when s command) ≤ 128
 length-strokes_when s commands.Back valid = omega (arith, ap length (back_strokes-none s))
@@ -335,6 +368,9 @@ length-strokes_when s (commands.Repeat n) valid = length-strokes_of_repeat n s s
 length-strokes_when s (commands.C1 n) valid = length-code s s.working.c1 n
 length-strokes_when s (commands.FlashMode k) valid = length-flash s s.working.c1 k
 length-strokes_when s commands.StopConceal valid = length-reveal s s.working.c1
+length-strokes_when s (commands.FullScreen n) valid = length-attribute (attribute_of s.working.table n)
+length-strokes_when s (commands.FullRow n) valid =
+    length-row_attribute s.working.row (attribute_of s.working.table n)
 length-strokes_when s _ valid = omega arith
 
 pub length-strokes_of : (s : ControlState) (command : Command) → IsValidCommand command

@@ -1,15 +1,19 @@
 -- Valid states: the initial state is valid, and every valid command keeps it valid.
-use Rattle.std.proofs.Common.{◌≡◌, ℕ, List, [], ◌∷◌, reverse, refl, sym, ◌∙◌, ap, subst}
+use Rattle.std.proofs.Common.{◌≡◌, ℕ, List, [], ◌∷◌, reverse, refl, sym, ◌∙◌, ap, subst, arith}
 use Rattle.std.specs.List.{AllByRecursion}
 use Rattle.std.proofs.lemmas.List.{reverse-append, reverse-reverse}
 use Rattle.cept_codes.specs.declared.command.Command.{Command}
 use Rattle.cept_codes.specs.declared.command.Command.TheVariants as commands
+use Rattle.cept_codes.specs.declared.stroke.Stroke.{Stroke}
+use Rattle.cept_codes.specs.Attribute.{IsScreenPen, unset_pen}
 use Rattle.cept_codes.specs.Cell.{blank_cell}
 use Rattle.cept_codes.specs.Command.{IsValidCommand}
 use Rattle.cept_codes.specs.Stroke.{IsValidStroke}
 use Rattle.cept_profile.specs.Cells.{cell_back}
 use Rattle.cept_profile.specs.Control.{ControlState, state_for_effect, control_effect}
-use Rattle.cept_profile.specs.State.{State, core_of, state, state_after}
+use Rattle.cept_profile.specs.Colours.{default_paint}
+use Rattle.cept_profile.specs.PageParts.{row_pens_after, screen_pen_after, paints_after, dclut_list_after}
+use Rattle.cept_profile.specs.State.{Page, State, blank_page, core_of, page_after, state, state_after}
 use Rattle.cept_profile.specs.Strokes.{strokes_of}
 use Rattle.cept_profile.specs.Valid.{AllValid, IsValidControl, IsValidCore, IsValidState}
 use Rattle.cept_profile.proofs.OneMoreState.{state-one_more}
@@ -17,25 +21,77 @@ use Rattle.cept_profile.proofs.ValidControl.{IsValidControl-initial_control, IsV
 use Rattle.cept_profile.proofs.ValidPage.{AllByRecursion-append, IsSafe, IsValidStroke-safe, IsSafe-strokes_of}
 use Rattle.cept_profile.proofs.ValidPage.{AreValidCells-blank_cell, AreValidTables, AreValidTables-table}
 use Rattle.cept_profile.proofs.ValidPage.{AreValidTables-cells_after_all}
+use Rattle.cept_profile.proofs.ValidParts.{kept_after_all, AreValidRowPens, AreValidRowPens-after, AreValidRowPens-list}
+use Rattle.cept_profile.proofs.ValidParts.{AreValidPaints, AreValidPaints-after, AreValidPaints-list, IsValidDclut}
+use Rattle.cept_profile.proofs.ValidParts.{IsPaintOf-default_paint, IsRowPen-unset_pen, IsScreenPen-after}
+use Rattle.cept_profile.proofs.ValidParts.{IsScreenPen-unset_pen, IsValidDclut-after, IsValidDclut-list}
 
--- a valid state is valid control with valid cells of its format
-pub IsValidState-parts : (s : State) → IsValidControl s.control
-    → AreValidTables s.control.rows s.page.cells → IsValidState s
-IsValidState-parts s control tables = record {
-  page = record { table = tables.shape; cells = tables.all.valid; free = tables.all.free };
+-- a valid page of a format of so many rows: nothing after its last row
+pub record IsValidPageOf (rows : ℕ) (p : Page) : Type 0 where
+  pub cells : AreValidTables rows p.cells
+  pub row_pens : AreValidRowPens rows p.row_pens
+  pub screen_pen : IsScreenPen p.screen_pen
+  pub paints : AreValidPaints p.paints
+  pub dclut : IsValidDclut p.dclut
+
+-- a valid state is valid control with a valid page of its format
+pub IsValidState-parts : (s : State) → IsValidControl s.control → IsValidPageOf s.control.rows s.page → IsValidState s
+IsValidState-parts s control page = record {
+  page = record {
+    rows = page.row_pens.long;
+    row_pens = page.row_pens.valid;
+    screen_pen = page.screen_pen;
+    colours = page.paints.long;
+    paints = page.paints.valid;
+    names = page.dclut.long;
+    dclut = page.dclut.valid;
+    table = page.cells.shape;
+    cells = page.cells.all.valid;
+    free = page.cells.all.free;
+  };
   control = control;
-  past = tables.all.past;
+  past = page.cells.all.past;
+  unset = page.row_pens.unset;
 }
 
-pub AreValidTables-state : (s : State) → IsValidState s → AreValidTables s.control.rows s.page.cells
-AreValidTables-state s is = record
-    { shape = is.page.table; all = record { valid = is.page.cells; free = is.page.free; past = is.past } }
+pub IsValidPageOf-state : (s : State) → IsValidState s → IsValidPageOf s.control.rows s.page
+IsValidPageOf-state s is = record {
+  cells = record
+      { shape = is.page.table; all = record { valid = is.page.cells; free = is.page.free; past = is.past } };
+  row_pens = record { long = is.page.rows; valid = is.page.row_pens; unset = is.unset };
+  screen_pen = is.page.screen_pen;
+  paints = record { long = is.page.colours; valid = is.page.paints };
+  dclut = record { long = is.page.names; valid = is.page.dclut };
+}
+
+IsValidPageOf-start : IsValidPageOf 24 blank_page
+IsValidPageOf-start = record {
+  cells = AreValidTables-table 24 (λ r c. blank_cell) (AreValidCells-blank_cell 24);
+  row_pens = AreValidRowPens-list 24 (λ r. unset_pen) (λ r top bottom. IsRowPen-unset_pen)
+      (λ r top bottom past. refl);
+  screen_pen = IsScreenPen-unset_pen;
+  paints = AreValidPaints-list default_paint IsPaintOf-default_paint;
+  dclut = IsValidDclut-list (λ i. i) (λ i low. omega arith);
+}
 
 pub IsValidState-start : IsValidState (state [])
 unfolding cell_back
-IsValidState-start =
-    IsValidState-parts (state []) IsValidControl-initial_control
-    (AreValidTables-table 24 (λ r c. blank_cell) (AreValidCells-blank_cell 24))
+IsValidState-start = IsValidState-parts (state []) IsValidControl-initial_control IsValidPageOf-start
+
+-- safe strokes keep a page valid
+IsValidPageOf-page_after : (rows : ℕ) (p : Page) (all : List Stroke) → IsValidPageOf rows p
+    → AllByRecursion (IsSafe rows) all → IsValidPageOf rows (page_after p all)
+IsValidPageOf-page_after rows p all is safe = record {
+  cells = AreValidTables-cells_after_all rows p.cells all is.cells safe;
+  row_pens = kept_after_all (AreValidRowPens rows) (IsSafe rows) row_pens_after (AreValidRowPens-after rows)
+      p.row_pens all is.row_pens safe;
+  screen_pen = kept_after_all IsScreenPen (IsSafe rows) screen_pen_after (IsScreenPen-after rows) p.screen_pen all
+      is.screen_pen safe;
+  paints = kept_after_all AreValidPaints (IsSafe rows) paints_after (AreValidPaints-after rows) p.paints all is.paints
+      safe;
+  dclut = kept_after_all IsValidDclut (IsSafe rows) dclut_list_after (IsValidDclut-after rows) p.dclut all is.dclut
+      safe;
+}
 
 -- while no format is built the rows stay
 rows-control_effect : (s : ControlState) (command : Command) → (control_effect s command).rows ≡ s.rows
@@ -46,15 +102,20 @@ pub IsValidState-state_after : (s : State) (command : Command) → IsValidState 
     → IsValidState (state_after s command)
 IsValidState-state_after s command is valid =
     IsValidState-parts (state_after s command) (IsValidControl-control_after s.control command is.control valid)
-    (subst (λ (rows : ℕ). AreValidTables rows (state_after s command).page.cells)
+    (subst (λ (rows : ℕ). IsValidPageOf rows (state_after s command).page)
     (sym (rows-control_effect (state_for_effect s.control command) command))
-    (AreValidTables-cells_after_all s.control.rows s.page.cells (strokes_of s.control command)
-    (AreValidTables-state s is)
+    (IsValidPageOf-page_after s.control.rows s.page (strokes_of s.control command) (IsValidPageOf-state s is)
     (IsSafe-strokes_of s.control command is.control valid)))
 
 -- its core is valid
 pub IsValidCore-core_of : (s : State) → IsValidState s → IsValidCore (core_of s)
-IsValidCore-core_of s is = record { page = is.page; rows = is.control.rows; area = is.control.area; past = is.past }
+IsValidCore-core_of s is = record {
+  page = is.page;
+  rows = is.control.rows;
+  area = is.control.area;
+  past = is.past;
+  unset = is.unset;
+}
 
 -- ---- lists of valid commands
 

@@ -1,9 +1,8 @@
 -- Worked cases: what the definitions give for short lists of commands, by computing.
-use Rattle.std.proofs.Common.{◌≡◌, ℕ, List, [], ◌∷◌, Some, None, true, false, length, drop, ◌++◌, refl}
+use Rattle.std.proofs.Common.{◌≡◌, ℕ, List, [], ◌∷◌, Some, None, true, false, length, drop, refl}
 use Rattle.cept_codes.specs.declared.cell.Cell.{Cell}
 use Rattle.cept_codes.specs.declared.cell.What.TheVariants as whats
 use Rattle.cept_codes.specs.declared.attribute.Flash.TheVariants.{Fast1, Fast2, Fast3}
-use Rattle.cept_codes.specs.declared.command.Command.{Command}
 use Rattle.cept_codes.specs.declared.command.Command.TheVariants.{Nul, CursorOn, Graphic, Position, Clear, Home, Return}
 use Rattle.cept_codes.specs.declared.command.Command.TheVariants.{Back, Down, Up, Single, LockRight, Designate, Repeat}
 use Rattle.cept_codes.specs.declared.command.Command.TheVariants.{C1, FlashMode, StopConceal, Cancel}
@@ -16,17 +15,17 @@ use Rattle.cept_codes.specs.declared.stroke.Stroke.TheVariants.{Put}
 use Rattle.cept_codes.specs.Attribute.{unset_pen}
 use Rattle.cept_codes.specs.Cell.{blank_cell}
 use Rattle.cept_codes.specs.Look.{blank_look}
-use Rattle.cept_codes.specs.Table.{row_of, table, value_at}
+use Rattle.cept_codes.specs.Table.{list_by_index, row_of, table, value_at}
 use Rattle.cept_profile.specs.Cells.{cell_back}
-use Rattle.cept_profile.specs.Changes.{changes, changes_between, differences, marked_looks}
+use Rattle.cept_profile.specs.Changes.{changes, differences, marked_looks}
 use Rattle.cept_profile.specs.Colours.{default_paints}
 use Rattle.cept_profile.specs.Control.{ControlState, initial_control, initial_working, working_at, control}
 use Rattle.cept_profile.specs.Sets.{set_of, read_as}
-use Rattle.cept_profile.specs.Look.{contents_of_row, look_of}
-use Rattle.cept_profile.specs.State.{core, page}
+use Rattle.cept_profile.specs.Look.{look_of}
+use Rattle.cept_profile.specs.State.{page}
 use Rattle.cept_profile.specs.Strokes.{strokes_in, strokes_of}
 use Rattle.cept_profile.specs.Writing.{control_after_copies, strokes_of_copies}
-use Rattle.cept_profile.proofs.PlainPages.{IsPlain-tested, looks_of-plain, one_acts_beyond}
+use Rattle.cept_profile.proofs.PlainPages.{changes-plain}
 
 abbrev pub sign : ℕ → Glyph
 sign code = record { set = P; code = code; accent = 0 }
@@ -41,16 +40,6 @@ look_with code = record blank_look { shape = shapes.Char (sign code) }
 abbrev pub at_place : ℕ → ℕ → ControlState
 at_place r c = record initial_control { working = working_at r c initial_working }
 
--- what a command changes on pages on which no marker stands and nothing sets a size, cell by cell
-changes-plain : (history : List Command) (command : Command) → one_acts_beyond (core history) ≡ false
-    → one_acts_beyond (core (history ++ command ∷ [])) ≡ false
-    → changes history command
-    ≡ changes_between (table (λ r c. look_of (contents_of_row (core history) r c)))
-    (table (λ r c. look_of (contents_of_row (core (history ++ command ∷ [])) r c)))
-changes-plain history command before after i =
-    changes_between (looks_of-plain (core history) (IsPlain-tested (core history) before) i)
-    (looks_of-plain (core (history ++ command ∷ [])) (IsPlain-tested (core (history ++ command ∷ [])) after) i)
-
 -- a sign stands at the first place
 pub sign_at_first_place : value_at blank_cell (page (Graphic 0x41 ∷ [])).cells 1 1 ≡ cell_with 0x41
 unfolding table row_of cell_back set_of read_as
@@ -62,12 +51,12 @@ nothing_beside_it = refl
 
 -- and is the only change
 pub one_change : changes [] (Graphic 0x41) ≡ (record { row = 1; column = 1 }, look_with 0x41) ∷ []
-unfolding table row_of cell_back differences marked_looks set_of read_as look_of default_paints
+unfolding table row_of cell_back differences marked_looks set_of read_as look_of default_paints list_by_index
 one_change = changes-plain [] (Graphic 0x41) refl refl
 
 -- a space is no change, though a sign stands there
 pub space_changes_nothing : changes [] (Graphic 0x20) ≡ []
-unfolding table row_of cell_back differences marked_looks set_of read_as look_of default_paints
+unfolding table row_of cell_back differences marked_looks set_of read_as look_of default_paints list_by_index
 space_changes_nothing = changes-plain [] (Graphic 0x20) refl refl
 
 pub space_stands : value_at blank_cell (page (Graphic 0x20 ∷ [])).cells 1 1 ≡ cell_with 0x20
@@ -93,13 +82,13 @@ end_of_row = refl
 
 -- the same sign again is no change
 pub same_sign_again : changes (Graphic 0x41 ∷ Return ∷ []) (Graphic 0x41) ≡ []
-unfolding table row_of cell_back differences marked_looks set_of read_as look_of default_paints
+unfolding table row_of cell_back differences marked_looks set_of read_as look_of default_paints list_by_index
 same_sign_again = changes-plain (Graphic 0x41 ∷ Return ∷ []) (Graphic 0x41) refl refl
 
 -- Clear blanks and goes home, and tells what it blanked in reading order
 pub clear_blanks : changes (Position 2 1 ∷ Graphic 0x41 ∷ Position 1 40 ∷ Graphic 0x42 ∷ []) Clear
     ≡ (record { row = 1; column = 40 }, blank_look) ∷ (record { row = 2; column = 1 }, blank_look) ∷ []
-unfolding table row_of cell_back differences marked_looks set_of read_as look_of default_paints
+unfolding table row_of cell_back differences marked_looks set_of read_as look_of default_paints list_by_index
 clear_blanks = changes-plain (Position 2 1 ∷ Graphic 0x41 ∷ Position 1 40 ∷ Graphic 0x42 ∷ []) Clear refl refl
 
 pub clear_goes_home : control (Position 9 9 ∷ Clear ∷ []) ≡ initial_control

@@ -36,6 +36,10 @@ all_entries = refl
 abbrev pub paints_of : Look → Paint × Paint
 paints_of look = (look.fore, look.back)
 
+-- what stands in a cell, in the default paints, where row and screen set nothing
+abbrev pub default_look : What → Look
+default_look what = look_of default_paint unset_pen unset_pen what
+
 -- a sign with these entries
 abbrev pub coloured : Option ℕ → Option ℕ → Option Bool → What
 coloured fore back invert =
@@ -43,7 +47,7 @@ coloured fore back invert =
     (record unset_pen { fore = fore; back = back; invert = invert })
 
 -- as it is, not inverted, and inverted; then the same without entries of its own
-pub both_polarities : map (λ (what : What). paints_of (look_of what))
+pub both_polarities : map (λ (what : What). paints_of (default_look what))
     (coloured (Some 1) (Some 2) None ∷ coloured (Some 1) (Some 2) (Some false) ∷ coloured (Some 1) (Some 2) (Some true)
     ∷ coloured None None None ∷ coloured None None (Some false) ∷ coloured None None (Some true) ∷ []) ≡
     (rgb 15 0 0, rgb 0 15 0) ∷ (rgb 15 0 0, rgb 0 15 0) ∷ (rgb 0 15 0, rgb 15 0 0)
@@ -52,7 +56,7 @@ unfolding look_of default_paints
 both_polarities = refl
 
 -- where the foreground would show the picture behind it is as the background, also where that shows it
-pub picture_after : map (λ (what : What). paints_of (look_of what))
+pub picture_after : map (λ (what : What). paints_of (default_look what))
     (coloured (Some 8) (Some 2) None ∷ coloured (Some 1) (Some 24) None ∷ coloured (Some 8) (Some 24) None
     ∷ coloured (Some 8) (Some 2) (Some true) ∷ coloured (Some 1) (Some 24) (Some true) ∷ []) ≡
     (rgb 0 15 0, rgb 0 15 0) ∷ (rgb 15 0 0, Video) ∷ (Video, Video)
@@ -64,7 +68,7 @@ picture_after = refl
 
 -- the shape of a sign
 abbrev pub shape_seen : Glyph → Shape
-shape_seen g = (look_of (whats.Parallel g unset_pen)).shape
+shape_seen g = (default_look (whats.Parallel g unset_pen)).shape
 
 abbrev pub space : Glyph
 space = record { set = P; code = 0x20; accent = 0 }

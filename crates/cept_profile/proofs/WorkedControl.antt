@@ -1,8 +1,11 @@
 -- Worked tables: what each command changes of control, and which strokes it makes, by computing. A row that says only
 -- that a waiting accent is dropped is of a command that changes nothing else of control, or isn't built.
 use Rattle.std.proofs.Common.{◌≡◌, ℕ, List, [], ◌∷◌, ◌++◌, map, Some, None, Bool, true, false, refl}
-use Rattle.cept_codes.specs.declared.attribute.Flash.TheVariants.{Fast2, Reduced, Steady}
+use Rattle.cept_codes.specs.declared.attribute.Attr.{Attr}
+use Rattle.cept_codes.specs.declared.attribute.Attr.TheVariants as attrs
+use Rattle.cept_codes.specs.declared.attribute.Flash.TheVariants.{Fast2, Plain, Reduced, Steady}
 use Rattle.cept_codes.specs.declared.attribute.Pen.{Pen}
+use Rattle.cept_codes.specs.declared.attribute.Size.TheVariants.{High}
 use Rattle.cept_codes.specs.declared.cell.What.TheVariants as whats
 use Rattle.cept_codes.specs.declared.command.C1Set.TheVariants.{Serial, Parallel}
 use Rattle.cept_codes.specs.declared.command.Command.{Command}
@@ -10,10 +13,12 @@ use Rattle.cept_codes.specs.declared.command.Command.TheVariants as commands
 use Rattle.cept_codes.specs.declared.command.Form.{Form}
 use Rattle.cept_codes.specs.declared.glyph.Glyph.{Glyph}
 use Rattle.cept_codes.specs.declared.glyph.SetId.TheVariants.{P, S, M, N, D}
+use Rattle.cept_codes.specs.declared.look.Paint.TheVariants.{Ink}
 use Rattle.cept_codes.specs.declared.look.Pattern.{Pattern}
 use Rattle.cept_codes.specs.declared.look.Rgb.{Rgb}
 use Rattle.cept_codes.specs.declared.stroke.Stroke.{Stroke}
-use Rattle.cept_codes.specs.declared.stroke.Stroke.TheVariants.{Put, Erase, Wipe}
+use Rattle.cept_codes.specs.declared.stroke.Stroke.TheVariants.{Put, Erase, Wipe, RowAttr, ScreenAttr, Colour}
+use Rattle.cept_codes.specs.declared.stroke.Stroke.TheVariants.{ColourDefaults, Dclut}
 use Rattle.cept_codes.specs.Attribute.{unset_pen}
 use Rattle.cept_profile.specs.Control.{Working, ControlState, Sets, control_after}
 use Rattle.cept_profile.specs.Sets.{set_of, read_as}
@@ -142,14 +147,24 @@ white = record { r = 15; g = 15; b = 15 }
 abbrev pub form : Form
 form = record { w = 12; h = 10; planes = 1 }
 
--- what has no effect on control but the accent's
+-- the colour table
+pub tables : map (after busy) (commands.Table 2 ∷ commands.Table 0 ∷ []) ≡
+    states (record dropped { table = 2 } ∷ record dropped { table = 0 } ∷ [])
+tables = refl
+
+-- what draws and has no effect on control but the accent's
+abbrev pub drawing_alone : List Command
+drawing_alone =
+    commands.FullScreen 3 ∷ commands.FullScreen 9 ∷ commands.FullRow 3 ∷ commands.FullRow 9 ∷ commands.ColourDefaults
+    ∷ commands.Entry 3 white ∷ commands.Dclut 1 5 ∷ []
+
+-- what has no effect at all but the accent's
 abbrev pub accent_alone : Pattern → List Command
 accent_alone pattern =
     commands.CursorOn ∷ commands.CursorOff ∷ commands.Marked true ∷ commands.ColourHeader true ∷ commands.ColourStart 3
     ∷ commands.DrcsStart 0x21
-    ∷ commands.Table 2 ∷ commands.ScrollUp ∷ commands.ScrollDown ∷ commands.Implicit false ∷ commands.Protect false
-    ∷ commands.AreaCreate 2 8 ∷ commands.AreaDelete 3 9 ∷ commands.FullScreen 3 ∷ commands.FullRow 3
-    ∷ commands.ColourDefaults ∷ commands.Entry 3 white ∷ commands.Dclut 1 5
+    ∷ commands.ScrollUp ∷ commands.ScrollDown ∷ commands.Implicit false ∷ commands.Protect false
+    ∷ commands.AreaCreate 2 8 ∷ commands.AreaDelete 3 9
     ∷ commands.DrcsHeader true form ∷ commands.DrcsPattern 0x21 pattern ∷ commands.Format 24 false
     ∷ commands.ServiceBreak 7 ∷ commands.ServiceEnd
     ∷ commands.FullDefaults Serial ∷ commands.ControlDefaults Serial ∷ []
@@ -158,8 +173,8 @@ accent_alone pattern =
 abbrev pub each_to : Working → List Command → List ControlState
 each_to working all = map (λ (command : Command). state_with true working) all
 
-pub accent_dropped_alone : (pattern : Pattern) → map (after busy) (accent_alone pattern)
-    ≡ each_to dropped (accent_alone pattern)
+pub accent_dropped_alone : (pattern : Pattern) → map (after busy) (drawing_alone ++ accent_alone pattern)
+    ≡ each_to dropped (drawing_alone ++ accent_alone pattern)
 accent_dropped_alone pattern = refl
 
 -- a C1 set that is designated ends the run, also where it is the one in force; to erase changes nothing of control
@@ -227,13 +242,43 @@ clear_wipes = refl
 pub cancel_erases : strokes_after busy commands.Cancel ≡ Erase 5 7 ∷ []
 cancel_erases = refl
 
+-- an attribute of the screen and one of the row of the position, in colour table 1, under either set: no background is
+-- one, and code 9/11 is none
+abbrev pub of_the_screen : Attr → List Stroke
+of_the_screen attr = ScreenAttr attr ∷ []
+
+abbrev pub of_the_row : Attr → List Stroke
+of_the_row attr = RowAttr 5 attr ∷ []
+
+abbrev pub attribute_codes : List ℕ
+attribute_codes = 3 ∷ 8 ∷ 10 ∷ 20 ∷ 26 ∷ 27 ∷ 29 ∷ 30 ∷ 31 ∷ []
+
+pub screen_takes_attributes : map (λ n. strokes_after busy (commands.FullScreen n)) attribute_codes ≡
+    of_the_screen (attrs.Fore 11) ∷ of_the_screen (attrs.Flash Plain) ∷ of_the_screen (attrs.Boxed false)
+    ∷ of_the_screen (attrs.Back 12) ∷ of_the_screen (attrs.Lined true) ∷ [] ∷ of_the_screen (attrs.Invert true)
+    ∷ of_the_screen attrs.NoBack ∷ of_the_screen (attrs.Conceal false) ∷ []
+screen_takes_attributes = refl
+
+pub row_takes_attributes : map (λ n. strokes_after (record busy { c1 = Serial }) (commands.FullRow n))
+    (13 ∷ attribute_codes) ≡ of_the_row (attrs.Size High)
+    ∷ of_the_row (attrs.Fore 11) ∷ of_the_row (attrs.Flash Plain) ∷ of_the_row (attrs.Boxed false)
+    ∷ of_the_row (attrs.Back 12) ∷ of_the_row (attrs.Lined true) ∷ [] ∷ of_the_row (attrs.Invert true)
+    ∷ of_the_row attrs.NoBack ∷ of_the_row (attrs.Conceal false) ∷ []
+row_takes_attributes = refl
+
+-- colour entries and the DCLUT
+pub colours_are_written : map (strokes_after busy)
+    (commands.Entry 3 white ∷ commands.Dclut 1 5 ∷ commands.ColourDefaults ∷ []) ≡
+    (Colour 3 (Ink white) ∷ []) ∷ (Dclut 1 5 ∷ []) ∷ (ColourDefaults ∷ []) ∷ []
+colours_are_written = refl
+
 -- no other command makes one under the parallel set
 abbrev pub without_strokes : List Command
 without_strokes =
     commands.Nul ∷ commands.Skipped ∷ commands.Back ∷ commands.Forward ∷ commands.Down ∷ commands.Up ∷ commands.Return
     ∷ commands.Home ∷ commands.Position 9 8
-    ∷ commands.LockLeft 3 ∷ commands.LockRight 1 ∷ commands.Single 2 ∷ commands.Designate 1 D ∷ commands.C1 4
-    ∷ commands.FlashMode 3 ∷ commands.StopConceal ∷ []
+    ∷ commands.LockLeft 3 ∷ commands.LockRight 1 ∷ commands.Single 2 ∷ commands.Designate 1 D ∷ commands.Table 2
+    ∷ commands.C1 4 ∷ commands.FlashMode 3 ∷ commands.StopConceal ∷ []
 
 abbrev pub none_of : List Command → List (List Stroke)
 none_of all = map (λ (command : Command). []) all

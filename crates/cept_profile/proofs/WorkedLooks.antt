@@ -23,6 +23,10 @@ glyph code accent = record { set = P; code = code; accent = accent }
 abbrev pub in_paints : ℕ → Paint → Paint → Look
 in_paints code fore back = record blank_look { shape = shapes.Char (glyph code 0); fore = fore; back = back }
 
+-- what stands in a cell, in the default paints, where row and screen set nothing
+abbrev pub default_look : What → Look
+default_look what = look_of default_paint unset_pen unset_pen what
+
 abbrev pub written : ℕ → Pen → What
 written code pen = whats.Parallel (glyph code 0) pen
 
@@ -36,25 +40,25 @@ black_after = record unset_pen { back = Some 0 }
 abbrev pub inverted : Pen
 inverted = record black_after { invert = Some true }
 
-pub sign_on_magenta : look_of (written 0x41 magenta_after) ≡ in_paints 0x41 white_paint (ink 15 0 15)
+pub sign_on_magenta : default_look (written 0x41 magenta_after) ≡ in_paints 0x41 white_paint (ink 15 0 15)
 unfolding look_of default_paints
 sign_on_magenta = refl
 
-pub sign_on_black : look_of (written 0x42 black_after) ≡ in_paints 0x42 white_paint black_paint
+pub sign_on_black : default_look (written 0x42 black_after) ≡ in_paints 0x42 white_paint black_paint
 unfolding look_of default_paints
 sign_on_black = refl
 
-pub sign_inverted : look_of (written 0x43 inverted) ≡ in_paints 0x43 black_paint white_paint
+pub sign_inverted : default_look (written 0x43 inverted) ≡ in_paints 0x43 black_paint white_paint
 unfolding look_of default_paints
 sign_inverted = refl
 
 -- a sign that would show the picture behind is as its background, which is transparent under invert
-pub no_sign_shows_the_picture : look_of (written 0x41 (record unset_pen { fore = Some 8; back = Some 1 }))
+pub no_sign_shows_the_picture : default_look (written 0x41 (record unset_pen { fore = Some 8; back = Some 1 }))
     ≡ in_paints 0x41 (ink 15 0 0) (ink 15 0 0)
 unfolding look_of default_paints
 no_sign_shows_the_picture = refl
 
-pub picture_behind_inverted : look_of
+pub picture_behind_inverted : default_look
     (written 0x41 (record unset_pen { fore = Some 24; back = Some 1; invert = Some true }))
     ≡ in_paints 0x41 (ink 15 0 0) paints.Video
 unfolding look_of default_paints
@@ -66,17 +70,17 @@ unfolding default_paints
 reduced_green = refl
 
 -- an accent is of its sign; a space with an accent is drawn, one without is not
-pub accent_of_its_sign : look_of (whats.Parallel (glyph 0x61 0x48) unset_pen)
+pub accent_of_its_sign : default_look (whats.Parallel (glyph 0x61 0x48) unset_pen)
     ≡ record blank_look { shape = shapes.Char (glyph 0x61 0x48) }
 unfolding look_of default_paints
 accent_of_its_sign = refl
 
-pub space_is_not_drawn : look_of (written 0x20 magenta_after) ≡ record blank_look { back = ink 15 0 15 }
+pub space_is_not_drawn : default_look (written 0x20 magenta_after) ≡ record blank_look { back = ink 15 0 15 }
 unfolding look_of default_paints
 space_is_not_drawn = refl
 
 -- a marker has the defaults
-pub marker_is_blank : look_of (whats.Marker markers.NewBack) ≡ blank_look
+pub marker_is_blank : default_look (whats.Marker markers.NewBack) ≡ blank_look
 unfolding look_of default_paints
 marker_is_blank = refl
 

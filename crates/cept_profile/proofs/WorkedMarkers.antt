@@ -26,7 +26,8 @@ pub markers_of_codes : map (marker_of 1) (range_with_len 0 32)
     ∷ Some (Alpha 14)
     ∷ Some (Alpha 15) ∷ Some (Flash flashes.Plain) ∷ Some (Flash flashes.Steady) ∷ Some (Boxed false)
     ∷ Some (Boxed true) ∷ Some (Size Normal)
-    ∷ Some (Size High) ∷ Some (Size Wide) ∷ Some (Size Both) ∷ Some (Mosaic 8) ∷ Some (Mosaic 9) ∷ Some (Mosaic 10) ∷ Some (Mosaic 11) ∷ Some (Mosaic 12)
+    ∷ Some (Size High) ∷ Some (Size Wide) ∷ Some (Size Both) ∷ Some (Mosaic 8) ∷ Some (Mosaic 9) ∷ Some (Mosaic 10)
+    ∷ Some (Mosaic 11) ∷ Some (Mosaic 12)
     ∷ Some (Mosaic 13) ∷ Some (Mosaic 14) ∷ Some (Mosaic 15) ∷ Some (Conceal true) ∷ Some (Lined false)
     ∷ Some (Lined true) ∷ None
     ∷ Some BlackBack ∷ Some NewBack ∷ Some Hold ∷ Some Release ∷ []

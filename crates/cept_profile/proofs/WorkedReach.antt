@@ -1,6 +1,6 @@
 -- Worked cases: rows in reach of a sign among signs of double height, by computing.
 use Rattle.std.proofs.Common.{◌≡◌, ℕ, ◌+◌, ◌≤◌, ◌==◌, ◌&&◌, cond, not, Bool, List, [], ◌∷◌, ◌++◌, false, refl, sym, ap}
-use Rattle.std.proofs.Common.{◌∙◌, inl, inr, arith}
+use Rattle.std.proofs.Common.{◌∙◌, inl, inr, length, reverse, arith}
 use Rattle.std.specs.List.{count_by, list_any, range_with_len}
 use Rattle.std.proofs.lemmas.Bool.{and_cases, cases_eq, cases_lt, not_from_false, or_parts, true≢false}
 use Rattle.std.proofs.lemmas.Bool.Decides.{nat_tests}
@@ -9,16 +9,18 @@ use Rattle.cept_codes.specs.declared.command.Command.{Command}
 use Rattle.cept_codes.specs.declared.command.Command.TheVariants.{C1, Graphic, Position}
 use Rattle.cept_codes.specs.declared.look.Look.{Look}
 use Rattle.cept_codes.specs.Look.{blank_look}
-use Rattle.cept_codes.specs.Table.{row_of, table}
-use Rattle.cept_codes.proofs.Laws.{same_table}
+use Rattle.cept_codes.specs.Table.{list_by_index, row_of, table}
+use Rattle.cept_codes.proofs.Laws.{length-list_by_index, same_table}
 use Rattle.cept_profile.specs.Cells.{cell_back, cells_after_all}
 use Rattle.cept_profile.specs.Colours.{default_paints}
 use Rattle.cept_profile.specs.Look.{grid, look, look_in_row, looks_of, size_in_row}
+use Rattle.cept_profile.specs.PageParts.{paint_back, part_after_all}
 use Rattle.cept_profile.specs.Reach.{in_reach, one_touches, rows_in_reach}
 use Rattle.cept_profile.specs.RowsFromAbove.{covering_differs, looks_in}
 use Rattle.cept_profile.specs.Serial.{serial_attributes, column_in_force, is_holding, kept_sign}
 use Rattle.cept_profile.specs.Sets.{set_of, read_as}
 use Rattle.cept_profile.specs.State.{State, core, core_of, state, state_after}
+use Rattle.cept_profile.specs.Strokes.{strokes_back}
 use Rattle.cept_profile.specs.Tiling.{column_entry, part_from, tiled_row, tiled_rows, tiled_table}
 use Rattle.cept_profile.proofs.ColumnEntries.{no_index, none_passes}
 use Rattle.cept_profile.proofs.LooksFromAbove.{look-seen}
@@ -65,13 +67,13 @@ high_signs_in_a_column = Position 1 1 ∷ C1 13 ∷ Graphic 0x41 ∷ Position 2 
     ∷ C1 13 ∷ Graphic 0x43 ∷ Position 4 1 ∷ C1 13 ∷ Graphic 0x44 ∷ Position 1 1 ∷ []
 
 column_ends : ends_above_7 (state high_signs_in_a_column) (Graphic 0x41)
-unfolding table row_of cell_back set_of read_as cells_after_all one_touches
+unfolding table row_of cell_back set_of read_as list_by_index cells_after_all part_after_all one_touches
 column_ends = refl
 
 column_counted : count_by (in_reach (state high_signs_in_a_column) (Graphic 0x41)) (range_with_len 1 6) ≡ 5
 unfolding table row_of cell_back set_of read_as look look_in_row size_in_row serial_attributes column_in_force
-    is_holding kept_sign default_paints tiled_table tiled_rows tiled_row part_from cells_after_all in_reach one_touches
-    covering_differs
+    is_holding kept_sign default_paints list_by_index tiled_table tiled_rows tiled_row part_from cells_after_all
+    part_after_all in_reach one_touches covering_differs
 column_counted = refl
 
 -- where the first becomes of single size, the second and the fourth are seen, and the fourth covers row 5
@@ -83,13 +85,13 @@ abbrev pub beneath_a_high_sign : List Command
 beneath_a_high_sign = Position 1 1 ∷ C1 13 ∷ Graphic 0x41 ∷ Position 2 1 ∷ []
 
 beneath_ends : ends_above_7 (state beneath_a_high_sign) (Graphic 0x42)
-unfolding table row_of cell_back set_of read_as cells_after_all one_touches
+unfolding table row_of cell_back set_of read_as list_by_index cells_after_all part_after_all one_touches
 beneath_ends = refl
 
 beneath_counted : count_by (in_reach (state beneath_a_high_sign) (Graphic 0x42)) (range_with_len 1 6) ≡ 1
 unfolding table row_of cell_back set_of read_as look look_in_row size_in_row serial_attributes column_in_force
-    is_holding kept_sign default_paints tiled_table tiled_rows tiled_row part_from cells_after_all in_reach one_touches
-    covering_differs
+    is_holding kept_sign default_paints list_by_index tiled_table tiled_rows tiled_row part_from cells_after_all
+    part_after_all in_reach one_touches covering_differs
 beneath_counted = refl
 
 -- a sign is in single size there, since the position unset the pen
@@ -101,13 +103,13 @@ abbrev pub beneath_a_high_sign_high : List Command
 beneath_a_high_sign_high = beneath_a_high_sign ++ C1 13 ∷ []
 
 high_ends : ends_above_7 (state beneath_a_high_sign_high) (Graphic 0x42)
-unfolding table row_of cell_back set_of read_as cells_after_all one_touches
+unfolding table row_of cell_back set_of read_as list_by_index cells_after_all part_after_all one_touches
 high_ends = refl
 
 high_counted : count_by (in_reach (state beneath_a_high_sign_high) (Graphic 0x42)) (range_with_len 1 6) ≡ 1
 unfolding table row_of cell_back set_of read_as look look_in_row size_in_row serial_attributes column_in_force
-    is_holding kept_sign default_paints tiled_table tiled_rows tiled_row part_from cells_after_all in_reach one_touches
-    covering_differs
+    is_holding kept_sign default_paints list_by_index tiled_table tiled_rows tiled_row part_from cells_after_all
+    part_after_all in_reach one_touches covering_differs
 high_counted = refl
 
 pub one_row_high : rows_in_reach (state beneath_a_high_sign_high) (Graphic 0x42) ≡ 1
@@ -116,11 +118,11 @@ one_row_high = upper_rows_in_reach (state beneath_a_high_sign_high) (Graphic 0x4
 -- ---- a sign beneath a high one changes no look
 
 -- nothing is seen to change where one row alone of the upper six is in reach, and it keeps its looks
-one_row_stays : (s : State) (command : Command) (q : ℕ) → ends_above_7 s command
+one_row_stays : (s : State) (command : Command) (q : ℕ) → length s.page.paints ≡ 32 → ends_above_7 s command
     → list_any (λ r. not (r == q) && in_reach s command r) (range_with_len 1 6) ≡ false
     → looks_in (looks_of (core_of (state_after s command))) q ≡ looks_in (looks_of (core_of s)) q
     → looks_of (core_of (state_after s command)) ≡ looks_of (core_of s)
-one_row_stays s command q ends alone same =
+one_row_stays s command q long ends alone same =
     same_table (look (core_of (state_after s command))) (look (core_of s)) (λ r c on.
     elim (cases_eq r q) [
       | inl here ↦
@@ -130,7 +132,7 @@ one_row_stays s command q ends alone same =
           ∙ ap (λ (k : ℕ). column_entry blank_look (looks_in (looks_of (core_of s)) k) c) (sym here)
           ∙ look-seen (core_of s) r c on
       | inr other ↦
-          look-out_of_reach s command r c on
+          look-out_of_reach s command r c on long
           (elim (cases_lt r 7) [
             | inl upper ↦
                 let apart : (r == q) ≡ false = grind (arith, nat_tests) in
@@ -144,20 +146,21 @@ one_row_stays s command q ends alone same =
     ])
 
 ends_beneath : ends_above_7 (state beneath_a_high_sign) (Graphic 0x41)
-unfolding table row_of cell_back set_of read_as cells_after_all one_touches
+unfolding table row_of cell_back set_of read_as list_by_index cells_after_all part_after_all one_touches
 ends_beneath = refl
 
 row_2_alone : list_any (λ r. not (r == 2) && in_reach (state beneath_a_high_sign) (Graphic 0x41) r)
     (range_with_len 1 6) ≡ false
 unfolding table row_of cell_back set_of read_as look look_in_row size_in_row serial_attributes column_in_force
-    is_holding kept_sign default_paints tiled_table tiled_rows tiled_row part_from cells_after_all in_reach one_touches
-    covering_differs
+    is_holding kept_sign default_paints list_by_index tiled_table tiled_rows tiled_row part_from cells_after_all
+    part_after_all in_reach one_touches covering_differs
 row_2_alone = refl
 
 row_2_stays : looks_in (looks_of (core_of (state_after (state beneath_a_high_sign) (Graphic 0x41)))) 2
     ≡ looks_in (looks_of (core_of (state beneath_a_high_sign))) 2
 unfolding table row_of cell_back set_of read_as look look_in_row size_in_row serial_attributes column_in_force
-    is_holding kept_sign default_paints tiled_table tiled_rows tiled_row part_from cells_after_all
+    is_holding kept_sign default_paints list_by_index tiled_table tiled_rows tiled_row part_from cells_after_all
+    part_after_all
 row_2_stays = refl
 
 -- `1F 41 41 8D 41 1F 42 41 41`
@@ -167,4 +170,6 @@ sign_beneath =
     looks_of-alike (core (beneath_a_high_sign ++ Graphic 0x41 ∷ []))
     (core_of (state_after (state beneath_a_high_sign) (Graphic 0x41)))
     (page-one_more beneath_a_high_sign (Graphic 0x41)) refl
-    ∙ one_row_stays (state beneath_a_high_sign) (Graphic 0x41) 2 ends_beneath row_2_alone row_2_stays
+    ∙ one_row_stays (state beneath_a_high_sign) (Graphic 0x41) 2
+    (length-list_by_index 0 32 (paint_back (strokes_back (reverse beneath_a_high_sign)))) ends_beneath row_2_alone
+    row_2_stays

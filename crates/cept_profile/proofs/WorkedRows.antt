@@ -6,7 +6,7 @@ use Rattle.cept_codes.specs.declared.glyph.SetId.TheVariants.{P}
 use Rattle.cept_codes.specs.declared.look.Look.{Look}
 use Rattle.cept_codes.specs.declared.look.Shape.TheVariants as shapes
 use Rattle.cept_codes.specs.Look.{blank_look}
-use Rattle.cept_codes.specs.Table.{row_of, table}
+use Rattle.cept_codes.specs.Table.{list_by_index, row_of, table}
 use Rattle.cept_profile.specs.Cells.{cell_back}
 use Rattle.cept_profile.specs.Colours.{default_paints}
 use Rattle.cept_profile.specs.Look.{look, look_in_row, size_in_row}
@@ -31,12 +31,12 @@ in_last_column = Position 1 40 ∷ C1 15 ∷ Graphic 0x41 ∷ []
 
 pub upper_in_last_column : look (core in_last_column) 1 40 ≡ part_of_sign 0x41 2 1 0 0
 unfolding table row_of cell_back set_of read_as look look_in_row size_in_row serial_attributes column_in_force
-    is_holding kept_sign default_paints tiled_table tiled_rows tiled_row part_from
+    is_holding kept_sign default_paints list_by_index tiled_table tiled_rows tiled_row part_from
 upper_in_last_column = refl
 
 pub lower_in_last_column : look (core in_last_column) 2 40 ≡ part_of_sign 0x41 2 1 1 0
 unfolding table row_of cell_back set_of read_as look look_in_row size_in_row serial_attributes column_in_force
-    is_holding kept_sign default_paints tiled_table tiled_rows tiled_row part_from
+    is_holding kept_sign default_paints list_by_index tiled_table tiled_rows tiled_row part_from
 lower_in_last_column = refl
 
 -- `1F 58 41 8F 41`: in the last row nothing is high
@@ -45,12 +45,12 @@ in_last_row = Position 24 1 ∷ C1 15 ∷ Graphic 0x41 ∷ []
 
 pub left_in_last_row : look (core in_last_row) 24 1 ≡ part_of_sign 0x41 1 2 0 0
 unfolding table row_of cell_back set_of read_as look look_in_row size_in_row serial_attributes column_in_force
-    is_holding kept_sign default_paints tiled_table tiled_rows tiled_row part_from
+    is_holding kept_sign default_paints list_by_index tiled_table tiled_rows tiled_row part_from
 left_in_last_row = refl
 
 pub right_in_last_row : look (core in_last_row) 24 2 ≡ part_of_sign 0x41 1 2 0 1
 unfolding table row_of cell_back set_of read_as look look_in_row size_in_row serial_attributes column_in_force
-    is_holding kept_sign default_paints tiled_table tiled_rows tiled_row part_from
+    is_holding kept_sign default_paints list_by_index tiled_table tiled_rows tiled_row part_from
 right_in_last_row = refl
 
 -- `1F 41 42 8D 41 1F 42 41 8F 42`: beside a place that is covered from above nothing is wide
@@ -59,20 +59,20 @@ beside_a_lower_half = Position 1 2 ∷ C1 13 ∷ Graphic 0x41 ∷ Position 2 1 �
 
 pub high_beside : look (core beside_a_lower_half) 1 2 ≡ part_of_sign 0x41 2 1 0 0
 unfolding table row_of cell_back set_of read_as look look_in_row size_in_row serial_attributes column_in_force
-    is_holding kept_sign default_paints tiled_table tiled_rows tiled_row part_from
+    is_holding kept_sign default_paints list_by_index tiled_table tiled_rows tiled_row part_from
 high_beside = refl
 
 pub lower_half : look (core beside_a_lower_half) 2 2 ≡ part_of_sign 0x41 2 1 1 0
 unfolding table row_of cell_back set_of read_as look look_in_row size_in_row serial_attributes column_in_force
-    is_holding kept_sign default_paints tiled_table tiled_rows tiled_row part_from
+    is_holding kept_sign default_paints list_by_index tiled_table tiled_rows tiled_row part_from
 lower_half = refl
 
 pub both_beside_it : look (core beside_a_lower_half) 2 1 ≡ part_of_sign 0x42 2 1 0 0
 unfolding table row_of cell_back set_of read_as look look_in_row size_in_row serial_attributes column_in_force
-    is_holding kept_sign default_paints tiled_table tiled_rows tiled_row part_from
+    is_holding kept_sign default_paints list_by_index tiled_table tiled_rows tiled_row part_from
 both_beside_it = refl
 
 pub below_both : look (core beside_a_lower_half) 3 1 ≡ part_of_sign 0x42 2 1 1 0
 unfolding table row_of cell_back set_of read_as look look_in_row size_in_row serial_attributes column_in_force
-    is_holding kept_sign default_paints tiled_table tiled_rows tiled_row part_from
+    is_holding kept_sign default_paints list_by_index tiled_table tiled_rows tiled_row part_from
 below_both = refl

@@ -2,7 +2,7 @@
 use Rattle.std.proofs.Common.{◌≡◌, [], ◌∷◌, Some, None, false, refl}
 use Rattle.cept_codes.specs.declared.command.C1Set.TheVariants.{Serial, Parallel}
 use Rattle.cept_codes.specs.declared.command.Command.TheVariants.{Graphic, C1, DesignateC1, Table, StopConceal, Home}
-use Rattle.cept_codes.specs.declared.command.Command.TheVariants.{Designate, AreaCreate, AreaDelete, Format}
+use Rattle.cept_codes.specs.declared.command.Command.TheVariants.{Designate, AreaCreate, AreaDelete, Format, Position}
 use Rattle.cept_codes.specs.declared.command.Command.TheVariants.{ServiceBreak, ServiceEnd, FullDefaults}
 use Rattle.cept_codes.specs.declared.command.Command.TheVariants.{ControlDefaults}
 use Rattle.cept_codes.specs.declared.glyph.SetId.TheVariants.{P, N}
@@ -64,6 +64,21 @@ area_deleted_by_its_rows = refl
 
 pub area_outlives_other_rows : area_back (AreaDelete 3 4 ∷ AreaCreate 2 9 ∷ AreaCreate 3 4 ∷ []) ≡ Some (2, 9)
 area_outlives_other_rows = refl
+
+-- ---- in their order
+
+pub table_counts_from_there : (settings (C1 3 ∷ Table 1 ∷ C1 19 ∷ Table 2 ∷ [])).fore ≡ Some 3
+table_counts_from_there = refl
+
+pub table_of_the_background : (settings (C1 3 ∷ Table 1 ∷ C1 19 ∷ Table 2 ∷ [])).back ≡ Some 11
+table_of_the_background = refl
+
+pub last_table : (settings (C1 3 ∷ Table 1 ∷ C1 19 ∷ Table 2 ∷ [])).table ≡ 2
+last_table = refl
+
+-- neither going home nor a position brings the table back
+pub table_stays_at_home : (settings (Table 1 ∷ Home ∷ Position 2 2 ∷ C1 1 ∷ [])).fore ≡ Some 9
+table_stays_at_home = refl
 
 -- ---- what isn't built sets nothing
 

@@ -16,7 +16,14 @@ use Rattle.cept_codes.specs.Attribute.{unset_pen}
 use Rattle.cept_codes.specs.Cell.{blank_cell}
 use Rattle.cept_codes.specs.Table.{row_of, table, value_at}
 use Rattle.cept_profile.specs.Cells.{cell_back}
-use Rattle.cept_profile.specs.Control.{ControlState, initial_control, initial_working, control, control_after, working_at}
+use Rattle.cept_profile.specs.Control.{
+  ControlState,
+  initial_control,
+  initial_working,
+  control,
+  control_after,
+  working_at,
+}
 use Rattle.cept_profile.specs.Sets.{set_of, read_as}
 use Rattle.cept_profile.specs.State.{page}
 use Rattle.cept_profile.specs.Strokes.{strokes_in}

@@ -1,4 +1,4 @@
--- Attributes of a sign with a pen. The order pen, row, screen, default is this profile's own.
+-- Attributes by pen, row and screen. The order pen, row, screen, default is this profile's own.
 use Rattle.std.specs.Prelude.{false, Option, Some, None}
 use Rattle.cept_codes.specs.declared.attribute.Flash.TheVariants as flashes
 use Rattle.cept_codes.specs.declared.attribute.Full.{Full}

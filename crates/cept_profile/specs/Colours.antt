@@ -1,5 +1,5 @@
 -- Colours: entries in tables of eight (ETS 300 072, colour tables). Which paint each has by default, and that a
--- foreground never shows the picture behind, are this profile's own.
+-- foreground gives way to the background where it would show the picture behind, are this profile's own.
 use Rattle.std.specs.Prelude.{ℕ, ◌%◌, List, [], ◌∷◌, slice_index_or, if◌then◌else◌}
 use Rattle.cept_codes.specs.declared.attribute.Full.{Full}
 use Rattle.cept_codes.specs.declared.look.Paint.{Paint}
@@ -20,15 +20,16 @@ default_paints =
 abbrev pub default_paint : ℕ → Paint
 default_paint i = slice_index_or default_paints (i % 16) black_paint
 
--- the paint of the foreground: that of its entry, and under invert that of the background's
-abbrev pub fore_paint : Full → Paint
-fore_paint f = default_paint (if f.invert then f.back else f.fore)
+-- the paint of the foreground by the paints of the entries: that of its entry, and under invert that of the
+-- background's
+abbrev pub fore_paint : (ℕ → Paint) → Full → Paint
+fore_paint paint_of f = paint_of (if f.invert then f.back else f.fore)
 
 -- the paint of the background, exchanged in the same way
-abbrev pub back_paint : Full → Paint
-back_paint f = default_paint (if f.invert then f.fore else f.back)
+abbrev pub back_paint : (ℕ → Paint) → Full → Paint
+back_paint paint_of f = paint_of (if f.invert then f.fore else f.back)
 
--- a foreground that would show the picture behind is as the background
+-- a foreground that would show the picture behind has the paint of the background
 abbrev pub paint_over : Paint → Paint → Paint
 paint_over paints.Video back = back
 paint_over (paints.Ink c) back = paints.Ink c

@@ -9,7 +9,14 @@ use Rattle.cept_profile.specs.Pens.{working_after_code, working_after_flash, wor
 use Rattle.cept_profile.specs.Sets.{sets_with, sets_with_left, sets_with_right, sets_with_single}
 use Rattle.cept_profile.specs.Writing.{working_after_repeat, working_after_read, graphic_result, control_with_result}
 pub use Rattle.cept_profile.specs.Working.{Working, ControlState, Sets, initial_sets, initial_working, initial_control}
-pub use Rattle.cept_profile.specs.Working.{control_with, working_at, working_with_sets, with_c1, working_without_run}
+pub use Rattle.cept_profile.specs.Working.{
+  control_with,
+  working_at,
+  working_with_sets,
+  with_c1,
+  with_table,
+  working_without_run,
+}
 pub use Rattle.cept_profile.specs.Working.{working_without_pen, working_without_accent}
 
 -- every command but these drops an accent that waits
@@ -56,6 +63,7 @@ control_effect s (commands.C1 n) = control_with s (working_after_code s.working.
 control_effect s (commands.FlashMode k) = control_with s (working_after_flash s.working.c1 k s)
 control_effect s commands.StopConceal = control_with s (working_after_reveal s.working.c1 s)
 control_effect s (commands.DesignateC1 set) = control_with s (working_without_run (with_c1 set s.working))
+control_effect s (commands.Table k) = control_with s (with_table k s.working)
 -- a service isn't built; that its break drops a waiting accent is its own doing
 control_effect s (commands.ServiceBreak row) = control_with s (working_without_accent s.working)
 -- these leave control as it is
@@ -68,19 +76,18 @@ control_effect s (commands.Marked on) = s
 control_effect s (commands.ColourHeader dclut) = s
 control_effect s (commands.ColourStart i) = s
 control_effect s (commands.DrcsStart code) = s
+control_effect s (commands.FullScreen n) = s
+control_effect s (commands.FullRow n) = s
+control_effect s commands.ColourDefaults = s
+control_effect s (commands.Entry i colour) = s
+control_effect s (commands.Dclut i entry) = s
 -- not built yet: no effect
-control_effect s (commands.Table k) = s
 control_effect s commands.ScrollUp = s
 control_effect s commands.ScrollDown = s
 control_effect s (commands.Implicit on) = s
 control_effect s (commands.Protect on) = s
 control_effect s (commands.AreaCreate first last) = s
 control_effect s (commands.AreaDelete first last) = s
-control_effect s (commands.FullScreen n) = s
-control_effect s (commands.FullRow n) = s
-control_effect s commands.ColourDefaults = s
-control_effect s (commands.Entry i colour) = s
-control_effect s (commands.Dclut i entry) = s
 control_effect s (commands.DrcsHeader delete form) = s
 control_effect s (commands.DrcsPattern code pattern) = s
 control_effect s (commands.Format rows wrap) = s

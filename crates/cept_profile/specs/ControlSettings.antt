@@ -12,6 +12,7 @@ use Rattle.cept_codes.specs.declared.command.Command.TheVariants as commands
 use Rattle.cept_codes.specs.declared.glyph.SetId.{SetId}
 use Rattle.cept_profile.specs.Control.{ControlState, initial_sets}
 use Rattle.cept_profile.specs.Pens.{attribute_of}
+pub use Rattle.cept_profile.specs.Pens.{fore_in, back_in, conceal_in, lined_in, boxed_in, size_in, invert_in}
 use Rattle.cept_profile.specs.Sets.{set_in}
 
 -- ---- services
@@ -52,7 +53,6 @@ outer_history history = reverse (outer_back (reverse history))
 
 -- commands that will set control and aren't built: until they are, they set nothing
 abbrev pub is_unbuilt : Command → Bool
-is_unbuilt (commands.Table k) = true
 is_unbuilt (commands.Implicit on) = true
 is_unbuilt (commands.Protect on) = true
 is_unbuilt (commands.AreaCreate a b) = true
@@ -140,42 +140,6 @@ abbrev pub right_back : List Command → ℕ
 right_back = last_said (λ earlier. right_said) initial_sets.right
 
 -- ---- the pen, but its flash
-
--- what an attribute says of the foreground: None where it says nothing
-abbrev pub fore_in : Attr → Option (Option ℕ)
-fore_in (attrs.Fore e) = Some (Some e)
-fore_in _ = None
-
--- of the background, which NoBack says to be unset
-abbrev pub back_in : Attr → Option (Option ℕ)
-back_in (attrs.Back e) = Some (Some e)
-back_in attrs.NoBack = Some None
-back_in _ = None
-
--- of conceal
-abbrev pub conceal_in : Attr → Option (Option Bool)
-conceal_in (attrs.Conceal on) = Some (Some on)
-conceal_in _ = None
-
--- of lining
-abbrev pub lined_in : Attr → Option (Option Bool)
-lined_in (attrs.Lined on) = Some (Some on)
-lined_in _ = None
-
--- of the box
-abbrev pub boxed_in : Attr → Option (Option Bool)
-boxed_in (attrs.Boxed on) = Some (Some on)
-boxed_in _ = None
-
--- of the size
-abbrev pub size_in : Attr → Option (Option Size)
-size_in (attrs.Size size) = Some (Some size)
-size_in _ = None
-
--- of the polarity
-abbrev pub invert_in : Attr → Option (Option Bool)
-invert_in (attrs.Invert on) = Some (Some on)
-invert_in _ = None
 
 -- only under the parallel set an attribute counts
 abbrev pub parallel_said : {X : Type 0} → (Attr → Option (Option X)) → C1Set → Option Attr → Option (Option X)

@@ -19,3 +19,4 @@ pub mod Serial
 pub mod Carry
 pub mod Tiling
 pub mod RowsFromAbove
+pub mod PageParts

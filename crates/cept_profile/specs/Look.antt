@@ -11,6 +11,7 @@ use Rattle.cept_codes.specs.declared.cell.What.TheVariants as whats
 use Rattle.cept_codes.specs.declared.command.Command.{Command}
 use Rattle.cept_codes.specs.declared.glyph.Glyph.{Glyph}
 use Rattle.cept_codes.specs.declared.look.Look.{Look}
+use Rattle.cept_codes.specs.declared.look.Paint.{Paint}
 use Rattle.cept_codes.specs.declared.look.Part.{Part}
 use Rattle.cept_codes.specs.declared.look.Shape.{Shape}
 use Rattle.cept_codes.specs.declared.look.Shape.TheVariants as shapes
@@ -19,6 +20,7 @@ use Rattle.cept_codes.specs.Cell.{blank_cell}
 use Rattle.cept_codes.specs.Table.{table, value_at}
 use Rattle.cept_profile.specs.Attributes.{cascade}
 use Rattle.cept_profile.specs.Colours.{fore_paint, back_paint, paint_over}
+use Rattle.cept_profile.specs.PageParts.{paint_in, row_pen_in}
 use Rattle.cept_profile.specs.Serial.{held_sign, own_attributes}
 use Rattle.cept_profile.specs.State.{Core, core}
 use Rattle.cept_profile.specs.Tiling.{part_at, tiled_table}
@@ -34,21 +36,22 @@ shape_of (whats.Serial g) = shape_of_sign g
 shape_of (whats.Parallel g pen) = shape_of_sign g
 shape_of (whats.Marker m) = shapes.Space
 
--- the attributes of what stands in a cell, on a screen on which none is set: a sign that took a pen has its own
-abbrev pub attributes_of : What → Full
-attributes_of (whats.Parallel g pen) = cascade pen unset_pen unset_pen
-attributes_of _ = cascade unset_pen unset_pen unset_pen
+-- the attributes of what stands in a cell, in a row without markers: a sign that took a pen has its own, then come
+-- those of the row and those of the screen
+abbrev pub attributes_of : Pen → Pen → What → Full
+attributes_of row screen (whats.Parallel g pen) = cascade pen row screen
+attributes_of row screen _ = cascade unset_pen row screen
 
--- a shape of single size with its attributes
-abbrev pub look_with : Shape → Full → Look
-look_with shape f = record {
+-- a shape of single size with its attributes, in the paints of the entries
+abbrev pub look_with : (ℕ → Paint) → Shape → Full → Look
+look_with paint_of shape f = record {
   shape = shape;
   dy = 0;
   dx = 0;
   w = 1;
   h = 1;
-  fore = paint_over (fore_paint f) (back_paint f);
-  back = back_paint f;
+  fore = paint_over (fore_paint paint_of f) (back_paint paint_of f);
+  back = back_paint paint_of f;
   flash = f.flash;
   conceal = f.conceal;
   lined = f.lined;
@@ -56,8 +59,8 @@ look_with shape f = record {
 }
 
 -- the look of what stands in a cell by itself, in a row without markers
-unfoldable pub look_of : What → Look
-look_of what = look_with (shape_of what) (attributes_of what)
+unfoldable pub look_of : (ℕ → Paint) → Pen → Pen → What → Look
+look_of paint_of row screen what = look_with paint_of (shape_of what) (attributes_of row screen what)
 
 -- the shape of what stands in a cell that holds a sign or none: a marker shows the sign that it holds
 abbrev pub shape_in : What → Option Glyph → Shape
@@ -67,8 +70,9 @@ shape_in what _ = shape_of what
 -- ---- one row by itself
 
 -- what stands in a column of a row, in single size, by its own attributes, those of the row and those of the screen
-unfoldable pub look_in_row : (ℕ → What) → Pen → Pen → ℕ → Look
-look_in_row row pen screen c = look_with (shape_in (row c) (held_sign row c)) (own_attributes row pen screen c)
+unfoldable pub look_in_row : (ℕ → Paint) → (ℕ → What) → Pen → Pen → ℕ → Look
+look_in_row paint_of row pen screen c =
+    look_with paint_of (shape_in (row c) (held_sign row c)) (own_attributes row pen screen c)
 
 -- the size in which it is to be shown
 unfoldable pub size_in_row : (ℕ → What) → Pen → Pen → ℕ → Size
@@ -96,13 +100,14 @@ sets_size _ = false
 abbrev pub contents_of_row : Core → ℕ → ℕ → What
 contents_of_row k r c = (value_at blank_cell k.page.cells r c).what
 
--- what stands at row r and column c by itself, on a screen on which no attribute is set for the row or the whole
+-- what stands at row r and column c by itself
 abbrev pub own_look : Core → ℕ → ℕ → Look
-own_look k r c = look_in_row (contents_of_row k r) unset_pen unset_pen c
+own_look k r c = look_in_row (paint_in k.page.paints) (contents_of_row k r)
+    (row_pen_in k.page.row_pens r) k.page.screen_pen c
 
 -- the size in which it is to be shown
 abbrev pub own_size : Core → ℕ → ℕ → Size
-own_size k r c = size_in_row (contents_of_row k r) unset_pen unset_pen c
+own_size k r c = size_in_row (contents_of_row k r) (row_pen_in k.page.row_pens r) k.page.screen_pen c
 
 -- a row from `rows` on is last: no sign in it is high
 abbrev pub is_last_row : ℕ → ℕ → Bool

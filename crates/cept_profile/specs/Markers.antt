@@ -1,6 +1,6 @@
 -- Markers: what a control function leaves in its cell under the serial set (ETS 300 072 and T/CD 6-1, the serial
--- supplementary control functions; what each code leaves, when the mosaic run begins and ends, and how far signs move on
--- after a size, is this profile's own).
+-- supplementary control functions; what each code leaves, when the mosaic run begins and ends, and how far signs move
+-- on after a size, is this profile's own).
 use Rattle.std.specs.Prelude.{ℕ, ◌+◌, ◌-◌, ◌*◌, Bool, true, false, Option, Some, None, List, [], ◌∷◌, nat_lt, ◌==◌}
 use Rattle.std.specs.Prelude.{if◌then◌else◌}
 use Rattle.cept_codes.specs.declared.attribute.Flash.TheVariants as flashes

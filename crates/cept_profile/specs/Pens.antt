@@ -1,18 +1,37 @@
 -- Pens: the attributes that go with each sign under the parallel set (T/CD 6-1, the parallel supplementary control
 -- functions; what each code does is this profile's own), and what the same functions make of control under the serial
 -- set, where each leaves a marker.
-use Rattle.std.specs.Prelude.{ℕ, ◌+◌, ◌-◌, ◌*◌, Bool, true, false, ◌||◌, Option, Some, None, List, [], nat_lt, nat_le}
+use Rattle.std.specs.Prelude.{
+  ℕ,
+  ◌+◌,
+  ◌-◌,
+  ◌*◌,
+  Bool,
+  true,
+  false,
+  ◌||◌,
+  Option,
+  Some,
+  None,
+  List,
+  [],
+  ◌∷◌,
+  nat_lt,
+  nat_le,
+}
 use Rattle.std.specs.Prelude.{◌==◌, if◌then◌else◌}
 use Rattle.cept_codes.specs.declared.attribute.Attr.{Attr}
 use Rattle.cept_codes.specs.declared.attribute.Attr.TheVariants as attrs
 use Rattle.cept_codes.specs.declared.attribute.Flash.{Flash}
 use Rattle.cept_codes.specs.declared.attribute.Flash.TheVariants as flashes
 use Rattle.cept_codes.specs.declared.attribute.Pen.{Pen}
+use Rattle.cept_codes.specs.declared.attribute.Size.{Size}
 use Rattle.cept_codes.specs.declared.attribute.Size.TheVariants as sizes
 use Rattle.cept_codes.specs.declared.cell.Marker.TheVariants as markers
 use Rattle.cept_codes.specs.declared.command.C1Set.{C1Set}
 use Rattle.cept_codes.specs.declared.command.C1Set.TheVariants as c1sets
 use Rattle.cept_codes.specs.declared.stroke.Stroke.{Stroke}
+use Rattle.cept_codes.specs.declared.stroke.Stroke.TheVariants as strokes
 use Rattle.cept_profile.specs.Markers.{marker_of, strokes_of_any_marker, strokes_of_marker, working_after_any_marker}
 use Rattle.cept_profile.specs.Markers.{working_after_marker}
 use Rattle.cept_profile.specs.Working.{Working, ControlState}
@@ -50,6 +69,51 @@ pen_with (attrs.Lined b) p = record p { lined = Some b }
 pen_with (attrs.Boxed b) p = record p { boxed = Some b }
 pen_with (attrs.Size s) p = record p { size = Some s }
 pen_with (attrs.Invert b) p = record p { invert = Some b }
+
+-- ---- what an attribute says of each class
+
+-- what an attribute says of the foreground: None where it says nothing
+abbrev pub fore_in : Attr → Option (Option ℕ)
+fore_in (attrs.Fore e) = Some (Some e)
+fore_in _ = None
+
+-- of the background, which NoBack says to be unset
+abbrev pub back_in : Attr → Option (Option ℕ)
+back_in (attrs.Back e) = Some (Some e)
+back_in attrs.NoBack = Some None
+back_in _ = None
+
+-- of the flash
+abbrev pub flash_in : Attr → Option (Option Flash)
+flash_in (attrs.Flash f) = Some (Some f)
+flash_in _ = None
+
+-- of conceal
+abbrev pub conceal_in : Attr → Option (Option Bool)
+conceal_in (attrs.Conceal on) = Some (Some on)
+conceal_in _ = None
+
+-- of lining
+abbrev pub lined_in : Attr → Option (Option Bool)
+lined_in (attrs.Lined on) = Some (Some on)
+lined_in _ = None
+
+-- of the box
+abbrev pub boxed_in : Attr → Option (Option Bool)
+boxed_in (attrs.Boxed on) = Some (Some on)
+boxed_in _ = None
+
+-- of the size
+abbrev pub size_in : Attr → Option (Option Size)
+size_in (attrs.Size size) = Some (Some size)
+size_in _ = None
+
+-- of the polarity
+abbrev pub invert_in : Attr → Option (Option Bool)
+invert_in (attrs.Invert on) = Some (Some on)
+invert_in _ = None
+
+-- ---- codes
 
 -- a pen with an attribute, if there is one
 abbrev pub pen_with_any : Option Attr → Pen → Pen
@@ -122,6 +186,16 @@ abbrev pub working_after_reveal : C1Set → ControlState → Working
 working_after_reveal c1sets.Parallel s = record s.working { pen = pen_with (attrs.Conceal false) s.working.pen }
 working_after_reveal c1sets.Serial s = working_after_marker s (markers.Conceal false)
 
+-- an attribute of the screen, if there is one
+abbrev pub strokes_of_attribute : Option Attr → List Stroke
+strokes_of_attribute None = []
+strokes_of_attribute (Some attr) = strokes.ScreenAttr attr ∷ []
+
+-- an attribute of a row, if there is one
+abbrev pub strokes_of_row_attribute : ℕ → Option Attr → List Stroke
+strokes_of_row_attribute r None = []
+strokes_of_row_attribute r (Some attr) = strokes.RowAttr r attr ∷ []
+
 -- the strokes of a C1 code: under the serial set its marker
 abbrev pub strokes_of_code : C1Set → ℕ → ControlState → List Stroke
 strokes_of_code c1sets.Parallel n s = []
@@ -131,6 +205,14 @@ strokes_of_code c1sets.Serial n s = strokes_of_any_marker s (marker_of s.working
 abbrev pub strokes_of_flash : C1Set → ℕ → ControlState → List Stroke
 strokes_of_flash c1sets.Parallel mode s = []
 strokes_of_flash c1sets.Serial mode s = strokes_of_marker s (markers.Flash (flash_of mode s.working.fast))
+
+-- of a C1 code for the whole screen: its parallel meaning, whatever the C1 set is
+abbrev pub strokes_of_screen : ControlState → ℕ → List Stroke
+strokes_of_screen s n = strokes_of_attribute (attribute_of s.working.table n)
+
+-- of a C1 code for the active row
+abbrev pub strokes_of_row : ControlState → ℕ → List Stroke
+strokes_of_row s n = strokes_of_row_attribute s.working.row (attribute_of s.working.table n)
 
 -- of the end of concealing
 abbrev pub strokes_of_reveal : C1Set → ControlState → List Stroke

@@ -9,24 +9,25 @@ use Rattle.cept_profile.specs.RowsFromAbove.{covering_differs}
 use Rattle.cept_profile.specs.State.{State, core_of, state_after}
 use Rattle.cept_profile.specs.Strokes.{strokes_of}
 
--- the stroke can change cells of this row: a cell that is put and an erased end of a row their own, a wipe each (own)
+-- the stroke can change what this row is made of: a cell that is put, an erased end of a row and an attribute of a row
+-- change that row; a wipe, an attribute of the screen and a colour every row
 abbrev pub touches : Stroke → ℕ → Bool
 touches (strokes.Put p cell) r = p.row == r
 touches (strokes.Erase row from) r = row == r
 touches strokes.Wipe r = true
+touches (strokes.RowAttr row attr) r = row == r
+touches (strokes.ScreenAttr attr) r = true
+touches strokes.ScreenClear r = true
+touches (strokes.Colour i paint) r = true
+touches (strokes.Dclut i entry) r = true
+touches strokes.ColourDefaults r = true
 -- not built yet: no effect
 touches (strokes.Shift first last way) r = false
-touches (strokes.RowAttr row attr) r = false
-touches (strokes.ScreenAttr attr) r = false
-touches strokes.ScreenClear r = false
-touches (strokes.Colour i paint) r = false
-touches (strokes.Dclut i entry) r = false
-touches strokes.ColourDefaults r = false
 touches strokes.DrcsClear r = false
 touches (strokes.Drcs code pattern) r = false
 touches (strokes.Format rows) r = false
 
--- one of the strokes can change cells of this row (own)
+-- one of the strokes can change what this row is made of
 unfoldable pub one_touches : List Stroke → ℕ → Bool
 one_touches strokes r = list_any (λ stroke. touches stroke r) strokes
 
@@ -35,17 +36,17 @@ abbrev pub becomes_last : ℕ → ℕ → ℕ → Bool
 becomes_last before after r =
     (is_last_row before r && not (is_last_row after r)) || (is_last_row after r && not (is_last_row before r))
 
--- the row itself changes: the strokes can change its cells, or it becomes last or is so no longer
+-- the row itself changes: the strokes can change what it is made of, or it becomes last or is so no longer
 abbrev pub is_row_touched : List Stroke → ℕ → ℕ → ℕ → Bool
 is_row_touched strokes before after r = one_touches strokes r || becomes_last before after r
 
 -- in this state the command can change what is seen in this row: it touches the row itself, or changes what covers it
--- from above (own)
+-- from above
 unfoldable pub in_reach : State → Command → ℕ → Bool
 in_reach s command r =
     is_row_touched (strokes_of s.control command) s.control.rows (state_after s command).control.rows r
     || covering_differs (looks_of (core_of s)) (looks_of (core_of (state_after s command))) r
 
--- how many rows of the screen it can change (own)
+-- how many rows of the screen it can change
 unfoldable pub rows_in_reach : State → Command → ℕ
 rows_in_reach s command = count_by (in_reach s command) (range_with_len 1 24)

@@ -1,6 +1,6 @@
--- Serial attributes of one row (which marker is of which class: ETS 300 072, serial attributes; where each begins to
--- act is this profile's own). A row tells what stands in each column, from 1; column 0 and what is past the row are
--- never asked.
+-- Serial attributes of one row (which marker sets which attribute: ETS 300 072, serial attributes; that markers stand
+-- in cells, where each begins to act, and hold, are this profile's own). A row tells what stands in each column, from
+-- 1; column 0 and what is past the row are never asked.
 use Rattle.std.specs.Prelude.{ℕ, zero, suc, ◌-◌, List, slice_index_or, Bool, true, false, not, ◌&&◌, ◌||◌}
 use Rattle.std.specs.Prelude.{if◌then◌else◌, Option, Some, None, unwrap_or}
 use Rattle.std.specs.Prelude.{nat_lt}
@@ -92,8 +92,8 @@ abbrev pub nearest_column : (ℕ → Bool) → ℕ → Option ℕ
 nearest_column is_so zero = None
 nearest_column is_so (suc c) = if is_so (suc c) then Some (suc c) else nearest_column is_so c
 
--- a marker of a class in column d acts at column c: it stands left of it, or in it and acts there. It is asked of columns
--- d up to c only: one to the right of c that acts from its own cell would pass
+-- a marker of a class in column d acts at column c: it stands left of it, or in it and acts there. It is asked of
+-- columns d up to c only: one to the right of c that acts from its own cell would pass
 abbrev pub acts : (ℕ → What) → Class → ℕ → ℕ → Bool
 acts row class c d = is_of class (row d) && (nat_lt d c || acts_there (row d))
 

@@ -1,17 +1,29 @@
 -- The state of a decoder (own): its page and its control, and the core that its looks are made of.
 use Rattle.std.specs.Prelude.{ℕ, Bool, Option, List, reverse}
+use Rattle.cept_codes.specs.declared.attribute.Pen.{Pen}
 use Rattle.cept_codes.specs.declared.cell.Cell.{Cell}
 use Rattle.cept_codes.specs.declared.command.Command.{Command}
+use Rattle.cept_codes.specs.declared.look.Paint.{Paint}
 use Rattle.cept_codes.specs.declared.stroke.Stroke.{Stroke}
+use Rattle.cept_codes.specs.Attribute.{unset_pen}
 use Rattle.cept_codes.specs.Cell.{blank_cell}
 use Rattle.cept_codes.specs.Table.{table}
 use Rattle.cept_profile.specs.Cells.{cell_back, cells_after_all}
+use Rattle.cept_profile.specs.Colours.{default_paint}
 use Rattle.cept_profile.specs.Control.{ControlState, control, control_after}
+use Rattle.cept_profile.specs.PageParts.{row_pen_back, screen_pen_back, paint_back, dclut_back, list_of_rows}
+use Rattle.cept_profile.specs.PageParts.{list_of_colours, list_of_dclut, part_after_all, row_pens_after}
+use Rattle.cept_profile.specs.PageParts.{screen_pen_after, paints_after, dclut_list_after}
 use Rattle.cept_profile.specs.Strokes.{strokes_back, strokes_of}
 
--- what a page keeps: a table of its cells
+-- what a page keeps: a table of its cells, the attributes of its rows and of the screen, the paints of the 32 colour
+-- entries, and the colour entries that the DCLUT names
 pub record Page : Type 0 where
   pub cells : List (List Cell)
+  pub row_pens : List Pen
+  pub screen_pen : Pen
+  pub paints : List Paint
+  pub dclut : List ℕ
 
 -- a page, and what the decoder keeps beside it
 pub record State : Type 0 where
@@ -36,13 +48,29 @@ core_of s = record {
   implicit = s.control.implicit;
 }
 
--- nothing is written
+-- nothing is written and nothing set
 abbrev pub blank_page : Page
-blank_page = record { cells = table (λ r c. blank_cell) }
+blank_page = record {
+  cells = table (λ r c. blank_cell);
+  row_pens = list_of_rows (λ r. unset_pen);
+  screen_pen = unset_pen;
+  paints = list_of_colours default_paint;
+  dclut = list_of_dclut (λ i. i);
+}
 
--- the page that the commands leave: each cell by looking back over all strokes
+-- the page that strokes leave, the last first: each part by looking back over all of them
+abbrev pub page_back : List Stroke → Page
+page_back strokes = record {
+  cells = table (cell_back strokes);
+  row_pens = list_of_rows (row_pen_back strokes);
+  screen_pen = screen_pen_back strokes;
+  paints = list_of_colours (paint_back strokes);
+  dclut = list_of_dclut (dclut_back strokes);
+}
+
+-- the page that the commands leave
 abbrev pub page : List Command → Page
-page history = record { cells = table (cell_back (strokes_back (reverse history))) }
+page history = page_back (strokes_back (reverse history))
 
 -- the state that the commands leave
 abbrev pub state : List Command → State
@@ -54,7 +82,13 @@ core history = core_of (state history)
 
 -- a page after strokes
 abbrev pub page_after : Page → List Stroke → Page
-page_after p strokes = record { cells = cells_after_all p.cells strokes }
+page_after p strokes = record {
+  cells = cells_after_all p.cells strokes;
+  row_pens = part_after_all row_pens_after p.row_pens strokes;
+  screen_pen = part_after_all screen_pen_after p.screen_pen strokes;
+  paints = part_after_all paints_after p.paints strokes;
+  dclut = part_after_all dclut_list_after p.dclut strokes;
+}
 
 -- the state after one more command
 abbrev pub state_after : State → Command → State

@@ -2,11 +2,18 @@
 use Rattle.std.specs.Prelude.{List, [], ◌∷◌, ◌++◌, reverse}
 use Rattle.cept_codes.specs.declared.command.Command.{Command}
 use Rattle.cept_codes.specs.declared.command.Command.TheVariants as commands
+use Rattle.cept_codes.specs.declared.look.Paint.TheVariants as paints
 use Rattle.cept_codes.specs.declared.stroke.Stroke.{Stroke}
 use Rattle.cept_codes.specs.declared.stroke.Stroke.TheVariants as strokes
 use Rattle.cept_profile.specs.Control.{ControlState, state_for_effect, control_back}
 use Rattle.cept_profile.specs.Motions.{below_strokes, above_strokes, on_strokes, back_strokes}
-use Rattle.cept_profile.specs.Pens.{strokes_of_code, strokes_of_flash, strokes_of_reveal}
+use Rattle.cept_profile.specs.Pens.{
+  strokes_of_code,
+  strokes_of_flash,
+  strokes_of_reveal,
+  strokes_of_row,
+  strokes_of_screen,
+}
 use Rattle.cept_profile.specs.Writing.{strokes_of_read, strokes_of_repeat, graphic_result}
 
 -- the strokes of a command that takes effect in this state
@@ -22,6 +29,11 @@ strokes_when s commands.Cancel = strokes.Erase s.working.row s.working.column �
 strokes_when s (commands.C1 n) = strokes_of_code s.working.c1 n s
 strokes_when s (commands.FlashMode k) = strokes_of_flash s.working.c1 k s
 strokes_when s commands.StopConceal = strokes_of_reveal s.working.c1 s
+strokes_when s (commands.FullScreen n) = strokes_of_screen s n
+strokes_when s (commands.FullRow n) = strokes_of_row s n
+strokes_when s commands.ColourDefaults = strokes.ColourDefaults ∷ []
+strokes_when s (commands.Entry i colour) = strokes.Colour i (paints.Ink colour) ∷ []
+strokes_when s (commands.Dclut i entry) = strokes.Dclut i entry ∷ []
 -- these make no strokes
 strokes_when s commands.Nul = []
 strokes_when s commands.Skipped = []
@@ -50,11 +62,6 @@ strokes_when s (commands.ControlDefaults set) = []
 -- not built yet: no effect
 strokes_when s commands.ScrollUp = []
 strokes_when s commands.ScrollDown = []
-strokes_when s (commands.FullScreen n) = []
-strokes_when s (commands.FullRow n) = []
-strokes_when s commands.ColourDefaults = []
-strokes_when s (commands.Entry i colour) = []
-strokes_when s (commands.Dclut i entry) = []
 strokes_when s (commands.DrcsHeader delete form) = []
 strokes_when s (commands.DrcsPattern code pattern) = []
 strokes_when s (commands.Format rows wrap) = []

@@ -1,6 +1,23 @@
--- Tiling: which part of a sign of single or double size each place shows (double height, double width and double size:
--- ETS 300 072, size attributes). Which sign covers a place, and what is then drawn there, is this profile's own.
-use Rattle.std.specs.Prelude.{ℕ, ◌≡◌, ◌+◌, ◌-◌, ◌≤◌, ◌==◌, ◌&&◌, nat_lt, Bool, true, false, not, IsTrue, IsFalse, zero, suc}
+-- Tiling: which part of a sign each place shows. The four sizes have their names from ETS 300 072 (normal size, double
+-- height, double width, double size); all else is this profile's own.
+use Rattle.std.specs.Prelude.{
+  ℕ,
+  ◌≡◌,
+  ◌+◌,
+  ◌-◌,
+  ◌≤◌,
+  ◌==◌,
+  ◌&&◌,
+  nat_lt,
+  Bool,
+  true,
+  false,
+  not,
+  IsTrue,
+  IsFalse,
+  zero,
+  suc,
+}
 use Rattle.std.specs.Prelude.{List, length, map, slice_index_or, if◌then◌else◌}
 use Rattle.std.specs.List.{range_with_len}
 use Rattle.cept_codes.specs.declared.attribute.Size.{Size}
@@ -53,8 +70,7 @@ covers_below p = p.dy == 0 && p.h == 2
 abbrev pub covers_right : Part → Bool
 covers_right p = p.dx == 0 && p.w == 2
 
--- a place is covered from the left, by the part left of it and the part above that: where that one covers what is below
--- it, the part left is a lower one
+-- the left neighbour covers the place to its right, unless it is itself covered from above
 abbrev pub is_covered_from_left : Part → Part → Bool
 is_covered_from_left above_left left = not (covers_below above_left) && covers_right left
 
@@ -78,9 +94,10 @@ part_at t r c = column_entry single_part (parts_in t r) c
 
 -- ---- the conditions on a finished table
 
--- the part in column c of a row, by the parts of that row and of the row above it: one below a part that covers it; else
--- one to the right of a part that covers it; else the origin of a sign of the size that is wanted there, which is high
--- but in the last row, and wide but in the last column and beside a place that is covered from above
+-- the part in column c of a row, by the parts of that row and of the row above it: where the place above covers it, the
+-- part below that one's; else, where its left neighbour covers it, the part to the right of that one's; else the origin
+-- of a sign of the size that is wanted there, which is never high in the last row, and never wide in the last column or
+-- where its right neighbour is covered from above
 pub record IsTiledAt (above row : ℕ → Part) (size : Size) (last : Bool) (c : ℕ) : Type 0 where
   pub from_above : IsTrue (covers_below (above c)) → row c ≡ part_below (above c)
   pub from_left : IsFalse (covers_below (above c)) → IsTrue (is_covered_from_left (above (c - 1)) (row (c - 1)))
@@ -113,7 +130,8 @@ part_by above above_left above_right left size last c =
 unfoldable pub part_from : (ℕ → Part) → (ℕ → Size) → Bool → ℕ → Part
 part_from above wanted last zero = single_part
 part_from above wanted last (suc c) =
-    part_by (above (suc c)) (above c) (above (suc (suc c))) (part_from above wanted last c) (wanted (suc c)) last (suc c)
+    part_by (above (suc c)) (above c) (above (suc (suc c))) (part_from above wanted last c) (wanted (suc c)) last
+    (suc c)
 
 -- the one row that is tiled beneath these parts
 unfoldable pub tiled_row : List Part → (ℕ → Size) → Bool → List Part

@@ -1,17 +1,19 @@
 -- Valid states (own): every valid command keeps them valid.
-use Rattle.std.specs.Prelude.{ℕ, ◌≡◌, ◌≤◌, ◌<◌, ◌⊎◌, IfSome, false, List}
+use Rattle.std.specs.Prelude.{ℕ, ◌≡◌, ◌≤◌, ◌<◌, ◌⊎◌, IfSome, false, List, length}
 use Rattle.std.specs.List.{AllByRecursion}
 use Rattle.cept_codes.specs.declared.cell.What.TheVariants as whats
 use Rattle.cept_codes.specs.declared.command.Command.{Command}
 use Rattle.cept_codes.specs.declared.look.Look.{Look}
-use Rattle.cept_codes.specs.Attribute.{IsValidPen}
+use Rattle.cept_codes.specs.Attribute.{IsEntry, IsRowPen, IsScreenPen, IsValidPen, unset_pen}
 use Rattle.cept_codes.specs.Cell.{IsValidCell, blank_cell}
 use Rattle.cept_codes.specs.Command.{IsArea, IsValidCommand}
 use Rattle.cept_codes.specs.Glyph.{IsValidGlyph}
 use Rattle.cept_codes.specs.Look.{IsValidLook, blank_look}
 use Rattle.cept_codes.specs.Place.{OnScreen}
+use Rattle.cept_codes.specs.Stroke.{IsPaintOf}
 use Rattle.cept_codes.specs.Table.{IsTable, value_at}
 use Rattle.cept_profile.specs.Control.{Working, ControlState}
+use Rattle.cept_profile.specs.PageParts.{dclut_in, paint_in, row_pen_in}
 use Rattle.cept_profile.specs.Sets.{Sets}
 use Rattle.cept_profile.specs.State.{Core, Page, State}
 
@@ -44,8 +46,15 @@ pub record IsValidControl (s : ControlState) : Type 0 where
   pub area : IfSome s.area (λ a. IsArea a.0 a.1)
   pub kept : IfSome s.kept IsValidWorking
 
--- 24 rows of 40 valid cells, the blank ones unprotected
+-- 24 rows of 40 valid cells, the blank ones unprotected, and valid attributes of rows and screen, paints and DCLUT
 pub record IsValidPage (p : Page) : Type 0 where
+  pub rows : length p.row_pens ≡ 24
+  pub row_pens : (r : ℕ) → 1 ≤ r → r ≤ 24 → IsRowPen (row_pen_in p.row_pens r)
+  pub screen_pen : IsScreenPen p.screen_pen
+  pub colours : length p.paints ≡ 32
+  pub paints : (i : ℕ) → i < 32 → IsPaintOf i (paint_in p.paints i)
+  pub names : length p.dclut ≡ 4
+  pub dclut : (i : ℕ) → i < 4 → IsEntry (dclut_in p.dclut i)
   pub table : IsTable p.cells
   pub cells : (r c : ℕ) → OnScreen r c → IsValidCell (value_at blank_cell p.cells r c)
   pub free : (r c : ℕ) → OnScreen r c → (value_at blank_cell p.cells r c).what ≡ whats.Blank
@@ -56,6 +65,7 @@ pub record IsValidState (s : State) : Type 0 where
   pub page : IsValidPage s.page
   pub control : IsValidControl s.control
   pub past : (r c : ℕ) → OnScreen r c → s.control.rows < r → value_at blank_cell s.page.cells r c ≡ blank_cell
+  pub unset : (r : ℕ) → 1 ≤ r → r ≤ 24 → s.control.rows < r → row_pen_in s.page.row_pens r ≡ unset_pen
 
 -- a valid page, and nothing past the format
 pub record IsValidCore (k : Core) : Type 0 where
@@ -63,6 +73,7 @@ pub record IsValidCore (k : Core) : Type 0 where
   pub rows : (k.rows ≡ 24) ⊎ (k.rows ≡ 20)
   pub area : IfSome k.area (λ a. IsArea a.0 a.1)
   pub past : (r c : ℕ) → OnScreen r c → k.rows < r → value_at blank_cell k.page.cells r c ≡ blank_cell
+  pub unset : (r : ℕ) → 1 ≤ r → r ≤ 24 → k.rows < r → row_pen_in k.page.row_pens r ≡ unset_pen
 
 -- a grid of 24 rows of 40 valid looks
 pub record IsValidGrid (g : List (List Look)) : Type 0 where

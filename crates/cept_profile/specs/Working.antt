@@ -77,6 +77,10 @@ working_with_sets sets w = record w { sets = sets }
 abbrev pub with_c1 : C1Set → Working → Working
 with_c1 set w = record w { c1 = set }
 
+-- the state with another colour table
+abbrev pub with_table : ℕ → Working → Working
+with_table k w = record w { table = k }
+
 -- the mosaic run is over
 abbrev pub working_without_run : Working → Working
 working_without_run w = record w { run = false; step = 1 }

@@ -19,7 +19,7 @@ mod validity;
 pub use accents::{accents_wait, single_shifts_wait};
 pub use codes_of_sets::codes_give_signs_or_accents;
 pub use control_settings::{closed_services_are_left_out, settings_look_back};
-pub use first_grid::{clearing_blanks_the_page, the_first_grid};
+pub use first_grid::{clearing_blanks_the_cells, the_first_grid};
 pub use looks_in_rows::{looks_hang_on_cells_to_the_left, the_page_and_the_rows_are_seen};
 pub use motions::motions_go_round_the_places;
 pub use one_more::{looking_back_is_drawing, one_more_command, one_more_command_by_parts};
@@ -29,7 +29,7 @@ pub use reach::{rows_out_of_reach_stay, untouched_rows_stay};
 pub use repeated_signs::copies_are_written_in_turn;
 pub use rows_from_above::{
     looks_come_from_above_or_the_left, rows_of_single_size_cover_nothing,
-    rows_stay_under_what_covers_them,
+    rows_stay_under_what_covers_them, the_parts_of_a_core_are_the_tiled_ones,
 };
 pub use serial_rows::{
     cells_to_the_right_count_for_nothing, one_more_cell, serial_attributes_are_valid,

@@ -6,7 +6,7 @@
 mod law;
 
 pub use law::{
-    accents_wait, cells_to_the_right_count_for_nothing, clearing_blanks_the_page,
+    accents_wait, cells_to_the_right_count_for_nothing, clearing_blanks_the_cells,
     closed_services_are_left_out, codes_give_signs_or_accents, copies_are_written_in_turn,
     each_command_is_shown, exactly_one_row_is_tiled, exactly_one_table_is_tiled,
     looking_back_is_drawing, looks_are_valid, looks_come_from_above_or_the_left,
@@ -15,5 +15,6 @@ pub use law::{
     parts_are_valid, protection, rows_of_single_size_cover_nothing, rows_out_of_reach_stay,
     rows_stay_under_what_covers_them, serial_attributes_are_valid, settings_look_back,
     single_shifts_wait, strokes_are_valid, the_first_grid, the_nearest_marker_is_in_force,
-    the_page_and_the_rows_are_seen, untouched_rows_stay, validity_is_kept, without_markers,
+    the_page_and_the_rows_are_seen, the_parts_of_a_core_are_the_tiled_ones, untouched_rows_stay,
+    validity_is_kept, without_markers,
 };

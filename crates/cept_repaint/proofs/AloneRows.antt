@@ -13,43 +13,48 @@ use Rattle.cept_codes.specs.Place.{Place, OnScreen}
 use Rattle.cept_codes.specs.Same.{same_look}
 use Rattle.cept_codes.specs.Table.{value_at}
 use Rattle.cept_codes.proofs.Laws.{IsTable-table, look_decides, value_at-table}
-use Rattle.cept_profile.specs.Cells.{is_at, cell_after, cells_after_all}
-use Rattle.cept_profile.specs.Look.{contents_of_row, look, look_of, looks_of, own_size, part_of, sets_size}
+use Rattle.cept_profile.specs.Cells.{is_at, cell_after, cells_after}
+use Rattle.cept_profile.specs.Look.{contents_of_row, is_double_set, look, look_of, looks_of, own_size}
+use Rattle.cept_profile.specs.Look.{part_of}
+use Rattle.cept_profile.specs.PageParts.{paint_in, row_pen_in}
 use Rattle.cept_profile.specs.Reach.{becomes_last, is_row_touched, one_touches}
 use Rattle.cept_profile.specs.RowsFromAbove.{covering_differs, look_seen, looks_in}
 use Rattle.cept_profile.specs.State.{Page, page_after}
 use Rattle.cept_profile.specs.Tiling.{covers_below}
-use Rattle.cept_repaint.specs.Kept.{OthersStay, core_on}
-use Rattle.cept_repaint.specs.MarkedRows.{HasNone, StandsAlone}
+use Rattle.cept_profile.specs.Valid.{IsValidPage}
+use Rattle.cept_repaint.specs.Kept.{OthersStay, core_on, look_alone}
+use Rattle.cept_repaint.specs.MarkedRows.{IsSingleRow, StandsAlone}
+use Rattle.cept_repaint.proofs.PageParts.{page_after-put}
 use Rattle.cept_repaint.proofs.RowsOfLooks.{covering_differs-below, covering_differs-first, is_other_above-none}
 use Rattle.cept_repaint.proofs.RowsOfLooks.{is_other_covering-same, look_seen-at}
 use Rattle.cept_profile.proofs.Laws.{covers_nothing, covers_nothing-first, look-single, look-untouched}
 use Rattle.cept_profile.proofs.Laws.{look_in_row-unmarked, size_in_row-single}
 
--- in a row in which no double size is set each cell is to be shown in single size
-own_size-single : (p : Page) (rows r : ℕ) → 1 ≤ r → r ≤ 24 → HasNone sets_size p.cells r → (c : ℕ) → 1 ≤ c → c ≤ 40
+-- in a row in which no double size is set each cell is to be shown in single size, where the screen sets none
+own_size-single : (p : Page) (rows r : ℕ) → IsValidPage p → 1 ≤ r → r ≤ 24 → IsSingleRow p r → (c : ℕ) → 1 ≤ c → c ≤ 40
     → own_size (core_on p rows) r c ≡ sizes.Normal
-own_size-single p rows r top bottom none c low high =
-    size_in_row-single (contents_of_row (core_on p rows) r) c low (λ d from to.
+own_size-single p rows r valid top bottom single c low high =
+    size_in_row-single (contents_of_row (core_on p rows) r) (row_pen_in p.row_pens r) p.screen_pen c low (λ d from to.
     let on : OnScreen r d =
     record { from_top = top; to_bottom = bottom; from_left = from; to_right = omega arith } in
-    none d on)
+    single.cells d on) single.pen (ap is_double_set valid.screen_pen.size)
 
 -- and nothing in it covers the row below; nothing covers the first row
-covers_nothing-in : (p : Page) (rows r : ℕ) → r ≤ 24 → HasNone sets_size p.cells r → (c : ℕ)
+covers_nothing-in : (p : Page) (rows r : ℕ) → IsValidPage p → r ≤ 24 → (1 ≤ r → IsSingleRow p r) → (c : ℕ)
     → covers_below (part_of (look_seen (looks_of (core_on p rows)) r c)) ≡ false
-covers_nothing-in p rows zero bottom none c = covers_nothing-first (core_on p rows) c
-covers_nothing-in p rows (suc r) bottom none c =
+covers_nothing-in p rows zero valid bottom single c = covers_nothing-first (core_on p rows) c
+covers_nothing-in p rows (suc r) valid bottom single c =
     covers_nothing (core_on p rows) (suc r) (omega arith) bottom
-    (own_size-single p rows (suc r) (omega arith) bottom none) c
+    (own_size-single p rows (suc r) valid (omega arith) bottom (single (omega arith))) c
 
 -- each cell of a row that stands alone looks as it does by itself
-pub look-alone : (p : Page) (rows r c : ℕ) → OnScreen r c → StandsAlone p.cells r
-    → look (core_on p rows) r c ≡ look_of (value_at blank_cell p.cells r c).what
-look-alone p rows r c on alone =
-    look-single (core_on p rows) r c on (own_size-single p rows r on.from_top on.to_bottom alone.single)
-    (covers_nothing-in p rows (r - 1) (omega (arith, on)) alone.single_above)
-    ∙ look_in_row-unmarked (contents_of_row (core_on p rows) r) c on.from_left (λ d low high.
+pub look-alone : (p : Page) (rows r c : ℕ) → IsValidPage p → OnScreen r c → StandsAlone p r
+    → look (core_on p rows) r c ≡ look_alone p (record { row = r; column = c })
+look-alone p rows r c valid on alone =
+    look-single (core_on p rows) r c on (own_size-single p rows r valid on.from_top on.to_bottom alone.single)
+    (covers_nothing-in p rows (r - 1) valid (omega (arith, on)) (λ low. alone.single_above (omega arith)))
+    ∙ look_in_row-unmarked (paint_in p.paints) (contents_of_row (core_on p rows) r) (row_pen_in p.row_pens r)
+    p.screen_pen c on.from_left (λ d low high.
     let there : OnScreen r d =
     record { from_top = on.from_top; to_bottom = on.to_bottom; from_left = low; to_right = omega (arith, on, high) } in
     alone.unmarked d there)
@@ -58,8 +63,7 @@ look-alone p rows r c on alone =
 
 -- a cell that is put changes no other cell
 cell_elsewhere : (p : Page) (place : Place) (cell : Cell) (r c : ℕ) → OnScreen r c → is_at place r c ≡ false
-    → value_at blank_cell (page_after p (strokes.Put place cell ∷ [])).cells r c ≡ value_at blank_cell p.cells r c
-unfolding cells_after_all
+    → value_at blank_cell (cells_after p.cells (strokes.Put place cell)) r c ≡ value_at blank_cell p.cells r c
 cell_elsewhere p place cell r c on other =
     let was : Cell = value_at blank_cell p.cells r c in
     value_at-table (cell_after (strokes.Put place cell) (value_at blank_cell p.cells)) blank_cell r c on
@@ -83,8 +87,10 @@ pub record IsPutAlone (p q : Page) (place : Place) : Type 0 where
   pub cell : Cell
   pub put : q ≡ page_after p (strokes.Put place cell ∷ [])
   pub row : (1 ≤ place.row) × (place.row ≤ 24)
-  pub before : StandsAlone p.cells place.row
-  pub after : StandsAlone q.cells place.row
+  pub was_valid : IsValidPage p
+  pub valid : IsValidPage q
+  pub before : StandsAlone p place.row
+  pub after : StandsAlone q place.row
 
 -- all other places down to row n look as before
 abbrev OthersStayTo : Page → Page → ℕ → Place → ℕ → Type 0
@@ -104,12 +110,13 @@ covering_stays p q rows place put (suc n) below stay =
     covering_differs-below g h r
     ∙ is_other_above-none (looks_in g r) (looks_in h r) (λ c low high. elim (cases_eq place.row r) [
       | inl here ↦
-          let was = subst (λ k. HasNone sets_size p.cells k) here put.before.single in
-          let is = subst (λ k. HasNone sets_size q.cells k) here put.after.single in
+          let was = subst (λ k. IsSingleRow p k) here put.before.single in
+          let is = subst (λ k. IsSingleRow q k) here put.after.single in
           and_left (covers_below (part_of (look_seen g r c)) || covers_below (part_of (look_seen h r c)))
           (not (same_look (look_seen g r c) (look_seen h r c)))
           (or_from (covers_below (part_of (look_seen g r c))) (covers_below (part_of (look_seen h r c)))
-          (covers_nothing-in p rows r (omega arith) was c) (covers_nothing-in q rows r (omega arith) is c))
+          (covers_nothing-in p rows r put.was_valid (omega arith) (λ low. was) c)
+          (covers_nothing-in q rows r put.valid (omega arith) (λ low. is) c))
       | inr apart ↦
           let on : OnScreen r c =
           record { from_top = omega arith; to_bottom = omega arith; from_left = low; to_right = high } in
@@ -135,22 +142,26 @@ others_stay_to p q rows place put (suc n) r c on within other =
       | inl above ↦ others_stay_to p q rows place put n r c on (omega arith) other
       | inr last ↦ elim (cases_eq place.row r) [
         | inl here ↦
-            let was = subst (λ k. StandsAlone p.cells k) here put.before in
-            let is = subst (λ k. StandsAlone q.cells k) here put.after in
-            look-alone q rows r c on is
-            ∙ ap (λ (x : Cell). look_of x.what) (ap (λ (x : Page). value_at blank_cell x.cells r c) put.put
-            ∙ cell_elsewhere p place put.cell r c on other)
-            ∙ sym (look-alone p rows r c on was)
+            let was = subst (λ k. StandsAlone p k) here put.before in
+            let is = subst (λ k. StandsAlone q k) here put.after in
+            look-alone q rows r c put.valid on is
+            ∙ ap (λ (x : Page). look_alone x (record { row = r; column = c }))
+            (put.put ∙ page_after-put p put.was_valid place put.cell)
+            ∙ ap (λ (x : Cell). look_of (paint_in p.paints) (row_pen_in p.row_pens r) p.screen_pen x.what)
+            (cell_elsewhere p place put.cell r c on other)
+            ∙ sym (look-alone p rows r c put.was_valid on was)
         | inr apart ↦
             let row : n + 1 ≡ r = omega arith in
-            look-untouched (core_on p rows) (core_on q rows) (strokes.Put place put.cell ∷ []) r c on put.put
+            look-untouched (core_on p rows) (core_on q rows) (strokes.Put place put.cell ∷ []) r c on
+            put.was_valid.colours put.put
             (untouched place put.cell rows r apart)
             (ap (covering_differs (looks_of (core_on p rows)) (looks_of (core_on q rows))) (sym row)
             ∙ covering_stays p q rows place put n (omega (arith, on)) (others_stay_to p q rows place put n))
       ]
     ]
 
-pub OthersStay-put : (p q : Page) (rows : ℕ) (kept : List (List Look)) (place : Place) → kept ≡ looks_of (core_on p rows)
+pub OthersStay-put : (p q : Page) (rows : ℕ) (kept : List (List Look)) (place : Place)
+    → kept ≡ looks_of (core_on p rows)
     → IsPutAlone p q place → OthersStay kept (core_on q rows) place
 OthersStay-put p q rows kept place e put r c on other =
     ap (λ (t : List (List Look)). value_at blank_look t r c) e

@@ -5,6 +5,7 @@ pub mod MarkedDifferences
 pub mod MarkedRows
 pub mod MarkedWithin
 pub mod OnePlace
+pub mod PageParts
 pub mod PaintedInOrder
 pub mod Refreshed
 pub mod RowsOfLooks

@@ -2,8 +2,9 @@
 use Rattle.std.proofs.Common.{◌≡◌, ◌≢◌, ℕ, ◌+◌, ◌-◌, ◌<◌, ◌≤◌, suc, Bool, true, false, cond, List, [], ◌∷◌, ◌++◌, set}
 use Rattle.std.proofs.Common.{get_or, take, drop, length, refl, sym, ap, ◌∙◌, inl, inr, arith}
 use Rattle.std.specs.List.{count_by}
-use Rattle.std.proofs.lemmas.Bool.{cases_lt}
-use Rattle.std.proofs.lemmas.List.{ext_get_or, length-append, length-take, length-drop, get_or-set_other}
+use Rattle.std.proofs.lemmas.Bool.{cases_eq, cases_lt}
+use Rattle.std.proofs.lemmas.List.{ext_get_or, length-append, length-set, length-take, length-drop}
+use Rattle.std.proofs.lemmas.List.{get_or-set_other, get_or-set_same}
 use Rattle.std.proofs.lemmas.List.{get_or_append_left, get_or-take, get_or-drop}
 use Rattle.std.proofs.lemmas.List.Sums.{sum_by-cons, sum_by-take-drop}
 use Rattle.std.proofs.Math.Seq.{get_or-append_right}
@@ -49,6 +50,20 @@ pub unmarked_is : (flags : List Bool) → length flags ≡ 960
 unmarked_is flags places none =
     ext_get_or false flags no_marks (places ∙ sym length-no_marks)
     (λ n below. none n (omega (arith, places)) ∙ sym (is_marked-no_marks n))
+
+-- the only place of the range unset
+pub cleared_one : {flags : List Bool} {first end : ℕ} → AreWithin flags first end → length flags ≡ 960
+    → first + 1 ≡ end → set flags first false ≡ no_marks
+cleared_one {flags} {first} {end} w places one =
+    unmarked_is (set flags first false) (length-set flags first false ∙ places) (λ n below.
+    elim (cases_eq n first) [
+      | inl here ↦
+          ap (is_marked (set flags first false)) here
+          ∙ get_or-set_same flags first false false (omega (arith, places, w.places))
+      | inr apart ↦
+          get_or-set_other flags first n false false apart
+          ∙ elim (cases_lt n first) [ inl up ↦ w.before n up | inr not_up ↦ w.after n (omega arith) ]
+    ])
 
 -- the range unset
 pub cleared : {flags : List Bool} {first end : ℕ} → AreWithin flags first end → length flags ≡ 960 → (mid : List Bool)

@@ -22,9 +22,15 @@ use Rattle.cept_profile.specs.Reach.{in_reach, is_row_touched, one_touches, rows
 use Rattle.cept_profile.specs.State.{State, core_of, state_after}
 use Rattle.cept_profile.specs.Strokes.{strokes_of}
 use Rattle.cept_repaint.specs.Kept.{is_reached, reached_rows}
+use Rattle.cept_repaint.proofs.Refreshed.{or_true}
 use Rattle.cept_profile.proofs.Laws.{in_reach-by, rows_in_reach-counted}
 
 -- ---- rows touched
+
+-- where all rows are flagged each is, whether it was or not
+pub all_flagged : (rows : List Bool) (r : ℕ) → 1 ≤ r → r ≤ 24
+    → entry false 1 (replicate 24 true) r ≡ (entry false 1 rows r || true)
+all_flagged rows r low high = get_or-replicate 24 (r - 1) true false (omega arith) ∙ or_true (entry false 1 rows r)
 
 -- the flags of the rows that the first n strokes touch
 pub record TouchedSoFar (xs : List Stroke) (rows : List Bool) (n : ℕ) : Type 0 where

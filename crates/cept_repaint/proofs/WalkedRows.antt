@@ -44,7 +44,8 @@ pub reached_by : (xs : List Stroke) (before after row : ℕ) (touched last cover
     → touched ≡ one_touches xs row → last ≡ becomes_last before after row → ((touched || last) || covered) ≡ reached
     → (is_row_touched xs before after row || covered) ≡ reached
 reached_by xs before after row touched last covered reached et el e =
-    ap (λ b. (b || becomes_last before after row) || covered) (sym et) ∙ ap (λ b. (touched || b) || covered) (sym el) ∙ e
+    ap (λ b. (b || becomes_last before after row) || covered) (sym et)
+    ∙ ap (λ b. (touched || b) || covered) (sym el) ∙ e
 
 -- a row that isn't reached
 pub WalkedTo-kept : {xs : List Stroke} {before : ℕ} {k : Core} {was now : List (List Look)} {former marks : List Bool}
@@ -152,11 +153,12 @@ WalkedTo-cost {xs} {before} {k} {was} {now} {former} {marks} {covered} {start} {
 
 -- rows that the strokes don't reach stay, where they were drawn
 pub UnreachedStay-drawn : (p q : Page) (xs : List Stroke) (before after : ℕ) (was : List (List Look))
-    → was ≡ looks_of (core_on p before) → q ≡ page_after p xs → UnreachedStay xs before was (core_on q after)
-UnreachedStay-drawn p q xs before after was e drawn r c on none =
+    → length p.paints ≡ 32 → was ≡ looks_of (core_on p before) → q ≡ page_after p xs
+    → UnreachedStay xs before was (core_on q after)
+UnreachedStay-drawn p q xs before after was long e drawn r c on none =
     let k : Core = core_on p before in
     let m : Core = core_on q after in
     let parts = or_parts (is_row_touched xs before after r) (covering_differs was (looks_of m) r) none in
     ap (λ (t : List (List Look)). value_at blank_look t r c) e ∙ value_at-table (look k) blank_look r c on
-    ∙ sym (look-untouched k m xs r c on drawn parts.0
+    ∙ sym (look-untouched k m xs r c on long drawn parts.0
     (ap (λ (g : List (List Look)). covering_differs g (looks_of m) r) (sym e) ∙ parts.1))

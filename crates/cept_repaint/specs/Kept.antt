@@ -6,14 +6,14 @@ use Rattle.cept_codes.specs.declared.cell.Cell.{Cell}
 use Rattle.cept_codes.specs.declared.cell.What.{What}
 use Rattle.cept_codes.specs.declared.look.Look.{Look}
 use Rattle.cept_codes.specs.declared.stroke.Stroke.{Stroke}
-use Rattle.cept_codes.specs.Attribute.{unset_pen}
 use Rattle.cept_codes.specs.Cell.{blank_cell}
 use Rattle.cept_codes.specs.Look.{blank_look}
 use Rattle.cept_codes.specs.Place.{Place, OnScreen, number}
 use Rattle.cept_codes.specs.Same.{same_look}
 use Rattle.cept_codes.specs.Table.{value_at, IsTable}
 use Rattle.cept_profile.specs.Cells.{is_at}
-use Rattle.cept_profile.specs.Look.{look, look_in_row, looks_of, size_in_row}
+use Rattle.cept_profile.specs.Look.{look, look_in_row, look_of, looks_of, size_in_row}
+use Rattle.cept_profile.specs.PageParts.{paint_in, row_pen_in}
 use Rattle.cept_profile.specs.Reach.{is_row_touched}
 use Rattle.cept_profile.specs.RowsFromAbove.{covering_differs, is_other_covering, row_from_above}
 use Rattle.cept_profile.specs.State.{Core, Page, State, core_of}
@@ -36,8 +36,14 @@ contents_in p r c = (value_at blank_cell p.cells r c).what
 -- the looks of row r of a page beneath these looks
 abbrev pub row_beneath : List Look → Page → ℕ → Bool → List Look
 row_beneath above p r last =
-    row_from_above above (look_in_row (contents_in p r) unset_pen unset_pen)
-    (size_in_row (contents_in p r) unset_pen unset_pen) last
+    row_from_above above
+    (look_in_row (paint_in p.paints) (contents_in p r) (row_pen_in p.row_pens r) p.screen_pen)
+    (size_in_row (contents_in p r) (row_pen_in p.row_pens r) p.screen_pen) last
+
+-- how what stands in a cell of a page looks by itself
+abbrev pub look_alone : Page → Place → Look
+look_alone p place =
+    look_of (paint_in p.paints) (row_pen_in p.row_pens place.row) p.screen_pen (cell_at p place).what
 
 -- strokes reach row r, where the page had so many rows before and has so many after, and these were and are its looks
 abbrev pub is_reached : List Stroke → ℕ → ℕ → List (List Look) → List (List Look) → ℕ → Bool

@@ -1,5 +1,7 @@
+pub mod Drawn
 pub mod GlassState
 pub mod GridGlass
+pub mod Inside
 pub mod Kept
 pub mod MarkedRows
 pub mod Marks

@@ -1,6 +1,8 @@
 -- Rows in which no marker stands and no double size is set (this project's own): there each cell looks as it does by
 -- itself, where the row above covers nothing either. Private clauses alone cite this file.
-use Rattle.std.specs.Prelude.{ℕ, ◌≡◌, ◌≤◌, ◌-◌, ◌==◌, ◌&&◌, ◌||◌, Bool, false, List, length}
+use Rattle.std.specs.Prelude.{ℕ, ◌≡◌, ◌≤◌, ◌<◌, ◌-◌, ◌==◌, ◌&&◌, ◌||◌, Bool, false, List, length}
+use Rattle.cept_codes.specs.declared.attribute.Attr.{Attr}
+use Rattle.cept_codes.specs.declared.attribute.Attr.TheVariants as attrs
 use Rattle.cept_codes.specs.declared.cell.Cell.{Cell}
 use Rattle.cept_codes.specs.declared.cell.What.{What}
 use Rattle.cept_codes.specs.declared.stroke.Stroke.{Stroke}
@@ -8,26 +10,60 @@ use Rattle.cept_codes.specs.declared.stroke.Stroke.TheVariants as strokes
 use Rattle.cept_codes.specs.Cell.{blank_cell}
 use Rattle.cept_codes.specs.Place.{OnScreen}
 use Rattle.cept_codes.specs.Table.{value_at, entry}
-use Rattle.cept_profile.specs.Look.{sets_size}
+use Rattle.cept_profile.specs.Look.{is_double, is_double_set, sets_size}
+use Rattle.cept_profile.specs.PageParts.{row_pen_in}
 use Rattle.cept_profile.specs.Serial.{is_marker}
+use Rattle.cept_profile.specs.State.{Page}
 
 -- nothing such stands in a cell of row r
 abbrev pub HasNone : (What → Bool) → List (List Cell) → ℕ → Type 0
 HasNone is_such cells r = (c : ℕ) → OnScreen r c → is_such (value_at blank_cell cells r c).what ≡ false
 
--- no marker stands in row r, and neither in it nor in the row above is a double size set
-pub record StandsAlone (cells : List (List Cell)) (r : ℕ) : Type 0 where
-  pub unmarked : HasNone is_marker cells r
-  pub single : HasNone sets_size cells r
-  pub single_above : HasNone sets_size cells (r - 1)
+-- neither what stands in row r nor its attributes set a double size
+pub record IsSingleRow (p : Page) (r : ℕ) : Type 0 where
+  pub cells : HasNone sets_size p.cells r
+  pub pen : is_double_set (row_pen_in p.row_pens r).size ≡ false
 
--- a flag for each row, set where something such may stand: in a row whose flag is unset nothing such does
-pub record AreRowFlags (is_such : What → Bool) (cells : List (List Cell)) (flags : List Bool) : Type 0 where
+-- no marker stands in row r, and neither in it nor in the row above is a double size set
+pub record StandsAlone (p : Page) (r : ℕ) : Type 0 where
+  pub unmarked : HasNone is_marker p.cells r
+  pub single : IsSingleRow p r
+  pub single_above : 1 < r → IsSingleRow p (r - 1)
+
+-- a flag for each row, set where this may not be so of it: where the flag is unset it is so
+pub record AreRowFlags (IsSo : ℕ → Type 0) (flags : List Bool) : Type 0 where
   pub rows : length flags ≡ 24
-  pub none : (r : ℕ) → 1 ≤ r → r ≤ 24 → entry false 1 flags r ≡ false → HasNone is_such cells r
+  pub none : (r : ℕ) → 1 ≤ r → r ≤ 24 → entry false 1 flags r ≡ false → IsSo r
+
+-- no flag of row r is set, and the flag of sizes of the row above isn't
+pub record IsUnflagged (marked sized : List Bool) (r : ℕ) : Type 0 where
+  pub unmarked : entry false 1 marked r ≡ false
+  pub single : entry false 1 sized r ≡ false
+  pub single_above : 1 < r → entry false 1 sized (r - 1) ≡ false
+
+-- a page whose lists have their lengths, and beside it flags of the rows that may have a marker and of those in which a
+-- double size may be set
+pub record IsKeptPage (p : Page) (marked sized : List Bool) : Type 0 where
+  pub rows : length p.row_pens ≡ 24
+  pub colours : length p.paints ≡ 32
+  pub names : length p.dclut ≡ 4
+  pub markers : AreRowFlags (HasNone is_marker p.cells) marked
+  pub sizes : AreRowFlags (IsSingleRow p) sized
 
 -- the flag of row r after a stroke, by the flag before it: something such that is put sets its own, a wipe unsets each
 abbrev pub flag_after : (What → Bool) → Stroke → Bool → ℕ → Bool
 flag_after is_such (strokes.Put p cell) was r = was || (p.row == r && is_such cell.what)
 flag_after is_such strokes.Wipe was r = false
 flag_after is_such _ was r = was
+
+-- an attribute of a double size
+abbrev pub gives_size : Attr → Bool
+gives_size (attrs.Size size) = is_double size
+gives_size _ = false
+
+-- the flag of sizes: an attribute of its row sets it too
+abbrev pub size_flag_after : Stroke → Bool → ℕ → Bool
+size_flag_after (strokes.Put p cell) was r = was || (p.row == r && sets_size cell.what)
+size_flag_after (strokes.RowAttr row attr) was r = was || (row == r && gives_size attr)
+size_flag_after strokes.Wipe was r = false
+size_flag_after _ was r = was

@@ -1,15 +1,18 @@
 ghost use Rattle.std.specs.Prelude.{◌≡◌, ◌+◌, ◌-◌, ◌≤◌, length, slice_set, IfOk};
+ghost use Rattle.cept_codes.specs.Attribute.{IsValidPen};
 ghost use Rattle.cept_codes.specs.Cell.{IsValidWhat};
 ghost use Rattle.cept_codes.specs.Look.{IsValidLook, blank_look};
 ghost use Rattle.cept_codes.specs.Place.{OnScreen};
 ghost use Rattle.cept_codes.specs.Table.{table, IsTable};
 ghost use Rattle.cept_profile.specs.Changes.{look_at, grid_with_paint};
 ghost use Rattle.cept_profile.specs.Look.{look_of};
+ghost use Rattle.cept_profile.specs.PageParts.{paint_in};
 ghost use Rattle.cept_profile.specs.RowsFromAbove.{looks_in};
 ghost use Rattle.cept_profile.specs.Tiling.{column_entry};
 ghost use Rattle.cept_repaint.specs.Kept.{looks_differ};
 
-use cept_codes::{Look, NoMemory, Pos, What};
+use cept_codes::{Look, NoMemory, Pen, Pos, What};
+use cept_colours::Colours;
 use cept_outside::Steps;
 use cept_rows::RowLooks;
 use std::alloc::Global;
@@ -95,14 +98,22 @@ impl KeptRows {
         &mut self,
         place: Pos,
         what: &What,
+        row: &Pen,
+        screen: &Pen,
+        colours: &Colours,
         steps: &mut Steps<L>,
     ) -> bool
-        requires { IsValidWhat what.now }
-        ensures looks { self.new ≡ grid_with_paint self.old place (look_of what.now) }
-        ensures differs { result ≡ looks_differ (look_at self.old place) (look_of what.now) }
+        requires valid { IsValidWhat what.now }
+        requires row { IsValidPen row.now }
+        requires screen { IsValidPen screen.now }
+        ensures looks { self.new ≡ grid_with_paint self.old place
+            (look_of (paint_in colours.now.paints) row.now screen.now what.now) }
+        ensures differs { result ≡ looks_differ (look_at self.old place)
+            (look_of (paint_in colours.now.paints) row.now screen.now what.now) }
         ensures on_screen { OnScreen place.row place.column }
         ensures tick { steps.new ≡ steps.old + 1 }
     {
-        self.rows[usize::from(place.row()) - 1].resolve_alone(place.col(), what, steps)
+        let kept = &mut self.rows[usize::from(place.row()) - 1];
+        kept.resolve_alone(place.col(), what, row, screen, colours, steps)
     }
 }

@@ -7,9 +7,11 @@ mod grid_glass;
 mod kept_rows;
 mod marks;
 mod page;
+mod page_parts;
 mod painting;
 mod reach;
 mod redraw;
+mod row_flags;
 mod screen;
 mod tape_glass;
 #[cfg(test)]

@@ -76,7 +76,7 @@ impl Marks {
     pub(crate) fn clear(&mut self)
         ensures { self.new ≡ no_marks }
     {
-        unmark(&mut self.flags[self.first..self.end]);
+        unmark_within(&mut self.flags, self.first, self.end);
         self.first = 0;
         self.end = 0;
     }
@@ -105,14 +105,24 @@ fn count_set(flags: &[bool]) -> u16
     flags.iter().filter(|marked| **marked).count() as u16
 }
 
-/// Unsets these flags; most often there is one.
+/// Unsets the flags from `first` on and below `end`, where no others are set. After most commands
+/// there is one at most, which costs no call.
+fn unmark_within(flags: &mut [bool; 960], first: usize, end: usize)
+    requires within { AreWithin flags.old first end }
+    requires places { length flags.old ≡ 960 }
+    ensures { flags.new ≡ no_marks }
+{
+    if first + 1 == end {
+        flags[first] = false;
+    } else {
+        unmark(&mut flags[first..end]);
+    }
+}
+
+/// Unsets these flags.
 fn unmark(flags: &mut [bool])
     ensures { (n : ℕ) → is_marked flags.new n ≡ false }
 {
-    if flags.len() == 1 {
-        flags[0] = false;
-        return;
-    }
     for flag in flags.iter_mut() {
         *flag = false;
     }

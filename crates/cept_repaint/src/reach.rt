@@ -5,22 +5,32 @@ ghost use Rattle.cept_codes.specs.Table.{list_by_index, entry};
 ghost use Rattle.cept_profile.specs.Look.{is_last_row};
 ghost use Rattle.cept_profile.specs.Reach.{becomes_last, one_touches, touches};
 
-use cept_codes::{Pos, Stroke};
+use cept_codes::{Cell, Pos, Stroke};
 
-/// The place of the cell that is put, where that is the only stroke.
-pub(crate) fn only_place(strokes: &[Stroke]) -> Option<Pos>
-    ensures { IfSome result (λ place. (cell : Cell) × (strokes.now ≡ Stroke.Put place cell ∷ [])) }
+/// A cell that is put at a place, where it stands.
+#[derive(Clone, Copy)]
+pub(crate) struct PutCell<'a> {
+    pub(crate) place: Pos,
+    pub(crate) cell: &'a Cell,
+}
+
+/// The cell that is put, where that is the only stroke.
+pub(crate) fn only_put(strokes: &[Stroke]) -> Option<PutCell>
+    ensures { IfSome result (λ put. strokes.now ≡ Stroke.Put put.place put.cell.now ∷ []) }
 {
     if strokes.len() != 1 {
         return None;
     }
     match &strokes[0] {
-        Stroke::Put(place, _cell) => Some(*place),
+        Stroke::Put(place, cell) => Some(PutCell {
+            place: *place,
+            cell,
+        }),
         _ => None,
     }
 }
 
-/// For each row from the top, whether one of the strokes touches its cells.
+/// For each row from the top, whether one of the strokes touches what it is made of.
 pub(crate) fn rows_touched(strokes: &[Stroke]) -> [bool; 24]
     ensures { result ≡ list_by_index 1 24 (one_touches strokes.now) }
 {
@@ -31,7 +41,8 @@ pub(crate) fn rows_touched(strokes: &[Stroke]) -> [bool; 24]
     rows
 }
 
-/// Flags the rows whose cells a stroke touches.
+/// Flags the rows that a stroke touches.
+#[tactic(auto, using(crate::proofs::RowsTouched::all_flagged))]
 fn flag_touched(stroke: &Stroke, rows: &mut [bool; 24])
     requires flags { length rows.old ≡ 24 }
     ensures flags { length rows.new ≡ 24 }
@@ -40,23 +51,19 @@ fn flag_touched(stroke: &Stroke, rows: &mut [bool; 24])
 {
     match stroke {
         Stroke::Put(place, _) => rows[usize::from(place.row()) - 1] = true,
-        Stroke::Erase(row, _) => {
+        Stroke::Erase(row, _) | Stroke::RowAttr(row, _) => {
             if 1 <= *row && *row <= 24 {
                 rows[usize::from(*row) - 1] = true;
             }
         }
-        Stroke::Wipe => *rows = [true; 24],
-        // Not built yet: no effect.
-        Stroke::Shift(_, _, _)
-        | Stroke::RowAttr(_, _)
+        Stroke::Wipe
         | Stroke::ScreenAttr(_)
         | Stroke::ScreenClear
         | Stroke::Colour(_, _)
         | Stroke::Dclut(_, _)
-        | Stroke::ColourDefaults
-        | Stroke::DrcsClear
-        | Stroke::Drcs(_, _)
-        | Stroke::Format(_) => {}
+        | Stroke::ColourDefaults => *rows = [true; 24],
+        // Not built yet: no effect.
+        Stroke::Shift(_, _, _) | Stroke::DrcsClear | Stroke::Drcs(_, _) | Stroke::Format(_) => {}
     }
 }
 

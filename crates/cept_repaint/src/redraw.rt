@@ -1,18 +1,34 @@
-ghost use Rattle.std.specs.Prelude.{◌≡◌, ◌≤◌, ◌+◌, ◌-◌, ◌*◌, ◌||◌, ℕ, false, [], ◌∷◌, length, Some, IfSome};
-ghost use Rattle.std.specs.List.{list_any, range_with_len};
+ghost use Rattle.std.specs.Prelude.{
+  ◌≡◌,
+  ◌≤◌,
+  ◌+◌,
+  ◌-◌,
+  ◌*◌,
+  ◌||◌,
+  ℕ,
+  false,
+  [],
+  ◌∷◌,
+  length,
+  Some,
+  IfSome,
+};
+ghost use Rattle.std.specs.List.{AllByRecursion, list_any, range_with_len};
 ghost use Rattle.cept_codes.specs.declared.cell.Cell.{Cell};
 ghost use Rattle.cept_codes.specs.Look.{blank_look};
 ghost use Rattle.cept_codes.specs.Place.{OnScreen};
+ghost use Rattle.cept_codes.specs.Stroke.{IsValidStroke};
 ghost use Rattle.cept_codes.specs.Table.{value_at, entry};
 ghost use Rattle.cept_profile.specs.Cells.{is_at};
-ghost use Rattle.cept_profile.specs.Changes.{differences};
+ghost use Rattle.cept_profile.specs.Changes.{differences, grid_with_paint, look_at};
 ghost use Rattle.cept_profile.specs.Look.{look, looks_of};
 ghost use Rattle.cept_profile.specs.Reach.{becomes_last, is_row_touched};
 ghost use Rattle.cept_profile.specs.RowsFromAbove.{covering_differs, is_other_covering, looks_in};
 ghost use Rattle.cept_profile.specs.State.{page_after};
 ghost use Rattle.cept_profile.specs.Tiling.{column_entry};
 ghost use Rattle.cept_profile.specs.Valid.{IsValidPage};
-ghost use Rattle.cept_repaint.specs.Kept.{core_on, is_other_above, reached_rows, row_beneath};
+ghost use Rattle.cept_repaint.specs.Kept.{core_on, is_other_above, look_alone, looks_differ};
+ghost use Rattle.cept_repaint.specs.Kept.{reached_rows, row_beneath};
 ghost use Rattle.cept_repaint.specs.Kept.{HasMarkedRow, IsRefreshedRow, OthersStay, UnreachedStay};
 ghost use Rattle.cept_repaint.specs.MarkedRows.{StandsAlone};
 ghost use Rattle.cept_repaint.specs.Marks.{no_marks};
@@ -20,7 +36,7 @@ ghost use Rattle.cept_repaint.specs.Marks.{no_marks};
 use crate::kept_rows::KeptRows;
 use crate::marks::Marks;
 use crate::page::Page;
-use crate::reach::{becomes_last, is_last_row, only_place, rows_touched};
+use crate::reach::{becomes_last, is_last_row, only_put, rows_touched};
 use cept_codes::{Pos, Stroke};
 use cept_outside::Steps;
 use cept_rows::RowLooks;
@@ -39,6 +55,8 @@ pub(crate) fn redraw<L: Ledger>(
     steps: &mut Steps<L>,
 )
     requires kept { kept.old ≡ looks_of (core_on page.old before) }
+    requires was_valid { IsValidPage page.old }
+    requires strokes { AllByRecursion IsValidStroke strokes.now }
     requires valid { IsValidPage (page_after page.old strokes.now) }
     ensures page { page.new ≡ page_after page.old strokes.now }
     ensures kept { kept.new ≡ looks_of (core_on page.new after) }
@@ -55,24 +73,18 @@ pub(crate) fn redraw<L: Ledger>(
     if strokes.is_empty() {
         return;
     }
-    let place = lone_place(page, only_place(strokes));
-    page.draw_all(strokes);
-    match lone_place(page, place) {
-        Some(place) => refresh_place(page, place, kept, marks, steps),
-        None => refresh_rows(page, strokes, before, after, kept, marks, steps),
-    }
-}
-
-/// The place, where each cell of its row looks as it does by itself.
-fn lone_place(page: &Page, place: Option<Pos>) -> Option<Pos>
-    ensures same { IfSome result (λ p. place ≡ Some p) }
-    ensures alone { IfSome result (λ p. StandsAlone page.now.cells p.row) }
-{
-    let place = place?;
-    if page.stands_alone(place.row()) {
-        Some(place)
-    } else {
-        None
+    match only_put(strokes) {
+        Some(put) => {
+            if page.put(put.place, put.cell) {
+                refresh_place(page, put.place, kept, marks, steps);
+            } else {
+                refresh_rows(page, strokes, before, after, kept, marks, steps);
+            }
+        }
+        None => {
+            page.draw_all(strokes);
+            refresh_rows(page, strokes, before, after, kept, marks, steps);
+        }
     }
 }
 
@@ -86,7 +98,7 @@ fn refresh_place<L: Ledger>(
 )
     requires none { marks.old ≡ no_marks }
     requires valid { IsValidPage page.now }
-    requires alone { StandsAlone page.now.cells place.row }
+    requires alone { StandsAlone page.now place.row }
     ensures kept { (rows : ℕ) → OthersStay kept.old (core_on page.now rows) place
         → kept.new ≡ looks_of (core_on page.now rows) }
     ensures marks { marks.new ≡ differences kept.old kept.new }
@@ -95,9 +107,28 @@ fn refresh_place<L: Ledger>(
 {
     kept.tell_whole();
     marks.tell_places();
-    if kept.resolve_alone(place, page.what(place), steps) {
+    if resolve_alone(page, place, kept, steps) {
         marks.mark(place);
     }
+}
+
+/// Resolves one cell by itself, and keeps its look. Answers whether it differs from the one before.
+/// One tick.
+fn resolve_alone<L: Ledger>(
+    page: &Page,
+    place: Pos,
+    kept: &mut KeptRows,
+    steps: &mut Steps<L>,
+) -> bool
+    requires { IsValidPage page.now }
+    ensures looks { kept.new ≡ grid_with_paint kept.old place (look_alone page.now place) }
+    ensures differs { result ≡ looks_differ (look_at kept.old place) (look_alone page.now place) }
+    ensures on_screen { OnScreen place.row place.column }
+    ensures tick { steps.new ≡ steps.old + 1 }
+{
+    let what = page.what(place);
+    let row = page.row_pen(place.row());
+    kept.resolve_alone(place, what, row, page.screen_pen(), page.colours(), steps)
 }
 
 /// Resolves the rows that the strokes reach, from the top, where all others have the looks that are

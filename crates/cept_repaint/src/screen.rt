@@ -1,11 +1,14 @@
-ghost use Rattle.std.specs.Prelude.{◌≡◌, ◌≤◌, ◌+◌, List, [], ◌∷◌, ◌++◌, IfOk};
+ghost use Rattle.std.specs.Prelude.{◌≡◌, ◌≤◌, ◌<◌, ◌+◌, List, [], ◌∷◌, ◌++◌, IfOk};
 ghost use Rattle.cept_codes.specs.declared.command.Command.{Command};
+ghost use Rattle.cept_codes.specs.Attribute.{IsEntry, IsRowPen, IsScreenPen};
 ghost use Rattle.cept_codes.specs.Cell.{IsValidCell};
 ghost use Rattle.cept_codes.specs.Command.{IsValidCommand};
 ghost use Rattle.cept_codes.specs.Look.{IsValidLook};
+ghost use Rattle.cept_codes.specs.Stroke.{IsPaintOf};
 ghost use Rattle.cept_profile.specs.Changes.{look_at, differences, changes_between};
 ghost use Rattle.cept_profile.specs.Changes.{grid_with_paints};
 ghost use Rattle.cept_profile.specs.Look.{looks_of};
+ghost use Rattle.cept_profile.specs.PageParts.{dclut_in, paint_in, row_pen_in};
 ghost use Rattle.cept_profile.specs.Reach.{rows_in_reach};
 ghost use Rattle.cept_profile.specs.RowsFromAbove.{looks_in};
 ghost use Rattle.cept_profile.specs.State.{state, state_after, core_of};
@@ -20,7 +23,7 @@ use crate::page::Page;
 use crate::painting::paint_marked;
 use crate::redraw::redraw;
 use arrayvec::ArrayVec;
-use cept_codes::{Cell, Command, Look, NoMemory, Pos, Stroke};
+use cept_codes::{Cell, Command, Look, NoMemory, Paint, Pen, Pos, Stroke};
 use cept_control::Control;
 use cept_outside::Steps;
 use cept_rows::RowLooks;
@@ -137,6 +140,42 @@ impl Screen {
         ensures valid { IsValidCell result }
     {
         self.page.cell(at)
+    }
+
+    /// The attributes of a row.
+    pub fn row_pen(&self, row: u8) -> Pen
+        requires from_top { 1 ≤ row }
+        requires to_bottom { row ≤ 24 }
+        ensures pen { result ≡ row_pen_in self.now.page.row_pens row }
+        ensures valid { IsRowPen result }
+    {
+        *self.page.row_pen(row)
+    }
+
+    /// The attributes of the screen.
+    pub fn screen_pen(&self) -> Pen
+        ensures pen { result ≡ self.now.page.screen_pen }
+        ensures valid { IsScreenPen result }
+    {
+        *self.page.screen_pen()
+    }
+
+    /// The paint of a colour entry, 0 to 31.
+    pub fn colour(&self, i: u8) -> Paint
+        requires { i < 32 }
+        ensures paint { result ≡ paint_in self.now.page.paints i }
+        ensures valid { IsPaintOf i result }
+    {
+        self.page.colours().paint(i)
+    }
+
+    /// The colour entry that an entry of the DCLUT, 0 to 3, names.
+    pub fn dclut(&self, i: u8) -> u8
+        requires { i < 4 }
+        ensures entry { result ≡ dclut_in self.now.page.dclut i }
+        ensures valid { IsEntry result }
+    {
+        self.page.colours().dclut(i)
     }
 
     /// How many rows the page has, 24 or 20.

@@ -6,6 +6,7 @@ use Rattle.std.proofs.lemmas.Bool.{cases_lt, cond_both}
 use Rattle.std.proofs.lemmas.Bool.Decides.{same_from_decides}
 use Rattle.std.proofs.lemmas.List.{get_or-replicate, length-map}
 use Rattle.std.proofs.Math.ListN.{get_or-map}
+use Rattle.cept_codes.specs.declared.attribute.Pen.{Pen}
 use Rattle.cept_codes.specs.declared.cell.What.{What}
 use Rattle.cept_codes.specs.declared.cell.What.TheVariants as whats
 use Rattle.cept_codes.specs.declared.glyph.Glyph.{Glyph}
@@ -14,7 +15,7 @@ use Rattle.cept_codes.specs.declared.look.Paint.{Paint}
 use Rattle.cept_codes.specs.declared.look.Paint.TheVariants as paints
 use Rattle.cept_codes.specs.declared.look.Shape.TheVariants as shapes
 use Rattle.cept_codes.specs.Cell.{IsValidWhat}
-use Rattle.cept_codes.specs.Look.{IsValidLook, blank_look}
+use Rattle.cept_codes.specs.Look.{IsValidLook, IsValidPaint, blank_look}
 use Rattle.cept_codes.specs.Same.{same_look}
 use Rattle.cept_codes.proofs.Laws.{look_decides}
 use Rattle.cept_profile.specs.Look.{look_of, shape_in, shape_of, shape_of_sign}
@@ -73,14 +74,18 @@ HasNoPattern-shape_in (whats.Serial g) held = HasNoPattern-sign g
 HasNoPattern-shape_in (whats.Parallel g pen) held = HasNoPattern-sign g
 
 -- its look
-pub HasNoPattern-look_of : (what : What) → HasNoPattern (look_of what).shape
+pub HasNoPattern-look_of : (paint_of : ℕ → Paint) (row screen : Pen) (what : What)
+    → HasNoPattern (look_of paint_of row screen what).shape
 unfolding look_of
-HasNoPattern-look_of what = HasNoPattern-shape_of what
+HasNoPattern-look_of paint_of row screen what = HasNoPattern-shape_of what
 
 -- the small look of a cell
-pub small_of_cell : (s : SmallLook) (what : What) → s ≡ small_of (look_of what) → IsValidWhat what → IsSmallLook s
-small_of_cell s what e valid =
-    small_is s (look_of what) e (IsValidLook-look_of what valid) (HasNoPattern-look_of what)
+pub small_of_cell : (s : SmallLook) (paint_of : ℕ → Paint) (row screen : Pen) (what : What)
+    → s ≡ small_of (look_of paint_of row screen what) → ((i : ℕ) → IsValidPaint (paint_of i)) → IsValidWhat what
+    → IsSmallLook s
+small_of_cell s paint_of row screen what e paints valid =
+    small_is s (look_of paint_of row screen what) e (IsValidLook-look_of paint_of row screen what paints valid)
+    (HasNoPattern-look_of paint_of row screen what)
 
 -- ---- a row of them
 

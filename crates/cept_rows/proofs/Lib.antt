@@ -2,4 +2,4 @@ pub mod Columns
 pub mod KeptLooks
 pub mod RowsAlone
 pub mod RowsByPart
-pub mod EntriesOver
+pub mod RowsOfCores

@@ -11,6 +11,7 @@ use Rattle.cept_codes.specs.declared.cell.Marker.TheVariants as markers
 use Rattle.cept_codes.specs.declared.cell.What.{What}
 use Rattle.cept_codes.specs.declared.cell.What.TheVariants as whats
 use Rattle.cept_codes.specs.declared.look.Look.{Look}
+use Rattle.cept_codes.specs.declared.look.Paint.{Paint}
 use Rattle.cept_codes.specs.Attribute.{unset_pen}
 use Rattle.cept_codes.specs.Look.{blank_look}
 use Rattle.cept_codes.specs.Table.{row_of}
@@ -44,15 +45,15 @@ shape_alone (whats.Serial g) held plain = refl
 shape_alone (whats.Parallel g pen) held plain = refl
 
 -- the look of a cell of such a row
-pub look_alone : (row : ℕ → What) (pen screen : Pen) (c : ℕ) → 1 ≤ c → c ≤ 40
+pub look_alone : (paint_of : ℕ → Paint) (row : ℕ → What) (pen screen : Pen) (c : ℕ) → 1 ≤ c → c ≤ 40
     → ((d : ℕ) → 1 ≤ d → d ≤ 40 → is_marker (row d) ≡ false)
-    → look_with (shape_of (row c)) (own_attributes_of (row c) pen screen (cascade unset_pen pen screen))
-    ≡ look_in_row row pen screen c
+    → look_with paint_of (shape_of (row c)) (own_attributes_of (row c) pen screen (cascade unset_pen pen screen))
+    ≡ look_in_row paint_of row pen screen c
 unfolding look_in_row
-look_alone row pen screen c low high plain =
-    ap (λ s. look_with s (own_attributes_of (row c) pen screen (cascade unset_pen pen screen)))
+look_alone paint_of row pen screen c low high plain =
+    ap (λ s. look_with paint_of s (own_attributes_of (row c) pen screen (cascade unset_pen pen screen)))
     (sym (shape_alone (row c) (held_sign row c) (plain c low high)))
-    ∙ ap (λ f. look_with (shape_in (row c) (held_sign row c)) (own_attributes_of (row c) pen screen f))
+    ∙ ap (λ f. look_with paint_of (shape_in (row c) (held_sign row c)) (own_attributes_of (row c) pen screen f))
     (sym (attributes_alone row pen screen c low high plain))
 
 -- ---- sizes
@@ -159,9 +160,10 @@ look_by-alone a al ar l own size last c above left normal single =
     single
 
 -- what stands in a cell is of single size by itself
-single_look : (row : ℕ → What) (pen screen : Pen) (c : ℕ) → part_of (look_in_row row pen screen c) ≡ single_part
+single_look : (paint_of : ℕ → Paint) (row : ℕ → What) (pen screen : Pen) (c : ℕ) → part_of
+    (look_in_row paint_of row pen screen c) ≡ single_part
 unfolding look_in_row
-single_look row pen screen c = refl
+single_look paint_of row pen screen c = refl
 
 -- one column more
 look_from-suc : (above own : ℕ → Look) (wanted : ℕ → Size) (last : Bool) (c : ℕ)
@@ -192,19 +194,21 @@ look_from-alone above own wanted last uncovered single normal (suc c) high =
     (normal (suc (suc c)) (omega arith) (omega arith)) (single (suc (suc c)))
 
 -- the whole row
-pub row_alone : (above : List Look) (row : ℕ → What) (pen screen : Pen) (last : Bool)
+pub row_alone : (paint_of : ℕ → Paint) (above : List Look) (row : ℕ → What) (pen screen : Pen) (last : Bool)
     → ((c : ℕ) → covers_below (part_of (column_entry blank_look above c)) ≡ false)
     → ((d : ℕ) → 1 ≤ d → d ≤ 40 → sets_size (row d) ≡ false) → (cascade unset_pen pen screen).size ≡ sizes.Normal
-    → row_of (look_in_row row pen screen)
-    ≡ row_from_above above (look_in_row row pen screen) (size_in_row row pen screen) last
+    → row_of (look_in_row paint_of row pen screen)
+    ≡ row_from_above above (look_in_row paint_of row pen screen) (size_in_row row pen screen) last
 unfolding row_from_above
-row_alone above row pen screen last uncovered plain e =
-    same_rows (look_in_row row pen screen)
-    (look_from (column_entry blank_look above) (look_in_row row pen screen) (size_in_row row pen screen) last)
+row_alone paint_of above row pen screen last uncovered plain e =
+    same_rows (look_in_row paint_of row pen screen)
+    (look_from (column_entry blank_look above) (look_in_row paint_of row pen screen) (size_in_row row pen screen) last)
     (λ c low high.
     let back : suc (c - 1) ≡ c = omega arith in
-    subst (λ d. look_in_row row pen screen d
-    ≡ look_from (column_entry blank_look above) (look_in_row row pen screen) (size_in_row row pen screen) last d) back
-    (sym (look_from-alone (column_entry blank_look above) (look_in_row row pen screen) (size_in_row row pen screen) last
-    uncovered (single_look row pen screen) (λ d from to. size_alone row pen screen d from to plain e) (c - 1)
+    subst (λ d. look_in_row paint_of row pen screen d
+    ≡ look_from (column_entry blank_look above) (look_in_row paint_of row pen screen)
+    (size_in_row row pen screen) last d) back
+    (sym (look_from-alone (column_entry blank_look above) (look_in_row paint_of row pen screen)
+    (size_in_row row pen screen) last
+    uncovered (single_look paint_of row pen screen) (λ d from to. size_alone row pen screen d from to plain e) (c - 1)
     (omega arith))))

@@ -2,7 +2,7 @@
 -- looks above, and each look is that of the place above, of the one to the left, or of what stands there itself.
 use Rattle.std.proofs.Common.{◌≡◌, ℕ, ◌+◌, ◌-◌, ◌≤◌, ◌<◌, ◌&&◌, ltb, Bool, true, false, not, cond, Option, List, zero}
 use Rattle.std.proofs.Common.{suc, length, get_or}
-use Rattle.std.proofs.Common.{refl, sym, ap, ◌∙◌, arith, rules}
+use Rattle.std.proofs.Common.{refl, sym, ap, ◌∙◌, arith, rules, subst}
 use Rattle.std.proofs.lemmas.Bool.{cond_both}
 use Rattle.cept_codes.specs.declared.attribute.Pen.{Pen}
 use Rattle.cept_codes.specs.declared.attribute.Size.{Size}
@@ -12,17 +12,19 @@ use Rattle.cept_codes.specs.declared.cell.Cell.{Cell}
 use Rattle.cept_codes.specs.declared.cell.What.{What}
 use Rattle.cept_codes.specs.declared.glyph.Glyph.{Glyph}
 use Rattle.cept_codes.specs.declared.look.Look.{Look}
+use Rattle.cept_codes.specs.declared.look.Paint.{Paint}
 use Rattle.cept_codes.specs.declared.look.Part.{Part}
+use Rattle.cept_codes.specs.Attribute.{IsValidFull, IsValidPen}
 use Rattle.cept_codes.specs.Cell.{IsValidWhat, blank_cell}
 use Rattle.cept_codes.specs.Table.{row_of}
-use Rattle.cept_codes.specs.Look.{IsValidPart, blank_look}
+use Rattle.cept_codes.specs.Look.{IsValidPaint, IsValidPart, blank_look}
 use Rattle.cept_profile.specs.Look.{look_in_row, look_with, look_with_part, part_of, shape_in, size_in_row}
 use Rattle.cept_profile.specs.RowsFromAbove.{look_by, look_from}
 use Rattle.cept_profile.specs.Serial.{held_sign, own_attributes, own_attributes_of, row_in, serial_attributes}
 use Rattle.cept_profile.specs.Tiling.{covers_below, is_covered_from_left, is_high, is_wide, origin_part, part_below}
 use Rattle.cept_profile.specs.Tiling.{part_by, part_from}
 use Rattle.cept_profile.specs.Tiling.{column_entry, part_to_the_right, single_part, tiled_row}
-use Rattle.cept_profile.proofs.Laws.{IsValidLook-look_in_row}
+use Rattle.cept_profile.proofs.Laws.{IsValidLook-look_in_row, serial_attributes-valid}
 use Rattle.cept_rows.specs.RowsByCell.{look_by_part}
 use Rattle.cept_rows.specs.SmallLooks.{IsKeepable}
 use Rattle.cept_rows.proofs.Columns.{column_entry-past, column_entry-row_of, column_entry-row_of_all, get_or-row_of}
@@ -207,20 +209,20 @@ pub record IsTiledBeneath (above : List Look) (cells : List Cell) (row screen : 
   pub parts : parts_made ≡ tiled_row above_it (column_entry sizes.Normal sizes_wanted) last
 
 -- the look of what stands in a cell, by the attributes and the held signs that were found
-pub own_look_made : (cells : List Cell) (row screen : Pen) (fulls : List Full) (helds : List (Option Glyph)) (c : ℕ)
-    (df : Full)
-    (dh : Option Glyph) → 1 ≤ c → c ≤ 40
+pub own_look_made : (paint_of : ℕ → Paint) (cells : List Cell) (row screen : Pen) (fulls : List Full)
+    (helds : List (Option Glyph)) (c : ℕ) (df : Full) (dh : Option Glyph) → 1 ≤ c → c ≤ 40
     → ((c : ℕ) (d : Full) → 1 ≤ c → c ≤ 40 → get_or fulls (c - 1) d ≡ serial_attributes (row_in cells) row screen c)
     → ((c : ℕ) (d : Option Glyph) → 1 ≤ c → c ≤ 40 → get_or helds (c - 1) d ≡ held_sign (row_in cells) c)
-    → look_with (shape_in (row_in cells c) (get_or helds (c - 1) dh))
+    → look_with paint_of (shape_in (row_in cells c) (get_or helds (c - 1) dh))
     (own_attributes_of (row_in cells c) row screen (get_or fulls (c - 1) df))
-    ≡ look_in_row (row_in cells) row screen c
+    ≡ look_in_row paint_of (row_in cells) row screen c
 unfolding look_in_row
-own_look_made cells row screen fulls helds c df dh low high ef eh =
-    ap (λ o. look_with (shape_in (row_in cells c) o) (own_attributes_of (row_in cells c) row screen (get_or fulls
+own_look_made paint_of cells row screen fulls helds c df dh low high ef eh =
+    ap (λ o. look_with paint_of (shape_in (row_in cells c) o) (own_attributes_of (row_in cells c) row screen
+    (get_or fulls
     (c - 1) df)))
     (eh c dh low high)
-    ∙ ap (λ f. look_with (shape_in (row_in cells c) (held_sign (row_in cells) c)) (own_attributes_of
+    ∙ ap (λ f. look_with paint_of (shape_in (row_in cells c) (held_sign (row_in cells) c)) (own_attributes_of
     (row_in cells c) row screen f))
     (ef c df low high)
 
@@ -236,17 +238,17 @@ part_made parts_above wanted parts last c d low high e =
     high
 
 -- the look of a place by the part that was tiled there
-pub look_made : (above : List Look) (cells : List Cell) (row screen : Pen) (last : Bool) (parts_above : List Part)
-    (wanted : List Size) (parts : List Part) (c : ℕ) (d : Part)
+pub look_made : (paint_of : ℕ → Paint) (above : List Look) (cells : List Cell) (row screen : Pen) (last : Bool)
+    (parts_above : List Part) (wanted : List Size) (parts : List Part) (c : ℕ) (d : Part)
     → IsTiledBeneath above cells row screen last parts_above wanted parts → 1 ≤ c → c ≤ 40
     → look_by_part (get_or parts (c - 1) d) (column_entry blank_look above c)
-    (look_from (column_entry blank_look above) (look_in_row (row_in cells) row screen) (size_in_row
+    (look_from (column_entry blank_look above) (look_in_row paint_of (row_in cells) row screen) (size_in_row
     (row_in cells) row screen)
-    last (c - 1)) (look_in_row (row_in cells) row screen c)
-    ≡ look_from (column_entry blank_look above) (look_in_row (row_in cells) row screen)
+    last (c - 1)) (look_in_row paint_of (row_in cells) row screen c)
+    ≡ look_from (column_entry blank_look above) (look_in_row paint_of (row_in cells) row screen)
     (size_in_row (row_in cells) row screen) last c
-look_made above cells row screen last parts_above wanted parts c d tiled low high =
-    let own : ℕ → Look = look_in_row (row_in cells) row screen in
+look_made paint_of above cells row screen last parts_above wanted parts c d tiled low high =
+    let own : ℕ → Look = look_in_row paint_of (row_in cells) row screen in
     let size : ℕ → Size = size_in_row (row_in cells) row screen in
     let there : ℕ → Look = column_entry blank_look above in
     ap (λ p. look_by_part p (there c) (look_from there own size last (c - 1)) (own c))
@@ -259,10 +261,20 @@ look_made above cells row screen last parts_above wanted parts c d tiled low hig
     ∙ column_entry-row_of sizes.Normal size b from to) c low high
 
 -- a row of valid cells
-pub IsKeepable-look_in_row : (row : ℕ → What) (pen screen : Pen) (c : ℕ) → 1 ≤ c → c ≤ 40
-    → ((d : ℕ) → 1 ≤ d → d ≤ 40 → IsValidWhat (row d)) → IsKeepable (look_in_row row pen screen c)
+pub IsKeepable-look_in_row : (paint_of : ℕ → Paint) (row : ℕ → What) (pen screen : Pen) (c : ℕ) → 1 ≤ c → c ≤ 40
+    → ((i : ℕ) → IsValidPaint (paint_of i)) → ((d : ℕ) → 1 ≤ d → d ≤ 40 → IsValidWhat (row d))
+    → IsKeepable (look_in_row paint_of row pen screen c)
 unfolding look_in_row
-IsKeepable-look_in_row row pen screen c low high valid = record {
-  valid = IsValidLook-look_in_row row pen screen c low (λ d from to. valid d from (omega arith));
+IsKeepable-look_in_row paint_of row pen screen c low high paints valid = record {
+  valid = IsValidLook-look_in_row paint_of row pen screen c low paints (λ d from to. valid d from (omega arith));
   plain = HasNoPattern-shape_in (row c) (held_sign row c);
 }
+
+-- the attributes that were found in force in a cell are valid
+pub IsValidFull-found : (cells : List Cell) (fulls : List Full) (row screen : Pen) (c : ℕ) (d : Full) → 1 ≤ c → c ≤ 40
+    → ((c : ℕ) (d : Full) → 1 ≤ c → c ≤ 40 → get_or fulls (c - 1) d ≡ serial_attributes (row_in cells) row screen c)
+    → ((c : ℕ) → 1 ≤ c → c ≤ 40 → IsValidWhat (row_in cells c)) → IsValidPen row → IsValidPen screen
+    → IsValidFull (get_or fulls (c - 1) d)
+IsValidFull-found cells fulls row screen c d low high found valid is_row is_screen =
+    subst IsValidFull (sym (found c d low high))
+    (serial_attributes-valid (row_in cells) row screen c low is_row is_screen (λ e from to. valid e from (omega arith)))

@@ -2,10 +2,13 @@ ghost use Rattle.std.specs.Prelude.{◌≡◌};
 ghost use Rattle.cept_codes.specs.declared.look.Look.{Look};
 ghost use Rattle.cept_codes.specs.declared.look.Shape.{Shape};
 ghost use Rattle.cept_codes.specs.declared.look.Shape.TheVariants.{Space};
-ghost use Rattle.cept_codes.specs.Attribute.{unset_pen};
+ghost use Rattle.cept_codes.specs.Attribute.{IsValidFull, IsValidPen, unset_pen};
+ghost use Rattle.cept_codes.specs.Cell.{IsValidWhat};
 ghost use Rattle.cept_profile.specs.Attributes.{cascade};
-ghost use Rattle.cept_profile.specs.Look.{look_of, look_with, sets_size, shape_in, shape_of};
+ghost use Rattle.cept_profile.specs.Look.{attributes_of, look_of, look_with, sets_size};
+ghost use Rattle.cept_profile.specs.Look.{shape_in, shape_of};
 ghost use Rattle.cept_profile.specs.Look.{shape_of_sign};
+ghost use Rattle.cept_profile.specs.PageParts.{paint_in};
 ghost use Rattle.cept_profile.specs.Serial.{own_attributes_of};
 ghost use Rattle.cept_rows.specs.SmallLooks.{sign_of, small_of};
 ghost use Rattle.cept_rows.specs.RowsByCell.{look_by_part};
@@ -14,21 +17,69 @@ use crate::colours::{back_of, fore_of};
 use crate::small_look::{Kind, Sign, SmallLook, Style};
 use cept_attrs::cascade;
 use cept_codes::{Full, Glyph, Marker, Part, Pen, Size, What};
+use cept_colours::Colours;
 
-/// The look of what stands in a cell by itself, on a screen on which no attribute is set.
-#[tactic(auto, unfolding(cept_profile::specs::Look::look_of, cept_profile::specs::Colours::default_paints))]
-#[inline(always)]
-pub(crate) fn small_alone(what: &What) -> SmallLook
-    ensures { result ≡ small_of (look_of what.now) }
+/// The look of what stands in a cell by itself, in a row without markers.
+#[tactic(auto, unfolding(cept_profile::specs::Look::look_of))]
+// A call of its own: the look is then compared at once where it stands, and not field by field.
+#[inline(never)]
+pub(crate) fn small_alone(what: &What, row: &Pen, screen: &Pen, colours: &Colours) -> SmallLook
+    requires valid { IsValidWhat what.now }
+    requires row { IsValidPen row.now }
+    requires screen { IsValidPen screen.now }
+    ensures { result
+        ≡ small_of (look_of (paint_in colours.now.paints) row.now screen.now what.now) }
 {
-    small_among(what, &SmallLook::BLANK, &Pen::UNSET, &Pen::UNSET)
+    small_with(
+        sign_alone(what),
+        &attributes_alone(what, row, screen),
+        colours,
+    )
+}
+
+/// The attributes of what stands in a cell, in a row without markers.
+#[inline(always)]
+fn attributes_alone(what: &What, row: &Pen, screen: &Pen) -> Full
+    requires valid { IsValidWhat what.now }
+    requires row { IsValidPen row.now }
+    requires screen { IsValidPen screen.now }
+    ensures attributes { result ≡ attributes_of row.now screen.now what.now }
+    ensures valid { IsValidFull result }
+{
+    match what {
+        What::Parallel(_, pen) => cascade(pen, row, screen),
+        What::Blank | What::Serial(_) | What::Marker(_) => cascade(&Pen::UNSET, row, screen),
+    }
+}
+
+/// The sign of what stands in a cell by itself.
+#[inline(always)]
+fn sign_alone(what: &What) -> Sign
+    ensures { result ≡ sign_of (shape_of what.now) }
+{
+    match what {
+        What::Blank | What::Marker(_) => Sign::NOTHING,
+        What::Serial(glyph) | What::Parallel(glyph, _) => sign_of_glyph(glyph),
+    }
 }
 
 /// The look of what stands in a cell of a row without markers, in which a blank cell looks so.
 #[inline(always)]
-pub(crate) fn small_among(what: &What, blank: &SmallLook, row: &Pen, screen: &Pen) -> SmallLook
-    requires { blank.now ≡ small_of (look_with Space (cascade unset_pen row.now screen.now)) }
-    ensures { result ≡ small_of (look_with (shape_of what.now)
+pub(crate) fn small_among(
+    what: &What,
+    blank: &SmallLook,
+    row: &Pen,
+    screen: &Pen,
+    colours: &Colours,
+) -> SmallLook
+    requires valid { IsValidWhat what.now }
+    requires row { IsValidPen row.now }
+    requires screen { IsValidPen screen.now }
+    requires blank { blank.now
+        ≡ small_of (look_with (paint_in colours.now.paints) Space
+        (cascade unset_pen row.now screen.now)) }
+    ensures { result
+        ≡ small_of (look_with (paint_in colours.now.paints) (shape_of what.now)
         (own_attributes_of what.now row.now screen.now (cascade unset_pen row.now screen.now))) }
 {
     match what {
@@ -37,7 +88,11 @@ pub(crate) fn small_among(what: &What, blank: &SmallLook, row: &Pen, screen: &Pe
             sign: sign_of_glyph(glyph),
             ..*blank
         },
-        What::Parallel(glyph, pen) => small_with(sign_of_glyph(glyph), &cascade(pen, row, screen)),
+        What::Parallel(glyph, pen) => small_with(
+            sign_of_glyph(glyph),
+            &cascade(pen, row, screen),
+            colours,
+        ),
     }
 }
 
@@ -83,21 +138,29 @@ pub(crate) fn small_under(
     held: Option<Glyph>,
     row: &Pen,
     screen: &Pen,
+    colours: &Colours,
 ) -> SmallLook
+    requires valid { IsValidWhat what.now }
+    requires full { IsValidFull full.now }
+    requires row { IsValidPen row.now }
+    requires screen { IsValidPen screen.now }
     ensures { result
-        ≡ small_of (look_with (shape_in what.now held)
+        ≡ small_of (look_with (paint_in colours.now.paints) (shape_in what.now held)
         (own_attributes_of what.now row.now screen.now full.now)) }
 {
     small_with(
         sign_in(what, held),
         &own_attributes(what, full, row, screen),
+        colours,
     )
 }
 
 /// A sign written in parallel has its own attributes, every other cell the serial ones.
 #[inline(always)]
 pub(crate) fn own_attributes(what: &What, full: &Full, row: &Pen, screen: &Pen) -> Full
-    ensures { result ≡ own_attributes_of what.now row.now screen.now full.now }
+    ensures attributes { result ≡ own_attributes_of what.now row.now screen.now full.now }
+    ensures valid { IsValidWhat what.now → IsValidFull full.now → IsValidPen row.now
+        → IsValidPen screen.now → IsValidFull result }
 {
     match what {
         What::Parallel(_, pen) => cascade(pen, row, screen),
@@ -122,14 +185,15 @@ fn sign_in(what: &What, held: Option<Glyph>) -> Sign
 
 /// The look of a sign of single size with its attributes.
 #[inline(always)]
-pub(crate) fn small_with(sign: Sign, full: &Full) -> SmallLook
+pub(crate) fn small_with(sign: Sign, full: &Full, colours: &Colours) -> SmallLook
+    requires { IsValidFull full.now }
     ensures { (shape : Shape) → sign ≡ sign_of shape
-        → result ≡ small_of (look_with shape full.now) }
+        → result ≡ small_of (look_with (paint_in colours.now.paints) shape full.now) }
 {
     SmallLook {
         sign,
-        fore: fore_of(full),
-        back: back_of(full),
+        fore: fore_of(full, colours),
+        back: back_of(full, colours),
         style: Style {
             flash: full.flash,
             conceal: full.conceal,

@@ -1,17 +1,20 @@
 ghost use Rattle.std.specs.Prelude.{◌≡◌, ℕ, ◌+◌, ◌-◌, ◌<◌, ◌≤◌, true, false, not, IfSome, IsNone};
 ghost use Rattle.std.specs.Prelude.{length, slice_index_or, slice_set};
+ghost use Rattle.cept_codes.specs.Attribute.{IsValidPen};
 ghost use Rattle.cept_codes.specs.Cell.{IsValidWhat};
 ghost use Rattle.cept_codes.specs.Look.{IsValidLook, IsValidPart, blank_look};
 ghost use Rattle.cept_codes.specs.Same.{same_look};
 ghost use Rattle.cept_codes.specs.Table.{row_of};
 ghost use Rattle.cept_profile.specs.Look.{look_of, part_of};
+ghost use Rattle.cept_profile.specs.PageParts.{paint_in};
 ghost use Rattle.cept_profile.specs.RowsFromAbove.{blank_looks};
 ghost use Rattle.cept_profile.specs.Tiling.{column_entry, covers_below, single_part};
 ghost use Rattle.cept_rows.specs.SmallLooks.{IsKeepable, IsSmallLook, look_kept};
 
 use crate::cell_look::small_alone;
 use crate::small_look::{SmallLook, look_kept, same, same_in_memory};
-use cept_codes::{Look, What};
+use cept_codes::{Look, Pen, What};
+use cept_colours::Colours;
 use cept_outside::Steps;
 use cept_sizes::Parts;
 use std::marker::Model;
@@ -113,25 +116,34 @@ impl RowLooks {
         self.put(column, from.small(column));
     }
 
-    /// Resolves one cell by itself, in a row without markers on a screen on which no attribute is
-    /// set, and keeps its look. Answers whether it differs from the one before. One tick.
+    /// Resolves one cell by itself, in a row without markers, and keeps its look. Answers whether
+    /// it differs from the one before. One tick.
     pub fn resolve_alone<L: Ledger>(
         &mut self,
         column: u8,
         what: &What,
+        row: &Pen,
+        screen: &Pen,
+        colours: &Colours,
         steps: &mut Steps<L>,
     ) -> bool
         requires from_left { 1 ≤ column }
         requires to_right { column ≤ 40 }
         requires valid { IsValidWhat what.now }
-        ensures looks { self.new ≡ slice_set self.old (column - 1) (look_of what.now) }
+        requires row { IsValidPen row.now }
+        requires screen { IsValidPen screen.now }
+        ensures looks { self.new
+            ≡ slice_set self.old (column - 1)
+            (look_of (paint_in colours.now.paints) row.now screen.now what.now) }
         ensures differs { result
-            ≡ not (same_look (column_entry blank_look self.old column) (look_of what.now)) }
+            ≡ not (same_look (column_entry blank_look self.old column)
+            (look_of (paint_in colours.now.paints) row.now screen.now what.now)) }
         ensures columns { length self.old ≡ 40 }
         ensures tick { steps.new ≡ steps.old + 1 }
     {
         steps.tick();
-        let fresh = small_alone(what);
+        colours.tell_valid();
+        let fresh = small_alone(what, row, screen, colours);
         let differs = !same_in_memory(&self.small(column), &fresh);
         self.put(column, fresh);
         differs

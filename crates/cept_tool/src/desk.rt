@@ -175,6 +175,8 @@ impl Desk {
     }
 
     /// Reports items one after the other.
+    // In place, since it is called for each byte and most often has one item.
+    #[inline(always)]
     pub fn report_items<T: Sink, G: Glass, L: Ledger>(
         &mut self,
         items: &[Item],

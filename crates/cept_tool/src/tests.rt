@@ -132,6 +132,63 @@ fn reports_what_stands_at_the_end(rt: HostRuntime) -> Result<(), Fail> {
 }
 
 #[test]
+fn reports_double_sizes_and_colours(rt: HostRuntime) -> Result<(), Fail> {
+    let pages = [
+        (
+            b"\x1FAh\x8FA".as_slice(),
+            "4 1 40 P41 21.00 FFF 000 S---\n4 2 40 P41 21.10 FFF 000 S---\n",
+        ),
+        (
+            b"\x1FXA\x8FA",
+            "4 24 1 P41 12.00 FFF 000 S---\n4 24 2 P41 12.01 FFF 000 S---\n",
+        ),
+        (
+            b"\x1FAB\x8DA\x1FBA\x8FB",
+            "4 1 2 P41 21.00 FFF 000 S---\n4 2 2 P41 21.10 FFF 000 S---\n\
+             9 2 1 P42 21.00 FFF 000 S---\n9 3 1 P42 21.10 FFF 000 S---\n",
+        ),
+        (
+            b"\x1FAA\x8DA\x1FBA\x8DB\x1FCA\x8DC\x1FDA\x8DD\x1FAAA",
+            "4 1 1 P41 21.00 FFF 000 S---\n4 2 1 P41 21.10 FFF 000 S---\n\
+             14 3 1 P43 21.00 FFF 000 S---\n14 4 1 P43 21.10 FFF 000 S---\n\
+             23 1 1 P41 11.00 FFF 000 S---\n23 2 1 P42 21.00 FFF 000 S---\n\
+             23 3 1 P42 21.10 FFF 000 S---\n23 4 1 P44 21.00 FFF 000 S---\n\
+             23 5 1 P44 21.10 FFF 000 S---\n",
+        ),
+        (
+            b"\x81A\x0D\x0AB\x1F&01RR\x1F&01RR",
+            "1 1 1 P41 11.00 F00 000 S---\n4 2 1 P42 11.00 F00 000 S---\n\
+             9 1 1 P41 11.00 0F0 000 S---\n9 2 1 P42 11.00 0F0 000 S---\n",
+        ),
+    ];
+    for (page, want) in pages {
+        compare(&rt, rt.alloc(), "changes", page, want, Status::Done)?;
+    }
+    Ok(())
+}
+
+/// A background of the screen changes every cell once; the letter keeps it.
+#[test]
+fn repaints_the_screen_behind(rt: HostRuntime) -> Result<(), Fail> {
+    let alloc = rt.alloc();
+    let request = words(alloc, &["changes", "page"])?;
+    let mut shelf = MemShelf::new(alloc);
+    shelf.add("page", b"\x1B# TA")?;
+    let mut sink = MemSink::new(alloc, 40960)?;
+    let mut glass = GridGlass::new(alloc)?;
+    assert_eq!(rt;
+        run(alloc, &request, &mut shelf, &mut sink, &mut glass),
+        Status::Done
+    );
+    let lines = sink.bytes().iter().filter(|byte| **byte == b'\n').count();
+    assert_eq!(rt; lines, 961);
+    assert!(rt; sink.bytes().starts_with(b"0 1 1 - 11.00 FFF 00F S---\n"));
+    let last = b"\n0 24 40 - 11.00 FFF 00F S---\n4 1 1 P41 11.00 FFF 00F S---\n";
+    assert!(rt; sink.bytes().ends_with(last));
+    Ok(())
+}
+
+#[test]
 fn repeats_to_the_end_of_the_second_row(rt: HostRuntime) -> Result<(), Fail> {
     let alloc = rt.alloc();
     let request = words(alloc, &["changes", "page"])?;

@@ -1,29 +1,31 @@
-//! Laws of looks in their row: what a cell is by itself hangs on the cells to its left and on itself.
+//! Laws of looks in their row: what a cell is by itself depends on it and on the cells to its left.
 ghost use Rattle.std.specs.Prelude.{◌≡◌, ℕ, ◌≤◌, false};
 ghost use Rattle.cept_codes.specs.declared.attribute.Pen.{Pen};
 ghost use Rattle.cept_codes.specs.declared.attribute.Size.TheVariants as sizes;
 ghost use Rattle.cept_codes.specs.declared.cell.What.{What};
-ghost use Rattle.cept_codes.specs.Attribute.{unset_pen};
-ghost use Rattle.cept_profile.specs.Look.{look_in_row, look_of, looks_of, sets_size, size_in_row};
+ghost use Rattle.cept_codes.specs.declared.look.Paint.{Paint};
+ghost use Rattle.cept_profile.specs.Look.{is_double_set, look_in_row, look_of, looks_of};
+ghost use Rattle.cept_profile.specs.Look.{sets_size, size_in_row};
 ghost use Rattle.cept_profile.specs.Serial.{is_marker};
 ghost use Rattle.cept_profile.specs.State.{Core};
 
 /// Rows that agree up to a column have the same look and the same size there. In a row without
-/// markers up to a column the cell there looks as it does by itself, and where nothing up to it sets
-/// a size it is of single size.
+/// markers up to a column the cell there looks as it does by itself, and where nothing up to it,
+/// neither the row nor the screen, sets a double size, it is of single size.
 pub fn looks_hang_on_cells_to_the_left()
-    ensures alike { (f g : ℕ → What) (pen screen : Pen) (c : ℕ) → 1 ≤ c
+    ensures alike { (paint_of : ℕ → Paint) (f g : ℕ → What) (pen screen : Pen) (c : ℕ) → 1 ≤ c
         → ((d : ℕ) → 1 ≤ d → d ≤ c → f d ≡ g d)
-        → look_in_row f pen screen c ≡ look_in_row g pen screen c }
+        → look_in_row paint_of f pen screen c ≡ look_in_row paint_of g pen screen c }
     ensures size { (f g : ℕ → What) (pen screen : Pen) (c : ℕ) → 1 ≤ c
         → ((d : ℕ) → 1 ≤ d → d ≤ c → f d ≡ g d)
         → size_in_row f pen screen c ≡ size_in_row g pen screen c }
-    ensures alone { (row : ℕ → What) (c : ℕ) → 1 ≤ c
+    ensures alone { (paint_of : ℕ → Paint) (row : ℕ → What) (pen screen : Pen) (c : ℕ) → 1 ≤ c
         → ((d : ℕ) → 1 ≤ d → d ≤ c → is_marker (row d) ≡ false)
-        → look_in_row row unset_pen unset_pen c ≡ look_of (row c) }
-    ensures single { (row : ℕ → What) (c : ℕ) → 1 ≤ c
+        → look_in_row paint_of row pen screen c ≡ look_of paint_of pen screen (row c) }
+    ensures single { (row : ℕ → What) (pen screen : Pen) (c : ℕ) → 1 ≤ c
         → ((d : ℕ) → 1 ≤ d → d ≤ c → sets_size (row d) ≡ false)
-        → size_in_row row unset_pen unset_pen c ≡ sizes.Normal }
+        → is_double_set pen.size ≡ false → is_double_set screen.size ≡ false
+        → size_in_row row pen screen c ≡ sizes.Normal }
 {}
 
 /// Of a core its page and the number of its rows are seen, and nothing else.

@@ -1,10 +1,12 @@
 //! Laws of the state: one more command needs only the state before it, and looking back shows what
 //! drawing makes.
-ghost use Rattle.std.specs.Prelude.{◌≡◌, List, [], ◌∷◌, ◌++◌};
+ghost use Rattle.std.specs.Prelude.{◌≡◌, List, [], ◌∷◌, ◌++◌, reverse};
 ghost use Rattle.cept_codes.specs.declared.command.Command.{Command};
+ghost use Rattle.cept_codes.specs.declared.stroke.Stroke.{Stroke};
 ghost use Rattle.cept_codes.specs.Command.{IsValidCommand};
 ghost use Rattle.cept_profile.specs.Control.{control, control_after};
-ghost use Rattle.cept_profile.specs.State.{state_after, blank_page, page_after, page, state};
+ghost use Rattle.cept_profile.specs.State.{state_after, blank_page, page_after, page, page_back};
+ghost use Rattle.cept_profile.specs.State.{state};
 ghost use Rattle.cept_profile.specs.Strokes.{strokes_in, strokes_of};
 ghost use Rattle.cept_profile.specs.Valid.{AllValid};
 
@@ -30,7 +32,10 @@ pub fn one_more_command_by_parts()
 {}
 
 /// The page whose cells are asked of the strokes from the last backwards is the blank page with all
-/// strokes drawn in order.
+/// strokes drawn in order: those of a history, and whatever others.
 pub fn looking_back_is_drawing()
-    ensures { (history : List Command) → page history ≡ page_after blank_page (strokes_in history) }
+    ensures history { (history : List Command)
+        → page history ≡ page_after blank_page (strokes_in history) }
+    ensures strokes { (strokes : List Stroke)
+        → page_back (reverse strokes) ≡ page_after blank_page strokes }
 {}

@@ -1,23 +1,38 @@
-//! Laws of rows: the looks of a row are made of its own cells and of the looks of the row above, and
-//! stay where these stay.
+//! Laws of rows: the looks of a row are made of its own cells and of the looks of the row above,
+//! and stay where these stay.
 ghost use Rattle.std.specs.Prelude.{◌≡◌, ℕ, ◌+◌, ◌-◌, ◌≤◌, Bool, false, List, map, IsTrue, IsFalse};
 ghost use Rattle.cept_codes.specs.declared.attribute.Size.{Size};
 ghost use Rattle.cept_codes.specs.declared.attribute.Size.TheVariants as sizes;
 ghost use Rattle.cept_codes.specs.declared.look.Look.{Look};
+ghost use Rattle.cept_codes.specs.declared.look.Part.{Part};
 ghost use Rattle.cept_codes.specs.Place.{OnScreen};
 ghost use Rattle.cept_codes.specs.Table.{IsTable};
 ghost use Rattle.cept_profile.specs.Look.{is_last_row, look, look_with_part, looks_of, own_look};
-ghost use Rattle.cept_profile.specs.Look.{own_size, part_of, parts_of};
+ghost use Rattle.cept_profile.specs.Look.{look_of_origin, own_size, part_of, parts_of};
 ghost use Rattle.cept_profile.specs.RowsFromAbove.{covering, covering_differs, look_by, look_seen};
 ghost use Rattle.cept_profile.specs.RowsFromAbove.{looks_in, row_from_above};
 ghost use Rattle.cept_profile.specs.State.{Core};
-ghost use Rattle.cept_profile.specs.Tiling.{covers_below, is_covered_from_left, part_at, part_below};
-ghost use Rattle.cept_profile.specs.Tiling.{part_to_the_right};
+ghost use Rattle.cept_profile.specs.Tiling.{IsTiled, covers_below, is_covered_from_left, part_at};
+ghost use Rattle.cept_profile.specs.Tiling.{part_below, part_to_the_right};
+
+/// The parts of a core are the one table that is tiled by the sizes of its own cells; each place
+/// shows its part of what stands at its origin, which is on the screen.
+pub fn the_parts_of_a_core_are_the_tiled_ones()
+    ensures tiled { (k : Core) → IsTiled (own_size k) (is_last_row k.rows) (parts_of k) }
+    ensures only { (k : Core) (t : List (List Part))
+        → IsTiled (own_size k) (is_last_row k.rows) t → t ≡ parts_of k }
+    ensures look { (k : Core) (t : List (List Part)) (r c : ℕ)
+        → IsTiled (own_size k) (is_last_row k.rows) t
+        → look k r c ≡ look_of_origin (own_look k) r c (part_at t r c) }
+    ensures origin { (k : Core) (t : List (List Part)) (r c : ℕ)
+        → IsTiled (own_size k) (is_last_row k.rows) t → OnScreen r c
+        → OnScreen (r - (part_at t r c).dy) (c - (part_at t r c).dx) }
+{}
 
 /// A place that is covered from above shows one place further down what the place above shows, one
 /// that is covered from the left one place further right what its left neighbour shows, and any
-/// other its part of what stands there itself. So each row is made of its own cells and of the looks
-/// of the row above.
+/// other its part of what stands there itself. So each row is made of its own cells and of the
+/// looks of the row above.
 pub fn looks_come_from_above_or_the_left()
     ensures above { (k : Core) (r c : ℕ) → OnScreen r c
         → IsTrue (covers_below (part_of (look_seen (looks_of k) (r - 1) c)))
@@ -27,7 +42,8 @@ pub fn looks_come_from_above_or_the_left()
         → IsFalse (covers_below (part_of (look_seen (looks_of k) (r - 1) c)))
         → IsTrue (is_covered_from_left (part_of (look_seen (looks_of k) (r - 1) (c - 1)))
         (part_of (look_seen (looks_of k) r (c - 1))))
-        → look k r c ≡ look_with_part (part_to_the_right (part_of (look_seen (looks_of k) r (c - 1))))
+        → look k r c ≡ look_with_part (part_to_the_right (part_of (look_seen (looks_of k) r
+        (c - 1))))
         (look_seen (looks_of k) r (c - 1)) }
     ensures itself { (k : Core) (r c : ℕ) → OnScreen r c
         → IsFalse (covers_below (part_of (look_seen (looks_of k) (r - 1) c)))
@@ -49,7 +65,8 @@ pub fn rows_stay_under_what_covers_them()
         → ((c : ℕ) → 1 ≤ c → c ≤ 40 → wanted c ≡ wanted_next c)
         → row_from_above above own wanted last ≡ row_from_above next own_next wanted_next last }
     ensures rows { (k m : Core) (r q : ℕ) → 1 ≤ r → r ≤ 24 → 1 ≤ q → q ≤ 24
-        → map covering (looks_in (looks_of k) (r - 1)) ≡ map covering (looks_in (looks_of m) (q - 1))
+        → map covering (looks_in (looks_of k) (r - 1)) ≡ map covering (looks_in (looks_of m)
+        (q - 1))
         → ((c : ℕ) → 1 ≤ c → c ≤ 40 → own_look k r c ≡ own_look m q c)
         → ((c : ℕ) → 1 ≤ c → c ≤ 40 → own_size k r c ≡ own_size m q c)
         → is_last_row k.rows r ≡ is_last_row m.rows q

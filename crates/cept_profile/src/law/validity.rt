@@ -9,7 +9,8 @@ ghost use Rattle.cept_codes.specs.declared.command.Command.{Command};
 ghost use Rattle.cept_codes.specs.Cell.{IsValidWhat};
 ghost use Rattle.cept_codes.specs.Command.{IsValidCommand};
 ghost use Rattle.cept_codes.specs.declared.look.Look.{Look};
-ghost use Rattle.cept_codes.specs.Look.{IsValidLook, blank_look};
+ghost use Rattle.cept_codes.specs.declared.look.Paint.{Paint};
+ghost use Rattle.cept_codes.specs.Look.{IsValidLook, IsValidPaint, blank_look};
 ghost use Rattle.cept_codes.specs.Stroke.{IsValidStroke};
 ghost use Rattle.cept_profile.specs.Control.{ControlState, control_after};
 ghost use Rattle.cept_profile.specs.Look.{grid, look_in_row, look_of, looks_of};
@@ -43,13 +44,16 @@ pub fn strokes_are_valid()
 {}
 
 /// What stands in a valid cell has a valid look, by itself and in a row of valid cells, and a row
-/// beneath valid looks has valid ones. So the looks of a core with a valid page are valid, and so is
-/// the grid after any list of valid commands.
+/// beneath valid looks has valid ones. So the looks of a core with a valid page are valid, and so
+/// is the grid after any list of valid commands.
 pub fn looks_are_valid()
-    ensures of_cell { (what : What) → IsValidWhat what → IsValidLook (look_of what) }
-    ensures in_row { (row : ℕ → What) (pen screen : Pen) (c : ℕ) → 1 ≤ c
+    ensures of_cell { (paint_of : ℕ → Paint) (row screen : Pen) (what : What)
+        → ((i : ℕ) → IsValidPaint (paint_of i)) → IsValidWhat what
+        → IsValidLook (look_of paint_of row screen what) }
+    ensures in_row { (paint_of : ℕ → Paint) (row : ℕ → What) (pen screen : Pen) (c : ℕ) → 1 ≤ c
+        → ((i : ℕ) → IsValidPaint (paint_of i))
         → ((d : ℕ) → 1 ≤ d → d ≤ c → IsValidWhat (row d))
-        → IsValidLook (look_in_row row pen screen c) }
+        → IsValidLook (look_in_row paint_of row pen screen c) }
     ensures from_above { (above : List Look) (own : ℕ → Look) (wanted : ℕ → Size) (last : Bool)
         → ((c : ℕ) → 1 ≤ c → c ≤ 40 → IsValidLook (column_entry blank_look above c))
         → ((c : ℕ) → 1 ≤ c → c ≤ 40 → IsValidLook (own c))

@@ -1,9 +1,11 @@
-use Rattle.std.proofs.Common.{length, refl, sym, ap, ◌∙◌, arith}
+use Rattle.std.proofs.Common.{length, refl, sym, ap, subst, ◌∙◌, arith}
 use Rattle.std.proofs.lemmas.Bool.{eqb-true}
 use Rattle.cept_profile.specs.Look.{looks_of}
+use Rattle.cept_profile.specs.State.{Page}
+use Rattle.cept_profile.specs.Valid.{IsValidPage}
 use Rattle.cept_repaint.specs.Kept.{core_on}
 use Rattle.cept_repaint.proofs.AloneRows.{OthersStay-put}
-use Rattle.cept_repaint.proofs.OnePlace.{IsPutAlone-found, page_after-none}
+use Rattle.cept_repaint.proofs.OnePlace.{IsPutAlone-drawn, page_after-none, page_after-put_alone}
 use Rattle.cept_repaint.proofs.Refreshed.{differences_none}
 use Rattle.cept_repaint.proofs.RowsTouched.{reach-put}
 use Rattle.cept_repaint.proofs.WalkedRows.{UnreachedStay-drawn}
@@ -12,12 +14,33 @@ use Rattle.cept_repaint.proofs.redraw.redraw.Goals as goal
 pub refresh_rows-requires-clause-others : goal.refresh_rows-requires-clause-others
 refresh_rows-requires-clause-others g c =
     UnreachedStay-drawn c.args.page.now c.draw_all.new.self c.args.strokes.now c.args.before c.args.after
-    c.args.kept.now c.requires.kept c.draw_all.ensures
+    c.args.kept.now c.requires.was_valid.colours c.requires.kept c.draw_all.ensures
 
 pub refresh_rows-requires-in-None-clause-others : goal.refresh_rows-requires-in-None-clause-others
 refresh_rows-requires-in-None-clause-others g c =
-    UnreachedStay-drawn c.args.page.now c.draw_all-2.new.self c.args.strokes.now c.args.before c.args.after
-    c.args.kept.now c.requires.kept c.draw_all-2.ensures
+    UnreachedStay-drawn c.args.page.now c.draw_all-in-None.new.self c.args.strokes.now c.args.before c.args.after
+    c.args.kept.now c.requires.was_valid.colours c.requires.kept c.draw_all-in-None.ensures
+
+pub refresh_rows-requires-else-put-clause-others : goal.refresh_rows-requires-else-put-clause-others
+refresh_rows-requires-else-put-clause-others g c =
+    UnreachedStay-drawn c.args.page.now c.put.new.self c.args.strokes.now c.args.before c.args.after
+    c.args.kept.now c.requires.was_valid.colours c.requires.kept
+    (page_after-put_alone c.args.page.now c.put.new.self c.args.strokes.now c.in-Some.put.place c.in-Some.put.cell.now
+    c.in-Some.ensures c.put.ensures.drawn)
+
+pub refresh_rows-requires-else-put-clause-valid : goal.refresh_rows-requires-else-put-clause-valid
+refresh_rows-requires-else-put-clause-valid g c =
+    subst (λ (p : Page). IsValidPage p)
+    (sym (page_after-put_alone c.args.page.now c.put.new.self c.args.strokes.now c.in-Some.put.place
+    c.in-Some.put.cell.now
+    c.in-Some.ensures c.put.ensures.drawn)) c.requires.valid
+
+pub refresh_place-requires-clause-valid : goal.refresh_place-requires-clause-valid
+refresh_place-requires-clause-valid g c =
+    subst (λ (p : Page). IsValidPage p)
+    (sym (page_after-put_alone c.args.page.now c.put.new.self c.args.strokes.now c.in-Some.put.place
+    c.in-Some.put.cell.now
+    c.in-Some.ensures c.put.ensures.drawn)) c.requires.valid
 
 pub returns-then-is_empty-clause-page : goal.returns-then-is_empty-clause-page
 returns-then-is_empty-clause-page g c =
@@ -27,25 +50,32 @@ returns-then-is_empty-clause-page g c =
 pub returns-then-is_empty-clause-marks : goal.returns-then-is_empty-clause-marks
 returns-then-is_empty-clause-marks g c = differences_none c.args.kept.now _ c.clear.new.self c.clear.ensures refl
 
-pub returns-in-Some-clause-kept : goal.returns-in-Some-clause-kept
-returns-in-Some-clause-kept g c =
-    let found =
-    IsPutAlone-found c.args.page.now c.draw_all-2.new.self c.args.strokes.now c.in-Some.place c.only_place.result
-    c.lone_place-place.result c.only_place.ensures c.lone_place-place.ensures.same c.lone_place-place.ensures.alone
-    c.in-Some.ensures.same c.draw_all-2.ensures c.refresh_place.ensures.on_screen c.in-Some.ensures.alone in
-    c.refresh_place.ensures.kept c.args.after
-    (OthersStay-put c.args.page.now c.draw_all-2.new.self c.args.after c.args.kept.now c.in-Some.place
-    (c.requires.kept ∙ ap (λ n. looks_of (core_on c.args.page.now n)) c.if-before-after.false) found.1)
+pub returns-then-put-clause-page : goal.returns-then-put-clause-page
+returns-then-put-clause-page g c =
+    page_after-put_alone c.args.page.now c.put.new.self c.args.strokes.now c.in-Some.put.place c.in-Some.put.cell.now
+    c.in-Some.ensures c.put.ensures.drawn
 
-pub returns-in-Some-clause-cost : goal.returns-in-Some-clause-cost
-returns-in-Some-clause-cost g c =
-    let found =
-    IsPutAlone-found c.args.page.now c.draw_all-2.new.self c.args.strokes.now c.in-Some.place c.only_place.result
-    c.lone_place-place.result c.only_place.ensures c.lone_place-place.ensures.same c.lone_place-place.ensures.alone
-    c.in-Some.ensures.same c.draw_all-2.ensures c.refresh_place.ensures.on_screen c.in-Some.ensures.alone in
+pub returns-else-put-clause-page : goal.returns-else-put-clause-page
+returns-else-put-clause-page g c =
+    page_after-put_alone c.args.page.now c.put.new.self c.args.strokes.now c.in-Some.put.place c.in-Some.put.cell.now
+    c.in-Some.ensures c.put.ensures.drawn
+
+pub returns-then-put-clause-kept : goal.returns-then-put-clause-kept
+returns-then-put-clause-kept g c =
+    let alone =
+    IsPutAlone-drawn c.args.page.now c.put.new.self c.args.strokes.now c.in-Some.put.place c.in-Some.put.cell.now
+    c.in-Some.ensures
+    c.put.ensures.drawn c.refresh_place.ensures.on_screen (c.put.ensures.before c.if-put.true)
+    (c.put.ensures.after c.if-put.true) c.requires.was_valid c.requires.valid in
+    c.refresh_place.ensures.kept c.args.after
+    (OthersStay-put c.args.page.now c.put.new.self c.args.after c.args.kept.now c.in-Some.put.place
+    (c.requires.kept ∙ ap (λ n. looks_of (core_on c.args.page.now n)) c.if-before-after.false) alone)
+
+pub returns-then-put-clause-cost : goal.returns-then-put-clause-cost
+returns-then-put-clause-cost g c =
     omega (
       arith,
       c.refresh_place.ensures.cost,
-      reach-put c.in-Some.place found.0.0 c.args.strokes.now c.args.before c.args.after c.args.kept.now
-          c.refresh_place.new.kept found.0.1 c.refresh_place.ensures.on_screen,
+      reach-put c.in-Some.put.place c.in-Some.put.cell.now c.args.strokes.now c.args.before c.args.after c.args.kept.now
+          c.refresh_place.new.kept c.in-Some.ensures c.refresh_place.ensures.on_screen,
     )

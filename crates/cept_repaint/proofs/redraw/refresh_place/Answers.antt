@@ -1,5 +1,5 @@
 use Rattle.std.proofs.Common.{true, false, refl, sym, ◌∙◌}
-use Rattle.cept_profile.specs.Look.{look_of}
+use Rattle.cept_repaint.specs.Kept.{look_alone}
 use Rattle.cept_repaint.proofs.OnePlace.{looks-refreshed}
 use Rattle.cept_repaint.proofs.Refreshed.{IsRefreshed-marks, IsRefreshed-place}
 use Rattle.cept_repaint.proofs.redraw.refresh_place.Goals as goal
@@ -7,35 +7,35 @@ use Rattle.cept_repaint.proofs.redraw.refresh_place.Goals as goal
 pub returns-then-resolve_alone-clause-kept : goal.returns-then-resolve_alone-clause-kept
 returns-then-resolve_alone-clause-kept g c = λ rows others.
     let on = c.resolve_alone.ensures.on_screen in
-    let refreshed = IsRefreshed-place c.args.kept.now c.resolve_alone.new.self c.args.marks.now c.mark.new.self
-    c.args.place (look_of c.what.result.now) true c.tell_places.ensures on
+    let refreshed = IsRefreshed-place c.args.kept.now c.resolve_alone.new.kept c.args.marks.now c.mark.new.self
+    c.args.place (look_alone c.args.page.now c.args.place) true c.tell_places.ensures on
     (sym c.if-resolve_alone.true ∙ c.resolve_alone.ensures.differs) c.resolve_alone.ensures.looks c.mark.ensures in
-    looks-refreshed c.args.page.now rows c.args.kept.now c.resolve_alone.new.self c.args.marks.now c.mark.new.self
-    c.args.place c.what.result.now on c.requires.alone c.what.ensures.what refreshed others
+    looks-refreshed c.args.page.now rows c.args.kept.now c.resolve_alone.new.kept c.args.marks.now c.mark.new.self
+    c.args.place c.requires.valid on c.requires.alone refreshed others
 
 pub returns-then-resolve_alone-clause-marks : goal.returns-then-resolve_alone-clause-marks
 returns-then-resolve_alone-clause-marks g c =
-    let on = c.resolve_alone.ensures.on_screen in
-    let refreshed = IsRefreshed-place c.args.kept.now c.resolve_alone.new.self c.args.marks.now c.mark.new.self
-    c.args.place (look_of c.what.result.now) true c.tell_places.ensures on
+    let fresh = look_alone c.args.page.now c.args.place in
+    let refreshed = IsRefreshed-place c.args.kept.now c.resolve_alone.new.kept c.args.marks.now c.mark.new.self
+    c.args.place fresh true c.tell_places.ensures c.resolve_alone.ensures.on_screen
     (sym c.if-resolve_alone.true ∙ c.resolve_alone.ensures.differs) c.resolve_alone.ensures.looks c.mark.ensures in
-    IsRefreshed-marks (λ _ _. look_of c.what.result.now) c.args.kept.now c.resolve_alone.new.self c.args.marks.now
-    c.mark.new.self _ _ c.requires.none refreshed
+    IsRefreshed-marks (λ _ _. fresh) c.args.kept.now c.resolve_alone.new.kept c.args.marks.now c.mark.new.self _ _
+    c.requires.none refreshed
 
 pub returns-else-resolve_alone-clause-kept : goal.returns-else-resolve_alone-clause-kept
 returns-else-resolve_alone-clause-kept g c = λ rows others.
     let on = c.resolve_alone.ensures.on_screen in
-    let refreshed = IsRefreshed-place c.args.kept.now c.resolve_alone.new.self c.args.marks.now c.args.marks.now
-    c.args.place (look_of c.what.result.now) false c.tell_places.ensures on
+    let refreshed = IsRefreshed-place c.args.kept.now c.resolve_alone.new.kept c.args.marks.now c.args.marks.now
+    c.args.place (look_alone c.args.page.now c.args.place) false c.tell_places.ensures on
     (sym c.if-resolve_alone.false ∙ c.resolve_alone.ensures.differs) c.resolve_alone.ensures.looks refl in
-    looks-refreshed c.args.page.now rows c.args.kept.now c.resolve_alone.new.self c.args.marks.now c.args.marks.now
-    c.args.place c.what.result.now on c.requires.alone c.what.ensures.what refreshed others
+    looks-refreshed c.args.page.now rows c.args.kept.now c.resolve_alone.new.kept c.args.marks.now c.args.marks.now
+    c.args.place c.requires.valid on c.requires.alone refreshed others
 
 pub returns-else-resolve_alone-clause-marks : goal.returns-else-resolve_alone-clause-marks
 returns-else-resolve_alone-clause-marks g c =
-    let on = c.resolve_alone.ensures.on_screen in
-    let refreshed = IsRefreshed-place c.args.kept.now c.resolve_alone.new.self c.args.marks.now c.args.marks.now
-    c.args.place (look_of c.what.result.now) false c.tell_places.ensures on
+    let fresh = look_alone c.args.page.now c.args.place in
+    let refreshed = IsRefreshed-place c.args.kept.now c.resolve_alone.new.kept c.args.marks.now c.args.marks.now
+    c.args.place fresh false c.tell_places.ensures c.resolve_alone.ensures.on_screen
     (sym c.if-resolve_alone.false ∙ c.resolve_alone.ensures.differs) c.resolve_alone.ensures.looks refl in
-    IsRefreshed-marks (λ _ _. look_of c.what.result.now) c.args.kept.now c.resolve_alone.new.self c.args.marks.now
-    c.args.marks.now _ _ c.requires.none refreshed
+    IsRefreshed-marks (λ _ _. fresh) c.args.kept.now c.resolve_alone.new.kept c.args.marks.now c.args.marks.now _ _
+    c.requires.none refreshed

@@ -12,7 +12,7 @@ loop-i-preserved c =
     (c.loop-i.i + 1) c.loop-i.invariant c.loop-i-test.true refl (omega arith)
     (ap (λ f. f.size)
     (own_made c.args.cells.now c.args.full.now c.args.row.now c.args.screen.now c.loop-i.i _ c.own_attributes.result
-    c.loop-i-test.true c.requires.full c.own_attributes.ensures))
+    c.loop-i-test.true c.requires.full c.own_attributes.ensures.attributes))
 
 pub returns : goal.returns
 returns c =

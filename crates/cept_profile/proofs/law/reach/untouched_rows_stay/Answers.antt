@@ -4,5 +4,9 @@ use Rattle.cept_profile.proofs.law.reach.untouched_rows_stay.Goals as goal
 pub returns : goal.returns
 returns c = record {
   cells = Laws.cell-untouched;
+  pen = Laws.row_pen-untouched;
+  screen = Laws.screen_pen-untouched;
+  paints = Laws.paint-untouched;
+  dclut = Laws.dclut-untouched;
   looks = Laws.look-untouched;
 }

@@ -1,6 +1,8 @@
-use Rattle.std.proofs.Common.{arith}
-use Rattle.cept_repaint.proofs.MarkedWithin.{cleared}
+use Rattle.std.proofs.Common.{Bool, List, sym, subst}
+use Rattle.cept_repaint.specs.Marks.{AreWithin}
+use Rattle.cept_repaint.proofs.MarkedWithin.{AreWithin-none}
 use Rattle.cept_repaint.proofs.marks.Marks.clear.Goals as goal
 
-pub returns : goal.returns
-returns c = cleared c.self.invariant (omega arith) c.unmark.new.flags (omega arith) c.unmark.ensures
+pub invariant_of-self : goal.invariant_of-self
+invariant_of-self c =
+    subst (λ (flags : List Bool). AreWithin flags 0 0) (sym c.unmark_within.ensures) AreWithin-none

@@ -1,11 +1,13 @@
-use Rattle.std.proofs.Common.{refl}
-use Rattle.cept_repaint.proofs.MarkedRows.{AreRowFlags-after}
+use Rattle.cept_repaint.proofs.MarkedRows.{IsKeptPage-after}
 use Rattle.cept_repaint.proofs.page.Page.draw.Goals as goal
 
 pub invariant_of-self : goal.invariant_of-self
-invariant_of-self c = (
-  AreRowFlags-after c.self.invariant.0 refl c.args.stroke.now c.strike.ensures c.flag_rows.ensures.marked_rows
-      c.flag_rows.ensures.marked,
-  AreRowFlags-after c.self.invariant.1 refl c.args.stroke.now c.strike.ensures c.flag_rows.ensures.sized_rows
-      c.flag_rows.ensures.sized,
-)
+invariant_of-self c =
+    IsKeptPage-after {stroke = c.args.stroke.now} c.self.invariant (record {
+      cells = c.strike.ensures;
+      row_pens = c.set_row_pens.ensures;
+      screen_pen = c.set_screen_pen.ensures;
+      paints = c.set_colours.ensures.paints;
+      dclut = c.set_colours.ensures.dclut;
+    }) c.flag_rows.ensures.marked_rows c.flag_rows.ensures.sized_rows c.flag_rows.ensures.marked
+    c.flag_rows.ensures.sized

@@ -1,18 +1,13 @@
-use Rattle.std.proofs.Common.{ap, refl, List}
-use Rattle.cept_codes.specs.declared.cell.Cell.{Cell}
-use Rattle.cept_profile.specs.Cells.{cell_back}
-use Rattle.cept_profile.specs.Look.{sets_size}
-use Rattle.cept_profile.specs.Serial.{is_marker}
-use Rattle.cept_profile.specs.State.{Page}
-use Rattle.cept_repaint.proofs.MarkedRows.{AreRowFlags-start}
+use Rattle.std.proofs.Common.{ap}
+use Rattle.cept_colours.specs.Colours.{ColourTables}
+use Rattle.cept_repaint.proofs.MarkedRows.{IsKeptPage-start}
+use Rattle.cept_repaint.proofs.PageParts.{page_start, row_pens_unset}
 use Rattle.cept_repaint.proofs.page.Page.new.Goals as goal
 
 pub returns : goal.returns
-unfolding cell_back
-returns c = ap (λ (t : List (List Cell)). let p : Page = record { cells = t } in p) c.in_ok-grid.ensures
+returns c = page_start c.in_ok-grid.grid c.new-2.result c.in_ok-grid.ensures c.new-2.ensures
 
 pub invariant_of-result : goal.invariant_of-result
-invariant_of-result c = (
-  AreRowFlags-start is_marker refl c.in_ok-grid.grid c.in_ok-grid.ensures,
-  AreRowFlags-start sets_size refl c.in_ok-grid.grid c.in_ok-grid.ensures,
-)
+invariant_of-result c =
+    IsKeptPage-start _ c.in_ok-grid.ensures row_pens_unset (ap (λ (t : ColourTables). t.paints) c.new-2.ensures)
+    (ap (λ (t : ColourTables). t.dclut) c.new-2.ensures)

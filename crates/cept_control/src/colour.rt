@@ -1,0 +1,67 @@
+ghost use Rattle.std.specs.Prelude.{◌≡◌, ◌≤◌, []};
+ghost use Rattle.cept_codes.specs.Command.{IsC1, IsScreenC1};
+ghost use Rattle.cept_codes.specs.Look.{IsValidRgb};
+ghost use Rattle.cept_profile.specs.Control.{control_effect};
+ghost use Rattle.cept_profile.specs.Strokes.{strokes_when};
+
+use crate::control::Control;
+use crate::pen::attribute_of;
+use arrayvec::ArrayVec;
+use cept_codes::{Command, Paint, Rgb, Stroke};
+
+/// The colour table, and what is drawn of the active row and of the screen as a whole.
+impl Control {
+    pub(crate) fn colour_table(&mut self, table: u8)
+        requires { table ≤ 3 }
+        ensures { self.new ≡ control_effect self.old (Command.Table table) }
+    {
+        self.working.table = table;
+    }
+
+    /// An attribute of the whole screen, by the parallel meaning of its code.
+    pub(crate) fn full_screen(&self, n: u8, strokes: &mut ArrayVec<Stroke, 128>)
+        requires code { IsScreenC1 n }
+        requires empty { strokes.old.items ≡ [] }
+        ensures { strokes.new.items ≡ strokes_when self.now (Command.FullScreen n) }
+    {
+        if let Some(attribute) = attribute_of(self.working.table, n) {
+            strokes.push(Stroke::ScreenAttr(attribute));
+        }
+    }
+
+    /// An attribute of the active row, by the parallel meaning of its code.
+    pub(crate) fn full_row(&self, n: u8, strokes: &mut ArrayVec<Stroke, 128>)
+        requires code { IsC1 n }
+        requires empty { strokes.old.items ≡ [] }
+        ensures { strokes.new.items ≡ strokes_when self.now (Command.FullRow n) }
+    {
+        if let Some(attribute) = attribute_of(self.working.table, n) {
+            strokes.push(Stroke::RowAttr(self.working.row, attribute));
+        }
+    }
+
+    pub(crate) fn colour_defaults(&self, strokes: &mut ArrayVec<Stroke, 128>)
+        requires { strokes.old.items ≡ [] }
+        ensures { strokes.new.items ≡ strokes_when self.now Command.ColourDefaults }
+    {
+        strokes.push(Stroke::ColourDefaults);
+    }
+
+    pub(crate) fn colour_entry(&self, i: u8, colour: Rgb, strokes: &mut ArrayVec<Stroke, 128>)
+        requires entry { i ≤ 31 }
+        requires colour { IsValidRgb colour }
+        requires empty { strokes.old.items ≡ [] }
+        ensures { strokes.new.items ≡ strokes_when self.now (Command.Entry i colour) }
+    {
+        strokes.push(Stroke::Colour(i, Paint::Ink(colour)));
+    }
+
+    pub(crate) fn dclut_entry(&self, i: u8, entry: u8, strokes: &mut ArrayVec<Stroke, 128>)
+        requires named { i ≤ 3 }
+        requires entry { entry ≤ 31 }
+        requires empty { strokes.old.items ≡ [] }
+        ensures { strokes.new.items ≡ strokes_when self.now (Command.Dclut i entry) }
+    {
+        strokes.push(Stroke::Dclut(i, entry));
+    }
+}

@@ -1,0 +1,150 @@
+-- Attributes of rows and of the screen, colour entries (in four tables of eight: ETS 300 072) and the DCLUT; which
+-- there are, and what sets and unsets each, is this profile's own. Each is what the last stroke says that says anything
+-- of it, else its value at the start.
+use Rattle.std.specs.Prelude.{ℕ, Option, Some, None, unwrap_or, List, [], ◌∷◌, ◌==◌, if◌then◌else◌}
+use Rattle.cept_codes.specs.declared.attribute.Attr.{Attr}
+use Rattle.cept_codes.specs.declared.attribute.Pen.{Pen}
+use Rattle.cept_codes.specs.declared.look.Paint.{Paint}
+use Rattle.cept_codes.specs.declared.stroke.Stroke.{Stroke}
+use Rattle.cept_codes.specs.declared.stroke.Stroke.TheVariants as strokes
+use Rattle.cept_codes.specs.Attribute.{unset_pen}
+use Rattle.cept_codes.specs.Look.{black_paint}
+use Rattle.cept_codes.specs.Table.{entry, list_by_index}
+use Rattle.cept_profile.specs.Colours.{default_paint}
+use Rattle.cept_profile.specs.Pens.{pen_with, fore_in, back_in, flash_in, conceal_in, lined_in, boxed_in, size_in}
+use Rattle.cept_profile.specs.Pens.{invert_in}
+
+-- ---- by looking back over the strokes, the last first
+
+-- what the last stroke says that says anything, else the first value
+abbrev pub stroke_said : {X : Type 0} → (Stroke → Option X) → X → List Stroke → X
+stroke_said says first [] = first
+stroke_said says first (stroke ∷ earlier) = unwrap_or (says stroke) (stroke_said says first earlier)
+
+-- what a stroke says of a class of the attributes of row r: an attribute of that row sets it, or unsets the background,
+-- and a wipe unsets it
+abbrev pub row_said : {X : Type 0} → (Attr → Option (Option X)) → ℕ → Stroke → Option (Option X)
+row_said class r (strokes.RowAttr row attr) = if row == r then class attr else None
+row_said class r strokes.Wipe = Some None
+row_said class r _ = None
+
+-- what a stroke says of a class of the attributes of the screen
+abbrev pub screen_said : {X : Type 0} → (Attr → Option (Option X)) → Stroke → Option (Option X)
+screen_said class (strokes.ScreenAttr attr) = class attr
+screen_said class strokes.ScreenClear = Some None
+screen_said class _ = None
+
+-- what a stroke says of the colour entry i: the defaults give each its own
+abbrev pub paint_said : ℕ → Stroke → Option Paint
+paint_said i (strokes.Colour j paint) = if j == i then Some paint else None
+paint_said i strokes.ColourDefaults = Some (default_paint i)
+paint_said i _ = None
+
+-- what a stroke says of the DCLUT entry i, which at the start names the colour entry of its own number
+abbrev pub dclut_said : ℕ → Stroke → Option ℕ
+dclut_said i (strokes.Dclut j colour) = if j == i then Some colour else None
+dclut_said i strokes.ColourDefaults = Some i
+dclut_said i _ = None
+
+-- the attributes of row r after the strokes
+abbrev pub row_pen_back : List Stroke → ℕ → Pen
+row_pen_back strokes r = record {
+  fore = stroke_said (row_said fore_in r) None strokes;
+  back = stroke_said (row_said back_in r) None strokes;
+  flash = stroke_said (row_said flash_in r) None strokes;
+  conceal = stroke_said (row_said conceal_in r) None strokes;
+  lined = stroke_said (row_said lined_in r) None strokes;
+  boxed = stroke_said (row_said boxed_in r) None strokes;
+  size = stroke_said (row_said size_in r) None strokes;
+  invert = stroke_said (row_said invert_in r) None strokes;
+}
+
+-- the attributes of the screen after the strokes
+abbrev pub screen_pen_back : List Stroke → Pen
+screen_pen_back strokes = record {
+  fore = stroke_said (screen_said fore_in) None strokes;
+  back = stroke_said (screen_said back_in) None strokes;
+  flash = stroke_said (screen_said flash_in) None strokes;
+  conceal = stroke_said (screen_said conceal_in) None strokes;
+  lined = stroke_said (screen_said lined_in) None strokes;
+  boxed = stroke_said (screen_said boxed_in) None strokes;
+  size = stroke_said (screen_said size_in) None strokes;
+  invert = stroke_said (screen_said invert_in) None strokes;
+}
+
+-- the paint of the colour entry i after the strokes
+abbrev pub paint_back : List Stroke → ℕ → Paint
+paint_back strokes i = stroke_said (paint_said i) (default_paint i) strokes
+
+-- the DCLUT entry i after the strokes
+abbrev pub dclut_back : List Stroke → ℕ → ℕ
+dclut_back strokes i = stroke_said (dclut_said i) i strokes
+
+-- ---- one more stroke
+
+-- the attributes of row r after a stroke, by those before it
+abbrev pub row_pen_after : Stroke → (ℕ → Pen) → ℕ → Pen
+row_pen_after (strokes.RowAttr row attr) was r = if row == r then pen_with attr (was r) else was r
+row_pen_after strokes.Wipe was r = unset_pen
+row_pen_after _ was r = was r
+
+-- the attributes of the screen
+abbrev pub screen_pen_after : Pen → Stroke → Pen
+screen_pen_after was (strokes.ScreenAttr attr) = pen_with attr was
+screen_pen_after was strokes.ScreenClear = unset_pen
+screen_pen_after was _ = was
+
+-- the paint of the colour entry i
+abbrev pub paint_after : Stroke → (ℕ → Paint) → ℕ → Paint
+paint_after (strokes.Colour j paint) was i = if j == i then paint else was i
+paint_after strokes.ColourDefaults was i = default_paint i
+paint_after _ was i = was i
+
+-- the DCLUT entry i
+abbrev pub dclut_after : Stroke → (ℕ → ℕ) → ℕ → ℕ
+dclut_after (strokes.Dclut j colour) was i = if j == i then colour else was i
+dclut_after strokes.ColourDefaults was i = i
+dclut_after _ was i = was i
+
+-- ---- the lists of them
+
+-- a list with an entry for each of the 24 rows, by its number
+abbrev pub list_of_rows : {X : Type 0} → (ℕ → X) → List X
+list_of_rows f = list_by_index 1 24 f
+
+-- for each of the 32 colour entries
+abbrev pub list_of_colours : {X : Type 0} → (ℕ → X) → List X
+list_of_colours f = list_by_index 0 32 f
+
+-- for each of the four entries of the DCLUT
+abbrev pub list_of_dclut : {X : Type 0} → (ℕ → X) → List X
+list_of_dclut f = list_by_index 0 4 f
+
+-- the attributes of row r
+abbrev pub row_pen_in : List Pen → ℕ → Pen
+row_pen_in pens r = entry unset_pen 1 pens r
+
+-- the paint of the colour entry i
+abbrev pub paint_in : List Paint → ℕ → Paint
+paint_in paints i = entry black_paint 0 paints i
+
+-- the colour entry that the entry i of the DCLUT names
+abbrev pub dclut_in : List ℕ → ℕ → ℕ
+dclut_in dclut i = entry 0 0 dclut i
+
+-- the attributes of all rows after one stroke
+abbrev pub row_pens_after : List Pen → Stroke → List Pen
+row_pens_after pens stroke = list_of_rows (row_pen_after stroke (row_pen_in pens))
+
+-- the paints of all colour entries
+abbrev pub paints_after : List Paint → Stroke → List Paint
+paints_after paints stroke = list_of_colours (paint_after stroke (paint_in paints))
+
+-- the DCLUT
+abbrev pub dclut_list_after : List ℕ → Stroke → List ℕ
+dclut_list_after dclut stroke = list_of_dclut (dclut_after stroke (dclut_in dclut))
+
+-- a part of the page after several strokes
+unfoldable pub part_after_all : {X : Type 0} → (X → Stroke → X) → X → List Stroke → X
+part_after_all after part [] = part
+part_after_all after part (stroke ∷ more) = part_after_all after (after part stroke) more

@@ -1,0 +1,42 @@
+use Rattle.std.proofs.Common.{subst}
+use Rattle.cept_codes.specs.declared.stroke.Stroke.TheVariants as strokes
+use Rattle.cept_profile.specs.State.{Page}
+use Rattle.cept_repaint.specs.Drawn.{IsDrawn}
+use Rattle.cept_repaint.specs.Inside.{page_of}
+use Rattle.cept_repaint.specs.MarkedRows.{IsUnflagged, StandsAlone}
+use Rattle.cept_repaint.proofs.MarkedRows.{IsKeptPage-after, IsUnflagged-before, StandsAlone-unflagged}
+use Rattle.cept_repaint.proofs.PageParts.{IsDrawn-put}
+use Rattle.cept_repaint.proofs.page.Page.put.Goals as goal
+
+pub returns-clause-drawn : goal.returns-clause-drawn
+returns-clause-drawn c =
+    subst (λ (p : Page). IsDrawn p (strokes.Put c.args.place c.args.cell.now)
+    (record (page_of c.self.inside) { cells = c.put.new.self })) c.self.view_is
+    (IsDrawn-put (page_of c.self.inside) c.args.place c.args.cell.now c.put.new.self c.self.invariant.rows
+    c.self.invariant.colours c.self.invariant.names c.put.ensures.cells)
+
+pub returns-clause-before : goal.returns-clause-before
+returns-clause-before c = λ yes.
+    subst (λ (p : Page). StandsAlone p c.args.place.row) c.self.view_is
+    (StandsAlone-unflagged c.self.invariant c.args.place.row c.row.ensures.on_screen.from_top
+    c.row.ensures.on_screen.to_bottom (IsUnflagged-before c.args.place c.args.cell.now c.row.ensures.on_screen
+    c.flag_put.ensures.marked c.flag_put.ensures.sized
+    (subst (λ n. IsUnflagged c.flag_put.new.marked c.flag_put.new.sized n) c.row.ensures.row
+    (c.is_unflagged.ensures yes))))
+
+pub returns-clause-after : goal.returns-clause-after
+returns-clause-after c = λ yes.
+    StandsAlone-unflagged (IsKeptPage-after c.self.invariant
+    (IsDrawn-put (page_of c.self.inside) c.args.place c.args.cell.now c.put.new.self c.self.invariant.rows
+    c.self.invariant.colours c.self.invariant.names c.put.ensures.cells)
+    c.flag_put.ensures.marked_rows c.flag_put.ensures.sized_rows c.flag_put.ensures.marked c.flag_put.ensures.sized)
+    c.args.place.row c.row.ensures.on_screen.from_top c.row.ensures.on_screen.to_bottom
+    (subst (λ n. IsUnflagged c.flag_put.new.marked c.flag_put.new.sized n) c.row.ensures.row
+    (c.is_unflagged.ensures yes))
+
+pub invariant_of-self : goal.invariant_of-self
+invariant_of-self c =
+    IsKeptPage-after c.self.invariant
+    (IsDrawn-put (page_of c.self.inside) c.args.place c.args.cell.now c.put.new.self c.self.invariant.rows
+    c.self.invariant.colours c.self.invariant.names c.put.ensures.cells)
+    c.flag_put.ensures.marked_rows c.flag_put.ensures.sized_rows c.flag_put.ensures.marked c.flag_put.ensures.sized
