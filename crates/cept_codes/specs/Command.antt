@@ -1,5 +1,6 @@
--- Valid commands: the ranges that the grammar of the bytes gives them (ETS 300 072 and T/CD 6-1; which forms there are
--- is this profile's own).
+-- Valid commands: the ranges that the grammar of the bytes gives them. Entries of four tables of eight are of ETS 300
+-- 072 (colour tables), C0 and C1 codes of its sets; all other ranges, and which forms there are, are this profile's
+-- own.
 use Rattle.std.specs.Prelude.{ℕ, ◌≤◌, ◌<◌, ◌≡◌, ◌≢◌, ◌⊎◌, IsTrue}
 use Rattle.cept_codes.specs.declared.command.Command.{Command}
 use Rattle.cept_codes.specs.declared.command.Command.TheVariants as commands

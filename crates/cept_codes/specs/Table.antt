@@ -8,7 +8,8 @@ use Rattle.cept_codes.specs.Place.{OnScreen}
 unfoldable pub list_by_index : {X : Type 0} → ℕ → ℕ → (ℕ → X) → List X
 list_by_index from count f = map f (range_with_len from count)
 
--- what stands at this index of a list whose index starts at `from`, and the default past the last
+-- what stands at this index of a list whose index starts at `from`, and the default past the last; it isn't asked of an
+-- index below the first
 abbrev pub entry : {X : Type 0} → X → ℕ → List X → ℕ → X
 entry default from list k = slice_index_or list (k - from) default
 

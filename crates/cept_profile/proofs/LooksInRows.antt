@@ -11,7 +11,7 @@ use Rattle.cept_codes.specs.declared.look.Paint.{Paint}
 use Rattle.cept_codes.specs.Attribute.{unset_pen}
 use Rattle.cept_profile.specs.Attributes.{cascade, first_value}
 use Rattle.cept_profile.specs.Look.{attributes_of, is_double, is_double_set, look, look_in_row, look_of, look_with}
-use Rattle.cept_profile.specs.Look.{looks_of, sets_size, shape_in, shape_of, size_in_row}
+use Rattle.cept_profile.specs.Look.{looks_of, sets_double_size, shape_in, shape_of, size_in_row}
 use Rattle.cept_profile.specs.Serial.{Sizing, acts, column_in_force, held_sign, is_marker, own_attributes}
 use Rattle.cept_profile.specs.Serial.{own_attributes_of, serial_attributes, size_said, value_found}
 use Rattle.cept_profile.specs.State.{Core}
@@ -85,17 +85,19 @@ single-first None None (Some size) here row all = single-size size all
 single-first None None None here row all = refl
 
 -- what sets no size says none, or the single one
-single-said : (w : What) → sets_size w ≡ false → is_double_set (size_said w) ≡ false
+single-said : (w : What) → sets_double_size w ≡ false → is_double_set (size_said w) ≡ false
 single-said (whats.Marker (markers.Size size)) plain = plain
 single-said w plain = refl
 
 -- so does what is found among such
-single-found : (row : ℕ → What) (c : ℕ) (found : Option ℕ) → ((d : ℕ) → 1 ≤ d → d ≤ c → sets_size (row d) ≡ false)
+single-found : (row : ℕ → What) (c : ℕ) (found : Option ℕ) → ((d : ℕ) → 1 ≤ d → d ≤ c
+    → sets_double_size (row d) ≡ false)
     → IsGreatest (acts row Sizing c) c found → is_double_set (value_found (λ d. size_said (row d)) found) ≡ false
 single-found row c None plain greatest = refl
 single-found row c (Some d) plain greatest = single-said (row d) (plain d greatest.0 greatest.1)
 
-serial-single : (row : ℕ → What) (pen screen : Pen) (c : ℕ) → ((d : ℕ) → 1 ≤ d → d ≤ c → sets_size (row d) ≡ false)
+serial-single : (row : ℕ → What) (pen screen : Pen) (c : ℕ) → ((d : ℕ) → 1 ≤ d → d ≤ c
+    → sets_double_size (row d) ≡ false)
     → is_double_set pen.size ≡ false → is_double_set screen.size ≡ false
     → (serial_attributes row pen screen c).size ≡ sizes.Normal
 unfolding serial_attributes
@@ -103,7 +105,7 @@ serial-single row pen screen c plain in_row on_screen =
     single-first (value_found (λ d. size_said (row d)) (column_in_force row Sizing c)) pen.size screen.size
     (single-found row c (column_in_force row Sizing c) plain (column_in_force-greatest row Sizing c)) in_row on_screen
 
-own-single : (row : ℕ → What) (pen screen : Pen) (c : ℕ) (w : What) → sets_size w ≡ false
+own-single : (row : ℕ → What) (pen screen : Pen) (c : ℕ) (w : What) → sets_double_size w ≡ false
     → is_double_set pen.size ≡ false → is_double_set screen.size ≡ false
     → (serial_attributes row pen screen c).size ≡ sizes.Normal
     → (own_attributes_of w pen screen (serial_attributes row pen screen c)).size ≡ sizes.Normal
@@ -113,7 +115,7 @@ own-single row pen screen c w plain in_row on_screen serial = serial
 
 -- where nothing up to a column, the row or the screen sets a size, what stands there is of single size
 pub size_in_row-single : (row : ℕ → What) (pen screen : Pen) (c : ℕ) → 1 ≤ c
-    → ((d : ℕ) → 1 ≤ d → d ≤ c → sets_size (row d) ≡ false) → is_double_set pen.size ≡ false
+    → ((d : ℕ) → 1 ≤ d → d ≤ c → sets_double_size (row d) ≡ false) → is_double_set pen.size ≡ false
     → is_double_set screen.size ≡ false → size_in_row row pen screen c ≡ sizes.Normal
 unfolding size_in_row
 size_in_row-single row pen screen c low plain in_row on_screen =

@@ -11,7 +11,7 @@ use Rattle.cept_codes.specs.Table.{table}
 use Rattle.cept_codes.proofs.Laws.{same_table}
 use Rattle.cept_profile.specs.Changes.{changes, changes_between}
 use Rattle.cept_profile.specs.Look.{contents_of_row, is_double_set, look, look_of, looks_of, own_size, part_of}
-use Rattle.cept_profile.specs.Look.{sets_size}
+use Rattle.cept_profile.specs.Look.{sets_double_size}
 use Rattle.cept_profile.specs.PageParts.{paint_in, row_pen_in}
 use Rattle.cept_profile.specs.RowsFromAbove.{look_seen}
 use Rattle.cept_profile.specs.Serial.{is_marker}
@@ -23,7 +23,7 @@ use Rattle.cept_profile.proofs.LooksInRows.{look_in_row-unmarked, size_in_row-si
 
 -- it is a marker or sets a size
 abbrev pub acts_beyond : What → Bool
-acts_beyond w = is_marker w || sets_size w
+acts_beyond w = is_marker w || sets_double_size w
 
 -- no cell is so, and no row and not the screen sets a size
 pub record IsPlain (k : Core) : Type 0 where
@@ -64,7 +64,7 @@ single_there : (k : Core) → IsPlain k → (r : ℕ) → 1 ≤ r → r ≤ 24 �
     → own_size k r c ≡ sizes.Normal
 single_there k plain r low high c from to =
     size_in_row-single (contents_of_row k r) (row_pen_in k.page.row_pens r) k.page.screen_pen c from (λ d left right.
-    (or_parts (is_marker (contents_of_row k r d)) (sets_size (contents_of_row k r d)) (plain.cells r d (record {
+    (or_parts (is_marker (contents_of_row k r d)) (sets_double_size (contents_of_row k r d)) (plain.cells r d (record {
       from_top = low;
       to_bottom = high;
       from_left = left;
@@ -94,7 +94,7 @@ look-plain k plain r c on =
     (nothing_above k plain r on.from_top on.to_bottom)
     ∙ look_in_row-unmarked (paint_in k.page.paints) (contents_of_row k r) (row_pen_in k.page.row_pens r)
     k.page.screen_pen c on.from_left (λ d low high.
-    (or_parts (is_marker (contents_of_row k r d)) (sets_size (contents_of_row k r d)) (plain.cells r d (record {
+    (or_parts (is_marker (contents_of_row k r d)) (sets_double_size (contents_of_row k r d)) (plain.cells r d (record {
       from_top = on.from_top;
       to_bottom = on.to_bottom;
       from_left = low;

@@ -21,11 +21,11 @@ use Rattle.cept_codes.proofs.Laws.{IsTable-table, entry-list_by_index, list_by_i
 use Rattle.cept_codes.proofs.Laws.{value_at-table}
 use Rattle.cept_profile.specs.Cells.{is_at, cell_after, cells_after, cells_after_all}
 use Rattle.cept_profile.specs.Look.{contents_of_row, is_last_row, look, look_in_row, looks_of, own_look, own_size}
-use Rattle.cept_profile.specs.Look.{is_double_set, part_of, sets_size, size_in_row}
+use Rattle.cept_profile.specs.Look.{is_double_set, part_of, sets_double_size, size_in_row}
 use Rattle.cept_profile.specs.PageParts.{dclut_after, dclut_in, dclut_list_after, paint_after, paint_in, paints_after}
 use Rattle.cept_profile.specs.PageParts.{part_after_all, row_pen_after, row_pen_in, row_pens_after, screen_pen_after}
 use Rattle.cept_profile.specs.Pens.{pen_with}
-use Rattle.cept_profile.specs.Reach.{becomes_last, in_reach, is_row_touched, one_touches, rows_in_reach, touches}
+use Rattle.cept_profile.specs.Reach.{is_last_under_one, in_reach, is_row_touched, one_touches, rows_in_reach, touches}
 use Rattle.cept_profile.specs.RowsFromAbove.{covering_differs, look_seen, looks_in}
 use Rattle.cept_profile.specs.State.{Core, Page, State, core_of, page_after, state_after}
 use Rattle.cept_profile.specs.Strokes.{strokes_of}
@@ -248,7 +248,7 @@ pub look-untouched : (k m : Core) (strokes : List Stroke) (r c : ℕ) → OnScre
     → m.page ≡ page_after k.page strokes → is_row_touched strokes k.rows m.rows r ≡ false
     → covering_differs (looks_of k) (looks_of m) r ≡ false → look m r c ≡ look k r c
 look-untouched k m strokes r c on long page untouched none =
-    let both = or_parts (one_touches strokes r) (becomes_last k.rows m.rows r) untouched in
+    let both = or_parts (one_touches strokes r) (is_last_under_one k.rows m.rows r) untouched in
     let made : IsMadeAlike k m r =
     made_alike-untouched k m strokes r on.from_top on.to_bottom long page both.0 in
     let same : looks_in (looks_of k) r ≡ looks_in (looks_of m) r =
@@ -293,7 +293,7 @@ rows_in_reach-le s command =
 -- something in the row, the row itself or the screen sets a size
 abbrev pub sets_a_size : Core → ℕ → Bool
 sets_a_size k r =
-    list_any (λ c. sets_size (contents_of_row k r c)) (range_with_len 1 40)
+    list_any (λ c. sets_double_size (contents_of_row k r c)) (range_with_len 1 40)
     || (is_double_set (row_pen_in k.page.row_pens r).size || is_double_set k.page.screen_pen.size)
 
 -- a command touches the row, or something in the row above sets a size before or after it
@@ -307,12 +307,12 @@ without_sizes : (k : Core) (r : ℕ) → 1 ≤ r → r ≤ 24 → sets_a_size k 
 without_sizes k r low high none =
     let in_row : Pen = row_pen_in k.page.row_pens r in
     let screen : Pen = k.page.screen_pen in
-    let parts = or_parts (list_any (λ c. sets_size (contents_of_row k r c)) (range_with_len 1 40))
+    let parts = or_parts (list_any (λ c. sets_double_size (contents_of_row k r c)) (range_with_len 1 40))
     (is_double_set in_row.size || is_double_set screen.size) none in
     let pens = or_parts (is_double_set in_row.size) (is_double_set screen.size) parts.1 in
     covers_nothing k r low high (λ c from to.
     size_in_row-single (contents_of_row k r) in_row screen c from (λ d left right.
-    no_index 1 40 (λ e. sets_size (contents_of_row k r e)) parts.0 d left (omega arith)) pens.0 pens.1)
+    no_index 1 40 (λ e. sets_double_size (contents_of_row k r e)) parts.0 d left (omega arith)) pens.0 pens.1)
 
 pub out_of_reach-far : (s : State) (command : Command) (r : ℕ) → 2 ≤ r → r ≤ 24 → is_near s command r ≡ false
     → in_reach s command r ≡ false

@@ -1,5 +1,6 @@
--- Colours: entries in tables of eight (ETS 300 072, colour tables). Which paint each has by default, and that a
--- foreground gives way to the background where it would show the picture behind, are this profile's own.
+-- Colours: entries in tables of eight (ETS 300 072, colour tables). Which paint each has by default, what invert
+-- exchanges, and that a foreground gives way to the background where it would show the picture behind, are this
+-- profile's own.
 use Rattle.std.specs.Prelude.{ℕ, ◌%◌, List, [], ◌∷◌, slice_index_or, if◌then◌else◌}
 use Rattle.cept_codes.specs.declared.attribute.Full.{Full}
 use Rattle.cept_codes.specs.declared.look.Paint.{Paint}

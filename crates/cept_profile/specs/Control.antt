@@ -1,6 +1,7 @@
 -- Control: what each command makes of the state of the decoder beside the page (T/CD 6-1, the C0 control functions;
--- code extension after ISO 2022). What ends a mosaic run, unsets the pen or drops an accent is this profile's own.
--- Until a command is built it only drops a waiting accent.
+-- code extension after ISO 2022). What ends a mosaic run, unsets the pen or drops an accent, that the row of a position
+-- is cut to the format, and colour tables are this profile's own. Until a command is built it only drops a waiting
+-- accent.
 use Rattle.std.specs.Prelude.{Bool, true, false, List, [], ◌∷◌, reverse, min, if◌then◌else◌}
 use Rattle.cept_codes.specs.declared.command.Command.{Command}
 use Rattle.cept_codes.specs.declared.command.Command.TheVariants as commands

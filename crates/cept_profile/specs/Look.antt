@@ -89,10 +89,10 @@ is_double_set None = false
 is_double_set (Some size) = is_double size
 
 -- what stands there sets a size other than the single one
-abbrev pub sets_size : What → Bool
-sets_size (whats.Parallel g pen) = is_double_set pen.size
-sets_size (whats.Marker (markers.Size size)) = is_double size
-sets_size _ = false
+abbrev pub sets_double_size : What → Bool
+sets_double_size (whats.Parallel g pen) = is_double_set pen.size
+sets_double_size (whats.Marker (markers.Size size)) = is_double size
+sets_double_size _ = false
 
 -- ---- all rows, each place by its origin
 

@@ -1,6 +1,6 @@
 -- Pens: the attributes that go with each sign under the parallel set (T/CD 6-1, the parallel supplementary control
--- functions; what each code does is this profile's own), and what the same functions make of control under the serial
--- set, where each leaves a marker.
+-- functions; the table, what each code does, flash modes, and attributes of rows and of the screen are this profile's
+-- own), and what the same functions make of control under the serial set, where each leaves a marker.
 use Rattle.std.specs.Prelude.{
   ℕ,
   ◌+◌,

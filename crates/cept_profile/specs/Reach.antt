@@ -32,13 +32,13 @@ unfoldable pub one_touches : List Stroke → ℕ → Bool
 one_touches strokes r = list_any (λ stroke. touches stroke r) strokes
 
 -- the row is last under one number of rows and not under the other
-abbrev pub becomes_last : ℕ → ℕ → ℕ → Bool
-becomes_last before after r =
+abbrev pub is_last_under_one : ℕ → ℕ → ℕ → Bool
+is_last_under_one before after r =
     (is_last_row before r && not (is_last_row after r)) || (is_last_row after r && not (is_last_row before r))
 
 -- the row itself changes: the strokes can change what it is made of, or it becomes last or is so no longer
 abbrev pub is_row_touched : List Stroke → ℕ → ℕ → ℕ → Bool
-is_row_touched strokes before after r = one_touches strokes r || becomes_last before after r
+is_row_touched strokes before after r = one_touches strokes r || is_last_under_one before after r
 
 -- in this state the command can change what is seen in this row: it touches the row itself, or changes what covers it
 -- from above

@@ -1,4 +1,4 @@
--- Serial attributes of one row (which marker sets which attribute: ETS 300 072, serial attributes; that markers stand
+-- Serial attributes of one row (ETS 300 072, serial attributes; which marker sets which attribute, that markers stand
 -- in cells, where each begins to act, and hold, are this profile's own). A row tells what stands in each column, from
 -- 1; column 0 and what is past the row are never asked.
 use Rattle.std.specs.Prelude.{ℕ, zero, suc, ◌-◌, List, slice_index_or, Bool, true, false, not, ◌&&◌, ◌||◌}

@@ -1,5 +1,5 @@
 -- Writing: signs, the accents that wait for them, and how often a sign is written (ISO 6937, accents before their
--- sign; T/CD 6-1, RPT). How many columns a sign moves on is this profile's own.
+-- sign; T/CD 6-1, RPT). Which signs take an accent, and how many columns a sign moves on, are this profile's own.
 use Rattle.std.specs.Prelude.{ℕ, zero, suc, Option, Some, None, List, [], ◌∷◌, ◌++◌}
 use Rattle.cept_codes.specs.declared.attribute.Pen.{Pen}
 use Rattle.cept_codes.specs.declared.attribute.Size.{Size}

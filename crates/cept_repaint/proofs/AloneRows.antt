@@ -17,7 +17,7 @@ use Rattle.cept_profile.specs.Cells.{is_at, cell_after, cells_after}
 use Rattle.cept_profile.specs.Look.{contents_of_row, is_double_set, look, look_of, looks_of, own_size}
 use Rattle.cept_profile.specs.Look.{part_of}
 use Rattle.cept_profile.specs.PageParts.{paint_in, row_pen_in}
-use Rattle.cept_profile.specs.Reach.{becomes_last, is_row_touched, one_touches}
+use Rattle.cept_profile.specs.Reach.{is_last_under_one, is_row_touched, one_touches}
 use Rattle.cept_profile.specs.RowsFromAbove.{covering_differs, look_seen, looks_in}
 use Rattle.cept_profile.specs.State.{Page, page_after}
 use Rattle.cept_profile.specs.Tiling.{covers_below}
@@ -70,8 +70,8 @@ cell_elsewhere p place cell r c on other =
     ∙ cond-false (is_at place r c && not was.protected) cell was (and_left (is_at place r c) (not was.protected) other)
 
 -- no row becomes last where the number of rows stays
-becomes_last-none : (rows r : ℕ) → becomes_last rows rows r ≡ false
-becomes_last-none rows r = grind (arith, nat_tests)
+is_last_under_one-none : (rows r : ℕ) → is_last_under_one rows rows r ≡ false
+is_last_under_one-none rows r = grind (arith, nat_tests)
 
 -- and no other row is touched
 untouched : (place : Place) (cell : Cell) (rows r : ℕ) → place.row ≢ r
@@ -79,8 +79,8 @@ untouched : (place : Place) (cell : Cell) (rows r : ℕ) → place.row ≢ r
 unfolding one_touches
 untouched place cell rows r apart =
     let no : (place.row == r) ≡ false = grind (arith, nat_tests) in
-    or_from (one_touches (strokes.Put place cell ∷ []) r) (becomes_last rows rows r) (ap (λ b. b || false) no)
-    (becomes_last-none rows r)
+    or_from (one_touches (strokes.Put place cell ∷ []) r) (is_last_under_one rows rows r) (ap (λ b. b || false) no)
+    (is_last_under_one-none rows r)
 
 -- a page before and after one cell is put, in a row that stands alone
 pub record IsPutAlone (p q : Page) (place : Place) : Type 0 where

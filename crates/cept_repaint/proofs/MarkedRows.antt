@@ -17,7 +17,7 @@ use Rattle.cept_codes.specs.Place.{OnScreen, Place}
 use Rattle.cept_codes.specs.Table.{value_at, entry, table}
 use Rattle.cept_codes.proofs.Laws.{entry-list_by_index, length-list_by_index, value_at-table}
 use Rattle.cept_profile.specs.Cells.{cell_after, cells_after}
-use Rattle.cept_profile.specs.Look.{is_double_set, sets_size}
+use Rattle.cept_profile.specs.Look.{is_double_set, sets_double_size}
 use Rattle.cept_profile.specs.Colours.{default_paint}
 use Rattle.cept_profile.specs.PageParts.{dclut_after, dclut_in, list_of_colours, list_of_dclut}
 use Rattle.cept_profile.specs.PageParts.{list_of_rows, paint_after, paint_in, row_pen_after, row_pen_in}
@@ -50,7 +50,7 @@ IsKeptPage-start p cells pens paints dclut = record {
   sizes = record {
     rows = length-replicate 24 false;
     none = λ r top bottom unset. record {
-      cells = HasNone-start sets_size refl p.cells cells r;
+      cells = HasNone-start sets_double_size refl p.cells cells r;
       pen = ap (λ (l : List Pen). is_double_set (row_pen_in l r).size) pens
           ∙ ap (λ (x : Pen). is_double_set x.size)
           (entry-list_by_index unset_pen 1 24 (λ _. unset_pen) r top (omega arith));
@@ -129,7 +129,7 @@ single_after : (stroke : Stroke) (was : ℕ → Pen) (r : ℕ) (flag : Bool)
     → (flag ≡ false → is_double_set (was r).size ≡ false) → size_flag_after stroke flag r ≡ false
     → is_double_set (row_pen_after stroke was r).size ≡ false
 single_after (strokes.Put p cell) was r flag old unset =
-    old (or_parts flag (p.row == r && sets_size cell.what) unset).0
+    old (or_parts flag (p.row == r && sets_double_size cell.what) unset).0
 single_after (strokes.RowAttr row attr) was r flag old unset =
     let parts = or_parts flag (row == r && gives_size attr) unset in
     single_if (row == r) attr (was r) (old parts.0) parts.1
@@ -147,7 +147,7 @@ single_after (strokes.Format rows) was r flag old unset = old unset
 
 -- the flag of sizes is set where what is put sets one
 flag_of_cells : (stroke : Stroke) (r : ℕ) (flag : Bool) → size_flag_after stroke flag r ≡ false
-    → flag_after sets_size stroke flag r ≡ false
+    → flag_after sets_double_size stroke flag r ≡ false
 flag_of_cells (strokes.Put p cell) r flag unset = unset
 flag_of_cells (strokes.RowAttr row attr) r flag unset = (or_parts flag (row == r && gives_size attr) unset).0
 flag_of_cells strokes.Wipe r flag unset = unset
@@ -185,7 +185,7 @@ IsKeptPage-after {p} {q} {marked} {sized} {marked_after} {sized_after} {stroke} 
     none = λ r top bottom unset.
         let said : size_flag_after stroke (entry false 1 sized r) r ≡ false = sym (sizes r top bottom) ∙ unset in
         record {
-          cells = HasNone-after sets_size refl stroke p.cells q.cells r (entry false 1 sized r) drawn.cells
+          cells = HasNone-after sets_double_size refl stroke p.cells q.cells r (entry false 1 sized r) drawn.cells
               (λ was. (m.sizes.none r top bottom was).cells) (flag_of_cells stroke r (entry false 1 sized r) said);
           pen = ap (λ (l : List Pen). is_double_set (row_pen_in l r).size) drawn.row_pens
               ∙ ap (λ (x : Pen). is_double_set x.size)
@@ -218,9 +218,9 @@ pub IsUnflagged-before : {marked sized marked_after sized_after : List Bool} (pl
 IsUnflagged-before {marked} {sized} place cell on marks sizes is = record {
   unmarked = (or_parts (entry false 1 marked place.row) (place.row == place.row && is_marker cell.what)
       (sym (marks place.row on.from_top on.to_bottom) ∙ is.unmarked)).0;
-  single = (or_parts (entry false 1 sized place.row) (place.row == place.row && sets_size cell.what)
+  single = (or_parts (entry false 1 sized place.row) (place.row == place.row && sets_double_size cell.what)
       (sym (sizes place.row on.from_top on.to_bottom) ∙ is.single)).0;
   single_above = λ more. (or_parts (entry false 1 sized (place.row - 1))
-      (place.row == place.row - 1 && sets_size cell.what)
+      (place.row == place.row - 1 && sets_double_size cell.what)
       (sym (sizes (place.row - 1) (omega arith) (omega (arith, on))) ∙ is.single_above more)).0;
 }

@@ -9,7 +9,7 @@ use Rattle.cept_codes.specs.Table.{row_of, value_at, IsTable}
 use Rattle.cept_codes.proofs.Laws.{IsTable-table, value_at-table}
 use Rattle.cept_profile.specs.Changes.{differences}
 use Rattle.cept_profile.specs.Look.{is_last_row, look, looks_of}
-use Rattle.cept_profile.specs.Reach.{becomes_last, is_row_touched, one_touches}
+use Rattle.cept_profile.specs.Reach.{is_last_under_one, is_row_touched, one_touches}
 use Rattle.cept_profile.specs.RowsFromAbove.{covering_differs, looks_in}
 use Rattle.cept_profile.specs.State.{Core, Page, page_after}
 use Rattle.cept_repaint.specs.Kept.{core_on, is_other_above, is_reached, reached_rows, row_beneath, IsRefreshed}
@@ -41,10 +41,11 @@ WalkedTo-first xs before k was marks steps is none = record {
 
 -- whether a row is reached, by a flag for its strokes and one for the number of rows
 pub reached_by : (xs : List Stroke) (before after row : ℕ) (touched last covered reached : Bool)
-    → touched ≡ one_touches xs row → last ≡ becomes_last before after row → ((touched || last) || covered) ≡ reached
+    → touched ≡ one_touches xs row → last ≡ is_last_under_one before after row
+    → ((touched || last) || covered) ≡ reached
     → (is_row_touched xs before after row || covered) ≡ reached
 reached_by xs before after row touched last covered reached et el e =
-    ap (λ b. (b || becomes_last before after row) || covered) (sym et)
+    ap (λ b. (b || is_last_under_one before after row) || covered) (sym et)
     ∙ ap (λ b. (touched || b) || covered) (sym el) ∙ e
 
 -- a row that isn't reached

@@ -10,7 +10,7 @@ use Rattle.cept_codes.specs.declared.stroke.Stroke.TheVariants as strokes
 use Rattle.cept_codes.specs.Cell.{blank_cell}
 use Rattle.cept_codes.specs.Place.{OnScreen}
 use Rattle.cept_codes.specs.Table.{value_at, entry}
-use Rattle.cept_profile.specs.Look.{is_double, is_double_set, sets_size}
+use Rattle.cept_profile.specs.Look.{is_double, is_double_set, sets_double_size}
 use Rattle.cept_profile.specs.PageParts.{row_pen_in}
 use Rattle.cept_profile.specs.Serial.{is_marker}
 use Rattle.cept_profile.specs.State.{Page}
@@ -21,7 +21,7 @@ HasNone is_such cells r = (c : ℕ) → OnScreen r c → is_such (value_at blank
 
 -- neither what stands in row r nor its attributes set a double size
 pub record IsSingleRow (p : Page) (r : ℕ) : Type 0 where
-  pub cells : HasNone sets_size p.cells r
+  pub cells : HasNone sets_double_size p.cells r
   pub pen : is_double_set (row_pen_in p.row_pens r).size ≡ false
 
 -- no marker stands in row r, and neither in it nor in the row above is a double size set
@@ -63,7 +63,7 @@ gives_size _ = false
 
 -- the flag of sizes: an attribute of its row sets it too
 abbrev pub size_flag_after : Stroke → Bool → ℕ → Bool
-size_flag_after (strokes.Put p cell) was r = was || (p.row == r && sets_size cell.what)
+size_flag_after (strokes.Put p cell) was r = was || (p.row == r && sets_double_size cell.what)
 size_flag_after (strokes.RowAttr row attr) was r = was || (row == r && gives_size attr)
 size_flag_after strokes.Wipe was r = false
 size_flag_after _ was r = was

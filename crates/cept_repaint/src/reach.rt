@@ -3,7 +3,7 @@ ghost use Rattle.std.specs.Prelude.{slice_index_or, IfSome};
 ghost use Rattle.cept_codes.specs.declared.cell.Cell.{Cell};
 ghost use Rattle.cept_codes.specs.Table.{list_by_index, entry};
 ghost use Rattle.cept_profile.specs.Look.{is_last_row};
-ghost use Rattle.cept_profile.specs.Reach.{becomes_last, one_touches, touches};
+ghost use Rattle.cept_profile.specs.Reach.{is_last_under_one, one_touches, touches};
 
 use cept_codes::{Cell, Pos, Stroke};
 
@@ -75,8 +75,8 @@ pub(crate) fn is_last_row(rows: u8, row: u8) -> bool
 }
 
 /// Whether a row becomes last, or is so no longer.
-pub(crate) fn becomes_last(before: u8, after: u8, row: u8) -> bool
-    ensures { result ≡ becomes_last before after row }
+pub(crate) fn is_last_under_one(before: u8, after: u8, row: u8) -> bool
+    ensures { result ≡ is_last_under_one before after row }
 {
     is_last_row(before, row) != is_last_row(after, row)
 }

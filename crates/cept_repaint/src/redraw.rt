@@ -22,7 +22,7 @@ ghost use Rattle.cept_codes.specs.Table.{value_at, entry};
 ghost use Rattle.cept_profile.specs.Cells.{is_at};
 ghost use Rattle.cept_profile.specs.Changes.{differences, grid_with_paint, look_at};
 ghost use Rattle.cept_profile.specs.Look.{look, looks_of};
-ghost use Rattle.cept_profile.specs.Reach.{becomes_last, is_row_touched};
+ghost use Rattle.cept_profile.specs.Reach.{is_last_under_one, is_row_touched};
 ghost use Rattle.cept_profile.specs.RowsFromAbove.{covering_differs, is_other_covering, looks_in};
 ghost use Rattle.cept_profile.specs.State.{page_after};
 ghost use Rattle.cept_profile.specs.Tiling.{column_entry};
@@ -36,7 +36,7 @@ ghost use Rattle.cept_repaint.specs.Marks.{no_marks};
 use crate::kept_rows::KeptRows;
 use crate::marks::Marks;
 use crate::page::Page;
-use crate::reach::{becomes_last, is_last_row, only_put, rows_touched};
+use crate::reach::{is_last_row, is_last_under_one, only_put, rows_touched};
 use cept_codes::{Pos, Stroke};
 use cept_outside::Steps;
 use cept_rows::RowLooks;
@@ -154,7 +154,7 @@ fn refresh_rows<L: Ledger>(
     let touched = rows_touched(strokes);
     let mut covered = false;
     for row in 1..25u8 {
-        let changed = touched[usize::from(row) - 1] | becomes_last(before, after, row);
+        let changed = touched[usize::from(row) - 1] | is_last_under_one(before, after, row);
         if !(changed | covered) {
             continue;
         }

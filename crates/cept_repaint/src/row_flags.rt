@@ -1,7 +1,7 @@
 ghost use Rattle.std.specs.Prelude.{◌≡◌, ◌≤◌, ◌==◌, ◌&&◌, ◌||◌, ℕ, true, false, length};
 ghost use Rattle.cept_codes.specs.Stroke.{IsValidStroke};
 ghost use Rattle.cept_codes.specs.Table.{entry};
-ghost use Rattle.cept_profile.specs.Look.{is_double, sets_size};
+ghost use Rattle.cept_profile.specs.Look.{is_double, sets_double_size};
 ghost use Rattle.cept_profile.specs.Serial.{is_marker};
 ghost use Rattle.cept_repaint.specs.MarkedRows.{
   IsUnflagged,
@@ -62,7 +62,7 @@ pub(crate) fn flag_put(place: Pos, cell: &Cell, marked: &mut [bool; 24], sized: 
         ≡ size_flag_after (Stroke.Put place cell.now) (entry false 1 sized.old r) r }
 {
     flag_row(place.row(), is_marker(&cell.what), marked);
-    flag_row(place.row(), sets_size(&cell.what), sized);
+    flag_row(place.row(), sets_double_size(&cell.what), sized);
 }
 
 /// Whether no flag of the row is set, and the flag of sizes of the row above isn't.
@@ -102,8 +102,8 @@ fn is_marker(what: &What) -> bool
 }
 
 /// Whether what stands there sets a double size.
-fn sets_size(what: &What) -> bool
-    ensures { result ≡ sets_size what.now }
+fn sets_double_size(what: &What) -> bool
+    ensures { result ≡ sets_double_size what.now }
 {
     match what {
         What::Parallel(_, pen) => match pen.size {

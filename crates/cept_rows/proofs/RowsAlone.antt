@@ -17,7 +17,7 @@ use Rattle.cept_codes.specs.Look.{blank_look}
 use Rattle.cept_codes.specs.Table.{row_of}
 use Rattle.cept_profile.specs.Attributes.{cascade, first_value}
 use Rattle.cept_profile.specs.Carry.{Carry, carry, carry_after, carry_in}
-use Rattle.cept_profile.specs.Look.{is_double_set, look_in_row, sets_size, look_with, look_with_part, part_of}
+use Rattle.cept_profile.specs.Look.{is_double_set, look_in_row, sets_double_size, look_with, look_with_part, part_of}
 use Rattle.cept_profile.specs.Look.{shape_in, shape_of, size_in_row}
 use Rattle.cept_profile.specs.RowsFromAbove.{look_by, look_from, row_from_above}
 use Rattle.cept_profile.specs.Serial.{acts_there, held_sign, is_marker, own_attributes_of, serial_attributes}
@@ -59,7 +59,7 @@ look_alone paint_of row pen screen c low high plain =
 -- ---- sizes
 
 -- what sets no size leaves the single one in force after it, and in its own cell
-single_after : (w : What) (s : Carry) → sets_size w ≡ false → s.full.size ≡ sizes.Normal
+single_after : (w : What) (s : Carry) → sets_double_size w ≡ false → s.full.size ≡ sizes.Normal
     → (carry_after w s).full.size ≡ sizes.Normal
 single_after (whats.Marker (markers.Size sizes.Normal)) s sets e = refl
 single_after (whats.Marker (markers.Size sizes.High)) s sets e = cc
@@ -79,14 +79,15 @@ single_after whats.Blank s sets e = e
 single_after (whats.Serial g) s sets e = e
 single_after (whats.Parallel g p) s sets e = e
 
-single_in : (w : What) (s : Carry) → sets_size w ≡ false → s.full.size ≡ sizes.Normal
+single_in : (w : What) (s : Carry) → sets_double_size w ≡ false → s.full.size ≡ sizes.Normal
     → (carry_in w s).full.size ≡ sizes.Normal
 single_in w s sets e =
     cond_both (acts_there w) (carry_after w s) s (λ t. t.full.size ≡ sizes.Normal) (λ acts. single_after w s sets e)
     (λ acts. e)
 
 -- in a row that sets none it is carried everywhere, and in force everywhere
-single_carried : (row : ℕ → What) (pen screen : Pen) (c : ℕ) → ((d : ℕ) → 1 ≤ d → d ≤ c → sets_size (row d) ≡ false)
+single_carried : (row : ℕ → What) (pen screen : Pen) (c : ℕ) → ((d : ℕ) → 1 ≤ d → d ≤ c
+    → sets_double_size (row d) ≡ false)
     → (cascade unset_pen pen screen).size ≡ sizes.Normal → (carry row pen screen c).full.size ≡ sizes.Normal
 single_carried row pen screen zero plain e = ap (λ (s : Carry). s.full.size) (sym (carry-start row pen screen)) ∙ e
 single_carried row pen screen (suc c) plain e =
@@ -95,7 +96,7 @@ single_carried row pen screen (suc c) plain e =
     (single_carried row pen screen c (λ d low high. plain d low (omega arith)) e))
 
 single_serial : (row : ℕ → What) (pen screen : Pen) (c : ℕ) → 1 ≤ c → ((d : ℕ) → 1 ≤ d → d ≤ c
-    → sets_size (row d) ≡ false)
+    → sets_double_size (row d) ≡ false)
     → (cascade unset_pen pen screen).size ≡ sizes.Normal → (serial_attributes row pen screen c).size ≡ sizes.Normal
 single_serial row pen screen zero low plain e = absurd (omega arith)
 single_serial row pen screen (suc c) low plain e =
@@ -113,7 +114,7 @@ size_first (Some sizes.Wide) pen screen single e = cc
 size_first (Some sizes.Both) pen screen single e = cc
 
 -- what stands in a cell that sets none
-size_of_cell : (w : What) (pen screen : Pen) (f : Full) → sets_size w ≡ false
+size_of_cell : (w : What) (pen screen : Pen) (f : Full) → sets_double_size w ≡ false
     → (cascade unset_pen pen screen).size ≡ sizes.Normal → f.size ≡ sizes.Normal
     → (own_attributes_of w pen screen f).size ≡ sizes.Normal
 size_of_cell whats.Blank pen screen f sets e g = g
@@ -123,7 +124,7 @@ size_of_cell (whats.Marker m) pen screen f sets e g = g
 
 -- the size of each cell of such a row
 pub size_alone : (row : ℕ → What) (pen screen : Pen) (c : ℕ) → 1 ≤ c → c ≤ 40
-    → ((d : ℕ) → 1 ≤ d → d ≤ 40 → sets_size (row d) ≡ false) → (cascade unset_pen pen screen).size ≡ sizes.Normal
+    → ((d : ℕ) → 1 ≤ d → d ≤ 40 → sets_double_size (row d) ≡ false) → (cascade unset_pen pen screen).size ≡ sizes.Normal
     → size_in_row row pen screen c ≡ sizes.Normal
 unfolding size_in_row
 size_alone row pen screen c low high plain e =
@@ -196,7 +197,7 @@ look_from-alone above own wanted last uncovered single normal (suc c) high =
 -- the whole row
 pub row_alone : (paint_of : ℕ → Paint) (above : List Look) (row : ℕ → What) (pen screen : Pen) (last : Bool)
     → ((c : ℕ) → covers_below (part_of (column_entry blank_look above c)) ≡ false)
-    → ((d : ℕ) → 1 ≤ d → d ≤ 40 → sets_size (row d) ≡ false) → (cascade unset_pen pen screen).size ≡ sizes.Normal
+    → ((d : ℕ) → 1 ≤ d → d ≤ 40 → sets_double_size (row d) ≡ false) → (cascade unset_pen pen screen).size ≡ sizes.Normal
     → row_of (look_in_row paint_of row pen screen)
     ≡ row_from_above above (look_in_row paint_of row pen screen) (size_in_row row pen screen) last
 unfolding row_from_above

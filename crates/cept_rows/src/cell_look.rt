@@ -5,7 +5,7 @@ ghost use Rattle.cept_codes.specs.declared.look.Shape.TheVariants.{Space};
 ghost use Rattle.cept_codes.specs.Attribute.{IsValidFull, IsValidPen, unset_pen};
 ghost use Rattle.cept_codes.specs.Cell.{IsValidWhat};
 ghost use Rattle.cept_profile.specs.Attributes.{cascade};
-ghost use Rattle.cept_profile.specs.Look.{attributes_of, look_of, look_with, sets_size};
+ghost use Rattle.cept_profile.specs.Look.{attributes_of, look_of, look_with, sets_double_size};
 ghost use Rattle.cept_profile.specs.Look.{shape_in, shape_of};
 ghost use Rattle.cept_profile.specs.Look.{shape_of_sign};
 ghost use Rattle.cept_profile.specs.PageParts.{paint_in};
@@ -98,8 +98,8 @@ pub(crate) fn small_among(
 
 /// Whether what stands in a cell sets a size other than the single one.
 #[inline(always)]
-pub(crate) fn sets_size(what: &What) -> bool
-    ensures { result ≡ sets_size what.now }
+pub(crate) fn sets_double_size(what: &What) -> bool
+    ensures { result ≡ sets_double_size what.now }
 {
     match what {
         What::Parallel(_, pen) => !matches!(pen.size, None | Some(Size::Normal)),

@@ -6,7 +6,13 @@ ghost use Rattle.cept_codes.specs.Cell.{IsValidWhat};
 ghost use Rattle.cept_codes.specs.Look.{blank_look};
 ghost use Rattle.cept_codes.specs.Table.{row_of};
 ghost use Rattle.cept_profile.specs.Attributes.{cascade};
-ghost use Rattle.cept_profile.specs.Look.{is_last_row, look_in_row, looks_of, part_of, sets_size};
+ghost use Rattle.cept_profile.specs.Look.{
+  is_last_row,
+  look_in_row,
+  looks_of,
+  part_of,
+  sets_double_size,
+};
 ghost use Rattle.cept_profile.specs.Look.{size_in_row};
 ghost use Rattle.cept_profile.specs.PageParts.{paint_in, row_pen_in};
 ghost use Rattle.cept_profile.specs.RowsFromAbove.{looks_in, row_from_above};
@@ -15,7 +21,7 @@ ghost use Rattle.cept_profile.specs.State.{Core};
 ghost use Rattle.cept_profile.specs.Tiling.{column_entry, covers_below};
 
 use crate::cell_look::{
-    own_attributes, sets_size, small_among, small_by_part, small_under, small_with,
+    own_attributes, sets_double_size, small_among, small_by_part, small_under, small_with,
 };
 use crate::row_looks::RowLooks;
 use crate::small_look::{Sign, SmallLook};
@@ -124,7 +130,7 @@ fn found_in(cells: &[Cell; 40]) -> Found
     ensures marker { result.marker ≡ false → (c : ℕ) → 1 ≤ c → c ≤ 40
         → is_marker (row_in cells.now c) ≡ false }
     ensures size { result.size ≡ false → (c : ℕ) → 1 ≤ c → c ≤ 40
-        → sets_size (row_in cells.now c) ≡ false }
+        → sets_double_size (row_in cells.now c) ≡ false }
 {
     let mut found = Found {
         marker: false,
@@ -140,17 +146,17 @@ fn found_in(cells: &[Cell; 40]) -> Found
 #[inline(always)]
 fn found_also(found: Found, what: &What) -> Found
     ensures marker { result.marker ≡ (found.marker || is_marker what.now) }
-    ensures size { result.size ≡ (found.size || sets_size what.now) }
+    ensures size { result.size ≡ (found.size || sets_double_size what.now) }
 {
     match what {
         What::Blank | What::Serial(_) => found,
         What::Parallel(_, _) => Found {
-            size: found.size | sets_size(what),
+            size: found.size | sets_double_size(what),
             ..found
         },
         What::Marker(_) => Found {
             marker: true,
-            size: found.size | sets_size(what),
+            size: found.size | sets_double_size(what),
         },
     }
 }

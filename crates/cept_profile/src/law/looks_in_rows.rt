@@ -5,7 +5,7 @@ ghost use Rattle.cept_codes.specs.declared.attribute.Size.TheVariants as sizes;
 ghost use Rattle.cept_codes.specs.declared.cell.What.{What};
 ghost use Rattle.cept_codes.specs.declared.look.Paint.{Paint};
 ghost use Rattle.cept_profile.specs.Look.{is_double_set, look_in_row, look_of, looks_of};
-ghost use Rattle.cept_profile.specs.Look.{sets_size, size_in_row};
+ghost use Rattle.cept_profile.specs.Look.{sets_double_size, size_in_row};
 ghost use Rattle.cept_profile.specs.Serial.{is_marker};
 ghost use Rattle.cept_profile.specs.State.{Core};
 
@@ -23,7 +23,7 @@ pub fn looks_hang_on_cells_to_the_left()
         → ((d : ℕ) → 1 ≤ d → d ≤ c → is_marker (row d) ≡ false)
         → look_in_row paint_of row pen screen c ≡ look_of paint_of pen screen (row c) }
     ensures single { (row : ℕ → What) (pen screen : Pen) (c : ℕ) → 1 ≤ c
-        → ((d : ℕ) → 1 ≤ d → d ≤ c → sets_size (row d) ≡ false)
+        → ((d : ℕ) → 1 ≤ d → d ≤ c → sets_double_size (row d) ≡ false)
         → is_double_set pen.size ≡ false → is_double_set screen.size ≡ false
         → size_in_row row pen screen c ≡ sizes.Normal }
 {}

@@ -19,8 +19,8 @@ loop-row-preserved-then-not-changed-covered g c =
     ∙ ap (λ n. get_or (list_by_index 1 24 (one_touches c.args.strokes.now)) (n - 1) false) c.from.ensures
     ∙ entry-list_by_index false 1 24 (one_touches c.args.strokes.now) row c.loop-row.auto.row (omega arith) in
     WalkedTo-kept c.loop-row.invariant c.tell_whole.ensures c.loop-row.auto.row (omega arith) c.requires.others
-    (reached_by c.args.strokes.now c.args.before c.args.after row _ c.becomes_last.result c.loop-row.covered false
-    touched c.becomes_last.ensures c.if-not-changed-covered.true)
+    (reached_by c.args.strokes.now c.args.before c.args.after row _ c.is_last_under_one.result c.loop-row.covered false
+    touched c.is_last_under_one.ensures c.if-not-changed-covered.true)
 
 pub loop-row-preserved : goal.loop-row-preserved
 loop-row-preserved g c =
@@ -28,8 +28,8 @@ loop-row-preserved g c =
     let touched = ap (λ (l : List Bool). get_or l (c.from.result - 1) false) c.rows_touched-touched.ensures
     ∙ ap (λ n. get_or (list_by_index 1 24 (one_touches c.args.strokes.now)) (n - 1) false) c.from.ensures
     ∙ entry-list_by_index false 1 24 (one_touches c.args.strokes.now) row c.loop-row.auto.row (omega arith) in
-    let reached = reached_by c.args.strokes.now c.args.before c.args.after row _ c.becomes_last.result
-    c.loop-row.covered true touched c.becomes_last.ensures c.if-not-changed-covered.false in
+    let reached = reached_by c.args.strokes.now c.args.before c.args.after row _ c.is_last_under_one.result
+    c.loop-row.covered true touched c.is_last_under_one.ensures c.if-not-changed-covered.false in
     WalkedTo-more c.loop-row.invariant c.tell_whole.ensures c.loop-row.auto.row (omega arith) reached
     c.is_last_row.result c.is_last_row.ensures c.refresh_row-covered.new.kept c.refresh_row-covered.new.marks
     c.refresh_row-covered.result c.refresh_row-covered.new.steps c.refresh_row-covered.ensures.refreshed
