@@ -1,7 +1,7 @@
 -- What a write of the grid's rows makes of the table of cells, against what a stroke makes of it.
 use Rattle.std.proofs.Common.{◌≡◌, ℕ, ◌+◌, ◌-◌, ◌<◌, ◌≤◌, ◌&&◌, ◌==◌, inl, inr, leb, not, Bool, true, false, cond, List}
 use Rattle.std.proofs.Common.{[], ◌++◌, get_or, set, take, drop, length, refl, sym, ap, ◌∙◌, subst, arith}
-use Rattle.std.proofs.lemmas.Bool.{and_parts, cases_eq, eqb-true, false_from_ne_true}
+use Rattle.std.proofs.lemmas.Bool.{and_parts, cases_eq, eqb-true}
 use Rattle.std.proofs.lemmas.Bool.Decides.{nat_tests}
 use Rattle.std.proofs.lemmas.List.{take_at, at_drop_more, at_drop_all, get_or_default}
 use Rattle.cept_codes.specs.declared.cell.Cell.{Cell}
@@ -125,23 +125,12 @@ cells_after-erase {g} {now} is same row from i old new e top bottom er read made
     ]) ∙
     ap (λ (t : List (List Cell)). cells_after t (strokes.Erase row from)) same
 
--- no row of the screen
-pub cells_after-erase_nowhere : {t : List (List Cell)} → IsTable t → (row from : ℕ) → (1 ≤ row → row ≤ 24 → ⊥)
-    → t ≡ cells_after t (strokes.Erase row from)
-cells_after-erase_nowhere {t} is row from away =
-    sym (table-value_at t blank_cell is)
-    ∙ same_table (value_at blank_cell t) (cell_after (strokes.Erase row from) (value_at blank_cell t)) (λ q c on.
-    let no : (q == row) ≡ false =
-    false_from_ne_true (q == row) (λ here.
-    let same : q ≡ row = eqb-true q row here in away (omega (arith, on)) (omega (arith, on))) in
-    sym (ap (λ b. cond ((b && leb from c) && not (value_at blank_cell t q c).protected) blank_cell
-    (value_at blank_cell t q c)) no))
-
 -- the stroke changes cells
 abbrev pub changes_cells : Stroke → Bool
 changes_cells (strokes.Put p cell) = true
 changes_cells (strokes.Erase r from) = true
 changes_cells strokes.Wipe = true
+changes_cells (strokes.Shift first last way) = true
 changes_cells _ = false
 
 -- what a stroke leaves that changes none
@@ -150,7 +139,7 @@ pub cells_after-unchanged : (t : List (List Cell)) (stroke : Stroke) → IsTable
 cells_after-unchanged t (strokes.Put p cell) is none = absurd (cc)
 cells_after-unchanged t strokes.Wipe is none = absurd (cc)
 cells_after-unchanged t (strokes.Erase r from) is none = absurd (cc)
-cells_after-unchanged t (strokes.Shift a b way) is none = sym (table-value_at t blank_cell is)
+cells_after-unchanged t (strokes.Shift first last way) is none = absurd (cc)
 cells_after-unchanged t (strokes.RowAttr r attr) is none = sym (table-value_at t blank_cell is)
 cells_after-unchanged t (strokes.ScreenAttr attr) is none = sym (table-value_at t blank_cell is)
 cells_after-unchanged t strokes.ScreenClear is none = sym (table-value_at t blank_cell is)

@@ -1,2 +1,3 @@
 mod CellsAfterStrokes
+mod ShiftedRows
 pub mod Laws

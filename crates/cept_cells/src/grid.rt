@@ -3,12 +3,14 @@ ghost use Rattle.std.specs.Prelude.{slice_index_or, IfOk};
 ghost use Rattle.std.specs.Prelude.{if◌then◌else◌};
 ghost use Rattle.cept_codes.specs.declared.cell.Cell.{Cell};
 ghost use Rattle.cept_codes.specs.Cell.{blank_cell};
+ghost use Rattle.cept_codes.specs.Command.{IsArea};
 ghost use Rattle.cept_codes.specs.Place.{OnScreen};
+ghost use Rattle.cept_codes.specs.Stroke.{IsValidStroke};
 ghost use Rattle.cept_codes.specs.Table.{table, value_at, entry, list_by_index, IsTable};
 ghost use Rattle.cept_profile.specs.Cells.{cells_after};
 ghost use Rattle.cept_cells.specs.Erased.{cell_after_erasing};
 
-use cept_codes::{Cell, NoMemory, Pos, RowCells, Stroke};
+use cept_codes::{Cell, NoMemory, Pos, RowCells, Stroke, Up};
 use std::alloc::Global;
 use std::marker::Model;
 
@@ -106,6 +108,7 @@ impl Grid {
 
     /// Changes the cells as a stroke does.
     pub fn strike(&mut self, stroke: &Stroke)
+        requires { IsValidStroke stroke.now }
         ensures { self.new ≡ cells_after self.old stroke.now }
     {
         self.tell_whole();
@@ -113,12 +116,9 @@ impl Grid {
             Stroke::Put(place, cell) => {
                 let _ = self.put(*place, *cell);
             }
-            Stroke::Erase(row, from) => {
-                if 1 <= *row && *row <= 24 {
-                    self.erase(*row, *from);
-                }
-            }
+            Stroke::Erase(row, from) => self.erase(*row, *from),
             Stroke::Wipe => self.wipe(),
+            Stroke::Shift(first, last, way) => self.shift(*first, *last, *way),
             // These change no cell.
             Stroke::RowAttr(_, _)
             | Stroke::ScreenAttr(_)
@@ -129,8 +129,6 @@ impl Grid {
             | Stroke::DrcsClear
             | Stroke::Drcs(_, _)
             | Stroke::Format(_) => {}
-            // Not built yet: no effect.
-            Stroke::Shift(_, _, _) => {}
         }
     }
 
@@ -148,6 +146,26 @@ impl Grid {
         ensures { self.new ≡ cells_after self.old Stroke.Wipe }
     {
         blank_rows(&mut self.rows);
+    }
+
+    /// Moves the rows from the first to the last, `1 <= first <= last <= 24`, one row up or down,
+    /// each whole with the protection of its cells. The one that comes free is blank.
+    pub fn shift(&mut self, first: u8, last: u8, way: Up)
+        requires { IsArea first last }
+        ensures { self.new ≡ cells_after self.old (Stroke.Shift first last way) }
+    {
+        let top = usize::from(first) - 1;
+        let bottom = usize::from(last) - 1;
+        match way {
+            Up::Up => {
+                self.rows.copy_within(top + 1..bottom + 1, top);
+                self.rows[bottom] = BLANK_ROW;
+            }
+            Up::Down => {
+                self.rows.copy_within(top..bottom, top + 1);
+                self.rows[top] = BLANK_ROW;
+            }
+        }
     }
 }
 

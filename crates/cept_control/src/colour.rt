@@ -1,15 +1,15 @@
-ghost use Rattle.std.specs.Prelude.{◌≡◌, ◌≤◌, []};
+ghost use Rattle.std.specs.Prelude.{◌≡◌, ◌≤◌, [], ◌∷◌, if◌then◌else◌};
 ghost use Rattle.cept_codes.specs.Command.{IsC1, IsScreenC1};
-ghost use Rattle.cept_codes.specs.Look.{IsValidRgb};
+ghost use Rattle.cept_codes.specs.Look.{IsValidPattern, IsValidRgb};
 ghost use Rattle.cept_profile.specs.Control.{control_effect};
 ghost use Rattle.cept_profile.specs.Strokes.{strokes_when};
 
 use crate::control::Control;
 use crate::pen::attribute_of;
 use arrayvec::ArrayVec;
-use cept_codes::{Command, Paint, Rgb, Stroke};
+use cept_codes::{Command, Paint, Pattern, Rgb, Stroke};
 
-/// The colour table, and what is drawn of the active row and of the screen as a whole.
+/// The colour table, what is drawn of the active row and of the screen as a whole, and patterns.
 impl Control {
     pub(crate) fn colour_table(&mut self, table: u8)
         requires { table ≤ 3 }
@@ -63,5 +63,28 @@ impl Control {
         ensures { strokes.new.items ≡ strokes_when self.now (Command.Dclut i entry) }
     {
         strokes.push(Stroke::Dclut(i, entry));
+    }
+    /// A header of downloaded patterns, which deletes all of them or none.
+    pub(crate) fn drcs_header(&self, delete: bool, strokes: &mut ArrayVec<Stroke, 128>)
+        requires { strokes.old.items ≡ [] }
+        ensures { strokes.new.items ≡ (if delete then Stroke.DrcsClear ∷ [] else []) }
+    {
+        if delete {
+            strokes.push(Stroke::DrcsClear);
+        }
+    }
+
+    pub(crate) fn drcs_pattern(
+        &self,
+        code: u8,
+        pattern: &Pattern,
+        strokes: &mut ArrayVec<Stroke, 128>,
+    )
+        requires code { (0x21 ≤ code) × (code ≤ 0x7E) }
+        requires pattern { IsValidPattern pattern.now }
+        requires empty { strokes.old.items ≡ [] }
+        ensures { strokes.new.items ≡ strokes_when self.now (Command.DrcsPattern code pattern.now) }
+    {
+        strokes.push(Stroke::Drcs(code, *pattern));
     }
 }

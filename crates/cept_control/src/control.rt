@@ -9,7 +9,7 @@ ghost use Rattle.cept_profile.specs.Valid.{IsValidControl};
 
 use crate::working::Working;
 use arrayvec::ArrayVec;
-use cept_codes::{Command, Pos, Stroke};
+use cept_codes::{Command, Pos, Stroke, Up};
 use std::marker::Model;
 
 /// The state of control: the position, the sets, a waiting accent, the pen and the modes.
@@ -157,10 +157,10 @@ impl Control {
         ensures strokes { strokes.new.items ≡ strokes_when self.old command }
     {
         match command {
-            Command::Back => self.back(),
-            Command::Forward => self.forward(),
-            Command::Down => self.down(),
-            Command::Up => self.up(),
+            Command::Back => self.back(strokes),
+            Command::Forward => self.forward(strokes),
+            Command::Down => self.down(strokes),
+            Command::Up => self.up(strokes),
             Command::Return => self.to_first_column(),
             Command::Home => self.home(),
             Command::Clear => self.clear(strokes),
@@ -182,8 +182,19 @@ impl Control {
             Command::ColourDefaults => self.colour_defaults(strokes),
             Command::Entry(i, colour) => self.colour_entry(i, colour, strokes),
             Command::Dclut(i, entry) => self.dclut_entry(i, entry, strokes),
-            // a service isn't built: its break drops the accent that waits
-            Command::ServiceBreak(_) => self.working.accent = None,
+            Command::DrcsHeader(delete, _) => self.drcs_header(delete, strokes),
+            Command::DrcsPattern(code, pattern) => self.drcs_pattern(code, &pattern, strokes),
+            Command::ScrollUp => self.scroll(Up::Up, strokes),
+            Command::ScrollDown => self.scroll(Up::Down, strokes),
+            Command::Implicit(on) => self.implicit_scrolling(on),
+            Command::Protect(on) => self.protection(on),
+            Command::AreaCreate(first, last) => self.create_area(first, last),
+            Command::AreaDelete(first, last) => self.delete_area(first, last),
+            Command::Format(rows, wrap) => self.format(rows, wrap, strokes),
+            Command::ControlDefaults(set) => self.control_defaults(set),
+            Command::FullDefaults(set) => self.full_defaults(set, strokes),
+            Command::ServiceBreak(row) => self.service_break(row),
+            Command::ServiceEnd => self.service_end(),
             // these leave control as it is
             Command::Nul
             | Command::Skipped
@@ -193,19 +204,6 @@ impl Control {
             | Command::ColourHeader(_)
             | Command::ColourStart(_)
             | Command::DrcsStart(_) => {}
-            // not built yet: no effect
-            Command::ScrollUp
-            | Command::ScrollDown
-            | Command::Implicit(_)
-            | Command::Protect(_)
-            | Command::AreaCreate(_, _)
-            | Command::AreaDelete(_, _)
-            | Command::DrcsHeader(_, _)
-            | Command::DrcsPattern(_, _)
-            | Command::Format(_, _)
-            | Command::ServiceEnd
-            | Command::FullDefaults(_)
-            | Command::ControlDefaults(_) => {}
         }
     }
 }

@@ -1,4 +1,4 @@
-ghost use Rattle.std.specs.Prelude.{◌≡◌, ◌≤◌, ◌<◌, ◌⊎◌, [], ◌++◌, length, IfSome};
+ghost use Rattle.std.specs.Prelude.{◌≡◌, ◌+◌, ◌≤◌, ◌⊎◌, [], ◌++◌, length, IfSome};
 ghost use Rattle.cept_codes.specs.Cell.{IsValidCell};
 ghost use Rattle.cept_codes.specs.Command.{IsGraphic};
 ghost use Rattle.cept_codes.specs.Glyph.{IsValidGlyph};
@@ -16,8 +16,14 @@ use crate::control::Control;
 use arrayvec::ArrayVec;
 use cept_codes::{C1Set, Cell, Command, Glyph, Read, SetId, Size, Stroke, What};
 
-/// Signs, and their copies.
+/// Signs, their copies, and whether written cells are protected.
 impl Control {
+    pub(crate) fn protection(&mut self, on: bool)
+        ensures { self.new ≡ control_effect self.old (Command.Protect on) }
+    {
+        self.working.protect = on;
+    }
+
     pub(crate) fn graphic(&mut self, byte: u8, strokes: &mut ArrayVec<Stroke, 128>)
         requires graphic { IsGraphic byte }
         requires empty { strokes.old.items ≡ [] }
@@ -67,15 +73,17 @@ impl Control {
     }
 
     /// Writes a sign at the position, which moves on.
+    #[inline(always)]
     fn write(&mut self, sign: Glyph, strokes: &mut ArrayVec<Stroke, 128>)
         requires valid { IsValidGlyph sign }
-        requires room { length strokes.old.items < 128 }
+        requires room { length strokes.old.items + 2 ≤ 128 }
         ensures state { self.new ≡ control_with self.old (working_after_sign self.old sign) }
         ensures strokes { strokes.new.items ≡ strokes.old.items ++ strokes_of_sign self.old sign }
     {
         let columns = self.columns_of_sign();
-        strokes.push(Stroke::Put(self.active(), self.cell_of(sign)));
-        self.move_on(columns);
+        let cell = self.cell_of(sign);
+        strokes.push(Stroke::Put(self.active(), cell));
+        self.move_on(columns, strokes);
         self.working.last = Some(sign);
         self.working.accent = None;
     }

@@ -2,12 +2,14 @@
 //! knows no bytes, sees no cell and no look, and keeps no history.
 #![tactic(auto)]
 
+mod area;
 mod colour;
 mod control;
 mod graphic;
 mod marker;
 mod motion;
 mod pen;
+mod service;
 mod shift;
 #[cfg(test)]
 mod tests;

@@ -1,4 +1,4 @@
-ghost use Rattle.std.specs.Prelude.{◌≡◌, ◌≤◌, ◌<◌, ◌⊎◌, [], ◌++◌, length, IfSome};
+ghost use Rattle.std.specs.Prelude.{◌≡◌, ◌+◌, ◌≤◌, ◌⊎◌, [], ◌++◌, length, IfSome};
 ghost use Rattle.cept_codes.specs.Cell.{IsValidMarker};
 ghost use Rattle.cept_codes.specs.Command.{IsC1};
 ghost use Rattle.cept_profile.specs.Control.{control_effect, control_with};
@@ -30,8 +30,9 @@ impl Control {
     }
 
     /// Leaves a marker at the position, which moves on by one column.
+    #[inline(always)]
     pub(crate) fn leave(&mut self, marker: Marker, strokes: &mut ArrayVec<Stroke, 128>)
-        requires room { length strokes.old.items < 128 }
+        requires room { length strokes.old.items + 2 ≤ 128 }
         ensures state { self.new ≡ control_with self.old (working_after_marker self.old marker) }
         ensures strokes { strokes.new.items
             ≡ strokes.old.items ++ strokes_of_marker self.old marker }
@@ -43,7 +44,7 @@ impl Control {
             protected: self.working.protect,
         };
         strokes.push(Stroke::Put(self.active(), cell));
-        self.move_on(1);
+        self.move_on(1, strokes);
         self.working.run = run;
         self.working.step = step;
     }

@@ -1,41 +1,51 @@
-ghost use Rattle.std.specs.Prelude.{◌≡◌, ◌≤◌, []};
+ghost use Rattle.std.specs.Prelude.{◌≡◌, ◌≤◌, ◌<◌, [], ◌++◌, length};
 ghost use Rattle.cept_codes.specs.Place.{OnScreen};
 ghost use Rattle.cept_profile.specs.Control.{working_at, control_effect, working_without_pen};
 ghost use Rattle.cept_profile.specs.Control.{working_without_run, control_with};
 ghost use Rattle.cept_profile.specs.Motions.{working_back, working_ahead, row_above, row_below};
+ghost use Rattle.cept_profile.specs.Motions.{above_strokes, back_strokes, below_strokes, on_strokes};
 ghost use Rattle.cept_profile.specs.Strokes.{strokes_when};
 
+use crate::area::{is_first_of, is_last_of, push_shift};
 use crate::control::Control;
 use arrayvec::ArrayVec;
-use cept_codes::{Command, Pen, Stroke};
+use cept_codes::{Command, Pen, Stroke, Up};
 
 /// Motions.
 impl Control {
-    pub(crate) fn back(&mut self)
-        ensures { self.new ≡ control_effect self.old Command.Back }
+    pub(crate) fn back(&mut self, strokes: &mut ArrayVec<Stroke, 128>)
+        requires { strokes.old.items ≡ [] }
+        ensures state { self.new ≡ control_effect self.old Command.Back }
+        ensures strokes { strokes.new.items ≡ strokes_when self.old Command.Back }
     {
-        self.move_back();
+        self.move_back(strokes);
         self.end_run();
     }
 
-    pub(crate) fn forward(&mut self)
-        ensures { self.new ≡ control_effect self.old Command.Forward }
+    pub(crate) fn forward(&mut self, strokes: &mut ArrayVec<Stroke, 128>)
+        requires { strokes.old.items ≡ [] }
+        ensures state { self.new ≡ control_effect self.old Command.Forward }
+        ensures strokes { strokes.new.items ≡ strokes_when self.old Command.Forward }
     {
-        self.move_on(1);
+        self.move_on(1, strokes);
         self.end_run();
     }
 
-    pub(crate) fn down(&mut self)
-        ensures { self.new ≡ control_effect self.old Command.Down }
+    pub(crate) fn down(&mut self, strokes: &mut ArrayVec<Stroke, 128>)
+        requires { strokes.old.items ≡ [] }
+        ensures state { self.new ≡ control_effect self.old Command.Down }
+        ensures strokes { strokes.new.items ≡ strokes_when self.old Command.Down }
     {
-        self.move_to(self.row_below(), self.working.column);
+        self.go_below(self.working.column, strokes);
         self.end_run();
     }
 
-    pub(crate) fn up(&mut self)
-        ensures { self.new ≡ control_effect self.old Command.Up }
+    pub(crate) fn up(&mut self, strokes: &mut ArrayVec<Stroke, 128>)
+        requires { strokes.old.items ≡ [] }
+        ensures state { self.new ≡ control_effect self.old Command.Up }
+        ensures strokes { strokes.new.items ≡ strokes_when self.old Command.Up }
     {
-        self.move_to(self.row_above(), self.working.column);
+        self.go_above(self.working.column, strokes);
         self.end_run();
     }
 
@@ -71,29 +81,68 @@ impl Control {
     }
 
     /// Some columns on, past the last one into the row below.
-    pub(crate) fn move_on(&mut self, columns: u8)
-        requires { columns ≤ 2 }
-        ensures { self.new
+    pub(crate) fn move_on(&mut self, columns: u8, strokes: &mut ArrayVec<Stroke, 128>)
+        requires columns { columns ≤ 2 }
+        requires room { length strokes.old.items < 128 }
+        ensures state { self.new
             ≡ control_with self.old (working_ahead self.old columns self.old.working) }
+        ensures strokes { strokes.new.items ≡ strokes.old.items ++ on_strokes self.old columns }
     {
         if self.working.column + columns <= 40 {
             self.move_to(self.working.row, self.working.column + columns);
         } else if self.wrap {
-            self.move_to(self.row_below(), 1);
+            self.go_below(1, strokes);
         } else {
             self.move_to(self.working.row, 40);
         }
     }
 
     /// One column back, before the first one into the row above.
-    fn move_back(&mut self)
-        ensures { self.new ≡ control_with self.old (working_back self.old self.old.working) }
+    fn move_back(&mut self, strokes: &mut ArrayVec<Stroke, 128>)
+        requires room { length strokes.old.items < 128 }
+        ensures state { self.new
+            ≡ control_with self.old (working_back self.old self.old.working) }
+        ensures strokes { strokes.new.items ≡ strokes.old.items ++ back_strokes self.old }
     {
         if self.working.column > 1 {
             self.move_to(self.working.row, self.working.column - 1);
         } else if self.wrap {
-            self.move_to(self.row_above(), 40);
+            self.go_above(40, strokes);
         }
+    }
+
+    /// Into the row below. At the last row of an area that scrolls its rows go up instead.
+    fn go_below(&mut self, column: u8, strokes: &mut ArrayVec<Stroke, 128>)
+        requires column { (1 ≤ column) × (column ≤ 40) }
+        requires room { length strokes.old.items < 128 }
+        ensures state { self.new
+            ≡ control_with self.old
+            (working_at (row_below self.old self.old.working.row) column self.old.working) }
+        ensures strokes { strokes.new.items
+            ≡ strokes.old.items ++ below_strokes self.old self.old.working.row }
+    {
+        let area = self.scrolling_area();
+        if is_last_of(area, self.working.row) {
+            push_shift(Up::Up, area, strokes);
+        }
+        self.move_to(self.row_below(), column);
+    }
+
+    /// Into the row above. At the first row of an area that scrolls its rows go down instead.
+    fn go_above(&mut self, column: u8, strokes: &mut ArrayVec<Stroke, 128>)
+        requires column { (1 ≤ column) × (column ≤ 40) }
+        requires room { length strokes.old.items < 128 }
+        ensures state { self.new
+            ≡ control_with self.old
+            (working_at (row_above self.old self.old.working.row) column self.old.working) }
+        ensures strokes { strokes.new.items
+            ≡ strokes.old.items ++ above_strokes self.old self.old.working.row }
+    {
+        let area = self.scrolling_area();
+        if is_first_of(area, self.working.row) {
+            push_shift(Up::Down, area, strokes);
+        }
+        self.move_to(self.row_above(), column);
     }
 
     /// At another position, with no run and no attribute set.
@@ -109,7 +158,7 @@ impl Control {
         self.unset_pen();
     }
 
-    fn move_to(&mut self, row: u8, column: u8)
+    pub(crate) fn move_to(&mut self, row: u8, column: u8)
         requires on_screen { OnScreen row column }
         requires within { row ≤ self.old.rows }
         ensures { self.new ≡ control_with self.old (working_at row column self.old.working) }
@@ -132,13 +181,15 @@ impl Control {
         self.working.fast = 0;
     }
 
-    /// The row below the active one.
+    /// The row below the active one. The last row of an area that scrolls isn't left.
     fn row_below(&self) -> u8
         ensures row { result ≡ row_below self.now self.now.working.row }
         ensures from_top { 1 ≤ result }
         ensures within { result ≤ self.now.rows }
     {
-        if self.working.row < self.rows {
+        if is_last_of(self.scrolling_area(), self.working.row) {
+            self.working.row
+        } else if self.working.row < self.rows {
             self.working.row + 1
         } else if self.wrap {
             1
@@ -147,13 +198,15 @@ impl Control {
         }
     }
 
-    /// The row above the active one.
+    /// The row above the active one. The first row of an area that scrolls isn't left.
     fn row_above(&self) -> u8
         ensures row { result ≡ row_above self.now self.now.working.row }
         ensures from_top { 1 ≤ result }
         ensures within { result ≤ self.now.rows }
     {
-        if self.working.row > 1 {
+        if is_first_of(self.scrolling_area(), self.working.row) {
+            self.working.row
+        } else if self.working.row > 1 {
             self.working.row - 1
         } else if self.wrap {
             self.rows

@@ -1,21 +1,24 @@
 -- What fits is the beginning of what is whole, and what grows is continued by a byte.
 use Rattle.std.proofs.Common.{◌≡◌, ℕ, zero, suc, ◌+◌, ◌<◌, true, false, eqb, List, [], ◌∷◌, ◌++◌, length, Option, Some}
-use Rattle.std.proofs.Common.{None, refl, sym, ◌∙◌, subst, arith, ◌⊎◌, inl, inr}
+use Rattle.std.proofs.Common.{None, cond, Bool, refl, sym, ◌∙◌, subst, arith, ◌⊎◌, inl, inr}
 use Rattle.std.proofs.lemmas.Bool.{eqb-true, cases_Bool, both_ways}
 use Rattle.std.proofs.lemmas.List.{length-append, append_assoc, append-nil}
+use Rattle.cept_drcs.specs.Unit.{is_pattern, pattern_grows as unit_grows}
+use Rattle.cept_drcs.proofs.Laws.{longer}
 use Rattle.cept_parser.specs.declared.context.Mode.{Mode}
 use Rattle.cept_parser.specs.declared.context.Mode.TheVariants.{Text, TableRun, DclutRun, DrcsRun, Skip}
 use Rattle.cept_parser.specs.declared.context.Context.{Context}
 use Rattle.cept_parser.specs.declared.context.Outcome.{Outcome}
-use Rattle.cept_parser.specs.Bytes.{is_plain, are_options_left}
+use Rattle.cept_parser.specs.Bytes.{is_plain, is_empty, whole_outcome, are_options_left}
 use Rattle.cept_parser.specs.Units.{drcs_parts, drcs_unit, begins_drcs, colour_parts, colour_unit, begins_colour}
 use Rattle.cept_parser.specs.Units.{format_parts, us_unit, begins_us, header_grows, us_grows}
-use Rattle.cept_parser.specs.Runs.{run_grows, pattern_grows}
+use Rattle.cept_parser.specs.Runs.{run_unit, begins_run, run_grows, pattern_unit, begins_pattern, pattern_grows}
+use Rattle.cept_parser.specs.Runs.{starts_pattern, pattern_outcome, misplacement}
 use Rattle.cept_parser.specs.Grammar.{unit, fits, grows}
 use Rattle.cept_parser.specs.Beginning.{IsBeginning, IsContinued}
 use Rattle.cept_parser.proofs.FurtherByteLemmas.{options_continued, options_whole}
 use Rattle.cept_parser.proofs.GrammarLemmas.{fits_front, whole_fits, plain_fits, whole_ends, open_small, grows_run}
-use Rattle.cept_parser.proofs.GrammarLemmas.{grows_us, grows_other}
+use Rattle.cept_parser.proofs.GrammarLemmas.{grows_us, grows_other, fits_run, unit_run}
 
 cases_unit : (o : Option Outcome) → (o ≡ None) ⊎ ((w : Outcome) × (o ≡ Some w))
 cases_unit None = inl refl
@@ -61,13 +64,28 @@ shorter_fits x u (c ∷ s) h =
 pub beginning_fits : (x : Context) (u : List ℕ) → IsBeginning x u → fits x u ≡ true
 beginning_fits x u b = shorter_fits x u b.rest (whole_fits x (u ++ b.rest) b.whole b.is)
 
-run_never : (m : Mode) (x : Context) (a : ℕ) (u : List ℕ) → run_grows m x a u ≡ false
-unfolding run_grows pattern_grows
-run_never Text x a u = refl
-run_never Skip x a u = refl
-run_never (TableRun i) x a u = refl
-run_never (DclutRun i) x a u = refl
-run_never (DrcsRun c) x a u = refl
+pattern_continued : (x : Context) (d a : ℕ) (u : List ℕ) (o : Outcome) → pattern_unit x d a u ≡ Some o
+    → pattern_grows x d a u ≡ true → (c : ℕ) × (c < 256) × (begins_pattern x d a (u ++ c ∷ []) ≡ true)
+unfolding pattern_unit pattern_grows begins_pattern
+pattern_continued x d a u o e g = pattern_go (starts_pattern x d a) (is_pattern x.form (a ∷ u)) refl e g
+  where
+    pattern_go : (s h : Bool) → is_pattern x.form (a ∷ u) ≡ h
+        → cond s (cond h (Some (pattern_outcome x d (a ∷ u))) None) (whole_outcome u (misplacement x)) ≡ Some o
+        → cond s (unit_grows x.form (a ∷ u)) false ≡ true
+        → (c : ℕ) × (c < 256) × (cond s (is_pattern x.form (a ∷ u ++ c ∷ [])) (is_empty (u ++ c ∷ [])) ≡ true)
+    pattern_go true true q e g = let n = longer x.form a u q g in (n.byte, n.small, n.longer)
+    pattern_go true false q e g = absurd cc
+    pattern_go false h q e g = absurd cc
+
+-- after a whole unit of a mode that grows a byte fits
+run_continued : (m : Mode) (x : Context) (a : ℕ) (u : List ℕ) (o : Outcome) → run_unit m x a u ≡ Some o
+    → run_grows m x a u ≡ true → (c : ℕ) × (c < 256) × (begins_run m x a (u ++ c ∷ []) ≡ true)
+unfolding begins_run
+run_continued Text x a u o e g = absurd cc
+run_continued Skip x a u o e g = absurd cc
+run_continued (TableRun i) x a u o e g = absurd cc
+run_continued (DclutRun i) x a u o e g = absurd cc
+run_continued (DrcsRun c) x a u o e g = pattern_continued x c a u o e g
 
 -- a byte that is this one
 is_byte : (P : ℕ → Type 0) (a b : ℕ) → eqb a b ≡ true → P b → P a
@@ -145,7 +163,8 @@ grows_continued x [] o e g = absurd cc
 grows_continued x (a ∷ u) o e g =
     let P : ℕ → Type 0 = λ d. unit x (d ∷ u) ≡ Some o → IsContinued x (d ∷ u) in
     let plain : is_plain a ≡ true → IsContinued x (a ∷ u) =
-    λ p. absurd (both_ways _ (grows_run x a u p ∙ run_never x.mode x a u) g) in
+    λ p. let n = run_continued x.mode x a u o (sym (unit_run x a u p) ∙ e) (sym (grows_run x a u p) ∙ g) in
+    record { byte = n.0; small = n.1; fit = fits_run x a (u ++ n.0 ∷ []) p ∙ n.2 } in
     let us : is_plain a ≡ false → eqb a 0x1F ≡ true → IsContinued x (a ∷ u) =
     λ p t. is_byte P a 0x1F t (λ d. us_continued x u o d (sym (grows_us x a u p t) ∙ g)) e in
     let none : is_plain a ≡ false → eqb a 0x1F ≡ false → IsContinued x (a ∷ u) =

@@ -1,6 +1,6 @@
 -- What a byte more has to do with what was before, for the small forms of which the units are made.
 use Rattle.std.proofs.Common.{◌≡◌, ℕ, zero, suc, ◌+◌, ◌<◌, ◌≤◌, Bool, true, false, cond, eqb, List, [], ◌∷◌, ◌++◌}
-use Rattle.std.proofs.Common.{length, Option, Some, None, refl, sym, ap, ◌||◌, inl, inr, subst, arith}
+use Rattle.std.proofs.Common.{length, Option, Some, None, refl, sym, ap, ◌||◌, ◌⊎◌, inl, inr, subst, arith}
 use Rattle.std.proofs.lemmas.Bool.{both_ways, cases_Bool, eq-eqb}
 use Rattle.std.specs.List.{list_any}
 use Rattle.cept_parser.specs.declared.context.Outcome.{Outcome}
@@ -52,6 +52,23 @@ pub plain_links : (u : List ℕ) (c : ℕ) (k : ℕ → Outcome)
 plain_links [] c k = first_links c _ _ (λ p. ap (λ b. cond b true false) p)
 plain_links (a ∷ u) c k =
     links_test c (is_plain a) (λ _. complete_links u c (k a) (k a)) (λ _. none_links c)
+
+-- bytes of which each beginning is whole too, a command
+pub whole_links : (c : ℕ) (b b' : Bool) (k k' : Outcome) → (b' ≡ true → b ≡ true) → is_refusal k'.said ≡ false
+    → Links c (cond b (Some k) None) b (cond b' (Some k') None) b'
+whole_links c true b' k k' f r =
+    record {
+      front = f;
+      told = λ w e. refl;
+      opens = λ p h e. absurd cc;
+      again = λ w e h. again_go b' h;
+    }
+  where
+    again_go : (b' : Bool) → b' ≡ true → IsCommand (cond b' (Some k') None)
+    again_go true h = record { whole = k'; is = refl; command = r }
+    again_go false h = absurd cc
+whole_links c false b' k k' f r =
+    record { front = f; told = λ w e. absurd cc; opens = λ p h e. absurd cc; again = λ w e h. absurd cc }
 
 -- the same of sequences: is one, begins one, and with a byte more
 record Follows (c : ℕ) (w f w' f' : Bool) : Type 0 where
@@ -221,6 +238,18 @@ closes_test g false h k = k refl
 pub none_closes : (g f' : Bool) → Closes None g f'
 none_closes g f' = record { end = λ w e h. absurd cc; kept = λ w e r. absurd cc }
 
+pub closes_both : (b : Bool) {p q : Option Outcome} {g h s t : Bool} → (b ≡ true → Closes p g s)
+    → (b ≡ false → Closes q h t) → Closes (cond b p q) (cond b g h) (cond b s t)
+closes_both true h k = h refl
+closes_both false h k = k refl
+
+-- a command that ends where it doesn't grow
+pub whole_closes : (b g f' : Bool) (k : Outcome) → (b ≡ true → g ≡ false → f' ≡ false) → is_refusal k.said ≡ false
+    → Closes (cond b (Some k) None) g f'
+whole_closes true g f' k h r =
+    record { end = λ w e n. h refl n; kept = λ w e t. absurd (let s : k ≡ w = cc in both_ways _ r (rw s t)) }
+whole_closes false g f' k h r = none_closes g f'
+
 -- what never grows ends at once
 empty_end : (u : List ℕ) (c : ℕ) → is_empty (u ++ c ∷ []) ≡ false
 empty_end [] c = refl
@@ -255,6 +284,15 @@ options_closes parts u c k r =
         → is_refusal k.said ≡ true
     whole_refusal true w e h = let s : k ≡ w = cc in subst (λ (o : Outcome). is_refusal o.said ≡ true) (sym s) h
     whole_refusal false w e h = absurd cc
+
+-- what fits has at most so many bytes, or is a whole command
+abbrev pub ShortOrWhole : ℕ → List ℕ → Option Outcome → Bool → Type 0
+ShortOrWhole n u o f = f ≡ true → (length u ≤ n) ⊎ IsCommand o
+
+pub whole_command : (n : ℕ) (u : List ℕ) (b : Bool) (k : Outcome) → is_refusal k.said ≡ false
+    → ShortOrWhole n u (cond b (Some k) None) b
+whole_command n u true k r h = inr (record { whole = k; is = refl; command = r })
+whole_command n u false k r h = absurd cc
 
 -- what fits has at most so many bytes
 abbrev pub Short : ℕ → List ℕ → Bool → Type 0

@@ -1,14 +1,15 @@
 -- The laws of the grammar. The theory of items stands on these alone.
 use Rattle.std.proofs.Common.{◌≡◌, ℕ, suc, ◌≤◌, Bool, true, false, eqb, List, [], ◌∷◌, ◌++◌, length, Option, Some, None}
-use Rattle.std.proofs.Common.{refl, sym, ◌∙◌, subst, arith}
-use Rattle.std.proofs.lemmas.Bool.{eqb-true, ne_eqb}
+use Rattle.std.proofs.Common.{refl, sym, ◌∙◌, subst, arith, ◌⊎◌, inl, inr}
+use Rattle.std.proofs.lemmas.Bool.{eqb-true, ne_eqb, and_parts, both_ways, cases_Bool}
+use Rattle.cept_codes.specs.Command.{IsValidForm}
 use Rattle.cept_parser.specs.declared.context.Mode.{Mode}
 use Rattle.cept_parser.specs.declared.context.Mode.TheVariants.{Text, TableRun, DclutRun, DrcsRun, Skip}
 use Rattle.cept_parser.specs.declared.context.Context.{Context}
 use Rattle.cept_parser.specs.declared.context.Outcome.{Outcome}
 use Rattle.cept_parser.specs.Bytes.{is_plain, begins_sequence}
 use Rattle.cept_parser.specs.Units.{begins_us, us_grows}
-use Rattle.cept_parser.specs.Runs.{begins_run, begins_pattern, run_grows}
+use Rattle.cept_parser.specs.Runs.{run_unit, begins_run, begins_pattern, run_grows, starts_pattern}
 use Rattle.cept_parser.specs.Grammar.{begins_escape, unit, fits, grows}
 use Rattle.cept_parser.specs.Items.{is_refusal}
 use Rattle.cept_parser.specs.Beginning.{IsCommandUnit}
@@ -16,9 +17,9 @@ use Rattle.cept_parser.proofs.ChoiceLemmas.{each_test}
 use Rattle.cept_parser.proofs.FurtherByteLemmas.{Links, links_test, complete_links, first_links, plain_links, Closes}
 use Rattle.cept_parser.proofs.FurtherByteLemmas.{closes_test}
 use Rattle.cept_parser.proofs.FurtherByteLemmas.{none_closes, complete_closes, plain_closes, empty_short, plain_short}
-use Rattle.cept_parser.proofs.FurtherByteLemmas.{sequence_short}
+use Rattle.cept_parser.proofs.FurtherByteLemmas.{sequence_short, IsCommand, ShortOrWhole}
 use Rattle.cept_parser.proofs.UnitLemmas.{us_links, csi_links, escape_links, run_links, us_closes, csi_closes}
-use Rattle.cept_parser.proofs.UnitLemmas.{escape_closes, run_closes, us_short, escape_short, run_short}
+use Rattle.cept_parser.proofs.UnitLemmas.{escape_closes, run_closes, us_short, escape_short, run_short, run_hundred}
 
 -- no bytes fit
 pub fits_none : (x : Context) → fits x [] ≡ true
@@ -39,7 +40,7 @@ run_one Text x a = refl
 run_one Skip x a = refl
 run_one (TableRun i) x a = each_test Yes _ (λ _. refl) (λ _. refl)
 run_one (DclutRun i) x a = refl
-run_one (DrcsRun c) x a = refl
+run_one (DrcsRun c) x a = each_test Yes (starts_pattern x c a) (λ h. (and_parts _ _ h).1) (λ _. refl)
 
 -- every single byte fits
 pub fits_one : (x : Context) (c : ℕ) → fits x (c ∷ []) ≡ true
@@ -122,24 +123,58 @@ pub refused_ends : (x : Context) (u : List ℕ) (o : Outcome) → unit x u ≡ S
     → grows x u ≡ false
 refused_ends x u = (closes x u 0).kept
 
--- what fits has at most ten bytes, as long as there are no patterns
-pub fits_small : (x : Context) (u : List ℕ) → fits x u ≡ true → length u ≤ 10
+-- what fits of a mode, and wholly is
+pub fits_run : (x : Context) (a : ℕ) (u : List ℕ) → is_plain a ≡ true → fits x (a ∷ u) ≡ begins_run x.mode x a u
 unfolding fits
-fits_small x [] h = omega arith
-fits_small x (a ∷ u) h =
+fits_run x a u p = rw p refl
+
+pub unit_run : (x : Context) (a : ℕ) (u : List ℕ) → is_plain a ≡ true → unit x (a ∷ u) ≡ run_unit x.mode x a u
+unfolding unit
+unit_run x a u p = rw p refl
+
+-- what fits after a breaker has at most ten bytes with it
+breaker_small : (x : Context) (a : ℕ) (u : List ℕ) → is_plain a ≡ false → fits x (a ∷ u) ≡ true → length (a ∷ u) ≤ 10
+unfolding fits
+breaker_small x a u n h =
     let P : Bool → Type 0 = λ f. f ≡ true → suc (length u) ≤ 10 in
-    each_test P (is_plain a) (λ _ e. let s = run_short x.mode x a u e in
-    omega arith) (λ _. each_test P (eqb a 0x12) (λ _ e. let s = plain_short u e in
+    each_test P (is_plain a) (λ p. absurd (both_ways _ n p)) (λ _. each_test P (eqb a 0x12) (λ _ e. let s =
+    plain_short u e in
     omega arith) (λ _. each_test P (eqb a 0x1B) (λ _ e. let s = escape_short u e in
     omega arith) (λ _. each_test P (eqb a 0x9B) (λ _ e. let s = sequence_short 0x40 7 u e in
     omega arith) (λ _. each_test P (eqb a 0x1F) (λ _ e. let s = us_short u e in omega arith) (λ _ e. let s =
     empty_short u e in omega arith))))) h
 
+-- what fits has at most ten bytes, or is a whole command
+fits_small : (x : Context) (u : List ℕ) → ShortOrWhole 10 u (unit x u) (fits x u)
+fits_small x [] h = inl (omega arith)
+fits_small x (a ∷ u) h =
+    let plain : is_plain a ≡ true → (length (a ∷ u) ≤ 10) ⊎ IsCommand (unit x (a ∷ u)) =
+    λ p. elim (run_short x.mode x a u (sym (fits_run x a u p) ∙ h)) [
+      | inl s ↦ inl (omega arith)
+      | inr c ↦ inr (subst IsCommand (sym (unit_run x a u p)) c)
+    ] in
+    elim (cases_Bool (is_plain a)) [ inl p ↦ plain p | inr n ↦ inl (breaker_small x a u n h) ]
+
 -- what fits and isn't whole has at most ten bytes
 pub open_small : (x : Context) (u : List ℕ) → fits x u ≡ true → unit x u ≡ None → length u ≤ 10
-open_small x u h e = fits_small x u h
+open_small x u h e =
+    let never : IsCommand (unit x u) → length u ≤ 10 = λ c. let s = c.is in absurd cc in
+    elim (fits_small x u h) [ inl s ↦ s | inr c ↦ never c ]
 
 -- a refused shape has at most ten bytes
 pub refused_small : (x : Context) (u : List ℕ) (o : Outcome) → unit x u ≡ Some o → is_refusal o.said ≡ true
     → length u ≤ 10
-refused_small x u o e r = fits_small x u (whole_fits x u o e)
+refused_small x u o e r =
+    let never : IsCommand (unit x u) → length u ≤ 10 = λ c. let s = c.is in let q : c.whole ≡ o = cc in
+    absurd (both_ways _ c.command (rw q r)) in
+    elim (fits_small x u (whole_fits x u o e)) [ inl s ↦ s | inr c ↦ never c ]
+
+-- what fits in a valid context has at most a hundred bytes
+pub fits_hundred : (x : Context) (u : List ℕ) → IsValidForm x.form → fits x u ≡ true → length u ≤ 100
+fits_hundred x [] v h = omega arith
+fits_hundred x (a ∷ u) v h =
+    let breaker : is_plain a ≡ false → length (a ∷ u) ≤ 100 = λ n. let s = breaker_small x a u n h in omega arith in
+    elim (cases_Bool (is_plain a)) [
+      | inl p ↦ run_hundred x.mode x a u v (sym (fits_run x a u p) ∙ h)
+      | inr n ↦ breaker n
+    ]

@@ -6,9 +6,12 @@ pub mod ValidOutcomeLemmas
 pub mod BeginningLemmas
 pub mod LongestBeginningLemmas
 pub mod ReadingInPartsLemmas
-pub mod OutcomeLemmas
 pub mod OneByteMoreLemmas
 pub mod ValidItemLemmas
 pub mod WaitingLemmas
 pub mod OptionalPartLemmas
 pub mod SequenceLemmas
+pub mod ToldLemmas
+pub mod ClosedLemmas
+pub mod PatternLemmas
+pub mod ReaderLemmas

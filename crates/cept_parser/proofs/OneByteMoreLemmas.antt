@@ -3,18 +3,21 @@ use Rattle.std.proofs.Common.{◌≡◌, ℕ, ◌+◌, Bool, true, false, ◌||�
 use Rattle.std.proofs.Common.{None, refl, sym, ap, ◌∙◌, arith}
 use Rattle.std.proofs.lemmas.Bool.{both_ways}
 use Rattle.std.proofs.lemmas.List.{drop_all, drop_at}
+use Rattle.cept_codes.specs.declared.item.Reason.TheVariants.{Interrupted, Truncated}
 use Rattle.cept_codes.specs.declared.item.Item.{Item}
+use Rattle.cept_codes.specs.declared.item.Said.{Said}
+use Rattle.cept_codes.specs.declared.item.Said.TheVariants.{Refused}
+use Rattle.cept_parser.specs.declared.context.Mode.TheVariants.{Text}
+use Rattle.cept_parser.specs.Context.{with_mode}
 use Rattle.cept_parser.specs.declared.context.Context.{Context}
 use Rattle.cept_parser.specs.declared.context.Outcome.{Outcome}
-use Rattle.cept_parser.specs.declared.fit.Fit.{Fit}
 use Rattle.cept_parser.specs.declared.fit.Fit.TheVariants.{Misfit, Open, Whole, Longer}
 use Rattle.cept_parser.specs.Grammar.{unit, fits, grows}
-use Rattle.cept_parser.specs.Items.{Front, is_refusal, front_of, front, reading_with_items, waiting_reading, reading_at}
-use Rattle.cept_parser.specs.Fit.{fit, fit_by}
-use Rattle.cept_parser.specs.Outcome.{outcome_of}
-use Rattle.cept_parser.specs.Waits.{outcome_at_misfit}
-use Rattle.cept_parser.proofs.GrammarLemmas.{refused_ends}
-use Rattle.cept_parser.proofs.OutcomeLemmas.{unit_tells}
+use Rattle.cept_parser.specs.Items.{Reading, Front, is_refusal, front_of, front, reading_with_items, waiting_reading, reading_at}
+use Rattle.cept_parser.specs.Items.{said_at_end}
+use Rattle.cept_parser.specs.Fit.{fit, fit_by, said_by, context_by, is_closed}
+use Rattle.cept_parser.specs.Waits.{outcome_at_misfit, cut_item}
+use Rattle.cept_parser.proofs.GrammarLemmas.{whole_fits, refused_ends}
 use Rattle.cept_parser.proofs.LongestBeginningLemmas.{front_fitting, front_ended, front_none, waits_fits}
 use Rattle.cept_parser.proofs.LongestBeginningLemmas.{front_append_more}
 use Rattle.cept_parser.proofs.ReadingInPartsLemmas.{read_none, read_step}
@@ -122,41 +125,73 @@ misfit_by true g None e = absurd cc
 misfit_by true true (Some o) e = absurd cc
 misfit_by true false (Some o) e = absurd cc
 
--- the word at the bytes themselves
-word_at : (x : Context) (u s : List ℕ) (w : Fit) → s ≡ u → w ≡ fit x s → w ≡ fit x u
-word_at x u s w e f = f ∙ ap (fit x) e
+-- the context after bytes, after which more may come or none
+abbrev pub context_after : Context → List ℕ → Bool → Context
+context_after x u ended = context_by (unit x u) (is_closed (grows x u) ended) x
 
--- this is what the bytes say if they are whole
-abbrev pub Means : Context → List ℕ → Outcome → Type 0
-Means x s k = k ≡ outcome_of x s
+-- what is said after them, where this was said before
+abbrev pub said_after : Context → List ℕ → Bool → Said → Said
+said_after x u ended before = said_by (unit x u) (is_closed (grows x u) ended) before
 
--- whole bytes that nothing continues are an item
-pub read_as_whole : (x : Context) (at : ℕ) (u s t : List ℕ) (k : Outcome) → s ≡ u → Whole ≡ fit x s → t ≡ u
-    → Means x t k → reading_at x at u ≡ reading_with_items (record {
-      at = at;
-      len = length u;
-      what =
-          k.said;
-    } ∷ []) (waiting_reading k.next (at + length u) [])
-read_as_whole x at u s t k e f i m =
-    let p = whole_by (fits x u) (grows x u) (unit x u) (word_at x u s Whole e f) in
-    let same : k ≡ p.whole = m ∙ ap (outcome_of x) i ∙ unit_tells x u p.whole p.is in
-    let now : front x u ≡ Some (record { said = p.whole.said; size = length u; next = p.whole.next }) =
-    front_fitting x u p.fit ∙ ap (λ (b : Bool). front_of x (length u) true b (unit x u)) p.end
-    ∙ ap (front_of x (length u) true false) p.is ∙ closes_now x (length u) true p.whole in
-    read_whole x at u p.whole now
-    ∙ sym (ap (λ (o : Outcome). reading_with_items (record {
-      at = at;
-      len = length u;
-      what =
-          o.said;
-    } ∷ []) (waiting_reading o.next (at + length u) [])) same)
+-- whole bytes that nothing continues are an item that says this
+pub read_as_whole : (x : Context) (at : ℕ) (u : List ℕ) (before : Said) → Whole ≡ fit x u → reading_at x at u
+    ≡ reading_with_items (record { at = at; len = length u; what = said_after x u false before } ∷ [])
+    (waiting_reading (context_after x u false) (at + length u) [])
+read_as_whole x at u before f =
+    let p = whole_by (fits x u) (grows x u) (unit x u) f in
+    let now : reading_at x at u
+    ≡ reading_with_items (record { at = at; len = length u; what = p.whole.said } ∷ [])
+    (waiting_reading p.whole.next (at + length u) []) =
+    read_whole x at u p.whole (front_fitting x u p.fit
+    ∙ ap (λ (b : Bool). front_of x (length u) true b (unit x u)) p.end
+    ∙ ap (front_of x (length u) true false) p.is ∙ closes_now x (length u) true p.whole) in
+    now ∙ by_names at (length u) before x (unit x u) (grows x u) p.whole p.is p.end
+  where
+    by_names : (at n : ℕ) (before : Said) (x : Context) (w : Option Outcome) (g : Bool) (o : Outcome) → w ≡ Some o
+        → g ≡ false → reading_with_items (record { at = at; len = n; what = o.said } ∷ [])
+        (waiting_reading o.next (at + n) [])
+        ≡ reading_with_items (record { at = at; len = n; what = said_by w (is_closed g false) before } ∷ [])
+        (waiting_reading (context_by w (is_closed g false) x) (at + n) [])
+    by_names at n before x w g o e f = rw (e, f) refl
+
+-- such bytes are closed as where they are cut
+pub read_closed : (x : Context) (at : ℕ) (u : List ℕ) → Whole ≡ fit x u → reading_at x at u
+    ≡ record {
+      items = cut_item x at u ∷ [];
+      context = (outcome_at_misfit x (unit x u)).next;
+      at = at + length u;
+      pending = [];
+    }
+read_closed x at u f =
+    let p = whole_by (fits x u) (grows x u) (unit x u) f in
+    read_whole x at u p.whole (front_fitting x u p.fit
+    ∙ ap (λ (b : Bool). front_of x (length u) true b (unit x u)) p.end
+    ∙ ap (front_of x (length u) true false) p.is ∙ closes_now x (length u) true p.whole)
+    ∙ closed_go (unit x u) p.whole p.is
+  where
+    closed_go : (w : Option Outcome) (o : Outcome) → w ≡ Some o
+        → reading_with_items (record { at = at; len = length u; what = o.said } ∷ [])
+        (waiting_reading o.next (at + length u) [])
+        ≡ record {
+          items = record { at = at; len = length u; what = (outcome_at_misfit x w).said } ∷ [];
+          context = (outcome_at_misfit x w).next;
+          at = at + length u;
+          pending = [];
+        }
+    closed_go w o e = rw e refl
+
+-- the same by the names of its parts
+pub read_item : (x : Context) (at : ℕ) (u s : List ℕ) (next : Context) (before : Said) (i : Item) → s ≡ u
+    → Whole ≡ fit x s → i ≡ record { at = at; len = length s; what = said_after x s false before }
+    → next ≡ context_after x s false
+    → reading_at x at u ≡ record { items = i ∷ []; context = next; at = at + length u; pending = [] }
+read_item x at u s next before i e f g h = rw (g, h, ← e) (read_as_whole x at s before f)
 
 -- whole bytes that may grow wait
-pub read_as_longer : (x : Context) (at : ℕ) (u s : List ℕ) → s ≡ u → Longer ≡ fit x s
+pub read_as_longer : (x : Context) (at : ℕ) (u : List ℕ) → Longer ≡ fit x u
     → reading_at x at u ≡ waiting_reading x at u
-read_as_longer x at u s e f =
-    let p = longer_by (fits x u) (grows x u) (unit x u) (word_at x u s Longer e f) in
+read_as_longer x at u f =
+    let p = longer_by (fits x u) (grows x u) (unit x u) f in
     let command : is_refusal p.whole.said ≡ false =
     not_refused (is_refusal p.whole.said) (λ r. sym p.more ∙ refused_ends x u p.whole p.is r) in
     read_none (length u) x at u (front_fitting x u p.fit
@@ -167,15 +202,40 @@ read_as_longer x at u s e f =
     not_refused true r = r refl
     not_refused false r = refl
 
+-- and the context stays
+pub longer_keeps : (x : Context) (u : List ℕ) → Longer ≡ fit x u → context_after x u false ≡ x
+longer_keeps x u f =
+    let p = longer_by (fits x u) (grows x u) (unit x u) f in
+    keeps_go (unit x u) (grows x u) p.whole p.is p.more
+  where
+    keeps_go : (w : Option Outcome) (g : Bool) (o : Outcome) → w ≡ Some o → g ≡ true
+        → context_by w (is_closed g false) x ≡ x
+    keeps_go w g o e m = rw (e, m) refl
+
+pub open_keeps : (x : Context) (u : List ℕ) (ended : Bool) → Open ≡ fit x u → context_after x u ended ≡ x
+open_keeps x u ended f = rw ((open_by (fits x u) (grows x u) (unit x u) f).1) refl
+
+-- bytes that don't fit are not whole
+misfit_none : (x : Context) (u : List ℕ) → Misfit ≡ fit x u → unit x u ≡ None
+misfit_none x u f = none_go (unit x u) refl
+  where
+    none_go : (w : Option Outcome) → unit x u ≡ w → w ≡ None
+    none_go None e = refl
+    none_go (Some o) e =
+        absurd (both_ways (fits x u) (misfit_by (fits x u) (grows x u) (unit x u) f) (whole_fits x u o e))
+
+pub misfit_keeps : (x : Context) (u : List ℕ) (ended : Bool) → Misfit ≡ fit x u → context_after x u ended ≡ x
+misfit_keeps x u ended f = rw (misfit_none x u f) refl
+
 waits_open : (x : Context) (n : ℕ) (more : Bool) → front_of x n true more None ≡ None
 unfolding front_of
 waits_open x n more = refl
 
 -- bytes that are not whole wait
-pub read_as_open : (x : Context) (at : ℕ) (u s : List ℕ) → s ≡ u → Open ≡ fit x s
+pub read_as_open : (x : Context) (at : ℕ) (u : List ℕ) → Open ≡ fit x u
     → reading_at x at u ≡ waiting_reading x at u
-read_as_open x at u s e f =
-    let p = open_by (fits x u) (grows x u) (unit x u) (word_at x u s Open e f) in
+read_as_open x at u f =
+    let p = open_by (fits x u) (grows x u) (unit x u) f in
     read_none (length u) x at u (front_fitting x u p.0 ∙ ap (front_of x (length u) true (grows x u)) p.1
     ∙ waits_open x (length u) (grows x u))
 
@@ -216,34 +276,68 @@ read_unit x at u s o e h g =
     } ∷ []) (reading_at o.next (at + length u) v)) (drop_at u s (length u) refl)
 
 -- the reading of bytes that wait and one that doesn't fit after them, by the names of its parts
-pub read_cut_by : (x : Context) (at : ℕ) (p : List ℕ) (c : ℕ) (kept : List ℕ) (item : Item) (next : Context) (from : ℕ)
-    (rest left : List ℕ) → front x p ≡ None → false ≡ fits x (p ++ c ∷ []) → kept ≡ p
-    → item ≡ record { at = at; len = length kept; what = (outcome_at_misfit x (unit x kept)).said }
-    → next ≡ (outcome_at_misfit x (unit x kept)).next → from ≡ item.len → left ≡ [] → rest ≡ left ++ c ∷ []
-    → reading_at x at (p ++ c ∷ []) ≡ reading_with_items (item ∷ []) (reading_at next (at + from) rest)
-read_cut_by x at p c kept item next from rest left w m k i n f l r =
-    let whole = read_cut x at p c w (sym m) in
-    let i' : item ≡ record { at = at; len = length p; what = (outcome_at_misfit x (unit x p)).said } =
-    i ∙ ap (λ (u : List ℕ). record { at = at; len = length u; what = (outcome_at_misfit x (unit x u)).said }) k in
-    let n' : next ≡ (outcome_at_misfit x (unit x p)).next =
-    n ∙ ap (λ (u : List ℕ). (outcome_at_misfit x (unit x u)).next) k in
-    let f' : from ≡ length p = f ∙ ap (λ (j : Item). j.len) i' in
-    let r' : rest ≡ c ∷ [] = r ∙ ap (λ (u : List ℕ). u ++ c ∷ []) l in
-    rw (i', n', f', r') whole
+pub read_cut_by : (x : Context) (at : ℕ) (p : List ℕ) (c : ℕ) (o : Outcome) (next : Context) (from : ℕ) (rest : List ℕ)
+    → front x p ≡ None → fits x (p ++ c ∷ []) ≡ false → o ≡ outcome_at_misfit x (unit x p) → next ≡ o.next
+    → from ≡ at + length p → rest ≡ c ∷ [] → reading_at x at (p ++ c ∷ [])
+    ≡ reading_with_items (record { at = at; len = length p; what = o.said } ∷ []) (reading_at next from rest)
+read_cut_by x at p c o next from rest w m e n f r = rw (n, f, r, e) (read_cut x at p c w m)
 
--- what bytes say at the end of the input and where they are cut, by the word for how they stand
-pub whole_says : (x : Context) (u : List ℕ) (k : Outcome) → Whole ≡ fit x u → Means x u k → unit x u ≡ Some k
-whole_says x u k f m =
+-- the context after bytes where they are cut, by the word for how they stand
+ended_leads : (x : Context) (w : Option Outcome) (g : Bool) (o : Outcome) → w ≡ Some o
+    → context_by w (is_closed g true) x ≡ (outcome_at_misfit x w).next
+ended_leads x w true o e = rw e refl
+ended_leads x w false o e = rw e refl
+
+pub whole_leads : (x : Context) (u : List ℕ) → Whole ≡ fit x u
+    → context_after x u true ≡ (outcome_at_misfit x (unit x u)).next
+whole_leads x u f =
     let p = whole_by (fits x u) (grows x u) (unit x u) f in
-    p.is ∙ ap (λ (o : Outcome). Some o) (sym (m ∙ unit_tells x u p.whole p.is))
+    ended_leads x (unit x u) (grows x u) p.whole p.is
 
-pub longer_says : (x : Context) (u : List ℕ) (k : Outcome) → Longer ≡ fit x u → Means x u k → unit x u ≡ Some k
-longer_says x u k f m =
+pub longer_leads : (x : Context) (u : List ℕ) → Longer ≡ fit x u
+    → context_after x u true ≡ (outcome_at_misfit x (unit x u)).next
+longer_leads x u f =
     let p = longer_by (fits x u) (grows x u) (unit x u) f in
-    p.is ∙ ap (λ (o : Outcome). Some o) (sym (m ∙ unit_tells x u p.whole p.is))
+    ended_leads x (unit x u) (grows x u) p.whole p.is
 
-pub open_says : (x : Context) (u : List ℕ) → Open ≡ fit x u → unit x u ≡ None
-open_says x u f = (open_by (fits x u) (grows x u) (unit x u) f).1
+pub open_leads : (x : Context) (u : List ℕ) → Open ≡ fit x u
+    → with_mode x Text ≡ (outcome_at_misfit x (unit x u)).next
+open_leads x u f = rw ((open_by (fits x u) (grows x u) (unit x u) f).1) refl
 
-pub misfit_says : (x : Context) (u : List ℕ) → Misfit ≡ fit x u → fits x u ≡ true → unit x u ≡ None
-misfit_says x u f h = absurd (both_ways (fits x u) (misfit_by (fits x u) (grows x u) (unit x u) f) h)
+pub misfit_leads : (x : Context) (u : List ℕ) → Misfit ≡ fit x u → fits x u ≡ true → ⊥
+misfit_leads x u f h = both_ways (fits x u) (misfit_by (fits x u) (grows x u) (unit x u) f) h
+
+-- what they say there
+pub cut_says : (x : Context) (u : List ℕ) → said_after x u true (Refused Interrupted)
+    ≡ (outcome_at_misfit x (unit x u)).said
+cut_says x u = cut_go x (unit x u) (grows x u)
+  where
+    cut_go : (x : Context) (w : Option Outcome) (g : Bool)
+        → said_by w (is_closed g true) (Refused Interrupted) ≡ (outcome_at_misfit x w).said
+    cut_go x None g = refl
+    cut_go x (Some o) true = refl
+    cut_go x (Some o) false = refl
+
+-- what they say at the end of the input
+pub end_says : (x : Context) (u : List ℕ) → said_after x u true (Refused Truncated) ≡ said_at_end (unit x u)
+unfolding said_at_end
+end_says x u = end_go (unit x u) (grows x u)
+  where
+    end_go : (w : Option Outcome) (g : Bool) → said_by w (is_closed g true) (Refused Truncated) ≡ said_at_end w
+    end_go None g = refl
+    end_go (Some o) true = refl
+    end_go (Some o) false = refl
+
+-- the bytes that are left pending
+pub whole_left : (x : Context) (at : ℕ) (u : List ℕ) → Whole ≡ fit x u → [] ≡ (reading_at x at u).pending
+whole_left x at u f = ap (λ (r : Reading). r.pending) (sym (read_as_whole x at u (Refused Truncated) f))
+
+pub longer_left : (x : Context) (at : ℕ) (u : List ℕ) → Longer ≡ fit x u → u ≡ (reading_at x at u).pending
+longer_left x at u f = ap (λ (r : Reading). r.pending) (sym (read_as_longer x at u f))
+
+pub open_left : (x : Context) (at : ℕ) (u : List ℕ) → Open ≡ fit x u → u ≡ (reading_at x at u).pending
+open_left x at u f = ap (λ (r : Reading). r.pending) (sym (read_as_open x at u f))
+
+-- bytes that are told a misfit don't fit
+pub misfit_says : (x : Context) (u : List ℕ) → Misfit ≡ fit x u → fits x u ≡ false
+misfit_says x u f = misfit_by (fits x u) (grows x u) (unit x u) f

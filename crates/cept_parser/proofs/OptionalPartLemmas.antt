@@ -60,19 +60,18 @@ last_off p u k =
     ∙ ap (λ (l : Bool). fit_by (is_empty (bytes_after p u)) l (cond (is_empty (bytes_after p u)) (Some k) None))
     (last_left p u)
 
-pub two_parts : (p q : List ℕ) (u r : List ℕ) (w : Fit) → r ≡ bytes_after p u → ((k : Outcome) → w ≡ last_fit q r k)
-    → (k : Outcome) → w ≡ options_fit (p ∷ q ∷ []) u k
-two_parts p q u r w e g k =
-    g k ∙ ap (λ (v : List ℕ). last_fit q v k) e ∙ sym (part_off p q [] u k ∙ last_off q (bytes_after p u) k)
+pub two_parts : (p q : List ℕ) (u r : List ℕ) (w : Fit) (k : Outcome) → r ≡ bytes_after p u → w ≡ last_fit q r k
+    → w ≡ options_fit (p ∷ q ∷ []) u k
+two_parts p q u r w k e g =
+    g ∙ ap (λ (v : List ℕ). last_fit q v k) e ∙ sym (part_off p q [] u k ∙ last_off q (bytes_after p u) k)
 
-pub three_parts : (p q s : List ℕ) (u r v : List ℕ) (w : Fit) → r ≡ bytes_after p u → v ≡ bytes_after q r
-    → ((k : Outcome) → w ≡ last_fit s v k) → (k : Outcome) → w ≡ options_fit (p ∷ q ∷ s ∷ []) u k
-three_parts p q s u r v w e i g k =
-    two_parts q s r v w i g k ∙ ap (λ (t : List ℕ). options_fit (q ∷ s ∷ []) t k) e ∙ sym (part_off p q (s ∷ []) u k)
+pub three_parts : (p q s : List ℕ) (u r v : List ℕ) (w : Fit) (k : Outcome) → r ≡ bytes_after p u → v ≡ bytes_after q r
+    → w ≡ last_fit s v k → w ≡ options_fit (p ∷ q ∷ s ∷ []) u k
+three_parts p q s u r v w k e i g =
+    two_parts q s r v w k i g ∙ ap (λ (t : List ℕ). options_fit (q ∷ s ∷ []) t k) e ∙ sym (part_off p q (s ∷ []) u k)
 
-pub four_parts : (p q s t : List ℕ) (u r v z : List ℕ) (w : Fit) → r ≡ bytes_after p u → v ≡ bytes_after q r
-    → z ≡ bytes_after s v → ((k : Outcome) → w ≡ last_fit t z k) → (k : Outcome)
-    → w ≡ options_fit (p ∷ q ∷ s ∷ t ∷ []) u k
-four_parts p q s t u r v z w e i j g k =
-    three_parts q s t r v z w i j g k ∙ ap (λ (y : List ℕ). options_fit (q ∷ s ∷ t ∷ []) y k) e
+pub four_parts : (p q s t : List ℕ) (u r v z : List ℕ) (w : Fit) (k : Outcome) → r ≡ bytes_after p u
+    → v ≡ bytes_after q r → z ≡ bytes_after s v → w ≡ last_fit t z k → w ≡ options_fit (p ∷ q ∷ s ∷ t ∷ []) u k
+four_parts p q s t u r v z w k e i j g =
+    three_parts q s t r v z w k i j g ∙ ap (λ (y : List ℕ). options_fit (q ∷ s ∷ t ∷ []) y k) e
     ∙ sym (part_off p q (s ∷ t ∷ []) u k)

@@ -1,8 +1,11 @@
 -- The laws of the units after US, after ESC and in a run.
 use Rattle.std.proofs.Common.{◌≡◌, ℕ, suc, ◌≤◌, Bool, true, false, ◌&&◌, eqb, ltb, List, [], ◌∷◌, ◌++◌, length, Option}
-use Rattle.std.proofs.Common.{refl, sym, subst, arith}
+use Rattle.std.proofs.Common.{refl, sym, subst, arith, inl}
 use Rattle.std.proofs.lemmas.Bool.{both_ways}
 use Rattle.std.proofs.lemmas.Bool.Decides.{nat_tests}
+use Rattle.cept_codes.specs.Command.{IsValidForm}
+use Rattle.cept_drcs.specs.Unit.{is_pattern}
+use Rattle.cept_drcs.proofs.Laws.{beginning, no_longer, hundred}
 use Rattle.cept_parser.specs.declared.context.Mode.{Mode}
 use Rattle.cept_parser.specs.declared.context.Mode.TheVariants.{Text, TableRun, DclutRun, DrcsRun, Skip}
 use Rattle.cept_parser.specs.declared.context.Context.{Context}
@@ -13,17 +16,17 @@ use Rattle.cept_parser.specs.Units.{drcs_parts, drcs_header, drcs_unit, begins_d
 use Rattle.cept_parser.specs.Units.{colour_unit, begins_colour, format_parts, format, service_unit, begins_service}
 use Rattle.cept_parser.specs.Units.{us_unit, begins_us, header_grows, us_grows}
 use Rattle.cept_parser.specs.Runs.{has_six_bits, run_unit, begins_run, run_grows, pattern_unit, begins_pattern}
-use Rattle.cept_parser.specs.Runs.{pattern_grows}
+use Rattle.cept_parser.specs.Runs.{pattern_grows, starts_pattern}
 use Rattle.cept_parser.specs.Grammar.{csi_unit, escape_unit, begins_escape}
 use Rattle.cept_parser.specs.Items.{is_refusal}
-use Rattle.cept_parser.proofs.ChoiceLemmas.{each_test}
+use Rattle.cept_parser.proofs.ChoiceLemmas.{same_test, each_test}
 use Rattle.cept_parser.proofs.FurtherByteLemmas.{Links, links_test, none_links, complete_links, first_links}
 use Rattle.cept_parser.proofs.FurtherByteLemmas.{plain_links}
 use Rattle.cept_parser.proofs.FurtherByteLemmas.{sequence_links, sequence_one, options_links, Closes, closes_test}
-use Rattle.cept_parser.proofs.FurtherByteLemmas.{none_closes}
+use Rattle.cept_parser.proofs.FurtherByteLemmas.{none_closes, closes_both, whole_closes, whole_links}
 use Rattle.cept_parser.proofs.FurtherByteLemmas.{complete_closes, plain_closes, sequence_closes, options_closes, Short}
 use Rattle.cept_parser.proofs.FurtherByteLemmas.{empty_short}
-use Rattle.cept_parser.proofs.FurtherByteLemmas.{plain_short, sequence_short, options_short}
+use Rattle.cept_parser.proofs.FurtherByteLemmas.{plain_short, sequence_short, options_short, ShortOrWhole, whole_command}
 
 abbrev Yes : Bool → Type 0
 Yes b = b ≡ true
@@ -126,7 +129,9 @@ run_links Skip x a u c = complete_links u c _ _
 run_links (TableRun i) x a u c =
     links_test c (ltb i 32 && has_six_bits a) (λ _. plain_links u c _) (λ _. complete_links u c _ _)
 run_links (DclutRun i) x a u c = complete_links u c _ _
-run_links (DrcsRun d) x a u c = complete_links u c _ _
+run_links (DrcsRun d) x a u c =
+    links_test c (starts_pattern x d a) (λ _. whole_links c (is_pattern x.form (a ∷ u)) _ _ _
+    (beginning x.form a u (c ∷ [])) refl) (λ _. complete_links u c _ _)
 
 header_closes : (parts : List (List ℕ)) (a : ℕ) (u : List ℕ) (c : ℕ) (k : Outcome) → eqb a 0x20 ≡ true
     → is_refusal k.said ≡ false
@@ -214,7 +219,9 @@ run_closes Skip x a u c = complete_closes u c _
 run_closes (TableRun i) x a u c =
     closes_test false (ltb i 32 && has_six_bits a) (λ _. plain_closes u c _) (λ _. complete_closes u c _)
 run_closes (DclutRun i) x a u c = complete_closes u c _
-run_closes (DrcsRun d) x a u c = complete_closes u c _
+run_closes (DrcsRun d) x a u c =
+    closes_both (starts_pattern x d a) (λ _. whole_closes (is_pattern x.form (a ∷ u)) _ _ _
+    (no_longer x.form a u c) refl) (λ _. complete_closes u c _)
 
 -- what fits is short
 drcs_short : (u : List ℕ) → Short 5 u (begins_drcs u)
@@ -266,12 +273,29 @@ escape_short (a ∷ u) h =
     each_test P (eqb a 0x5B) (λ _ e. let s = sequence_short 0x40 7 u e in omega arith) (λ _ e. let s =
     sequence_short 0x30 3 (a ∷ u) e in omega arith) h
 
-pub run_short : (m : Mode) (x : Context) (a : ℕ) (u : List ℕ) → Short 1 u (begins_run m x a u)
-unfolding begins_run begins_pattern
-run_short Text x a u h = let s = empty_short u h in omega arith
-run_short Skip x a u h = let s = empty_short u h in omega arith
+pub run_short : (m : Mode) (x : Context) (a : ℕ) (u : List ℕ) → ShortOrWhole 1 u (run_unit m x a u) (begins_run m x a u)
+unfolding run_unit begins_run pattern_unit begins_pattern
+run_short Text x a u h = inl (let s = empty_short u h in omega arith)
+run_short Skip x a u h = inl (let s = empty_short u h in omega arith)
 run_short (TableRun i) x a u h =
-    each_test (Short 1 u) (ltb i 32 && has_six_bits a) (λ _. plain_short u) (λ _ e. let s = empty_short u e in
-    omega arith) h
-run_short (DclutRun i) x a u h = let s = empty_short u h in omega arith
-run_short (DrcsRun d) x a u h = let s = empty_short u h in omega arith
+    inl (each_test (Short 1 u) (ltb i 32 && has_six_bits a) (λ _. plain_short u) (λ _ e. let s = empty_short u e in
+    omega arith) h)
+run_short (DclutRun i) x a u h = inl (let s = empty_short u h in omega arith)
+run_short (DrcsRun d) x a u h =
+    same_test (ShortOrWhole 1 u) (starts_pattern x d a) (λ _. whole_command 1 u (is_pattern x.form (a ∷ u)) _ refl)
+    (λ _ e. inl (let s = empty_short u e in omega arith)) h
+
+-- with the first byte it has at most a hundred bytes
+pub run_hundred : (m : Mode) (x : Context) (a : ℕ) (u : List ℕ) → IsValidForm x.form → begins_run m x a u ≡ true
+    → length (a ∷ u) ≤ 100
+unfolding begins_run begins_pattern
+run_hundred Text x a u v h = let s = empty_short u h in omega arith
+run_hundred Skip x a u v h = let s = empty_short u h in omega arith
+run_hundred (TableRun i) x a u v h =
+    let s = each_test (Short 1 u) (ltb i 32 && has_six_bits a) (λ _. plain_short u) (λ _ e. let s = empty_short u e in
+    omega arith) h in
+    omega arith
+run_hundred (DclutRun i) x a u v h = let s = empty_short u h in omega arith
+run_hundred (DrcsRun d) x a u v h =
+    each_test (λ (f : Bool). f ≡ true → suc (length u) ≤ 100) (starts_pattern x d a)
+    (λ _. hundred x.form (a ∷ u) v) (λ _ e. let s = empty_short u e in omega arith) h

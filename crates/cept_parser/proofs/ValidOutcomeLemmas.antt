@@ -7,6 +7,8 @@ use Rattle.cept_codes.specs.Command.{IsValidSaid, IsValidForm, IsGraphic, IsC1, 
 use Rattle.cept_codes.specs.Look.{IsValidRgb, is_pattern_size, is_plane_count}
 use Rattle.cept_codes.specs.Place.{OnScreen}
 use Rattle.cept_codes.specs.declared.item.Said.{Said}
+use Rattle.cept_drcs.specs.Unit.{is_pattern}
+use Rattle.cept_drcs.proofs.Laws.{unit_valid as pattern_valid}
 use Rattle.cept_parser.specs.declared.context.Mode.{Mode}
 use Rattle.cept_parser.specs.declared.context.Mode.TheVariants.{Text, TableRun, DclutRun, DrcsRun, Skip}
 use Rattle.cept_parser.specs.declared.context.ColourKind.{ColourKind}
@@ -20,17 +22,17 @@ use Rattle.cept_parser.specs.Controls.{one_byte}
 use Rattle.cept_parser.specs.Escape.{is_c1_final, escape_1, designation, designation_of_c1, escape_2, full_screen}
 use Rattle.cept_parser.specs.Escape.{full_row}
 use Rattle.cept_parser.specs.Escape.{designation_of_drcs, escape_3, escape}
-use Rattle.cept_parser.specs.Csi.{csi_1, csi_2, area, is_area_final, csi_4, csi_1_2, csi_2_1, csi_5, csi_6, csi}
+use Rattle.cept_parser.specs.Csi.{csi_1, csi_2, area, is_area_final, area_to, area_from, csi}
 use Rattle.cept_parser.specs.Units.{us_position, drcs_parts, drcs_width, drcs_height, drcs_planes, drcs_form}
 use Rattle.cept_parser.specs.Units.{drcs_header, drcs_unit, colour_parts, colour_header, last_place, run_from}
 use Rattle.cept_parser.specs.Units.{colours_from, colour_start, colour_unit, format_parts, format, service_break}
 use Rattle.cept_parser.specs.Units.{service, service_unit, us_unit}
 use Rattle.cept_parser.specs.Runs.{misplacement, has_six_bits, bit, colour_part, colour, table_entry, dclut_value}
-use Rattle.cept_parser.specs.Runs.{run_unit, pattern_unit}
+use Rattle.cept_parser.specs.Runs.{run_unit, pattern_unit, starts_pattern}
 use Rattle.cept_parser.specs.Grammar.{repetition, csi_unit, escape_unit, unit, fits}
 use Rattle.cept_parser.specs.Valid.{IsValidContext, IsValidMode, AreBytes}
 use Rattle.cept_parser.proofs.ChoiceLemmas.{each_test}
-use Rattle.cept_parser.proofs.GrammarLemmas.{fits_small}
+use Rattle.cept_parser.proofs.GrammarLemmas.{fits_hundred as hundred}
 
 -- a closed unit says something valid, and the context after it is valid
 pub record IsValidOutcome (o : Outcome) : Type 0 where
@@ -203,23 +205,30 @@ area_valid n m f =
     each_test Fine (not (leb 1 n && (leb n m && leb m 24))) (λ _. tt) (λ h. let r = area_rows n m (not-false _ h) in
     each_test Fine (eqb f 0x55) (λ _. r) (λ _. r))
 
+area_to_valid : (n : ℕ) (u : List ℕ) → IsValidSaid (area_to n u)
+unfolding area_to
+area_to_valid n [] = tt
+area_to_valid n (m ∷ []) = tt
+area_to_valid n (m ∷ f ∷ []) = each_test Fine (is_digit m && is_area_final f) (λ _. area_valid _ _ f) (λ _. tt)
+area_to_valid n (m ∷ o ∷ f ∷ []) =
+    each_test Fine (is_digit m && (is_digit o && is_area_final f)) (λ _. area_valid _ _ f) (λ _. tt)
+area_to_valid n (m ∷ o ∷ f ∷ a ∷ u) = tt
+
+area_from_valid : (u : List ℕ) → IsValidSaid (area_from u)
+unfolding area_from
+area_from_valid [] = tt
+area_from_valid (a ∷ []) = tt
+area_from_valid (a ∷ b ∷ []) = tt
+area_from_valid (a ∷ b ∷ c ∷ u) =
+    each_test Fine (is_digit a && eqb b 0x3B) (λ _. area_to_valid _ (c ∷ u))
+    (λ _. each_test Fine (is_digit a && (is_digit b && eqb c 0x3B)) (λ _. area_to_valid _ u) (λ _. tt))
+
 csi_valid : (u : List ℕ) → IsValidSaid (csi u)
-unfolding csi csi_1 csi_4 csi_5 csi_1_2 csi_2_1 csi_6
-csi_valid [] = tt
+unfolding csi csi_1
+csi_valid [] = area_from_valid []
 csi_valid (f ∷ []) = each_test Fine (eqb f 0x42) (λ _. tt) (λ _. tt)
 csi_valid (p ∷ f ∷ []) = csi_2_valid p f
-csi_valid (n ∷ s ∷ f ∷ []) = tt
-csi_valid (n ∷ s ∷ m ∷ f ∷ []) =
-    each_test Fine (is_digit n && (eqb s 0x3B && (is_digit m && is_area_final f))) (λ _. area_valid _ _ f) (λ _. tt)
-csi_valid (a ∷ b ∷ c ∷ d ∷ f ∷ []) =
-    each_test Fine (eqb b 0x3B) (λ _. each_test Fine (is_digit a
-    && (eqb b 0x3B && (is_digit c && (is_digit d && is_area_final f)))) (λ _. area_valid _ _ f) (λ _. tt))
-    (λ _. each_test Fine (is_digit a && (is_digit b
-    && (eqb c 0x3B && (is_digit d && is_area_final f)))) (λ _. area_valid _ _ f) (λ _. tt))
-csi_valid (n ∷ o ∷ s ∷ m ∷ p ∷ f ∷ []) =
-    each_test Fine (is_digit n && (is_digit o
-    && (eqb s 0x3B && (is_digit m && (is_digit p && is_area_final f))))) (λ _. area_valid _ _ f) (λ _. tt)
-csi_valid (n ∷ o ∷ s ∷ m ∷ p ∷ f ∷ a ∷ u) = tt
+csi_valid (a ∷ b ∷ c ∷ u) = area_from_valid (a ∷ b ∷ c ∷ u)
 
 -- units after US
 on_screen : (r c : ℕ) → is_row r ≡ true → is_column c ≡ true → OnScreen (r - 0x40) (c - 0x40)
@@ -402,7 +411,12 @@ run_valid (TableRun i) x a u n v p =
     (λ h. plain_valid u _ (λ b _. entry_valid x i a b v (ltb-true i 32 (and_parts _ _ h).0)))
     (λ _. complete_valid u _ (misplaced_valid x v))
 run_valid (DclutRun i) x a u n v p = complete_valid u _ (look_up_valid x i a v)
-run_valid (DrcsRun c) x a u n v p = complete_valid u _ (misplaced_valid x v)
+run_valid (DrcsRun c) x a u n v p =
+    each_test Valid (starts_pattern x c a) (λ s. each_test Valid (is_pattern x.form (a ∷ u)) (λ h. let l =
+    ltb-true c 0x7F (and_parts _ _ s).0 in
+    some_valid _ (said_valid x (DrcsRun (c + 1)) _ v (omega (arith, n.0), omega arith)
+    (n.0, omega arith, pattern_valid x.form (a ∷ u) v.form h))) (λ _. none_valid))
+    (λ _. complete_valid u _ (misplaced_valid x v))
 
 repeat_valid : (x : Context) (c : ℕ) → IsValidContext x → is_plain c ≡ true → IsValidOutcome (repetition x c)
 unfolding repetition
@@ -442,4 +456,4 @@ unit_valid x (a ∷ u) o v b e =
 
 -- what fits has at most a hundred bytes
 pub fits_hundred : (x : Context) (u : List ℕ) → IsValidContext x → fits x u ≡ true → length u ≤ 100
-fits_hundred x u v h = omega (arith, fits_small x u h)
+fits_hundred x u v h = hundred x u v.form h

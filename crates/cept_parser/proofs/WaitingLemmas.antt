@@ -1,43 +1,33 @@
 -- Bytes that wait.
-use Rattle.std.proofs.Common.{◌≡◌, ℕ, ◌+◌, ◌-◌, ◌<◌, ◌≤◌, suc, Bool, true, false, eqb, Some, None, inl, inr, subst}
+use Rattle.std.proofs.Common.{◌≡◌, ℕ, ◌+◌, ◌-◌, ◌<◌, ◌≤◌, Bool, true, false, Some, None, inl, inr}
 use Rattle.std.proofs.Common.{List, [], ◌∷◌, ◌++◌, length, refl, sym, ap, ◌∙◌, arith}
 use Rattle.std.proofs.lemmas.List.{length-append}
-use Rattle.std.proofs.lemmas.Bool.{eqb-true, eqb-false, cases_Bool}
-use Rattle.cept_codes.specs.declared.item.Said.{Said}
-use Rattle.cept_codes.specs.declared.item.Said.TheVariants.{Command as Says, Refused}
-use Rattle.cept_codes.specs.Command.{IsValidSaid}
+use Rattle.std.proofs.lemmas.Bool.{cases_Bool}
 use Rattle.cept_parser.specs.declared.context.Context.{Context}
 use Rattle.cept_parser.specs.declared.context.Outcome.{Outcome}
 use Rattle.cept_parser.specs.Context.{start_context}
 use Rattle.cept_parser.specs.Bytes.{is_empty}
 use Rattle.cept_parser.specs.Grammar.{unit, fits, grows}
-use Rattle.cept_parser.specs.Items.{front_of, front, Reading, reading_with_items, waiting_reading, reading_at, reading}
+use Rattle.cept_parser.specs.Items.{front_of, front, Reading, reading_with_items, reading_at, reading}
 use Rattle.cept_parser.specs.Items.{items, closing_items, said_at_end}
 use Rattle.cept_parser.specs.State.{ParserState, Leads, reading_with, parser_after, pending_reading}
 use Rattle.cept_parser.specs.Beginning.{IsContinued}
-use Rattle.cept_parser.specs.Valid.{greatest_length, IsMeasured, AreValid, AreMeasured}
+use Rattle.cept_parser.specs.Valid.{AreValid, AreMeasured}
 use Rattle.cept_parser.specs.Waits.{Waits}
-use Rattle.cept_parser.proofs.GrammarLemmas.{fits_one, plain_fits}
-use Rattle.cept_parser.proofs.ValidOutcomeLemmas.{start_valid, unit_valid, fits_hundred}
+use Rattle.cept_parser.proofs.GrammarLemmas.{plain_fits}
+use Rattle.cept_parser.proofs.ValidOutcomeLemmas.{start_valid, fits_hundred}
 use Rattle.cept_parser.proofs.BeginningLemmas.{grows_continued}
 use Rattle.cept_parser.proofs.LongestBeginningLemmas.{waits_fits, front_none, front_fitting}
 use Rattle.cept_parser.proofs.ReadingInPartsLemmas.{read_append, read_place, read_waits}
-use Rattle.cept_parser.proofs.OneByteMoreLemmas.{read_nil, read_unit, closes_now}
+use Rattle.cept_parser.proofs.OneByteMoreLemmas.{closes_now}
 use Rattle.cept_parser.proofs.ValidItemLemmas.{read_sound, bytes_more, end_sound, cases_outcome}
 
-one_measured : (s : Said) → 1 ≤ greatest_length s
-one_measured (Says c) = omega arith
-one_measured (Refused r) = omega arith
-
-empty_length : (p : List ℕ) → eqb (length p) 0 ≡ true → is_empty p ≡ true
+empty_length : (p : List ℕ) → length p ≡ 0 → is_empty p ≡ true
 empty_length [] e = refl
-empty_length (a ∷ p) e = absurd (eqb-false-zero _ e)
-  where
-    eqb-false-zero : (n : ℕ) → eqb (suc n) 0 ≡ true → ⊥
-    eqb-false-zero n e = let q : suc n ≡ 0 = eqb-true (suc n) 0 e in omega arith
+empty_length (a ∷ p) e = absurd (omega arith)
 
-some_length : (p : List ℕ) → eqb (length p) 0 ≡ false → is_empty p ≡ false
-some_length [] e = absurd (eqb-false 0 0 e refl)
+some_length : (p : List ℕ) → 0 < length p → is_empty p ≡ false
+some_length [] e = absurd (omega arith)
 some_length (a ∷ p) e = refl
 
 waits_open : (x : Context) (p : List ℕ) → fits x p ≡ true → unit x p ≡ None → IsContinued x p
@@ -97,11 +87,11 @@ closing_sound x place at (a ∷ p) w =
     ((s.0, tt), ((omega arith, s.1), tt))
 
 -- nothing is added where nothing is pending
-pub closing_none : (r : Reading) → eqb (length r.pending) 0 ≡ true → closing_items r ≡ []
+pub closing_none : (r : Reading) → length r.pending ≡ 0 → closing_items r ≡ []
 unfolding closing_items
 closing_none r e = rw (empty_length r.pending e) refl
 
-pub closing_one : (r : Reading) → eqb (length r.pending) 0 ≡ false
+pub closing_one : (r : Reading) → 0 < length r.pending
     → closing_items r ≡ record { at = r.at; len = length r.pending; what = said_at_end (unit r.context r.pending) } ∷ []
 unfolding closing_items
 closing_one r e = rw (some_length r.pending e) refl
@@ -165,72 +155,3 @@ closing_leads b s l =
     sym (ap (λ (y : Context). by y (s.place - length s.pending) s.pending) l.context
     ∙ ap (λ (n : ℕ). by (reading b).context n s.pending) at
     ∙ ap (λ (q : List ℕ). by (reading b).context (reading b).at q) l.pending)
-
--- a byte that is a whole unit or refused shape, where nothing is pending
-pub alone_reading : (s : ParserState) (byte : ℕ) (o : Outcome) → s.pending ≡ [] → unit s.context (byte ∷ []) ≡ Some o
-    → grows s.context (byte ∷ []) ≡ false → reading_with s byte
-    ≡ reading_with_items (record {
-      at = s.place;
-      len = 1;
-      what =
-          o.said;
-    } ∷ []) (waiting_reading o.next (s.place + 1) [])
-alone_reading s byte o i u g =
-    let one : reading_at s.context s.place (byte ∷ [])
-    ≡ reading_with_items (record {
-      at = s.place;
-      len = 1;
-      what =
-          o.said;
-    } ∷ []) (reading_at o.next (s.place + 1) []) =
-    read_unit s.context s.place (byte ∷ []) [] o u (fits_one s.context byte) g in
-    let at : s.place - length s.pending ≡ s.place = rw i (omega arith) in
-    ap (λ (n : ℕ). reading_at s.context n (s.pending ++ byte ∷ [])) at
-    ∙ ap (λ (q : List ℕ). reading_at s.context s.place (q ++ byte ∷ [])) i ∙ one
-    ∙ ap (reading_with_items (record { at = s.place; len = 1; what = o.said } ∷ [])) (read_nil o.next (s.place + 1))
-
--- the state after it
-pub alone_state : (s : ParserState) (byte : ℕ) (o : Outcome) → s.pending ≡ [] → unit s.context (byte ∷ []) ≡ Some o
-    → grows s.context (byte ∷ []) ≡ false → record {
-      place = s.place + 1;
-      context = o.next;
-      pending =
-          s.pending;
-      finished = s.finished;
-    } ≡ parser_after s byte
-alone_state s byte o i u g =
-    let after : Reading → ParserState = λ r. record {
-      place = s.place + 1;
-      context = r.context;
-      pending =
-          r.pending;
-      finished = s.finished;
-    } in
-    let left : List ℕ → ParserState = λ q. record {
-      place = s.place + 1;
-      context = o.next;
-      pending = q;
-      finished =
-          s.finished;
-    } in
-    ap left i ∙ ap after (sym (alone_reading s byte o i u g))
-
--- and what waits in it: nothing
-pub alone_waits : (x : Context) (place : ℕ) (p : List ℕ) (byte : ℕ) (o : Outcome) → Waits x place p → byte < 256
-    → p ≡ [] → unit x (byte ∷ []) ≡ Some o → Waits o.next (place + 1) p
-alone_waits x place p byte o w l i u =
-    let v = unit_valid x (byte ∷ []) o w.context (l, tt) u in
-    subst (Waits o.next (place + 1)) (sym i) (record {
-      waits = front_none o.next [] (omega arith);
-      counted =
-          omega arith;
-      context = v.next;
-      bytes = tt;
-    })
-
--- and what it says is valid
-pub alone_sound : (x : Context) (place : ℕ) (p : List ℕ) (byte : ℕ) (o : Outcome) → Waits x place p → byte < 256
-    → unit x (byte ∷ []) ≡ Some o → IsValidSaid o.said × IsMeasured (record { at = place; len = 1; what = o.said })
-alone_sound x place p byte o w l u =
-    let v = unit_valid x (byte ∷ []) o w.context (l, tt) u in
-    (v.said, (omega arith, one_measured o.said))

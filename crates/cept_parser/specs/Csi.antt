@@ -40,42 +40,26 @@ area n m f =
 abbrev pub is_area_final : ℕ → Bool
 is_area_final f = is_between 0x55 0x56 f
 
--- CSI n 3/11 m f, of one digit each
-unfoldable pub csi_4 : ℕ → ℕ → ℕ → ℕ → Said
-csi_4 n s m f =
-    if is_digit n && (s == 0x3B && (is_digit m && is_area_final f)) then area (digit n) (digit m) f else
+-- m f behind n 3/11, m of one digit or two
+unfoldable pub area_to : ℕ → List ℕ → Said
+area_to n (m ∷ f ∷ []) =
+    if is_digit m && is_area_final f then area n (digit m) f else
     Refused UnknownCsi
-
--- of one digit and two
-unfoldable pub csi_1_2 : ℕ → ℕ → ℕ → ℕ → ℕ → Said
-csi_1_2 n s m o f =
-    if is_digit n && (s == 0x3B && (is_digit m && (is_digit o && is_area_final f)))
-    then area (digit n) (two_digits m o) f else
+area_to n (m ∷ o ∷ f ∷ []) =
+    if is_digit m && (is_digit o && is_area_final f) then area n (two_digits m o) f else
     Refused UnknownCsi
+area_to n _ = Refused UnknownCsi
 
--- of two digits and one
-unfoldable pub csi_2_1 : ℕ → ℕ → ℕ → ℕ → ℕ → Said
-csi_2_1 n o s m f =
-    if is_digit n && (is_digit o && (s == 0x3B && (is_digit m && is_area_final f)))
-    then area (two_digits n o) (digit m) f else
+-- CSI n 3/11 m f, n of one digit or two
+unfoldable pub area_from : List ℕ → Said
+area_from (a ∷ b ∷ c ∷ u) =
+    if is_digit a && b == 0x3B then area_to (digit a) (c ∷ u) else
+    if is_digit a && (is_digit b && c == 0x3B) then area_to (two_digits a b) u else
     Refused UnknownCsi
-
--- of three digits: the sign between them tells which number has two
-unfoldable pub csi_5 : ℕ → ℕ → ℕ → ℕ → ℕ → Said
-csi_5 a b c d f = if b == 0x3B then csi_1_2 a b c d f else csi_2_1 a b c d f
-
--- of two digits each
-unfoldable pub csi_6 : ℕ → ℕ → ℕ → ℕ → ℕ → ℕ → Said
-csi_6 n o s m p f =
-    if is_digit n && (is_digit o && (s == 0x3B && (is_digit m && (is_digit p && is_area_final f))))
-    then area (two_digits n o) (two_digits m p) f else
-    Refused UnknownCsi
+area_from _ = Refused UnknownCsi
 
 -- a whole control sequence, after CSI
 unfoldable pub csi : List ℕ → Said
 csi (f ∷ []) = csi_1 f
 csi (p ∷ f ∷ []) = csi_2 p f
-csi (a ∷ b ∷ c ∷ f ∷ []) = csi_4 a b c f
-csi (a ∷ b ∷ c ∷ d ∷ f ∷ []) = csi_5 a b c d f
-csi (a ∷ b ∷ c ∷ d ∷ e ∷ f ∷ []) = csi_6 a b c d e f
-csi _ = Refused UnknownCsi
+csi u = area_from u

@@ -12,4 +12,3 @@ pub mod State
 pub mod Beginning
 pub mod Fit
 pub mod Waits
-pub mod Outcome

@@ -1,11 +1,12 @@
 -- Units that begin with a plain byte, by the mode: signs, colours, patterns, and bytes that are passed over (the modes
 -- are this profile's own).
 use Rattle.std.specs.Prelude.{ℕ, ◌+◌, ◌*◌, ◌/◌, ◌%◌, ◌^◌, Bool, false, ◌&&◌, List, if◌then◌else◌, nat_lt, nat_le}
-use Rattle.std.specs.Prelude.{Option}
+use Rattle.std.specs.Prelude.{[], ◌∷◌, Option, Some, None}
 use Rattle.cept_codes.specs.declared.command.Command.TheVariants as command
 use Rattle.cept_codes.specs.declared.item.Reason.TheVariants.{BadParameter}
 use Rattle.cept_codes.specs.declared.item.Said.TheVariants.{Command as Says, Refused}
 use Rattle.cept_codes.specs.declared.look.Rgb.{Rgb}
+use Rattle.cept_drcs.specs.Unit.{is_pattern, pattern, pattern_grows as unit_grows}
 use Rattle.cept_parser.specs.declared.context.Mode.{Mode}
 use Rattle.cept_parser.specs.declared.context.Mode.TheVariants.{Text, TableRun, DclutRun, DrcsRun, Skip}
 use Rattle.cept_parser.specs.declared.context.Context.{Context}
@@ -46,17 +47,28 @@ dclut_value x i a =
     if nat_lt i 4 && has_six_bits a then outcome x (DclutRun (i + 1)) (Says (command.Dclut i (a % 32))) else
     misplacement x
 
--- DrcsRun: patterns for a code, none yet
-unfoldable pub pattern_unit : Context → ℕ → ℕ → List ℕ → Option Outcome
-pattern_unit x c a u = whole_outcome u (misplacement x)
+-- DrcsRun: a byte that begins a pattern for this code
+abbrev pub starts_pattern : Context → ℕ → ℕ → Bool
+starts_pattern x c a = nat_lt c 0x7F && is_pattern x.form (a ∷ [])
 
--- these bytes are the beginning of a pattern's unit
-abbrev pub begins_pattern : Context → ℕ → ℕ → List ℕ → Bool
-begins_pattern x c a u = is_empty u
+-- a pattern for this code, of these bytes
+abbrev pub pattern_outcome : Context → ℕ → List ℕ → Outcome
+pattern_outcome x c u = outcome x (DrcsRun (c + 1)) (Says (command.DrcsPattern c (pattern x.form u)))
+
+-- patterns for a code
+unfoldable pub pattern_unit : Context → ℕ → ℕ → List ℕ → Option Outcome
+pattern_unit x c a u =
+    if starts_pattern x c a then
+    (if is_pattern x.form (a ∷ u) then Some (pattern_outcome x c (a ∷ u)) else None) else
+    whole_outcome u (misplacement x)
+
+-- these bytes are the beginning of a pattern's unit: each is one itself
+unfoldable pub begins_pattern : Context → ℕ → ℕ → List ℕ → Bool
+begins_pattern x c a u = if starts_pattern x c a then is_pattern x.form (a ∷ u) else is_empty u
 
 -- a further byte may belong to it
-abbrev pub pattern_grows : Context → ℕ → ℕ → List ℕ → Bool
-pattern_grows x c a u = false
+unfoldable pub pattern_grows : Context → ℕ → ℕ → List ℕ → Bool
+pattern_grows x c a u = if starts_pattern x c a then unit_grows x.form (a ∷ u) else false
 
 -- the unit of a mode that begins with this plain byte
 abbrev pub run_unit : Mode → Context → ℕ → List ℕ → Option Outcome

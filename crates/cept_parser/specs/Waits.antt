@@ -1,13 +1,20 @@
 -- Pending bytes of a parser (this project's own), and what becomes of them where the next byte doesn't fit. Private
 -- clauses alone cite this file.
-use Rattle.std.specs.Prelude.{◌≡◌, ℕ, ◌≤◌, List, length, Option, Some, None}
+use Rattle.std.specs.Prelude.{◌≡◌, ℕ, ◌≤◌, Bool, true, false, ◌&&◌, List, [], ◌∷◌, length, Option, Some, None}
+use Rattle.cept_codes.specs.declared.item.Item.{Item}
 use Rattle.cept_codes.specs.declared.item.Reason.TheVariants.{Interrupted}
 use Rattle.cept_codes.specs.declared.item.Said.TheVariants.{Refused}
-use Rattle.cept_parser.specs.declared.context.Mode.TheVariants.{Text}
+use Rattle.cept_drcs.specs.Loading.{Loading, Leads}
+use Rattle.cept_parser.specs.declared.context.Mode.{Mode}
+use Rattle.cept_parser.specs.declared.context.Mode.TheVariants.{Text, TableRun, DclutRun, DrcsRun, Skip}
 use Rattle.cept_parser.specs.declared.context.Context.{Context}
 use Rattle.cept_parser.specs.declared.context.Outcome.{Outcome}
 use Rattle.cept_parser.specs.Context.{with_mode}
-use Rattle.cept_parser.specs.Items.{front}
+use Rattle.cept_parser.specs.Bytes.{is_plain}
+use Rattle.cept_parser.specs.Runs.{starts_pattern}
+use Rattle.cept_parser.specs.Grammar.{unit}
+use Rattle.cept_parser.specs.declared.reader.Reader.{Reader}
+use Rattle.cept_parser.specs.Items.{Reading, front}
 use Rattle.cept_parser.specs.Valid.{IsValidContext, AreBytes}
 
 -- bytes p wait in context x, and stand right before the place: none of them is an item yet
@@ -17,7 +24,40 @@ pub record Waits (x : Context) (place : ℕ) (p : List ℕ) : Type 0 where
   pub context : IsValidContext x
   pub bytes : AreBytes p
 
+-- a byte that begins a pattern in this mode
+abbrev pub begins_in : Mode → Context → ℕ → Bool
+begins_in Text x a = false
+begins_in Skip x a = false
+begins_in (TableRun i) x a = false
+begins_in (DclutRun i) x a = false
+begins_in (DrcsRun c) x a = starts_pattern x c a
+
+-- bytes that a pattern begins with
+abbrev pub in_pattern : Context → List ℕ → Bool
+in_pattern x [] = false
+in_pattern x (a ∷ u) = is_plain a && begins_in x.mode x a
+
+-- a loader is beside pending bytes: it loads them exactly where they are a pattern, and they lead to its state
+pub record IsBeside (x : Context) (u : List ℕ) (loading : Bool) (l : Loading) : Type 0 where
+  pub pattern : loading ≡ in_pattern x u
+  pub leads : loading ≡ true → Leads x.form u l
+
 -- what bytes say after which the next byte doesn't fit: what they wholly are, else they are interrupted
 abbrev pub outcome_at_misfit : Context → Option Outcome → Outcome
 outcome_at_misfit x (Some c) = c
 outcome_at_misfit x None = record { said = Refused Interrupted; next = with_mode x Text }
+
+-- the item that bytes at this place are then
+abbrev pub cut_item : Context → ℕ → List ℕ → Item
+cut_item x at p = record { at = at; len = length p; what = (outcome_at_misfit x (unit x p)).said }
+
+-- a reader waits right before the place, and its loader is beside what is pending
+pub record IsWaiting (s : Reader) (place : ℕ) : Type 0 where
+  pub waits : Waits s.context place s.bytes
+  pub beside : IsBeside s.context s.bytes s.loading s.loader
+
+-- a reader has what a reading leaves, and its loader is beside it
+pub record HasLeft (r : Reading) (s : Reader) : Type 0 where
+  pub context : s.context ≡ r.context
+  pub pending : s.bytes ≡ r.pending
+  pub beside : IsBeside s.context s.bytes s.loading s.loader

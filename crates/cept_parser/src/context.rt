@@ -1,4 +1,4 @@
-ghost use Rattle.std.specs.Prelude.{◌≡◌};
+ghost use Rattle.std.specs.Prelude.{◌≡◌, ℕ};
 
 use cept_codes::{Form, Said};
 
@@ -34,8 +34,8 @@ pub struct Context {
 }
 
 impl Context {
+    ghost use Rattle.std.specs.Prelude.{◌≡◌, ℕ};
     ghost use Rattle.cept_parser.specs.Context.{start_context};
-    ghost use Rattle.cept_parser.specs.Bytes.{outcome};
 
     /// The context before the first byte.
     pub(crate) fn start() -> Context
@@ -52,17 +52,13 @@ impl Context {
         }
     }
 
-    /// What is said, with this context in another mode after it.
-    pub(crate) fn outcome(&self, mode: Mode, said: Said) -> Outcome
-        ensures { result ≡ outcome self.now mode said }
+    /// The code that the next pattern is for, where patterns are read.
+    pub(crate) fn code(&self) -> u8
+        ensures { (k : ℕ) → self.now.mode ≡ Mode.DrcsRun k → result ≡ k }
     {
-        Outcome {
-            said,
-            next: Context {
-                mode,
-                kind: self.kind,
-                form: self.form,
-            },
+        match self.mode {
+            Mode::DrcsRun(code) => code,
+            _ => 0,
         }
     }
 }

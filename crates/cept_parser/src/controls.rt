@@ -1,14 +1,16 @@
-ghost use Rattle.std.specs.Prelude.{◌≡◌};
+ghost use Rattle.std.specs.Prelude.{◌≡◌, ◌≤◌};
 ghost use Rattle.cept_parser.specs.Controls.{one_byte};
 
 use cept_codes::{Command, Reason, Said};
 
-/// What a byte says that is no plain byte and begins no longer unit.
+/// What a control of the C0 set says that begins no longer unit.
 #[tactic(auto, unfolding(crate::specs::Controls::one_byte))]
-pub fn one_byte(byte: u8) -> Said
-    ensures { result ≡ one_byte byte }
+#[inline(never)]
+pub fn control(byte: u8, said: &mut Said)
+    requires { byte ≤ 0x1F }
+    ensures { said.new ≡ one_byte byte }
 {
-    match byte {
+    *said = match byte {
         0x00 => Said::Command(Command::Nul), // NUL
         0x08 => Said::Command(Command::Back), // APB
         0x09 => Said::Command(Command::Forward), // APF
@@ -24,8 +26,6 @@ pub fn one_byte(byte: u8) -> Said
         0x19 => Said::Command(Command::Single(2)), // SS2
         0x1D => Said::Command(Command::Single(3)), // SS3
         0x1E => Said::Command(Command::Home), // APH
-        0x00..=0x1F => Said::Refused(Reason::UnassignedControl),
-        0x80..=0x9F => Said::Command(Command::C1(byte - 0x80)),
-        _ => Said::Command(Command::Graphic(byte)),
-    }
+        _ => Said::Refused(Reason::UnassignedControl),
+    };
 }

@@ -1,6 +1,5 @@
 ghost use Rattle.std.specs.Prelude.{◌≡◌, ◌≤◌};
-ghost use Rattle.cept_parser.specs.Csi.{csi_1, csi_2, area, is_area_final, csi_4, csi_1_2, csi_2_1};
-ghost use Rattle.cept_parser.specs.Csi.{csi_5, csi_6, csi};
+ghost use Rattle.cept_parser.specs.Csi.{csi_1, csi_2, area, is_area_final, area_to, area_from, csi};
 
 use crate::bytes::{digit, is_digit, two_digits};
 use cept_codes::{Command, Reason, Said};
@@ -57,69 +56,32 @@ fn is_area_final(last: u8) -> bool
     0x55 <= last && last <= 0x56
 }
 
-/// An area of rows of one digit each.
-#[tactic(auto, unfolding(crate::specs::Csi::csi_4))]
-fn csi_4(n: u8, sign: u8, m: u8, last: u8) -> Said
-    ensures { result ≡ csi_4 n sign m last }
+/// The second row of an area, of one digit or two, and the final byte.
+#[tactic(auto, unfolding(crate::specs::Csi::area_to))]
+fn area_to(top: u8, bytes: &[u8]) -> Said
+    ensures { result ≡ area_to top bytes.now }
 {
-    if is_digit(n) && sign == 0x3B && is_digit(m) && is_area_final(last) {
-        area(digit(n), digit(m), last)
-    } else {
-        Said::Refused(Reason::UnknownCsi)
+    match bytes {
+        [m, last] if is_digit(*m) && is_area_final(*last) => area(top, digit(*m), *last),
+        [m, o, last] if is_digit(*m) && is_digit(*o) && is_area_final(*last) => {
+            area(top, two_digits(*m, *o), *last)
+        }
+        _ => Said::Refused(Reason::UnknownCsi),
     }
 }
 
-/// An area of a row of one digit and one of two.
-#[tactic(auto, unfolding(crate::specs::Csi::csi_1_2))]
-fn csi_1_2(n: u8, sign: u8, m: u8, o: u8, last: u8) -> Said
-    ensures { result ≡ csi_1_2 n sign m o last }
+/// An area: its first row, of one digit or two, a semicolon, and the rest.
+#[tactic(auto, unfolding(crate::specs::Csi::area_from, crate::specs::Csi::area_to))]
+fn area_from(bytes: &[u8]) -> Said
+    ensures { result ≡ area_from bytes.now }
 {
-    if is_digit(n) && sign == 0x3B && is_digit(m) && is_digit(o) && is_area_final(last) {
-        area(digit(n), two_digits(m, o), last)
-    } else {
-        Said::Refused(Reason::UnknownCsi)
-    }
-}
-
-/// An area of a row of two digits and one of one.
-#[tactic(auto, unfolding(crate::specs::Csi::csi_2_1))]
-fn csi_2_1(n: u8, o: u8, sign: u8, m: u8, last: u8) -> Said
-    ensures { result ≡ csi_2_1 n o sign m last }
-{
-    if is_digit(n) && is_digit(o) && sign == 0x3B && is_digit(m) && is_area_final(last) {
-        area(two_digits(n, o), digit(m), last)
-    } else {
-        Said::Refused(Reason::UnknownCsi)
-    }
-}
-
-/// An area of rows of three digits: the sign between them tells which row has two.
-#[tactic(auto, unfolding(crate::specs::Csi::csi_5))]
-fn csi_5(a: u8, b: u8, c: u8, d: u8, last: u8) -> Said
-    ensures { result ≡ csi_5 a b c d last }
-{
-    if b == 0x3B {
-        csi_1_2(a, b, c, d, last)
-    } else {
-        csi_2_1(a, b, c, d, last)
-    }
-}
-
-/// An area of rows of two digits each.
-#[tactic(auto, unfolding(crate::specs::Csi::csi_6))]
-fn csi_6(n: u8, o: u8, sign: u8, m: u8, p: u8, last: u8) -> Said
-    ensures { result ≡ csi_6 n o sign m p last }
-{
-    if is_digit(n)
-        && is_digit(o)
-        && sign == 0x3B
-        && is_digit(m)
-        && is_digit(p)
-        && is_area_final(last)
-    {
-        area(two_digits(n, o), two_digits(m, p), last)
-    } else {
-        Said::Refused(Reason::UnknownCsi)
+    match bytes {
+        [n, 0x3B, rest @ ..] if is_digit(*n) => area_to(digit(*n), rest),
+        [n, o, 0x3B, rest @ ..] if is_digit(*n) && is_digit(*o) => area_to(
+            two_digits(*n, *o),
+            rest,
+        ),
+        _ => Said::Refused(Reason::UnknownCsi),
     }
 }
 
@@ -131,9 +93,6 @@ pub fn csi(bytes: &[u8]) -> Said
     match bytes {
         [last] => csi_1(*last),
         [first, last] => csi_2(*first, *last),
-        [a, b, c, last] => csi_4(*a, *b, *c, *last),
-        [a, b, c, d, last] => csi_5(*a, *b, *c, *d, *last),
-        [a, b, c, d, e, last] => csi_6(*a, *b, *c, *d, *e, *last),
-        _ => Said::Refused(Reason::UnknownCsi),
+        _ => area_from(bytes),
     }
 }

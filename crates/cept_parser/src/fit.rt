@@ -1,84 +1,50 @@
-ghost use Rattle.std.specs.Prelude.{◌≡◌, ℕ, slice_index, ◌≤◌, ◌<◌, ◌-◌, Option, None, Some};
-ghost use Rattle.std.specs.Prelude.{is_some, IfSome, OnSome};
-ghost use Rattle.std.specs.Prelude.{◌∷◌, List, [], true, false, length};
-ghost use Rattle.cept_parser.specs.Bytes.{is_between, is_plain, is_empty, outcome, whole_outcome};
-ghost use Rattle.cept_parser.specs.Bytes.{begins_plain};
-ghost use Rattle.cept_parser.specs.Bytes.{with_plain, begins_sequence, is_sequence};
-ghost use Rattle.cept_parser.specs.Grammar.{repetition, csi_unit, escape_unit, begins_escape, unit};
-ghost use Rattle.cept_parser.specs.Grammar.{fits, grows};
-ghost use Rattle.cept_parser.specs.Fit.{fit, fit_by, extent_by, bytes_after, is_alone, is_sign};
-ghost use Rattle.cept_parser.specs.Fit.{is_c1};
-ghost use Rattle.cept_parser.specs.Outcome.{escape_outcome, outcome_of};
-ghost use Rattle.cept_parser.specs.Waits.{outcome_at_misfit};
+ghost use Rattle.std.specs.Prelude.{◌≡◌, ◌≤◌, ◌∷◌, [], true, false, Option, Some, None, length};
+ghost use Rattle.std.specs.Prelude.{if◌then◌else◌};
+ghost use Rattle.cept_codes.specs.Command.{IsValidForm};
 ghost use Rattle.cept_parser.specs.declared.context.Outcome.{Outcome};
-ghost use Rattle.cept_parser.specs.declared.context.Context.{Context};
+ghost use Rattle.cept_parser.specs.Bytes.{is_between, is_plain, is_empty, whole_outcome};
+ghost use Rattle.cept_parser.specs.Bytes.{begins_plain, with_plain};
+ghost use Rattle.cept_parser.specs.Bytes.{begins_sequence, is_sequence};
+ghost use Rattle.cept_parser.specs.Grammar.{repetition, csi_unit, escape_unit, begins_escape};
+ghost use Rattle.cept_parser.specs.Grammar.{unit, grows};
+ghost use Rattle.cept_parser.specs.Fit.{fit, fit_by, other_escape, said_by, context_by};
+ghost use Rattle.cept_parser.specs.Fit.{is_closed, closes};
+ghost use Rattle.cept_parser.specs.Waits.{in_pattern};
 
 use crate::bytes::is_plain;
-use crate::context::{Context, Mode, Outcome};
-use crate::controls::one_byte;
+use crate::context::{Context, Mode};
+use crate::controls::control;
 use crate::csi::csi;
 use crate::escape::escape;
-use crate::runs::{run_fit, run_outcome};
-use crate::units::{us_fit, us_outcome};
+use crate::runs::{first_of_run, run};
+use crate::units::us;
 use cept_codes::{Command, Reason, Said};
 
-/// How bytes stand to the grammar: no unit begins so, they begin one, they are one and no more
-/// bytes fit, or they are one and more bytes fit.
-#[derive(Clone, Copy, Debug, PartialEq, Eq)]
+/// How bytes stand to the grammar. The functions that decide it are handed two places besides: what
+/// whole bytes say goes where their item stays, since items are large, and the context becomes the
+/// one after them where they are closed.
+#[derive(Clone, Copy)]
 pub enum Fit {
+    /// No unit or refused shape begins so.
     Misfit,
+    /// One begins so.
     Open,
+    /// They are one, and no more bytes fit.
     Whole,
+    /// They are one, and more bytes fit.
     Longer,
 }
 
-/// How bytes stand to a kind of sequence: none begins so, they begin one, or they are one.
-#[derive(Clone, Copy, Debug, PartialEq, Eq)]
-pub enum Extent {
-    Beyond,
-    Within,
-    Full,
-}
-
-/// A unit or refused shape that is complete, whatever it says, if no bytes come after it.
-pub fn complete_fit(rest: &[u8]) -> Fit
-    ensures { (k : Outcome) → result ≡ fit_by (is_empty rest.now) false (whole_outcome rest.now k) }
-{
-    match rest {
-        [] => Fit::Whole,
-        [_, ..] => Fit::Misfit,
-    }
-}
-
-/// One plain byte, whatever it says, if no bytes come after it.
-pub fn plain_fit(bytes: &[u8]) -> Fit
-    ensures { (k : ℕ → Outcome) → result
-        ≡ fit_by (begins_plain bytes.now) false (with_plain k bytes.now) }
-{
-    match bytes {
-        [] => Fit::Open,
-        [byte] if is_plain(*byte) => Fit::Whole,
-        _ => Fit::Misfit,
-    }
-}
-
-/// The bytes after an optional part, if it is there.
-pub fn bytes_after<'a>(part: &[u8], bytes: &'a [u8]) -> &'a [u8]
-    ensures { result.now ≡ bytes_after part.now bytes.now }
-{
-    match bytes {
-        [] => bytes,
-        [byte, rest @ ..] => { if part.contains(byte) { rest } else { bytes } }
-    }
-}
-
-/// The end of a sequence, if no bytes come after it.
-fn full(rest: &[u8]) -> Extent
-    ensures { result ≡ extent_by (is_empty rest.now) (is_empty rest.now) }
-{
-    match rest {
-        [] => Extent::Full,
-        [_, ..] => Extent::Beyond,
+impl Fit {
+    /// They are closed: they are whole, and no more bytes fit or come.
+    pub fn is_closed(&self, ended: bool) -> bool
+        ensures { result ≡ closes self.now ended }
+    {
+        match self {
+            Fit::Whole => true,
+            Fit::Longer => ended,
+            _ => false,
+        }
     }
 }
 
@@ -89,217 +55,207 @@ fn is_last(last: u8, byte: u8) -> bool
     last <= byte && byte <= 0x7F
 }
 
+/// The end of a sequence, if no bytes come after it.
+fn end_of_sequence(rest: &[u8]) -> Fit
+    ensures { (o : Outcome) → result ≡ fit_by (is_empty rest.now) false (whole_outcome rest.now o) }
+{
+    if rest.is_empty() {
+        Fit::Whole
+    } else {
+        Fit::Misfit
+    }
+}
+
 /// How bytes stand to sequences of at most so many bytes below a final one, which is in the range
 /// from `last` on.
 #[tactic(auto, unfolding(crate::specs::Bytes::begins_sequence, crate::specs::Bytes::is_sequence))]
-fn sequence_extent(last: u8, most: usize, bytes: &[u8]) -> Extent
-    ensures { result
-        ≡ extent_by (begins_sequence last most bytes.now) (is_sequence last most bytes.now) }
+fn sequence(last: u8, most: usize, bytes: &[u8]) -> Fit
+    ensures { (o : Outcome) → result
+        ≡ fit_by (begins_sequence last most bytes.now) false
+        (if is_sequence last most bytes.now then Some o else None) }
 {
     match bytes {
-        [] => Extent::Within,
+        [] => Fit::Open,
         [byte, rest @ ..] => {
             if most == 0 {
                 if is_plain(*byte) {
-                    full(rest)
+                    end_of_sequence(rest)
                 } else {
-                    Extent::Beyond
+                    Fit::Misfit
                 }
             } else if is_last(last, *byte) {
-                full(rest)
+                end_of_sequence(rest)
             } else if is_plain(*byte) {
-                sequence_extent(last, most - 1, rest)
+                sequence(last, most - 1, rest)
             } else {
-                Extent::Beyond
+                Fit::Misfit
             }
         }
     }
 }
 
-/// RPT and a byte, which carries six bits.
+/// RPT: what stands after 12.
 #[tactic(auto, unfolding(crate::specs::Grammar::repetition))]
-fn repetition(context: &Context, byte: u8) -> Outcome
-    ensures { result ≡ repetition context.now byte }
+#[inline(never)]
+fn rpt(context: &mut Context, bytes: &[u8], said: &mut Said) -> Fit
+    ensures fit { result
+        ≡ fit_by (begins_plain bytes.now) false (with_plain (repetition context.old) bytes.now) }
+    ensures said { said.new
+        ≡ said_by (with_plain (repetition context.old) bytes.now) true said.old }
+    ensures context { context.new
+        ≡ context_by (with_plain (repetition context.old) bytes.now) true context.old }
 {
-    if byte >= 0x40 {
-        context.outcome(Mode::Text, Said::Command(Command::Repeat(byte - 0x40)))
-    } else {
-        context.outcome(Mode::Text, Said::Refused(Reason::BadParameter))
+    match bytes {
+        [] => Fit::Open,
+        [byte @ 0x40..=0x7F] => {
+            *said = Said::Command(Command::Repeat(*byte - 0x40));
+            context.mode = Mode::Text;
+            Fit::Whole
+        }
+        [0x20..=0x3F] => {
+            *said = Said::Refused(Reason::BadParameter);
+            context.mode = Mode::Text;
+            Fit::Whole
+        }
+        _ => Fit::Misfit,
     }
 }
 
 /// CSI: what stands after 9B or 1B 5B.
 #[tactic(auto, unfolding(crate::specs::Grammar::csi_unit))]
-fn csi_fit(context: &Context, bytes: &[u8]) -> Fit
-    ensures { result
-        ≡ fit_by (begins_sequence 0x40 7 bytes.now) false (csi_unit context.now bytes.now) }
+#[inline(never)]
+fn control_sequence(context: &mut Context, bytes: &[u8], said: &mut Said) -> Fit
+    ensures fit { result
+        ≡ fit_by (begins_sequence 0x40 7 bytes.now) false (csi_unit context.old bytes.now) }
+    ensures said { said.new
+        ≡ said_by (csi_unit context.old bytes.now) true said.old }
+    ensures context { context.new
+        ≡ context_by (csi_unit context.old bytes.now) true context.old }
 {
-    match sequence_extent(0x40, 7, bytes) {
-        Extent::Beyond => Fit::Misfit,
-        Extent::Within => Fit::Open,
-        Extent::Full => Fit::Whole,
+    let fit = sequence(0x40, 7, bytes);
+    if fit.is_closed(false) {
+        *said = csi(bytes);
+        context.mode = Mode::Text;
     }
+    fit
+}
+
+/// ESC without CSI: what stands after 1B.
+fn other_escape(context: &mut Context, bytes: &[u8], said: &mut Said) -> Fit
+    ensures fit { result
+        ≡ fit_by (begins_sequence 0x30 3 bytes.now) false (other_escape context.old bytes.now) }
+    ensures said { said.new
+        ≡ said_by (other_escape context.old bytes.now) true said.old }
+    ensures context { context.new
+        ≡ context_by (other_escape context.old bytes.now) true context.old }
+{
+    let fit = sequence(0x30, 3, bytes);
+    if fit.is_closed(false) {
+        *said = escape(bytes);
+        context.mode = Mode::Text;
+    }
+    fit
 }
 
 /// ESC: what stands after 1B.
 #[tactic(auto, unfolding(crate::specs::Grammar::escape_unit, crate::specs::Grammar::begins_escape))]
-fn escape_fit(context: &Context, bytes: &[u8]) -> Fit
-    ensures { result ≡ fit_by (begins_escape bytes.now) false (escape_unit context.now bytes.now) }
+#[inline(never)]
+fn escape_sequence(context: &mut Context, bytes: &[u8], said: &mut Said) -> Fit
+    ensures fit { result
+        ≡ fit_by (begins_escape bytes.now) false (escape_unit context.old bytes.now) }
+    ensures said { said.new
+        ≡ said_by (escape_unit context.old bytes.now) true said.old }
+    ensures context { context.new
+        ≡ context_by (escape_unit context.old bytes.now) true context.old }
 {
     match bytes {
         [] => Fit::Open,
-        [0x5B, rest @ ..] => csi_fit(context, rest),
-        [_, ..] => match sequence_extent(0x30, 3, bytes) {
-            Extent::Beyond => Fit::Misfit,
-            Extent::Within => Fit::Open,
-            Extent::Full => Fit::Whole,
-        },
+        [0x5B, rest @ ..] => control_sequence(context, rest, said),
+        [_, ..] => other_escape(context, bytes, said),
     }
 }
 
-/// How the bytes after a first one stand to the grammar.
-#[tactic(auto, unfolding(crate::specs::Grammar::fits, crate::specs::Grammar::grows, crate::specs::Grammar::unit))]
-fn fit_after(context: &Context, byte: u8, rest: &[u8]) -> Fit
-    ensures { result ≡ fit context.now (byte ∷ rest.now) }
+/// How a byte stands to the grammar with which a unit begins.
+// In place, since most units are one byte.
+#[inline(always)]
+#[tactic(auto, unfolding(crate::specs::Grammar::fits, crate::specs::Grammar::grows, crate::specs::Grammar::unit, crate::specs::Grammar::escape_unit, crate::specs::Grammar::csi_unit, crate::specs::Grammar::begins_escape, crate::specs::Bytes::begins_sequence, crate::specs::Bytes::is_sequence, crate::specs::Units::us_unit, crate::specs::Units::begins_us, crate::specs::Units::us_grows, crate::specs::Controls::one_byte))]
+fn first(context: &mut Context, byte: u8, said: &mut Said) -> Fit
+    requires { IsValidForm context.old.form }
+    ensures fit { result ≡ fit context.old (byte ∷ []) }
+    ensures said { said.new
+        ≡ said_by (unit context.old (byte ∷ []))
+        (is_closed (grows context.old (byte ∷ [])) false) said.old }
+    ensures context { context.new
+        ≡ context_by (unit context.old (byte ∷ []))
+        (is_closed (grows context.old (byte ∷ [])) false) context.old }
 {
     match byte {
-        0x20..=0x7F => run_fit(context, byte, rest),
-        0x12 => plain_fit(rest),
-        0x1B => escape_fit(context, rest),
-        0x9B => csi_fit(context, rest),
-        0x1F => us_fit(context, rest),
-        _ => complete_fit(rest),
+        0x20..=0x7F => first_of_run(context, byte, said),
+        0x12 => Fit::Open,
+        0x1B => Fit::Open,
+        0x1F => Fit::Open,
+        0x9B => Fit::Open,
+        0x00..=0x1F => {
+            control(byte, said);
+            context.mode = Mode::Text;
+            Fit::Whole
+        }
+        0x80..=0x9F => {
+            *said = Said::Command(Command::C1(byte - 0x80));
+            context.mode = Mode::Text;
+            Fit::Whole
+        }
+        _ => {
+            *said = Said::Command(Command::Graphic(byte));
+            context.mode = Mode::Text;
+            Fit::Whole
+        }
     }
 }
 
-/// How bytes stand to the grammar.
+/// How a first byte and those after it stand to the grammar.
+#[inline]
 #[tactic(auto, unfolding(crate::specs::Grammar::fits, crate::specs::Grammar::grows, crate::specs::Grammar::unit))]
-pub fn fit_of(context: &Context, bytes: &[u8]) -> Fit
-    ensures { result ≡ fit context.now bytes.now }
+fn first_and_rest(context: &mut Context, byte: u8, rest: &[u8], ended: bool, said: &mut Said) -> Fit
+    requires rest { 1 ≤ length rest.now }
+    requires other { in_pattern context.old (byte ∷ rest.now) ≡ false }
+    ensures fit { result ≡ fit context.old (byte ∷ rest.now) }
+    ensures said { said.new
+        ≡ said_by (unit context.old (byte ∷ rest.now))
+        (is_closed (grows context.old (byte ∷ rest.now)) ended) said.old }
+    ensures context { context.new
+        ≡ context_by (unit context.old (byte ∷ rest.now))
+        (is_closed (grows context.old (byte ∷ rest.now)) ended) context.old }
+{
+    match byte {
+        0x1F => us(context, rest, ended, said),
+        0x20..=0x7F => run(context, byte, rest, ended, said),
+        0x12 => rpt(context, rest, said),
+        0x1B => escape_sequence(context, rest, said),
+        0x9B => control_sequence(context, rest, said),
+        _ => Fit::Misfit,
+    }
+}
+
+/// How bytes stand to the grammar, after which more may come or none. Of a pattern it is told the
+/// first byte alone: a loader reads the others.
+#[inline(always)]
+#[tactic(auto, unfolding(crate::specs::Grammar::fits, crate::specs::Grammar::grows, crate::specs::Grammar::unit))]
+pub fn fit_of(context: &mut Context, bytes: &[u8], ended: bool, said: &mut Said) -> Fit
+    requires form { IsValidForm context.old.form }
+    requires other { in_pattern context.old bytes.now ≡ true
+        → (length bytes.now ≡ 1) × (ended ≡ false) }
+    ensures fit { result ≡ fit context.old bytes.now }
+    ensures said { said.new
+        ≡ said_by (unit context.old bytes.now)
+        (is_closed (grows context.old bytes.now) ended) said.old }
+    ensures context { context.new
+        ≡ context_by (unit context.old bytes.now)
+        (is_closed (grows context.old bytes.now) ended) context.old }
 {
     match bytes {
+        [byte] => first(context, *byte, said),
+        [byte, rest @ ..] => first_and_rest(context, *byte, rest, ended, said),
         [] => Fit::Open,
-        [byte, rest @ ..] => fit_after(context, *byte, rest),
     }
-}
-
-/// What a whole escape sequence or control sequence says, after ESC.
-#[tactic(auto, unfolding(crate::specs::Outcome::escape_outcome))]
-fn escape_outcome(context: &Context, bytes: &[u8]) -> Outcome
-    ensures { result ≡ escape_outcome context.now bytes.now }
-{
-    match bytes {
-        [] => context.outcome(Mode::Text, escape(bytes)),
-        [0x5B, rest @ ..] => context.outcome(Mode::Text, csi(rest)),
-        [_, ..] => context.outcome(Mode::Text, escape(bytes)),
-    }
-}
-
-/// What whole bytes say that begin with this one.
-#[tactic(auto, unfolding(crate::specs::Outcome::outcome_of))]
-fn outcome_after(context: &Context, byte: u8, rest: &[u8]) -> Outcome
-    ensures { result ≡ outcome_of context.now (byte ∷ rest.now) }
-{
-    match byte {
-        0x20..=0x7F => run_outcome(context, byte, rest),
-        0x12 => repetition(context, first_byte(rest)),
-        0x1B => escape_outcome(context, rest),
-        0x9B => context.outcome(Mode::Text, csi(rest)),
-        0x1F => us_outcome(context, rest),
-        _ => context.outcome(Mode::Text, one_byte(byte)),
-    }
-}
-
-/// What whole bytes say.
-#[tactic(auto, unfolding(crate::specs::Outcome::outcome_of))]
-pub fn outcome_of(context: &Context, bytes: &[u8]) -> Outcome
-    ensures { result ≡ outcome_of context.now bytes.now }
-{
-    match bytes {
-        [] => interrupted(context),
-        [byte, rest @ ..] => outcome_after(context, *byte, rest),
-    }
-}
-
-/// The first byte, 0 where there is none.
-pub fn first_byte(bytes: &[u8]) -> u8
-    ensures { result ≡ slice_index bytes.now 0 }
-{
-    match bytes {
-        [] => 0,
-        [byte, ..] => *byte,
-    }
-}
-
-/// What a byte says that is a whole unit or refused shape without asking for a run: a sign, a byte
-/// that is passed over, or a control that begins no longer unit.
-#[tactic(auto, unfolding(crate::specs::Grammar::unit, crate::specs::Grammar::grows))]
-pub fn alone(context: &Context, byte: u8) -> Option<Outcome>
-    ensures whole { IfSome result (λ o. unit context.now (byte ∷ []) ≡ Some o) }
-    ensures end { OnSome result (grows context.now (byte ∷ []) ≡ false) }
-    ensures found { is_some result ≡ is_alone context.now byte }
-{
-    match byte {
-        0x20..=0x7F => match context.mode {
-            Mode::Text => Some(context.outcome(Mode::Text, Said::Command(Command::Graphic(byte)))),
-            Mode::Skip => Some(context.outcome(Mode::Skip, Said::Command(Command::Skipped))),
-            _ => None,
-        },
-        0x12 => None,
-        0x1B => None,
-        0x9B => None,
-        0x1F => None,
-        _ => Some(context.outcome(Mode::Text, one_byte(byte))),
-    }
-}
-
-/// A byte that is a sign by itself: a plain one in mode Text, or one of the right half.
-#[inline]
-#[tactic(auto, unfolding(crate::specs::Grammar::unit, crate::specs::Grammar::grows, crate::specs::Controls::one_byte))]
-pub fn is_sign(context: &Context, byte: u8) -> bool
-    ensures found { result ≡ is_sign context.now byte }
-    ensures whole { result ≡ true → unit context.now (byte ∷ [])
-        ≡ Some (outcome context.now Mode.Text (Said.Command (Command.Graphic byte))) }
-    ensures end { result ≡ true → grows context.now (byte ∷ []) ≡ false }
-{
-    match byte {
-        0x20..=0x7F => matches!(context.mode, Mode::Text),
-        0xA0..=0xFF => true,
-        _ => false,
-    }
-}
-
-/// A C1 code in its form of one byte.
-#[inline]
-#[tactic(auto, unfolding(crate::specs::Grammar::unit, crate::specs::Grammar::grows, crate::specs::Controls::one_byte))]
-pub fn is_c1(byte: u8) -> bool
-    ensures found { result ≡ is_c1 byte }
-    ensures range { result ≡ true → 0x80 ≤ byte }
-    ensures whole { (x : Context) → result ≡ true
-        → unit x (byte ∷ [])
-        ≡ Some (outcome x Mode.Text (Said.Command (Command.C1 (byte - 0x80)))) }
-    ensures end { (x : Context) → result ≡ true → grows x (byte ∷ []) ≡ false }
-{
-    0x80 <= byte && byte <= 0x9F && byte != 0x9B
-}
-
-/// What bytes say after which the next byte doesn't fit: what they wholly are, else they are
-/// interrupted.
-pub fn outcome_at_misfit(context: &Context, bytes: &[u8]) -> Outcome
-    requires { fits context.now bytes.now ≡ true }
-    ensures { result ≡ outcome_at_misfit context.now (unit context.now bytes.now) }
-{
-    match fit_of(context, bytes) {
-        Fit::Whole => outcome_of(context, bytes),
-        Fit::Longer => outcome_of(context, bytes),
-        Fit::Open => interrupted(context),
-        Fit::Misfit => interrupted(context),
-    }
-}
-
-/// Interrupted bytes.
-fn interrupted(context: &Context) -> Outcome
-    ensures { result ≡ outcome_at_misfit context.now None }
-{
-    context.outcome(Mode::Text, Said::Refused(Reason::Interrupted))
 }

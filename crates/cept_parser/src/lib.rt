@@ -3,6 +3,7 @@
 #![tactic(auto)]
 
 mod bytes;
+mod closed;
 mod context;
 mod controls;
 mod csi;
@@ -10,6 +11,8 @@ mod escape;
 mod fit;
 pub mod laws;
 mod parser;
+mod pending;
+mod reader;
 mod runs;
 #[cfg(test)]
 mod sweep;
@@ -19,5 +22,6 @@ mod tables;
 mod tests;
 mod units;
 
+pub use closed::Closed;
 pub use context::{ColourKind, Context, Mode, Outcome};
 pub use parser::Parser;

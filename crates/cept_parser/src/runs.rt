@@ -1,23 +1,24 @@
-ghost use Rattle.std.specs.Prelude.{◌≡◌, ◌≤◌, ◌<◌, ◌+◌, true, false, Option, Some};
-ghost use Rattle.cept_parser.specs.declared.context.Outcome.{Outcome};
-ghost use Rattle.cept_parser.specs.Bytes.{is_empty, begins_plain, with_plain};
-ghost use Rattle.cept_parser.specs.Fit.{fit_by};
-ghost use Rattle.cept_parser.specs.Outcome.{run_outcome};
+ghost use Rattle.std.specs.Prelude.{◌≡◌, ◌≢◌, ◌≤◌, ◌<◌, ◌+◌, [], length, true, false};
+ghost use Rattle.cept_codes.specs.Command.{IsValidForm};
+ghost use Rattle.cept_parser.specs.Fit.{fit_by, said_by, context_by, is_closed};
 ghost use Rattle.cept_parser.specs.Runs.{misplacement, has_six_bits, bit, colour_part, colour};
-ghost use Rattle.cept_parser.specs.Runs.{table_entry};
+ghost use Rattle.cept_parser.specs.Runs.{table_entry, starts_pattern};
+ghost use Rattle.cept_parser.specs.Waits.{begins_in};
 ghost use Rattle.cept_parser.specs.Runs.{dclut_value, pattern_unit, begins_pattern, pattern_grows};
 ghost use Rattle.cept_parser.specs.Runs.{run_unit};
 ghost use Rattle.cept_parser.specs.Runs.{begins_run, run_grows};
 
-use crate::context::{Context, Mode, Outcome};
-use crate::fit::{Fit, complete_fit, first_byte, plain_fit};
+use crate::bytes::is_plain;
+use crate::context::{Context, Mode};
+use crate::fit::Fit;
 use cept_codes::{Command, Reason, Rgb, Said};
 
 /// A plain byte that can't begin or continue the unit of its run.
-fn misplacement(context: &Context) -> Outcome
-    ensures { result ≡ misplacement context.now }
+fn misplacement(context: &mut Context, said: &mut Said)
+    ensures { record { said = said.new; next = context.new } ≡ misplacement context.old }
 {
-    context.outcome(Mode::Skip, Said::Refused(Reason::BadParameter))
+    *said = Said::Refused(Reason::BadParameter);
+    context.mode = Mode::Skip;
 }
 
 /// A byte of columns 4 to 7, which carries six bits.
@@ -57,99 +58,213 @@ fn colour(first: u8, second: u8) -> Rgb
 
 /// The second byte of a colour entry.
 #[tactic(auto, unfolding(crate::specs::Runs::table_entry))]
-fn table_entry(context: &Context, place: u8, first: u8, second: u8) -> Outcome
+fn table_entry(context: &mut Context, place: u8, first: u8, second: u8, said: &mut Said)
     requires { place < 32 }
-    ensures { result ≡ table_entry context.now place first second }
+    ensures { record { said = said.new; next = context.new }
+        ≡ table_entry context.old place first second }
 {
     if has_six_bits(second) {
-        context.outcome(
-            Mode::TableRun(place + 1),
-            Said::Command(Command::Entry(place, colour(first, second))),
-        )
+        *said = Said::Command(Command::Entry(place, colour(first, second)));
+        context.mode = Mode::TableRun(place + 1);
     } else {
-        misplacement(context)
+        misplacement(context, said)
     }
 }
 
 /// A value of the DCLUT.
 #[tactic(auto, unfolding(crate::specs::Runs::dclut_value))]
-fn dclut_value(context: &Context, place: u8, byte: u8) -> Outcome
-    ensures { result ≡ dclut_value context.now place byte }
+#[inline(never)]
+fn dclut_value(context: &mut Context, place: u8, byte: u8, said: &mut Said)
+    ensures { record { said = said.new; next = context.new } ≡ dclut_value context.old place byte }
 {
     if place < 4 && has_six_bits(byte) {
-        context.outcome(
-            Mode::DclutRun(place + 1),
-            Said::Command(Command::Dclut(place, byte % 32)),
-        )
+        *said = Said::Command(Command::Dclut(place, byte % 32));
+        context.mode = Mode::DclutRun(place + 1);
     } else {
-        misplacement(context)
+        misplacement(context, said)
     }
 }
 
-/// A run of colours for the table.
+/// How a plain byte stands to a run of colours for the table with which a unit begins.
+#[inline(never)]
 #[tactic(auto, unfolding(crate::specs::Runs::begins_run))]
-fn table_fit(context: &Context, place: u8, byte: u8, rest: &[u8]) -> Fit
-    ensures { result
-        ≡ fit_by (begins_run (Mode.TableRun place) context.now byte rest.now) false
-        (run_unit (Mode.TableRun place) context.now byte rest.now) }
+fn first_of_table(context: &mut Context, place: u8, byte: u8, said: &mut Said) -> Fit
+    ensures fit { result
+        ≡ fit_by (begins_run (Mode.TableRun place) context.old byte []) false
+        (run_unit (Mode.TableRun place) context.old byte []) }
+    ensures said { said.new
+        ≡ said_by (run_unit (Mode.TableRun place) context.old byte []) true said.old }
+    ensures context { context.new
+        ≡ context_by (run_unit (Mode.TableRun place) context.old byte []) true context.old }
 {
     if place < 32 && has_six_bits(byte) {
-        plain_fit(rest)
+        Fit::Open
     } else {
-        complete_fit(rest)
+        misplacement(context, said);
+        Fit::Whole
     }
 }
 
-/// A run of patterns, none yet.
-#[tactic(auto, unfolding(crate::specs::Runs::pattern_unit))]
-fn pattern_fit(context: &Context, code: u8, byte: u8, rest: &[u8]) -> Fit
-    ensures { result
-        ≡ fit_by (begins_pattern context.now code byte rest.now)
-        (pattern_grows context.now code byte rest.now)
-        (pattern_unit context.now code byte rest.now) }
+/// A byte that begins a pattern for this code.
+#[tactic(auto, using(crate::proofs::PatternLemmas::starts_is))]
+fn starts_pattern(context: &Context, code: u8, byte: u8) -> bool
+    requires { IsValidForm context.now.form }
+    ensures { result ≡ starts_pattern context.now code byte }
 {
-    complete_fit(rest)
+    code < 0x7F && byte == 0x30
 }
 
-/// How bytes stand to the mode that begin with a plain byte.
+/// How a plain byte stands to a run of patterns with which a unit begins: one that begins a pattern
+/// is a pattern by itself, and more bytes fit.
+#[inline(never)]
+#[tactic(auto, unfolding(crate::specs::Runs::pattern_unit, crate::specs::Runs::begins_pattern, crate::specs::Runs::pattern_grows))]
+fn first_of_pattern(context: &mut Context, code: u8, byte: u8, said: &mut Said) -> Fit
+    requires { IsValidForm context.old.form }
+    ensures fit { result
+        ≡ fit_by (begins_pattern context.old code byte [])
+        (pattern_grows context.old code byte [])
+        (pattern_unit context.old code byte []) }
+    ensures said { said.new
+        ≡ said_by (pattern_unit context.old code byte [])
+        (is_closed (pattern_grows context.old code byte []) false) said.old }
+    ensures context { context.new
+        ≡ context_by (pattern_unit context.old code byte [])
+        (is_closed (pattern_grows context.old code byte []) false) context.old }
+{
+    if starts_pattern(context, code, byte) {
+        Fit::Longer
+    } else {
+        misplacement(context, said);
+        Fit::Whole
+    }
+}
+
+/// How a plain byte that is no sign stands to the mode with which a unit begins.
+#[inline(never)]
 #[tactic(auto, unfolding(crate::specs::Runs::begins_run))]
-pub fn run_fit(context: &Context, byte: u8, rest: &[u8]) -> Fit
-    ensures { result
-        ≡ fit_by (begins_run context.now.mode context.now byte rest.now)
-        (run_grows context.now.mode context.now byte rest.now)
-        (run_unit context.now.mode context.now byte rest.now) }
+fn first_of_units(context: &mut Context, byte: u8, said: &mut Said) -> Fit
+    requires form { IsValidForm context.old.form }
+    requires other { context.old.mode ≢ Mode.Text }
+    ensures fit { result
+        ≡ fit_by (begins_run context.old.mode context.old byte [])
+        (run_grows context.old.mode context.old byte [])
+        (run_unit context.old.mode context.old byte []) }
+    ensures said { said.new
+        ≡ said_by (run_unit context.old.mode context.old byte [])
+        (is_closed (run_grows context.old.mode context.old byte []) false) said.old }
+    ensures context { context.new
+        ≡ context_by (run_unit context.old.mode context.old byte [])
+        (is_closed (run_grows context.old.mode context.old byte []) false) context.old }
 {
     match context.mode {
-        Mode::Text => complete_fit(rest),
-        Mode::Skip => complete_fit(rest),
-        Mode::TableRun(place) => table_fit(context, place, byte, rest),
-        Mode::DclutRun(_) => complete_fit(rest),
-        Mode::DrcsRun(code) => pattern_fit(context, code, byte, rest),
+        Mode::Text => Fit::Misfit,
+        Mode::Skip => {
+            *said = Said::Command(Command::Skipped);
+            Fit::Whole
+        }
+        Mode::TableRun(place) => first_of_table(context, place, byte, said),
+        Mode::DclutRun(place) => {
+            dclut_value(context, place, byte, said);
+            Fit::Whole
+        }
+        Mode::DrcsRun(code) => first_of_pattern(context, code, byte, said),
     }
 }
 
-/// What a whole unit of a run of colours for the table says.
-#[tactic(auto, unfolding(crate::specs::Outcome::run_outcome))]
-fn table_outcome(context: &Context, place: u8, byte: u8, rest: &[u8]) -> Outcome
-    ensures { result ≡ run_outcome (Mode.TableRun place) context.now byte rest.now }
+/// How a plain byte stands to the mode with which a unit begins.
+#[inline(always)]
+#[tactic(auto, unfolding(crate::specs::Runs::begins_run))]
+pub fn first_of_run(context: &mut Context, byte: u8, said: &mut Said) -> Fit
+    requires { IsValidForm context.old.form }
+    ensures fit { result
+        ≡ fit_by (begins_run context.old.mode context.old byte [])
+        (run_grows context.old.mode context.old byte [])
+        (run_unit context.old.mode context.old byte []) }
+    ensures said { said.new
+        ≡ said_by (run_unit context.old.mode context.old byte [])
+        (is_closed (run_grows context.old.mode context.old byte []) false) said.old }
+    ensures context { context.new
+        ≡ context_by (run_unit context.old.mode context.old byte [])
+        (is_closed (run_grows context.old.mode context.old byte []) false) context.old }
 {
-    if place < 32 && has_six_bits(byte) {
-        table_entry(context, place, byte, first_byte(rest))
-    } else {
-        misplacement(context)
+    match context.mode {
+        Mode::Text => {
+            *said = Said::Command(Command::Graphic(byte));
+            Fit::Whole
+        }
+        _ => first_of_units(context, byte, said),
     }
 }
 
-/// What whole bytes say in the mode that begin with a plain byte.
-#[tactic(auto, unfolding(crate::specs::Outcome::run_outcome))]
-pub fn run_outcome(context: &Context, byte: u8, rest: &[u8]) -> Outcome
-    ensures { result ≡ run_outcome context.now.mode context.now byte rest.now }
+/// How a plain byte and those after it stand to a run of colours for the table.
+#[tactic(auto, unfolding(crate::specs::Runs::begins_run))]
+fn table_run(context: &mut Context, place: u8, byte: u8, rest: &[u8], said: &mut Said) -> Fit
+    requires { 1 ≤ length rest.now }
+    ensures fit { result
+        ≡ fit_by (begins_run (Mode.TableRun place) context.old byte rest.now) false
+        (run_unit (Mode.TableRun place) context.old byte rest.now) }
+    ensures said { said.new
+        ≡ said_by (run_unit (Mode.TableRun place) context.old byte rest.now) true said.old }
+    ensures context { context.new
+        ≡ context_by (run_unit (Mode.TableRun place) context.old byte rest.now) true context.old }
+{
+    match rest {
+        [second] if place < 32 && has_six_bits(byte) && is_plain(*second) => {
+            table_entry(context, place, byte, *second, said);
+            Fit::Whole
+        }
+        _ => Fit::Misfit,
+    }
+}
+
+/// How a plain byte and those after it stand to a run of patterns, where it begins none.
+#[tactic(auto, unfolding(crate::specs::Runs::pattern_unit, crate::specs::Runs::begins_pattern, crate::specs::Runs::pattern_grows))]
+fn pattern_run(
+    context: &mut Context,
+    code: u8,
+    byte: u8,
+    rest: &[u8],
+    ended: bool,
+    said: &mut Said,
+) -> Fit
+    requires rest { 1 ≤ length rest.now }
+    requires other { starts_pattern context.old code byte ≡ false }
+    ensures fit { result
+        ≡ fit_by (begins_pattern context.old code byte rest.now)
+        (pattern_grows context.old code byte rest.now)
+        (pattern_unit context.old code byte rest.now) }
+    ensures said { said.new
+        ≡ said_by (pattern_unit context.old code byte rest.now)
+        (is_closed (pattern_grows context.old code byte rest.now) ended) said.old }
+    ensures context { context.new
+        ≡ context_by (pattern_unit context.old code byte rest.now)
+        (is_closed (pattern_grows context.old code byte rest.now) ended) context.old }
+{
+    Fit::Misfit
+}
+
+/// How a plain byte and those after it stand to the mode.
+#[tactic(auto, unfolding(crate::specs::Runs::begins_run))]
+#[inline(never)]
+pub fn run(context: &mut Context, byte: u8, rest: &[u8], ended: bool, said: &mut Said) -> Fit
+    requires rest { 1 ≤ length rest.now }
+    requires other { begins_in context.old.mode context.old byte ≡ false }
+    ensures fit { result
+        ≡ fit_by (begins_run context.old.mode context.old byte rest.now)
+        (run_grows context.old.mode context.old byte rest.now)
+        (run_unit context.old.mode context.old byte rest.now) }
+    ensures said { said.new
+        ≡ said_by (run_unit context.old.mode context.old byte rest.now)
+        (is_closed (run_grows context.old.mode context.old byte rest.now) ended) said.old }
+    ensures context { context.new
+        ≡ context_by (run_unit context.old.mode context.old byte rest.now)
+        (is_closed (run_grows context.old.mode context.old byte rest.now) ended) context.old }
 {
     match context.mode {
-        Mode::Text => context.outcome(Mode::Text, Said::Command(Command::Graphic(byte))),
-        Mode::Skip => context.outcome(Mode::Skip, Said::Command(Command::Skipped)),
-        Mode::TableRun(place) => table_outcome(context, place, byte, rest),
-        Mode::DclutRun(place) => dclut_value(context, place, byte),
-        Mode::DrcsRun(_) => misplacement(context),
+        Mode::Text => Fit::Misfit,
+        Mode::Skip => Fit::Misfit,
+        Mode::TableRun(place) => table_run(context, place, byte, rest, said),
+        Mode::DclutRun(_) => Fit::Misfit,
+        Mode::DrcsRun(code) => pattern_run(context, code, byte, rest, ended, said),
     }
 }

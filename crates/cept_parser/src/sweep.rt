@@ -3,15 +3,22 @@
 
 ghost use Rattle.std.specs.Prelude.{◌<◌, length};
 
+use crate::closed::Closed;
 use crate::parser::Parser;
-use crate::tables::{Row, goes_on, kind_after, row};
+use crate::tables::{Row, form_after, goes_on, kind_after, row};
 use crate::tests::items_of;
 use crate::{ColourKind, Mode};
-use arrayvec::ArrayVec;
-use cept_codes::{Item, Reason, Said};
+use cept_codes::{Form, Item, Reason, Said};
 use std::alloc::Global;
 use std::process::Abort;
 use std::test::Fail;
+
+/// The form of patterns at the start.
+const FIRST_FORM: Form = Form {
+    w: 12,
+    h: 10,
+    planes: 1,
+};
 
 /// A plain byte.
 fn is_left(byte: u8) -> bool {
@@ -19,10 +26,10 @@ fn is_left(byte: u8) -> bool {
 }
 
 /// The longest beginning that is a row of the tables.
-fn longest(mode: Mode, kind: ColourKind, bytes: &[u8]) -> Option<(usize, Row)> {
+fn longest(mode: Mode, kind: ColourKind, form: Form, bytes: &[u8]) -> Option<(usize, Row)> {
     for shorter in 0..bytes.len() {
         let len = bytes.len() - shorter;
-        if let Some(found) = row(mode, kind, &bytes[..len]) {
+        if let Some(found) = row(mode, kind, form, &bytes[..len]) {
             return Some((len, found));
         }
     }
@@ -47,6 +54,7 @@ fn expected(alloc: Global, page: &[u8]) -> Result<Vec<Item>, Fail>
     let mut items = Vec::new(alloc);
     let mut mode = Mode::Text;
     let mut kind = ColourKind::ColourTable;
+    let mut form = FIRST_FORM;
     let mut next = 0;
     for at in 0..page.len() {
         if at < next {
@@ -56,7 +64,7 @@ fn expected(alloc: Global, page: &[u8]) -> Result<Vec<Item>, Fail>
             mode = Mode::Text;
         }
         let rest = &page[at..];
-        let (len, (what, after)) = match longest(mode, kind, rest) {
+        let (len, (what, after)) = match longest(mode, kind, form, rest) {
             Some(found) => found,
             None => cut_off(rest),
         };
@@ -67,6 +75,7 @@ fn expected(alloc: Global, page: &[u8]) -> Result<Vec<Item>, Fail>
         })?;
         mode = after;
         kind = kind_after(kind, what);
+        form = form_after(form, what);
         next = at.saturating_add(len);
     }
     Ok(items)
@@ -79,7 +88,7 @@ fn left_of(page: &[u8], items: &[Item]) -> usize {
         [.., last] => {
             let len = last.len as usize;
             let is_left = last.what == Said::Refused(Reason::Truncated)
-                || len <= page.len() && goes_on(&page[page.len() - len..]);
+                || len <= page.len() && goes_on(last.what, &page[page.len() - len..]);
             if is_left { len } else { 0 }
         }
         [] => 0,
@@ -100,12 +109,11 @@ fn watched(rt: &impl Abort, alloc: Global, page: &[u8], left: usize) -> Result<V
 {
     let mut parser = Parser::new();
     let mut items = Vec::new(alloc);
-    let mut outcome = ArrayVec::new();
+    let mut closed = Closed::new();
     let mut pushed = 0;
     for byte in page {
-        outcome.clear();
-        parser.push_into(*byte, &mut outcome);
-        items.extend_from_slice(outcome.as_slice())?;
+        parser.push_into(*byte, &mut closed);
+        items.extend_from_slice(closed.as_slice())?;
         pushed += 1;
         let end = end_of(items.as_slice()).wrapping_add(parser.pending() as u64);
         assert_eq!(rt; parser.place(), pushed, "of {page:?}");
@@ -157,14 +165,44 @@ fn pages_of_two_bytes(rt: HostRuntime) -> Result<(), Fail> {
 
 #[test]
 fn tails_in_each_mode(rt: HostRuntime) -> Result<(), Fail> {
-    // Text, TableRun(0), TableRun(31), TableRun(32), DrcsRun(21), DrcsRun(7E), Skip.
+    // Text, TableRun(0), TableRun(31), TableRun(32), Skip.
     sweep(&rt, rt.alloc(), &[0x41])?;
     sweep(&rt, rt.alloc(), &[0x1F, 0x26, 0x30, 0x30])?;
     sweep(&rt, rt.alloc(), &[0x1F, 0x26, 0x33, 0x31])?;
     sweep(&rt, rt.alloc(), &[0x1F, 0x26, 0x33, 0x31, 0x52, 0x7F])?;
+    sweep(&rt, rt.alloc(), &[0x1F, 0x26, 0x21])
+}
+
+#[test]
+fn tails_in_patterns(rt: HostRuntime) -> Result<(), Fail> {
+    // DrcsRun(21), DrcsRun(7E), DrcsRun(7F), and in patterns of 12x10: no line, half a line, one, nine
+    // and a half, all.
     sweep(&rt, rt.alloc(), &[0x1F, 0x23, 0x21])?;
     sweep(&rt, rt.alloc(), &[0x1F, 0x23, 0x7E])?;
-    sweep(&rt, rt.alloc(), &[0x1F, 0x26, 0x21])
+    sweep(&rt, rt.alloc(), &[0x1F, 0x23, 0x7E, 0x30, 0x2F])?;
+    sweep(&rt, rt.alloc(), &[0x1F, 0x23, 0x21, 0x30])?;
+    sweep(&rt, rt.alloc(), &[0x1F, 0x23, 0x21, 0x30, 0x65])?;
+    sweep(&rt, rt.alloc(), &[0x1F, 0x23, 0x21, 0x30, 0x65, 0x4B])?;
+    sweep(&rt, rt.alloc(), &[0x1F, 0x23, 0x21, 0x30, 0x65, 0x28, 0x4B])?;
+    sweep(&rt, rt.alloc(), &[0x1F, 0x23, 0x21, 0x30, 0x2E])
+}
+
+#[test]
+fn tails_in_planes(rt: HostRuntime) -> Result<(), Fail> {
+    // Patterns of 12x12 in four planes, and of 6x5 in two: in the first plane, in a later one, in the
+    // last one.
+    let four = [0x1F, 0x23, 0x20, 0x36, 0x44, 0x1F, 0x23, 0x21, 0x30];
+    sweep(&rt, rt.alloc(), &four)?;
+    let third = [
+        0x1F, 0x23, 0x20, 0x36, 0x44, 0x1F, 0x23, 0x21, 0x30, 0x7F, 0x32, 0x2D,
+    ];
+    sweep(&rt, rt.alloc(), &third)?;
+    let two = [0x1F, 0x23, 0x20, 0x3C, 0x42, 0x1F, 0x23, 0x21, 0x30, 0x53];
+    sweep(&rt, rt.alloc(), &two)?;
+    let last = [
+        0x1F, 0x23, 0x20, 0x3C, 0x42, 0x1F, 0x23, 0x21, 0x30, 0x20, 0x31, 0x24,
+    ];
+    sweep(&rt, rt.alloc(), &last)
 }
 
 #[test]

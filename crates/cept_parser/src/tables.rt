@@ -4,7 +4,7 @@
 ghost use Rattle.std.specs.Prelude.{◌≤◌};
 
 use crate::{ColourKind, Mode};
-use cept_codes::{C1Set, Command, Form, Reason, Rgb, Said, SetId};
+use cept_codes::{C1Set, Command, Form, Pattern, Reason, Rgb, Said, SetId};
 
 /// What bytes say, and the mode after them.
 pub type Row = (Said, Mode);
@@ -224,8 +224,17 @@ fn unit_with_parts(bytes: &[u8]) -> Option<(Command, Mode)> {
     }
 }
 
-/// A further part may stand after a header or a format: its last part isn't there.
-pub fn goes_on(bytes: &[u8]) -> bool {
+/// A further part may stand after a header or a format: its last part isn't there. A further byte may
+/// stand after a pattern: a line or a plane isn't there.
+pub fn goes_on(said: Said, bytes: &[u8]) -> bool {
+    if let Said::Command(Command::DrcsPattern(_, pattern)) = said {
+        let form = Form {
+            w: pattern.w,
+            h: pattern.h,
+            planes: pattern.planes,
+        };
+        return Drawing::of(form, bytes).is_some_and(|drawing| drawing.goes_on());
+    }
     match bytes {
         [0x1F, 0x23, 0x20, .., 0x41 | 0x42 | 0x44] => false,
         [0x1F, 0x26, 0x20, .., 0x40] => false,
@@ -284,8 +293,12 @@ fn part(x: u8, y: u8, high: u8, low: u8) -> u8 {
 }
 
 /// Units that begin with a plain byte.
-fn unit_in_run(mode: Mode, bytes: &[u8]) -> Option<(Command, Mode)> {
+fn unit_in_run(mode: Mode, form: Form, bytes: &[u8]) -> Option<(Command, Mode)> {
     match (mode, bytes) {
+        (Mode::DrcsRun(c), _) if c < 0x7F => {
+            let pattern = Drawing::of(form, bytes)?.pattern();
+            Some((Command::DrcsPattern(c, pattern), Mode::DrcsRun(c + 1)))
+        }
         (Mode::Text, [x @ 0x20..=0x7F]) => Some((Command::Graphic(*x), Mode::Text)),
         (Mode::Skip, [0x20..=0x7F]) => Some((Command::Skipped, Mode::Skip)),
         (Mode::TableRun(i), [x @ 0x40..=0x7F, y @ 0x40..=0x7F]) if i < 32 => {
@@ -356,7 +369,7 @@ fn are_middle(bytes: &[u8]) -> bool {
 }
 
 /// The row of bytes that are wholly a unit or a refusal. The first table that has one tells it.
-pub fn row(mode: Mode, kind: ColourKind, bytes: &[u8]) -> Option<Row> {
+pub fn row(mode: Mode, kind: ColourKind, form: Form, bytes: &[u8]) -> Option<Row> {
     if let [byte] = bytes {
         if let Some(command) = unit_of_one_byte(*byte) {
             return Some((Said::Command(command), Mode::Text));
@@ -371,7 +384,7 @@ pub fn row(mode: Mode, kind: ColourKind, bytes: &[u8]) -> Option<Row> {
     if let Some((command, after)) = unit_from_1f(kind, bytes) {
         return Some((Said::Command(command), after));
     }
-    if let Some((command, after)) = unit_in_run(mode, bytes) {
+    if let Some((command, after)) = unit_in_run(mode, form, bytes) {
         return Some((Said::Command(command), after));
     }
     if is_refused_in_run(mode, bytes) {
@@ -390,4 +403,153 @@ pub fn kind_after(kind: ColourKind, said: Said) -> ColourKind {
         Said::Command(Command::FullDefaults(_)) => ColourKind::ColourTable,
         _ => kind,
     }
+}
+
+/// The form of patterns after what is said: their header sets it, and full defaults bring back the
+/// first one.
+pub fn form_after(form: Form, said: Said) -> Form {
+    match said {
+        Said::Command(Command::DrcsHeader(_, form)) => form,
+        Said::Command(Command::FullDefaults(_)) => form_of(&[]),
+        _ => form,
+    }
+}
+
+/// Bytes of a pattern as they are drawn, pixel by pixel.
+#[derive(Drop)]
+struct Drawing {
+    form: Form,
+    bits: [u64; 9],
+    /// The open plane, and how many of its lines are drawn.
+    plane: u8,
+    lines: u8,
+    /// The line before, and the left half of a line of twelve pixels whose right half isn't there.
+    before: u16,
+    half: Option<u16>,
+}
+
+impl Drawing {
+    /// The drawing of these bytes, if they are a pattern of this form.
+    fn of(form: Form, bytes: &[u8]) -> Option<Drawing> {
+        let [0x30, rest @ ..] = bytes else {
+            return None;
+        };
+        let mut drawing = Drawing {
+            form,
+            bits: [0; 9],
+            plane: 0,
+            lines: 0,
+            before: 0,
+            half: None,
+        };
+        for byte in rest {
+            if !drawing.take(*byte) {
+                return None;
+            }
+        }
+        Some(drawing)
+    }
+
+    /// One byte more, unless it can't stand here.
+    fn take(&mut self, byte: u8) -> bool {
+        match byte {
+            0x31..=0x33 => {
+                self.end_line();
+                let opens = byte - 0x30 > self.plane && byte - 0x30 < self.form.planes;
+                self.plane = byte - 0x30;
+                self.lines = 0;
+                self.before = 0;
+                opens
+            }
+            0x20..=0x2A | 0x2C..=0x2F | 0x40..=0x7F => {
+                let stands = self.lines < self.form.h;
+                self.add(byte);
+                stands
+            }
+            _ => false,
+        }
+    }
+
+    /// The lines that a byte adds.
+    fn add(&mut self, byte: u8) {
+        if byte >= 0x40 {
+            let six = six_pixels(byte);
+            match self.half {
+                Some(left) => self.line(left | six << 6),
+                None if self.form.w == 6 => self.line(six),
+                None => self.half = Some(six),
+            }
+            return;
+        }
+        self.end_line();
+        let (times, line) = match byte {
+            0x21..=0x2A => (byte - 0x20, self.before),
+            0x2E => (12, self.before),
+            0x2C => (1, 0),
+            0x20 => (12, 0),
+            0x2D => (1, 0xFFF),
+            _ => (12, 0xFFF),
+        };
+        for _ in 0..times {
+            self.line(line);
+        }
+    }
+
+    /// A half line gets pixels of 0.
+    fn end_line(&mut self) {
+        if let Some(left) = self.half {
+            self.line(left);
+        }
+    }
+
+    /// One line, if there is room for it.
+    fn line(&mut self, line: u16) {
+        self.half = None;
+        if self.lines >= self.form.h {
+            return;
+        }
+        for x in 0..12u16 {
+            if x < u16::from(self.form.w) && (line >> x) % 2 == 1 {
+                self.set(x);
+            }
+        }
+        self.before = line;
+        self.lines = self.lines.saturating_add(1);
+    }
+
+    /// The pixel of this column of the next line.
+    fn set(&mut self, x: u16) {
+        let line = u16::from(self.plane)
+            .wrapping_mul(u16::from(self.form.h))
+            .wrapping_add(u16::from(self.lines));
+        let bit = line.wrapping_mul(u16::from(self.form.w)).wrapping_add(x);
+        if let Some(word) = self.bits.get_mut(usize::from(bit / 64)) {
+            *word |= 1 << (bit % 64);
+        }
+    }
+
+    /// The pattern drawn.
+    fn pattern(mut self) -> Pattern {
+        self.end_line();
+        Pattern {
+            w: self.form.w,
+            h: self.form.h,
+            planes: self.form.planes,
+            bits: self.bits,
+        }
+    }
+
+    /// A line isn't there, or a plane.
+    fn goes_on(&self) -> bool {
+        self.lines < self.form.h || self.plane < 3 && self.plane + 1 < self.form.planes
+    }
+}
+
+/// The six pixels of a byte, the left one in the lowest bit.
+fn six_pixels(byte: u8) -> u16 {
+    let mut pixels = 0;
+    for x in 0..6u16 {
+        pixels |= u16::from(bit(byte, 0x20 >> x)) << x;
+    }
+    pixels
 }

@@ -1,11 +1,12 @@
 -- Motions: with wrap the places of a format follow one another in a circle.
 use Rattle.std.proofs.Common.{◌≡◌, ℕ, ◌+◌, ◌-◌, ◌*◌, ◌%◌, ◌≤◌, ◌<◌, ◌⊎◌, true, cond, eqb, leb, inl, inr, refl, sym}
-use Rattle.std.proofs.Common.{subst, arith}
+use Rattle.std.proofs.Common.{Option, None, subst, arith}
 use Rattle.std.proofs.lemmas.Bool.{cond-true, cond_both, eqb-true, eqb-false, leb-true, leb-false}
 use Rattle.cept_codes.specs.declared.command.Command.TheVariants as commands
 use Rattle.cept_codes.specs.Place.{OnScreen, number}
 use Rattle.cept_profile.specs.Control.{Working, ControlState, working_at, state_for_effect, control_after}
-use Rattle.cept_profile.specs.Motions.{row_below, row_above, working_ahead, working_back, place_number}
+use Rattle.cept_profile.specs.Motions.{is_first_of, is_last_of, row_below, row_above, scrolling_area, working_ahead}
+use Rattle.cept_profile.specs.Motions.{working_back, place_number}
 use Rattle.cept_profile.specs.Valid.{IsValidControl}
 use Rattle.cept_profile.proofs.ValidControl.{IsValidControl-state_for_effect}
 
@@ -21,11 +22,24 @@ round rows n m format below at = elim format [
 number-within : (rows r c : ℕ) → 1 ≤ r → r ≤ rows → 1 ≤ c → c ≤ 40 → number r c < 40 * rows
 number-within rows r c top bottom left right = omega (arith, top, bottom, left, right)
 
+-- where no area scrolls, the row below and the row above are those of the circle
+goes_below : (s : ControlState) (r : ℕ) → scrolling_area s ≡ None → (P : ℕ → Type 0)
+    → P (cond (eqb r s.rows) (cond s.wrap 1 r) (r + 1)) → P (row_below s r)
+goes_below s r still P there =
+    subst (λ (area : Option (ℕ × ℕ)). P (cond (is_last_of area r) r (cond (eqb r s.rows) (cond s.wrap 1 r) (r + 1))))
+    (sym still) there
+
+goes_above : (s : ControlState) (r : ℕ) → scrolling_area s ≡ None → (P : ℕ → Type 0)
+    → P (cond (eqb r 1) (cond s.wrap s.rows r) (r - 1)) → P (row_above s r)
+goes_above s r still P there =
+    subst (λ (area : Option (ℕ × ℕ)). P (cond (is_first_of area r) r (cond (eqb r 1) (cond s.wrap s.rows r) (r - 1))))
+    (sym still) there
+
 -- one place on
-on-next : (s : ControlState) → IsValidControl s → s.wrap ≡ true
+on-next : (s : ControlState) → IsValidControl s → scrolling_area s ≡ None → s.wrap ≡ true
     → (let m = working_ahead s 1 s.working in (number s.working.row s.working.column + 1) % (40 * s.rows)
     ≡ number m.row m.column)
-on-next s is wrap =
+on-next s is still wrap =
     let w : Working = s.working in
     let on : OnScreen w.row w.column = is.working.place in
     cond_both (leb (w.column + 1) 40) (working_at w.row (w.column + 1) w)
@@ -38,6 +52,7 @@ on-next s is wrap =
     (λ e. let past = leb-false (w.column + 1) 40 e in
     subst (λ (m : Working). (number w.row w.column + 1) % (40 * s.rows) ≡ number m.row m.column)
     (sym (cond-true s.wrap (working_at (row_below s w.row) 1 w) (working_at w.row 40 w) wrap))
+    (goes_below s w.row still (λ r. (number w.row w.column + 1) % (40 * s.rows) ≡ number r 1)
     (cond_both (eqb w.row s.rows) (cond s.wrap 1 w.row) (w.row + 1)
     (λ r. (number w.row w.column + 1) % (40 * s.rows) ≡ number r 1)
     (λ last. subst (λ r. (number w.row w.column + 1) % (40 * s.rows) ≡ number r 1) (sym (cond-true s.wrap 1 w.row wrap))
@@ -47,13 +62,13 @@ on-next s is wrap =
     let row = is.within in
     round s.rows (number w.row w.column + 1) (number (w.row + 1) 1) is.rows
     (number-within s.rows (w.row + 1) 1 (omega arith) (omega arith) (omega arith) (omega arith))
-    (inl (omega (arith, on, past))))))
+    (inl (omega (arith, on, past)))))))
 
 -- one place back, and on again
-back-next : (s : ControlState) → IsValidControl s → s.wrap ≡ true
+back-next : (s : ControlState) → IsValidControl s → scrolling_area s ≡ None → s.wrap ≡ true
     → (let m = working_back s s.working in (number m.row m.column + 1) % (40 * s.rows)
     ≡ number s.working.row s.working.column)
-back-next s is wrap =
+back-next s is still wrap =
     let w : Working = s.working in
     let on : OnScreen w.row w.column = is.working.place in
     let inside = number-within s.rows w.row w.column on.from_top is.within on.from_left on.to_right in
@@ -62,6 +77,7 @@ back-next s is wrap =
     (λ e. let first = eqb-true w.column 1 e in
     subst (λ (m : Working). (number m.row m.column + 1) % (40 * s.rows) ≡ number w.row w.column)
     (sym (cond-true s.wrap (working_at (row_above s w.row) 40 w) w wrap))
+    (goes_above s w.row still (λ r. (number r 40 + 1) % (40 * s.rows) ≡ number w.row w.column)
     (cond_both (eqb w.row 1) (cond s.wrap s.rows w.row) (w.row - 1)
     (λ r. (number r 40 + 1) % (40 * s.rows) ≡ number w.row w.column)
     (λ top. subst (λ r. (number r 40 + 1) % (40 * s.rows) ≡ number w.row w.column)
@@ -70,20 +86,21 @@ back-next s is wrap =
     (number w.row w.column) is.rows inside (inr (omega (arith, on, at, first, row)))))
     (λ other. let below = eqb-false w.row 1 other in
     round s.rows (number (w.row - 1) 40 + 1) (number w.row w.column) is.rows inside
-    (inl (omega (arith, on, below, first))))))
+    (inl (omega (arith, on, below, first)))))))
     (λ e. let right = eqb-false w.column 1 e in
     round s.rows (number w.row (w.column - 1) + 1) (number w.row w.column) is.rows inside
     (inl (omega (arith, on, right))))
 
 -- a row down
-down-row : (s : ControlState) → IsValidControl s → s.wrap ≡ true
+down-row : (s : ControlState) → IsValidControl s → scrolling_area s ≡ None → s.wrap ≡ true
     → (number s.working.row s.working.column + 40) % (40 * s.rows)
     ≡ number (row_below s s.working.row) s.working.column
-down-row s is wrap =
+down-row s is still wrap =
     let w : Working = s.working in
     let on : OnScreen w.row w.column = is.working.place in
     let row = is.within in
-    cond_both (eqb w.row s.rows) (cond s.wrap 1 w.row) (w.row + 1)
+    goes_below s w.row still (λ r. (number w.row w.column + 40) % (40 * s.rows) ≡ number r w.column)
+    (cond_both (eqb w.row s.rows) (cond s.wrap 1 w.row) (w.row + 1)
     (λ r. (number w.row w.column + 40) % (40 * s.rows) ≡ number r w.column)
     (λ last. subst (λ r. (number w.row w.column + 40) % (40 * s.rows) ≡ number r w.column)
     (sym (cond-true s.wrap 1 w.row wrap))
@@ -92,18 +109,19 @@ down-row s is wrap =
     (λ other. let not_last = eqb-false w.row s.rows other in
     round s.rows (number w.row w.column + 40) (number (w.row + 1) w.column) is.rows
     (number-within s.rows (w.row + 1) w.column (omega arith) (omega arith) on.from_left on.to_right)
-    (inl (omega (arith, on))))
+    (inl (omega (arith, on)))))
 
 -- a row up, and down again
-up-row : (s : ControlState) → IsValidControl s → s.wrap ≡ true
+up-row : (s : ControlState) → IsValidControl s → scrolling_area s ≡ None → s.wrap ≡ true
     → (number (row_above s s.working.row) s.working.column + 40) % (40 * s.rows)
     ≡ number s.working.row s.working.column
-up-row s is wrap =
+up-row s is still wrap =
     let w : Working = s.working in
     let on : OnScreen w.row w.column = is.working.place in
     let row = is.within in
     let inside = number-within s.rows w.row w.column on.from_top row on.from_left on.to_right in
-    cond_both (eqb w.row 1) (cond s.wrap s.rows w.row) (w.row - 1)
+    goes_above s w.row still (λ r. (number r w.column + 40) % (40 * s.rows) ≡ number w.row w.column)
+    (cond_both (eqb w.row 1) (cond s.wrap s.rows w.row) (w.row - 1)
     (λ r. (number r w.column + 40) % (40 * s.rows) ≡ number w.row w.column)
     (λ top. subst (λ r. (number r w.column + 40) % (40 * s.rows) ≡ number w.row w.column)
     (sym (cond-true s.wrap s.rows w.row wrap))
@@ -111,26 +129,27 @@ up-row s is wrap =
     inside (inr (omega (arith, on, at, row)))))
     (λ other. let below = eqb-false w.row 1 other in
     round s.rows (number (w.row - 1) w.column + 40) (number w.row w.column) is.rows inside
-    (inl (omega (arith, on, below))))
+    (inl (omega (arith, on, below)))))
 
-pub circle-forward : (s : ControlState) → IsValidControl s → s.wrap ≡ true → (place_number s + 1) % (40 * s.rows)
+pub circle-forward : (s : ControlState) → IsValidControl s → scrolling_area s ≡ None → s.wrap ≡ true → (place_number s + 1) % (40 * s.rows)
     ≡ place_number (control_after s commands.Forward)
-circle-forward s is wrap =
-    on-next (state_for_effect s commands.Forward) (IsValidControl-state_for_effect s commands.Forward is) wrap
+circle-forward s is still wrap =
+    on-next (state_for_effect s commands.Forward) (IsValidControl-state_for_effect s commands.Forward is) still wrap
 
-pub circle-back : (s : ControlState) → IsValidControl s → s.wrap ≡ true
+pub circle-back : (s : ControlState) → IsValidControl s → scrolling_area s ≡ None → s.wrap ≡ true
     → (place_number (control_after s commands.Back) + 1) % (40 * s.rows) ≡ place_number s
-circle-back s is wrap =
-    back-next (state_for_effect s commands.Back) (IsValidControl-state_for_effect s commands.Back is) wrap
+circle-back s is still wrap =
+    back-next (state_for_effect s commands.Back) (IsValidControl-state_for_effect s commands.Back is) still wrap
 
-pub circle-down : (s : ControlState) → IsValidControl s → s.wrap ≡ true → (place_number s + 40) % (40 * s.rows)
+pub circle-down : (s : ControlState) → IsValidControl s → scrolling_area s ≡ None → s.wrap ≡ true → (place_number s + 40) % (40 * s.rows)
     ≡ place_number (control_after s commands.Down)
-circle-down s is wrap =
-    down-row (state_for_effect s commands.Down) (IsValidControl-state_for_effect s commands.Down is) wrap
+circle-down s is still wrap =
+    down-row (state_for_effect s commands.Down) (IsValidControl-state_for_effect s commands.Down is) still wrap
 
-pub circle-up : (s : ControlState) → IsValidControl s → s.wrap ≡ true
+pub circle-up : (s : ControlState) → IsValidControl s → scrolling_area s ≡ None → s.wrap ≡ true
     → (place_number (control_after s commands.Up) + 40) % (40 * s.rows) ≡ place_number s
-circle-up s is wrap = up-row (state_for_effect s commands.Up) (IsValidControl-state_for_effect s commands.Up is) wrap
+circle-up s is still wrap =
+    up-row (state_for_effect s commands.Up) (IsValidControl-state_for_effect s commands.Up is) still wrap
 
 pub place-home : (s : ControlState) → place_number (control_after s commands.Home) ≡ 0
 place-home s = refl

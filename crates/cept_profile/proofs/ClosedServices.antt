@@ -7,7 +7,7 @@ use Rattle.cept_codes.specs.declared.command.Command.{Command}
 use Rattle.cept_codes.specs.declared.command.Command.TheVariants as commands
 use Rattle.cept_profile.specs.ControlSettings.{ends_service, is_running, outer_back, before_service, outer_history}
 use Rattle.cept_profile.proofs.OneMoreCommand.{reverse-one_more}
-use Rattle.cept_profile.proofs.ValidState.{AllByRecursion-reverse}
+use Rattle.cept_profile.proofs.OneMoreState.{AllByRecursion-reverse}
 
 -- nothing among these commands ends a service
 abbrev GoesOn : List Command → Type 0

@@ -1,7 +1,8 @@
 -- Settings of control: a command sets what looking back says that it sets, and nothing else.
 use Rattle.std.proofs.Common.{◌≡◌, ℕ, ◌+◌, ◌-◌, ◌≤◌, zero, suc, Bool, true, false, not, cond, eqb, leb, Option, Some}
-use Rattle.std.proofs.Common.{None, unwrap_or, List, [], ◌∷◌, reverse, refl, sym, ◌∙◌, ap, arith}
-use Rattle.std.proofs.lemmas.Bool.{cond_both}
+use Rattle.std.proofs.Common.{None, unwrap_or, List, [], ◌∷◌, reverse, refl, sym, ◌∙◌, ap, arith, ◌⊎◌, inl, inr, subst}
+use Rattle.std.proofs.Common.{◌&&◌}
+use Rattle.std.proofs.lemmas.Bool.{cond_both, cond-false, cond-true, false≢true}
 use Rattle.cept_codes.specs.declared.attribute.Attr.{Attr}
 use Rattle.cept_codes.specs.declared.attribute.Attr.TheVariants as attrs
 use Rattle.cept_codes.specs.declared.cell.Marker.{Marker}
@@ -17,7 +18,7 @@ use Rattle.cept_codes.specs.declared.glyph.SetId.{SetId}
 use Rattle.cept_codes.specs.Command.{IsValidCommand}
 use Rattle.cept_profile.specs.Control.{Working, ControlState, control_with, working_at, working_without_accent}
 use Rattle.cept_profile.specs.Control.{finds_accent, state_for_effect, control_effect, control_back, control}
-use Rattle.cept_profile.specs.ControlSettings.{outer_back, is_unbuilt, built_commands, c1_said, table_said}
+use Rattle.cept_profile.specs.ControlSettings.{before_service, is_running, outer_back, c1_said, table_said}
 use Rattle.cept_profile.specs.ControlSettings.{protect_said, set_said, left_said, right_said, fore_in, back_in}
 use Rattle.cept_profile.specs.ControlSettings.{conceal_in, lined_in, boxed_in, size_in, invert_in, parallel_said}
 use Rattle.cept_profile.specs.ControlSettings.{class_said, rows_said, wrap_said, implicit_said, created_back, area_said}
@@ -31,23 +32,10 @@ use Rattle.cept_profile.specs.Valid.{AllValid}
 use Rattle.cept_profile.specs.Writing.{control_after_copies, working_after_repeat, working_after_read, graphic_result}
 use Rattle.cept_profile.specs.Writing.{columns_of_sign, control_with_result}
 use Rattle.cept_profile.proofs.CopiesOfSigns.{control_with-control_after_copies}
-use Rattle.cept_profile.proofs.ValidState.{AllByRecursion-reverse}
-
--- ---- what isn't built is no service
-
-outer_back-built_commands : (history : List Command) → outer_back (built_commands history) ≡ built_commands history
-outer_back-built_commands [] = refl
-outer_back-built_commands (commands.Implicit on ∷ earlier) = outer_back-built_commands earlier
-outer_back-built_commands (commands.Protect on ∷ earlier) = outer_back-built_commands earlier
-outer_back-built_commands (commands.AreaCreate a b ∷ earlier) = outer_back-built_commands earlier
-outer_back-built_commands (commands.AreaDelete a b ∷ earlier) = outer_back-built_commands earlier
-outer_back-built_commands (commands.Format rows wrap ∷ earlier) = outer_back-built_commands earlier
-outer_back-built_commands (commands.ServiceBreak row ∷ earlier) = outer_back-built_commands earlier
-outer_back-built_commands (commands.ServiceEnd ∷ earlier) = outer_back-built_commands earlier
-outer_back-built_commands (commands.FullDefaults set ∷ earlier) = outer_back-built_commands earlier
-outer_back-built_commands (commands.ControlDefaults set ∷ earlier) = outer_back-built_commands earlier
-outer_back-built_commands (command ∷ earlier) =
-    ap (λ (rest : List Command). command ∷ rest) (outer_back-built_commands earlier)
+use Rattle.cept_profile.specs.Control.{area_without, control_after_service, kept_first}
+use Rattle.cept_profile.specs.ControlSettings.{area_back, is_area}
+use Rattle.cept_profile.proofs.CellsByStrokes.{by_bool}
+use Rattle.cept_profile.proofs.OneMoreState.{AllByRecursion-reverse}
 
 -- ---- one more command by looking back
 
@@ -75,22 +63,6 @@ told earlier command was = record {
   implicit = unwrap_or (implicit_said command) was.implicit;
   area = unwrap_or (area_said (created_back earlier) command) was.area;
 }
-
--- the settings that the commands that are asked give
-abbrev pub asked : List Command → Settings
-asked history = settings_back history history
-
--- a command that isn't built says nothing
-asked-one_more : (command : Command) (earlier : List Command) → asked (built_commands (command ∷ earlier))
-    ≡ cond (is_unbuilt command) (asked (built_commands earlier))
-    (told (built_commands earlier) command (asked (built_commands earlier)))
-asked-one_more command earlier = by (is_unbuilt command)
-  where
-    by : (unbuilt : Bool) → asked (cond (not unbuilt) (command ∷ built_commands earlier) (built_commands earlier))
-        ≡ cond unbuilt (asked (built_commands earlier))
-        (told (built_commands earlier) command (asked (built_commands earlier)))
-    by true = refl
-    by false = refl
 
 -- ---- one more command of control
 
@@ -204,19 +176,62 @@ sets_with-told (suc (suc zero)) set s earlier few = refl
 sets_with-told (suc (suc (suc zero))) set s earlier few = refl
 sets_with-told (suc (suc (suc (suc g)))) set s earlier few = absurd (omega arith)
 
+-- the area is the one that was created last, or there is none
+abbrev pub IsKnown : Option (ℕ × ℕ) → List Command → Type 0
+IsKnown area earlier = (area ≡ None) ⊎ (area ≡ created_back earlier)
+
+area_without-created : (created : Option (ℕ × ℕ)) (a b : ℕ)
+    → area_without a b created ≡ unwrap_or (area_said created (commands.AreaDelete a b)) created
+area_without-created None a b = refl
+area_without-created (Some area) a b =
+    by_bool (eqb area.0 a && eqb area.1 b) (λ e. rw e refl) (λ e. rw e refl)
+
+area_without-none : (created : Option (ℕ × ℕ)) (a b : ℕ)
+    → None ≡ unwrap_or (area_said created (commands.AreaDelete a b)) None
+area_without-none created a b = by_bool (is_area created a b) (λ e. rw e refl) (λ e. rw e refl)
+
+-- one that is deleted
+area_without-told : (area : Option (ℕ × ℕ)) (a b : ℕ) (earlier : List Command) → IsKnown area earlier
+    → area_without a b area ≡ unwrap_or (area_said (created_back earlier) (commands.AreaDelete a b)) area
+area_without-told area a b earlier (inl none) =
+    subst (λ (there : Option (ℕ × ℕ)). area_without a b there
+    ≡ unwrap_or (area_said (created_back earlier) (commands.AreaDelete a b)) there) (sym none)
+    (area_without-none (created_back earlier) a b)
+area_without-told area a b earlier (inr created) =
+    subst (λ (there : Option (ℕ × ℕ)). area_without a b there
+    ≡ unwrap_or (area_said (created_back earlier) (commands.AreaDelete a b)) there) (sym created)
+    (area_without-created (created_back earlier) a b)
+
+-- the area by looking back is so
+IsKnown-area_back : (history : List Command) → IsKnown (area_back history) history
+IsKnown-area_back [] = inl refl
+IsKnown-area_back (commands.AreaCreate a b ∷ earlier) = inr refl
+IsKnown-area_back (commands.AreaDelete a b ∷ earlier) =
+    by_bool (is_area (created_back earlier) a b) (λ e. inl (rw e refl))
+    (λ e. elim (IsKnown-area_back earlier) [
+      | inl none ↦ inl (rw e none)
+      | inr created ↦ inr (rw e created)
+    ])
+IsKnown-area_back (commands.FullDefaults set ∷ earlier) = inl refl
+IsKnown-area_back (command ∷ earlier) = IsKnown-area_back earlier
+
 -- what a command sets
-control_effect-told : (s : ControlState) (command : Command) (earlier : List Command) → IsValidCommand command
-    → settings_of (control_effect s command)
-    ≡ cond (is_unbuilt command) (settings_of s) (told earlier command (settings_of s))
-control_effect-told s commands.Back earlier valid = working_back-same s s s.working
-control_effect-told s commands.Forward earlier valid = working_ahead-same s s 1 s.working
-control_effect-told s (commands.Designate g set) earlier valid = sets_with-told g set s earlier valid
-control_effect-told s (commands.Graphic byte) earlier valid = read-same s byte (graphic_result s byte).read
-control_effect-told s (commands.Repeat n) earlier valid = working_after_repeat-same n s s.working.last
-control_effect-told s (commands.C1 n) earlier valid = working_after_code-told s.working.c1 n s earlier
-control_effect-told s (commands.FlashMode k) earlier valid = working_after_flash-told s.working.c1 k s
-control_effect-told s commands.StopConceal earlier valid = working_after_reveal-told s.working.c1 s earlier
-control_effect-told s _ earlier valid = refl
+control_effect-told : (s : ControlState) (command : Command) (earlier : List Command) → IsKnown s.area earlier
+    → IsValidCommand command → (command ≡ commands.ServiceEnd → s.kept ≡ None) → settings_of (control_effect s command)
+    ≡ told earlier command (settings_of s)
+control_effect-told s commands.Back earlier known valid ended = working_back-same s s s.working
+control_effect-told s commands.Forward earlier known valid ended = working_ahead-same s s 1 s.working
+control_effect-told s (commands.Designate g set) earlier known valid ended = sets_with-told g set s earlier valid
+control_effect-told s (commands.Graphic byte) earlier known valid ended = read-same s byte (graphic_result s byte).read
+control_effect-told s (commands.Repeat n) earlier known valid ended = working_after_repeat-same n s s.working.last
+control_effect-told s (commands.C1 n) earlier known valid ended = working_after_code-told s.working.c1 n s earlier
+control_effect-told s (commands.FlashMode k) earlier known valid ended = working_after_flash-told s.working.c1 k s
+control_effect-told s commands.StopConceal earlier known valid ended = working_after_reveal-told s.working.c1 s earlier
+control_effect-told s (commands.AreaDelete a b) earlier known valid ended =
+    λ i. record (settings_of s) { area = area_without-told s.area a b earlier known i }
+control_effect-told s commands.ServiceEnd earlier known valid ended =
+    ap (λ (kept : Option Working). settings_of (control_after_service s kept)) (ended refl)
+control_effect-told s _ earlier known valid ended = refl
 
 -- an accent is no setting
 state_for_effect-same : (s : ControlState) (command : Command)
@@ -227,17 +242,148 @@ state_for_effect-same s command =
 
 -- ---- all commands
 
-settings-control_back : (history : List Command) → AllValid history → settings_of (control_back history)
-    ≡ asked (built_commands history)
-settings-control_back [] all = refl
+-- the settings of one with rows, wrap, implicit scrolling and area of another
+abbrev pub joined : Settings → Settings → Settings
+joined a b = record a { rows = b.rows; wrap = b.wrap; implicit = b.implicit; area = b.area }
+
+-- the settings that a kept state brings back are those before the service
+abbrev pub Brings : ControlState → List Command → Option Working → Type 0
+Brings s history None = ⊥
+Brings s history (Some w) = settings_of (control_with s w) ≡ settings_back (before_service history) history
+
+-- a state whose settings are those of its commands, and which keeps those before a service that runs, and else none
+pub record IsTold (s : ControlState) (history : List Command) : Type 0 where
+  pub settings : settings_of s ≡ settings_back (outer_back history) history
+  pub running : is_running history ≡ true → Brings s history s.kept
+  pub idle : is_running history ≡ false → s.kept ≡ None
+
+-- what is kept doesn't hang on an accent
+Brings-same : (s : ControlState) (history : List Command) (kept : Option Working) → Brings s history kept
+    → Brings (control_with s (working_without_accent s.working)) history kept
+Brings-same s history None brings = brings
+Brings-same s history (Some w) brings = brings
+
+break_is_no_end : (row : ℕ) → commands.ServiceBreak row ≡ commands.ServiceEnd → ⊥
+break_is_no_end row e = cc
+
+defaults_are_no_end : (set : C1Set) → commands.FullDefaults set ≡ commands.ServiceEnd → ⊥
+defaults_are_no_end set e = cc
+
+some_is_not_none : (w : Working) → Some w ≡ None → ⊥
+some_is_not_none w e = cc
+
+IsTold-start : IsTold (control_back []) []
+IsTold-start = record { settings = refl; running = λ e. absurd (false≢true e); idle = λ e. refl }
+
+-- what is kept brings back the same after a command that begins and ends no service
+Brings-on : (s t : ControlState) (command : Command) (earlier : List Command) (kept : Option Working)
+    → settings_of t ≡ settings_back (command ∷ outer_back earlier) (command ∷ earlier)
+    → before_service (command ∷ earlier) ≡ before_service earlier → Brings s earlier kept
+    → Brings t (command ∷ earlier) kept
+Brings-on s t command earlier None told before brings = brings
+Brings-on s t command earlier (Some w) told before brings =
+    (λ i. joined (brings i) (told i))
+    ∙ sym (ap (λ (outside : List Command). settings_back outside (command ∷ earlier)) before)
+
+-- the settings after a command that closes no service
+settings-on : (s : ControlState) (command : Command) (earlier : List Command)
+    → settings_of s ≡ settings_back (outer_back earlier) earlier → IsValidCommand command
+    → (command ≡ commands.ServiceEnd → s.kept ≡ None)
+    → settings_of (control_effect s command) ≡ settings_back (command ∷ outer_back earlier) (command ∷ earlier)
+settings-on s command earlier same valid ended =
+    control_effect-told s command earlier
+    (subst (λ (area : Option (ℕ × ℕ)). IsKnown area earlier) (sym (ap (λ (was : Settings). was.area) same))
+    (IsKnown-area_back earlier)) valid ended
+    ∙ ap (told earlier command) same
+
+-- a command that begins and ends no service
+IsTold-on : (s : ControlState) (command : Command) (earlier : List Command) → IsTold s earlier
+    → IsValidCommand command → (command ≡ commands.ServiceEnd → s.kept ≡ None)
+    → (control_effect s command).kept ≡ s.kept → is_running (command ∷ earlier) ≡ is_running earlier
+    → outer_back (command ∷ earlier) ≡ command ∷ outer_back earlier
+    → before_service (command ∷ earlier) ≡ before_service earlier
+    → IsTold (control_effect s command) (command ∷ earlier)
+IsTold-on s command earlier is valid ended kept runs outer before =
+    let told = settings-on s command earlier is.settings valid ended in
+    record {
+      settings = told ∙ sym (ap (λ (outside : List Command). settings_back outside (command ∷ earlier)) outer);
+      running = λ e. subst (Brings (control_effect s command) (command ∷ earlier)) (sym kept)
+          (Brings-on s (control_effect s command) command earlier s.kept told before (is.running (sym runs ∙ e)));
+      idle = λ e. kept ∙ is.idle (sym runs ∙ e);
+    }
+
+-- a break keeps the state, unless one is kept
+IsTold-break : (s : ControlState) (row : ℕ) (earlier : List Command) → IsTold s earlier
+    → IsValidCommand (commands.ServiceBreak row) → (kept : Option Working) → s.kept ≡ kept → (runs : Bool)
+    → is_running earlier ≡ runs
+    → Brings (control_effect s (commands.ServiceBreak row)) (commands.ServiceBreak row ∷ earlier)
+    (kept_first kept s.working)
+IsTold-break s row earlier is valid None none true running =
+    absurd (subst (Brings s earlier) none (is.running running))
+IsTold-break s row earlier is valid None none false idle =
+    (λ i. joined (is.settings i)
+    (settings-on s (commands.ServiceBreak row) earlier is.settings valid (λ e. absurd (break_is_no_end row e)) i))
+    ∙ sym (ap (λ (outside : List Command). settings_back outside (commands.ServiceBreak row ∷ earlier))
+    (cond-false (is_running earlier) (before_service earlier) (outer_back earlier) idle))
+IsTold-break s row earlier is valid (Some w) some true running =
+    Brings-on s (control_effect s (commands.ServiceBreak row)) (commands.ServiceBreak row) earlier (Some w)
+    (settings-on s (commands.ServiceBreak row) earlier is.settings valid (λ e. absurd (break_is_no_end row e)))
+    (cond-true (is_running earlier) (before_service earlier) (outer_back earlier) running)
+    (subst (Brings s earlier) some (is.running running))
+IsTold-break s row earlier is valid (Some w) some false idle =
+    absurd (some_is_not_none w (sym some ∙ is.idle idle))
+
+-- an end brings back what is kept
+IsTold-end : (s : ControlState) (earlier : List Command) → IsTold s earlier → (kept : Option Working) → s.kept ≡ kept
+    → (runs : Bool) → is_running earlier ≡ runs
+    → IsTold (control_after_service s kept) (commands.ServiceEnd ∷ earlier)
+IsTold-end s earlier is None none true running = absurd (subst (Brings s earlier) none (is.running running))
+IsTold-end s earlier is None none false idle = record {
+  settings = is.settings ∙ sym (ap (λ (outside : List Command). settings_back outside (commands.ServiceEnd ∷ earlier))
+      (cond-false (is_running earlier) (before_service earlier) (commands.ServiceEnd ∷ outer_back earlier) idle));
+  running = λ e. absurd (false≢true e);
+  idle = λ e. none;
+}
+IsTold-end s earlier is (Some w) some true running = record {
+  settings = subst (Brings s earlier) some (is.running running)
+      ∙ sym (ap (λ (outside : List Command). settings_back outside (commands.ServiceEnd ∷ earlier))
+      (cond-true (is_running earlier) (before_service earlier) (commands.ServiceEnd ∷ outer_back earlier) running));
+  running = λ e. absurd (false≢true e);
+  idle = λ e. refl;
+}
+IsTold-end s earlier is (Some w) some false idle = absurd (some_is_not_none w (sym some ∙ is.idle idle))
+
+IsTold-effect : (s : ControlState) (command : Command) (earlier : List Command) → IsTold s earlier
+    → IsValidCommand command → IsTold (control_effect s command) (command ∷ earlier)
+IsTold-effect s (commands.ServiceBreak row) earlier is valid = record {
+  settings = settings-on s (commands.ServiceBreak row) earlier is.settings valid
+      (λ e. absurd (break_is_no_end row e));
+  running = λ e. IsTold-break s row earlier is valid s.kept refl (is_running earlier) refl;
+  idle = λ e. absurd (false≢true (sym e));
+}
+IsTold-effect s commands.ServiceEnd earlier is valid = IsTold-end s earlier is s.kept refl (is_running earlier) refl
+IsTold-effect s (commands.FullDefaults set) earlier is valid = record {
+  settings = settings-on s (commands.FullDefaults set) earlier is.settings valid
+      (λ e. absurd (defaults_are_no_end set e));
+  running = λ e. absurd (false≢true e);
+  idle = λ e. refl;
+}
+IsTold-effect s command earlier is valid = IsTold-on s command earlier is valid (λ e. cc) refl refl refl refl
+
+-- an accent is neither a setting nor kept
+IsTold-state_for_effect : (s : ControlState) (command : Command) (earlier : List Command) → IsTold s earlier
+    → IsTold (state_for_effect s command) earlier
+IsTold-state_for_effect s command earlier is =
+    cond_both (finds_accent command) s.working (working_without_accent s.working)
+    (λ w. IsTold (control_with s w) earlier) (λ e. is)
+    (λ e. record { settings = is.settings; running = λ r. Brings-same s earlier s.kept (is.running r); idle = is.idle })
+
+settings-control_back : (history : List Command) → AllValid history → IsTold (control_back history) history
+settings-control_back [] all = IsTold-start
 settings-control_back (command ∷ earlier) all =
-    control_effect-told (state_for_effect (control_back earlier) command) command (built_commands earlier) all.0
-    ∙ ap (λ (was : Settings). cond (is_unbuilt command) was (told (built_commands earlier) command was))
-    (state_for_effect-same (control_back earlier) command ∙ settings-control_back earlier all.1)
-    ∙ sym (asked-one_more command earlier)
+    IsTold-effect (state_for_effect (control_back earlier) command) command earlier
+    (IsTold-state_for_effect (control_back earlier) command earlier (settings-control_back earlier all.1)) all.0
 
 pub settings-control : (history : List Command) → AllValid history → settings_of (control history) ≡ settings history
 settings-control history all =
-    settings-control_back (reverse history) (AllByRecursion-reverse IsValidCommand history all)
-    ∙ ap (λ (outside : List Command). settings_back outside (built_commands (reverse history)))
-    (sym (outer_back-built_commands (reverse history)))
+    (settings-control_back (reverse history) (AllByRecursion-reverse IsValidCommand history all)).settings

@@ -1,5 +1,5 @@
 -- The state and the grid before any command, and after a clearing.
-use Rattle.std.proofs.Common.{◌≡◌, ℕ, ◌<◌, ◌≤◌, cond, false, List, [], refl, ap, ◌∙◌, arith}
+use Rattle.std.proofs.Common.{◌≡◌, ℕ, ◌<◌, ◌≤◌, cond, false, None, List, [], refl, ap, ◌∙◌, arith}
 use Rattle.std.proofs.lemmas.Bool.{cond_both}
 use Rattle.cept_codes.specs.declared.attribute.Full.{Full}
 use Rattle.cept_codes.specs.declared.attribute.Pen.{Pen}
@@ -20,9 +20,11 @@ use Rattle.cept_profile.specs.Cells.{cell_back, cells_after_all}
 use Rattle.cept_profile.specs.Colours.{back_paint, default_paint, default_paints, fore_paint, paint_over}
 use Rattle.cept_profile.specs.Control.{initial_control}
 use Rattle.cept_profile.specs.Look.{contents_of_row, grid, is_double_set, look, look_of, look_with, looks_of}
-use Rattle.cept_profile.specs.PageParts.{dclut_in, list_of_colours, list_of_dclut, list_of_rows, paint_in}
-use Rattle.cept_profile.specs.PageParts.{part_after_all, row_pen_in}
-use Rattle.cept_profile.specs.State.{Core, Page, State, blank_page, core, core_of, page, state, state_after}
+use Rattle.cept_profile.specs.Definitions.{Definitions}
+use Rattle.cept_profile.specs.PageParts.{dclut_in, list_of_codes, list_of_colours, list_of_dclut, list_of_rows}
+use Rattle.cept_profile.specs.PageParts.{paint_in, part_after_all, pattern_in, row_pen_in}
+use Rattle.cept_profile.specs.State.{Core, Page, State, blank_page, core, core_of, definitions_of, page, state}
+use Rattle.cept_profile.specs.State.{state_after}
 use Rattle.cept_profile.specs.Valid.{IsValidPage}
 use Rattle.cept_profile.proofs.PlainPages.{acts_beyond, look-plain}
 use Rattle.cept_profile.proofs.ValidLook.{IsValidFull-cascade, unset_pen-valid}
@@ -36,8 +38,8 @@ unfolding cell_back
 state-none = refl
 
 -- nothing written looks blank
-pub look_of-blank_cell : look_of default_paint unset_pen unset_pen whats.Blank ≡ blank_look
-unfolding look_of default_paints
+pub look_of-blank_cell : look_of (definitions_of blank_page) unset_pen unset_pen whats.Blank ≡ blank_look
+unfolding look_of default_paints list_by_index
 look_of-blank_cell = refl
 
 -- ---- a page on which nothing is written shows what is blank, whatever the number of its rows
@@ -59,40 +61,37 @@ unset_there k is r low high =
     ∙ entry-list_by_index unset_pen 1 24 (λ _. unset_pen) r low (omega (arith, high))
 
 look-unwritten : (k : Core) → IsUnwritten k → (r c : ℕ) → OnScreen r c
-    → look k r c ≡ look_of (paint_in k.page.paints) unset_pen k.page.screen_pen whats.Blank
+    → look k r c ≡ look_of (definitions_of k.page) unset_pen k.page.screen_pen whats.Blank
 look-unwritten k is r c on =
     look-plain k (record {
       cells = λ q d there. ap acts_beyond (blank_there k is q d there);
       rows = λ q low high. ap (λ (pen : Pen). is_double_set pen.size) (unset_there k is q low high);
       screen = is.screen;
     }) r c on
-    ∙ ap (λ (pen : Pen). look_of (paint_in k.page.paints) pen k.page.screen_pen (contents_of_row k r c))
+    ∙ ap (λ (pen : Pen). look_of (definitions_of k.page) pen k.page.screen_pen (contents_of_row k r c))
     (unset_there k is r on.from_top on.to_bottom)
-    ∙ ap (λ (what : What). look_of (paint_in k.page.paints) unset_pen k.page.screen_pen what) (blank_there k is r c on)
+    ∙ ap (λ (what : What). look_of (definitions_of k.page) unset_pen k.page.screen_pen what) (blank_there k is r c on)
 
 -- ---- the start
-
-default_paints_there : look_of (paint_in (list_of_colours default_paint)) unset_pen unset_pen whats.Blank ≡ blank_look
-unfolding look_of default_paints list_by_index
-default_paints_there = refl
 
 pub looks_of-blank_cell : looks_of (core []) ≡ table (λ r c. blank_look)
 unfolding cell_back
 looks_of-blank_cell =
     same_table (look (core [])) (λ r c. blank_look) (λ r c on.
-    look-unwritten (core []) (record { cells = refl; row_pens = refl; screen = refl }) r c on ∙ default_paints_there)
+    look-unwritten (core []) (record { cells = refl; row_pens = refl; screen = refl }) r c on ∙ look_of-blank_cell)
 
 pub grid-none : grid [] ≡ table (λ r c. blank_look)
 grid-none = looks_of-blank_cell
 
 -- ---- clearing
 
--- clearing blanks the cells and unsets the attributes of rows, and writes the colour entries and the DCLUT anew
+-- clearing blanks the cells and unsets the attributes of rows, and writes what signs are drawn with anew
 pub page-cleared_parts : (s : State) → (state_after s commands.Clear).page ≡ record blank_page {
   screen_pen = s.page.screen_pen;
   paints = list_of_colours (paint_in s.page.paints);
-  dclut =
-      list_of_dclut (dclut_in s.page.dclut);
+  dclut = list_of_dclut (dclut_in s.page.dclut);
+  patterns =
+      list_of_codes (pattern_in s.page.patterns);
 }
 unfolding cells_after_all part_after_all
 page-cleared_parts s = refl
@@ -107,12 +106,12 @@ look_with-same paint_of other shape f valid same =
     same (cond f.invert f.fore f.back) (cond_both f.invert f.fore f.back IsEntry (λ _. valid.fore) (λ _. valid.back)) in
     λ i. record (look_with paint_of shape f) { fore = paint_over (fore i) (back i); back = back i }
 
-look_of-blank_cell_same : (paint_of other : ℕ → Paint) (screen : Pen) → IsScreenPen screen
-    → ((i : ℕ) → i < 32 → paint_of i ≡ other i)
-    → look_of paint_of unset_pen screen whats.Blank ≡ look_of other unset_pen screen whats.Blank
+look_of-blank_cell_same : (defined other : Definitions) (screen : Pen) → IsScreenPen screen
+    → ((i : ℕ) → i < 32 → paint_in defined.paints i ≡ paint_in other.paints i)
+    → look_of defined unset_pen screen whats.Blank ≡ look_of other unset_pen screen whats.Blank
 unfolding look_of
-look_of-blank_cell_same paint_of other screen is same =
-    look_with-same paint_of other _ (cascade unset_pen unset_pen screen)
+look_of-blank_cell_same defined other screen is same =
+    look_with-same (paint_in defined.paints) (paint_in other.paints) _ (cascade unset_pen unset_pen screen)
     (IsValidFull-cascade unset_pen unset_pen screen unset_pen-valid unset_pen-valid is.row.valid) same
 
 IsUnwritten-cleared : (s : State) → IsScreenPen s.page.screen_pen → IsUnwritten (core_of (state_after s commands.Clear))
@@ -125,32 +124,30 @@ IsUnwritten-cleared s is = record {
 
 pub look-cleared : (s : State) (r c : ℕ) → OnScreen r c → IsScreenPen s.page.screen_pen
     → look (core_of (state_after s commands.Clear)) r c
-    ≡ look_of (paint_in s.page.paints) unset_pen s.page.screen_pen whats.Blank
+    ≡ look_of (definitions_of s.page) unset_pen s.page.screen_pen whats.Blank
 look-cleared s r c on is =
     look-unwritten (core_of (state_after s commands.Clear)) (IsUnwritten-cleared s is) r c on
-    ∙ ap (λ (p : Page). look_of (paint_in p.paints) unset_pen p.screen_pen whats.Blank) (page-cleared_parts s)
-    ∙ look_of-blank_cell_same (paint_in (list_of_colours (paint_in s.page.paints))) (paint_in s.page.paints)
-    s.page.screen_pen is (λ i below.
+    ∙ ap (λ (p : Page). look_of (definitions_of p) unset_pen p.screen_pen whats.Blank) (page-cleared_parts s)
+    ∙ look_of-blank_cell_same (record {
+      paints = list_of_colours (paint_in s.page.paints);
+      dclut = list_of_dclut (dclut_in s.page.dclut);
+      patterns = list_of_codes (pattern_in s.page.patterns);
+    }) (definitions_of s.page) s.page.screen_pen is (λ i below.
     entry-list_by_index black_paint 0 32 (paint_in s.page.paints) i (omega arith) (omega (arith, below)))
 
 -- which leaves them as they are in a valid page
 pub page-cleared : (s : State) → IsValidPage s.page → (state_after s commands.Clear).page ≡ record blank_page {
   screen_pen = s.page.screen_pen;
   paints = s.page.paints;
-  dclut =
-      s.page.dclut;
+  dclut = s.page.dclut;
+  patterns =
+      s.page.patterns;
 }
 page-cleared s is =
     page-cleared_parts s
-    ∙ ap (λ (paints : List Paint). let p : Page = record blank_page {
+    ∙ (λ i. record blank_page {
       screen_pen = s.page.screen_pen;
-      paints = paints;
-      dclut =
-          list_of_dclut (dclut_in s.page.dclut);
-    } in p) (list_by_index-entry black_paint 0 32 s.page.paints is.colours)
-    ∙ ap (λ (dclut : List ℕ). let p : Page = record blank_page {
-      screen_pen = s.page.screen_pen;
-      paints = s.page.paints;
-      dclut =
-          dclut;
-    } in p) (list_by_index-entry 0 0 4 s.page.dclut is.names)
+      paints = list_by_index-entry black_paint 0 32 s.page.paints is.colours i;
+      dclut = list_by_index-entry 0 0 4 s.page.dclut is.names i;
+      patterns = list_by_index-entry None 0x21 94 s.page.patterns is.codes i;
+    })

@@ -9,11 +9,11 @@ pub use Rattle.cept_profile.proofs.OneMoreState.{state-one_more}
 pub use Rattle.cept_profile.proofs.ValidControl.{IsValidControl-control_after}
 pub use Rattle.cept_profile.proofs.ValidState.{IsValidState-start, IsValidState-state_after, IsValidCore-core_of}
 -- ---- strokes_are_valid
-pub use Rattle.cept_profile.proofs.ValidState.{IsValidStroke-strokes_of}
+pub use Rattle.cept_profile.proofs.OneMoreState.{IsValidStroke-strokes_of}
 pub use Rattle.cept_profile.proofs.ValidPage.{length-strokes_of}
 -- ---- looks_are_valid
 pub use Rattle.cept_profile.proofs.ValidLook.{IsValidLook-look_of, IsValidLook-look_in_row, IsValidGrid-looks_of}
-pub use Rattle.cept_profile.proofs.ValidLook.{IsValidLook-row_from_above}
+pub use Rattle.cept_profile.proofs.ValidLook.{AreValidDefinitions-page, IsValidLook-row_from_above}
 -- ---- painting_the_changes, each_command_is_shown
 pub use Rattle.cept_profile.proofs.PaintedPlaces.{grid_with_paints-append}
 pub use Rattle.cept_profile.proofs.ListOfChanges.{grid_with_paints-changes}
@@ -24,13 +24,14 @@ pub use Rattle.cept_profile.proofs.MarkedPlaces.{marked_looks_below-whole}
 -- ---- copies_are_written_in_turn
 pub use Rattle.cept_profile.proofs.CopiesOfSigns.{control_after_copies-none, strokes_of_copies-none}
 pub use Rattle.cept_profile.proofs.CopiesOfSigns.{control_after_copies-more, strokes_of_copies-more}
-pub use Rattle.cept_profile.proofs.CopiesOfSigns.{length-strokes_of_copies, control_with-control_after_copies}
+pub use Rattle.cept_profile.proofs.CopiesOfSigns.{length-strokes_of_copies, length-strokes_of_copies-unscrolled}
+pub use Rattle.cept_profile.proofs.CopiesOfSigns.{control_with-control_after_copies}
 -- ---- rows_out_of_reach_stay
 pub use Rattle.cept_profile.proofs.RowsInReach.{look-out_of_reach, rows_in_reach-le, in_reach-by}
 pub use Rattle.cept_profile.proofs.RowsInReach.{rows_in_reach-counted}
 -- ---- untouched_rows_stay
 pub use Rattle.cept_profile.proofs.RowsInReach.{cell-untouched, row_pen-untouched, screen_pen-untouched}
-pub use Rattle.cept_profile.proofs.RowsInReach.{paint-untouched, dclut-untouched, look-untouched}
+pub use Rattle.cept_profile.proofs.RowsInReach.{paint-untouched, dclut-untouched, definitions-untouched, look-untouched}
 -- ---- exactly_one_row_is_tiled, exactly_one_table_is_tiled, parts_are_valid
 pub use Rattle.cept_profile.proofs.TiledTables.{
   IsTiledRow-tiled_row,

@@ -1,3 +1,6 @@
+mod RowsOfFormats
+mod WorkedScrolling
+mod WorkedPatterns
 mod WorkedMarkers
 mod LooksInRows
 mod OneMoreCell

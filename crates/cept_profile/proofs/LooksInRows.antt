@@ -7,11 +7,12 @@ use Rattle.cept_codes.specs.declared.attribute.Size.TheVariants as sizes
 use Rattle.cept_codes.specs.declared.cell.Marker.TheVariants as markers
 use Rattle.cept_codes.specs.declared.cell.What.{What}
 use Rattle.cept_codes.specs.declared.cell.What.TheVariants as whats
-use Rattle.cept_codes.specs.declared.look.Paint.{Paint}
 use Rattle.cept_codes.specs.Attribute.{unset_pen}
 use Rattle.cept_profile.specs.Attributes.{cascade, first_value}
+use Rattle.cept_profile.specs.Definitions.{Definitions}
 use Rattle.cept_profile.specs.Look.{attributes_of, is_double, is_double_set, look, look_in_row, look_of, look_with}
 use Rattle.cept_profile.specs.Look.{looks_of, sets_double_size, shape_in, shape_of, size_in_row}
+use Rattle.cept_profile.specs.PageParts.{paint_in}
 use Rattle.cept_profile.specs.Serial.{Sizing, acts, column_in_force, held_sign, is_marker, own_attributes}
 use Rattle.cept_profile.specs.Serial.{own_attributes_of, serial_attributes, size_said, value_found}
 use Rattle.cept_profile.specs.State.{Core}
@@ -19,17 +20,17 @@ use Rattle.cept_profile.proofs.MarkersInForce.{IsGreatest, column_in_force-great
 use Rattle.cept_profile.proofs.MarkersInForce.{serial_attributes-alike, serial_attributes-unmarked}
 
 -- rows that agree up to a column have the same look there
-pub look_in_row-alike : (paint_of : ℕ → Paint) (f g : ℕ → What) (pen screen : Pen) (c : ℕ) → 1 ≤ c
-    → ((d : ℕ) → 1 ≤ d → d ≤ c → f d ≡ g d) → look_in_row paint_of f pen screen c ≡ look_in_row paint_of g pen screen c
+pub look_in_row-alike : (defined : Definitions) (f g : ℕ → What) (pen screen : Pen) (c : ℕ) → 1 ≤ c
+    → ((d : ℕ) → 1 ≤ d → d ≤ c → f d ≡ g d) → look_in_row defined f pen screen c ≡ look_in_row defined g pen screen c
 unfolding look_in_row
-look_in_row-alike paint_of f g pen screen c low same =
+look_in_row-alike defined f g pen screen c low same =
     let here : f c ≡ g c = same c low (omega arith) in
-    ap (λ w. look_with paint_of (shape_in w (held_sign f c))
+    ap (λ w. look_with (paint_in defined.paints) (shape_in defined w (held_sign f c))
     (own_attributes_of w pen screen (serial_attributes f pen screen c))) here
-    ∙ ap (λ o. look_with paint_of (shape_in (g c) o)
+    ∙ ap (λ o. look_with (paint_in defined.paints) (shape_in defined (g c) o)
     (own_attributes_of (g c) pen screen (serial_attributes f pen screen c)))
     (held_sign-alike f g c low same)
-    ∙ ap (λ s. look_with paint_of (shape_in (g c) (held_sign g c)) (own_attributes_of (g c) pen screen s))
+    ∙ ap (λ s. look_with (paint_in defined.paints) (shape_in defined (g c) (held_sign g c)) (own_attributes_of (g c) pen screen s))
     (serial_attributes-alike f g pen screen c low same)
 
 -- and the same size
@@ -47,9 +48,9 @@ plain-none : (row : ℕ → What) (c : ℕ) → is_marker (row c) ≡ false → 
 plain-none row c plain = rw plain refl
 
 -- what is no marker is drawn as itself
-shape-plain : (w : What) → is_marker w ≡ false → shape_in w None ≡ shape_of w
-shape-plain (whats.Marker m) plain = refl
-shape-plain w plain = refl
+shape-plain : (defined : Definitions) (w : What) → is_marker w ≡ false → shape_in defined w None ≡ shape_of defined w
+shape-plain defined (whats.Marker m) plain = refl
+shape-plain defined w plain = refl
 
 own-plain : (pen screen : Pen) (w : What) → own_attributes_of w pen screen (cascade unset_pen pen screen)
     ≡ attributes_of pen screen w
@@ -57,17 +58,18 @@ own-plain pen screen (whats.Parallel g p) = refl
 own-plain pen screen w = refl
 
 -- in a row without markers up to a column the look there is that of the cell by itself
-pub look_in_row-unmarked : (paint_of : ℕ → Paint) (row : ℕ → What) (pen screen : Pen) (c : ℕ) → 1 ≤ c
+pub look_in_row-unmarked : (defined : Definitions) (row : ℕ → What) (pen screen : Pen) (c : ℕ) → 1 ≤ c
     → ((d : ℕ) → 1 ≤ d → d ≤ c → is_marker (row d) ≡ false)
-    → look_in_row paint_of row pen screen c ≡ look_of paint_of pen screen (row c)
+    → look_in_row defined row pen screen c ≡ look_of defined pen screen (row c)
 unfolding look_in_row look_of
-look_in_row-unmarked paint_of row pen screen c low plain =
+look_in_row-unmarked defined row pen screen c low plain =
     let here : is_marker (row c) ≡ false = plain c low (omega arith) in
-    ap (λ o. look_with paint_of (shape_in (row c) o) (own_attributes row pen screen c)) (plain-none row c here)
-    ∙ ap (λ s. look_with paint_of s (own_attributes row pen screen c)) (shape-plain (row c) here)
-    ∙ ap (λ f. look_with paint_of (shape_of (row c)) (own_attributes_of (row c) pen screen f))
+    ap (λ o. look_with (paint_in defined.paints) (shape_in defined (row c) o) (own_attributes row pen screen c))
+    (plain-none row c here)
+    ∙ ap (λ s. look_with (paint_in defined.paints) s (own_attributes row pen screen c)) (shape-plain defined (row c) here)
+    ∙ ap (λ f. look_with (paint_in defined.paints) (shape_of defined (row c)) (own_attributes_of (row c) pen screen f))
     (serial_attributes-unmarked row pen screen c low plain)
-    ∙ ap (λ f. look_with paint_of (shape_of (row c)) f) (own-plain pen screen (row c))
+    ∙ ap (λ f. look_with (paint_in defined.paints) (shape_of defined (row c)) f) (own-plain pen screen (row c))
 
 -- ---- rows without sizes
 

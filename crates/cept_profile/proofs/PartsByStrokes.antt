@@ -1,11 +1,12 @@
 -- The parts of the page beside its cells: by looking back each is what one stroke after the other makes of it.
 use Rattle.std.proofs.Common.{◌≡◌, ℕ, Bool, true, false, cond, eqb, None, unwrap_or, List, [], ◌∷◌, ◌++◌}
-use Rattle.std.proofs.Common.{Some, reverse, refl, sym, ◌∙◌, ap, append_assoc}
+use Rattle.std.proofs.Common.{Option, Some, reverse, refl, sym, ◌∙◌, ap, append_assoc}
 use Rattle.std.proofs.lemmas.List.{reverse-append}
 use Rattle.cept_codes.specs.declared.attribute.Attr.{Attr}
 use Rattle.cept_codes.specs.declared.attribute.Attr.TheVariants as attrs
 use Rattle.cept_codes.specs.declared.attribute.Pen.{Pen}
 use Rattle.cept_codes.specs.declared.look.Paint.{Paint}
+use Rattle.cept_codes.specs.declared.look.Pattern.{Pattern}
 use Rattle.cept_codes.specs.declared.stroke.Stroke.{Stroke}
 use Rattle.cept_codes.specs.declared.stroke.Stroke.TheVariants as strokes
 use Rattle.cept_codes.specs.Attribute.{unset_pen}
@@ -14,7 +15,8 @@ use Rattle.cept_codes.proofs.Laws.{entry-list_by_index, same_indexed}
 use Rattle.cept_profile.specs.PageParts.{row_pen_back, screen_pen_back, paint_back, dclut_back, row_pen_after}
 use Rattle.cept_profile.specs.PageParts.{screen_pen_after, paint_after, dclut_after, list_of_rows, list_of_colours}
 use Rattle.cept_profile.specs.PageParts.{list_of_dclut, row_pen_in, paint_in, dclut_in, row_pens_after, paints_after}
-use Rattle.cept_profile.specs.PageParts.{dclut_list_after, part_after_all}
+use Rattle.cept_profile.specs.PageParts.{dclut_list_after, list_of_codes, part_after_all, pattern_after, pattern_back}
+use Rattle.cept_profile.specs.PageParts.{pattern_in, patterns_after}
 use Rattle.cept_profile.specs.Pens.{pen_with, fore_in, back_in, flash_in, conceal_in, lined_in, boxed_in, size_in}
 use Rattle.cept_profile.specs.Pens.{invert_in}
 
@@ -77,6 +79,12 @@ pub dclut_back-more : (stroke : Stroke) (earlier : List Stroke) (i : ℕ) → dc
 dclut_back-more (strokes.Dclut j v) earlier i = said-cond (eqb j i) v (dclut_back earlier i)
 dclut_back-more _ earlier i = refl
 
+pub pattern_back-more : (stroke : Stroke) (earlier : List Stroke) (d : ℕ) → pattern_back (stroke ∷ earlier) d
+    ≡ pattern_after stroke (pattern_back earlier) d
+pattern_back-more (strokes.Drcs code pattern) earlier d =
+    said-cond (eqb code d) (Some pattern) (pattern_back earlier d)
+pattern_back-more _ earlier d = refl
+
 -- ---- what a stroke makes of an entry comes from that entry
 
 row_pen_after-same : (stroke : Stroke) (was other : ℕ → Pen) (r : ℕ) → was r ≡ other r
@@ -97,6 +105,13 @@ dclut_after-same : (stroke : Stroke) (was other : ℕ → ℕ) (i : ℕ) → was
 dclut_after-same (strokes.Dclut j v) was other i same = ap (λ (entry : ℕ). cond (eqb j i) v entry) same
 dclut_after-same strokes.ColourDefaults was other i same = refl
 dclut_after-same _ was other i same = same
+
+pattern_after-same : (stroke : Stroke) (was other : ℕ → Option Pattern) (d : ℕ) → was d ≡ other d
+    → pattern_after stroke was d ≡ pattern_after stroke other d
+pattern_after-same (strokes.Drcs code pattern) was other d same =
+    ap (λ (p : Option Pattern). cond (eqb code d) (Some pattern) p) same
+pattern_after-same strokes.DrcsClear was other d same = refl
+pattern_after-same _ was other d same = same
 
 -- ---- one more stroke, list by list
 
@@ -123,6 +138,14 @@ dclut-more stroke earlier =
     same_indexed 0 4 (dclut_back (stroke ∷ earlier)) (dclut_after stroke was) (λ i low high.
     dclut_back-more stroke earlier i ∙ dclut_after-same stroke (dclut_back earlier) was i
     (sym (entry-list_by_index 0 0 4 (dclut_back earlier) i low high)))
+
+patterns-more : (stroke : Stroke) (earlier : List Stroke) → list_of_codes (pattern_back (stroke ∷ earlier))
+    ≡ patterns_after (list_of_codes (pattern_back earlier)) stroke
+patterns-more stroke earlier =
+    let was : ℕ → Option Pattern = pattern_in (list_of_codes (pattern_back earlier)) in
+    same_indexed 0x21 94 (pattern_back (stroke ∷ earlier)) (pattern_after stroke was) (λ d low high.
+    pattern_back-more stroke earlier d ∙ pattern_after-same stroke (pattern_back earlier) was d
+    (sym (entry-list_by_index None 0x21 94 (pattern_back earlier) d low high)))
 
 -- ---- several more strokes
 
@@ -153,3 +176,7 @@ paints-after_all = parts_after_all paints_after (λ all. list_of_colours (paint_
 pub dclut-after_all : (more earlier : List Stroke) → list_of_dclut (dclut_back (reverse more ++ earlier))
     ≡ part_after_all dclut_list_after (list_of_dclut (dclut_back earlier)) more
 dclut-after_all = parts_after_all dclut_list_after (λ all. list_of_dclut (dclut_back all)) dclut-more
+
+pub patterns-after_all : (more earlier : List Stroke) → list_of_codes (pattern_back (reverse more ++ earlier))
+    ≡ part_after_all patterns_after (list_of_codes (pattern_back earlier)) more
+patterns-after_all = parts_after_all patterns_after (λ all. list_of_codes (pattern_back all)) patterns-more

@@ -12,10 +12,10 @@ use Rattle.cept_codes.proofs.Laws.{same_table}
 use Rattle.cept_profile.specs.Changes.{changes, changes_between}
 use Rattle.cept_profile.specs.Look.{contents_of_row, is_double_set, look, look_of, looks_of, own_size, part_of}
 use Rattle.cept_profile.specs.Look.{sets_double_size}
-use Rattle.cept_profile.specs.PageParts.{paint_in, row_pen_in}
+use Rattle.cept_profile.specs.PageParts.{row_pen_in}
 use Rattle.cept_profile.specs.RowsFromAbove.{look_seen}
 use Rattle.cept_profile.specs.Serial.{is_marker}
-use Rattle.cept_profile.specs.State.{Core, core}
+use Rattle.cept_profile.specs.State.{Core, core, definitions_of}
 use Rattle.cept_profile.specs.Tiling.{covers_below}
 use Rattle.cept_profile.proofs.ColumnEntries.{no_index}
 use Rattle.cept_profile.proofs.LooksFromAbove.{covers_nothing, covers_nothing-first, look-single}
@@ -86,13 +86,13 @@ nothing_above k plain r low high c =
 -- the look of a cell by itself
 abbrev pub plain_look : Core → ℕ → ℕ → Look
 plain_look k r c =
-    look_of (paint_in k.page.paints) (row_pen_in k.page.row_pens r) k.page.screen_pen (contents_of_row k r c)
+    look_of (definitions_of k.page) (row_pen_in k.page.row_pens r) k.page.screen_pen (contents_of_row k r c)
 
 pub look-plain : (k : Core) → IsPlain k → (r c : ℕ) → OnScreen r c → look k r c ≡ plain_look k r c
 look-plain k plain r c on =
     look-single k r c on (single_there k plain r on.from_top on.to_bottom)
     (nothing_above k plain r on.from_top on.to_bottom)
-    ∙ look_in_row-unmarked (paint_in k.page.paints) (contents_of_row k r) (row_pen_in k.page.row_pens r)
+    ∙ look_in_row-unmarked (definitions_of k.page) (contents_of_row k r) (row_pen_in k.page.row_pens r)
     k.page.screen_pen c on.from_left (λ d low high.
     (or_parts (is_marker (contents_of_row k r d)) (sets_double_size (contents_of_row k r d)) (plain.cells r d (record {
       from_top = on.from_top;

@@ -1,10 +1,11 @@
 -- Protected cells, and wiped ones.
-use Rattle.std.proofs.Common.{◌≡◌, ◌≢◌, ℕ, ◌≤◌, ◌<◌, ◌⊎◌, Bool, false, not, ◌&&◌, eqb, leb, List, [], ◌∷◌, ◌++◌, refl}
+use Rattle.std.proofs.Common.{◌≡◌, ◌≢◌, ℕ, ◌+◌, ◌-◌, ◌≤◌, ◌<◌, ◌⊎◌, Bool, cond, false, not, ◌&&◌, eqb, leb, List, [], ◌∷◌, ◌++◌, refl}
 use Rattle.std.proofs.Common.{sym, ◌∙◌, subst, inl, inr, arith}
-use Rattle.std.specs.List.{Contains}
+use Rattle.std.specs.List.{Contains, list_any}
+use Rattle.cept_codes.specs.declared.command.Up.TheVariants as ways
 use Rattle.std.specs.Prelude.{IsTrue}
 use Rattle.std.proofs.lemmas.Bool.{cond-false, cond-true, and_from, and_left, and_right, eq-eqb, eqb-true, le-leb}
-use Rattle.std.proofs.lemmas.Bool.{lt-leb, not_from_true, not_from_false, false_from_ne_true}
+use Rattle.std.proofs.lemmas.Bool.{or_parts, lt-leb, not_from_true, not_from_false, false_from_ne_true}
 use Rattle.std.proofs.lemmas.List.Elements.{Contains-append_right}
 use Rattle.cept_codes.specs.declared.cell.Cell.{Cell}
 use Rattle.cept_codes.specs.declared.stroke.Stroke.{Stroke}
@@ -13,7 +14,7 @@ use Rattle.cept_codes.specs.Cell.{blank_cell}
 use Rattle.cept_codes.specs.Place.{Place, OnScreen}
 use Rattle.cept_codes.specs.Table.{value_at}
 use Rattle.cept_codes.proofs.Laws.{value_at-table}
-use Rattle.cept_profile.specs.Cells.{is_at, cell_after, cells_after, cells_after_all}
+use Rattle.cept_profile.specs.Cells.{is_at, cell_after, cells_after, cells_after_all, moves}
 use Rattle.cept_profile.proofs.PaintedPlaces.{place-is_at}
 
 pub cell_after-elsewhere : (p q : Place) (cell : Cell) (was : ℕ → ℕ → Cell) → p ≢ q
@@ -49,42 +50,80 @@ cell_after-not_erased row from was r c out =
     ]))
 
 pub cell_after-protected : (stroke : Stroke) (was : ℕ → ℕ → Cell) (r c : ℕ) → IsTrue (was r c).protected
-    → (stroke ≡ strokes.Wipe) ⊎ (cell_after stroke was r c ≡ was r c)
-cell_after-protected (strokes.Put p cell) was r c protected =
+    → moves stroke r ≡ false → (stroke ≡ strokes.Wipe) ⊎ (cell_after stroke was r c ≡ was r c)
+cell_after-protected (strokes.Put p cell) was r c protected out =
     inr (cond-false (is_at p r c && not (was r c).protected) cell (was r c)
     (and_right (is_at p r c) (not (was r c).protected) (not_from_true (was r c).protected protected)))
-cell_after-protected strokes.Wipe was r c protected = inl refl
-cell_after-protected (strokes.Erase row from) was r c protected =
+cell_after-protected strokes.Wipe was r c protected out = inl refl
+cell_after-protected (strokes.Erase row from) was r c protected out =
     inr (cond-false (eqb r row && leb from c && not (was r c).protected) blank_cell (was r c)
     (and_right (eqb r row && leb from c) (not (was r c).protected) (not_from_true (was r c).protected protected)))
-cell_after-protected (strokes.Shift a b way) was r c protected = inr refl
-cell_after-protected (strokes.RowAttr row attr) was r c protected = inr refl
-cell_after-protected (strokes.ScreenAttr attr) was r c protected = inr refl
-cell_after-protected strokes.ScreenClear was r c protected = inr refl
-cell_after-protected (strokes.Colour i paint) was r c protected = inr refl
-cell_after-protected (strokes.Dclut i v) was r c protected = inr refl
-cell_after-protected strokes.ColourDefaults was r c protected = inr refl
-cell_after-protected strokes.DrcsClear was r c protected = inr refl
-cell_after-protected (strokes.Drcs code pattern) was r c protected = inr refl
-cell_after-protected (strokes.Format rows) was r c protected = inr refl
+cell_after-protected (strokes.Shift a b ways.Up) was r c protected out =
+    inr (cond-false (leb a r && leb r b) (cond (eqb r b) blank_cell (was (r + 1) c)) (was r c) out)
+cell_after-protected (strokes.Shift a b ways.Down) was r c protected out =
+    inr (cond-false (leb a r && leb r b) (cond (eqb r a) blank_cell (was (r - 1) c)) (was r c) out)
+cell_after-protected (strokes.RowAttr row attr) was r c protected out = inr refl
+cell_after-protected (strokes.ScreenAttr attr) was r c protected out = inr refl
+cell_after-protected strokes.ScreenClear was r c protected out = inr refl
+cell_after-protected (strokes.Colour i paint) was r c protected out = inr refl
+cell_after-protected (strokes.Dclut i v) was r c protected out = inr refl
+cell_after-protected strokes.ColourDefaults was r c protected out = inr refl
+cell_after-protected strokes.DrcsClear was r c protected out = inr refl
+cell_after-protected (strokes.Drcs code pattern) was r c protected out = inr refl
+cell_after-protected (strokes.Format rows) was r c protected out = inr refl
 
 pub cells_after_all-protected : (cells : List (List Cell)) (xs : List Stroke) (r c : ℕ) → OnScreen r c
-    → IsTrue (value_at blank_cell cells r c).protected → Contains xs strokes.Wipe
+    → IsTrue (value_at blank_cell cells r c).protected → list_any (λ x. moves x r) xs ≡ false → Contains xs strokes.Wipe
     ⊎ (value_at blank_cell (cells_after_all cells xs) r c ≡ value_at blank_cell cells r c)
 unfolding cells_after_all
-cells_after_all-protected cells [] r c on protected = inr refl
-cells_after_all-protected cells (x ∷ xs) r c on protected =
-    elim (cell_after-protected x (value_at blank_cell cells) r c protected) [
+cells_after_all-protected cells [] r c on protected out = inr refl
+cells_after_all-protected cells (x ∷ xs) r c on protected out =
+    let parts = or_parts (moves x r) (list_any (λ y. moves y r) xs) out in
+    elim (cell_after-protected x (value_at blank_cell cells) r c protected parts.0) [
       | inl wipe ↦ inl (0, omega arith, wipe)
       | inr stays ↦
           let same : value_at blank_cell (cells_after cells x) r c ≡ value_at blank_cell cells r c =
           value_at-table (cell_after x (value_at blank_cell cells)) blank_cell r c on ∙ stays in
           elim (cells_after_all-protected (cells_after cells x) xs r c on
-          (subst (λ cell. IsTrue cell.protected) (sym same) protected)) [
+          (subst (λ cell. IsTrue cell.protected) (sym same) protected) parts.1) [
             | inl wiped ↦ inl (Contains-append_right (x ∷ []) xs strokes.Wipe wiped)
             | inr kept ↦ inr (kept ∙ same)
           ]
     ]
+
+-- ---- shifts
+
+-- up: a row takes the place of the one above it, and the last is blank
+pub cell_after-up : (a b : ℕ) (was : ℕ → ℕ → Cell) (r c : ℕ) → a ≤ r → r < b
+    → cell_after (strokes.Shift a b ways.Up) was r c ≡ was (r + 1) c
+cell_after-up a b was r c low high =
+    cond-true (leb a r && leb r b) (cond (eqb r b) blank_cell (was (r + 1) c)) (was r c)
+    (and_from (leb a r) (leb r b) (le-leb a r low) (le-leb r b (omega (arith, high))))
+    ∙ cond-false (eqb r b) blank_cell (was (r + 1) c) (false_from_ne_true (eqb r b) (λ e. let same = eqb-true r b e in
+    omega (arith, high, same)))
+
+pub cell_after-up_last : (a b : ℕ) (was : ℕ → ℕ → Cell) (c : ℕ) → a ≤ b
+    → cell_after (strokes.Shift a b ways.Up) was b c ≡ blank_cell
+cell_after-up_last a b was c low =
+    cond-true (leb a b && leb b b) (cond (eqb b b) blank_cell (was (b + 1) c)) (was b c)
+    (and_from (leb a b) (leb b b) (le-leb a b low) (le-leb b b (omega arith)))
+    ∙ cond-true (eqb b b) blank_cell (was (b + 1) c) (eq-eqb b b refl)
+
+-- down: a row takes the place of the one below it, and the first is blank
+pub cell_after-down : (a b : ℕ) (was : ℕ → ℕ → Cell) (r c : ℕ) → a < r → r ≤ b
+    → cell_after (strokes.Shift a b ways.Down) was r c ≡ was (r - 1) c
+cell_after-down a b was r c low high =
+    cond-true (leb a r && leb r b) (cond (eqb r a) blank_cell (was (r - 1) c)) (was r c)
+    (and_from (leb a r) (leb r b) (le-leb a r (omega (arith, low))) (le-leb r b high))
+    ∙ cond-false (eqb r a) blank_cell (was (r - 1) c) (false_from_ne_true (eqb r a) (λ e. let same = eqb-true r a e in
+    omega (arith, low, same)))
+
+pub cell_after-down_first : (a b : ℕ) (was : ℕ → ℕ → Cell) (c : ℕ) → a ≤ b
+    → cell_after (strokes.Shift a b ways.Down) was a c ≡ blank_cell
+cell_after-down_first a b was c low =
+    cond-true (leb a a && leb a b) (cond (eqb a a) blank_cell (was (a - 1) c)) (was a c)
+    (and_from (leb a a) (leb a b) (le-leb a a (omega arith)) (le-leb a b low))
+    ∙ cond-true (eqb a a) blank_cell (was (a - 1) c) (eq-eqb a a refl)
 
 pub cell_after-wiped : (was : ℕ → ℕ → Cell) (r c : ℕ) → OnScreen r c → cell_after strokes.Wipe was r c ≡ blank_cell
 cell_after-wiped was r c on = refl

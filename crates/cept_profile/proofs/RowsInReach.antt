@@ -1,6 +1,6 @@
 -- Rows out of reach.
-use Rattle.std.proofs.Common.{◌≡◌, ℕ, ◌-◌, ◌≤◌, ◌&&◌, ◌||◌, ◌==◌, not, eqb, leb, Bool, true, false, List, [], ◌∷◌}
-use Rattle.std.proofs.Common.{◌<◌, length, refl, sym, ◌∙◌, ap, arith}
+use Rattle.std.proofs.Common.{◌≡◌, ℕ, ◌+◌, ◌-◌, ◌≤◌, cond, ◌&&◌, ◌||◌, ◌==◌, not, eqb, leb, Bool, true, false, List, [], ◌∷◌}
+use Rattle.std.proofs.Common.{Option, None, Some, ◌<◌, length, refl, sym, ◌∙◌, ap, arith}
 use Rattle.std.specs.List.{count_by, list_any, range_with_len}
 use Rattle.std.proofs.lemmas.Bool.{and_left, cond-false, or_from, or_parts, true≢false}
 use Rattle.std.proofs.lemmas.Bool.Decides.{nat_tests}
@@ -10,8 +10,10 @@ use Rattle.cept_codes.specs.declared.attribute.Pen.{Pen}
 use Rattle.cept_codes.specs.declared.cell.Cell.{Cell}
 use Rattle.cept_codes.specs.declared.command.Command.{Command}
 use Rattle.cept_codes.specs.declared.look.Paint.{Paint}
+use Rattle.cept_codes.specs.declared.look.Pattern.{Pattern}
 use Rattle.cept_codes.specs.declared.stroke.Stroke.{Stroke}
 use Rattle.cept_codes.specs.declared.stroke.Stroke.TheVariants as strokes
+use Rattle.cept_codes.specs.declared.command.Up.TheVariants as ways
 use Rattle.cept_codes.specs.Attribute.{unset_pen}
 use Rattle.cept_codes.specs.Cell.{blank_cell}
 use Rattle.cept_codes.specs.Look.{black_paint, blank_look}
@@ -22,12 +24,14 @@ use Rattle.cept_codes.proofs.Laws.{value_at-table}
 use Rattle.cept_profile.specs.Cells.{is_at, cell_after, cells_after, cells_after_all}
 use Rattle.cept_profile.specs.Look.{contents_of_row, is_last_row, look, look_in_row, looks_of, own_look, own_size}
 use Rattle.cept_profile.specs.Look.{is_double_set, part_of, sets_double_size, size_in_row}
+use Rattle.cept_profile.specs.Definitions.{AreWhole}
+use Rattle.cept_profile.specs.PageParts.{pattern_after, pattern_in, patterns_after}
 use Rattle.cept_profile.specs.PageParts.{dclut_after, dclut_in, dclut_list_after, paint_after, paint_in, paints_after}
 use Rattle.cept_profile.specs.PageParts.{part_after_all, row_pen_after, row_pen_in, row_pens_after, screen_pen_after}
 use Rattle.cept_profile.specs.Pens.{pen_with}
 use Rattle.cept_profile.specs.Reach.{is_last_under_one, in_reach, is_row_touched, one_touches, rows_in_reach, touches}
 use Rattle.cept_profile.specs.RowsFromAbove.{covering_differs, look_seen, looks_in}
-use Rattle.cept_profile.specs.State.{Core, Page, State, core_of, page_after, state_after}
+use Rattle.cept_profile.specs.State.{Core, Page, State, core_of, definitions_of, page_after, state_after}
 use Rattle.cept_profile.specs.Strokes.{strokes_of}
 use Rattle.cept_profile.specs.Tiling.{column_entry, covers_below}
 use Rattle.cept_profile.proofs.ColumnEntries.{no_index}
@@ -49,7 +53,10 @@ cell_after-untouched (strokes.Erase row from) was r c out =
     let other : eqb r row ≡ false = eqb-swap row r out in
     cond-false (eqb r row && leb from c && not (was r c).protected) blank_cell (was r c)
     (and_left (eqb r row && leb from c) (not (was r c).protected) (and_left (eqb r row) (leb from c) other))
-cell_after-untouched (strokes.Shift a b way) was r c out = refl
+cell_after-untouched (strokes.Shift a b ways.Up) was r c out =
+    cond-false (leb a r && leb r b) (cond (eqb r b) blank_cell (was (r + 1) c)) (was r c) out
+cell_after-untouched (strokes.Shift a b ways.Down) was r c out =
+    cond-false (leb a r && leb r b) (cond (eqb r a) blank_cell (was (r - 1) c)) (was r c) out
 cell_after-untouched (strokes.RowAttr row attr) was r c out = refl
 cell_after-untouched (strokes.ScreenAttr attr) was r c out = refl
 cell_after-untouched strokes.ScreenClear was r c out = refl
@@ -199,6 +206,49 @@ pub dclut-untouched : (p : Page) (strokes : List Stroke) (r i : ℕ) → i < 4 �
     → dclut_in (page_after p strokes).dclut i ≡ dclut_in p.dclut i
 dclut-untouched p strokes r i below out = dclut_entries-untouched p.dclut strokes r i below out
 
+-- where there are four of them all stay
+dclut_list-untouched : (dclut : List ℕ) (xs : List Stroke) (r : ℕ) → length dclut ≡ 4 → one_touches xs r ≡ false
+    → part_after_all dclut_list_after dclut xs ≡ dclut
+unfolding part_after_all one_touches
+dclut_list-untouched dclut [] r long out = refl
+dclut_list-untouched dclut (x ∷ xs) r long out =
+    let parts = or_parts (touches x r) (one_touches xs r) out in
+    let same : dclut_list_after dclut x ≡ dclut =
+    same_indexed 0 4 (dclut_after x (dclut_in dclut)) (dclut_in dclut)
+    (λ i low high. dclut_after-untouched x (dclut_in dclut) r i parts.0)
+    ∙ list_by_index-entry 0 0 4 dclut long in
+    ap (λ (list : List ℕ). part_after_all dclut_list_after list xs) same ∙ dclut_list-untouched dclut xs r long parts.1
+
+-- the patterns
+pattern_after-untouched : (stroke : Stroke) (was : ℕ → Option Pattern) (r d : ℕ) → touches stroke r ≡ false
+    → pattern_after stroke was d ≡ was d
+pattern_after-untouched (strokes.Drcs code pattern) was r d out = absurd (true≢false out)
+pattern_after-untouched strokes.DrcsClear was r d out = absurd (true≢false out)
+pattern_after-untouched _ was r d out = refl
+
+-- where there is one for each of 94 codes all stay
+patterns-untouched : (patterns : List (Option Pattern)) (xs : List Stroke) (r : ℕ) → length patterns ≡ 94
+    → one_touches xs r ≡ false → part_after_all patterns_after patterns xs ≡ patterns
+unfolding part_after_all one_touches
+patterns-untouched patterns [] r long out = refl
+patterns-untouched patterns (x ∷ xs) r long out =
+    let parts = or_parts (touches x r) (one_touches xs r) out in
+    let same : patterns_after patterns x ≡ patterns =
+    same_indexed 0x21 94 (pattern_after x (pattern_in patterns)) (pattern_in patterns)
+    (λ d low high. pattern_after-untouched x (pattern_in patterns) r d parts.0)
+    ∙ list_by_index-entry None 0x21 94 patterns long in
+    ap (λ (list : List (Option Pattern)). part_after_all patterns_after list xs) same
+    ∙ patterns-untouched patterns xs r long parts.1
+
+-- all that signs are drawn with
+pub definitions-untouched : (p : Page) (strokes : List Stroke) (r : ℕ) → AreWhole (definitions_of p)
+    → one_touches strokes r ≡ false → definitions_of (page_after p strokes) ≡ definitions_of p
+definitions-untouched p strokes r whole out i = record {
+  paints = paints-untouched p.paints strokes r whole.colours out i;
+  dclut = dclut_list-untouched p.dclut strokes r whole.names out i;
+  patterns = patterns-untouched p.patterns strokes r whole.codes out i;
+}
+
 -- ---- looks
 
 -- what becomes last under none of two numbers of rows is last under both or under neither
@@ -213,13 +263,13 @@ record IsMadeAlike (k m : Core) (r : ℕ) : Type 0 where
   pub cells : (d : ℕ) → 1 ≤ d → d ≤ 40 → contents_of_row k r d ≡ contents_of_row m r d
   pub pens : row_pen_in k.page.row_pens r ≡ row_pen_in m.page.row_pens r
   pub screen : k.page.screen_pen ≡ m.page.screen_pen
-  pub paints : k.page.paints ≡ m.page.paints
+  pub defined : definitions_of k.page ≡ definitions_of m.page
 
 own_look-alike : (k m : Core) (r : ℕ) → IsMadeAlike k m r → (c : ℕ) → 1 ≤ c → c ≤ 40 → own_look k r c ≡ own_look m r c
 own_look-alike k m r same c low high =
-    look_in_row-alike (paint_in k.page.paints) (contents_of_row k r) (contents_of_row m r)
+    look_in_row-alike (definitions_of k.page) (contents_of_row k r) (contents_of_row m r)
     (row_pen_in k.page.row_pens r) k.page.screen_pen c low (λ d from to. same.cells d from (omega arith))
-    ∙ (λ i. look_in_row (paint_in (same.paints i)) (contents_of_row m r) (same.pens i) (same.screen i) c)
+    ∙ (λ i. look_in_row (same.defined i) (contents_of_row m r) (same.pens i) (same.screen i) c)
 
 own_size-alike : (k m : Core) (r : ℕ) → IsMadeAlike k m r → (c : ℕ) → 1 ≤ c → c ≤ 40 → own_size k r c ≡ own_size m r c
 own_size-alike k m r same c low high =
@@ -228,9 +278,9 @@ own_size-alike k m r same c low high =
     ∙ (λ i. size_in_row (contents_of_row m r) (same.pens i) (same.screen i) c)
 
 -- strokes leave what an untouched row is made of
-made_alike-untouched : (k m : Core) (strokes : List Stroke) (r : ℕ) → 1 ≤ r → r ≤ 24 → length k.page.paints ≡ 32
-    → m.page ≡ page_after k.page strokes → one_touches strokes r ≡ false → IsMadeAlike k m r
-made_alike-untouched k m strokes r low high long page out = record {
+made_alike-untouched : (k m : Core) (strokes : List Stroke) (r : ℕ) → 1 ≤ r → r ≤ 24
+    → AreWhole (definitions_of k.page) → m.page ≡ page_after k.page strokes → one_touches strokes r ≡ false → IsMadeAlike k m r
+made_alike-untouched k m strokes r low high whole page out = record {
   cells = λ d from to.
       sym (ap (λ (p : Page). (value_at blank_cell p.cells r d).what) page
       ∙ ap (λ (cell : Cell). cell.what) (cell-untouched k.page strokes r d (record {
@@ -241,16 +291,16 @@ made_alike-untouched k m strokes r low high long page out = record {
       }) out));
   pens = sym (ap (λ (p : Page). row_pen_in p.row_pens r) page ∙ row_pen-untouched k.page strokes r low high out);
   screen = sym (ap (λ (p : Page). p.screen_pen) page ∙ screen_pen-untouched k.page strokes r out);
-  paints = sym (ap (λ (p : Page). p.paints) page ∙ paints-untouched k.page.paints strokes r long out);
+  defined = sym (ap definitions_of page ∙ definitions-untouched k.page strokes r whole out);
 }
 
-pub look-untouched : (k m : Core) (strokes : List Stroke) (r c : ℕ) → OnScreen r c → length k.page.paints ≡ 32
+pub look-untouched : (k m : Core) (strokes : List Stroke) (r c : ℕ) → OnScreen r c → AreWhole (definitions_of k.page)
     → m.page ≡ page_after k.page strokes → is_row_touched strokes k.rows m.rows r ≡ false
     → covering_differs (looks_of k) (looks_of m) r ≡ false → look m r c ≡ look k r c
-look-untouched k m strokes r c on long page untouched none =
+look-untouched k m strokes r c on whole page untouched none =
     let both = or_parts (one_touches strokes r) (is_last_under_one k.rows m.rows r) untouched in
     let made : IsMadeAlike k m r =
-    made_alike-untouched k m strokes r on.from_top on.to_bottom long page both.0 in
+    made_alike-untouched k m strokes r on.from_top on.to_bottom whole page both.0 in
     let same : looks_in (looks_of k) r ≡ looks_in (looks_of m) r =
     looks_in-same k m r r on.from_top on.to_bottom on.from_top on.to_bottom
     (covering-same (looks_of k) (looks_of m) r (IsTable-table (look k)) (IsTable-table (look m)) on.from_top
@@ -273,14 +323,14 @@ pub rows_in_reach-counted : (s : State) (command : Command)
 unfolding rows_in_reach
 rows_in_reach-counted s command = refl
 
-pub look-out_of_reach : (s : State) (command : Command) (r c : ℕ) → OnScreen r c → length s.page.paints ≡ 32
+pub look-out_of_reach : (s : State) (command : Command) (r c : ℕ) → OnScreen r c → AreWhole (definitions_of s.page)
     → in_reach s command r ≡ false → look (core_of (state_after s command)) r c ≡ look (core_of s) r c
-look-out_of_reach s command r c on long out =
+look-out_of_reach s command r c on whole out =
     let both = or_parts
     (is_row_touched (strokes_of s.control command) s.control.rows (state_after s command).control.rows r)
     (covering_differs (looks_of (core_of s)) (looks_of (core_of (state_after s command))) r)
     (sym (in_reach-by s command r) ∙ out) in
-    look-untouched (core_of s) (core_of (state_after s command)) (strokes_of s.control command) r c on long refl
+    look-untouched (core_of s) (core_of (state_after s command)) (strokes_of s.control command) r c on whole refl
     both.0 both.1
 
 pub rows_in_reach-le : (s : State) (command : Command) → rows_in_reach s command ≤ 24

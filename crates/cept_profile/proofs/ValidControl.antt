@@ -1,5 +1,5 @@
 -- Valid control: the initial state is valid, and every valid command keeps it valid.
-use Rattle.std.proofs.Common.{◌≡◌, ◌⊎◌, ℕ, ◌+◌, ◌-◌, ◌≤◌, zero, suc, Bool, false, min, cond, eqb, leb}
+use Rattle.std.proofs.Common.{◌≡◌, ◌⊎◌, ℕ, ◌+◌, ◌-◌, ◌≤◌, ◌&&◌, zero, suc, Bool, false, min, cond, eqb, leb}
 use Rattle.std.proofs.Common.{Option, Some, None, inl, inr, refl, subst, arith}
 use Rattle.std.specs.Prelude.{IfSome}
 use Rattle.std.proofs.lemmas.Bool.{cond_both, eqb-false, leb-true}
@@ -21,15 +21,17 @@ use Rattle.cept_codes.specs.declared.glyph.Read.TheVariants as reads
 use Rattle.cept_codes.specs.declared.glyph.SetId.{SetId}
 use Rattle.cept_codes.specs.declared.glyph.SetId.TheVariants as sets
 use Rattle.cept_codes.specs.Attribute.{IsValidAttr, IsValidPen, unset_pen}
-use Rattle.cept_codes.specs.Command.{IsGraphic, IsValidCommand}
+use Rattle.cept_codes.specs.Command.{IsArea, IsGraphic, IsValidCommand}
 use Rattle.cept_codes.specs.Glyph.{IsCodeOf, IsValidGlyph}
 use Rattle.cept_codes.specs.Place.{OnScreen}
 use Rattle.cept_profile.specs.Control.{Working, ControlState, initial_control, initial_sets, initial_working}
 use Rattle.cept_profile.specs.Control.{control_with, working_at, working_with_sets, with_c1, with_table}
 use Rattle.cept_profile.specs.Control.{working_without_run, working_without_pen, working_without_accent, finds_accent}
-use Rattle.cept_profile.specs.Control.{state_for_effect, control_effect, control_after}
+use Rattle.cept_profile.specs.Control.{control_after_service, kept_first, working_by_default}
+use Rattle.cept_profile.specs.Control.{area_without, state_for_effect, control_effect, control_after, with_protect}
 use Rattle.cept_profile.specs.Markers.{marker_of, run_after, step_after, working_after_any_marker, working_after_marker}
-use Rattle.cept_profile.specs.Motions.{row_below, row_above, working_ahead, working_back}
+use Rattle.cept_profile.specs.Motions.{is_first_of, is_last_of, row_below, row_above, scrolling_area, working_ahead}
+use Rattle.cept_profile.specs.Motions.{working_back}
 use Rattle.cept_profile.specs.Pens.{attribute_of, pen_with, pen_with_any, is_flash, working_after_code, fast_after}
 use Rattle.cept_profile.specs.Pens.{fast_after_code, flash_of, working_after_flash, working_after_reveal}
 use Rattle.cept_profile.specs.Sets.{Sets, IsAccent, IsValidRead, code_of, sets_with, sets_with_left, sets_with_right}
@@ -128,15 +130,19 @@ IsWithin-fresh rows r c w is on row =
 -- the row below is a row of the format
 pub row_below-from_top : (s : ControlState) (r : ℕ) → 1 ≤ r → 1 ≤ row_below s r
 row_below-from_top s r top =
-    cond_both (eqb r s.rows) (cond s.wrap 1 r) (r + 1) (λ n. 1 ≤ n)
+    cond_both (is_last_of (scrolling_area s) r) r (cond (eqb r s.rows) (cond s.wrap 1 r) (r + 1)) (λ n. 1 ≤ n)
+    (λ stays. top)
+    (λ goes. cond_both (eqb r s.rows) (cond s.wrap 1 r) (r + 1) (λ n. 1 ≤ n)
     (λ e. cond_both s.wrap 1 r (λ n. 1 ≤ n) (λ w. omega arith) (λ w. omega arith))
-    (λ e. omega arith)
+    (λ e. omega arith))
 
 pub row_below-within : (s : ControlState) (r : ℕ) → 1 ≤ r → r ≤ s.rows → row_below s r ≤ s.rows
 row_below-within s r top within =
-    cond_both (eqb r s.rows) (cond s.wrap 1 r) (r + 1) (λ n. n ≤ s.rows)
+    cond_both (is_last_of (scrolling_area s) r) r (cond (eqb r s.rows) (cond s.wrap 1 r) (r + 1)) (λ n. n ≤ s.rows)
+    (λ stays. within)
+    (λ goes. cond_both (eqb r s.rows) (cond s.wrap 1 r) (r + 1) (λ n. n ≤ s.rows)
     (λ e. cond_both s.wrap 1 r (λ n. n ≤ s.rows) (λ w. omega arith) (λ w. omega arith))
-    (λ e. let other = eqb-false r s.rows e in omega arith)
+    (λ e. let other = eqb-false r s.rows e in omega arith))
 
 pub rows-bounds : (s : ControlState) → IsValidControl s → (20 ≤ s.rows) × (s.rows ≤ 24)
 rows-bounds s is = (omega (arith, is.rows), omega (arith, is.rows))
@@ -173,15 +179,19 @@ IsWithin-working_ahead s n is =
 -- the row above is a row of the format
 pub row_above-from_top : (s : ControlState) (r : ℕ) → 1 ≤ s.rows → 1 ≤ r → 1 ≤ row_above s r
 row_above-from_top s r rows top =
-    cond_both (eqb r 1) (cond s.wrap s.rows r) (r - 1) (λ n. 1 ≤ n)
+    cond_both (is_first_of (scrolling_area s) r) r (cond (eqb r 1) (cond s.wrap s.rows r) (r - 1)) (λ n. 1 ≤ n)
+    (λ stays. top)
+    (λ goes. cond_both (eqb r 1) (cond s.wrap s.rows r) (r - 1) (λ n. 1 ≤ n)
     (λ e. cond_both s.wrap s.rows r (λ n. 1 ≤ n) (λ w. rows) (λ w. top))
-    (λ e. let other = eqb-false r 1 e in omega arith)
+    (λ e. let other = eqb-false r 1 e in omega arith))
 
 pub row_above-within : (s : ControlState) (r : ℕ) → r ≤ s.rows → row_above s r ≤ s.rows
 row_above-within s r within =
-    cond_both (eqb r 1) (cond s.wrap s.rows r) (r - 1) (λ n. n ≤ s.rows)
+    cond_both (is_first_of (scrolling_area s) r) r (cond (eqb r 1) (cond s.wrap s.rows r) (r - 1)) (λ n. n ≤ s.rows)
+    (λ stays. within)
+    (λ goes. cond_both (eqb r 1) (cond s.wrap s.rows r) (r - 1) (λ n. n ≤ s.rows)
     (λ e. cond_both s.wrap s.rows r (λ n. n ≤ s.rows) (λ w. omega arith) (λ w. within))
-    (λ e. omega arith)
+    (λ e. omega arith))
 
 -- a row of the format, in a column
 IsWithin-row : (s : ControlState) (r c : ℕ) → IsValidControl s → 1 ≤ r → r ≤ s.rows → 1 ≤ c → c ≤ 40
@@ -547,6 +557,76 @@ IsValidControl-working_without_accent s is =
     IsValidControl-control_with s (working_without_accent s.working) is
     (IsWithin-accent s.rows None s.working (IsWithin-control s is) tt)
 
+-- an area that stays is one
+IsArea-without : (first last : ℕ) (area : Option (ℕ × ℕ)) → IfSome area (λ a. IsArea a.0 a.1)
+    → IfSome (area_without first last area) (λ a. IsArea a.0 a.1)
+IsArea-without first last None is = tt
+IsArea-without first last (Some area) is =
+    cond_both (eqb area.0 first && eqb area.1 last) None (Some area)
+    (λ (kept : Option (ℕ × ℕ)). IfSome kept (λ a. IsArea a.0 a.1)) (λ e. tt) (λ e. is)
+
+IsWithin-with_protect : (rows : ℕ) (on : Bool) (w : Working) → IsWithin rows w → IsWithin rows (with_protect on w)
+IsWithin-with_protect rows on w is = record {
+  valid = record {
+    place = is.valid.place;
+    sets = is.valid.sets;
+    accent = is.valid.accent;
+    last = is.valid.last;
+    pen = is.valid.pen;
+    fast = is.valid.fast;
+    step = is.valid.step;
+    table = is.valid.table;
+  };
+  row = is.row;
+}
+
+-- defaults at a place of the format
+IsWithin-by_default : (rows : ℕ) (set : C1Set) (w : Working) → IsWithin rows w → IsWithin rows (working_by_default set w)
+IsWithin-by_default rows set w is = record {
+  valid = record {
+    place = is.valid.place;
+    sets = AreValidSets-initial_control;
+    accent = tt;
+    last = tt;
+    pen = IsValidPen-unset_pen;
+    fast = omega arith;
+    step = inl refl;
+    table = omega arith;
+  };
+  row = is.row;
+}
+
+-- what a service keeps
+IsValidWorking-kept_first : (kept : Option Working) (w : Working) → IfSome kept IsValidWorking → IsValidWorking w
+    → IfSome (kept_first kept w) IsValidWorking
+IsValidWorking-kept_first None w was is = is
+IsValidWorking-kept_first (Some k) w was is = was
+
+IsValidControl-after_service : (s : ControlState) (kept : Option Working) → IsValidControl s
+    → IfSome kept IsValidWorking → IsValidControl (control_after_service s kept)
+IsValidControl-after_service s None is was = is
+IsValidControl-after_service s (Some w) is was = record {
+  working = record {
+    place = record {
+      from_top = omega (arith, was.place, is.rows);
+      to_bottom = omega (arith, was.place, is.rows);
+      from_left = was.place.from_left;
+      to_right = was.place.to_right;
+    };
+    sets = was.sets;
+    accent = was.accent;
+    last = was.last;
+    pen = was.pen;
+    fast = was.fast;
+    step = was.step;
+    table = was.table;
+  };
+  rows = is.rows;
+  within = omega arith;
+  area = is.area;
+  kept = tt;
+}
+
 pub IsValidControl-control_effect : (s : ControlState) (command : Command) → IsValidControl s → IsValidCommand command
     → IsValidControl (control_effect s command)
 IsValidControl-control_effect s commands.Back is valid =
@@ -600,7 +680,54 @@ IsValidControl-control_effect s commands.StopConceal is valid =
     IsValidControl-working s is (IsWithin-working_after_reveal s s.working.c1 is)
 IsValidControl-control_effect s (commands.Table k) is valid =
     IsValidControl-working s is (IsWithin-with_table s.rows k s.working (IsWithin-control s is) valid)
-IsValidControl-control_effect s (commands.ServiceBreak row) is valid = IsValidControl-working_without_accent s is
+IsValidControl-control_effect s (commands.Format rows wrap) is valid = record {
+  working = (IsWithin-home s is).valid;
+  rows = valid;
+  within = omega (arith, valid);
+  area = is.area;
+  kept = is.kept;
+}
+IsValidControl-control_effect s (commands.ControlDefaults set) is valid =
+    IsValidControl-working s is (IsWithin-by_default s.rows set s.working (IsWithin-control s is))
+IsValidControl-control_effect s (commands.FullDefaults set) is valid = record {
+  working = (IsWithin-by_default 24 set initial_working
+      (record { valid = IsValidWorking-initial_control; row = omega arith })).valid;
+  rows = inl refl;
+  within = omega arith;
+  area = tt;
+  kept = tt;
+}
+IsValidControl-control_effect s (commands.ServiceBreak row) is valid =
+    let bounds = rows-bounds s is in
+    let there = IsWithin-working_at s.rows (min row s.rows) 1 (working_by_default c1sets.Parallel s.working)
+    (IsWithin-by_default s.rows c1sets.Parallel s.working (IsWithin-control s is))
+    (record {
+      from_top = omega (arith, valid);
+      to_bottom = omega (arith, valid);
+      from_left = omega arith;
+      to_right = omega arith;
+    }) (omega arith) in
+    record {
+      working = there.valid;
+      rows = is.rows;
+      within = there.row;
+      area = is.area;
+      kept = IsValidWorking-kept_first s.kept s.working is.kept is.working;
+    }
+IsValidControl-control_effect s commands.ServiceEnd is valid = IsValidControl-after_service s s.kept is is.kept
+IsValidControl-control_effect s (commands.Protect on) is valid =
+    IsValidControl-working s is (IsWithin-with_protect s.rows on s.working (IsWithin-control s is))
+IsValidControl-control_effect s (commands.Implicit on) is valid =
+    record { working = is.working; rows = is.rows; within = is.within; area = is.area; kept = is.kept }
+IsValidControl-control_effect s (commands.AreaCreate first last) is valid =
+    record { working = is.working; rows = is.rows; within = is.within; area = valid; kept = is.kept }
+IsValidControl-control_effect s (commands.AreaDelete first last) is valid = record {
+  working = is.working;
+  rows = is.rows;
+  within = is.within;
+  area = IsArea-without first last s.area is.area;
+  kept = is.kept;
+}
 IsValidControl-control_effect s _ is valid = is
 
 pub IsValidControl-state_for_effect : (s : ControlState) (command : Command) → IsValidControl s

@@ -1,6 +1,9 @@
 -- Valid looks: those of a core with a valid page.
-use Rattle.std.proofs.Common.{◌≡◌, ℕ, ◌≤◌, ◌-◌, ◌%◌, Bool, true, false, not, cond, zero, suc, ◌&&◌, eqb, Option}
-use Rattle.std.proofs.Common.{Some, None, List, [], ◌∷◌, sym, subst, ◌∙◌, inl, inr, arith, rules}
+use Rattle.std.proofs.Common.{◌≡◌, ℕ, ◌≤◌, ◌+◌, ◌-◌, ◌%◌, Bool, true, false, not, cond, zero, suc, ◌&&◌, eqb, Option}
+use Rattle.std.proofs.Common.{Some, None, List, [], ◌∷◌, ◌++◌, length, refl, ap, sym, subst, ◌∙◌, inl, inr, arith, rules}
+use Rattle.std.specs.Prelude.{replicate}
+use Rattle.std.proofs.Math.Seq.{drop-append_seam}
+use Rattle.std.proofs.lemmas.List.{length-append, length-replicate}
 use Rattle.std.specs.List.{AllByRecursion}
 use Rattle.std.specs.Prelude.{IfSome, nat_lt, slice_index_or}
 use Rattle.std.proofs.lemmas.Bool.{cases_lt, cond_both}
@@ -10,6 +13,10 @@ use Rattle.cept_codes.specs.declared.cell.What.{What}
 use Rattle.cept_codes.specs.declared.cell.What.TheVariants as whats
 use Rattle.cept_codes.specs.declared.command.Command.{Command}
 use Rattle.cept_codes.specs.declared.glyph.Glyph.{Glyph}
+use Rattle.cept_codes.specs.declared.glyph.SetId.{SetId}
+use Rattle.cept_codes.specs.declared.glyph.SetId.TheVariants as sets
+use Rattle.cept_codes.specs.declared.look.Pattern.{Pattern}
+use Rattle.cept_codes.specs.declared.look.Inks.{Inks}
 use Rattle.cept_codes.specs.declared.look.Look.{Look}
 use Rattle.cept_codes.specs.declared.look.Part.{Part}
 use Rattle.cept_codes.specs.declared.look.Paint.{Paint}
@@ -17,17 +24,20 @@ use Rattle.cept_codes.specs.declared.look.Paint.TheVariants as paints
 use Rattle.cept_codes.specs.declared.look.Shape.TheVariants as shapes
 use Rattle.cept_codes.specs.Attribute.{IsEntry, IsValidPen, IsValidFull, unset_pen}
 use Rattle.cept_codes.specs.Cell.{IsValidWhat}
-use Rattle.cept_codes.specs.Glyph.{IsValidGlyph}
+use Rattle.cept_codes.specs.Glyph.{IsCodeOf, IsValidGlyph}
 use Rattle.cept_codes.specs.Look.{IsValidPaint, IsValidPart, IsValidShape, IsValidLook, black_paint, blank_look}
+use Rattle.cept_codes.specs.Look.{IsValidInks, IsValidPattern, ink_count}
+use Rattle.cept_codes.specs.Table.{list_by_index}
 use Rattle.cept_codes.specs.Place.{OnScreen}
 use Rattle.cept_codes.specs.Stroke.{IsPaintOf}
-use Rattle.cept_codes.proofs.Laws.{entry_past, value_at-table, IsTable-table}
+use Rattle.cept_codes.proofs.Laws.{entry_past, indexed_more, indexed_none, length-list_by_index, value_at-table, IsTable-table}
 use Rattle.cept_profile.specs.Attributes.{first_value, cascade}
 use Rattle.cept_profile.specs.Colours.{ink, default_paints, default_paint, fore_paint, back_paint, paint_over}
 use Rattle.cept_profile.specs.Look.{shape_of, shape_of_sign, attributes_of, look_of, look, looks_of, grid}
 use Rattle.cept_profile.specs.Look.{contents_of_row, is_last_row, look_in_row, look_with_part, own_look, own_size}
-use Rattle.cept_profile.specs.Look.{part_of, shape_in}
-use Rattle.cept_profile.specs.PageParts.{paint_in, row_pen_in}
+use Rattle.cept_profile.specs.Look.{part_of, shape_by_pattern, shape_in, shape_in_set}
+use Rattle.cept_profile.specs.Definitions.{Definitions, inks_of, inks_with}
+use Rattle.cept_profile.specs.PageParts.{dclut_in, paint_in, pattern_in, row_pen_in}
 use Rattle.cept_profile.specs.RowsFromAbove.{look_by, look_from, look_seen, looks_in, row_from_above}
 use Rattle.cept_profile.specs.Serial.{held_sign, own_attributes}
 use Rattle.cept_profile.specs.Tiling.{column_entry, covers_below, is_covered_from_left, is_high, is_wide, origin_part}
@@ -35,19 +45,9 @@ use Rattle.cept_profile.specs.Tiling.{part_below, part_to_the_right}
 use Rattle.cept_profile.proofs.ColumnEntries.{column_entry-default, column_entry-row_of}
 use Rattle.cept_profile.proofs.LooksFromAbove.{look-seen, looks_in-from_above}
 use Rattle.cept_profile.proofs.MarkersInForce.{held_sign-valid}
-use Rattle.cept_profile.specs.State.{Core, Page, core}
-use Rattle.cept_profile.specs.Valid.{AllValid, IsValidPage, IsValidGrid}
+use Rattle.cept_profile.specs.State.{Core, Page, core, definitions_of}
+use Rattle.cept_profile.specs.Valid.{AllValid, AreValidDefinitions, IsValidPage, IsValidGrid}
 use Rattle.cept_profile.proofs.ValidState.{IsValidState-state}
-
-IsValidShape-sign : (g : Glyph) → IsValidGlyph g → IsValidShape (shape_of_sign g)
-IsValidShape-sign g valid =
-    cond_both (eqb g.code 0x20 && eqb g.accent 0) shapes.Space (shapes.Char g) IsValidShape (λ e. tt) (λ e. valid)
-
-pub IsValidShape-shape_of : (what : What) → IsValidWhat what → IsValidShape (shape_of what)
-IsValidShape-shape_of whats.Blank valid = tt
-IsValidShape-shape_of (whats.Serial g) valid = IsValidShape-sign g valid
-IsValidShape-shape_of (whats.Parallel g pen) valid = IsValidShape-sign g valid.0
-IsValidShape-shape_of (whats.Marker m) valid = tt
 
 -- ---- attributes and paints
 
@@ -93,49 +93,142 @@ IsValidPaint-paint_over : (fore back : Paint) → IsValidPaint fore → IsValidP
 IsValidPaint-paint_over paints.Video back is_fore is_back = is_back
 IsValidPaint-paint_over (paints.Ink c) back is_fore is_back = is_fore
 
+-- ---- inks and shapes
+
+AllByRecursion-append : (P : Paint → Type 0) (xs ys : List Paint) → AllByRecursion P xs → AllByRecursion P ys
+    → AllByRecursion P (xs ++ ys)
+AllByRecursion-append P [] ys all more = more
+AllByRecursion-append P (x ∷ xs) ys all more = (all.0, AllByRecursion-append P xs ys all.1 more)
+
+AllByRecursion-replicate : (P : Paint → Type 0) (x : Paint) → P x → (n : ℕ) → AllByRecursion P (replicate n x)
+AllByRecursion-replicate P x is zero = tt
+AllByRecursion-replicate P x is (suc n) = (is, AllByRecursion-replicate P x is n)
+
+IsValidInks-with : (xs : List Paint) (planes : ℕ) → length xs ≡ ink_count planes → length xs ≤ 16
+    → AllByRecursion IsValidPaint xs → IsValidInks (inks_with xs) planes
+IsValidInks-with xs planes count few all =
+    let others : List Paint = replicate (16 - length xs) black_paint in
+    record {
+      count = count;
+      places =
+          omega (arith, few, length-append xs others, length-replicate (16 - length xs) black_paint);
+      paints = AllByRecursion-append IsValidPaint xs others all
+          (AllByRecursion-replicate IsValidPaint black_paint IsValidPaint-black_paint (16 - length xs));
+      unused = subst (AllByRecursion (λ (paint : Paint). paint ≡ black_paint)) (sym (drop-append_seam xs others))
+          (AllByRecursion-replicate (λ (paint : Paint). paint ≡ black_paint) black_paint refl (16 - length xs));
+    }
+
+AllByRecursion-list_by_index : (f : ℕ → Paint) → ((i : ℕ) → IsValidPaint (f i)) → (from count : ℕ)
+    → AllByRecursion IsValidPaint (list_by_index from count f)
+AllByRecursion-list_by_index f valid from zero = subst (AllByRecursion IsValidPaint) (sym (indexed_none from f)) tt
+AllByRecursion-list_by_index f valid from (suc n) =
+    subst (AllByRecursion IsValidPaint)
+    (indexed_more from n (from + n) f refl
+    ∙ ap (λ (k : ℕ). list_by_index from k f) (omega arith))
+    (AllByRecursion-append IsValidPaint (list_by_index from n f) (f (from + n) ∷ [])
+    (AllByRecursion-list_by_index f valid from n) (valid (from + n), tt))
+
+IsValidInks-by : (named upper : List Paint) (planes : ℕ) → length named ≡ 4 → length upper ≡ 16
+    → AllByRecursion IsValidPaint named → AllByRecursion IsValidPaint upper → (one two : Bool) → eqb planes 1 ≡ one
+    → eqb planes 2 ≡ two
+    → IsValidInks (cond one (inks_with []) (cond two (inks_with named) (inks_with upper))) planes
+IsValidInks-by named upper planes four sixteen vn vu true two first second =
+    IsValidInks-with [] planes (sym (ap (λ (b : Bool). cond b 0 (cond (eqb planes 2) 4 16)) first)) (omega arith) tt
+IsValidInks-by named upper planes four sixteen vn vu false true first second =
+    IsValidInks-with named planes
+    (four ∙ sym (ap (λ (b : Bool). cond b 0 (cond (eqb planes 2) 4 16)) first
+    ∙ ap (λ (b : Bool). cond b 4 16) second)) (omega (arith, four)) vn
+IsValidInks-by named upper planes four sixteen vn vu false false first second =
+    IsValidInks-with upper planes
+    (sixteen ∙ sym (ap (λ (b : Bool). cond b 0 (cond (eqb planes 2) 4 16)) first
+    ∙ ap (λ (b : Bool). cond b 4 16) second)) (omega (arith, sixteen)) vu
+
+IsValidInks-inks_of : (defined : Definitions) → AreValidDefinitions defined → (planes : ℕ)
+    → IsValidInks (inks_of defined planes) planes
+unfolding inks_of
+IsValidInks-inks_of defined are planes =
+    let named : ℕ → Paint = λ i. paint_in defined.paints (dclut_in defined.dclut i) in
+    let upper : ℕ → Paint = paint_in defined.paints in
+    IsValidInks-by (list_by_index 0 4 named) (list_by_index 16 16 upper) planes (length-list_by_index 0 4 named)
+    (length-list_by_index 16 16 upper) (AllByRecursion-list_by_index named (λ i. are.paints (dclut_in defined.dclut i)) 0 4)
+    (AllByRecursion-list_by_index upper are.paints 16 16) (eqb planes 1) (eqb planes 2) refl refl
+
+IsValidShape-by_pattern : (defined : Definitions) → AreValidDefinitions defined → (g : Glyph) → IsValidGlyph g
+    → (pattern : Option Pattern) → IfSome pattern IsValidPattern → IsValidShape (shape_by_pattern defined g pattern)
+IsValidShape-by_pattern defined are g valid None is = valid
+IsValidShape-by_pattern defined are g valid (Some p) is = (is, IsValidInks-inks_of defined are p.planes)
+
+IsValidShape-in_set : (defined : Definitions) → AreValidDefinitions defined → (g : Glyph) → IsValidGlyph g
+    → (set : SetId) → IsCodeOf set g.code → IsValidShape (shape_in_set defined g set)
+IsValidShape-in_set defined are g valid sets.D code =
+    IsValidShape-by_pattern defined are g valid (pattern_in defined.patterns g.code)
+    (are.patterns g.code (omega (arith, code)))
+IsValidShape-in_set defined are g valid sets.P code = valid
+IsValidShape-in_set defined are g valid sets.S code = valid
+IsValidShape-in_set defined are g valid sets.M code = valid
+IsValidShape-in_set defined are g valid sets.N code = valid
+
+IsValidShape-sign : (defined : Definitions) → AreValidDefinitions defined → (g : Glyph) → IsValidGlyph g
+    → IsValidShape (shape_of_sign defined g)
+IsValidShape-sign defined are g valid =
+    cond_both (eqb g.code 0x20 && eqb g.accent 0) shapes.Space (shape_in_set defined g g.set) IsValidShape (λ e. tt)
+    (λ e. IsValidShape-in_set defined are g valid g.set valid.code)
+
+pub IsValidShape-shape_of : (defined : Definitions) → AreValidDefinitions defined → (what : What) → IsValidWhat what
+    → IsValidShape (shape_of defined what)
+IsValidShape-shape_of defined are whats.Blank valid = tt
+IsValidShape-shape_of defined are (whats.Serial g) valid = IsValidShape-sign defined are g valid
+IsValidShape-shape_of defined are (whats.Parallel g pen) valid = IsValidShape-sign defined are g valid.0
+IsValidShape-shape_of defined are (whats.Marker m) valid = tt
+
 -- ---- looks
 
-pub IsValidLook-look_of : (paint_of : ℕ → Paint) (row screen : Pen) (what : What)
-    → ((i : ℕ) → IsValidPaint (paint_of i)) → IsValidWhat what → IsValidLook (look_of paint_of row screen what)
+pub IsValidLook-look_of : (defined : Definitions) (row screen : Pen) (what : What) → AreValidDefinitions defined
+    → IsValidWhat what → IsValidLook (look_of defined row screen what)
 unfolding look_of
-IsValidLook-look_of paint_of row screen what paints valid = record {
-  shape = IsValidShape-shape_of what valid;
-  part = record {
-    down = omega arith;
-    right = omega arith;
-    wide = (omega arith, omega arith);
-    high = (omega arith, omega arith);
-  };
-  fore = IsValidPaint-paint_over (fore_paint paint_of (attributes_of row screen what))
-      (back_paint paint_of (attributes_of row screen what)) (paints _) (paints _);
-  back = paints _;
-}
+IsValidLook-look_of defined row screen what are valid =
+    let paint_of : ℕ → Paint = paint_in defined.paints in
+    record {
+      shape = IsValidShape-shape_of defined are what valid;
+      part = record {
+        down = omega arith;
+        right = omega arith;
+        wide = (omega arith, omega arith);
+        high = (omega arith, omega arith);
+      };
+      fore = IsValidPaint-paint_over (fore_paint paint_of (attributes_of row screen what))
+          (back_paint paint_of (attributes_of row screen what)) (are.paints _) (are.paints _);
+      back = are.paints _;
+    }
 
-IsValidShape-shape_in : (w : What) (held : Option Glyph) → IsValidWhat w → IfSome held IsValidGlyph
-    → IsValidShape (shape_in w held)
-IsValidShape-shape_in (whats.Marker m) (Some g) valid held = IsValidShape-sign g held
-IsValidShape-shape_in whats.Blank held valid is = tt
-IsValidShape-shape_in (whats.Serial g) held valid is = IsValidShape-sign g valid
-IsValidShape-shape_in (whats.Parallel g pen) held valid is = IsValidShape-sign g valid.0
-IsValidShape-shape_in (whats.Marker m) None valid is = tt
+IsValidShape-shape_in : (defined : Definitions) → AreValidDefinitions defined → (w : What) (held : Option Glyph)
+    → IsValidWhat w → IfSome held IsValidGlyph → IsValidShape (shape_in defined w held)
+IsValidShape-shape_in defined are (whats.Marker m) (Some g) valid held = IsValidShape-sign defined are g held
+IsValidShape-shape_in defined are whats.Blank held valid is = tt
+IsValidShape-shape_in defined are (whats.Serial g) held valid is = IsValidShape-sign defined are g valid
+IsValidShape-shape_in defined are (whats.Parallel g pen) held valid is = IsValidShape-sign defined are g valid.0
+IsValidShape-shape_in defined are (whats.Marker m) None valid is = tt
 
 -- the look at a column of a row of valid cells
-pub IsValidLook-look_in_row : (paint_of : ℕ → Paint) (row : ℕ → What) (pen screen : Pen) (c : ℕ) → 1 ≤ c
-    → ((i : ℕ) → IsValidPaint (paint_of i)) → ((d : ℕ) → 1 ≤ d → d ≤ c → IsValidWhat (row d))
-    → IsValidLook (look_in_row paint_of row pen screen c)
+pub IsValidLook-look_in_row : (defined : Definitions) (row : ℕ → What) (pen screen : Pen) (c : ℕ) → 1 ≤ c
+    → AreValidDefinitions defined → ((d : ℕ) → 1 ≤ d → d ≤ c → IsValidWhat (row d))
+    → IsValidLook (look_in_row defined row pen screen c)
 unfolding look_in_row
-IsValidLook-look_in_row paint_of row pen screen c low paints valid = record {
-  shape = IsValidShape-shape_in (row c) (held_sign row c) (valid c low (omega arith)) (held_sign-valid row c low valid);
-  part = record {
-    down = omega arith;
-    right = omega arith;
-    wide = (omega arith, omega arith);
-    high = (omega arith, omega arith);
-  };
-  fore = IsValidPaint-paint_over (fore_paint paint_of (own_attributes row pen screen c))
-      (back_paint paint_of (own_attributes row pen screen c)) (paints _) (paints _);
-  back = paints _;
-}
+IsValidLook-look_in_row defined row pen screen c low are valid =
+    let paint_of : ℕ → Paint = paint_in defined.paints in
+    record {
+      shape = IsValidShape-shape_in defined are (row c) (held_sign row c) (valid c low (omega arith))
+          (held_sign-valid row c low valid);
+      part = record {
+        down = omega arith;
+        right = omega arith;
+        wide = (omega arith, omega arith);
+        high = (omega arith, omega arith);
+      };
+      fore = IsValidPaint-paint_over (fore_paint paint_of (own_attributes row pen screen c))
+          (back_paint paint_of (own_attributes row pen screen c)) (are.paints _) (are.paints _);
+      back = are.paints _;
+    }
 
 -- ---- rows beneath valid looks
 
@@ -227,10 +320,25 @@ IsValidPaint-paint_in p is i =
           IsValidPaint-black_paint
     ]
 
+IsValidPattern-pattern_in : (p : Page) → IsValidPage p → (code : ℕ) → 0x21 ≤ code
+    → IfSome (pattern_in p.patterns code) IsValidPattern
+IsValidPattern-pattern_in p is code low =
+    elim (cases_lt code 0x7F) [
+      | inl below ↦ is.patterns code low (omega (arith, below))
+      | inr past ↦
+          subst (λ (pattern : Option Pattern). IfSome pattern IsValidPattern)
+          (sym (entry_past None 0x21 p.patterns code (omega (arith, is.codes, past)))) tt
+    ]
+
+-- all that signs are drawn with on a valid page
+pub AreValidDefinitions-page : (p : Page) → IsValidPage p → AreValidDefinitions (definitions_of p)
+AreValidDefinitions-page p is =
+    record { paints = IsValidPaint-paint_in p is; patterns = IsValidPattern-pattern_in p is }
+
 IsValidLook-own_look : (k : Core) → IsValidPage k.page → (r c : ℕ) → OnScreen r c → IsValidLook (own_look k r c)
 IsValidLook-own_look k is r c on =
-    IsValidLook-look_in_row (paint_in k.page.paints) (contents_of_row k r) (row_pen_in k.page.row_pens r)
-    k.page.screen_pen c on.from_left (IsValidPaint-paint_in k.page is) (λ d low high. is.cells r d (record {
+    IsValidLook-look_in_row (definitions_of k.page) (contents_of_row k r) (row_pen_in k.page.row_pens r)
+    k.page.screen_pen c on.from_left (AreValidDefinitions-page k.page is) (λ d low high. is.cells r d (record {
       from_top = on.from_top;
       to_bottom = on.to_bottom;
       from_left = low;

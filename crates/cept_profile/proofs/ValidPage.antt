@@ -1,9 +1,9 @@
 -- Valid pages: the strokes of a valid command in a valid state keep them valid.
-use Rattle.std.proofs.Common.{◌≡◌, ℕ, ◌<◌, ◌≤◌, zero, suc, Bool, true, false, not, ◌&&◌, cond, eqb, leb, ltb, Option}
-use Rattle.std.proofs.Common.{Some, None, List, [], ◌∷◌, ◌++◌, length, refl, sym, ◌∙◌, ap, subst, arith}
+use Rattle.std.proofs.Common.{◌≡◌, ℕ, ◌+◌, ◌-◌, ◌<◌, ◌≤◌, zero, suc, Bool, true, false, not, ◌&&◌, cond, eqb, leb, ltb, Option}
+use Rattle.std.proofs.Common.{Some, None, List, [], ◌∷◌, ◌++◌, length, refl, sym, ◌∙◌, ap, subst, arith, ◌⊎◌, inl, inr}
 use Rattle.std.specs.List.{AllByRecursion}
 use Rattle.std.specs.Prelude.{IfSome}
-use Rattle.std.proofs.lemmas.Bool.{cond_both, and_parts, eqb-true, ltb-true}
+use Rattle.std.proofs.lemmas.Bool.{cond_both, and_parts, eqb-true, eqb-false, leb-true, ltb-true}
 use Rattle.cept_codes.specs.declared.attribute.Attr.{Attr}
 use Rattle.cept_codes.specs.declared.attribute.Pen.{Pen}
 use Rattle.cept_codes.specs.declared.cell.Cell.{Cell}
@@ -17,11 +17,13 @@ use Rattle.cept_codes.specs.declared.stroke.Stroke.{Stroke}
 use Rattle.cept_codes.specs.declared.stroke.Stroke.TheVariants as strokes
 use Rattle.cept_codes.specs.declared.command.C1Set.{C1Set}
 use Rattle.cept_codes.specs.declared.command.C1Set.TheVariants as c1sets
+use Rattle.cept_codes.specs.declared.command.Up.{Up}
+use Rattle.cept_codes.specs.declared.command.Up.TheVariants as ways
 use Rattle.cept_codes.specs.declared.glyph.Read.{Read}
 use Rattle.cept_codes.specs.declared.glyph.Read.TheVariants as reads
 use Rattle.cept_codes.specs.Attribute.{IsRowAttr, IsScreenAttr, IsValidPen}
 use Rattle.cept_codes.specs.Cell.{IsValidCell, IsValidMarker, IsValidWhat, blank_cell}
-use Rattle.cept_codes.specs.Command.{IsValidCommand}
+use Rattle.cept_codes.specs.Command.{IsArea, IsValidCommand}
 use Rattle.cept_codes.specs.Glyph.{IsValidGlyph}
 use Rattle.cept_codes.specs.Place.{Place, OnScreen}
 use Rattle.cept_codes.specs.Stroke.{IsRow, IsValidStroke}
@@ -30,7 +32,9 @@ use Rattle.cept_codes.proofs.Laws.{value_at-table, IsTable-table}
 use Rattle.cept_profile.specs.Cells.{is_at, cell_after, cells_after, cells_after_all}
 use Rattle.cept_profile.specs.Control.{ControlState, state_for_effect}
 use Rattle.cept_profile.specs.Markers.{marker_of, strokes_of_any_marker, strokes_of_marker}
-use Rattle.cept_profile.specs.Motions.{on_strokes, back_strokes}
+use Rattle.cept_profile.specs.Control.{Working, control_after, control_after_service, control_effect}
+use Rattle.cept_profile.specs.Motions.{area_in_force, area_within, back_strokes, on_strokes, scrolling_area}
+use Rattle.cept_profile.specs.Motions.{strokes_of_shift}
 use Rattle.cept_profile.specs.Pens.{attribute_of, flash_of, strokes_of_attribute, strokes_of_code}
 use Rattle.cept_profile.specs.Pens.{strokes_of_flash, strokes_of_reveal, strokes_of_row_attribute}
 use Rattle.cept_profile.specs.Sets.{IsValidRead}
@@ -40,7 +44,9 @@ use Rattle.cept_profile.specs.Writing.{columns_of_sign, sign_with_accent, contro
 use Rattle.cept_profile.specs.Writing.{strokes_of_copies, strokes_of_read, strokes_of_repeat, graphic_result}
 use Rattle.cept_profile.specs.Writing.{strokes_of_sign}
 use Rattle.cept_profile.proofs.CopiesOfSigns.{length-strokes_of_copies}
-use Rattle.cept_profile.proofs.MotionStrokes.{on_strokes-none, back_strokes-none}
+use Rattle.cept_profile.proofs.MotionStrokes.{by_above, by_back_strokes, by_below, by_on_strokes, length-above_strokes}
+use Rattle.cept_profile.proofs.MotionStrokes.{length-back_strokes, length-below_strokes, length-on_strokes}
+use Rattle.cept_profile.proofs.MotionStrokes.{length-strokes_of_shift}
 use Rattle.cept_profile.proofs.ValidAttributes.{IsRowAttr-attribute_of, IsScreenAttr-attribute_of}
 use Rattle.cept_profile.proofs.ValidControl.{IsValidControl-control_after_copies, IsValidControl-state_for_effect}
 use Rattle.cept_profile.proofs.ValidControl.{IsValidGlyph-sign_with_accent, IsValidRead-graphic_result}
@@ -62,7 +68,7 @@ pub record AreValidCells (rows : ℕ) (cells : ℕ → ℕ → Cell) : Type 0 wh
 abbrev pub IsSafe : ℕ → Stroke → Type 0
 IsSafe rows (strokes.Put p cell) = OnScreen p.row p.column × (p.row ≤ rows) × IsValidCell cell × IsFree cell
 IsSafe rows (strokes.RowAttr r attr) = (r ≤ rows) × IsRow r × IsRowAttr attr
-IsSafe rows (strokes.Shift a b way) = ⊥
+IsSafe rows (strokes.Shift a b way) = IsArea a b × (b ≤ rows)
 IsSafe rows (strokes.Format count) = ⊥
 IsSafe rows stroke = IsValidStroke stroke
 
@@ -70,7 +76,7 @@ pub IsValidStroke-safe : (rows : ℕ) (stroke : Stroke) → IsSafe rows stroke �
 IsValidStroke-safe rows (strokes.Put p cell) safe = (safe.0, safe.2)
 IsValidStroke-safe rows (strokes.Erase r from) safe = safe
 IsValidStroke-safe rows strokes.Wipe safe = tt
-IsValidStroke-safe rows (strokes.Shift a b way) safe = absurd safe
+IsValidStroke-safe rows (strokes.Shift a b way) safe = safe.0
 IsValidStroke-safe rows (strokes.RowAttr r attr) safe = (safe.1, safe.2)
 IsValidStroke-safe rows (strokes.ScreenAttr attr) safe = safe
 IsValidStroke-safe rows strokes.ScreenClear safe = tt
@@ -114,13 +120,69 @@ AreValidCells-erase rows row from was is = record {
       (λ e. is.past r c on below);
 }
 
+-- a shift within the format
+AreValidCells-shift : (rows a b : ℕ) (way : Up) (was : ℕ → ℕ → Cell) → AreValidCells rows was → IsArea a b → b ≤ rows
+    → AreValidCells rows (cell_after (strokes.Shift a b way) was)
+AreValidCells-shift rows a b ways.Up was is area within = record {
+  valid = λ r c on.
+      cond_both (leb a r && leb r b) (cond (eqb r b) blank_cell (was (r + 1) c)) (was r c) IsValidCell
+      (λ e. let high = leb-true r b (and_parts (leb a r) (leb r b) e).1 in
+      cond_both (eqb r b) blank_cell (was (r + 1) c) IsValidCell (λ l. tt)
+      (λ l. let apart = eqb-false r b l in is.valid (r + 1) c (record {
+        from_top = omega arith;
+        to_bottom = omega (arith, area, high, apart);
+        from_left = on.from_left;
+        to_right = on.to_right;
+      }))) (λ e. is.valid r c on);
+  free = λ r c on.
+      cond_both (leb a r && leb r b) (cond (eqb r b) blank_cell (was (r + 1) c)) (was r c) IsFree
+      (λ e. let high = leb-true r b (and_parts (leb a r) (leb r b) e).1 in
+      cond_both (eqb r b) blank_cell (was (r + 1) c) IsFree (λ l. λ _. refl)
+      (λ l. let apart = eqb-false r b l in is.free (r + 1) c (record {
+        from_top = omega arith;
+        to_bottom = omega (arith, area, high, apart);
+        from_left = on.from_left;
+        to_right = on.to_right;
+      }))) (λ e. is.free r c on);
+  past = λ r c on after.
+      cond_both (leb a r && leb r b) (cond (eqb r b) blank_cell (was (r + 1) c)) (was r c) (λ x. x ≡ blank_cell)
+      (λ e. let high = leb-true r b (and_parts (leb a r) (leb r b) e).1 in absurd (omega arith))
+      (λ e. is.past r c on after);
+}
+AreValidCells-shift rows a b ways.Down was is area within = record {
+  valid = λ r c on.
+      cond_both (leb a r && leb r b) (cond (eqb r a) blank_cell (was (r - 1) c)) (was r c) IsValidCell
+      (λ e. let low = leb-true a r (and_parts (leb a r) (leb r b) e).0 in
+      cond_both (eqb r a) blank_cell (was (r - 1) c) IsValidCell (λ l. tt)
+      (λ l. let apart = eqb-false r a l in is.valid (r - 1) c (record {
+        from_top = omega (arith, area, low, apart);
+        to_bottom = omega (arith, on);
+        from_left = on.from_left;
+        to_right = on.to_right;
+      }))) (λ e. is.valid r c on);
+  free = λ r c on.
+      cond_both (leb a r && leb r b) (cond (eqb r a) blank_cell (was (r - 1) c)) (was r c) IsFree
+      (λ e. let low = leb-true a r (and_parts (leb a r) (leb r b) e).0 in
+      cond_both (eqb r a) blank_cell (was (r - 1) c) IsFree (λ l. λ _. refl)
+      (λ l. let apart = eqb-false r a l in is.free (r - 1) c (record {
+        from_top = omega (arith, area, low, apart);
+        to_bottom = omega (arith, on);
+        from_left = on.from_left;
+        to_right = on.to_right;
+      }))) (λ e. is.free r c on);
+  past = λ r c on after.
+      cond_both (leb a r && leb r b) (cond (eqb r a) blank_cell (was (r - 1) c)) (was r c) (λ x. x ≡ blank_cell)
+      (λ e. let high = leb-true r b (and_parts (leb a r) (leb r b) e).1 in absurd (omega arith))
+      (λ e. is.past r c on after);
+}
+
 pub AreValidCells-cell_after : (rows : ℕ) (stroke : Stroke) (was : ℕ → ℕ → Cell) → AreValidCells rows was
     → IsSafe rows stroke → AreValidCells rows (cell_after stroke was)
 AreValidCells-cell_after rows (strokes.Put p cell) was is safe =
     AreValidCells-put rows p cell was is safe.0 safe.1 safe.2 safe.3
 AreValidCells-cell_after rows strokes.Wipe was is safe = AreValidCells-blank_cell rows
 AreValidCells-cell_after rows (strokes.Erase r from) was is safe = AreValidCells-erase rows r from was is
-AreValidCells-cell_after rows (strokes.Shift a b way) was is safe = is
+AreValidCells-cell_after rows (strokes.Shift a b way) was is safe = AreValidCells-shift rows a b way was is safe.0 safe.1
 AreValidCells-cell_after rows (strokes.RowAttr r attr) was is safe = is
 AreValidCells-cell_after rows (strokes.ScreenAttr attr) was is safe = is
 AreValidCells-cell_after rows strokes.ScreenClear was is safe = is
@@ -178,11 +240,30 @@ content_is_not_blank c1sets.Parallel g pen e = parallel_is_not_blank g pen e
 content_is_not_blank c1sets.Serial g pen e = serial_is_not_blank g e
 
 -- the strokes of motions
-IsSafe-on_strokes : (s : ControlState) (n : ℕ) → AllByRecursion (IsSafe s.rows) (on_strokes s n)
-IsSafe-on_strokes s n = subst (λ (xs : List Stroke). AllByRecursion (IsSafe s.rows) xs) (sym (on_strokes-none s n)) tt
+IsSafe-area_within : (way : Up) (rows : ℕ) (area : Option (ℕ × ℕ)) → IfSome area (λ a. IsArea a.0 a.1)
+    → AllByRecursion (IsSafe rows) (strokes_of_shift way (area_within rows area))
+IsSafe-area_within way rows None is = tt
+IsSafe-area_within way rows (Some area) is =
+    cond_both (leb area.1 rows) (Some area) None
+    (λ (there : Option (ℕ × ℕ)). AllByRecursion (IsSafe rows) (strokes_of_shift way there))
+    (λ e. ((is, leb-true area.1 rows e), tt)) (λ e. tt)
 
-IsSafe-back_strokes : (s : ControlState) → AllByRecursion (IsSafe s.rows) (back_strokes s)
-IsSafe-back_strokes s = subst (λ (xs : List Stroke). AllByRecursion (IsSafe s.rows) xs) (sym (back_strokes-none s)) tt
+IsSafe-shift : (way : Up) (s : ControlState) → IsValidControl s
+    → AllByRecursion (IsSafe s.rows) (strokes_of_shift way (area_in_force s))
+IsSafe-shift way s is = IsSafe-area_within way s.rows s.area is.area
+
+IsSafe-scroll : (way : Up) (s : ControlState) → IsValidControl s
+    → AllByRecursion (IsSafe s.rows) (strokes_of_shift way (scrolling_area s))
+IsSafe-scroll way s is =
+    cond_both s.implicit (area_in_force s) None
+    (λ (there : Option (ℕ × ℕ)). AllByRecursion (IsSafe s.rows) (strokes_of_shift way there))
+    (λ e. IsSafe-shift way s is) (λ e. tt)
+
+IsSafe-on_strokes : (s : ControlState) (n : ℕ) → IsValidControl s → AllByRecursion (IsSafe s.rows) (on_strokes s n)
+IsSafe-on_strokes s n is = by_on_strokes (AllByRecursion (IsSafe s.rows)) s n tt (IsSafe-scroll ways.Up s is)
+
+IsSafe-back_strokes : (s : ControlState) → IsValidControl s → AllByRecursion (IsSafe s.rows) (back_strokes s)
+IsSafe-back_strokes s is = by_back_strokes (AllByRecursion (IsSafe s.rows)) s tt (IsSafe-scroll ways.Down s is)
 
 pub IsSafe-strokes_of_sign : (s : ControlState) (g : Glyph) → IsValidControl s → IsValidGlyph g
     → AllByRecursion (IsSafe s.rows) (strokes_of_sign s g)
@@ -194,7 +275,7 @@ IsSafe-strokes_of_sign s g is valid = (
     λ blank_is.
         absurd (content_is_not_blank s.working.c1 g s.working.pen blank_is),
   ),
-  IsSafe-on_strokes s (columns_of_sign s),
+  IsSafe-on_strokes s (columns_of_sign s) is,
 )
 
 IsSafe-strokes_of_read : (s : ControlState) (read : Read) → IsValidControl s → IsValidRead read
@@ -233,7 +314,7 @@ marker_is_not_blank m e = cc
 IsSafe-marker : (s : ControlState) (m : Marker) → IsValidControl s → IsValidMarker m
     → AllByRecursion (IsSafe s.rows) (strokes_of_marker s m)
 IsSafe-marker s m is valid =
-    ((is.working.place, is.within, valid, λ blank_is. absurd (marker_is_not_blank m blank_is)), IsSafe-on_strokes s 1)
+    ((is.working.place, is.within, valid, λ blank_is. absurd (marker_is_not_blank m blank_is)), IsSafe-on_strokes s 1 is)
 
 IsSafe-any_marker : (s : ControlState) (m : Option Marker) → IsValidControl s → IfSome m IsValidMarker
     → AllByRecursion (IsSafe s.rows) (strokes_of_any_marker s m)
@@ -294,37 +375,88 @@ IsSafe-attribute : (s : ControlState) (attr : Option Attr) → IfSome attr IsScr
 IsSafe-attribute s None valid = tt
 IsSafe-attribute s (Some attr) valid = (valid, tt)
 
+rows-control_after_service : (s : ControlState) (kept : Option Working) → (control_after_service s kept).rows ≡ s.rows
+rows-control_after_service s None = refl
+rows-control_after_service s (Some w) = refl
+
+-- a format of so many rows, a wipe, and safe strokes in it
+pub record BeginsAnew (rows : ℕ) (xs : List Stroke) : Type 0 where
+  pub rest : List Stroke
+  pub is : xs ≡ strokes.Format rows ∷ strokes.Wipe ∷ rest
+  pub format : (rows ≡ 24) ⊎ (rows ≡ 20)
+  pub safe : AllByRecursion (IsSafe rows) rest
+
+-- strokes that are safe in a format of so many rows before and after
+abbrev pub LeadsTo : ℕ → ℕ → List Stroke → Type 0
+LeadsTo before after xs = (AllByRecursion (IsSafe before) xs × (after ≡ before)) ⊎ BeginsAnew after xs
+
 IsSafe-strokes_when : (s : ControlState) (command : Command) → IsValidControl s → IsValidCommand command
-    → AllByRecursion (IsSafe s.rows) (strokes_when s command)
-IsSafe-strokes_when s commands.Back is valid = IsSafe-back_strokes s
-IsSafe-strokes_when s commands.Forward is valid = IsSafe-on_strokes s 1
-IsSafe-strokes_when s commands.Clear is valid = (tt, tt)
-IsSafe-strokes_when s (commands.Graphic byte) is valid =
-    IsSafe-strokes_of_read s (graphic_result s byte).read is (IsValidRead-graphic_result s byte valid)
-IsSafe-strokes_when s (commands.Repeat n) is valid = IsSafe-strokes_of_repeat n s s.working.last is is.working.last
-IsSafe-strokes_when s commands.Cancel is valid = (is.working.place, tt)
-IsSafe-strokes_when s (commands.C1 n) is valid = IsSafe-code s s.working.c1 n is
-IsSafe-strokes_when s (commands.FlashMode k) is valid = IsSafe-flash s s.working.c1 k is
-IsSafe-strokes_when s commands.StopConceal is valid = IsSafe-reveal s s.working.c1 is
-IsSafe-strokes_when s (commands.FullScreen n) is valid =
-    IsSafe-attribute s (attribute_of s.working.table n)
-    (IsScreenAttr-attribute_of s.working.table n is.working.table valid)
-IsSafe-strokes_when s (commands.FullRow n) is valid =
-    IsSafe-row_attribute s (attribute_of s.working.table n) is
-    (IsRowAttr-attribute_of s.working.table n is.working.table)
-IsSafe-strokes_when s commands.ColourDefaults is valid = (tt, tt)
-IsSafe-strokes_when s (commands.Entry i colour) is valid = ((omega (arith, valid.0), valid.1), tt)
-IsSafe-strokes_when s (commands.Dclut i entry) is valid = ((valid.0, omega (arith, valid.1)), tt)
-IsSafe-strokes_when s _ is valid = tt
+    → LeadsTo s.rows (control_effect s command).rows (strokes_when s command)
+IsSafe-strokes_when s commands.Back is valid = inl ((IsSafe-back_strokes s is), refl)
+IsSafe-strokes_when s commands.Forward is valid = inl ((IsSafe-on_strokes s 1 is), refl)
+IsSafe-strokes_when s commands.Down is valid = inl ((by_below (AllByRecursion (IsSafe s.rows)) s s.working.row tt (IsSafe-scroll ways.Up s is)), refl)
+IsSafe-strokes_when s commands.Up is valid = inl ((by_above (AllByRecursion (IsSafe s.rows)) s s.working.row tt (IsSafe-scroll ways.Down s is)), refl)
+IsSafe-strokes_when s commands.ScrollUp is valid = inl ((IsSafe-shift ways.Up s is), refl)
+IsSafe-strokes_when s commands.ScrollDown is valid = inl ((IsSafe-shift ways.Down s is), refl)
+IsSafe-strokes_when s commands.Clear is valid = inl (((tt, tt)), refl)
+IsSafe-strokes_when s (commands.Graphic byte) is valid = inl ((IsSafe-strokes_of_read s (graphic_result s byte).read is (IsValidRead-graphic_result s byte valid)), refl)
+IsSafe-strokes_when s (commands.Repeat n) is valid = inl ((IsSafe-strokes_of_repeat n s s.working.last is is.working.last), refl)
+IsSafe-strokes_when s commands.Cancel is valid = inl (((is.working.place, tt)), refl)
+IsSafe-strokes_when s (commands.C1 n) is valid = inl ((IsSafe-code s s.working.c1 n is), refl)
+IsSafe-strokes_when s (commands.FlashMode k) is valid = inl ((IsSafe-flash s s.working.c1 k is), refl)
+IsSafe-strokes_when s commands.StopConceal is valid = inl ((IsSafe-reveal s s.working.c1 is), refl)
+IsSafe-strokes_when s (commands.FullScreen n) is valid = inl (
+  (IsSafe-attribute s (attribute_of s.working.table n)
+      (IsScreenAttr-attribute_of s.working.table n is.working.table valid)),
+  refl,
+)
+IsSafe-strokes_when s (commands.FullRow n) is valid = inl (
+  (IsSafe-row_attribute s (attribute_of s.working.table n) is
+      (IsRowAttr-attribute_of s.working.table n is.working.table)),
+  refl,
+)
+IsSafe-strokes_when s commands.ColourDefaults is valid = inl (((tt, tt)), refl)
+IsSafe-strokes_when s (commands.Entry i colour) is valid = inl ((((omega (arith, valid.0), valid.1), tt)), refl)
+IsSafe-strokes_when s (commands.Dclut i entry) is valid = inl ((((valid.0, omega (arith, valid.1)), tt)), refl)
+IsSafe-strokes_when s (commands.DrcsHeader true form) is valid = inl (((tt, tt)), refl)
+IsSafe-strokes_when s (commands.DrcsHeader false form) is valid = inl ((tt), refl)
+IsSafe-strokes_when s (commands.DrcsPattern code pattern) is valid = inl (((valid, tt)), refl)
+IsSafe-strokes_when s (commands.Format rows wrap) is valid =
+    inr (record { rest = []; is = refl; format = valid; safe = tt })
+IsSafe-strokes_when s (commands.FullDefaults set) is valid = inr (record {
+  rest = strokes.ScreenClear ∷ strokes.ColourDefaults ∷ strokes.DrcsClear ∷ [];
+  is = refl;
+  format = inl refl;
+  safe = (tt, (tt, (tt, tt)));
+})
+IsSafe-strokes_when s commands.ServiceEnd is valid = inl (tt, rows-control_after_service s s.kept)
+IsSafe-strokes_when s _ is valid = inl (tt, refl)
 
 pub IsSafe-strokes_of : (s : ControlState) (command : Command) → IsValidControl s → IsValidCommand command
-    → AllByRecursion (IsSafe s.rows) (strokes_of s command)
+    → LeadsTo s.rows (control_after s command).rows (strokes_of s command)
 IsSafe-strokes_of s command is valid =
     IsSafe-strokes_when (state_for_effect s command) command (IsValidControl-state_for_effect s command is) valid
 
+-- ---- such strokes are valid
+
+AllByRecursion-weaker : {X : Type 0} (P Q : X → Type 0) → ((x : X) → P x → Q x) → (xs : List X)
+    → AllByRecursion P xs → AllByRecursion Q xs
+AllByRecursion-weaker P Q gives [] all = tt
+AllByRecursion-weaker P Q gives (x ∷ xs) all = (gives x all.0, AllByRecursion-weaker P Q gives xs all.1)
+
+pub IsValidStroke-leads_to : (before after : ℕ) (xs : List Stroke) → LeadsTo before after xs
+    → AllByRecursion IsValidStroke xs
+IsValidStroke-leads_to before after xs (inl (safe, same)) =
+    AllByRecursion-weaker (IsSafe before) IsValidStroke (IsValidStroke-safe before) xs safe
+IsValidStroke-leads_to before after xs (inr anew) =
+    subst (AllByRecursion IsValidStroke) (sym anew.is)
+    (anew.format, (tt, AllByRecursion-weaker (IsSafe after) IsValidStroke (IsValidStroke-safe after) anew.rest anew.safe))
+
+-- ---- how many there are
+
 length-strokes_of_read : (s : ControlState) (read : Read) → length (strokes_of_read s read) ≤ 128
 length-strokes_of_read s (reads.Accent code) = omega arith
-length-strokes_of_read s (reads.Glyph g) = omega (arith, ap length (on_strokes-none s (columns_of_sign s)))
+length-strokes_of_read s (reads.Glyph g) = omega (arith, length-on_strokes s (columns_of_sign s))
 
 length-strokes_of_repeat : (n : ℕ) (s : ControlState) (last : Option Glyph) → n ≤ 63
     → length (strokes_of_repeat n s last) ≤ 128
@@ -332,7 +464,7 @@ length-strokes_of_repeat n s None low = omega arith
 length-strokes_of_repeat n s (Some g) low = omega (arith, length-strokes_of_copies n s g)
 
 length-marker : (s : ControlState) (m : Marker) → length (strokes_of_marker s m) ≤ 128
-length-marker s m = omega (arith, ap length (on_strokes-none s 1))
+length-marker s m = omega (arith, length-on_strokes s 1)
 
 length-any_marker : (s : ControlState) (m : Option Marker) → length (strokes_of_any_marker s m) ≤ 128
 length-any_marker s None = omega arith
@@ -360,8 +492,12 @@ length-attribute (Some attr) = omega arith
 
 length-strokes_when : (s : ControlState) (command : Command) → IsValidCommand command
     → length (strokes_when s command) ≤ 128
-length-strokes_when s commands.Back valid = omega (arith, ap length (back_strokes-none s))
-length-strokes_when s commands.Forward valid = omega (arith, ap length (on_strokes-none s 1))
+length-strokes_when s commands.Back valid = omega (arith, length-back_strokes s)
+length-strokes_when s commands.Forward valid = omega (arith, length-on_strokes s 1)
+length-strokes_when s commands.Down valid = omega (arith, length-below_strokes s s.working.row)
+length-strokes_when s commands.Up valid = omega (arith, length-above_strokes s s.working.row)
+length-strokes_when s commands.ScrollUp valid = omega (arith, length-strokes_of_shift ways.Up (area_in_force s))
+length-strokes_when s commands.ScrollDown valid = omega (arith, length-strokes_of_shift ways.Down (area_in_force s))
 length-strokes_when s commands.Clear valid = omega arith
 length-strokes_when s (commands.Graphic byte) valid = length-strokes_of_read s (graphic_result s byte).read
 length-strokes_when s (commands.Repeat n) valid = length-strokes_of_repeat n s s.working.last valid
@@ -371,6 +507,8 @@ length-strokes_when s commands.StopConceal valid = length-reveal s s.working.c1
 length-strokes_when s (commands.FullScreen n) valid = length-attribute (attribute_of s.working.table n)
 length-strokes_when s (commands.FullRow n) valid =
     length-row_attribute s.working.row (attribute_of s.working.table n)
+length-strokes_when s (commands.DrcsHeader true form) valid = omega arith
+length-strokes_when s (commands.DrcsHeader false form) valid = omega arith
 length-strokes_when s _ valid = omega arith
 
 pub length-strokes_of : (s : ControlState) (command : Command) → IsValidCommand command

@@ -1,5 +1,6 @@
 -- Valid parts of the page beside its cells: strokes that are safe keep them valid.
-use Rattle.std.proofs.Common.{◌≡◌, ℕ, ◌+◌, ◌≤◌, ◌<◌, ◌%◌, zero, suc, eqb, inl, inr, None, List, [], ◌∷◌}
+use Rattle.std.proofs.Common.{◌≡◌, ℕ, ◌+◌, ◌≤◌, ◌<◌, ◌%◌, zero, suc, eqb, inl, inr, Option, Some, None, List}
+use Rattle.std.proofs.Common.{[], ◌∷◌}
 use Rattle.std.proofs.Common.{length, refl, sym, ◌∙◌, subst, arith, rules}
 use Rattle.std.specs.List.{AllByRecursion}
 use Rattle.std.specs.Prelude.{IfSome, slice_index_or}
@@ -9,16 +10,18 @@ use Rattle.cept_codes.specs.declared.attribute.Attr.TheVariants as attrs
 use Rattle.cept_codes.specs.declared.attribute.Pen.{Pen}
 use Rattle.cept_codes.specs.declared.look.Paint.{Paint}
 use Rattle.cept_codes.specs.declared.look.Paint.TheVariants as paints
+use Rattle.cept_codes.specs.declared.look.Pattern.{Pattern}
 use Rattle.cept_codes.specs.declared.stroke.Stroke.{Stroke}
 use Rattle.cept_codes.specs.declared.stroke.Stroke.TheVariants as strokes
 use Rattle.cept_codes.specs.Attribute.{IsEntry, IsPlainFlash, IsRowAttr, IsRowPen, IsScreenAttr, IsScreenPen, unset_pen}
-use Rattle.cept_codes.specs.Look.{IsValidRgb, black_paint}
+use Rattle.cept_codes.specs.Look.{IsValidPattern, IsValidRgb, black_paint}
 use Rattle.cept_codes.specs.Stroke.{IsPaintOf}
 use Rattle.cept_codes.proofs.Laws.{entry-list_by_index, length-list_by_index}
 use Rattle.cept_profile.specs.Colours.{default_paint, default_paints}
 use Rattle.cept_profile.specs.PageParts.{row_pen_after, screen_pen_after, paint_after, dclut_after, list_of_rows}
 use Rattle.cept_profile.specs.PageParts.{list_of_colours, list_of_dclut, row_pen_in, paint_in, dclut_in, row_pens_after}
-use Rattle.cept_profile.specs.PageParts.{paints_after, dclut_list_after, part_after_all}
+use Rattle.cept_profile.specs.PageParts.{paints_after, dclut_list_after, list_of_codes, part_after_all, pattern_after}
+use Rattle.cept_profile.specs.PageParts.{pattern_in, patterns_after}
 use Rattle.cept_profile.specs.Pens.{pen_with}
 use Rattle.cept_profile.proofs.ValidAttributes.{IsValidAttr-row}
 use Rattle.cept_profile.proofs.ValidControl.{IsValidPen-pen_with, IsValidPen-unset_pen}
@@ -203,3 +206,32 @@ pub IsValidDclut-after : (rows : ℕ) (dclut : List ℕ) (stroke : Stroke) → I
 IsValidDclut-after rows dclut stroke is safe =
     IsValidDclut-list (dclut_after stroke (dclut_in dclut))
     (λ i low. IsEntry-dclut_after rows stroke (dclut_in dclut) i low (is.valid i low) safe)
+
+-- ---- the patterns
+
+-- 94 codes
+pub record AreValidPatterns (patterns : List (Option Pattern)) : Type 0 where
+  pub long : length patterns ≡ 94
+  pub valid : (d : ℕ) → 0x21 ≤ d → d ≤ 0x7E → IfSome (pattern_in patterns d) IsValidPattern
+
+pub AreValidPatterns-list : (pattern_of : ℕ → Option Pattern)
+    → ((d : ℕ) → 0x21 ≤ d → d ≤ 0x7E → IfSome (pattern_of d) IsValidPattern) → AreValidPatterns (list_of_codes pattern_of)
+AreValidPatterns-list pattern_of valid = record {
+  long = length-list_by_index 0x21 94 pattern_of;
+  valid = λ d low high. subst (λ (p : Option Pattern). IfSome p IsValidPattern)
+      (sym (entry-list_by_index None 0x21 94 pattern_of d low (omega (arith, high)))) (valid d low high);
+}
+
+IsValidPattern-pattern_after : (rows : ℕ) (stroke : Stroke) (was : ℕ → Option Pattern) (d : ℕ)
+    → IfSome (was d) IsValidPattern → IsSafe rows stroke → IfSome (pattern_after stroke was d) IsValidPattern
+IsValidPattern-pattern_after rows (strokes.Drcs code pattern) was d is safe =
+    cond_both (eqb code d) (Some pattern) (was d) (λ (p : Option Pattern). IfSome p IsValidPattern) (λ e. safe.2)
+    (λ e. is)
+IsValidPattern-pattern_after rows strokes.DrcsClear was d is safe = tt
+IsValidPattern-pattern_after rows _ was d is safe = is
+
+pub AreValidPatterns-after : (rows : ℕ) (patterns : List (Option Pattern)) (stroke : Stroke)
+    → AreValidPatterns patterns → IsSafe rows stroke → AreValidPatterns (patterns_after patterns stroke)
+AreValidPatterns-after rows patterns stroke is safe =
+    AreValidPatterns-list (pattern_after stroke (pattern_in patterns))
+    (λ d low high. IsValidPattern-pattern_after rows stroke (pattern_in patterns) d (is.valid d low high) safe)

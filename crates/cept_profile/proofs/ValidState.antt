@@ -1,30 +1,34 @@
 -- Valid states: the initial state is valid, and every valid command keeps it valid.
-use Rattle.std.proofs.Common.{◌≡◌, ℕ, List, [], ◌∷◌, reverse, refl, sym, ◌∙◌, ap, subst, arith}
+use Rattle.std.proofs.Common.{◌≡◌, ℕ, inl, inr, None, List, [], ◌∷◌, reverse, refl, sym, ◌∙◌, ap, subst, arith}
 use Rattle.std.specs.List.{AllByRecursion}
 use Rattle.std.proofs.lemmas.List.{reverse-append, reverse-reverse}
 use Rattle.cept_codes.specs.declared.command.Command.{Command}
 use Rattle.cept_codes.specs.declared.command.Command.TheVariants as commands
 use Rattle.cept_codes.specs.declared.stroke.Stroke.{Stroke}
+use Rattle.cept_codes.specs.declared.stroke.Stroke.TheVariants as strokes
 use Rattle.cept_codes.specs.Attribute.{IsScreenPen, unset_pen}
 use Rattle.cept_codes.specs.Cell.{blank_cell}
 use Rattle.cept_codes.specs.Command.{IsValidCommand}
 use Rattle.cept_codes.specs.Stroke.{IsValidStroke}
-use Rattle.cept_profile.specs.Cells.{cell_back}
-use Rattle.cept_profile.specs.Control.{ControlState, state_for_effect, control_effect}
+use Rattle.cept_profile.specs.Cells.{cell_back, cells_after_all}
+use Rattle.cept_profile.specs.Control.{control_after}
 use Rattle.cept_profile.specs.Colours.{default_paint}
 use Rattle.cept_profile.specs.PageParts.{row_pens_after, screen_pen_after, paints_after, dclut_list_after}
+use Rattle.cept_profile.specs.PageParts.{dclut_in, list_of_codes, list_of_colours, list_of_dclut, paint_in, pattern_in}
+use Rattle.cept_profile.specs.PageParts.{part_after_all, patterns_after}
 use Rattle.cept_profile.specs.State.{Page, State, blank_page, core_of, page_after, state, state_after}
 use Rattle.cept_profile.specs.Strokes.{strokes_of}
 use Rattle.cept_profile.specs.Valid.{AllValid, IsValidControl, IsValidCore, IsValidState}
-use Rattle.cept_profile.proofs.OneMoreState.{state-one_more}
+use Rattle.cept_profile.proofs.OneMoreState.{AllByRecursion-reverse, state-one_more}
 use Rattle.cept_profile.proofs.ValidControl.{IsValidControl-initial_control, IsValidControl-control_after}
-use Rattle.cept_profile.proofs.ValidPage.{AllByRecursion-append, IsSafe, IsValidStroke-safe, IsSafe-strokes_of}
+use Rattle.cept_profile.proofs.ValidPage.{IsSafe, IsSafe-strokes_of, LeadsTo}
 use Rattle.cept_profile.proofs.ValidPage.{AreValidCells-blank_cell, AreValidTables, AreValidTables-table}
 use Rattle.cept_profile.proofs.ValidPage.{AreValidTables-cells_after_all}
 use Rattle.cept_profile.proofs.ValidParts.{kept_after_all, AreValidRowPens, AreValidRowPens-after, AreValidRowPens-list}
 use Rattle.cept_profile.proofs.ValidParts.{AreValidPaints, AreValidPaints-after, AreValidPaints-list, IsValidDclut}
 use Rattle.cept_profile.proofs.ValidParts.{IsPaintOf-default_paint, IsRowPen-unset_pen, IsScreenPen-after}
 use Rattle.cept_profile.proofs.ValidParts.{IsScreenPen-unset_pen, IsValidDclut-after, IsValidDclut-list}
+use Rattle.cept_profile.proofs.ValidParts.{AreValidPatterns, AreValidPatterns-after, AreValidPatterns-list}
 
 -- a valid page of a format of so many rows: nothing after its last row
 pub record IsValidPageOf (rows : ℕ) (p : Page) : Type 0 where
@@ -33,6 +37,7 @@ pub record IsValidPageOf (rows : ℕ) (p : Page) : Type 0 where
   pub screen_pen : IsScreenPen p.screen_pen
   pub paints : AreValidPaints p.paints
   pub dclut : IsValidDclut p.dclut
+  pub patterns : AreValidPatterns p.patterns
 
 -- a valid state is valid control with a valid page of its format
 pub IsValidState-parts : (s : State) → IsValidControl s.control → IsValidPageOf s.control.rows s.page → IsValidState s
@@ -45,6 +50,8 @@ IsValidState-parts s control page = record {
     paints = page.paints.valid;
     names = page.dclut.long;
     dclut = page.dclut.valid;
+    codes = page.patterns.long;
+    patterns = page.patterns.valid;
     table = page.cells.shape;
     cells = page.cells.all.valid;
     free = page.cells.all.free;
@@ -62,6 +69,7 @@ IsValidPageOf-state s is = record {
   screen_pen = is.page.screen_pen;
   paints = record { long = is.page.colours; valid = is.page.paints };
   dclut = record { long = is.page.names; valid = is.page.dclut };
+  patterns = record { long = is.page.codes; valid = is.page.patterns };
 }
 
 IsValidPageOf-start : IsValidPageOf 24 blank_page
@@ -72,6 +80,7 @@ IsValidPageOf-start = record {
   screen_pen = IsScreenPen-unset_pen;
   paints = AreValidPaints-list default_paint IsPaintOf-default_paint;
   dclut = IsValidDclut-list (λ i. i) (λ i low. omega arith);
+  patterns = AreValidPatterns-list (λ d. None) (λ d low high. tt);
 }
 
 pub IsValidState-start : IsValidState (state [])
@@ -91,21 +100,51 @@ IsValidPageOf-page_after rows p all is safe = record {
       safe;
   dclut = kept_after_all IsValidDclut (IsSafe rows) dclut_list_after (IsValidDclut-after rows) p.dclut all is.dclut
       safe;
+  patterns = kept_after_all AreValidPatterns (IsSafe rows) patterns_after (AreValidPatterns-after rows) p.patterns all
+      is.patterns safe;
 }
 
--- while no format is built the rows stay
-rows-control_effect : (s : ControlState) (command : Command) → (control_effect s command).rows ≡ s.rows
-rows-control_effect s commands.Nul = refl
-rows-control_effect s _ = refl
+-- a page that is wiped is one of any format
+IsValidPageOf-wiped : (rows after r : ℕ) (p : Page) → IsValidPageOf rows p
+    → IsValidPageOf after (page_after p (strokes.Format r ∷ strokes.Wipe ∷ []))
+unfolding cells_after_all part_after_all
+IsValidPageOf-wiped rows after r p is = record {
+  cells = AreValidTables-table after (λ r c. blank_cell) (AreValidCells-blank_cell after);
+  row_pens = AreValidRowPens-list after (λ r. unset_pen) (λ r top bottom. IsRowPen-unset_pen)
+      (λ r top bottom past. refl);
+  screen_pen = is.screen_pen;
+  paints = AreValidPaints-list (paint_in (list_of_colours (paint_in p.paints)))
+      (AreValidPaints-list (paint_in p.paints) is.paints.valid).valid;
+  dclut = IsValidDclut-list (dclut_in (list_of_dclut (dclut_in p.dclut)))
+      (IsValidDclut-list (dclut_in p.dclut) is.dclut.valid).valid;
+  patterns = AreValidPatterns-list (pattern_in (list_of_codes (pattern_in p.patterns)))
+      (AreValidPatterns-list (pattern_in p.patterns) is.patterns.valid).valid;
+}
+
+-- and safe strokes go on from there
+page_after-anew : (p : Page) (r : ℕ) (rest : List Stroke)
+    → page_after p (strokes.Format r ∷ strokes.Wipe ∷ rest)
+    ≡ page_after (page_after p (strokes.Format r ∷ strokes.Wipe ∷ [])) rest
+unfolding cells_after_all part_after_all
+page_after-anew p r rest = refl
+
+IsValidPageOf-leads_to : (before after : ℕ) (p : Page) (xs : List Stroke) → IsValidPageOf before p
+    → LeadsTo before after xs → IsValidPageOf after (page_after p xs)
+IsValidPageOf-leads_to before after p xs is (inl (safe, same)) =
+    subst (λ (rows : ℕ). IsValidPageOf rows (page_after p xs)) (sym same)
+    (IsValidPageOf-page_after before p xs is safe)
+IsValidPageOf-leads_to before after p xs is (inr anew) =
+    subst (IsValidPageOf after)
+    (sym (ap (page_after p) anew.is ∙ page_after-anew p after anew.rest))
+    (IsValidPageOf-page_after after (page_after p (strokes.Format after ∷ strokes.Wipe ∷ [])) anew.rest
+    (IsValidPageOf-wiped before after after p is) anew.safe)
 
 pub IsValidState-state_after : (s : State) (command : Command) → IsValidState s → IsValidCommand command
     → IsValidState (state_after s command)
 IsValidState-state_after s command is valid =
     IsValidState-parts (state_after s command) (IsValidControl-control_after s.control command is.control valid)
-    (subst (λ (rows : ℕ). IsValidPageOf rows (state_after s command).page)
-    (sym (rows-control_effect (state_for_effect s.control command) command))
-    (IsValidPageOf-page_after s.control.rows s.page (strokes_of s.control command) (IsValidPageOf-state s is)
-    (IsSafe-strokes_of s.control command is.control valid)))
+    (IsValidPageOf-leads_to s.control.rows (control_after s.control command).rows s.page
+    (strokes_of s.control command) (IsValidPageOf-state s is) (IsSafe-strokes_of s.control command is.control valid))
 
 -- its core is valid
 pub IsValidCore-core_of : (s : State) → IsValidState s → IsValidCore (core_of s)
@@ -118,13 +157,6 @@ IsValidCore-core_of s is = record {
 }
 
 -- ---- lists of valid commands
-
-pub AllByRecursion-reverse : {X : Type 0} (P : X → Type 0) (xs : List X) → AllByRecursion P xs
-    → AllByRecursion P (reverse xs)
-AllByRecursion-reverse P [] all = tt
-AllByRecursion-reverse P (x ∷ xs) all =
-    subst (AllByRecursion P) (sym (reverse-append (x ∷ []) xs))
-    (AllByRecursion-append P (reverse xs) (x ∷ []) (AllByRecursion-reverse P xs all.1) (all.0, tt))
 
 -- the state after commands that are given newest first
 IsValidState-back : (newest_first : List Command) → AllValid newest_first → IsValidState (state (reverse newest_first))
@@ -139,16 +171,3 @@ pub IsValidState-state : (history : List Command) → AllValid history → IsVal
 IsValidState-state history all =
     subst (λ h. IsValidState (state h)) (reverse-reverse history)
     (IsValidState-back (reverse history) (AllByRecursion-reverse IsValidCommand history all))
-
--- ---- strokes
-
-AllByRecursion-weaker : {X : Type 0} (P Q : X → Type 0) → ((x : X) → P x → Q x) → (xs : List X)
-    → AllByRecursion P xs → AllByRecursion Q xs
-AllByRecursion-weaker P Q gives [] all = tt
-AllByRecursion-weaker P Q gives (x ∷ xs) all = (gives x all.0, AllByRecursion-weaker P Q gives xs all.1)
-
-pub IsValidStroke-strokes_of : (s : ControlState) (command : Command) → IsValidControl s → IsValidCommand command
-    → AllByRecursion IsValidStroke (strokes_of s command)
-IsValidStroke-strokes_of s command is valid =
-    AllByRecursion-weaker (IsSafe s.rows) IsValidStroke (IsValidStroke-safe s.rows) (strokes_of s command)
-    (IsSafe-strokes_of s command is valid)

@@ -10,7 +10,7 @@ use Rattle.cept_codes.specs.declared.glyph.Glyph.{Glyph}
 use Rattle.cept_codes.specs.declared.glyph.Read.{Read}
 use Rattle.cept_codes.specs.declared.glyph.Read.TheVariants as reads
 use Rattle.cept_profile.specs.Control.{Working, ControlState, working_at, working_without_accent, leaves_accent}
-use Rattle.cept_profile.specs.Control.{state_for_effect, control_after}
+use Rattle.cept_profile.specs.Control.{state_for_effect, control_after, control_after_service, kept_first}
 use Rattle.cept_profile.specs.Markers.{marker_of, working_after_any_marker}
 use Rattle.cept_profile.specs.Motions.{row_below, row_above, working_ahead, working_back}
 use Rattle.cept_profile.specs.Pens.{working_after_code, working_after_flash, working_after_reveal}
@@ -74,22 +74,36 @@ working_after_reveal-accent c1sets.Serial s = working_ahead-accent s 1 s.working
 
 -- every other command drops it
 pub accent-dropped : (s : ControlState) (command : Command) → leaves_accent command ≡ false
-    → (control_after s command).working.accent ≡ None
-accent-dropped s commands.Nul drops = absurd (false≢true (sym drops))
-accent-dropped s commands.Skipped drops = absurd (false≢true (sym drops))
-accent-dropped s (commands.Graphic byte) drops = absurd (false≢true (sym drops))
-accent-dropped s commands.Back drops =
+    → (command ≡ commands.ServiceEnd → s.kept ≡ None) → (control_after s command).working.accent ≡ None
+accent-dropped s commands.Nul drops ended = absurd (false≢true (sym drops))
+accent-dropped s commands.Skipped drops ended = absurd (false≢true (sym drops))
+accent-dropped s (commands.Graphic byte) drops ended = absurd (false≢true (sym drops))
+accent-dropped s commands.Back drops ended =
     working_back-accent (state_for_effect s commands.Back) (working_without_accent s.working)
-accent-dropped s commands.Forward drops =
+accent-dropped s commands.Forward drops ended =
     working_ahead-accent (state_for_effect s commands.Forward) 1 (working_without_accent s.working)
-accent-dropped s (commands.Repeat n) drops =
+accent-dropped s (commands.Repeat n) drops ended =
     working_after_repeat-accent n (state_for_effect s (commands.Repeat n)) s.working.last refl
-accent-dropped s (commands.C1 n) drops = working_after_code-accent s.working.c1 n (state_for_effect s (commands.C1 n))
-accent-dropped s (commands.FlashMode k) drops =
+accent-dropped s (commands.C1 n) drops ended = working_after_code-accent s.working.c1 n (state_for_effect s (commands.C1 n))
+accent-dropped s (commands.FlashMode k) drops ended =
     working_after_flash-accent s.working.c1 k (state_for_effect s (commands.FlashMode k))
-accent-dropped s commands.StopConceal drops =
+accent-dropped s commands.StopConceal drops ended =
     working_after_reveal-accent s.working.c1 (state_for_effect s commands.StopConceal)
-accent-dropped s _ drops = refl
+accent-dropped s commands.ServiceEnd drops ended =
+    ap (λ (kept : Option Working). (control_after_service (state_for_effect s commands.ServiceEnd) kept).working.accent)
+    (ended refl)
+accent-dropped s _ drops ended = refl
+
+-- a break of the service keeps it, and the end brings it back
+pub accent-kept : (s : ControlState) (row : ℕ) → s.kept ≡ None
+    → (control_after s (commands.ServiceBreak row)).kept ≡ Some s.working
+accent-kept s row none = ap (λ (kept : Option Working). kept_first kept s.working) none
+
+pub accent-back : (s : ControlState) (w : Working) → s.kept ≡ Some w
+    → (control_after s commands.ServiceEnd).working.accent ≡ w.accent
+accent-back s w some =
+    ap (λ (kept : Option Working). (control_after_service (state_for_effect s commands.ServiceEnd) kept).working.accent)
+    some
 
 -- an accent that was read waits
 pub accent-waits : (s : ControlState) (byte code : ℕ) → (graphic_result s byte).read ≡ reads.Accent code

@@ -13,6 +13,8 @@ use Rattle.cept_codes.specs.declared.look.Shape.TheVariants.{Char, Space}
 use Rattle.cept_codes.specs.Attribute.{unset_pen}
 use Rattle.cept_profile.specs.Colours.{default_paints, default_paint}
 use Rattle.cept_profile.specs.Look.{look_of}
+use Rattle.cept_profile.specs.State.{blank_page, definitions_of}
+use Rattle.cept_codes.specs.Table.{list_by_index}
 
 -- red, green and blue
 abbrev pub rgb : ℕ → ℕ → ℕ → Paint
@@ -38,7 +40,7 @@ paints_of look = (look.fore, look.back)
 
 -- what stands in a cell, in the default paints, where row and screen set nothing
 abbrev pub default_look : What → Look
-default_look what = look_of default_paint unset_pen unset_pen what
+default_look what = look_of (definitions_of blank_page) unset_pen unset_pen what
 
 -- a sign with these entries
 abbrev pub coloured : Option ℕ → Option ℕ → Option Bool → What
@@ -52,7 +54,7 @@ pub both_polarities : map (λ (what : What). paints_of (default_look what))
     ∷ coloured None None None ∷ coloured None None (Some false) ∷ coloured None None (Some true) ∷ []) ≡
     (rgb 15 0 0, rgb 0 15 0) ∷ (rgb 15 0 0, rgb 0 15 0) ∷ (rgb 0 15 0, rgb 15 0 0)
     ∷ (rgb 15 15 15, rgb 0 0 0) ∷ (rgb 15 15 15, rgb 0 0 0) ∷ (rgb 0 0 0, rgb 15 15 15) ∷ []
-unfolding look_of default_paints
+unfolding look_of default_paints list_by_index
 both_polarities = refl
 
 -- where the foreground would show the picture behind it is as the background, also where that shows it
@@ -61,7 +63,7 @@ pub picture_after : map (λ (what : What). paints_of (default_look what))
     ∷ coloured (Some 8) (Some 2) (Some true) ∷ coloured (Some 1) (Some 24) (Some true) ∷ []) ≡
     (rgb 0 15 0, rgb 0 15 0) ∷ (rgb 15 0 0, Video) ∷ (Video, Video)
     ∷ (rgb 0 15 0, Video) ∷ (rgb 15 0 0, rgb 15 0 0) ∷ []
-unfolding look_of default_paints
+unfolding look_of default_paints list_by_index
 picture_after = refl
 
 -- ---- shapes
@@ -85,5 +87,5 @@ supplementary = record { set = S; code = 0x21; accent = 0 }
 -- only the space without an accent shows nothing
 pub shapes_of_signs : map shape_seen (space ∷ accented_space ∷ accented_sign ∷ supplementary ∷ []) ≡
     Space ∷ Char accented_space ∷ Char accented_sign ∷ Char supplementary ∷ []
-unfolding look_of default_paints
+unfolding look_of default_paints list_by_index
 shapes_of_signs = refl

@@ -1,12 +1,13 @@
 -- Worked tables: what each command changes of control, and which strokes it makes, by computing. A row that says only
--- that a waiting accent is dropped is of a command that changes nothing else of control, or isn't built.
-use Rattle.std.proofs.Common.{◌≡◌, ℕ, List, [], ◌∷◌, ◌++◌, map, Some, None, Bool, true, false, refl}
+-- that a waiting accent is dropped is of a command that changes nothing else of control.
+use Rattle.std.proofs.Common.{◌≡◌, ℕ, List, [], ◌∷◌, ◌++◌, map, Option, Some, None, Bool, true, false, refl}
 use Rattle.cept_codes.specs.declared.attribute.Attr.{Attr}
 use Rattle.cept_codes.specs.declared.attribute.Attr.TheVariants as attrs
 use Rattle.cept_codes.specs.declared.attribute.Flash.TheVariants.{Fast2, Plain, Reduced, Steady}
 use Rattle.cept_codes.specs.declared.attribute.Pen.{Pen}
 use Rattle.cept_codes.specs.declared.attribute.Size.TheVariants.{High}
 use Rattle.cept_codes.specs.declared.cell.What.TheVariants as whats
+use Rattle.cept_codes.specs.declared.command.C1Set.{C1Set}
 use Rattle.cept_codes.specs.declared.command.C1Set.TheVariants.{Serial, Parallel}
 use Rattle.cept_codes.specs.declared.command.Command.{Command}
 use Rattle.cept_codes.specs.declared.command.Command.TheVariants as commands
@@ -18,9 +19,10 @@ use Rattle.cept_codes.specs.declared.look.Pattern.{Pattern}
 use Rattle.cept_codes.specs.declared.look.Rgb.{Rgb}
 use Rattle.cept_codes.specs.declared.stroke.Stroke.{Stroke}
 use Rattle.cept_codes.specs.declared.stroke.Stroke.TheVariants.{Put, Erase, Wipe, RowAttr, ScreenAttr, Colour}
-use Rattle.cept_codes.specs.declared.stroke.Stroke.TheVariants.{ColourDefaults, Dclut}
+use Rattle.cept_codes.specs.declared.stroke.Stroke.TheVariants.{ColourDefaults, Dclut, Drcs, DrcsClear, Format, ScreenClear, Shift}
+use Rattle.cept_codes.specs.declared.command.Up.TheVariants.{Down, Up}
 use Rattle.cept_codes.specs.Attribute.{unset_pen}
-use Rattle.cept_profile.specs.Control.{Working, ControlState, Sets, control_after}
+use Rattle.cept_profile.specs.Control.{Working, ControlState, Sets, control_after, initial_control, initial_working}
 use Rattle.cept_profile.specs.Sets.{set_of, read_as}
 use Rattle.cept_profile.specs.State.{core_of, blank_page}
 use Rattle.cept_profile.specs.Strokes.{strokes_of}
@@ -153,29 +155,70 @@ pub tables : map (after busy) (commands.Table 2 ∷ commands.Table 0 ∷ []) ≡
 tables = refl
 
 -- what draws and has no effect on control but the accent's
-abbrev pub drawing_alone : List Command
-drawing_alone =
+abbrev pub drawing_alone : Pattern → List Command
+drawing_alone pattern =
     commands.FullScreen 3 ∷ commands.FullScreen 9 ∷ commands.FullRow 3 ∷ commands.FullRow 9 ∷ commands.ColourDefaults
-    ∷ commands.Entry 3 white ∷ commands.Dclut 1 5 ∷ []
+    ∷ commands.Entry 3 white ∷ commands.Dclut 1 5 ∷ commands.DrcsHeader true form ∷ commands.DrcsPattern 0x21 pattern
+    ∷ []
 
 -- what has no effect at all but the accent's
-abbrev pub accent_alone : Pattern → List Command
-accent_alone pattern =
+abbrev pub accent_alone : List Command
+accent_alone =
     commands.CursorOn ∷ commands.CursorOff ∷ commands.Marked true ∷ commands.ColourHeader true ∷ commands.ColourStart 3
     ∷ commands.DrcsStart 0x21
-    ∷ commands.ScrollUp ∷ commands.ScrollDown ∷ commands.Implicit false ∷ commands.Protect false
-    ∷ commands.AreaCreate 2 8 ∷ commands.AreaDelete 3 9
-    ∷ commands.DrcsHeader true form ∷ commands.DrcsPattern 0x21 pattern ∷ commands.Format 24 false
-    ∷ commands.ServiceBreak 7 ∷ commands.ServiceEnd
-    ∷ commands.FullDefaults Serial ∷ commands.ControlDefaults Serial ∷ []
+    ∷ commands.DrcsHeader false form ∷ commands.ServiceEnd ∷ []
 
 -- each command with this state after it
 abbrev pub each_to : Working → List Command → List ControlState
 each_to working all = map (λ (command : Command). state_with true working) all
 
-pub accent_dropped_alone : (pattern : Pattern) → map (after busy) (drawing_alone ++ accent_alone pattern)
-    ≡ each_to dropped (drawing_alone ++ accent_alone pattern)
+pub accent_dropped_alone : (pattern : Pattern) → map (after busy) (drawing_alone pattern ++ accent_alone)
+    ≡ each_to dropped (drawing_alone pattern ++ accent_alone)
 accent_dropped_alone pattern = refl
+
+-- areas, implicit scrolling and protection; an area is deleted by its own rows alone
+abbrev pub with_area : Option (ℕ × ℕ) → Bool → ControlState
+with_area area implicit = record (state_with true dropped) { area = area; implicit = implicit }
+
+pub areas : map (after busy) (commands.Implicit false ∷ commands.Implicit true ∷ commands.AreaCreate 2 8
+    ∷ commands.AreaDelete 3 9 ∷ commands.AreaDelete 3 8 ∷ commands.ScrollUp ∷ commands.ScrollDown
+    ∷ commands.Protect false ∷ []) ≡
+    with_area (Some (3, 9)) false ∷ with_area (Some (3, 9)) true ∷ with_area (Some (2, 8)) true
+    ∷ with_area None true ∷ with_area (Some (3, 9)) true ∷ with_area (Some (3, 9)) true ∷ with_area (Some (3, 9)) true
+    ∷ state_with true (record dropped { protect = false }) ∷ []
+areas = refl
+
+-- formats: the first place, and neither run nor pen; rows and wrap are those that they give
+pub formats : map (after busy) (commands.Format 24 false ∷ commands.Format 20 true ∷ []) ≡
+    record (state_with false (fresh 1 1)) { rows = 24 } ∷ state_with true (fresh 1 1) ∷ []
+formats = refl
+
+-- defaults of control leave the position, and full ones nothing
+abbrev pub defaults : ℕ → ℕ → C1Set → Working
+defaults row column set = record initial_working { row = row; column = column; c1 = set }
+
+pub resets : map (after busy) (commands.ControlDefaults Serial ∷ commands.ControlDefaults Parallel
+    ∷ commands.FullDefaults Serial ∷ commands.FullDefaults Parallel ∷ []) ≡
+    state_with true (defaults 5 7 Serial) ∷ state_with true (defaults 5 7 Parallel)
+    ∷ record initial_control { working = defaults 1 1 Serial } ∷ initial_control ∷ []
+resets = refl
+
+-- a break of the service keeps the state with the accent that waits; its row is cut to the format
+pub breaks : map (after busy) (commands.ServiceBreak 7 ∷ commands.ServiceBreak 24 ∷ []) ≡
+    record (state_with true (defaults 7 1 Parallel)) { kept = Some busy }
+    ∷ record (state_with true (defaults 20 1 Parallel)) { kept = Some busy } ∷ []
+breaks = refl
+
+-- what is kept comes back, its row cut to the format, and a second break keeps nothing anew
+abbrev pub in_service : ControlState
+in_service = record (state_with true (defaults 9 3 Serial)) { kept = Some (record busy { row = 23 }) }
+
+pub in_a_service : map (control_after in_service) (commands.ServiceEnd ∷ commands.ServiceBreak 2
+    ∷ commands.ControlDefaults Parallel ∷ commands.FullDefaults Parallel ∷ []) ≡
+    state_with true (record busy { row = 20 })
+    ∷ record (state_with true (defaults 2 1 Parallel)) { kept = Some (record busy { row = 23 }) }
+    ∷ record (state_with true (defaults 9 3 Parallel)) { kept = Some (record busy { row = 23 }) } ∷ initial_control ∷ []
+in_a_service = refl
 
 -- a C1 set that is designated ends the run, also where it is the one in force; to erase changes nothing of control
 pub designated : map (after busy) (commands.DesignateC1 Serial ∷ commands.DesignateC1 Parallel ∷ [])
@@ -272,20 +315,36 @@ pub colours_are_written : map (strokes_after busy)
     (Colour 3 (Ink white) ∷ []) ∷ (Dclut 1 5 ∷ []) ∷ (ColourDefaults ∷ []) ∷ []
 colours_are_written = refl
 
+-- patterns: a header deletes all or none
+pub patterns_are_written : (pattern : Pattern) → map (strokes_after busy)
+    (commands.DrcsHeader true form ∷ commands.DrcsHeader false form ∷ commands.DrcsPattern 0x33 pattern ∷ []) ≡
+    (DrcsClear ∷ []) ∷ [] ∷ (Drcs 0x33 pattern ∷ []) ∷ []
+patterns_are_written pattern = refl
+
+-- the area in force goes up or down, whatever the row and implicit scrolling
+pub area_goes : map (strokes_after busy) (commands.ScrollUp ∷ commands.ScrollDown ∷ []) ≡
+    (Shift 3 9 Up ∷ []) ∷ (Shift 3 9 Down ∷ []) ∷ []
+area_goes = refl
+
+-- formats wipe the page, and full defaults bring back all of it
+pub all_anew : map (strokes_after busy) (commands.Format 20 false ∷ commands.FullDefaults Serial ∷ []) ≡
+    (Format 20 ∷ Wipe ∷ []) ∷ (Format 24 ∷ Wipe ∷ ScreenClear ∷ ColourDefaults ∷ DrcsClear ∷ []) ∷ []
+all_anew = refl
+
 -- no other command makes one under the parallel set
 abbrev pub without_strokes : List Command
 without_strokes =
     commands.Nul ∷ commands.Skipped ∷ commands.Back ∷ commands.Forward ∷ commands.Down ∷ commands.Up ∷ commands.Return
     ∷ commands.Home ∷ commands.Position 9 8
     ∷ commands.LockLeft 3 ∷ commands.LockRight 1 ∷ commands.Single 2 ∷ commands.Designate 1 D ∷ commands.Table 2
-    ∷ commands.C1 4 ∷ commands.FlashMode 3 ∷ commands.StopConceal ∷ []
+    ∷ commands.ServiceBreak 7 ∷ commands.ControlDefaults Serial ∷ commands.Implicit true ∷ commands.Protect true
+    ∷ commands.AreaCreate 2 8 ∷ commands.AreaDelete 2 8 ∷ commands.C1 4 ∷ commands.FlashMode 3 ∷ commands.StopConceal ∷ []
 
 abbrev pub none_of : List Command → List (List Stroke)
 none_of all = map (λ (command : Command). []) all
 
-pub no_strokes : (pattern : Pattern) → map (strokes_after busy) (without_strokes ++ accent_alone pattern)
-    ≡ none_of (without_strokes ++ accent_alone pattern)
-no_strokes pattern = refl
+pub no_strokes : map (strokes_after busy) (without_strokes ++ accent_alone) ≡ none_of (without_strokes ++ accent_alone)
+no_strokes = refl
 
 -- ---- the core
 

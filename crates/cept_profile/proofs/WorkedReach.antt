@@ -1,5 +1,5 @@
 -- Worked cases: rows in reach of a sign among signs of double height, by computing.
-use Rattle.std.proofs.Common.{◌≡◌, ℕ, ◌+◌, ◌≤◌, ◌==◌, ◌&&◌, cond, not, Bool, List, [], ◌∷◌, ◌++◌, false, refl, sym, ap}
+use Rattle.std.proofs.Common.{rules, ◌≡◌, ℕ, ◌+◌, ◌≤◌, ◌==◌, ◌&&◌, cond, not, Bool, List, [], ◌∷◌, ◌++◌, false, refl, sym, ap}
 use Rattle.std.proofs.Common.{◌∙◌, inl, inr, length, reverse, arith}
 use Rattle.std.specs.List.{count_by, list_any, range_with_len}
 use Rattle.std.proofs.lemmas.Bool.{and_cases, cases_eq, cases_lt, not_from_false, or_parts, true≢false}
@@ -14,12 +14,14 @@ use Rattle.cept_codes.proofs.Laws.{length-list_by_index, same_table}
 use Rattle.cept_profile.specs.Cells.{cell_back, cells_after_all}
 use Rattle.cept_profile.specs.Colours.{default_paints}
 use Rattle.cept_profile.specs.Look.{grid, look, look_in_row, looks_of, size_in_row}
-use Rattle.cept_profile.specs.PageParts.{paint_back, part_after_all}
+use Rattle.cept_profile.specs.PageParts.{dclut_back, paint_back, part_after_all, pattern_back}
+use Rattle.cept_codes.specs.declared.stroke.Stroke.{Stroke}
 use Rattle.cept_profile.specs.Reach.{in_reach, one_touches, rows_in_reach}
 use Rattle.cept_profile.specs.RowsFromAbove.{covering_differs, looks_in}
 use Rattle.cept_profile.specs.Serial.{serial_attributes, column_in_force, is_holding, kept_sign}
 use Rattle.cept_profile.specs.Sets.{set_of, read_as}
-use Rattle.cept_profile.specs.State.{State, core, core_of, state, state_after}
+use Rattle.cept_profile.specs.Definitions.{AreWhole}
+use Rattle.cept_profile.specs.State.{State, core, core_of, definitions_of, page_back, state, state_after}
 use Rattle.cept_profile.specs.Strokes.{strokes_back}
 use Rattle.cept_profile.specs.Tiling.{column_entry, part_from, tiled_row, tiled_rows, tiled_table}
 use Rattle.cept_profile.proofs.ColumnEntries.{no_index, none_passes}
@@ -117,12 +119,19 @@ one_row_high = upper_rows_in_reach (state beneath_a_high_sign_high) (Graphic 0x4
 
 -- ---- a sign beneath a high one changes no look
 
+whole_page : (strokes : List Stroke) → AreWhole (definitions_of (page_back strokes))
+whole_page strokes = record {
+  colours = length-list_by_index 0 32 (paint_back strokes);
+  names = length-list_by_index 0 4 (dclut_back strokes);
+  codes = length-list_by_index 0x21 94 (pattern_back strokes);
+}
+
 -- nothing is seen to change where one row alone of the upper six is in reach, and it keeps its looks
-one_row_stays : (s : State) (command : Command) (q : ℕ) → length s.page.paints ≡ 32 → ends_above_7 s command
+one_row_stays : (s : State) (command : Command) (q : ℕ) → AreWhole (definitions_of s.page) → ends_above_7 s command
     → list_any (λ r. not (r == q) && in_reach s command r) (range_with_len 1 6) ≡ false
     → looks_in (looks_of (core_of (state_after s command))) q ≡ looks_in (looks_of (core_of s)) q
     → looks_of (core_of (state_after s command)) ≡ looks_of (core_of s)
-one_row_stays s command q long ends alone same =
+one_row_stays s command q whole ends alone same =
     same_table (look (core_of (state_after s command))) (look (core_of s)) (λ r c on.
     elim (cases_eq r q) [
       | inl here ↦
@@ -132,7 +141,7 @@ one_row_stays s command q long ends alone same =
           ∙ ap (λ (k : ℕ). column_entry blank_look (looks_in (looks_of (core_of s)) k) c) (sym here)
           ∙ look-seen (core_of s) r c on
       | inr other ↦
-          look-out_of_reach s command r c on long
+          look-out_of_reach s command r c on whole
           (elim (cases_lt r 7) [
             | inl upper ↦
                 let apart : (r == q) ≡ false = grind (arith, nat_tests) in
@@ -169,7 +178,6 @@ unfolding set_of read_as
 sign_beneath =
     looks_of-alike (core (beneath_a_high_sign ++ Graphic 0x41 ∷ []))
     (core_of (state_after (state beneath_a_high_sign) (Graphic 0x41)))
-    (page-one_more beneath_a_high_sign (Graphic 0x41)) refl
+    (page-one_more beneath_a_high_sign (Graphic 0x41) (search rules) (search rules)) refl
     ∙ one_row_stays (state beneath_a_high_sign) (Graphic 0x41) 2
-    (length-list_by_index 0 32 (paint_back (strokes_back (reverse beneath_a_high_sign)))) ends_beneath row_2_alone
-    row_2_stays
+    (whole_page (strokes_back (reverse beneath_a_high_sign))) ends_beneath row_2_alone row_2_stays

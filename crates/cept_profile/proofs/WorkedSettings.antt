@@ -1,4 +1,4 @@
--- Worked cases of looking back: services, and settings of commands that aren't built yet, by computing.
+-- Worked cases of looking back: services and settings, by computing.
 use Rattle.std.proofs.Common.{◌≡◌, [], ◌∷◌, Some, None, false, refl}
 use Rattle.cept_codes.specs.declared.command.C1Set.TheVariants.{Serial, Parallel}
 use Rattle.cept_codes.specs.declared.command.Command.TheVariants.{Graphic, C1, DesignateC1, Table, StopConceal, Home}
@@ -80,10 +80,20 @@ last_table = refl
 pub table_stays_at_home : (settings (Table 1 ∷ Home ∷ Position 2 2 ∷ C1 1 ∷ [])).fore ≡ Some 9
 table_stays_at_home = refl
 
--- ---- what isn't built sets nothing
+-- ---- services
 
-pub unbuilt_services_leave_nothing_out : (settings (ServiceBreak 24 ∷ C1 2 ∷ ServiceEnd ∷ [])).fore ≡ Some 2
-unbuilt_services_leave_nothing_out = refl
+-- what a service sets of the pen is gone with it, and what it sets of the format stays
+pub fore_before_the_service : (settings (C1 1 ∷ ServiceBreak 24 ∷ C1 2 ∷ ServiceEnd ∷ [])).fore ≡ Some 1
+fore_before_the_service = refl
+
+pub fore_of_the_service : (settings (C1 1 ∷ ServiceBreak 24 ∷ C1 2 ∷ [])).fore ≡ Some 2
+fore_of_the_service = refl
+
+pub fore_before_two_breaks : (settings (C1 1 ∷ ServiceBreak 24 ∷ C1 2 ∷ ServiceBreak 1 ∷ ServiceEnd ∷ [])).fore ≡ Some 1
+fore_before_two_breaks = refl
+
+pub rows_of_the_service : (settings (ServiceBreak 24 ∷ Format 20 false ∷ ServiceEnd ∷ [])).rows ≡ 20
+rows_of_the_service = refl
 
 pub home_unsets : (settings (C1 2 ∷ Graphic 0x41 ∷ Home ∷ [])).fore ≡ None
 home_unsets = refl

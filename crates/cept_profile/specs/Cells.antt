@@ -1,6 +1,8 @@
 -- Cells (own): what stands at a place is asked of the strokes from the last backwards.
-use Rattle.std.specs.Prelude.{ℕ, Bool, not, ◌&&◌, List, [], ◌∷◌, ◌==◌, nat_le, if◌then◌else◌}
+use Rattle.std.specs.Prelude.{ℕ, ◌+◌, ◌-◌, Bool, false, not, ◌&&◌, List, [], ◌∷◌, ◌==◌, nat_le, if◌then◌else◌}
 use Rattle.cept_codes.specs.declared.cell.Cell.{Cell}
+use Rattle.cept_codes.specs.declared.command.Up.{Up}
+use Rattle.cept_codes.specs.declared.command.Up.TheVariants as ways
 use Rattle.cept_codes.specs.declared.stroke.Stroke.{Stroke}
 use Rattle.cept_codes.specs.declared.stroke.Stroke.TheVariants as strokes
 use Rattle.cept_codes.specs.Cell.{blank_cell}
@@ -11,12 +13,22 @@ use Rattle.cept_codes.specs.Table.{table, value_at}
 abbrev pub is_at : Place → ℕ → ℕ → Bool
 is_at p r c = p.row == r && p.column == c
 
+-- what is at row r after the rows of an area went one up or down, by what was at each row, with a blank one for the
+-- last or the first
+abbrev pub shifted : {X : Type 0} → Up → ℕ → ℕ → X → (ℕ → X) → ℕ → X
+shifted ways.Up first last blank was r =
+    if nat_le first r && nat_le r last then (if r == last then blank else was (r + 1)) else was r
+shifted ways.Down first last blank was r =
+    if nat_le first r && nat_le r last then (if r == first then blank else was (r - 1)) else was r
+
 -- the cell at row r and column c after a stroke, by the cells before it
 abbrev pub cell_after : Stroke → (ℕ → ℕ → Cell) → ℕ → ℕ → Cell
 cell_after (strokes.Put p cell) was r c = if is_at p r c && not (was r c).protected then cell else was r c
 cell_after (strokes.Erase row from) was r c =
     if r == row && nat_le from c && not (was r c).protected then blank_cell else was r c
 cell_after strokes.Wipe was r c = blank_cell
+-- the cells of an area go up or down with their protection
+cell_after (strokes.Shift first last way) was r c = shifted way first last blank_cell (λ q. was q c) r
 -- these change no cell
 cell_after (strokes.RowAttr row attr) was r c = was r c
 cell_after (strokes.ScreenAttr attr) was r c = was r c
@@ -27,8 +39,11 @@ cell_after strokes.ColourDefaults was r c = was r c
 cell_after strokes.DrcsClear was r c = was r c
 cell_after (strokes.Drcs code pattern) was r c = was r c
 cell_after (strokes.Format rows) was r c = was r c
--- not built yet: no effect
-cell_after (strokes.Shift first last way) was r c = was r c
+
+-- the stroke moves what stands in row r, or takes it off the screen: a shift of an area in which the row is
+abbrev pub moves : Stroke → ℕ → Bool
+moves (strokes.Shift first last way) r = nat_le first r && nat_le r last
+moves stroke r = false
 
 -- the cell at row r and column c after the strokes, the last first
 unfoldable pub cell_back : List Stroke → ℕ → ℕ → Cell

@@ -1,10 +1,10 @@
 -- Control: what each command makes of the state of the decoder beside the page (T/CD 6-1, the C0 control functions;
 -- code extension after ISO 2022). What ends a mosaic run, unsets the pen or drops an accent, that the row of a position
--- is cut to the format, and colour tables are this profile's own. Until a command is built it only drops a waiting
--- accent.
-use Rattle.std.specs.Prelude.{Bool, true, false, List, [], ◌∷◌, reverse, min, if◌then◌else◌}
+-- is cut to the format, colour tables, and what formats, defaults and services keep are this profile's own.
+use Rattle.std.specs.Prelude.{ℕ, Bool, true, false, ◌==◌, ◌&&◌, Option, Some, None, List, [], ◌∷◌, reverse, min, if◌then◌else◌}
 use Rattle.cept_codes.specs.declared.command.Command.{Command}
 use Rattle.cept_codes.specs.declared.command.Command.TheVariants as commands
+use Rattle.cept_codes.specs.declared.command.C1Set.TheVariants as c1sets
 use Rattle.cept_profile.specs.Motions.{row_below, row_above, working_ahead, working_back}
 use Rattle.cept_profile.specs.Pens.{working_after_code, working_after_flash, working_after_reveal}
 use Rattle.cept_profile.specs.Sets.{sets_with, sets_with_left, sets_with_right, sets_with_single}
@@ -16,9 +16,10 @@ pub use Rattle.cept_profile.specs.Working.{
   working_with_sets,
   with_c1,
   with_table,
+  with_protect,
   working_without_run,
 }
-pub use Rattle.cept_profile.specs.Working.{working_without_pen, working_without_accent}
+pub use Rattle.cept_profile.specs.Working.{working_by_default, working_without_pen, working_without_accent}
 
 -- every command but these drops an accent that waits
 abbrev pub leaves_accent : Command → Bool
@@ -37,6 +38,22 @@ finds_accent command = leaves_accent command
 abbrev pub state_for_effect : ControlState → Command → ControlState
 state_for_effect s command = control_with s (if finds_accent command then s.working
     else working_without_accent s.working)
+
+-- what a service keeps: the state before its first break
+abbrev pub kept_first : Option Working → Working → Option Working
+kept_first None w = Some w
+kept_first (Some kept) w = Some kept
+
+-- the state after a service: what it kept comes back, its row cut to the format, and nothing is kept
+abbrev pub control_after_service : ControlState → Option Working → ControlState
+control_after_service s None = s
+control_after_service s (Some w) =
+    record s { working = working_at (min w.row s.rows) w.column w; kept = None }
+
+-- an area that is deleted where it has these rows
+abbrev pub area_without : ℕ → ℕ → Option (ℕ × ℕ) → Option (ℕ × ℕ)
+area_without first last None = None
+area_without first last (Some area) = if area.0 == first && area.1 == last then None else Some area
 
 -- the state after a command that takes effect in this state
 abbrev pub control_effect : ControlState → Command → ControlState
@@ -65,8 +82,19 @@ control_effect s (commands.FlashMode k) = control_with s (working_after_flash s.
 control_effect s commands.StopConceal = control_with s (working_after_reveal s.working.c1 s)
 control_effect s (commands.DesignateC1 set) = control_with s (working_without_run (with_c1 set s.working))
 control_effect s (commands.Table k) = control_with s (with_table k s.working)
--- a service isn't built; that its break drops a waiting accent is its own doing
-control_effect s (commands.ServiceBreak row) = control_with s (working_without_accent s.working)
+control_effect s (commands.Protect on) = control_with s (with_protect on s.working)
+control_effect s (commands.Implicit on) = record s { implicit = on }
+control_effect s (commands.AreaCreate first last) = record s { area = Some (first, last) }
+control_effect s (commands.AreaDelete first last) = record s { area = area_without first last s.area }
+control_effect s (commands.Format rows wrap) =
+    record s { working = working_without_pen (working_without_run (working_at 1 1 s.working)); rows = rows; wrap = wrap }
+control_effect s (commands.ControlDefaults set) = control_with s (working_by_default set s.working)
+control_effect s (commands.FullDefaults set) = record initial_control { working = with_c1 set initial_working }
+control_effect s (commands.ServiceBreak row) = record s {
+  working = working_at (min row s.rows) 1 (working_by_default c1sets.Parallel s.working);
+  kept = kept_first s.kept s.working;
+}
+control_effect s commands.ServiceEnd = control_after_service s s.kept
 -- these leave control as it is
 control_effect s commands.Nul = s
 control_effect s commands.Skipped = s
@@ -82,19 +110,10 @@ control_effect s (commands.FullRow n) = s
 control_effect s commands.ColourDefaults = s
 control_effect s (commands.Entry i colour) = s
 control_effect s (commands.Dclut i entry) = s
--- not built yet: no effect
-control_effect s commands.ScrollUp = s
-control_effect s commands.ScrollDown = s
-control_effect s (commands.Implicit on) = s
-control_effect s (commands.Protect on) = s
-control_effect s (commands.AreaCreate first last) = s
-control_effect s (commands.AreaDelete first last) = s
 control_effect s (commands.DrcsHeader delete form) = s
 control_effect s (commands.DrcsPattern code pattern) = s
-control_effect s (commands.Format rows wrap) = s
-control_effect s commands.ServiceEnd = s
-control_effect s (commands.FullDefaults set) = s
-control_effect s (commands.ControlDefaults set) = s
+control_effect s commands.ScrollUp = s
+control_effect s commands.ScrollDown = s
 
 -- the state after one more command
 abbrev pub control_after : ControlState → Command → ControlState

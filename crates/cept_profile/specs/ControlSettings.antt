@@ -1,6 +1,6 @@
 -- Settings of control by looking back: each is what the last command says that sets it, else its initial value (which
 -- command sets and resets what is this profile's own). Inside, commands stand with the newest first.
-use Rattle.std.specs.Prelude.{ℕ, Bool, true, false, not, Option, Some, None, unwrap_or, List, [], ◌∷◌, filter, reverse}
+use Rattle.std.specs.Prelude.{ℕ, Bool, true, false, not, Option, Some, None, unwrap_or, List, [], ◌∷◌, reverse}
 use Rattle.std.specs.Prelude.{◌&&◌, ◌==◌, if◌then◌else◌}
 use Rattle.cept_codes.specs.declared.attribute.Attr.{Attr}
 use Rattle.cept_codes.specs.declared.attribute.Attr.TheVariants as attrs
@@ -48,25 +48,6 @@ abbrev mutual
 -- a history without each closed service
 abbrev pub outer_history : List Command → List Command
 outer_history history = reverse (outer_back (reverse history))
-
--- ---- the commands that are asked
-
--- commands that will set control and aren't built: until they are, they set nothing
-abbrev pub is_unbuilt : Command → Bool
-is_unbuilt (commands.Implicit on) = true
-is_unbuilt (commands.Protect on) = true
-is_unbuilt (commands.AreaCreate a b) = true
-is_unbuilt (commands.AreaDelete a b) = true
-is_unbuilt (commands.Format rows wrap) = true
-is_unbuilt (commands.ServiceBreak row) = true
-is_unbuilt commands.ServiceEnd = true
-is_unbuilt (commands.FullDefaults set) = true
-is_unbuilt (commands.ControlDefaults set) = true
-is_unbuilt _ = false
-
--- the others
-abbrev pub built_commands : List Command → List Command
-built_commands history = filter (λ command. not (is_unbuilt command)) history
 
 -- ---- looking back
 
@@ -294,6 +275,4 @@ settings_back outside all = record {
 
 -- the settings after the commands
 abbrev pub settings : List Command → Settings
-settings history =
-    let all = built_commands (reverse history) in
-    settings_back (outer_back all) all
+settings history = settings_back (outer_back (reverse history)) (reverse history)

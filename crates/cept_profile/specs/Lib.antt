@@ -20,3 +20,4 @@ pub mod Carry
 pub mod Tiling
 pub mod RowsFromAbove
 pub mod PageParts
+pub mod Definitions

@@ -10,9 +10,12 @@ use Rattle.cept_codes.specs.declared.cell.What.{What}
 use Rattle.cept_codes.specs.declared.cell.What.TheVariants as whats
 use Rattle.cept_codes.specs.declared.command.Command.{Command}
 use Rattle.cept_codes.specs.declared.glyph.Glyph.{Glyph}
+use Rattle.cept_codes.specs.declared.glyph.SetId.{SetId}
+use Rattle.cept_codes.specs.declared.glyph.SetId.TheVariants as sets
 use Rattle.cept_codes.specs.declared.look.Look.{Look}
 use Rattle.cept_codes.specs.declared.look.Paint.{Paint}
 use Rattle.cept_codes.specs.declared.look.Part.{Part}
+use Rattle.cept_codes.specs.declared.look.Pattern.{Pattern}
 use Rattle.cept_codes.specs.declared.look.Shape.{Shape}
 use Rattle.cept_codes.specs.declared.look.Shape.TheVariants as shapes
 use Rattle.cept_codes.specs.Attribute.{unset_pen}
@@ -20,21 +23,32 @@ use Rattle.cept_codes.specs.Cell.{blank_cell}
 use Rattle.cept_codes.specs.Table.{table, value_at}
 use Rattle.cept_profile.specs.Attributes.{cascade}
 use Rattle.cept_profile.specs.Colours.{fore_paint, back_paint, paint_over}
-use Rattle.cept_profile.specs.PageParts.{paint_in, row_pen_in}
+use Rattle.cept_profile.specs.Definitions.{Definitions, inks_of}
+use Rattle.cept_profile.specs.PageParts.{paint_in, pattern_in, row_pen_in}
 use Rattle.cept_profile.specs.Serial.{held_sign, own_attributes}
-use Rattle.cept_profile.specs.State.{Core, core}
+use Rattle.cept_profile.specs.State.{Core, core, definitions_of}
 use Rattle.cept_profile.specs.Tiling.{part_at, tiled_table}
 
--- a sign is drawn as itself, the space without accent as nothing
-abbrev pub shape_of_sign : Glyph → Shape
-shape_of_sign g = if g.code == 0x20 && g.accent == 0 then shapes.Space else shapes.Char g
+-- a sign of the downloaded set is drawn as the pattern of its code with its inks, where one is defined
+abbrev pub shape_by_pattern : Definitions → Glyph → Option Pattern → Shape
+shape_by_pattern defined g None = shapes.Char g
+shape_by_pattern defined g (Some pattern) = shapes.Drcs pattern (inks_of defined pattern.planes)
+
+-- a sign of any other set as itself
+abbrev pub shape_in_set : Definitions → Glyph → SetId → Shape
+shape_in_set defined g sets.D = shape_by_pattern defined g (pattern_in defined.patterns g.code)
+shape_in_set defined g _ = shapes.Char g
+
+-- and the space without accent as nothing
+abbrev pub shape_of_sign : Definitions → Glyph → Shape
+shape_of_sign defined g = if g.code == 0x20 && g.accent == 0 then shapes.Space else shape_in_set defined g g.set
 
 -- the shape of what stands in a cell
-abbrev pub shape_of : What → Shape
-shape_of whats.Blank = shapes.Space
-shape_of (whats.Serial g) = shape_of_sign g
-shape_of (whats.Parallel g pen) = shape_of_sign g
-shape_of (whats.Marker m) = shapes.Space
+abbrev pub shape_of : Definitions → What → Shape
+shape_of defined whats.Blank = shapes.Space
+shape_of defined (whats.Serial g) = shape_of_sign defined g
+shape_of defined (whats.Parallel g pen) = shape_of_sign defined g
+shape_of defined (whats.Marker m) = shapes.Space
 
 -- the attributes of what stands in a cell, in a row without markers: a sign that took a pen has its own, then come
 -- those of the row and those of the screen
@@ -59,20 +73,21 @@ look_with paint_of shape f = record {
 }
 
 -- the look of what stands in a cell by itself, in a row without markers
-unfoldable pub look_of : (ℕ → Paint) → Pen → Pen → What → Look
-look_of paint_of row screen what = look_with paint_of (shape_of what) (attributes_of row screen what)
+unfoldable pub look_of : Definitions → Pen → Pen → What → Look
+look_of defined row screen what =
+    look_with (paint_in defined.paints) (shape_of defined what) (attributes_of row screen what)
 
 -- the shape of what stands in a cell that holds a sign or none: a marker shows the sign that it holds
-abbrev pub shape_in : What → Option Glyph → Shape
-shape_in (whats.Marker m) (Some g) = shape_of_sign g
-shape_in what _ = shape_of what
+abbrev pub shape_in : Definitions → What → Option Glyph → Shape
+shape_in defined (whats.Marker m) (Some g) = shape_of_sign defined g
+shape_in defined what _ = shape_of defined what
 
 -- ---- one row by itself
 
 -- what stands in a column of a row, in single size, by its own attributes, those of the row and those of the screen
-unfoldable pub look_in_row : (ℕ → Paint) → (ℕ → What) → Pen → Pen → ℕ → Look
-look_in_row paint_of row pen screen c =
-    look_with paint_of (shape_in (row c) (held_sign row c)) (own_attributes row pen screen c)
+unfoldable pub look_in_row : Definitions → (ℕ → What) → Pen → Pen → ℕ → Look
+look_in_row defined row pen screen c =
+    look_with (paint_in defined.paints) (shape_in defined (row c) (held_sign row c)) (own_attributes row pen screen c)
 
 -- the size in which it is to be shown
 unfoldable pub size_in_row : (ℕ → What) → Pen → Pen → ℕ → Size
@@ -102,7 +117,7 @@ contents_of_row k r c = (value_at blank_cell k.page.cells r c).what
 
 -- what stands at row r and column c by itself
 abbrev pub own_look : Core → ℕ → ℕ → Look
-own_look k r c = look_in_row (paint_in k.page.paints) (contents_of_row k r)
+own_look k r c = look_in_row (definitions_of k.page) (contents_of_row k r)
     (row_pen_in k.page.row_pens r) k.page.screen_pen c
 
 -- the size in which it is to be shown

@@ -1,7 +1,11 @@
--- Motions: where the position goes, and the strokes that each makes (T/CD 6-1, the C0 format effectors; wrapping is
--- this profile's own). Scrolling areas aren't built, so that no motion makes strokes yet.
-use Rattle.std.specs.Prelude.{ℕ, ◌+◌, ◌-◌, List, [], nat_le, ◌==◌, if◌then◌else◌}
+-- Motions: where the position goes, and the strokes that each makes (T/CD 6-1, the C0 format effectors; wrapping and
+-- scrolling areas are this profile's own).
+use Rattle.std.specs.Prelude.{ℕ, ◌+◌, ◌-◌, Bool, false, Option, Some, None, List, [], ◌∷◌, nat_le, ◌==◌}
+use Rattle.std.specs.Prelude.{if◌then◌else◌}
+use Rattle.cept_codes.specs.declared.command.Up.{Up}
+use Rattle.cept_codes.specs.declared.command.Up.TheVariants as ways
 use Rattle.cept_codes.specs.declared.stroke.Stroke.{Stroke}
+use Rattle.cept_codes.specs.declared.stroke.Stroke.TheVariants as strokes
 use Rattle.cept_codes.specs.Place.{number}
 use Rattle.cept_profile.specs.Working.{Working, ControlState, working_at}
 
@@ -9,21 +13,61 @@ use Rattle.cept_profile.specs.Working.{Working, ControlState, working_at}
 abbrev pub place_number : ControlState → ℕ
 place_number s = number s.working.row s.working.column
 
--- the row below row r: from the last row it is the first with wrap, and the last itself without
+-- ---- scrolling areas
+
+-- an area whose last row is one of so many
+abbrev pub area_within : ℕ → Option (ℕ × ℕ) → Option (ℕ × ℕ)
+area_within rows None = None
+area_within rows (Some area) = if nat_le area.1 rows then Some area else None
+
+-- the area in force: it is there, and within the format
+abbrev pub area_in_force : ControlState → Option (ℕ × ℕ)
+area_in_force s = area_within s.rows s.area
+
+-- the area that motions scroll: the one in force, where implicit scrolling is on
+abbrev pub scrolling_area : ControlState → Option (ℕ × ℕ)
+scrolling_area s = if s.implicit then area_in_force s else None
+
+-- row r is the first of the area
+abbrev pub is_first_of : Option (ℕ × ℕ) → ℕ → Bool
+is_first_of None r = false
+is_first_of (Some area) r = area.0 == r
+
+-- row r is the last of the area
+abbrev pub is_last_of : Option (ℕ × ℕ) → ℕ → Bool
+is_last_of None r = false
+is_last_of (Some area) r = area.1 == r
+
+-- the rows of the area go one row up or down
+abbrev pub strokes_of_shift : Up → Option (ℕ × ℕ) → List Stroke
+strokes_of_shift way None = []
+strokes_of_shift way (Some area) = strokes.Shift area.0 area.1 way ∷ []
+
+-- ---- motions
+
+-- the row below row r: the last row of an area that scrolls is left for none; else from the last row it is the first
+-- with wrap, and the last itself without
 abbrev pub row_below : ControlState → ℕ → ℕ
-row_below s r = if r == s.rows then (if s.wrap then 1 else r) else r + 1
+row_below s r =
+    if is_last_of (scrolling_area s) r then r else
+    if r == s.rows then (if s.wrap then 1 else r) else
+    r + 1
 
--- the strokes of going below row r
+-- the strokes of going below row r: at the last row of an area that scrolls its rows go up
 abbrev pub below_strokes : ControlState → ℕ → List Stroke
-below_strokes s r = []
+below_strokes s r = if is_last_of (scrolling_area s) r then strokes_of_shift ways.Up (scrolling_area s) else []
 
--- the row above row r: from the first row it is the last with wrap, and the first itself without
+-- the row above row r: the first row of an area that scrolls is left for none; else from the first row it is the last
+-- with wrap, and the first itself without
 abbrev pub row_above : ControlState → ℕ → ℕ
-row_above s r = if r == 1 then (if s.wrap then s.rows else r) else r - 1
+row_above s r =
+    if is_first_of (scrolling_area s) r then r else
+    if r == 1 then (if s.wrap then s.rows else r) else
+    r - 1
 
--- the strokes of going above row r
+-- the strokes of going above row r: at the first row of an area that scrolls its rows go down
 abbrev pub above_strokes : ControlState → ℕ → List Stroke
-above_strokes s r = []
+above_strokes s r = if is_first_of (scrolling_area s) r then strokes_of_shift ways.Down (scrolling_area s) else []
 
 -- n columns on: past the last column it goes to the first of the row below with wrap, and to the last without
 abbrev pub working_ahead : ControlState → ℕ → Working → Working

@@ -1,10 +1,11 @@
--- Attributes of rows and of the screen, colour entries (in four tables of eight: ETS 300 072) and the DCLUT; which
--- there are, and what sets and unsets each, is this profile's own. Each is what the last stroke says that says anything
--- of it, else its value at the start.
+-- Attributes of rows and of the screen, colour entries (in four tables of eight: ETS 300 072), the DCLUT and the
+-- downloaded patterns; which there are, and what sets and unsets each, is this profile's own. Each is what the last
+-- stroke says that says anything of it, else its value at the start.
 use Rattle.std.specs.Prelude.{ℕ, Option, Some, None, unwrap_or, List, [], ◌∷◌, ◌==◌, if◌then◌else◌}
 use Rattle.cept_codes.specs.declared.attribute.Attr.{Attr}
 use Rattle.cept_codes.specs.declared.attribute.Pen.{Pen}
 use Rattle.cept_codes.specs.declared.look.Paint.{Paint}
+use Rattle.cept_codes.specs.declared.look.Pattern.{Pattern}
 use Rattle.cept_codes.specs.declared.stroke.Stroke.{Stroke}
 use Rattle.cept_codes.specs.declared.stroke.Stroke.TheVariants as strokes
 use Rattle.cept_codes.specs.Attribute.{unset_pen}
@@ -46,6 +47,17 @@ dclut_said i (strokes.Dclut j colour) = if j == i then Some colour else None
 dclut_said i strokes.ColourDefaults = Some i
 dclut_said i _ = None
 
+-- what a stroke says of the pattern of a code: it is defined, or with all others deleted
+abbrev pub pattern_said : ℕ → Stroke → Option (Option Pattern)
+pattern_said d (strokes.Drcs code pattern) = if code == d then Some (Some pattern) else None
+pattern_said d strokes.DrcsClear = Some None
+pattern_said d _ = None
+
+-- what a stroke says of the number of rows
+abbrev pub rows_said : Stroke → Option ℕ
+rows_said (strokes.Format rows) = Some rows
+rows_said _ = None
+
 -- the attributes of row r after the strokes
 abbrev pub row_pen_back : List Stroke → ℕ → Pen
 row_pen_back strokes r = record {
@@ -80,6 +92,14 @@ paint_back strokes i = stroke_said (paint_said i) (default_paint i) strokes
 abbrev pub dclut_back : List Stroke → ℕ → ℕ
 dclut_back strokes i = stroke_said (dclut_said i) i strokes
 
+-- the pattern of a code after the strokes, where one is defined
+abbrev pub pattern_back : List Stroke → ℕ → Option Pattern
+pattern_back strokes d = stroke_said (pattern_said d) None strokes
+
+-- the number of rows after the strokes: 24 at first
+abbrev pub rows_back : List Stroke → ℕ
+rows_back strokes = stroke_said rows_said 24 strokes
+
 -- ---- one more stroke
 
 -- the attributes of row r after a stroke, by those before it
@@ -106,6 +126,12 @@ dclut_after (strokes.Dclut j colour) was i = if j == i then colour else was i
 dclut_after strokes.ColourDefaults was i = i
 dclut_after _ was i = was i
 
+-- the pattern of a code
+abbrev pub pattern_after : Stroke → (ℕ → Option Pattern) → ℕ → Option Pattern
+pattern_after (strokes.Drcs code pattern) was d = if code == d then Some pattern else was d
+pattern_after strokes.DrcsClear was d = None
+pattern_after _ was d = was d
+
 -- ---- the lists of them
 
 -- a list with an entry for each of the 24 rows, by its number
@@ -120,6 +146,10 @@ list_of_colours f = list_by_index 0 32 f
 abbrev pub list_of_dclut : {X : Type 0} → (ℕ → X) → List X
 list_of_dclut f = list_by_index 0 4 f
 
+-- for each of the 94 codes of the downloaded set, 2/1 to 7/14
+abbrev pub list_of_codes : {X : Type 0} → (ℕ → X) → List X
+list_of_codes f = list_by_index 0x21 94 f
+
 -- the attributes of row r
 abbrev pub row_pen_in : List Pen → ℕ → Pen
 row_pen_in pens r = entry unset_pen 1 pens r
@@ -132,6 +162,10 @@ paint_in paints i = entry black_paint 0 paints i
 abbrev pub dclut_in : List ℕ → ℕ → ℕ
 dclut_in dclut i = entry 0 0 dclut i
 
+-- the pattern of a code, where one is defined
+abbrev pub pattern_in : List (Option Pattern) → ℕ → Option Pattern
+pattern_in patterns d = entry None 0x21 patterns d
+
 -- the attributes of all rows after one stroke
 abbrev pub row_pens_after : List Pen → Stroke → List Pen
 row_pens_after pens stroke = list_of_rows (row_pen_after stroke (row_pen_in pens))
@@ -143,6 +177,10 @@ paints_after paints stroke = list_of_colours (paint_after stroke (paint_in paint
 -- the DCLUT
 abbrev pub dclut_list_after : List ℕ → Stroke → List ℕ
 dclut_list_after dclut stroke = list_of_dclut (dclut_after stroke (dclut_in dclut))
+
+-- the patterns of all codes
+abbrev pub patterns_after : List (Option Pattern) → Stroke → List (Option Pattern)
+patterns_after patterns stroke = list_of_codes (pattern_after stroke (pattern_in patterns))
 
 -- a part of the page after several strokes
 unfoldable pub part_after_all : {X : Type 0} → (X → Stroke → X) → X → List Stroke → X

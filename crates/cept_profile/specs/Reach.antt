@@ -1,5 +1,5 @@
 -- Reach: the rows in which a command can change what is seen (the rule is this profile's own).
-use Rattle.std.specs.Prelude.{ℕ, Bool, true, false, ◌==◌, ◌||◌, ◌&&◌, not, List}
+use Rattle.std.specs.Prelude.{ℕ, Bool, true, false, ◌==◌, ◌||◌, ◌&&◌, not, nat_le, List}
 use Rattle.std.specs.List.{count_by, list_any, range_with_len}
 use Rattle.cept_codes.specs.declared.command.Command.{Command}
 use Rattle.cept_codes.specs.declared.stroke.Stroke.{Stroke}
@@ -10,21 +10,21 @@ use Rattle.cept_profile.specs.State.{State, core_of, state_after}
 use Rattle.cept_profile.specs.Strokes.{strokes_of}
 
 -- the stroke can change what this row is made of: a cell that is put, an erased end of a row and an attribute of a row
--- change that row; a wipe, an attribute of the screen and a colour every row
+-- change that row; a shift those of its area; a wipe, an attribute of the screen, a colour and a pattern every row
 abbrev pub touches : Stroke → ℕ → Bool
 touches (strokes.Put p cell) r = p.row == r
 touches (strokes.Erase row from) r = row == r
 touches strokes.Wipe r = true
+touches (strokes.Shift first last way) r = nat_le first r && nat_le r last
 touches (strokes.RowAttr row attr) r = row == r
 touches (strokes.ScreenAttr attr) r = true
 touches strokes.ScreenClear r = true
 touches (strokes.Colour i paint) r = true
 touches (strokes.Dclut i entry) r = true
 touches strokes.ColourDefaults r = true
--- not built yet: no effect
-touches (strokes.Shift first last way) r = false
-touches strokes.DrcsClear r = false
-touches (strokes.Drcs code pattern) r = false
+touches strokes.DrcsClear r = true
+touches (strokes.Drcs code pattern) r = true
+-- a format touches a row as it becomes last or is so no longer
 touches (strokes.Format rows) r = false
 
 -- one of the strokes can change what this row is made of

@@ -1,9 +1,10 @@
 -- The state of a decoder (own): its page and its control, and the core that its looks are made of.
-use Rattle.std.specs.Prelude.{ℕ, Bool, Option, List, reverse}
+use Rattle.std.specs.Prelude.{ℕ, Bool, Option, None, List, reverse}
 use Rattle.cept_codes.specs.declared.attribute.Pen.{Pen}
 use Rattle.cept_codes.specs.declared.cell.Cell.{Cell}
 use Rattle.cept_codes.specs.declared.command.Command.{Command}
 use Rattle.cept_codes.specs.declared.look.Paint.{Paint}
+use Rattle.cept_codes.specs.declared.look.Pattern.{Pattern}
 use Rattle.cept_codes.specs.declared.stroke.Stroke.{Stroke}
 use Rattle.cept_codes.specs.Attribute.{unset_pen}
 use Rattle.cept_codes.specs.Cell.{blank_cell}
@@ -11,19 +12,22 @@ use Rattle.cept_codes.specs.Table.{table}
 use Rattle.cept_profile.specs.Cells.{cell_back, cells_after_all}
 use Rattle.cept_profile.specs.Colours.{default_paint}
 use Rattle.cept_profile.specs.Control.{ControlState, control, control_after}
-use Rattle.cept_profile.specs.PageParts.{row_pen_back, screen_pen_back, paint_back, dclut_back, list_of_rows}
-use Rattle.cept_profile.specs.PageParts.{list_of_colours, list_of_dclut, part_after_all, row_pens_after}
-use Rattle.cept_profile.specs.PageParts.{screen_pen_after, paints_after, dclut_list_after}
+use Rattle.cept_profile.specs.Definitions.{Definitions}
+use Rattle.cept_profile.specs.PageParts.{row_pen_back, screen_pen_back, paint_back, dclut_back, pattern_back}
+use Rattle.cept_profile.specs.PageParts.{list_of_rows, list_of_colours, list_of_dclut, list_of_codes, part_after_all}
+use Rattle.cept_profile.specs.PageParts.{row_pens_after, screen_pen_after, paints_after, dclut_list_after}
+use Rattle.cept_profile.specs.PageParts.{patterns_after}
 use Rattle.cept_profile.specs.Strokes.{strokes_back, strokes_of}
 
 -- what a page keeps: a table of its cells, the attributes of its rows and of the screen, the paints of the 32 colour
--- entries, and the colour entries that the DCLUT names
+-- entries, the colour entries that the DCLUT names, and the patterns of the 94 codes of the downloaded set
 pub record Page : Type 0 where
   pub cells : List (List Cell)
   pub row_pens : List Pen
   pub screen_pen : Pen
   pub paints : List Paint
   pub dclut : List ℕ
+  pub patterns : List (Option Pattern)
 
 -- a page, and what the decoder keeps beside it
 pub record State : Type 0 where
@@ -48,6 +52,10 @@ core_of s = record {
   implicit = s.control.implicit;
 }
 
+-- what the signs of a page are drawn with
+abbrev pub definitions_of : Page → Definitions
+definitions_of p = record { paints = p.paints; dclut = p.dclut; patterns = p.patterns }
+
 -- nothing is written and nothing set
 abbrev pub blank_page : Page
 blank_page = record {
@@ -56,6 +64,7 @@ blank_page = record {
   screen_pen = unset_pen;
   paints = list_of_colours default_paint;
   dclut = list_of_dclut (λ i. i);
+  patterns = list_of_codes (λ d. None);
 }
 
 -- the page that strokes leave, the last first: each part by looking back over all of them
@@ -66,6 +75,7 @@ page_back strokes = record {
   screen_pen = screen_pen_back strokes;
   paints = list_of_colours (paint_back strokes);
   dclut = list_of_dclut (dclut_back strokes);
+  patterns = list_of_codes (pattern_back strokes);
 }
 
 -- the page that the commands leave
@@ -88,6 +98,7 @@ page_after p strokes = record {
   screen_pen = part_after_all screen_pen_after p.screen_pen strokes;
   paints = part_after_all paints_after p.paints strokes;
   dclut = part_after_all dclut_list_after p.dclut strokes;
+  patterns = part_after_all patterns_after p.patterns strokes;
 }
 
 -- the state after one more command

@@ -1,12 +1,14 @@
--- Strokes (own): the changes that each command makes to the page. Until a command is built it makes none.
-use Rattle.std.specs.Prelude.{List, [], ◌∷◌, ◌++◌, reverse}
+-- Strokes (own): the changes that each command makes to the page.
+use Rattle.std.specs.Prelude.{List, [], ◌∷◌, ◌++◌, reverse, if◌then◌else◌}
 use Rattle.cept_codes.specs.declared.command.Command.{Command}
 use Rattle.cept_codes.specs.declared.command.Command.TheVariants as commands
+use Rattle.cept_codes.specs.declared.command.Up.TheVariants as ways
 use Rattle.cept_codes.specs.declared.look.Paint.TheVariants as paints
 use Rattle.cept_codes.specs.declared.stroke.Stroke.{Stroke}
 use Rattle.cept_codes.specs.declared.stroke.Stroke.TheVariants as strokes
 use Rattle.cept_profile.specs.Control.{ControlState, state_for_effect, control_back}
 use Rattle.cept_profile.specs.Motions.{below_strokes, above_strokes, on_strokes, back_strokes}
+use Rattle.cept_profile.specs.Motions.{area_in_force, strokes_of_shift}
 use Rattle.cept_profile.specs.Pens.{
   strokes_of_code,
   strokes_of_flash,
@@ -34,6 +36,13 @@ strokes_when s (commands.FullRow n) = strokes_of_row s n
 strokes_when s commands.ColourDefaults = strokes.ColourDefaults ∷ []
 strokes_when s (commands.Entry i colour) = strokes.Colour i (paints.Ink colour) ∷ []
 strokes_when s (commands.Dclut i entry) = strokes.Dclut i entry ∷ []
+strokes_when s (commands.DrcsHeader delete form) = if delete then strokes.DrcsClear ∷ [] else []
+strokes_when s (commands.DrcsPattern code pattern) = strokes.Drcs code pattern ∷ []
+strokes_when s commands.ScrollUp = strokes_of_shift ways.Up (area_in_force s)
+strokes_when s commands.ScrollDown = strokes_of_shift ways.Down (area_in_force s)
+strokes_when s (commands.Format rows wrap) = strokes.Format rows ∷ strokes.Wipe ∷ []
+strokes_when s (commands.FullDefaults set) =
+    strokes.Format 24 ∷ strokes.Wipe ∷ strokes.ScreenClear ∷ strokes.ColourDefaults ∷ strokes.DrcsClear ∷ []
 -- these make no strokes
 strokes_when s commands.Nul = []
 strokes_when s commands.Skipped = []
@@ -59,13 +68,6 @@ strokes_when s (commands.DrcsStart code) = []
 strokes_when s (commands.ServiceBreak row) = []
 strokes_when s commands.ServiceEnd = []
 strokes_when s (commands.ControlDefaults set) = []
--- not built yet: no effect
-strokes_when s commands.ScrollUp = []
-strokes_when s commands.ScrollDown = []
-strokes_when s (commands.DrcsHeader delete form) = []
-strokes_when s (commands.DrcsPattern code pattern) = []
-strokes_when s (commands.Format rows wrap) = []
-strokes_when s (commands.FullDefaults set) = []
 
 -- the strokes of one more command
 abbrev pub strokes_of : ControlState → Command → List Stroke

@@ -8,12 +8,13 @@ use Rattle.cept_codes.specs.Attribute.{IsEntry, IsRowPen, IsScreenPen, IsValidPe
 use Rattle.cept_codes.specs.Cell.{IsValidCell, blank_cell}
 use Rattle.cept_codes.specs.Command.{IsArea, IsValidCommand}
 use Rattle.cept_codes.specs.Glyph.{IsValidGlyph}
-use Rattle.cept_codes.specs.Look.{IsValidLook, blank_look}
+use Rattle.cept_codes.specs.Look.{IsValidLook, IsValidPaint, IsValidPattern, blank_look}
 use Rattle.cept_codes.specs.Place.{OnScreen}
 use Rattle.cept_codes.specs.Stroke.{IsPaintOf}
 use Rattle.cept_codes.specs.Table.{IsTable, value_at}
 use Rattle.cept_profile.specs.Control.{Working, ControlState}
-use Rattle.cept_profile.specs.PageParts.{dclut_in, paint_in, row_pen_in}
+use Rattle.cept_profile.specs.Definitions.{Definitions}
+use Rattle.cept_profile.specs.PageParts.{dclut_in, paint_in, pattern_in, row_pen_in}
 use Rattle.cept_profile.specs.Sets.{Sets}
 use Rattle.cept_profile.specs.State.{Core, Page, State}
 
@@ -46,7 +47,13 @@ pub record IsValidControl (s : ControlState) : Type 0 where
   pub area : IfSome s.area (λ a. IsArea a.0 a.1)
   pub kept : IfSome s.kept IsValidWorking
 
--- 24 rows of 40 valid cells, the blank ones unprotected, and valid attributes of rows and screen, paints and DCLUT
+-- valid paints and patterns, also past the last
+pub record AreValidDefinitions (defined : Definitions) : Type 0 where
+  pub paints : (i : ℕ) → IsValidPaint (paint_in defined.paints i)
+  pub patterns : (code : ℕ) → 0x21 ≤ code → IfSome (pattern_in defined.patterns code) IsValidPattern
+
+-- 24 rows of 40 valid cells, the blank ones unprotected, and valid attributes of rows and screen, paints, DCLUT and
+-- patterns
 pub record IsValidPage (p : Page) : Type 0 where
   pub rows : length p.row_pens ≡ 24
   pub row_pens : (r : ℕ) → 1 ≤ r → r ≤ 24 → IsRowPen (row_pen_in p.row_pens r)
@@ -55,6 +62,8 @@ pub record IsValidPage (p : Page) : Type 0 where
   pub paints : (i : ℕ) → i < 32 → IsPaintOf i (paint_in p.paints i)
   pub names : length p.dclut ≡ 4
   pub dclut : (i : ℕ) → i < 4 → IsEntry (dclut_in p.dclut i)
+  pub codes : length p.patterns ≡ 94
+  pub patterns : (code : ℕ) → 0x21 ≤ code → code ≤ 0x7E → IfSome (pattern_in p.patterns code) IsValidPattern
   pub table : IsTable p.cells
   pub cells : (r c : ℕ) → OnScreen r c → IsValidCell (value_at blank_cell p.cells r c)
   pub free : (r c : ℕ) → OnScreen r c → (value_at blank_cell p.cells r c).what ≡ whats.Blank

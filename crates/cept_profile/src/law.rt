@@ -18,7 +18,9 @@ mod validity;
 
 pub use accents::{accents_wait, single_shifts_wait};
 pub use codes_of_sets::codes_give_signs_or_accents;
-pub use control_settings::{closed_services_are_left_out, settings_look_back};
+pub use control_settings::{
+    closed_services_are_left_out, rows_are_those_of_the_last_format, settings_look_back,
+};
 pub use first_grid::{clearing_blanks_the_cells, the_first_grid};
 pub use looks_in_rows::{looks_hang_on_cells_to_the_left, the_page_and_the_rows_are_seen};
 pub use motions::motions_go_round_the_places;

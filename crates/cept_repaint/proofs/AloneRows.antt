@@ -16,15 +16,15 @@ use Rattle.cept_codes.proofs.Laws.{IsTable-table, look_decides, value_at-table}
 use Rattle.cept_profile.specs.Cells.{is_at, cell_after, cells_after}
 use Rattle.cept_profile.specs.Look.{contents_of_row, is_double_set, look, look_of, looks_of, own_size}
 use Rattle.cept_profile.specs.Look.{part_of}
-use Rattle.cept_profile.specs.PageParts.{paint_in, row_pen_in}
+use Rattle.cept_profile.specs.PageParts.{row_pen_in}
 use Rattle.cept_profile.specs.Reach.{is_last_under_one, is_row_touched, one_touches}
 use Rattle.cept_profile.specs.RowsFromAbove.{covering_differs, look_seen, looks_in}
-use Rattle.cept_profile.specs.State.{Page, page_after}
+use Rattle.cept_profile.specs.State.{Page, definitions_of, page_after}
 use Rattle.cept_profile.specs.Tiling.{covers_below}
 use Rattle.cept_profile.specs.Valid.{IsValidPage}
 use Rattle.cept_repaint.specs.Kept.{OthersStay, core_on, look_alone}
 use Rattle.cept_repaint.specs.MarkedRows.{IsSingleRow, StandsAlone}
-use Rattle.cept_repaint.proofs.PageParts.{page_after-put}
+use Rattle.cept_repaint.proofs.PageParts.{AreWhole-valid, page_after-put}
 use Rattle.cept_repaint.proofs.RowsOfLooks.{covering_differs-below, covering_differs-first, is_other_above-none}
 use Rattle.cept_repaint.proofs.RowsOfLooks.{is_other_covering-same, look_seen-at}
 use Rattle.cept_profile.proofs.Laws.{covers_nothing, covers_nothing-first, look-single, look-untouched}
@@ -53,7 +53,7 @@ pub look-alone : (p : Page) (rows r c : ℕ) → IsValidPage p → OnScreen r c 
 look-alone p rows r c valid on alone =
     look-single (core_on p rows) r c on (own_size-single p rows r valid on.from_top on.to_bottom alone.single)
     (covers_nothing-in p rows (r - 1) valid (omega (arith, on)) (λ low. alone.single_above (omega arith)))
-    ∙ look_in_row-unmarked (paint_in p.paints) (contents_of_row (core_on p rows) r) (row_pen_in p.row_pens r)
+    ∙ look_in_row-unmarked (definitions_of p) (contents_of_row (core_on p rows) r) (row_pen_in p.row_pens r)
     p.screen_pen c on.from_left (λ d low high.
     let there : OnScreen r d =
     record { from_top = on.from_top; to_bottom = on.to_bottom; from_left = low; to_right = omega (arith, on, high) } in
@@ -147,13 +147,13 @@ others_stay_to p q rows place put (suc n) r c on within other =
             look-alone q rows r c put.valid on is
             ∙ ap (λ (x : Page). look_alone x (record { row = r; column = c }))
             (put.put ∙ page_after-put p put.was_valid place put.cell)
-            ∙ ap (λ (x : Cell). look_of (paint_in p.paints) (row_pen_in p.row_pens r) p.screen_pen x.what)
+            ∙ ap (λ (x : Cell). look_of (definitions_of p) (row_pen_in p.row_pens r) p.screen_pen x.what)
             (cell_elsewhere p place put.cell r c on other)
             ∙ sym (look-alone p rows r c put.was_valid on was)
         | inr apart ↦
             let row : n + 1 ≡ r = omega arith in
             look-untouched (core_on p rows) (core_on q rows) (strokes.Put place put.cell ∷ []) r c on
-            put.was_valid.colours put.put
+            (AreWhole-valid p put.was_valid) put.put
             (untouched place put.cell rows r apart)
             (ap (covering_differs (looks_of (core_on p rows)) (looks_of (core_on q rows))) (sym row)
             ∙ covering_stays p q rows place put n (omega (arith, on)) (others_stay_to p q rows place put n))

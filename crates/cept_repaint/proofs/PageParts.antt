@@ -1,7 +1,7 @@
 -- The parts of a page beside its cells: left as they are, or with one entry written, and all parts stroke by stroke.
 use Rattle.std.specs.List.{AllByRecursion}
 use Rattle.std.proofs.Common.{◌≡◌, ℕ, ◌+◌, ◌≤◌, ◌<◌, ◌==◌, Bool, true, false, cond, List, [], ◌∷◌, drop, get_or, set}
-use Rattle.std.proofs.Common.{replicate, length, refl, sym, ap, subst, ◌∙◌, inl, inr, arith}
+use Rattle.std.proofs.Common.{Option, None, replicate, length, refl, sym, ap, subst, ◌∙◌, inl, inr, arith}
 use Rattle.std.proofs.lemmas.Bool.{cases_eq, cond-true, cond-false, true≢false}
 use Rattle.std.proofs.lemmas.Bool.Decides.{nat_tests}
 use Rattle.std.proofs.lemmas.List.{at_drop_more, at_drop_all}
@@ -9,6 +9,7 @@ use Rattle.std.proofs.lemmas.List.Elements.{All-from_recursion}
 use Rattle.cept_codes.specs.declared.attribute.Attr.{Attr}
 use Rattle.cept_codes.specs.declared.attribute.Pen.{Pen}
 use Rattle.cept_codes.specs.declared.look.Paint.{Paint}
+use Rattle.cept_codes.specs.declared.look.Pattern.{Pattern}
 use Rattle.cept_codes.specs.declared.cell.Cell.{Cell}
 use Rattle.cept_codes.specs.declared.stroke.Stroke.{Stroke}
 use Rattle.cept_codes.specs.declared.stroke.Stroke.TheVariants as strokes
@@ -23,9 +24,10 @@ use Rattle.cept_colours.specs.Colours.{ColourTables, default_colours}
 use Rattle.cept_profile.specs.Cells.{cell_back, cells_after, cells_after_all}
 use Rattle.cept_profile.specs.PageParts.{dclut_in, dclut_list_after, list_of_colours, list_of_dclut, list_of_rows}
 use Rattle.cept_profile.specs.PageParts.{paint_in, paints_after, part_after_all, row_pen_in, row_pens_after}
-use Rattle.cept_profile.specs.PageParts.{screen_pen_after}
+use Rattle.cept_profile.specs.PageParts.{list_of_codes, pattern_in, patterns_after, screen_pen_after}
 use Rattle.cept_profile.specs.Pens.{pen_with}
-use Rattle.cept_profile.specs.State.{Page, page, page_after}
+use Rattle.cept_profile.specs.Definitions.{AreWhole}
+use Rattle.cept_profile.specs.State.{Page, definitions_of, page, page_after}
 use Rattle.cept_profile.specs.Valid.{IsValidPage}
 use Rattle.cept_repaint.specs.Drawn.{IsDrawn}
 
@@ -49,6 +51,12 @@ sets_dclut (strokes.Dclut i v) = true
 sets_dclut strokes.ColourDefaults = true
 sets_dclut _ = false
 
+-- a pattern
+abbrev pub sets_patterns : Stroke → Bool
+sets_patterns (strokes.Drcs code pattern) = true
+sets_patterns strokes.DrcsClear = true
+sets_patterns _ = false
+
 row_pens_again : (pens : List Pen) → length pens ≡ 24 → list_of_rows (row_pen_in pens) ≡ pens
 row_pens_again pens long = list_by_index-entry unset_pen 1 24 pens long
 
@@ -57,6 +65,10 @@ paints_again paints long = list_by_index-entry black_paint 0 32 paints long
 
 dclut_again : (dclut : List ℕ) → length dclut ≡ 4 → list_of_dclut (dclut_in dclut) ≡ dclut
 dclut_again dclut long = list_by_index-entry 0 0 4 dclut long
+
+patterns_again : (patterns : List (Option Pattern)) → length patterns ≡ 94
+    → list_of_codes (pattern_in patterns) ≡ patterns
+patterns_again patterns long = list_by_index-entry None 0x21 94 patterns long
 
 pub row_pens_left : (pens : List Pen) (stroke : Stroke) → length pens ≡ 24 → sets_rows stroke ≡ false
     → row_pens_after pens stroke ≡ pens
@@ -106,6 +118,22 @@ dclut_left dclut strokes.DrcsClear long none = dclut_again dclut long
 dclut_left dclut (strokes.Drcs code pattern) long none = dclut_again dclut long
 dclut_left dclut (strokes.Format rows) long none = dclut_again dclut long
 
+pub patterns_left : (patterns : List (Option Pattern)) (stroke : Stroke) → length patterns ≡ 94
+    → sets_patterns stroke ≡ false → patterns_after patterns stroke ≡ patterns
+patterns_left patterns (strokes.Put p cell) long none = patterns_again patterns long
+patterns_left patterns (strokes.Erase row from) long none = patterns_again patterns long
+patterns_left patterns strokes.Wipe long none = patterns_again patterns long
+patterns_left patterns (strokes.Shift a b way) long none = patterns_again patterns long
+patterns_left patterns (strokes.RowAttr row attr) long none = patterns_again patterns long
+patterns_left patterns (strokes.ScreenAttr attr) long none = patterns_again patterns long
+patterns_left patterns strokes.ScreenClear long none = patterns_again patterns long
+patterns_left patterns (strokes.Colour i paint) long none = patterns_again patterns long
+patterns_left patterns (strokes.Dclut i v) long none = patterns_again patterns long
+patterns_left patterns strokes.ColourDefaults long none = patterns_again patterns long
+patterns_left patterns strokes.DrcsClear long none = absurd (true≢false none)
+patterns_left patterns (strokes.Drcs code pattern) long none = absurd (true≢false none)
+patterns_left patterns (strokes.Format rows) long none = patterns_again patterns long
+
 pub ruleset colours_left = (paints_left, dclut_left)
 
 -- ---- an attribute of a row set
@@ -138,23 +166,29 @@ unfolding list_by_index
 row_pens_unset = refl
 
 -- the page at the start, by its parts
-pub page_start : (cells : List (List Cell)) (t : ColourTables) → cells ≡ table (λ _ _. blank_cell)
-    → t ≡ default_colours
+pub page_start : (cells : List (List Cell)) (t : ColourTables) (patterns : List (Option Pattern))
+    → cells ≡ table (λ _ _. blank_cell) → t ≡ default_colours → patterns ≡ list_of_codes (λ _. None)
     → (let p : Page = record {
       cells = cells;
       row_pens = replicate 24 unset_pen;
       screen_pen = unset_pen;
       paints = t.paints;
       dclut = t.dclut;
+      patterns = patterns;
     } in p) ≡ page []
 unfolding cell_back
-page_start cells t e et i = record {
+page_start cells t patterns e et ep i = record {
   cells = e i;
   row_pens = row_pens_unset i;
   screen_pen = unset_pen;
   paints = (et i).paints;
   dclut = (et i).dclut;
+  patterns = ep i;
 }
+
+-- a valid page has all that signs are drawn with
+pub AreWhole-valid : (p : Page) → IsValidPage p → AreWhole (definitions_of p)
+AreWhole-valid p valid = record { colours = valid.colours; names = valid.names; codes = valid.codes }
 
 -- ---- all parts, stroke by stroke
 
@@ -172,6 +206,7 @@ page_after-more p q x xs m i = record {
   screen_pen = part_after_all screen_pen_after (m.screen_pen i) xs;
   paints = part_after_all paints_after (m.paints i) xs;
   dclut = part_after_all dclut_list_after (m.dclut i) xs;
+  patterns = part_after_all patterns_after (m.patterns i) xs;
 }
 
 pub page_after-drop : (p q : Page) (xs : List Stroke) (i : ℕ) (x : Stroke) → i < length xs → x ≡ get_or xs i x
@@ -193,14 +228,16 @@ page_after-one p q x m = sym (page_after-nil q) ∙ page_after-more p q x [] m
 
 -- a cell that is put leaves all other parts
 pub IsDrawn-put : (p : Page) (place : Place) (cell : Cell) (cells : List (List Cell)) → length p.row_pens ≡ 24
-    → length p.paints ≡ 32 → length p.dclut ≡ 4 → cells ≡ cells_after p.cells (strokes.Put place cell)
+    → length p.paints ≡ 32 → length p.dclut ≡ 4 → length p.patterns ≡ 94
+    → cells ≡ cells_after p.cells (strokes.Put place cell)
     → IsDrawn p (strokes.Put place cell) (record p { cells = cells })
-IsDrawn-put p place cell cells rows colours names e = record {
+IsDrawn-put p place cell cells rows colours names codes e = record {
   cells = e;
   row_pens = sym (row_pens_again p.row_pens rows);
   screen_pen = refl;
   paints = sym (paints_again p.paints colours);
   dclut = sym (dclut_again p.dclut names);
+  patterns = sym (patterns_again p.patterns codes);
 }
 
 pub page_after-put : (p : Page) → IsValidPage p → (place : Place) (cell : Cell)
@@ -208,5 +245,5 @@ pub page_after-put : (p : Page) → IsValidPage p → (place : Place) (cell : Ce
 page_after-put p valid place cell =
     let next : Page = record p { cells = cells_after p.cells (strokes.Put place cell) } in
     sym (page_after-more p next (strokes.Put place cell) []
-    (IsDrawn-put p place cell next.cells valid.rows valid.colours valid.names refl))
+    (IsDrawn-put p place cell next.cells valid.rows valid.colours valid.names valid.codes refl))
     ∙ page_after-nil next

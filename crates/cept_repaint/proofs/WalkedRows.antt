@@ -11,7 +11,8 @@ use Rattle.cept_profile.specs.Changes.{differences}
 use Rattle.cept_profile.specs.Look.{is_last_row, look, looks_of}
 use Rattle.cept_profile.specs.Reach.{is_last_under_one, is_row_touched, one_touches}
 use Rattle.cept_profile.specs.RowsFromAbove.{covering_differs, looks_in}
-use Rattle.cept_profile.specs.State.{Core, Page, page_after}
+use Rattle.cept_profile.specs.Definitions.{AreWhole}
+use Rattle.cept_profile.specs.State.{Core, Page, definitions_of, page_after}
 use Rattle.cept_repaint.specs.Kept.{core_on, is_other_above, is_reached, reached_rows, row_beneath, IsRefreshed}
 use Rattle.cept_repaint.specs.Kept.{IsRefreshedRow, UnreachedStay}
 use Rattle.cept_repaint.specs.Marks.{no_marks}
@@ -154,12 +155,12 @@ WalkedTo-cost {xs} {before} {k} {was} {now} {former} {marks} {covered} {start} {
 
 -- rows that the strokes don't reach stay, where they were drawn
 pub UnreachedStay-drawn : (p q : Page) (xs : List Stroke) (before after : ℕ) (was : List (List Look))
-    → length p.paints ≡ 32 → was ≡ looks_of (core_on p before) → q ≡ page_after p xs
+    → AreWhole (definitions_of p) → was ≡ looks_of (core_on p before) → q ≡ page_after p xs
     → UnreachedStay xs before was (core_on q after)
-UnreachedStay-drawn p q xs before after was long e drawn r c on none =
+UnreachedStay-drawn p q xs before after was whole e drawn r c on none =
     let k : Core = core_on p before in
     let m : Core = core_on q after in
     let parts = or_parts (is_row_touched xs before after r) (covering_differs was (looks_of m) r) none in
     ap (λ (t : List (List Look)). value_at blank_look t r c) e ∙ value_at-table (look k) blank_look r c on
-    ∙ sym (look-untouched k m xs r c on long drawn parts.0
+    ∙ sym (look-untouched k m xs r c on whole drawn parts.0
     (ap (λ (g : List (List Look)). covering_differs g (looks_of m) r) (sym e) ∙ parts.1))

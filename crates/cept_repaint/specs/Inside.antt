@@ -9,4 +9,5 @@ page_of p = record {
   screen_pen = p.screen_pen;
   paints = p.colours.paints;
   dclut = p.colours.dclut;
+  patterns = p.patterns;
 }

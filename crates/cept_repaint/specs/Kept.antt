@@ -13,10 +13,10 @@ use Rattle.cept_codes.specs.Same.{same_look}
 use Rattle.cept_codes.specs.Table.{value_at, IsTable}
 use Rattle.cept_profile.specs.Cells.{is_at}
 use Rattle.cept_profile.specs.Look.{look, look_in_row, look_of, looks_of, size_in_row}
-use Rattle.cept_profile.specs.PageParts.{paint_in, row_pen_in}
+use Rattle.cept_profile.specs.PageParts.{row_pen_in}
 use Rattle.cept_profile.specs.Reach.{is_row_touched}
 use Rattle.cept_profile.specs.RowsFromAbove.{covering_differs, is_other_covering, row_from_above}
-use Rattle.cept_profile.specs.State.{Core, Page, State, core_of}
+use Rattle.cept_profile.specs.State.{Core, Page, State, core_of, definitions_of}
 use Rattle.cept_profile.specs.Tiling.{column_entry}
 use Rattle.cept_profile.specs.Valid.{IsValidState}
 use Rattle.cept_repaint.specs.Marks.{is_marked}
@@ -37,13 +37,13 @@ contents_in p r c = (value_at blank_cell p.cells r c).what
 abbrev pub row_beneath : List Look → Page → ℕ → Bool → List Look
 row_beneath above p r last =
     row_from_above above
-    (look_in_row (paint_in p.paints) (contents_in p r) (row_pen_in p.row_pens r) p.screen_pen)
+    (look_in_row (definitions_of p) (contents_in p r) (row_pen_in p.row_pens r) p.screen_pen)
     (size_in_row (contents_in p r) (row_pen_in p.row_pens r) p.screen_pen) last
 
 -- how what stands in a cell of a page looks by itself
 abbrev pub look_alone : Page → Place → Look
 look_alone p place =
-    look_of (paint_in p.paints) (row_pen_in p.row_pens place.row) p.screen_pen (cell_at p place).what
+    look_of (definitions_of p) (row_pen_in p.row_pens place.row) p.screen_pen (cell_at p place).what
 
 -- strokes reach row r, where the page had so many rows before and has so many after, and these were and are its looks
 abbrev pub is_reached : List Stroke → ℕ → ℕ → List (List Look) → List (List Look) → ℕ → Bool

@@ -10,6 +10,7 @@ use Rattle.cept_codes.specs.declared.stroke.Stroke.TheVariants as strokes
 use Rattle.cept_codes.specs.Cell.{blank_cell}
 use Rattle.cept_codes.specs.Place.{OnScreen}
 use Rattle.cept_codes.specs.Table.{value_at, entry}
+use Rattle.cept_profile.specs.Cells.{shifted}
 use Rattle.cept_profile.specs.Look.{is_double, is_double_set, sets_double_size}
 use Rattle.cept_profile.specs.PageParts.{row_pen_in}
 use Rattle.cept_profile.specs.Serial.{is_marker}
@@ -47,23 +48,27 @@ pub record IsKeptPage (p : Page) (marked sized : List Bool) : Type 0 where
   pub rows : length p.row_pens ≡ 24
   pub colours : length p.paints ≡ 32
   pub names : length p.dclut ≡ 4
+  pub codes : length p.patterns ≡ 94
   pub markers : AreRowFlags (HasNone is_marker p.cells) marked
   pub sizes : AreRowFlags (IsSingleRow p) sized
 
--- the flag of row r after a stroke, by the flag before it: something such that is put sets its own, a wipe unsets each
-abbrev pub flag_after : (What → Bool) → Stroke → Bool → ℕ → Bool
-flag_after is_such (strokes.Put p cell) was r = was || (p.row == r && is_such cell.what)
+-- the flag of row r after a stroke, by the flags before it: something such that is put sets its own, a wipe unsets each,
+-- and a shift moves them with the cells
+abbrev pub flag_after : (What → Bool) → Stroke → (ℕ → Bool) → ℕ → Bool
+flag_after is_such (strokes.Put p cell) was r = was r || (p.row == r && is_such cell.what)
 flag_after is_such strokes.Wipe was r = false
-flag_after is_such _ was r = was
+flag_after is_such (strokes.Shift first last way) was r = shifted way first last false was r
+flag_after is_such _ was r = was r
 
 -- an attribute of a double size
 abbrev pub gives_size : Attr → Bool
 gives_size (attrs.Size size) = is_double size
 gives_size _ = false
 
--- the flag of sizes: an attribute of its row sets it too
-abbrev pub size_flag_after : Stroke → Bool → ℕ → Bool
-size_flag_after (strokes.Put p cell) was r = was || (p.row == r && sets_double_size cell.what)
-size_flag_after (strokes.RowAttr row attr) was r = was || (row == r && gives_size attr)
+-- the flag of sizes: an attribute of its row sets it too, and stays where a shift moves the cells
+abbrev pub size_flag_after : Stroke → (ℕ → Bool) → ℕ → Bool
+size_flag_after (strokes.Put p cell) was r = was r || (p.row == r && sets_double_size cell.what)
+size_flag_after (strokes.RowAttr row attr) was r = was r || (row == r && gives_size attr)
 size_flag_after strokes.Wipe was r = false
-size_flag_after _ was r = was
+size_flag_after (strokes.Shift first last way) was r = was r || shifted way first last false was r
+size_flag_after _ was r = was r

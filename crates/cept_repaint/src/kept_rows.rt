@@ -6,35 +6,38 @@ ghost use Rattle.cept_codes.specs.Place.{OnScreen};
 ghost use Rattle.cept_codes.specs.Table.{table, IsTable};
 ghost use Rattle.cept_profile.specs.Changes.{look_at, grid_with_paint};
 ghost use Rattle.cept_profile.specs.Look.{look_of};
-ghost use Rattle.cept_profile.specs.PageParts.{paint_in};
+ghost use Rattle.cept_rows.specs.DrawnWith.{drawn_with};
 ghost use Rattle.cept_profile.specs.RowsFromAbove.{looks_in};
 ghost use Rattle.cept_profile.specs.Tiling.{column_entry};
 ghost use Rattle.cept_repaint.specs.Kept.{looks_differ};
 
 use cept_codes::{Look, NoMemory, Pen, Pos, What};
 use cept_colours::Colours;
+use cept_drcs::Patterns;
 use cept_outside::Steps;
 use cept_rows::RowLooks;
 use std::alloc::Global;
 use std::marker::Model;
 use std::sync::ledger::Ledger;
 
-/// The looks of the screen, as they are kept: 24 rows of 40.
+/// The looks of the screen, as they are kept: 24 rows of 40, and the blank ones above the first.
 #[derive(Drop)]
 pub(crate) struct KeptRows {
     rows: Vec<RowLooks>,
+    flat: RowLooks,
 }
 
 impl Model for KeptRows {
-    ghost use Rattle.std.specs.Prelude.{List};
+    ghost use Rattle.std.specs.Prelude.{List, ◌≡◌};
     ghost use Rattle.cept_codes.specs.declared.look.Look.{Look};
     ghost use Rattle.cept_codes.specs.Table.{IsTable};
+    ghost use Rattle.cept_profile.specs.RowsFromAbove.{blank_looks};
 
     ghost Value = { List (List Look) };
 
     ghost view = { λ l. l.rows.items };
 
-    ghost invariant = { λ l. IsTable l.rows.items };
+    ghost invariant = { λ l. IsTable l.rows.items × (l.flat ≡ blank_looks) };
 }
 
 impl KeptRows {
@@ -46,7 +49,10 @@ impl KeptRows {
         for _row in 0..24usize {
             rows.push(RowLooks::flat())?;
         }
-        Ok(KeptRows { rows })
+        Ok(KeptRows {
+            rows,
+            flat: RowLooks::flat(),
+        })
     }
 
     /// The looks of a row, where they stand.
@@ -56,6 +62,19 @@ impl KeptRows {
         ensures { result.now ≡ looks_in self.now row }
     {
         &self.rows[usize::from(row) - 1]
+    }
+
+    /// The looks of the row above a row, where they stand.
+    pub(crate) fn above(&self, row: u8) -> &RowLooks
+        requires from_top { 1 ≤ row }
+        requires to_bottom { row ≤ 24 }
+        ensures { result.now ≡ looks_in self.now (row - 1) }
+    {
+        if row == 1 {
+            &self.flat
+        } else {
+            &self.rows[usize::from(row) - 2]
+        }
     }
 
     /// The look at a place.
@@ -73,15 +92,15 @@ impl KeptRows {
         let _rows = &self.rows;
     }
 
-    /// Replaces the looks of a row.
-    pub(crate) fn replace(&mut self, row: u8, looks: RowLooks)
+    /// Takes over the looks of a row.
+    pub(crate) fn copy_row(&mut self, row: u8, looks: &RowLooks)
         requires from_top { 1 ≤ row }
         requires to_bottom { row ≤ 24 }
-        ensures rows { self.new ≡ slice_set self.old (row - 1) looks }
-        ensures columns { length looks ≡ 40 }
+        ensures rows { self.new ≡ slice_set self.old (row - 1) looks.now }
+        ensures columns { length looks.now ≡ 40 }
     {
         looks.tell_columns();
-        self.rows[usize::from(row) - 1] = looks;
+        self.rows[usize::from(row) - 1].copy_from(looks);
     }
 
     /// Takes over the look at a place from the looks of its row.
@@ -101,19 +120,20 @@ impl KeptRows {
         row: &Pen,
         screen: &Pen,
         colours: &Colours,
+        patterns: &Patterns,
         steps: &mut Steps<L>,
     ) -> bool
         requires valid { IsValidWhat what.now }
         requires row { IsValidPen row.now }
         requires screen { IsValidPen screen.now }
         ensures looks { self.new ≡ grid_with_paint self.old place
-            (look_of (paint_in colours.now.paints) row.now screen.now what.now) }
+            (look_of (drawn_with colours.now patterns.now) row.now screen.now what.now) }
         ensures differs { result ≡ looks_differ (look_at self.old place)
-            (look_of (paint_in colours.now.paints) row.now screen.now what.now) }
+            (look_of (drawn_with colours.now patterns.now) row.now screen.now what.now) }
         ensures on_screen { OnScreen place.row place.column }
         ensures tick { steps.new ≡ steps.old + 1 }
     {
         let kept = &mut self.rows[usize::from(place.row()) - 1];
-        kept.resolve_alone(place.col(), what, row, screen, colours, steps)
+        kept.resolve_alone(place.col(), what, row, screen, colours, patterns, steps)
     }
 }

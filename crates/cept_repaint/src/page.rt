@@ -11,11 +11,12 @@ ghost use Rattle.cept_repaint.specs.Drawn.{IsDrawn};
 ghost use Rattle.cept_repaint.specs.Kept.{row_beneath};
 ghost use Rattle.cept_repaint.specs.MarkedRows.{StandsAlone};
 
-use crate::page_parts::{set_colours, set_row_pens, set_screen_pen};
+use crate::page_parts::{set_colours, set_patterns, set_row_pens, set_screen_pen};
 use crate::row_flags::{flag_put, flag_rows, is_unflagged};
 use cept_cells::Grid;
 use cept_codes::{Cell, NoMemory, Pen, Pos, Stroke, What};
 use cept_colours::Colours;
+use cept_drcs::Patterns;
 use cept_outside::Steps;
 use cept_rows::{RowLooks, resolve_cells};
 use std::alloc::Global;
@@ -23,7 +24,7 @@ use std::marker::Model;
 use std::sync::ledger::Ledger;
 
 /// What strokes change: the cells of the screen, the attributes of its rows and of the whole, the
-/// colour entries and the DCLUT. Beside them stands for each row whether it may have a marker, and
+/// colour entries, the DCLUT and the patterns. Beside them stands for each row whether it may have a marker, and
 /// whether a double size may be set in it.
 #[derive(Drop)]
 pub(crate) struct Page {
@@ -31,6 +32,7 @@ pub(crate) struct Page {
     row_pens: [Pen; 24],
     screen_pen: Pen,
     colours: Colours,
+    patterns: Patterns,
     marked: [bool; 24],
     sized: [bool; 24],
 }
@@ -53,11 +55,13 @@ impl Page {
         ensures { IfOk result (λ made. made ≡ page []) }
     {
         let grid = Grid::new(alloc)?;
+        let patterns = Patterns::new(alloc)?;
         Ok(Page {
             grid,
             row_pens: [Pen::UNSET; 24],
             screen_pen: Pen::UNSET,
             colours: Colours::new(),
+            patterns,
             marked: [false; 24],
             sized: [false; 24],
         })
@@ -108,18 +112,26 @@ impl Page {
         &self.colours
     }
 
-    /// The looks of a row beneath those of the row above. One tick.
+    /// The patterns, where they stand.
+    pub(crate) fn patterns(&self) -> &Patterns
+        ensures { result.now ≡ self.now.patterns }
+    {
+        &self.patterns
+    }
+
+    /// Resolves the looks of a row beneath those of the row above. One tick.
     pub(crate) fn resolve_row<L: Ledger>(
         &self,
         row: u8,
         above: &RowLooks,
         last: bool,
+        looks: &mut RowLooks,
         steps: &mut Steps<L>,
-    ) -> RowLooks
+    )
         requires from_top { 1 ≤ row }
         requires to_bottom { row ≤ 24 }
         requires valid { IsValidPage self.now }
-        ensures looks { result ≡ row_beneath above.now self.now row last }
+        ensures looks { looks.new ≡ row_beneath above.now self.now row last }
         ensures tick { steps.new ≡ steps.old + 1 }
     {
         let cells = self.grid.cells(row);
@@ -131,8 +143,10 @@ impl Page {
             above,
             last,
             &self.colours,
+            &self.patterns,
+            looks,
             steps,
-        )
+        );
     }
 
     /// Changes the page as the strokes do, one after the other.
@@ -168,6 +182,7 @@ impl Page {
         set_row_pens(stroke, &mut self.row_pens);
         set_screen_pen(stroke, &mut self.screen_pen);
         set_colours(stroke, &mut self.colours);
+        set_patterns(stroke, &mut self.patterns);
         flag_rows(stroke, &mut self.marked, &mut self.sized);
     }
 }

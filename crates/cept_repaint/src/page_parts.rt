@@ -1,11 +1,12 @@
 ghost use Rattle.std.specs.Prelude.{◌≡◌, length};
 ghost use Rattle.cept_codes.specs.Stroke.{IsValidStroke};
-ghost use Rattle.cept_profile.specs.PageParts.{dclut_list_after, paints_after};
+ghost use Rattle.cept_profile.specs.PageParts.{dclut_list_after, paints_after, patterns_after};
 ghost use Rattle.cept_profile.specs.PageParts.{row_pens_after, screen_pen_after};
 ghost use Rattle.cept_profile.specs.Pens.{pen_with};
 
 use cept_codes::{Attr, Pen, Stroke};
 use cept_colours::Colours;
+use cept_drcs::Patterns;
 
 /// Changes the attributes of rows as a stroke does.
 #[tactic(auto, using(crate::proofs::PageParts::row_pens_left))]
@@ -29,9 +30,8 @@ pub(crate) fn set_row_pens(stroke: &Stroke, pens: &mut [Pen; 24])
         | Stroke::ColourDefaults
         | Stroke::DrcsClear
         | Stroke::Drcs(_, _)
+        | Stroke::Shift(_, _, _)
         | Stroke::Format(_) => {}
-        // Not built yet: no effect.
-        Stroke::Shift(_, _, _) => {}
     }
 }
 
@@ -80,6 +80,31 @@ pub(crate) fn set_colours(stroke: &Stroke, colours: &mut Colours)
         | Stroke::ScreenClear
         | Stroke::DrcsClear
         | Stroke::Drcs(_, _)
+        | Stroke::Format(_) => {}
+    }
+}
+
+/// Changes the patterns as a stroke does.
+#[tactic(auto, using(crate::proofs::PageParts::patterns_left))]
+pub(crate) fn set_patterns(stroke: &Stroke, patterns: &mut Patterns)
+    requires valid { IsValidStroke stroke.now }
+    requires codes { length patterns.old ≡ 94 }
+    ensures { patterns.new ≡ patterns_after patterns.old stroke.now }
+{
+    match stroke {
+        Stroke::Drcs(code, pattern) => patterns.define(*code, *pattern),
+        Stroke::DrcsClear => patterns.clear(),
+        // These change no pattern.
+        Stroke::Put(_, _)
+        | Stroke::Erase(_, _)
+        | Stroke::Wipe
+        | Stroke::Shift(_, _, _)
+        | Stroke::RowAttr(_, _)
+        | Stroke::ScreenAttr(_)
+        | Stroke::ScreenClear
+        | Stroke::Colour(_, _)
+        | Stroke::Dclut(_, _)
+        | Stroke::ColourDefaults
         | Stroke::Format(_) => {}
     }
 }

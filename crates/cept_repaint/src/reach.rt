@@ -1,5 +1,5 @@
 ghost use Rattle.std.specs.Prelude.{◌≡◌, ◌≤◌, ◌<◌, ◌+◌, ◌-◌, ◌||◌, ℕ, false, [], ◌∷◌, length};
-ghost use Rattle.std.specs.Prelude.{slice_index_or, IfSome};
+ghost use Rattle.std.specs.Prelude.{slice_index_or, IfSome, nat_le, ◌&&◌};
 ghost use Rattle.cept_codes.specs.declared.cell.Cell.{Cell};
 ghost use Rattle.cept_codes.specs.Table.{list_by_index, entry};
 ghost use Rattle.cept_profile.specs.Look.{is_last_row};
@@ -61,9 +61,25 @@ fn flag_touched(stroke: &Stroke, rows: &mut [bool; 24])
         | Stroke::ScreenClear
         | Stroke::Colour(_, _)
         | Stroke::Dclut(_, _)
-        | Stroke::ColourDefaults => *rows = [true; 24],
-        // Not built yet: no effect.
-        Stroke::Shift(_, _, _) | Stroke::DrcsClear | Stroke::Drcs(_, _) | Stroke::Format(_) => {}
+        | Stroke::ColourDefaults
+        | Stroke::DrcsClear
+        | Stroke::Drcs(_, _) => *rows = [true; 24],
+        Stroke::Shift(first, last, _) => flag_area(*first, *last, rows),
+        // A format touches the rows that become last, or are so no longer.
+        Stroke::Format(_) => {}
+    }
+}
+
+/// Flags the rows of an area.
+fn flag_area(first: u8, last: u8, rows: &mut [bool; 24])
+    requires flags { length rows.old ≡ 24 }
+    ensures flags { length rows.new ≡ 24 }
+    ensures rows { (r : ℕ) → 1 ≤ r → r ≤ 24
+        → entry false 1 rows.new r
+        ≡ (entry false 1 rows.old r || (nat_le first r && nat_le r last)) }
+{
+    for i in 0..24usize {
+        rows[i] = rows[i] || (usize::from(first) <= i + 1 && i + 1 <= usize::from(last));
     }
 }
 

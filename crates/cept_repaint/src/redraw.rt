@@ -51,6 +51,7 @@ pub(crate) fn redraw<L: Ledger>(
     before: u8,
     after: u8,
     kept: &mut KeptRows,
+    fresh: &mut RowLooks,
     marks: &mut Marks,
     steps: &mut Steps<L>,
 )
@@ -67,7 +68,7 @@ pub(crate) fn redraw<L: Ledger>(
     marks.clear();
     if before != after {
         page.draw_all(strokes);
-        refresh_rows(page, strokes, before, after, kept, marks, steps);
+        refresh_rows(page, strokes, before, after, kept, fresh, marks, steps);
         return;
     }
     if strokes.is_empty() {
@@ -78,12 +79,12 @@ pub(crate) fn redraw<L: Ledger>(
             if page.put(put.place, put.cell) {
                 refresh_place(page, put.place, kept, marks, steps);
             } else {
-                refresh_rows(page, strokes, before, after, kept, marks, steps);
+                refresh_rows(page, strokes, before, after, kept, fresh, marks, steps);
             }
         }
         None => {
             page.draw_all(strokes);
-            refresh_rows(page, strokes, before, after, kept, marks, steps);
+            refresh_rows(page, strokes, before, after, kept, fresh, marks, steps);
         }
     }
 }
@@ -128,7 +129,15 @@ fn resolve_alone<L: Ledger>(
 {
     let what = page.what(place);
     let row = page.row_pen(place.row());
-    kept.resolve_alone(place, what, row, page.screen_pen(), page.colours(), steps)
+    kept.resolve_alone(
+        place,
+        what,
+        row,
+        page.screen_pen(),
+        page.colours(),
+        page.patterns(),
+        steps,
+    )
 }
 
 /// Resolves the rows that the strokes reach, from the top, where all others have the looks that are
@@ -139,6 +148,7 @@ fn refresh_rows<L: Ledger>(
     before: u8,
     after: u8,
     kept: &mut KeptRows,
+    fresh: &mut RowLooks,
     marks: &mut Marks,
     steps: &mut Steps<L>,
 )
@@ -158,7 +168,15 @@ fn refresh_rows<L: Ledger>(
         if !(changed | covered) {
             continue;
         }
-        covered = refresh_row(page, row, is_last_row(after, row), kept, marks, steps);
+        covered = refresh_row(
+            page,
+            row,
+            is_last_row(after, row),
+            kept,
+            fresh,
+            marks,
+            steps,
+        );
     }
 }
 
@@ -169,6 +187,7 @@ fn refresh_row<L: Ledger>(
     row: u8,
     last: bool,
     kept: &mut KeptRows,
+    fresh: &mut RowLooks,
     marks: &mut Marks,
     steps: &mut Steps<L>,
 ) -> bool
@@ -181,31 +200,10 @@ fn refresh_row<L: Ledger>(
     ensures tick { steps.new ≡ steps.old + 1 }
 {
     kept.tell_whole();
-    let fresh = resolve_beneath(page, row, last, kept, steps);
-    let covered = mark_differences(row, kept.row(row), &fresh, marks);
-    kept.replace(row, fresh);
+    page.resolve_row(row, kept.above(row), last, fresh, steps);
+    let covered = mark_differences(row, kept.row(row), fresh, marks);
+    kept.copy_row(row, fresh);
     covered
-}
-
-/// The looks of a row beneath the looks kept of the row above. One tick.
-fn resolve_beneath<L: Ledger>(
-    page: &Page,
-    row: u8,
-    last: bool,
-    kept: &KeptRows,
-    steps: &mut Steps<L>,
-) -> RowLooks
-    requires from_top { 1 ≤ row }
-    requires to_bottom { row ≤ 24 }
-    requires valid { IsValidPage page.now }
-    ensures looks { result ≡ row_beneath (looks_in kept.now (row - 1)) page.now row last }
-    ensures tick { steps.new ≡ steps.old + 1 }
-{
-    if row == 1 {
-        page.resolve_row(row, &RowLooks::flat(), last, steps)
-    } else {
-        page.resolve_row(row, kept.row(row - 1), last, steps)
-    }
 }
 
 /// Marks the places of a row at which two rows of looks differ. Answers whether one of the looks

@@ -1,14 +1,14 @@
-ghost use Rattle.std.specs.Prelude.{◌≡◌, ◌≤◌, ◌<◌, ◌+◌, List, [], ◌∷◌, ◌++◌, IfOk};
+ghost use Rattle.std.specs.Prelude.{◌≡◌, ◌≤◌, ◌<◌, ◌+◌, List, [], ◌∷◌, ◌++◌, IfOk, IfSome};
 ghost use Rattle.cept_codes.specs.declared.command.Command.{Command};
 ghost use Rattle.cept_codes.specs.Attribute.{IsEntry, IsRowPen, IsScreenPen};
 ghost use Rattle.cept_codes.specs.Cell.{IsValidCell};
 ghost use Rattle.cept_codes.specs.Command.{IsValidCommand};
-ghost use Rattle.cept_codes.specs.Look.{IsValidLook};
+ghost use Rattle.cept_codes.specs.Look.{IsValidLook, IsValidPattern};
 ghost use Rattle.cept_codes.specs.Stroke.{IsPaintOf};
 ghost use Rattle.cept_profile.specs.Changes.{look_at, differences, changes_between};
 ghost use Rattle.cept_profile.specs.Changes.{grid_with_paints};
 ghost use Rattle.cept_profile.specs.Look.{looks_of};
-ghost use Rattle.cept_profile.specs.PageParts.{dclut_in, paint_in, row_pen_in};
+ghost use Rattle.cept_profile.specs.PageParts.{dclut_in, paint_in, pattern_in, row_pen_in};
 ghost use Rattle.cept_profile.specs.Reach.{rows_in_reach};
 ghost use Rattle.cept_profile.specs.RowsFromAbove.{looks_in};
 ghost use Rattle.cept_profile.specs.State.{state, state_after, core_of};
@@ -23,7 +23,7 @@ use crate::page::Page;
 use crate::painting::paint_marked;
 use crate::redraw::redraw;
 use arrayvec::ArrayVec;
-use cept_codes::{Cell, Command, Look, NoMemory, Paint, Pen, Pos, Stroke};
+use cept_codes::{Cell, Command, Look, NoMemory, Paint, Pattern, Pen, Pos, Stroke};
 use cept_control::Control;
 use cept_outside::Steps;
 use cept_rows::RowLooks;
@@ -31,12 +31,14 @@ use std::alloc::Global;
 use std::marker::Model;
 use std::sync::ledger::Ledger;
 
-/// A decoder's screen: its page, its control, and the looks of all rows.
+/// A decoder's screen: its page, its control, and the looks of all rows. Beside these there is room
+/// for a row while it is resolved, and for the strokes of a command.
 #[derive(Drop)]
 pub struct Screen {
     page: Page,
     control: Control,
     rows: KeptRows,
+    fresh: RowLooks,
     strokes: ArrayVec<Stroke, 128>,
 }
 
@@ -62,6 +64,7 @@ impl Screen {
             page,
             control: Control::new(),
             rows,
+            fresh: RowLooks::flat(),
             strokes: ArrayVec::new(),
         })
     }
@@ -112,6 +115,7 @@ impl Screen {
             before,
             after,
             &mut self.rows,
+            &mut self.fresh,
             marks,
             steps,
         );
@@ -176,6 +180,16 @@ impl Screen {
         ensures valid { IsEntry result }
     {
         self.page.colours().dclut(i)
+    }
+
+    /// The pattern of a code of the downloaded set, 2/1 to 7/14, `None` where none is defined.
+    pub fn pattern(&self, code: u8) -> Option<Pattern>
+        requires from_first { 0x21 ≤ code }
+        requires to_last { code ≤ 0x7E }
+        ensures pattern { result ≡ pattern_in self.now.page.patterns code }
+        ensures valid { IfSome result IsValidPattern }
+    {
+        self.page.patterns().get(code)
     }
 
     /// How many rows the page has, 24 or 20.

@@ -1,4 +1,6 @@
+pub mod Digits
 pub mod TextsInPieces
 pub mod LinesPut
 pub mod ScreenLines
 pub mod Worked
+pub mod WorkedPatterns

@@ -8,7 +8,7 @@ use Rattle.cept_codes.specs.declared.look.Shape.TheVariants as shapes
 use Rattle.cept_codes.specs.Look.{blank_look}
 use Rattle.cept_charsets.specs.Rendition.{mark}
 use Rattle.cept_report.specs.Screen.{shape_sign, look_sign, cell_text}
-use Rattle.cept_report.specs.Text.{look_text}
+use Rattle.cept_report.specs.Text.{look_text, shape_text}
 
 -- an a with diaeresis, white on magenta
 abbrev pub umlaut : Look
@@ -19,6 +19,7 @@ umlaut = record blank_look {
 }
 
 pub accent_is_reported : look_text umlaut ≡ codes "P61+48 11.00 FFF F0F S---"
+unfolding shape_text
 accent_is_reported = refl
 
 pub blank_cell_is_not_reported : cell_text (record { row = 24; column = 40 }) blank_look ≡ []
@@ -40,4 +41,5 @@ lower_part_is_a_space = refl
 
 pub picture_behind_is_reported : look_text (record blank_look { back = paints.Video; lined = true })
     ≡ codes "- 11.00 FFF --- S-l-"
+unfolding shape_text
 picture_behind_is_reported = refl

@@ -1,8 +1,9 @@
 -- The texts of a report, as bytes. They are this project's own. Numbers are decimal without leading zeros, and each
 -- line ends with a line feed.
-use Rattle.std.specs.Prelude.{ℕ, ◌+◌, ◌-◌, ◌/◌, ◌%◌, Bool, List, [], ◌∷◌, ◌++◌, codes, decimal, nat_lt, ◌==◌}
-use Rattle.std.specs.Prelude.{if◌then◌else◌}
-use Rattle.std.specs.List.{join_with_byte}
+use Rattle.std.specs.Prelude.{ℕ, ◌+◌, ◌-◌, ◌*◌, ◌/◌, ◌%◌, ◌^◌, Bool, List, [], ◌∷◌, ◌++◌, codes, decimal, map, take}
+use Rattle.std.specs.Prelude.{nat_lt, ◌==◌, if◌then◌else◌}
+use Rattle.std.specs.Int.{div_ceil}
+use Rattle.std.specs.List.{flat_map, join_with_byte, range_with_len}
 use Rattle.cept_codes.specs.declared.attribute.Flash.{Flash}
 use Rattle.cept_codes.specs.declared.attribute.Flash.TheVariants as flashes
 use Rattle.cept_codes.specs.declared.glyph.Glyph.{Glyph}
@@ -10,9 +11,11 @@ use Rattle.cept_codes.specs.declared.glyph.SetId.{SetId}
 use Rattle.cept_codes.specs.declared.glyph.SetId.TheVariants as sets
 use Rattle.cept_codes.specs.declared.item.Reason.{Reason}
 use Rattle.cept_codes.specs.declared.item.Reason.TheVariants as reasons
+use Rattle.cept_codes.specs.declared.look.Inks.{Inks}
 use Rattle.cept_codes.specs.declared.look.Look.{Look}
 use Rattle.cept_codes.specs.declared.look.Paint.{Paint}
 use Rattle.cept_codes.specs.declared.look.Paint.TheVariants as paints
+use Rattle.cept_codes.specs.declared.look.Pattern.{Pattern}
 use Rattle.cept_codes.specs.declared.look.Shape.{Shape}
 use Rattle.cept_codes.specs.declared.look.Shape.TheVariants as shapes
 use Rattle.cept_codes.specs.Place.{Place}
@@ -25,6 +28,10 @@ hex_digit n = if nat_lt n 10 then ascii "0" + n else ascii "A" - 10 + n
 -- a byte as two hexadecimal digits
 abbrev pub hex_byte : ℕ → List ℕ
 hex_byte n = hex_digit (n / 16) ∷ hex_digit (n % 16) ∷ []
+
+-- a word of 64 bits as sixteen hexadecimal digits, the highest first
+unfoldable pub hex_word : ℕ → List ℕ
+hex_word n = map (λ k. hex_digit (n / 16 ^ (15 - k) % 16)) (range_with_len 0 16)
 
 -- the letter of a set
 abbrev pub set_letter : SetId → ℕ
@@ -42,21 +49,39 @@ accent_text accent = if accent == 0 then [] else ascii "+" ∷ hex_byte accent
 abbrev pub sign_text : Glyph → List ℕ
 sign_text g = set_letter g.set ∷ hex_byte g.code ++ accent_text g.accent
 
--- a minus for a space, a sign, or a percent sign for a pattern, whose pixels no text has yet
-abbrev pub shape_text : Shape → List ℕ
+-- red, green and blue as a digit each, or three minus signs for the picture behind
+abbrev pub paint_text : Paint → List ℕ
+paint_text (paints.Ink c) = hex_digit c.r ∷ hex_digit c.g ∷ hex_digit c.b ∷ []
+paint_text paints.Video = codes "---"
+
+-- the least number of words of 64 bits that hold so many bits
+abbrev pub words_needed : ℕ → ℕ
+words_needed bits = div_ceil bits 64
+
+-- the words that the pixels of all planes need, in order
+abbrev pub pixel_words : Pattern → List ℕ
+pixel_words p = take (words_needed (p.w * p.h * p.planes)) p.bits
+
+-- a percent sign, the width, the height and the number of planes, and the words of the pixels
+unfoldable pub pattern_text : Pattern → List ℕ
+pattern_text p = ascii "%" ∷ join_with_byte (ascii "x") (decimal p.w ∷ decimal p.h ∷ decimal p.planes ∷ [])
+    ++ ascii "/" ∷ flat_map hex_word (pixel_words p)
+
+-- the paints of all inks, where a pattern has more than one plane
+unfoldable pub ink_texts : ℕ → Inks → List ℕ
+ink_texts planes inks =
+    if planes == 1 then [] else ascii "/" ∷ flat_map paint_text (take inks.count inks.paints)
+
+-- a minus for a space, a sign, or a pattern and its inks
+unfoldable pub shape_text : Shape → List ℕ
 shape_text shapes.Space = codes "-"
 shape_text (shapes.Char g) = sign_text g
-shape_text (shapes.Drcs pattern inks) = codes "%"
+shape_text (shapes.Drcs pattern inks) = pattern_text pattern ++ ink_texts pattern.planes inks
 
 -- height, width, a full stop, how far down and how far right, a digit each
 abbrev pub part_text : Look → List ℕ
 part_text l =
     (ascii "0" + l.h) ∷ (ascii "0" + l.w) ∷ ascii "." ∷ (ascii "0" + l.dy) ∷ (ascii "0" + l.dx) ∷ []
-
--- red, green and blue as a digit each, or three minus signs for the picture behind
-abbrev pub paint_text : Paint → List ℕ
-paint_text (paints.Ink c) = hex_digit c.r ∷ hex_digit c.g ∷ hex_digit c.b ∷ []
-paint_text paints.Video = codes "---"
 
 -- the letter of a flash, or the digit of a fast one
 abbrev pub flash_letter : Flash → ℕ

@@ -5,6 +5,8 @@
 mod line;
 mod lines;
 mod look;
+mod paint;
+mod pattern;
 mod put;
 mod signs;
 #[cfg(test)]

@@ -1,11 +1,12 @@
 ghost use Rattle.std.specs.Prelude.{◌≡◌, ◌+◌, ◌≤◌, ◌<◌, ◌∷◌, [], ◌++◌, length, decimal};
 ghost use Rattle.arrayvec.specs.ArrayVec.{array_vec_len};
-ghost use Rattle.cept_report.specs.Text.{hex_digit, hex_byte};
+ghost use Rattle.cept_report.specs.Text.{hex_digit, hex_byte, hex_word};
 
 use arrayvec::ArrayVec;
 use itoa::Buffer;
 
-/// The room of a line.
+/// The room of a line. The longest has 249 bytes: a change line of twenty digits, a place of two and
+/// two, and a pattern with nine words and sixteen inks.
 pub const ROOM: usize = 256;
 
 /// A line while it is made.
@@ -39,6 +40,22 @@ pub fn add_number(line: &mut Line, number: u64)
     add_text(line, buffer.format(number).as_bytes());
 }
 
+/// Adds a number below 100 in decimal digits.
+#[tactic(auto, using(crate::proofs::Digits::decimal_digits))]
+pub fn add_small(line: &mut Line, number: u8)
+    requires small { number < 100 }
+    requires room { array_vec_len line.old + 2 ≤ 256 }
+    ensures text { line.new.items ≡ line.old.items ++ decimal number }
+    ensures len { array_vec_len line.new ≤ array_vec_len line.old + 2 }
+    ensures digit { number < 10 → array_vec_len line.new ≤ array_vec_len line.old + 1 }
+{
+    if number < 10 {
+        add_byte(line, b'0' + number);
+    } else {
+        add_text(line, &[b'0' + number / 10, b'0' + number % 10]);
+    }
+}
+
 /// The hexadecimal digit of a number below 16, in upper case.
 pub fn hex_digit(number: u8) -> u8
     requires { number < 16 }
@@ -58,4 +75,15 @@ pub fn add_hex_byte(line: &mut Line, byte: u8)
     ensures len { array_vec_len line.new ≡ array_vec_len line.old + 2 }
 {
     add_text(line, &[hex_digit(byte / 16), hex_digit(byte % 16)]);
+}
+
+/// Adds a word as sixteen hexadecimal digits.
+pub fn add_hex_word(line: &mut Line, word: u64)
+    requires { array_vec_len line.old + 16 ≤ 256 }
+    ensures text { line.new.items ≡ line.old.items ++ hex_word word }
+    ensures len { array_vec_len line.new ≡ array_vec_len line.old + 16 }
+{
+    for byte in &word.to_be_bytes() {
+        add_hex_byte(line, *byte);
+    }
 }

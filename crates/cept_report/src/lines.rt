@@ -6,7 +6,7 @@ ghost use Rattle.cept_report.specs.Ascii.{ascii};
 ghost use Rattle.cept_report.specs.Text.{reason_number, reason_name, change_line, check_line};
 ghost use Rattle.cept_report.specs.Text.{refusal_line};
 
-use crate::line::{Line, add_byte, add_number, add_text};
+use crate::line::{Line, add_byte, add_number, add_small, add_text};
 use crate::look::add_look;
 use cept_codes::{Look, Pos, Reason};
 
@@ -18,9 +18,9 @@ pub fn change_line(label: u64, at: Pos, look: &Look) -> Line
     let mut line = Line::new();
     add_number(&mut line, label);
     add_byte(&mut line, b' ');
-    add_number(&mut line, u64::from(at.row()));
+    add_small(&mut line, at.row());
     add_byte(&mut line, b' ');
-    add_number(&mut line, u64::from(at.col()));
+    add_small(&mut line, at.col());
     add_byte(&mut line, b' ');
     add_look(&mut line, look);
     add_byte(&mut line, b'\n');
@@ -33,9 +33,9 @@ fn cell_line(at: Pos, look: &Look) -> Line
     ensures { result.items ≡ cell_line at look.now }
 {
     let mut line = Line::new();
-    add_number(&mut line, u64::from(at.row()));
+    add_small(&mut line, at.row());
     add_byte(&mut line, b' ');
-    add_number(&mut line, u64::from(at.col()));
+    add_small(&mut line, at.col());
     add_byte(&mut line, b' ');
     add_look(&mut line, look);
     add_byte(&mut line, b'\n');

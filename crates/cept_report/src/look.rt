@@ -1,12 +1,13 @@
 ghost use Rattle.std.specs.Prelude.{◌≡◌, ◌+◌, ◌≤◌, ◌<◌, ◌∷◌, [], ◌++◌, length};
 ghost use Rattle.arrayvec.specs.ArrayVec.{array_vec_len};
-ghost use Rattle.cept_codes.specs.Look.{IsValidLook, IsValidPaint, IsValidShape};
+ghost use Rattle.cept_codes.specs.Look.{IsValidLook, IsValidShape};
 ghost use Rattle.cept_report.specs.Text.{set_letter, accent_text, sign_text, shape_text, part_text};
-ghost use Rattle.cept_report.specs.Text.{paint_text, flash_letter, flag_letter, signs_text};
-ghost use Rattle.cept_report.specs.Text.{look_text};
+ghost use Rattle.cept_report.specs.Text.{flash_letter, flag_letter, signs_text, look_text};
 
-use crate::line::{Line, add_byte, add_hex_byte, add_text, hex_digit};
-use cept_codes::{Flash, Glyph, Look, Paint, SetId, Shape};
+use crate::line::{Line, add_byte, add_hex_byte, add_text};
+use crate::paint::add_paint;
+use crate::pattern::{add_inks, add_pattern};
+use cept_codes::{Flash, Glyph, Look, SetId, Shape};
 
 fn letter_of_set(set: SetId) -> u8
     ensures { result ≡ set_letter set }
@@ -41,15 +42,20 @@ fn add_sign(line: &mut Line, glyph: Glyph)
     add_accent(line, glyph.accent);
 }
 
+#[tactic(auto, unfolding(crate::specs::Text::shape_text))]
 fn add_shape(line: &mut Line, shape: &Shape)
-    requires { array_vec_len line.old + 6 ≤ 256 }
+    requires room { array_vec_len line.old + 202 ≤ 256 }
+    requires valid { IsValidShape shape.now }
     ensures text { line.new.items ≡ line.old.items ++ shape_text shape.now }
-    ensures len { array_vec_len line.new ≤ array_vec_len line.old + 6 }
+    ensures len { array_vec_len line.new ≤ array_vec_len line.old + 202 }
 {
     match shape {
         Shape::Space => add_byte(line, b'-'),
         Shape::Char(glyph) => add_sign(line, *glyph),
-        Shape::Drcs(_, _) => add_byte(line, b'%'),
+        Shape::Drcs(pattern, inks) => {
+            add_pattern(line, pattern);
+            add_inks(line, pattern.planes, inks);
+        }
     }
 }
 
@@ -67,21 +73,6 @@ fn add_part(line: &mut Line, look: &Look)
         b'0' + look.dx,
     ];
     add_text(line, &part);
-}
-
-fn add_paint(line: &mut Line, paint: &Paint)
-    requires room { array_vec_len line.old + 3 ≤ 256 }
-    requires valid { IsValidPaint paint.now }
-    ensures text { line.new.items ≡ line.old.items ++ paint_text paint.now }
-    ensures len { array_vec_len line.new ≡ array_vec_len line.old + 3 }
-{
-    match paint {
-        Paint::Ink(ink) => add_text(
-            line,
-            &[hex_digit(ink.r), hex_digit(ink.g), hex_digit(ink.b)],
-        ),
-        Paint::Video => add_text(line, b"---"),
-    }
 }
 
 fn letter_of_flash(flash: Flash) -> u8
@@ -118,12 +109,13 @@ fn add_signs(line: &mut Line, look: &Look)
     add_text(line, &signs);
 }
 
-/// Adds the five fields of a look.
+/// Adds the five fields of a look: at most 221 bytes, where a pattern has nine words and sixteen
+/// inks.
 pub fn add_look(line: &mut Line, look: &Look)
-    requires room { array_vec_len line.old + 25 ≤ 256 }
+    requires room { array_vec_len line.old + 221 ≤ 256 }
     requires valid { IsValidLook look.now }
     ensures text { line.new.items ≡ line.old.items ++ look_text look.now }
-    ensures len { array_vec_len line.new ≤ array_vec_len line.old + 25 }
+    ensures len { array_vec_len line.new ≤ array_vec_len line.old + 221 }
 {
     add_shape(line, &look.shape);
     add_byte(line, b' ');

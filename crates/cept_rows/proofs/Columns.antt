@@ -2,8 +2,8 @@
 use Rattle.std.proofs.Common.{◌≡◌, ℕ, ◌+◌, ◌-◌, ◌<◌, ◌≤◌, ◌==◌, false, cond, List, length, get_or, set, zero, suc}
 use Rattle.std.proofs.Common.{inl, inr}
 use Rattle.std.proofs.Common.{refl, sym, ap, subst, ◌∙◌, arith, rules}
-use Rattle.std.proofs.lemmas.Bool.{cases_lt}
-use Rattle.std.proofs.lemmas.List.{get_or_past}
+use Rattle.std.proofs.lemmas.Bool.{cases_eq, cases_lt}
+use Rattle.std.proofs.lemmas.List.{ext_get_or, get_or-set_other, get_or-set_same, get_or_past, length-set}
 use Rattle.std.proofs.lemmas.List.FromFn.{get_or-map-range_with_len, length-map-range_with_len}
 use Rattle.cept_codes.specs.Table.{row_of, HasMadeEntries}
 use Rattle.cept_codes.proofs.Laws.{HasMadeEntries-more, HasMadeEntries-all, row_of-list_by_index, same_indexed}
@@ -50,6 +50,26 @@ same_rows f g same =
     row_of-list_by_index f ∙ same_indexed 1 40 f g (λ c low high. same c low (omega arith))
     ∙ sym (row_of-list_by_index g)
 
+-- one column set
+pub set-row_of : {X : Type 0} (f g : ℕ → X) (x : X) (c : ℕ) → 1 ≤ c → c ≤ 40 → g c ≡ x
+    → ((d : ℕ) → 1 ≤ d → d ≤ 40 → (d ≡ c → ⊥) → g d ≡ f d) → row_of g ≡ set (row_of f) (c - 1) x
+set-row_of f g x c low high here other =
+    ext_get_or x (row_of g) (set (row_of f) (c - 1) x)
+    (length-row_of g ∙ sym (length-row_of f) ∙ sym (length-set (row_of f) (c - 1) x)) (λ i below.
+    let inside : i < 40 = omega (arith, below, length-row_of g) in
+    let at : i ≡ i + 1 - 1 = omega arith in
+    ap (λ k. get_or (row_of g) k x) at ∙ get_or-row_of g (i + 1) x (omega arith) (omega arith)
+    ∙ elim (cases_eq (i + 1) c) [
+      | inl e ↦
+          ap g e ∙ here
+          ∙ sym (ap (λ k. get_or (set (row_of f) (c - 1) x) k x) (omega (arith, e))
+          ∙ get_or-set_same (row_of f) (c - 1) x x (omega (arith, high, length-row_of f)))
+      | inr differs ↦
+          other (i + 1) (omega arith) (omega arith) differs
+          ∙ sym (get_or-set_other (row_of f) (c - 1) i x x (omega (arith, low, differs))
+          ∙ ap (λ k. get_or (row_of f) k x) at ∙ get_or-row_of f (i + 1) x (omega arith) (omega arith))
+    ])
+
 -- ---- made one column after the other
 
 -- one more
@@ -66,3 +86,11 @@ pub made_all : {X : Type 0} (d : X) (f g : ℕ → X) (list : List X) (c : ℕ) 
     → 41 ≤ c → list ≡ row_of f
 made_all d f g list c made whole =
     HasMadeEntries-all d 1 40 f g list (c - 1) made (omega arith) ∙ sym (row_of-list_by_index f)
+
+-- what is so of each column before, and of this one
+pub one_more : (P : ℕ → Type 0) (n : ℕ) → ((c : ℕ) → 1 ≤ c → c < n → P c) → P n → (c : ℕ) → 1 ≤ c → c < n + 1 → P c
+one_more P n before here c low below =
+    elim (cases_lt c n) [
+      | inl less ↦ before c low less
+      | inr past ↦ let e : n ≡ c = omega (arith, past, below) in subst P e here
+    ]

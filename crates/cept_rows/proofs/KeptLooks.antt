@@ -1,143 +1,201 @@
--- Looks in little room: those without a pattern are kept whole, and compare as they do.
-use Rattle.std.proofs.Common.{◌≡◌, ℕ, ◌-◌, ◌≤◌, ◌<◌, ◌&&◌, Bool, true, Option, Some, None, List, get_or, map}
-use Rattle.std.proofs.Common.{length, Decides, zero, suc, inl, inr, ◌+◌, refl, sym, subst, ap, ◌∙◌, arith, eqb, rules}
-use Rattle.std.proofs.Common.{replicate}
-use Rattle.std.proofs.lemmas.Bool.{cases_lt, cond_both}
+-- Looks in little room: with the drawing of its pattern each is kept whole, and they compare as they do.
+use Rattle.std.proofs.Common.{◌≡◌, ℕ, ◌-◌, ◌≤◌, ◌<◌, Bool, true, false, List}
+use Rattle.std.proofs.Common.{get_or, ◌⊎◌, Decides, inl, inr, ◌+◌, refl, sym, subst, ap, ◌∙◌}
+use Rattle.std.proofs.Common.{arith, rules, replicate}
+use Rattle.std.proofs.lemmas.Bool.{cases_lt, false≢true}
 use Rattle.std.proofs.lemmas.Bool.Decides.{same_from_decides}
-use Rattle.std.proofs.lemmas.List.{get_or-replicate, length-map}
-use Rattle.std.proofs.Math.ListN.{get_or-map}
-use Rattle.cept_codes.specs.declared.attribute.Pen.{Pen}
-use Rattle.cept_codes.specs.declared.cell.What.{What}
-use Rattle.cept_codes.specs.declared.cell.What.TheVariants as whats
-use Rattle.cept_codes.specs.declared.glyph.Glyph.{Glyph}
+use Rattle.std.proofs.lemmas.List.{get_or-replicate}
 use Rattle.cept_codes.specs.declared.look.Look.{Look}
 use Rattle.cept_codes.specs.declared.look.Paint.{Paint}
 use Rattle.cept_codes.specs.declared.look.Paint.TheVariants as paints
+use Rattle.cept_codes.specs.declared.look.Shape.{Shape}
 use Rattle.cept_codes.specs.declared.look.Shape.TheVariants as shapes
-use Rattle.cept_codes.specs.Cell.{IsValidWhat}
-use Rattle.cept_codes.specs.Look.{IsValidLook, IsValidPaint, blank_look}
+use Rattle.cept_codes.specs.Look.{IsValidLook, blank_look}
 use Rattle.cept_codes.specs.Same.{same_look}
+use Rattle.cept_codes.specs.Table.{row_of}
 use Rattle.cept_codes.proofs.Laws.{look_decides}
-use Rattle.cept_profile.specs.Look.{look_of, shape_in, shape_of, shape_of_sign}
-use Rattle.cept_profile.specs.Tiling.{column_entry}
-use Rattle.cept_profile.proofs.Laws.{IsValidLook-look_of}
+use Rattle.cept_profile.specs.Tiling.{column_entry, covers_below}
+use Rattle.cept_rows.specs.declared.drawing.Drawing.{Drawing}
+use Rattle.cept_rows.specs.declared.small_look.Kind.{Kind}
+use Rattle.cept_rows.specs.declared.small_look.Kind.TheVariants as kinds
+use Rattle.cept_rows.specs.declared.small_look.Sign.{Sign}
 use Rattle.cept_rows.specs.declared.small_look.SmallLook.{SmallLook}
-use Rattle.cept_rows.proofs.Columns.{column_entry-at, column_entry-past}
-use Rattle.cept_rows.specs.SmallLooks.{HasNoPattern, IsKeepable, IsSmallLook, blank_small, look_kept, paint_kept}
-use Rattle.cept_rows.specs.SmallLooks.{shape_kept, small_of, tint_of}
+use Rattle.cept_rows.specs.KeptRows.{kept_in}
+use Rattle.cept_rows.specs.SmallLooks.{IsSmallLook, blank_small, drawing_of, has_pattern, is_drcs, look_kept}
+use Rattle.cept_rows.specs.SmallLooks.{no_drawing}
+use Rattle.cept_rows.specs.SmallLooks.{paint_kept, shape_by, shape_kept, sign_of, small_of, tint_of}
+use Rattle.cept_rows.proofs.Columns.{column_entry-row_of}
 
 -- paints are kept
 paint_kept-tint_of : (p : Paint) → paint_kept (tint_of p) ≡ p
 paint_kept-tint_of (paints.Ink c) = refl
 paint_kept-tint_of paints.Video = refl
 
--- a look without a pattern is kept whole
-pub look_kept-small_of : (l : Look) → HasNoPattern l.shape → look_kept (small_of l) ≡ l
-look_kept-small_of l plain i =
-    record l { shape = plain i; fore = paint_kept-tint_of l.fore i; back = paint_kept-tint_of l.back i }
+-- and shapes
+shape_kept-sign_of : (s : Shape) → shape_kept (sign_of s) (drawing_of s) ≡ s
+shape_kept-sign_of shapes.Space = refl
+shape_kept-sign_of (shapes.Char g) = refl
+shape_kept-sign_of (shapes.Drcs pattern inks) = refl
+
+-- so a look is kept whole
+look_kept-small_of : (l : Look) → look_kept (small_of l) (drawing_of l.shape) ≡ l
+look_kept-small_of l i =
+    record l {
+      shape = shape_kept-sign_of l.shape i;
+      fore = paint_kept-tint_of l.fore i;
+      back = paint_kept-tint_of l.back i;
+    }
 
 -- its small look can be kept
-pub IsSmallLook-small_of : (l : Look) → IsValidLook l → HasNoPattern l.shape → IsSmallLook (small_of l)
-IsSmallLook-small_of l valid plain = record {
-  valid = subst IsValidLook (sym (look_kept-small_of l plain)) valid;
-  shown = ap small_of (look_kept-small_of l plain);
+IsSmallLook-small_of : (l : Look) → IsValidLook l → IsSmallLook (small_of l) (drawing_of l.shape)
+IsSmallLook-small_of l valid = record {
+  valid = subst IsValidLook (sym (look_kept-small_of l)) valid;
+  shown = ap small_of (look_kept-small_of l);
 }
 
 -- the same of what was found to be the small one of a look
-pub small_is : (s : SmallLook) (l : Look) → s ≡ small_of l → IsValidLook l → HasNoPattern l.shape → IsSmallLook s
-small_is s l e valid plain = subst IsSmallLook (sym e) (IsSmallLook-small_of l valid plain)
+pub small_is : (s : SmallLook) (d : Drawing) (l : Look) → s ≡ small_of l → d ≡ drawing_of l.shape → IsValidLook l
+    → IsSmallLook s d
+small_is s d l e f valid =
+    subst (λ t. IsSmallLook t d) (sym e)
+    (subst (λ t. IsSmallLook (small_of l) t) (sym f) (IsSmallLook-small_of l valid))
 
 -- and what is kept is the look
-pub kept_is : (s : SmallLook) (l : Look) → s ≡ small_of l → HasNoPattern l.shape → look_kept s ≡ l
-kept_is s l e plain = ap look_kept e ∙ look_kept-small_of l plain
+pub kept_is : (s : SmallLook) (d : Drawing) (l : Look) → s ≡ small_of l → d ≡ drawing_of l.shape → look_kept s d ≡ l
+kept_is s d l e f = (λ i. look_kept (e i) (f i)) ∙ look_kept-small_of l
 
--- ---- what cells show has no pattern
+-- ---- without a pattern the drawing counts for nothing
 
--- a sign
-pub HasNoPattern-sign : (g : Glyph) → HasNoPattern (shape_of_sign g)
-HasNoPattern-sign g =
-    cond_both (eqb g.code 0x20 && eqb g.accent 0) shapes.Space (shapes.Char g) HasNoPattern (λ e. refl) (λ e. refl)
+shape_by-plain : (k : Kind) (s : Sign) (d e : Drawing) → is_drcs k ≡ false → shape_by k s d ≡ shape_by k s e
+shape_by-plain kinds.Space s d e plain = refl
+shape_by-plain kinds.Char s d e plain = refl
+shape_by-plain kinds.Drcs s d e plain = cc
 
--- what stands in a cell
-pub HasNoPattern-shape_of : (what : What) → HasNoPattern (shape_of what)
-HasNoPattern-shape_of whats.Blank = refl
-HasNoPattern-shape_of (whats.Serial g) = HasNoPattern-sign g
-HasNoPattern-shape_of (whats.Parallel g pen) = HasNoPattern-sign g
-HasNoPattern-shape_of (whats.Marker m) = refl
+pub look_kept-plain : (s : SmallLook) (d e : Drawing) → has_pattern s ≡ false → look_kept s d ≡ look_kept s e
+look_kept-plain s d e plain i = record (look_kept s d) { shape = shape_by-plain s.sign.kind s.sign d e plain i }
 
--- with a held sign
-pub HasNoPattern-shape_in : (what : What) (held : Option Glyph) → HasNoPattern (shape_in what held)
-HasNoPattern-shape_in (whats.Marker m) (Some g) = HasNoPattern-sign g
-HasNoPattern-shape_in (whats.Marker m) None = refl
-HasNoPattern-shape_in whats.Blank held = refl
-HasNoPattern-shape_in (whats.Serial g) held = HasNoPattern-sign g
-HasNoPattern-shape_in (whats.Parallel g pen) held = HasNoPattern-sign g
+pub IsSmallLook-plain : (s : SmallLook) (d e : Drawing) → has_pattern s ≡ false → IsSmallLook s d → IsSmallLook s e
+IsSmallLook-plain s d e plain small = record {
+  valid = subst IsValidLook (look_kept-plain s d e plain) small.valid;
+  shown = ap small_of (sym (look_kept-plain s d e plain)) ∙ small.shown;
+}
 
--- its look
-pub HasNoPattern-look_of : (paint_of : ℕ → Paint) (row screen : Pen) (what : What)
-    → HasNoPattern (look_of paint_of row screen what).shape
-unfolding look_of
-HasNoPattern-look_of paint_of row screen what = HasNoPattern-shape_of what
+-- the same of what was found to be the small one of a look
+pub plain_is : (s : SmallLook) (l : Look) → s ≡ small_of l → has_pattern s ≡ false → look_kept s no_drawing ≡ l
+plain_is s l e plain = look_kept-plain s no_drawing (drawing_of l.shape) plain ∙ kept_is s (drawing_of l.shape) l e refl
 
--- the small look of a cell
-pub small_of_cell : (s : SmallLook) (paint_of : ℕ → Paint) (row screen : Pen) (what : What)
-    → s ≡ small_of (look_of paint_of row screen what) → ((i : ℕ) → IsValidPaint (paint_of i)) → IsValidWhat what
-    → IsSmallLook s
-small_of_cell s paint_of row screen what e paints valid =
-    small_is s (look_of paint_of row screen what) e (IsValidLook-look_of paint_of row screen what paints valid)
-    (HasNoPattern-look_of paint_of row screen what)
+pub plain_small : (s : SmallLook) (l : Look) → s ≡ small_of l → has_pattern s ≡ false → IsValidLook l
+    → IsSmallLook s no_drawing
+plain_small s l e plain valid =
+    IsSmallLook-plain s (drawing_of l.shape) no_drawing plain (small_is s (drawing_of l.shape) l e refl valid)
 
 -- ---- a row of them
 
 -- a blank look
-IsSmallLook-blank_small : IsSmallLook blank_small
-IsSmallLook-blank_small = IsSmallLook-small_of blank_look (search rules) refl
+IsSmallLook-blank_small : IsSmallLook blank_small no_drawing
+IsSmallLook-blank_small = IsSmallLook-small_of blank_look (search rules)
 
--- forty of them
-pub small_in_flat : (k : ℕ) → k < 40 → IsSmallLook (get_or (replicate 40 blank_small) k blank_small)
-small_in_flat k below =
-    subst IsSmallLook (sym (get_or-replicate 40 k blank_small blank_small below)) IsSmallLook-blank_small
+-- forty of them, whatever the drawings
+pub small_in_flat : (drawn : List Drawing) (k : ℕ) → k < 40
+    → IsSmallLook (get_or (replicate 40 blank_small) k blank_small) (get_or drawn k no_drawing)
+small_in_flat drawn k below =
+    subst (λ s. IsSmallLook s (get_or drawn k no_drawing)) (sym (get_or-replicate 40 k blank_small blank_small below))
+    (IsSmallLook-plain blank_small no_drawing (get_or drawn k no_drawing) refl IsSmallLook-blank_small)
+
+pub plain_in_flat : (k : ℕ) → k < 40 → has_pattern (get_or (replicate 40 blank_small) k blank_small) ≡ false
+plain_in_flat k below = ap has_pattern (get_or-replicate 40 k blank_small blank_small below)
+
+pub low_in_flat : (k : ℕ) → k < 40 → covers_below (get_or (replicate 40 blank_small) k blank_small).part ≡ false
+low_in_flat k below = ap (λ s. covers_below s.part) (get_or-replicate 40 k blank_small blank_small below)
+
+pub kept_in_flat : (drawn : List Drawing) (c : ℕ) → 1 ≤ c → c ≤ 40 → kept_in (replicate 40 blank_small) drawn c
+    ≡ blank_look
+kept_in_flat drawn c low high =
+    ap (λ s. look_kept s (get_or drawn (c - 1) no_drawing))
+    (get_or-replicate 40 (c - 1) blank_small blank_small (omega arith))
 
 -- the look in a column
-pub column_kept : (looks : List SmallLook) (c : ℕ) → 1 ≤ c
-    → column_entry blank_look (map look_kept looks) c ≡ look_kept (get_or looks (c - 1) blank_small)
-column_kept looks c low =
-    column_entry-at blank_look (map look_kept looks) c low ∙ get_or-map look_kept looks (c - 1) blank_small
-
--- what is kept can be kept
-pub IsKeepable-kept : (s : SmallLook) → IsSmallLook s → IsKeepable (look_kept s)
-IsKeepable-kept s small = record { valid = small.valid; plain = ap (λ x. shape_kept x.sign) small.shown }
-
--- so can a blank look
-pub IsKeepable-blank_look : IsKeepable blank_look
-IsKeepable-blank_look = record { valid = search rules; plain = refl }
-
--- and every look of a row
-pub all_keepable : (looks : List SmallLook) → length looks ≡ 40
-    → ((k : ℕ) → k < 40 → IsSmallLook (get_or looks k blank_small)) → (c : ℕ)
-    → IsKeepable (column_entry blank_look (map look_kept looks) c)
-all_keepable looks long small zero = IsKeepable-blank_look
-all_keepable looks long small (suc c) =
-    elim (cases_lt c 40) [
-      | inl below ↦
-          let e : suc c - 1 ≡ c = omega arith in
-          subst IsKeepable (sym (column_kept looks (suc c) (omega arith)))
-          (IsKeepable-kept (get_or looks (suc c - 1) blank_small) (rw e (small c below)))
-      | inr past ↦
-          subst IsKeepable
-          (sym (column_entry-past blank_look (map look_kept looks) (suc c) (length-map looks look_kept ∙ long)
-          (omega arith))) IsKeepable-blank_look
-    ]
+pub column_kept : (looks : List SmallLook) (drawn : List Drawing) (c : ℕ) → 1 ≤ c → c ≤ 40
+    → column_entry blank_look (row_of (kept_in looks drawn)) c ≡ kept_in looks drawn c
+column_kept looks drawn c low high = column_entry-row_of blank_look (kept_in looks drawn) c low high
 
 -- ---- comparison
 
--- looks are the same where their small looks are
-pub same_kept : (r : Bool) (a b : SmallLook) (l m : Look) → IsSmallLook a → IsSmallLook b → Decides r (a ≡ b)
-    → look_kept a ≡ l → look_kept b ≡ m → r ≡ same_look l m
-same_kept r a b l m is_a is_b decides ea eb =
+-- of a pattern the drawing is found again
+drawn_by : (k : Kind) (s : Sign) (d : Drawing) → is_drcs k ≡ true → drawing_of (shape_by k s d) ≡ d
+drawn_by kinds.Space s d pattern = cc
+drawn_by kinds.Char s d pattern = cc
+drawn_by kinds.Drcs s d pattern = refl
+
+pub drawing_kept : (s : SmallLook) (d : Drawing) → has_pattern s ≡ true → drawing_of (look_kept s d).shape ≡ d
+drawing_kept s d pattern = drawn_by s.sign.kind s.sign d pattern
+
+-- the same small looks, and the same drawings of patterns
+pub record AreAlike (a b : SmallLook) (da db : Drawing) : Type 0 where
+  pub small : a ≡ b
+  pub drawn : has_pattern a ≡ true → da ≡ db
+
+-- are the same looks
+alike_by : (p : Bool) (a b : SmallLook) (da db : Drawing) → has_pattern a ≡ p → AreAlike a b da db
+    → look_kept a da ≡ look_kept b db
+alike_by true a b da db e alike = λ i. look_kept (alike.small i) (alike.drawn e i)
+alike_by false a b da db e alike = look_kept-plain a da db e ∙ ap (λ s. look_kept s db) alike.small
+
+-- and no others are
+alike_from : (a b : SmallLook) (da db : Drawing) → IsSmallLook a da → IsSmallLook b db
+    → look_kept a da ≡ look_kept b db → AreAlike a b da db
+alike_from a b da db is_a is_b e =
+    let small : a ≡ b = sym is_a.shown ∙ ap small_of e ∙ is_b.shown in
+    record {
+      small = small;
+      drawn = λ p. sym (drawing_kept a da p) ∙ ap (λ l. drawing_of l.shape) e
+          ∙ drawing_kept b db (ap has_pattern (sym small) ∙ p);
+    }
+
+-- so looks compare as these do
+pub same_kept : (r : Bool) (a b : SmallLook) (da db : Drawing) (l m : Look) → IsSmallLook a da → IsSmallLook b db
+    → Decides r (AreAlike a b da db) → look_kept a da ≡ l → look_kept b db ≡ m → r ≡ same_look l m
+same_kept r a b da db l m is_a is_b decides ea eb =
     same_from_decides r (same_look l m) decides (
-      λ e. sym is_a.shown ∙ ap small_of (ea ∙ (look_decides l m).0 e ∙ sym eb) ∙ is_b.shown,
-      λ e. (look_decides l m).1 (sym ea ∙ ap look_kept e ∙ eb),
+      λ e. alike_from a b da db is_a is_b (ea ∙ (look_decides l m).0 e ∙ sym eb),
+      λ alike. (look_decides l m).1 (sym ea ∙ alike_by (has_pattern a) a b da db refl alike ∙ eb),
+    )
+
+-- what a comparison of small looks and one of drawings say together
+pub alike_small : (r : Bool) (a b : SmallLook) (da db : Drawing) → Decides r (a ≡ b) → r ≡ false
+    → Decides r (AreAlike a b da db)
+alike_small r a b da db small e = (
+  λ yes. absurd (false≢true (sym e ∙ yes)),
+  λ alike. small.1 alike.small,
+)
+
+pub alike_plain : (r s : Bool) (a b : SmallLook) (da db : Drawing) → Decides r (a ≡ b) → r ≡ true
+    → has_pattern a ≡ false → s ≡ true → Decides s (AreAlike a b da db)
+alike_plain r s a b da db small e plain is = (
+  λ _. record { small = small.0 e; drawn = λ p. absurd (false≢true (sym plain ∙ p)) },
+  λ _. is,
+)
+
+pub alike_drawn : (r s : Bool) (a b : SmallLook) (da db : Drawing) → Decides r (a ≡ b) → r ≡ true
+    → has_pattern a ≡ true → Decides s (da ≡ db) → Decides s (AreAlike a b da db)
+alike_drawn r s a b da db small e pattern drawn = (
+  λ yes. record { small = small.0 e; drawn = λ p. drawn.0 yes },
+  λ alike. drawn.1 (alike.drawn pattern),
+)
+
+-- and where one of them is no pattern, as their small looks do
+pub same_plain : (r : Bool) (a b : SmallLook) (l m : Look) → a ≡ small_of l → b ≡ small_of m
+    → (has_pattern (small_of l) ≡ false) ⊎ (has_pattern (small_of m) ≡ false) → Decides r (a ≡ b) → r ≡ same_look l m
+same_plain r a b l m ea eb plain decides =
+    let off : a ≡ b → has_pattern a ≡ false = λ e.
+    elim plain [
+      | inl f ↦ ap has_pattern ea ∙ f
+      | inr f ↦ ap has_pattern (e ∙ eb) ∙ f
+    ] in
+    same_from_decides r (same_look l m) decides (
+      λ e. ea ∙ ap small_of ((look_decides l m).0 e) ∙ sym eb,
+      λ e. (look_decides l m).1 (sym (plain_is a l ea (off e)) ∙ ap (λ s. look_kept s no_drawing) e
+          ∙ plain_is b m eb (ap has_pattern (sym e) ∙ off e)),
     )
 
 -- one more column that compares alike

@@ -1,5 +1,9 @@
 pub mod Columns
+pub mod Drawings
 pub mod KeptLooks
+pub mod KeptRows
+pub mod Pens
 pub mod RowsAlone
 pub mod RowsByPart
 pub mod RowsOfCores
+pub mod Signs

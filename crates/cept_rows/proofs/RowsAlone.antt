@@ -11,50 +11,65 @@ use Rattle.cept_codes.specs.declared.cell.Marker.TheVariants as markers
 use Rattle.cept_codes.specs.declared.cell.What.{What}
 use Rattle.cept_codes.specs.declared.cell.What.TheVariants as whats
 use Rattle.cept_codes.specs.declared.look.Look.{Look}
-use Rattle.cept_codes.specs.declared.look.Paint.{Paint}
 use Rattle.cept_codes.specs.Attribute.{unset_pen}
 use Rattle.cept_codes.specs.Look.{blank_look}
 use Rattle.cept_codes.specs.Table.{row_of}
 use Rattle.cept_profile.specs.Attributes.{cascade, first_value}
 use Rattle.cept_profile.specs.Carry.{Carry, carry, carry_after, carry_in}
-use Rattle.cept_profile.specs.Look.{is_double_set, look_in_row, sets_double_size, look_with, look_with_part, part_of}
+use Rattle.cept_profile.specs.Definitions.{Definitions}
+use Rattle.cept_profile.specs.PageParts.{paint_in}
+use Rattle.cept_profile.specs.Look.{is_double_set, look_in_row, look_of, sets_double_size, look_with, look_with_part}
+use Rattle.cept_profile.specs.Look.{part_of}
 use Rattle.cept_profile.specs.Look.{shape_in, shape_of, size_in_row}
 use Rattle.cept_profile.specs.RowsFromAbove.{look_by, look_from, row_from_above}
 use Rattle.cept_profile.specs.Serial.{acts_there, held_sign, is_marker, own_attributes_of, serial_attributes}
 use Rattle.cept_profile.specs.Tiling.{column_entry, covers_below, covers_right, is_covered_from_left, is_high}
 use Rattle.cept_profile.specs.Tiling.{is_wide, origin_part, part_below, part_to_the_right, single_part}
 use Rattle.cept_profile.proofs.Laws.{carry-start, carry-suc, serial_attributes-suc, in_plain, unmarked}
+use Rattle.cept_rows.specs.declared.small_look.SmallLook.{SmallLook}
+use Rattle.cept_rows.specs.SmallLooks.{small_of}
 use Rattle.cept_rows.proofs.Columns.{same_rows}
 use Rattle.cept_rows.proofs.RowsByPart.{look_from-0}
 
 -- without markers the attributes are those of the row and the screen
-attributes_alone : (row : ℕ → What) (pen screen : Pen) (c : ℕ) → 1 ≤ c → c ≤ 40
-    → ((d : ℕ) → 1 ≤ d → d ≤ 40 → is_marker (row d) ≡ false)
+attributes_alone : (row : ℕ → What) (pen screen : Pen) (c : ℕ) → 1 ≤ c
+    → ((d : ℕ) → 1 ≤ d → d ≤ c → is_marker (row d) ≡ false)
     → serial_attributes row pen screen c ≡ cascade unset_pen pen screen
-attributes_alone row pen screen zero low high plain = absurd (omega arith)
-attributes_alone row pen screen (suc c) low high plain =
+attributes_alone row pen screen zero low plain = absurd (omega arith)
+attributes_alone row pen screen (suc c) low plain =
     serial_attributes-suc row pen screen c
-    ∙ in_plain (row (suc c)) (carry row pen screen c) (plain (suc c) low high)
+    ∙ in_plain (row (suc c)) (carry row pen screen c) (plain (suc c) low (omega arith))
     ∙ unmarked row pen screen c (λ d from to. plain d from (omega arith))
 
 -- what is no marker is drawn as itself
-shape_alone : (w : What) (held : Option _) → is_marker w ≡ false → shape_in w held ≡ shape_of w
-shape_alone (whats.Marker m) held plain = cc
-shape_alone whats.Blank held plain = refl
-shape_alone (whats.Serial g) held plain = refl
-shape_alone (whats.Parallel g pen) held plain = refl
+shape_alone : (defined : Definitions) (w : What) (held : Option _) → is_marker w ≡ false
+    → shape_in defined w held ≡ shape_of defined w
+shape_alone defined (whats.Marker m) held plain = cc
+shape_alone defined whats.Blank held plain = refl
+shape_alone defined (whats.Serial g) held plain = refl
+shape_alone defined (whats.Parallel g pen) held plain = refl
+
+-- a look by itself is of single height
+pub low_alone : (s : SmallLook) (defined : Definitions) (row screen : Pen) (w : What)
+    → s ≡ small_of (look_of defined row screen w) → covers_below s.part ≡ false
+unfolding look_of
+low_alone s defined row screen w e = ap (λ x. covers_below x.part) e
 
 -- the look of a cell of such a row
-pub look_alone : (paint_of : ℕ → Paint) (row : ℕ → What) (pen screen : Pen) (c : ℕ) → 1 ≤ c → c ≤ 40
-    → ((d : ℕ) → 1 ≤ d → d ≤ 40 → is_marker (row d) ≡ false)
-    → look_with paint_of (shape_of (row c)) (own_attributes_of (row c) pen screen (cascade unset_pen pen screen))
-    ≡ look_in_row paint_of row pen screen c
+pub look_alone : (defined : Definitions) (row : ℕ → What) (pen screen : Pen) (c : ℕ) → 1 ≤ c
+    → ((d : ℕ) → 1 ≤ d → d ≤ c → is_marker (row d) ≡ false)
+    → look_with (paint_in defined.paints) (shape_of defined (row c))
+    (own_attributes_of (row c) pen screen (cascade unset_pen pen screen))
+    ≡ look_in_row defined row pen screen c
 unfolding look_in_row
-look_alone paint_of row pen screen c low high plain =
-    ap (λ s. look_with paint_of s (own_attributes_of (row c) pen screen (cascade unset_pen pen screen)))
-    (sym (shape_alone (row c) (held_sign row c) (plain c low high)))
-    ∙ ap (λ f. look_with paint_of (shape_in (row c) (held_sign row c)) (own_attributes_of (row c) pen screen f))
-    (sym (attributes_alone row pen screen c low high plain))
+look_alone defined row pen screen c low plain =
+    ap (λ s. look_with (paint_in defined.paints) s (own_attributes_of (row c) pen screen
+    (cascade unset_pen pen screen)))
+    (sym (shape_alone defined (row c) (held_sign row c) (plain c low (omega arith))))
+    ∙ ap (λ f. look_with (paint_in defined.paints) (shape_in defined (row c) (held_sign row c)) (own_attributes_of
+    (row c)
+    pen screen f))
+    (sym (attributes_alone row pen screen c low plain))
 
 -- ---- sizes
 
@@ -161,10 +176,10 @@ look_by-alone a al ar l own size last c above left normal single =
     single
 
 -- what stands in a cell is of single size by itself
-single_look : (paint_of : ℕ → Paint) (row : ℕ → What) (pen screen : Pen) (c : ℕ) → part_of
-    (look_in_row paint_of row pen screen c) ≡ single_part
+single_look : (defined : Definitions) (row : ℕ → What) (pen screen : Pen) (c : ℕ) → part_of
+    (look_in_row defined row pen screen c) ≡ single_part
 unfolding look_in_row
-single_look paint_of row pen screen c = refl
+single_look defined row pen screen c = refl
 
 -- one column more
 look_from-suc : (above own : ℕ → Look) (wanted : ℕ → Size) (last : Bool) (c : ℕ)
@@ -195,21 +210,21 @@ look_from-alone above own wanted last uncovered single normal (suc c) high =
     (normal (suc (suc c)) (omega arith) (omega arith)) (single (suc (suc c)))
 
 -- the whole row
-pub row_alone : (paint_of : ℕ → Paint) (above : List Look) (row : ℕ → What) (pen screen : Pen) (last : Bool)
+pub row_alone : (defined : Definitions) (above : List Look) (row : ℕ → What) (pen screen : Pen) (last : Bool)
     → ((c : ℕ) → covers_below (part_of (column_entry blank_look above c)) ≡ false)
     → ((d : ℕ) → 1 ≤ d → d ≤ 40 → sets_double_size (row d) ≡ false) → (cascade unset_pen pen screen).size ≡ sizes.Normal
-    → row_of (look_in_row paint_of row pen screen)
-    ≡ row_from_above above (look_in_row paint_of row pen screen) (size_in_row row pen screen) last
+    → row_of (look_in_row defined row pen screen)
+    ≡ row_from_above above (look_in_row defined row pen screen) (size_in_row row pen screen) last
 unfolding row_from_above
-row_alone paint_of above row pen screen last uncovered plain e =
-    same_rows (look_in_row paint_of row pen screen)
-    (look_from (column_entry blank_look above) (look_in_row paint_of row pen screen) (size_in_row row pen screen) last)
+row_alone defined above row pen screen last uncovered plain e =
+    same_rows (look_in_row defined row pen screen)
+    (look_from (column_entry blank_look above) (look_in_row defined row pen screen) (size_in_row row pen screen) last)
     (λ c low high.
     let back : suc (c - 1) ≡ c = omega arith in
-    subst (λ d. look_in_row paint_of row pen screen d
-    ≡ look_from (column_entry blank_look above) (look_in_row paint_of row pen screen)
+    subst (λ d. look_in_row defined row pen screen d
+    ≡ look_from (column_entry blank_look above) (look_in_row defined row pen screen)
     (size_in_row row pen screen) last d) back
-    (sym (look_from-alone (column_entry blank_look above) (look_in_row paint_of row pen screen)
+    (sym (look_from-alone (column_entry blank_look above) (look_in_row defined row pen screen)
     (size_in_row row pen screen) last
-    uncovered (single_look paint_of row pen screen) (λ d from to. size_alone row pen screen d from to plain e) (c - 1)
+    uncovered (single_look defined row pen screen) (λ d from to. size_alone row pen screen d from to plain e) (c - 1)
     (omega arith))))

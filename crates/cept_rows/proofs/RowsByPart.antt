@@ -1,9 +1,10 @@
 -- Rows by the parts that their places show: the parts of the looks are those that are tiled beneath the parts of the
 -- looks above, and each look is that of the place above, of the one to the left, or of what stands there itself.
-use Rattle.std.proofs.Common.{◌≡◌, ℕ, ◌+◌, ◌-◌, ◌≤◌, ◌<◌, ◌&&◌, ltb, Bool, true, false, not, cond, Option, List, zero}
+use Rattle.std.proofs.Common.{◌≡◌, ℕ, ◌+◌, ◌-◌, ◌≤◌, ◌<◌, ◌==◌, ◌&&◌, ltb, Bool, true, false, not, cond, Option, List}
+use Rattle.std.proofs.Common.{zero}
 use Rattle.std.proofs.Common.{suc, length, get_or}
-use Rattle.std.proofs.Common.{refl, sym, ap, ◌∙◌, arith, rules, subst}
-use Rattle.std.proofs.lemmas.Bool.{cond_both}
+use Rattle.std.proofs.Common.{refl, sym, ap, ◌∙◌, arith, subst, None, IfSome, inl, inr}
+use Rattle.std.proofs.lemmas.Bool.{cases_lt, cond_both}
 use Rattle.cept_codes.specs.declared.attribute.Pen.{Pen}
 use Rattle.cept_codes.specs.declared.attribute.Size.{Size}
 use Rattle.cept_codes.specs.declared.attribute.Full.{Full}
@@ -12,23 +13,26 @@ use Rattle.cept_codes.specs.declared.cell.Cell.{Cell}
 use Rattle.cept_codes.specs.declared.cell.What.{What}
 use Rattle.cept_codes.specs.declared.glyph.Glyph.{Glyph}
 use Rattle.cept_codes.specs.declared.look.Look.{Look}
-use Rattle.cept_codes.specs.declared.look.Paint.{Paint}
 use Rattle.cept_codes.specs.declared.look.Part.{Part}
 use Rattle.cept_codes.specs.Attribute.{IsValidFull, IsValidPen}
 use Rattle.cept_codes.specs.Cell.{IsValidWhat, blank_cell}
-use Rattle.cept_codes.specs.Table.{row_of}
-use Rattle.cept_codes.specs.Look.{IsValidPaint, IsValidPart, blank_look}
+use Rattle.cept_codes.specs.Table.{HasMadeEntries, row_of}
+use Rattle.cept_codes.specs.declared.look.Pattern.{Pattern}
+use Rattle.cept_codes.specs.Look.{IsValidLook, IsValidPaint, IsValidPattern, blank_look}
+use Rattle.cept_codes.proofs.Laws.{entry_past}
+use Rattle.cept_profile.specs.Definitions.{Definitions}
+use Rattle.cept_profile.specs.PageParts.{paint_in, pattern_in}
+use Rattle.cept_profile.specs.Valid.{AreValidDefinitions}
 use Rattle.cept_profile.specs.Look.{look_in_row, look_with, look_with_part, part_of, shape_in, size_in_row}
-use Rattle.cept_profile.specs.RowsFromAbove.{look_by, look_from}
+use Rattle.cept_profile.specs.RowsFromAbove.{look_by, look_from, row_from_above}
 use Rattle.cept_profile.specs.Serial.{held_sign, own_attributes, own_attributes_of, row_in, serial_attributes}
 use Rattle.cept_profile.specs.Tiling.{covers_below, is_covered_from_left, is_high, is_wide, origin_part, part_below}
 use Rattle.cept_profile.specs.Tiling.{part_by, part_from}
 use Rattle.cept_profile.specs.Tiling.{column_entry, part_to_the_right, single_part, tiled_row}
-use Rattle.cept_profile.proofs.Laws.{IsValidLook-look_in_row, serial_attributes-valid}
-use Rattle.cept_rows.specs.RowsByCell.{look_by_part}
-use Rattle.cept_rows.specs.SmallLooks.{IsKeepable}
-use Rattle.cept_rows.proofs.Columns.{column_entry-past, column_entry-row_of, column_entry-row_of_all, get_or-row_of}
-use Rattle.cept_rows.proofs.KeptLooks.{HasNoPattern-shape_in, IsKeepable-blank_look}
+use Rattle.cept_profile.proofs.Laws.{IsValidLook-look_in_row, IsValidLook-row_from_above, serial_attributes-valid}
+use Rattle.cept_rows.specs.RowsByCell.{look_by_part, shape_by_part}
+use Rattle.cept_rows.proofs.Columns.{column_entry-at, column_entry-past, column_entry-row_of, column_entry-row_of_all}
+use Rattle.cept_rows.proofs.Columns.{get_or-row_of}
 
 -- ---- one place
 
@@ -139,53 +143,18 @@ look_from-by_part parts above own sizes wanted last same sized c low high =
     (wanted c) last c)
     ∙ sym (look_from-at above own wanted last c low)
 
--- ---- what a row can keep
+-- ---- validity
 
--- the upper left part is valid
-origin_is_valid : (wide high : Bool) → IsValidPart (origin_part wide high)
-origin_is_valid true true = search rules
-origin_is_valid true false = search rules
-origin_is_valid false true = search rules
-origin_is_valid false false = search rules
-
--- with another valid part it can be kept too
-IsKeepable-part : (p : Part) (l : Look) → IsValidPart p → IsKeepable l → IsKeepable (look_with_part p l)
-IsKeepable-part p l part k = record {
-  valid = record { shape = k.valid.shape; part = part; fore = k.valid.fore; back = k.valid.back };
-  plain = k.plain;
-}
-
--- the look of a place, whichever it is, can be kept
-IsKeepable-look_by : (a al ar l own : Look) (size : Size) (last : Bool) (c : ℕ) → IsKeepable a → IsKeepable l
-    → IsKeepable own → IsKeepable (look_by a al ar l own size last c)
-IsKeepable-look_by a al ar l own size last c ka kl ko =
-    let wide : Bool = is_wide size && ltb c 40 && not (covers_below (part_of ar)) in
-    let high : Bool = is_high size && not last in
-    let by_left : Look = look_with_part (part_to_the_right (part_of l)) l in
-    let by_own : Look = look_with_part (origin_part wide high) own in
-    cond_both (covers_below (part_of a)) (look_with_part (part_below (part_of a)) a)
-    (cond (is_covered_from_left (part_of al) (part_of l)) by_left by_own) IsKeepable (λ e.
-    IsKeepable-part (part_below (part_of a)) a
-    (record { down = omega arith; right = ka.valid.part.right; wide = ka.valid.part.wide; high = ka.valid.part.high })
-    ka) (λ e.
-    cond_both (is_covered_from_left (part_of al) (part_of l)) by_left by_own IsKeepable (λ f.
-    IsKeepable-part (part_to_the_right (part_of l)) l
-    (record { down = omega arith; right = omega arith; wide = kl.valid.part.wide; high = kl.valid.part.high }) kl) (λ f.
-    IsKeepable-part (origin_part wide high) own (origin_is_valid wide high) ko))
-
--- and so can those of a row
-pub IsKeepable-look_from : (above own : ℕ → Look) (wanted : ℕ → Size) (last : Bool) → ((c : ℕ) → IsKeepable (above c))
-    → ((c : ℕ) → 1 ≤ c → c ≤ 40 → IsKeepable (own c)) → (c : ℕ) → c ≤ 40
-    → IsKeepable (look_from above own wanted last c)
-IsKeepable-look_from above own wanted last ka ko zero high = rw (look_from-0 above own wanted last)
-    IsKeepable-blank_look
-IsKeepable-look_from above own wanted last ka ko (suc c) high =
-    let e : suc c - 1 ≡ c = omega arith in
-    rw (look_from-at above own wanted last (suc c) (omega arith))
-    (IsKeepable-look_by (above (suc c)) (above (suc c - 1)) (above (suc c + 1)) (look_from above own wanted last
-    (suc c - 1))
-    (own (suc c)) (wanted (suc c)) last (suc c) (ka (suc c))
-    (rw e (IsKeepable-look_from above own wanted last ka ko c (omega arith))) (ko (suc c) (omega arith) high))
+-- looks are valid by the laws of rows, outside the row too
+pub IsValidLook-look_from : (above : List Look) (own : ℕ → Look) (wanted : ℕ → Size) (last : Bool)
+    → ((c : ℕ) → 1 ≤ c → c ≤ 40 → IsValidLook (column_entry blank_look above c))
+    → ((c : ℕ) → 1 ≤ c → c ≤ 40 → IsValidLook (own c)) → (c : ℕ) → 1 ≤ c → c ≤ 40
+    → IsValidLook (look_from (column_entry blank_look above) own wanted last c)
+unfolding row_from_above
+IsValidLook-look_from above own wanted last is_above is_own c low high =
+    subst IsValidLook
+    (column_entry-row_of blank_look (look_from (column_entry blank_look above) own wanted last) c low high)
+    (IsValidLook-row_from_above above own wanted last is_above is_own c low high)
 
 -- ---- the next place of a row
 
@@ -209,20 +178,22 @@ pub record IsTiledBeneath (above : List Look) (cells : List Cell) (row screen : 
   pub parts : parts_made ≡ tiled_row above_it (column_entry sizes.Normal sizes_wanted) last
 
 -- the look of what stands in a cell, by the attributes and the held signs that were found
-pub own_look_made : (paint_of : ℕ → Paint) (cells : List Cell) (row screen : Pen) (fulls : List Full)
+pub own_look_made : (defined : Definitions) (cells : List Cell) (row screen : Pen) (fulls : List Full)
     (helds : List (Option Glyph)) (c : ℕ) (df : Full) (dh : Option Glyph) → 1 ≤ c → c ≤ 40
     → ((c : ℕ) (d : Full) → 1 ≤ c → c ≤ 40 → get_or fulls (c - 1) d ≡ serial_attributes (row_in cells) row screen c)
     → ((c : ℕ) (d : Option Glyph) → 1 ≤ c → c ≤ 40 → get_or helds (c - 1) d ≡ held_sign (row_in cells) c)
-    → look_with paint_of (shape_in (row_in cells c) (get_or helds (c - 1) dh))
+    → look_with (paint_in defined.paints) (shape_in defined (row_in cells c) (get_or helds (c - 1) dh))
     (own_attributes_of (row_in cells c) row screen (get_or fulls (c - 1) df))
-    ≡ look_in_row paint_of (row_in cells) row screen c
+    ≡ look_in_row defined (row_in cells) row screen c
 unfolding look_in_row
-own_look_made paint_of cells row screen fulls helds c df dh low high ef eh =
-    ap (λ o. look_with paint_of (shape_in (row_in cells c) o) (own_attributes_of (row_in cells c) row screen
+own_look_made defined cells row screen fulls helds c df dh low high ef eh =
+    ap (λ o. look_with (paint_in defined.paints) (shape_in defined (row_in cells c) o) (own_attributes_of
+    (row_in cells c) row screen
     (get_or fulls
     (c - 1) df)))
     (eh c dh low high)
-    ∙ ap (λ f. look_with paint_of (shape_in (row_in cells c) (held_sign (row_in cells) c)) (own_attributes_of
+    ∙ ap (λ f. look_with (paint_in defined.paints) (shape_in defined (row_in cells c) (held_sign (row_in cells) c))
+    (own_attributes_of
     (row_in cells c) row screen f))
     (ef c df low high)
 
@@ -238,17 +209,17 @@ part_made parts_above wanted parts last c d low high e =
     high
 
 -- the look of a place by the part that was tiled there
-pub look_made : (paint_of : ℕ → Paint) (above : List Look) (cells : List Cell) (row screen : Pen) (last : Bool)
+pub look_made : (defined : Definitions) (above : List Look) (cells : List Cell) (row screen : Pen) (last : Bool)
     (parts_above : List Part) (wanted : List Size) (parts : List Part) (c : ℕ) (d : Part)
     → IsTiledBeneath above cells row screen last parts_above wanted parts → 1 ≤ c → c ≤ 40
     → look_by_part (get_or parts (c - 1) d) (column_entry blank_look above c)
-    (look_from (column_entry blank_look above) (look_in_row paint_of (row_in cells) row screen) (size_in_row
+    (look_from (column_entry blank_look above) (look_in_row defined (row_in cells) row screen) (size_in_row
     (row_in cells) row screen)
-    last (c - 1)) (look_in_row paint_of (row_in cells) row screen c)
-    ≡ look_from (column_entry blank_look above) (look_in_row paint_of (row_in cells) row screen)
+    last (c - 1)) (look_in_row defined (row_in cells) row screen c)
+    ≡ look_from (column_entry blank_look above) (look_in_row defined (row_in cells) row screen)
     (size_in_row (row_in cells) row screen) last c
-look_made paint_of above cells row screen last parts_above wanted parts c d tiled low high =
-    let own : ℕ → Look = look_in_row paint_of (row_in cells) row screen in
+look_made defined above cells row screen last parts_above wanted parts c d tiled low high =
+    let own : ℕ → Look = look_in_row defined (row_in cells) row screen in
     let size : ℕ → Size = size_in_row (row_in cells) row screen in
     let there : ℕ → Look = column_entry blank_look above in
     ap (λ p. look_by_part p (there c) (look_from there own size last (c - 1)) (own c))
@@ -260,15 +231,26 @@ look_made paint_of above cells row screen last parts_above wanted parts c d tile
     (λ b from to. ap (λ l. column_entry sizes.Normal l b) tiled.wanted
     ∙ column_entry-row_of sizes.Normal size b from to) c low high
 
--- a row of valid cells
-pub IsKeepable-look_in_row : (paint_of : ℕ → Paint) (row : ℕ → What) (pen screen : Pen) (c : ℕ) → 1 ≤ c → c ≤ 40
-    → ((i : ℕ) → IsValidPaint (paint_of i)) → ((d : ℕ) → 1 ≤ d → d ≤ 40 → IsValidWhat (row d))
-    → IsKeepable (look_in_row paint_of row pen screen c)
-unfolding look_in_row
-IsKeepable-look_in_row paint_of row pen screen c low high paints valid = record {
-  valid = IsValidLook-look_in_row paint_of row pen screen c low paints (λ d from to. valid d from (omega arith));
-  plain = HasNoPattern-shape_in (row c) (held_sign row c);
+-- what signs are drawn with is valid where it is kept so
+pub AreValidDefinitions-kept : (defined : Definitions) → ((i : ℕ) → IsValidPaint (paint_in defined.paints i))
+    → length defined.patterns ≡ 94
+    → ((d : ℕ) → 0x21 ≤ d → d ≤ 0x7E → IfSome (pattern_in defined.patterns d) IsValidPattern)
+    → AreValidDefinitions defined
+AreValidDefinitions-kept defined paints codes patterns = record {
+  paints = paints;
+  patterns = λ d low. elim (cases_lt d 0x7F) [
+    | inl below ↦ patterns d low (omega arith)
+    | inr past ↦ subst (λ (o : Option Pattern). IfSome o IsValidPattern)
+        (sym (entry_past None 0x21 defined.patterns d (omega (arith, codes, past)))) tt
+  ];
 }
+
+-- a row of valid cells
+pub IsValidLook-cell : (defined : Definitions) (row : ℕ → What) (pen screen : Pen) → AreValidDefinitions defined
+    → ((d : ℕ) → 1 ≤ d → d ≤ 40 → IsValidWhat (row d)) → (c : ℕ) → 1 ≤ c → c ≤ 40
+    → IsValidLook (look_in_row defined row pen screen c)
+IsValidLook-cell defined row pen screen are valid c low high =
+    IsValidLook-look_in_row defined row pen screen c low are (λ d from to. valid d from (omega arith))
 
 -- the attributes that were found in force in a cell are valid
 pub IsValidFull-found : (cells : List Cell) (fulls : List Full) (row screen : Pen) (c : ℕ) (d : Full) → 1 ≤ c → c ≤ 40
@@ -278,3 +260,63 @@ pub IsValidFull-found : (cells : List Cell) (fulls : List Full) (row screen : Pe
 IsValidFull-found cells fulls row screen c d low high found valid is_row is_screen =
     subst IsValidFull (sym (found c d low high))
     (serial_attributes-valid (row_in cells) row screen c low is_row is_screen (λ e from to. valid e from (omega arith)))
+
+-- ---- shapes
+
+-- the shape of a look by its part
+shape_of-look_by_part : (p : Part) (a l o : Look)
+    → shape_by_part p a.shape l.shape o.shape ≡ (look_by_part p a l o).shape
+shape_of-look_by_part p a l o =
+    cond_both (p.dy == 1) a (cond (p.dx == 1) l o)
+    (λ x. shape_by_part p a.shape l.shape o.shape ≡ x.shape) (λ e. ap (λ b. cond b a.shape (cond
+    (p.dx == 1) l.shape o.shape)) e) (λ e.
+    cond_both (p.dx == 1) l o (λ x. shape_by_part p a.shape l.shape o.shape ≡ x.shape) (λ f.
+    ap (λ b. cond b a.shape (cond (p.dx == 1) l.shape o.shape)) e ∙ ap (λ b. cond b l.shape o.shape) f) (λ f.
+    ap (λ b. cond b a.shape (cond (p.dx == 1) l.shape o.shape)) e ∙ ap (λ b. cond b l.shape o.shape) f))
+
+-- the look to the left, where the row is made up to there
+left_made : (f g : ℕ → Look) (looks : List Look) (c : ℕ) → HasMadeEntries blank_look 1 40 f g looks (c - 1)
+    → f 0 ≡ blank_look → 1 ≤ c → c ≤ 40 → column_entry blank_look looks (c - 1) ≡ f (c - 1)
+left_made f g looks c made first low high =
+    elim (cases_lt 0 (c - 1)) [
+      | inl some ↦
+          column_entry-at blank_look looks (c - 1) some ∙ made.made (c - 1) some (omega arith) (omega arith)
+      | inr none ↦
+          let e : c - 1 ≡ 0 = omega (arith, none) in
+          ap (λ n. column_entry blank_look looks n) e ∙ sym first ∙ ap f (sym e)
+    ]
+
+-- the shape of what stands in a cell, by the held signs that were found
+own_shape_made : (defined : Definitions) (cells : List Cell) (row screen : Pen) (helds : List (Option Glyph))
+    (c : ℕ) (dh : Option Glyph) → 1 ≤ c → c ≤ 40
+    → ((c : ℕ) (d : Option Glyph) → 1 ≤ c → c ≤ 40 → get_or helds (c - 1) d ≡ held_sign (row_in cells) c)
+    → shape_in defined (row_in cells c) (get_or helds (c - 1) dh) ≡ (look_in_row defined
+    (row_in cells) row screen c).shape
+unfolding look_in_row
+own_shape_made defined cells row screen helds c dh low high eh =
+    ap (λ o. shape_in defined (row_in cells c) o) (eh c dh low high)
+
+-- the shape of a place by the part that was tiled there, in a row that is made up to there
+pub shape_made : (defined : Definitions) (above : List Look) (cells : List Cell) (row screen : Pen) (last : Bool)
+    (parts_above : List Part) (wanted : List Size) (parts : List Part) (helds : List (Option Glyph)) (looks : List Look)
+    (g : ℕ → Look) (c : ℕ) (d : Part) (dh : Option Glyph)
+    → IsTiledBeneath above cells row screen last parts_above wanted parts
+    → ((c : ℕ) (d : Option Glyph) → 1 ≤ c → c ≤ 40 → get_or helds (c - 1) d ≡ held_sign (row_in cells) c)
+    → HasMadeEntries blank_look 1 40
+    (look_from (column_entry blank_look above) (look_in_row defined (row_in cells) row screen) (size_in_row
+    (row_in cells) row screen) last) g looks (c - 1) → 1 ≤ c → c ≤ 40
+    → shape_by_part (get_or parts (c - 1) d) (column_entry blank_look above c).shape
+    (column_entry blank_look looks (c - 1)).shape (shape_in defined (row_in cells c) (get_or helds (c - 1) dh))
+    ≡ (look_from (column_entry blank_look above) (look_in_row defined (row_in cells) row screen) (size_in_row
+    (row_in cells) row screen) last c).shape
+shape_made defined above cells row screen last parts_above wanted parts helds looks g c d dh tiled held made low high =
+    let own : ℕ → Look = look_in_row defined (row_in cells) row screen in
+    let shown : ℕ → Look =
+    look_from (column_entry blank_look above) own (size_in_row (row_in cells) row screen) last in
+    let p : Part = get_or parts (c - 1) d in
+    (λ i. shape_by_part p (column_entry blank_look above c).shape
+    (left_made shown g looks c made (look_from-0 (column_entry blank_look above) own (size_in_row
+    (row_in cells) row screen)
+    last) low high i).shape (own_shape_made defined cells row screen helds c dh low high held i))
+    ∙ shape_of-look_by_part p (column_entry blank_look above c) (shown (c - 1)) (own c)
+    ∙ ap (λ l. l.shape) (look_made defined above cells row screen last parts_above wanted parts c d tiled low high)

@@ -3,24 +3,24 @@ use Rattle.std.proofs.Common.{◌≡◌, ℕ, ◌-◌, ◌≤◌, Bool, List, []
 use Rattle.cept_codes.specs.declared.attribute.Pen.{Pen}
 use Rattle.cept_codes.specs.declared.cell.Cell.{Cell}
 use Rattle.cept_codes.specs.declared.look.Look.{Look}
-use Rattle.cept_codes.specs.declared.look.Paint.{Paint}
+use Rattle.cept_profile.specs.Definitions.{Definitions}
 use Rattle.cept_profile.specs.Look.{is_last_row, look_in_row, looks_of, size_in_row}
-use Rattle.cept_profile.specs.PageParts.{paint_in, row_pen_in}
+use Rattle.cept_profile.specs.PageParts.{row_pen_in}
 use Rattle.cept_profile.specs.RowsFromAbove.{looks_in, row_from_above}
 use Rattle.cept_profile.specs.Serial.{row_in}
-use Rattle.cept_profile.specs.State.{Core}
+use Rattle.cept_profile.specs.State.{Core, definitions_of}
 use Rattle.cept_profile.proofs.Laws.{looks_in-from_above}
 
-pub row_of_core : (above : List Look) (cells : List Cell) (row screen : Pen) (paints : List Paint) (last : Bool)
+pub row_of_core : (above : List Look) (cells : List Cell) (row screen : Pen) (defined : Definitions) (last : Bool)
     (looks : List Look)
     → looks
-    ≡ row_from_above above (look_in_row (paint_in paints) (row_in cells) row screen)
+    ≡ row_from_above above (look_in_row defined (row_in cells) row screen)
     (size_in_row (row_in cells) row screen) last
     → (k : Core) (r : ℕ) → 1 ≤ r → r ≤ 24 → above ≡ looks_in (looks_of k) (r - 1)
     → cells ≡ get_or k.page.cells (r - 1) [] → row ≡ row_pen_in k.page.row_pens r → screen ≡ k.page.screen_pen
-    → paints ≡ k.page.paints → last ≡ is_last_row k.rows r → looks ≡ looks_in (looks_of k) r
-row_of_core above cells row screen paints last looks e k r low high ea ec er es ep el =
+    → defined ≡ definitions_of k.page → last ≡ is_last_row k.rows r → looks ≡ looks_in (looks_of k) r
+row_of_core above cells row screen defined last looks e k r low high ea ec er es ep el =
     e
-    ∙ (λ i. row_from_above (ea i) (look_in_row (paint_in (ep i)) (row_in (ec i)) (er i) (es i))
+    ∙ (λ i. row_from_above (ea i) (look_in_row (ep i) (row_in (ec i)) (er i) (es i))
     (size_in_row (row_in (ec i)) (er i) (es i)) (el i))
     ∙ sym (looks_in-from_above k r low high)

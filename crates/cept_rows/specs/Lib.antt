@@ -1,3 +1,4 @@
+pub mod DrawnWith
 pub mod SmallLooks
 pub mod KeptRows
 pub mod RowsByCell

@@ -1,10 +1,37 @@
 -- Rows, place by place (own): what stands in a cell by itself, and what a place shows by its part.
-use Rattle.std.specs.Prelude.{◌==◌, if◌then◌else◌}
+use Rattle.std.specs.Prelude.{◌==◌, if◌then◌else◌, Bool, true, false, List, Option, None}
+use Rattle.cept_codes.specs.declared.cell.What.{What}
+use Rattle.cept_codes.specs.declared.cell.What.TheVariants as whats
+use Rattle.cept_codes.specs.declared.glyph.Glyph.{Glyph}
+use Rattle.cept_codes.specs.declared.glyph.SetId.{SetId}
+use Rattle.cept_codes.specs.declared.glyph.SetId.TheVariants as sets
 use Rattle.cept_codes.specs.declared.look.Look.{Look}
 use Rattle.cept_codes.specs.declared.look.Part.{Part}
+use Rattle.cept_codes.specs.declared.look.Pattern.{Pattern}
+use Rattle.cept_codes.specs.declared.look.Shape.{Shape}
 use Rattle.cept_profile.specs.Look.{look_with_part}
+use Rattle.cept_profile.specs.PageParts.{pattern_in}
+
+-- the downloaded set
+abbrev pub is_set_d : SetId → Bool
+is_set_d sets.D = true
+is_set_d _ = false
+
+-- a sign of it stands in a cell
+abbrev pub is_downloaded : What → Bool
+is_downloaded (whats.Serial g) = is_set_d g.set
+is_downloaded (whats.Parallel g pen) = is_set_d g.set
+is_downloaded _ = false
+
+-- the pattern of a sign, where it is of that set and its code has one
+abbrev pub pattern_of_sign : List (Option Pattern) → Glyph → Option Pattern
+pattern_of_sign patterns g = if is_set_d g.set then pattern_in patterns g.code else None
 
 -- the look of a place by the part that it shows: a lower part is one of the look above, a right part one of the look to
 -- the left, and any other one of what stands there itself
 abbrev pub look_by_part : Part → Look → Look → Look → Look
 look_by_part p above left own = look_with_part p (if p.dy == 1 then above else if p.dx == 1 then left else own)
+
+-- the shape of a place by the part of it that it shows
+abbrev pub shape_by_part : Part → Shape → Shape → Shape → Shape
+shape_by_part p above left own = if p.dy == 1 then above else if p.dx == 1 then left else own

@@ -1,12 +1,14 @@
--- Looks in little room (own): a look without a pattern in fields of one byte, and the look that it stands for.
-use Rattle.std.specs.Prelude.{◌≡◌, true, false, if◌then◌else◌}
+-- Looks in little room (own): a look in fields of one byte, of a pattern only that it is one; the pattern with its inks
+-- beside it; and the look that both stand for.
+use Rattle.std.specs.Prelude.{◌≡◌, Bool, true, false, replicate, if◌then◌else◌}
 use Rattle.cept_codes.specs.declared.glyph.SetId.TheVariants as sets
 use Rattle.cept_codes.specs.declared.look.Look.{Look}
 use Rattle.cept_codes.specs.declared.look.Paint.{Paint}
 use Rattle.cept_codes.specs.declared.look.Paint.TheVariants as paints
 use Rattle.cept_codes.specs.declared.look.Shape.{Shape}
 use Rattle.cept_codes.specs.declared.look.Shape.TheVariants as shapes
-use Rattle.cept_codes.specs.Look.{IsValidLook, blank_look}
+use Rattle.cept_codes.specs.Look.{IsValidLook, black_paint, blank_look}
+use Rattle.cept_rows.specs.declared.drawing.Drawing.{Drawing}
 use Rattle.cept_rows.specs.declared.small_look.Kind.{Kind}
 use Rattle.cept_rows.specs.declared.small_look.Kind.TheVariants as kinds
 use Rattle.cept_rows.specs.declared.small_look.Sign.{Sign}
@@ -17,11 +19,28 @@ use Rattle.cept_rows.specs.declared.small_look.Tint.{Tint}
 abbrev pub nothing : Sign
 nothing = record { kind = kinds.Space; set = sets.P; code = 0; accent = 0 }
 
--- a shape; a pattern has no room here
+-- a pattern is drawn, whichever it is
+abbrev pub some_pattern : Sign
+some_pattern = record { kind = kinds.Drcs; set = sets.P; code = 0; accent = 0 }
+
+-- a shape
 abbrev pub sign_of : Shape → Sign
 sign_of shapes.Space = nothing
 sign_of (shapes.Char g) = record { kind = kinds.Char; set = g.set; code = g.code; accent = g.accent }
-sign_of (shapes.Drcs pattern inks) = nothing
+sign_of (shapes.Drcs pattern inks) = some_pattern
+
+-- no pattern and no inks
+abbrev pub no_drawing : Drawing
+no_drawing = record {
+  pattern = record { w = 0; h = 0; planes = 0; bits = replicate 9 0 };
+  inks = record { count = 0; paints = replicate 16 black_paint };
+}
+
+-- the pattern of a shape with its inks
+abbrev pub drawing_of : Shape → Drawing
+drawing_of shapes.Space = no_drawing
+drawing_of (shapes.Char g) = no_drawing
+drawing_of (shapes.Drcs pattern inks) = record { pattern = pattern; inks = inks }
 
 -- a paint
 abbrev pub tint_of : Paint → Tint
@@ -43,22 +62,23 @@ abbrev pub blank_small : SmallLook
 blank_small = small_of blank_look
 
 -- the shape that is kept, by what is drawn at all
-abbrev pub shape_by : Kind → Sign → Shape
-shape_by kinds.Space s = shapes.Space
-shape_by kinds.Char s = shapes.Char (record { set = s.set; code = s.code; accent = s.accent })
+abbrev pub shape_by : Kind → Sign → Drawing → Shape
+shape_by kinds.Space s d = shapes.Space
+shape_by kinds.Char s d = shapes.Char (record { set = s.set; code = s.code; accent = s.accent })
+shape_by kinds.Drcs s d = shapes.Drcs d.pattern d.inks
 
 -- the shape that is kept
-abbrev pub shape_kept : Sign → Shape
-shape_kept s = shape_by s.kind s
+abbrev pub shape_kept : Sign → Drawing → Shape
+shape_kept s d = shape_by s.kind s d
 
 -- the paint that is kept
 abbrev pub paint_kept : Tint → Paint
 paint_kept t = if t.video then paints.Video else paints.Ink (record { r = t.r; g = t.g; b = t.b })
 
--- the look that is kept
-abbrev pub look_kept : SmallLook → Look
-look_kept s = record {
-  shape = shape_kept s.sign;
+-- the look that is kept; the drawing counts for a pattern alone
+abbrev pub look_kept : SmallLook → Drawing → Look
+look_kept s d = record {
+  shape = shape_kept s.sign d;
   dy = s.part.dy;
   dx = s.part.dx;
   w = s.part.w;
@@ -71,16 +91,16 @@ look_kept s = record {
   boxed = s.style.boxed;
 }
 
--- a valid look, and no field holds what it doesn't show
-pub record IsSmallLook (s : SmallLook) : Type 0 where
-  pub valid : IsValidLook (look_kept s)
-  pub shown : small_of (look_kept s) ≡ s
+-- a pattern is drawn
+abbrev pub is_drcs : Kind → Bool
+is_drcs kinds.Drcs = true
+is_drcs _ = false
 
--- no pattern is drawn
-abbrev pub HasNoPattern : Shape → Type 0
-HasNoPattern shape = shape_kept (sign_of shape) ≡ shape
+-- the same of a look
+abbrev pub has_pattern : SmallLook → Bool
+has_pattern s = is_drcs s.sign.kind
 
--- a valid look without a pattern, which a row can keep
-pub record IsKeepable (l : Look) : Type 0 where
-  pub valid : IsValidLook l
-  pub plain : HasNoPattern l.shape
+-- together a valid look, and no field holds what it doesn't show
+pub record IsSmallLook (s : SmallLook) (d : Drawing) : Type 0 where
+  pub valid : IsValidLook (look_kept s d)
+  pub shown : small_of (look_kept s d) ≡ s

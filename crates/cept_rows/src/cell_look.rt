@@ -1,37 +1,69 @@
-ghost use Rattle.std.specs.Prelude.{◌≡◌};
+ghost use Rattle.std.specs.Prelude.{◌≡◌, true, false, List, Option, None, IfSome};
 ghost use Rattle.cept_codes.specs.declared.look.Look.{Look};
 ghost use Rattle.cept_codes.specs.declared.look.Shape.{Shape};
 ghost use Rattle.cept_codes.specs.declared.look.Shape.TheVariants.{Space};
 ghost use Rattle.cept_codes.specs.Attribute.{IsValidFull, IsValidPen, unset_pen};
 ghost use Rattle.cept_codes.specs.Cell.{IsValidWhat};
+ghost use Rattle.cept_codes.specs.Glyph.{IsValidGlyph};
+ghost use Rattle.cept_codes.specs.declared.attribute.Pen.{Pen};
+ghost use Rattle.cept_codes.specs.declared.look.Pattern.{Pattern};
+ghost use Rattle.cept_profile.specs.Definitions.{Definitions};
 ghost use Rattle.cept_profile.specs.Attributes.{cascade};
 ghost use Rattle.cept_profile.specs.Look.{attributes_of, look_of, look_with, sets_double_size};
 ghost use Rattle.cept_profile.specs.Look.{shape_in, shape_of};
 ghost use Rattle.cept_profile.specs.Look.{shape_of_sign};
 ghost use Rattle.cept_profile.specs.PageParts.{paint_in};
-ghost use Rattle.cept_profile.specs.Serial.{own_attributes_of};
+ghost use Rattle.cept_profile.specs.Serial.{is_marker, own_attributes_of};
+ghost use Rattle.cept_colours.specs.Colours.{ColourTables};
+ghost use Rattle.cept_rows.specs.DrawnWith.{drawn_with};
 ghost use Rattle.cept_rows.specs.SmallLooks.{sign_of, small_of};
-ghost use Rattle.cept_rows.specs.RowsByCell.{look_by_part};
+ghost use Rattle.cept_rows.specs.RowsByCell.{is_downloaded, is_set_d, look_by_part};
+ghost use Rattle.cept_rows.specs.RowsByCell.{pattern_of_sign};
 
 use crate::colours::{back_of, fore_of};
+use crate::drawing::pattern_of;
 use crate::small_look::{Kind, Sign, SmallLook, Style};
 use cept_attrs::cascade;
-use cept_codes::{Full, Glyph, Marker, Part, Pen, Size, What};
+use cept_codes::{Full, Glyph, Marker, Part, Pen, SetId, Size, What};
 use cept_colours::Colours;
+use cept_drcs::Patterns;
 
-/// The look of what stands in a cell by itself, in a row without markers.
+/// The look of what stands in a cell by itself, in a row without markers, where it is no sign of
+/// the downloaded set.
 #[tactic(auto, unfolding(cept_profile::specs::Look::look_of))]
-// A call of its own: the look is then compared at once where it stands, and not field by field.
-#[inline(never)]
+#[inline(always)]
 pub(crate) fn small_alone(what: &What, row: &Pen, screen: &Pen, colours: &Colours) -> SmallLook
     requires valid { IsValidWhat what.now }
     requires row { IsValidPen row.now }
     requires screen { IsValidPen screen.now }
-    ensures { result
-        ≡ small_of (look_of (paint_in colours.now.paints) row.now screen.now what.now) }
+    requires set { is_downloaded what.now ≡ false }
+    ensures { (patterns : List (Option Pattern)) → result
+        ≡ small_of (look_of (drawn_with colours.now patterns) row.now screen.now what.now) }
 {
     small_with(
         sign_alone(what),
+        &attributes_alone(what, row, screen),
+        colours,
+    )
+}
+
+/// The same of whatever stands in it.
+#[tactic(auto, unfolding(cept_profile::specs::Look::look_of))]
+pub(crate) fn small_of_any(
+    what: &What,
+    row: &Pen,
+    screen: &Pen,
+    colours: &Colours,
+    patterns: &Patterns,
+) -> SmallLook
+    requires valid { IsValidWhat what.now }
+    requires row { IsValidPen row.now }
+    requires screen { IsValidPen screen.now }
+    ensures { result
+        ≡ small_of (look_of (drawn_with colours.now patterns.now) row.now screen.now what.now) }
+{
+    small_with(
+        sign_in(what, None, patterns),
         &attributes_alone(what, row, screen),
         colours,
     )
@@ -52,47 +84,91 @@ fn attributes_alone(what: &What, row: &Pen, screen: &Pen) -> Full
     }
 }
 
-/// The sign of what stands in a cell by itself.
+/// The sign of what stands in a cell by itself, where it is none of the downloaded set.
 #[inline(always)]
 fn sign_alone(what: &What) -> Sign
-    ensures { result ≡ sign_of (shape_of what.now) }
+    requires { is_downloaded what.now ≡ false }
+    ensures { (defined : Definitions) → result ≡ sign_of (shape_of defined what.now) }
 {
     match what {
         What::Blank | What::Marker(_) => Sign::NOTHING,
-        What::Serial(glyph) | What::Parallel(glyph, _) => sign_of_glyph(glyph),
+        What::Serial(glyph) | What::Parallel(glyph, _) => sign_of_set(glyph),
     }
 }
 
-/// The look of what stands in a cell of a row without markers, in which a blank cell looks so.
+/// Whether a sign of the downloaded set stands in a cell.
+#[inline(always)]
+pub(crate) fn is_downloaded(what: &What) -> bool
+    ensures { result ≡ is_downloaded what.now }
+{
+    match what {
+        What::Serial(glyph) | What::Parallel(glyph, _) => matches!(glyph.set, SetId::D),
+        What::Blank | What::Marker(_) => false,
+    }
+}
+
+/// Whether what stands in a cell is shown by itself, in single size and without a pattern: it is no
+/// marker, sets no other size, and is no sign of the downloaded set.
+#[inline(always)]
+pub(crate) fn is_plain(what: &What) -> bool
+    ensures marker { result ≡ true → is_marker what.now ≡ false }
+    ensures size { result ≡ true → sets_double_size what.now ≡ false }
+    ensures set { result ≡ true → is_downloaded what.now ≡ false }
+{
+    match what {
+        What::Blank => true,
+        What::Serial(glyph) => !matches!(glyph.set, SetId::D),
+        What::Parallel(glyph, pen) => {
+            !matches!(glyph.set, SetId::D) & matches!(pen.size, None | Some(Size::Normal))
+        }
+        What::Marker(_) => false,
+    }
+}
+
+/// The look of what stands in a cell and is shown by itself, in a row in which a blank cell looks
+/// so and all that has no pen has these attributes.
 #[inline(always)]
 pub(crate) fn small_among(
     what: &What,
     blank: &SmallLook,
-    row: &Pen,
-    screen: &Pen,
+    full: &Full,
     colours: &Colours,
 ) -> SmallLook
     requires valid { IsValidWhat what.now }
-    requires row { IsValidPen row.now }
-    requires screen { IsValidPen screen.now }
+    requires full { IsValidFull full.now }
+    requires set { is_downloaded what.now ≡ false }
     requires blank { blank.now
-        ≡ small_of (look_with (paint_in colours.now.paints) Space
-        (cascade unset_pen row.now screen.now)) }
-    ensures { result
-        ≡ small_of (look_with (paint_in colours.now.paints) (shape_of what.now)
-        (own_attributes_of what.now row.now screen.now (cascade unset_pen row.now screen.now))) }
+        ≡ small_of (look_with (paint_in colours.now.paints) Space full.now) }
+    ensures { (defined : Definitions) (row screen : Pen) → full.now ≡ cascade unset_pen row screen
+        → result ≡ small_of (look_with (paint_in colours.now.paints) (shape_of defined what.now)
+        (own_attributes_of what.now row screen full.now)) }
 {
     match what {
         What::Blank | What::Marker(_) => *blank,
         What::Serial(glyph) => SmallLook {
-            sign: sign_of_glyph(glyph),
+            sign: sign_of_set(glyph),
             ..*blank
         },
-        What::Parallel(glyph, pen) => small_with(
-            sign_of_glyph(glyph),
-            &cascade(pen, row, screen),
-            colours,
-        ),
+        What::Parallel(glyph, pen) => small_with(sign_of_set(glyph), &over(pen, full), colours),
+    }
+}
+
+/// The attributes of a pen, over those of all that has none.
+#[inline(always)]
+fn over(pen: &Pen, under: &Full) -> Full
+    ensures attributes { (row screen : Pen) → under.now ≡ cascade unset_pen row screen
+        → result ≡ cascade pen.now row screen }
+    ensures valid { IsValidPen pen.now → IsValidFull under.now → IsValidFull result }
+{
+    Full {
+        fore: pen.fore.unwrap_or(under.fore),
+        back: pen.back.unwrap_or(under.back),
+        flash: pen.flash.unwrap_or(under.flash),
+        conceal: pen.conceal.unwrap_or(under.conceal),
+        lined: pen.lined.unwrap_or(under.lined),
+        boxed: pen.boxed.unwrap_or(under.boxed),
+        size: pen.size.unwrap_or(under.size),
+        invert: pen.invert.unwrap_or(under.invert),
     }
 }
 
@@ -139,17 +215,20 @@ pub(crate) fn small_under(
     row: &Pen,
     screen: &Pen,
     colours: &Colours,
+    patterns: &Patterns,
 ) -> SmallLook
     requires valid { IsValidWhat what.now }
     requires full { IsValidFull full.now }
+    requires held { IfSome held (λ g. is_set_d g.set ≡ false) }
     requires row { IsValidPen row.now }
     requires screen { IsValidPen screen.now }
     ensures { result
-        ≡ small_of (look_with (paint_in colours.now.paints) (shape_in what.now held)
+        ≡ small_of (look_with (paint_in colours.now.paints)
+        (shape_in (drawn_with colours.now patterns.now) what.now held)
         (own_attributes_of what.now row.now screen.now full.now)) }
 {
     small_with(
-        sign_in(what, held),
+        sign_in(what, held, patterns),
         &own_attributes(what, full, row, screen),
         colours,
     )
@@ -168,16 +247,19 @@ pub(crate) fn own_attributes(what: &What, full: &Full, row: &Pen, screen: &Pen) 
     }
 }
 
-/// The sign of a cell: a marker shows the one that it holds.
+/// The sign of a cell: a marker shows the one that it holds, which is none of the downloaded set.
 #[inline(always)]
-fn sign_in(what: &What, held: Option<Glyph>) -> Sign
-    ensures { result ≡ sign_of (shape_in what.now held) }
+fn sign_in(what: &What, held: Option<Glyph>, patterns: &Patterns) -> Sign
+    requires valid { IsValidWhat what.now }
+    requires held { IfSome held (λ g. is_set_d g.set ≡ false) }
+    ensures { (colours : ColourTables)
+        → result ≡ sign_of (shape_in (drawn_with colours patterns.now) what.now held) }
 {
     match what {
         What::Blank => Sign::NOTHING,
-        What::Serial(glyph) | What::Parallel(glyph, _) => sign_of_glyph(glyph),
+        What::Serial(glyph) | What::Parallel(glyph, _) => sign_of_glyph(glyph, patterns),
         What::Marker(_) => match held {
-            Some(glyph) => sign_of_glyph(&glyph),
+            Some(glyph) => sign_of_set(&glyph),
             None => Sign::NOTHING,
         },
     }
@@ -204,10 +286,26 @@ pub(crate) fn small_with(sign: Sign, full: &Full, colours: &Colours) -> SmallLoo
     }
 }
 
-/// A sign is drawn as itself, the space without accent as nothing.
+/// A sign of the downloaded set is drawn as the pattern of its code, where it has one, and any
+/// other as itself.
 #[inline(always)]
-pub(crate) fn sign_of_glyph(glyph: &Glyph) -> Sign
-    ensures { result ≡ sign_of (shape_of_sign glyph.now) }
+fn sign_of_glyph(glyph: &Glyph, patterns: &Patterns) -> Sign
+    requires { IsValidGlyph glyph.now }
+    ensures { (colours : ColourTables)
+        → result ≡ sign_of (shape_of_sign (drawn_with colours patterns.now) glyph.now) }
+{
+    if pattern_of(glyph, patterns).is_some() {
+        Sign::PATTERN
+    } else {
+        sign_of_set(glyph)
+    }
+}
+
+/// A sign without a pattern is drawn as itself, the space without accent as nothing.
+#[inline(always)]
+fn sign_of_set(glyph: &Glyph) -> Sign
+    ensures { (defined : Definitions) → pattern_of_sign defined.patterns glyph.now ≡ None
+        → result ≡ sign_of (shape_of_sign defined glyph.now) }
 {
     if glyph.code == 0x20 && glyph.accent == 0 {
         Sign::NOTHING

@@ -16,37 +16,21 @@ pub(crate) fn fore_of(full: &Full, colours: &Colours) -> Tint
         ≡ tint_of (paint_over (fore_paint (paint_in colours.now.paints) full.now)
         (back_paint (paint_in colours.now.paints) full.now)) }
 {
-    let fore = if full.invert { full.back } else { full.fore };
-    tint_of(paint_over(colours.paint(fore), back_paint(full, colours)))
+    let fore = tint_of(colours.paint(if full.invert { full.back } else { full.fore }));
+    if fore.video {
+        back_of(full, colours)
+    } else {
+        fore
+    }
 }
 
-/// The paint of the background.
+/// The paint of the background, which under invert is that of the entry of the foreground.
 #[inline(always)]
 pub(crate) fn back_of(full: &Full, colours: &Colours) -> Tint
     requires { IsValidFull full.now }
     ensures { result ≡ tint_of (back_paint (paint_in colours.now.paints) full.now) }
 {
-    tint_of(back_paint(full, colours))
-}
-
-/// The paint of the background, which under invert is that of the entry of the foreground.
-#[inline(always)]
-fn back_paint(full: &Full, colours: &Colours) -> Paint
-    requires { IsValidFull full.now }
-    ensures { result ≡ back_paint (paint_in colours.now.paints) full.now }
-{
-    colours.paint(if full.invert { full.fore } else { full.back })
-}
-
-/// The paint that a foreground has over a background.
-#[inline(always)]
-fn paint_over(fore: Paint, back: Paint) -> Paint
-    ensures { result ≡ paint_over fore back }
-{
-    match fore {
-        Paint::Video => back,
-        Paint::Ink(_) => fore,
-    }
+    tint_of(colours.paint(if full.invert { full.fore } else { full.back }))
 }
 
 /// A paint in little room.

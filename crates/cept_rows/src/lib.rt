@@ -4,6 +4,7 @@
 
 mod cell_look;
 mod colours;
+mod drawing;
 mod resolving;
 mod row_looks;
 mod small_look;

@@ -1,46 +1,53 @@
-ghost use Rattle.std.specs.Prelude.{◌≡◌, ℕ, ◌+◌, ◌-◌, ◌<◌, ◌≤◌, true, false, not, IfSome, IsNone};
+ghost use Rattle.std.specs.Prelude.{◌≡◌, ℕ, ◌+◌, ◌-◌, ◌<◌, ◌≤◌, ◌⊎◌, true, false, not, IfSome};
+ghost use Rattle.std.specs.Prelude.{IsNone};
 ghost use Rattle.std.specs.Prelude.{length, slice_index_or, slice_set};
 ghost use Rattle.cept_codes.specs.Attribute.{IsValidPen};
 ghost use Rattle.cept_codes.specs.Cell.{IsValidWhat};
+ghost use Rattle.cept_codes.specs.declared.look.Look.{Look};
 ghost use Rattle.cept_codes.specs.Look.{IsValidLook, IsValidPart, blank_look};
 ghost use Rattle.cept_codes.specs.Same.{same_look};
 ghost use Rattle.cept_codes.specs.Table.{row_of};
 ghost use Rattle.cept_profile.specs.Look.{look_of, part_of};
-ghost use Rattle.cept_profile.specs.PageParts.{paint_in};
 ghost use Rattle.cept_profile.specs.RowsFromAbove.{blank_looks};
 ghost use Rattle.cept_profile.specs.Tiling.{column_entry, covers_below, single_part};
-ghost use Rattle.cept_rows.specs.SmallLooks.{IsKeepable, IsSmallLook, look_kept};
+ghost use Rattle.cept_rows.specs.DrawnWith.{drawn_with};
+ghost use Rattle.cept_rows.specs.KeptRows.{HasNoPatterns};
+ghost use Rattle.cept_rows.specs.SmallLooks.{IsSmallLook, drawing_of, has_pattern, look_kept};
+ghost use Rattle.cept_rows.specs.SmallLooks.{no_drawing, small_of};
 
-use crate::cell_look::small_alone;
-use crate::small_look::{SmallLook, look_kept, same, same_in_memory};
+use crate::cell_look::{is_downloaded, small_alone, small_of_any};
+use crate::drawing::{Drawing, drawing_of, same_drawing};
+use crate::small_look::{SmallLook, look_kept, same};
 use cept_codes::{Look, Pen, What};
 use cept_colours::Colours;
+use cept_drcs::Patterns;
 use cept_outside::Steps;
 use cept_sizes::Parts;
 use std::marker::Model;
 use std::sync::ledger::Ledger;
 
-/// The looks of a row, from the left.
-#[derive(Clone, Copy)]
+/// The looks of a row, from the left. Without the flag `patterned` no look is a pattern, without
+/// `tall` none covers the place below it.
+// Patterns are rare and large: the drawings of a row that has none are never touched, since the
+// drawing beside any other look counts for nothing.
+#[derive(Drop)]
 pub struct RowLooks {
     looks: [SmallLook; 40],
+    drawn: [Drawing; 40],
+    patterned: bool,
+    tall: bool,
 }
 
 impl Model for RowLooks {
     ghost use Rattle.std.specs.Prelude.{List};
     ghost use Rattle.cept_codes.specs.declared.look.Look.{Look};
-    ghost use Rattle.cept_rows.specs.KeptRows.{IsKeptRow, keeping, keeping-looks_kept};
-    ghost use Rattle.cept_rows.specs.KeptRows.{looks_kept};
+    ghost use Rattle.cept_rows.specs.KeptRows.{IsKeptRow, looks_kept};
 
     ghost Value = { List Look };
 
     ghost view = { looks_kept };
 
     ghost invariant = { IsKeptRow };
-
-    ghost inverse = { keeping };
-
-    ghost inverse_ok = { keeping-looks_kept };
 }
 
 impl RowLooks {
@@ -50,6 +57,9 @@ impl RowLooks {
     {
         RowLooks {
             looks: [SmallLook::BLANK; 40],
+            drawn: [Drawing::NONE; 40],
+            patterned: false,
+            tall: false,
         }
     }
 
@@ -60,7 +70,8 @@ impl RowLooks {
         ensures look { result ≡ column_entry blank_look self.now column }
         ensures valid { IsValidLook result }
     {
-        look_kept(&self.small(column))
+        let k = column as usize - 1;
+        look_kept(&self.looks[k], &self.drawn[k])
     }
 
     /// Tells the prover that there are forty looks: reading a field opens the model.
@@ -97,6 +108,50 @@ impl RowLooks {
             → same_look (column_entry blank_look self.now d) (column_entry blank_look other.now d)
             ≡ true) }
     {
+        if self.is_plain() || other.is_plain() {
+            self.next_small_difference(other, from)
+        } else {
+            self.next_drawn_difference(other, from)
+        }
+    }
+
+    /// The same where one of the rows has no pattern.
+    fn next_small_difference(&self, other: &RowLooks, from: u8) -> Option<u8>
+        requires from { 1 ≤ from }
+        requires plain { HasNoPatterns self.now ⊎ HasNoPatterns other.now }
+        ensures none { IsNone result → (c : ℕ) → from ≤ c → c ≤ 40
+            → same_look (column_entry blank_look self.now c) (column_entry blank_look other.now c)
+            ≡ true }
+        ensures within { IfSome result (λ c. (from ≤ c) × (c ≤ 40)) }
+        ensures differs { IfSome result (λ c. same_look (column_entry blank_look self.now c)
+            (column_entry blank_look other.now c) ≡ false) }
+        ensures first { IfSome result (λ c. (d : ℕ) → from ≤ d → d < c
+            → same_look (column_entry blank_look self.now d) (column_entry blank_look other.now d)
+            ≡ true) }
+    {
+        for column in from..41 {
+            if !self.same_small_at(other, column) {
+                return Some(column);
+            }
+        }
+        None
+    }
+
+    /// The same of any rows.
+    // A call of its own: rows without patterns need less.
+    #[inline(never)]
+    fn next_drawn_difference(&self, other: &RowLooks, from: u8) -> Option<u8>
+        requires { 1 ≤ from }
+        ensures none { IsNone result → (c : ℕ) → from ≤ c → c ≤ 40
+            → same_look (column_entry blank_look self.now c) (column_entry blank_look other.now c)
+            ≡ true }
+        ensures within { IfSome result (λ c. (from ≤ c) × (c ≤ 40)) }
+        ensures differs { IfSome result (λ c. same_look (column_entry blank_look self.now c)
+            (column_entry blank_look other.now c) ≡ false) }
+        ensures first { IfSome result (λ c. (d : ℕ) → from ≤ d → d < c
+            → same_look (column_entry blank_look self.now d) (column_entry blank_look other.now d)
+            ≡ true) }
+    {
         for column in from..41 {
             if !self.same_at(other, column) {
                 return Some(column);
@@ -113,7 +168,41 @@ impl RowLooks {
         ensures { self.new
             ≡ slice_set self.old (column - 1) (column_entry blank_look from.now column) }
     {
-        self.put(column, from.small(column));
+        if from.patterned {
+            self.copy_drawn(column, from);
+        } else {
+            self.looks[column as usize - 1] = from.looks[column as usize - 1];
+            self.tall = self.tall | from.tall;
+        }
+    }
+
+    /// The same from a row in which a look may be a pattern.
+    // A call of its own: looks without one need less.
+    #[inline(never)]
+    fn copy_drawn(&mut self, column: u8, from: &RowLooks)
+        requires from_left { 1 ≤ column }
+        requires to_right { column ≤ 40 }
+        ensures { self.new
+            ≡ slice_set self.old (column - 1) (column_entry blank_look from.now column) }
+    {
+        let look = from.small(column);
+        if look.has_pattern() {
+            self.put_drawn(column, look, from.drawing(column));
+        } else {
+            self.put(column, look);
+        }
+    }
+
+    /// Takes over all looks of another row.
+    pub fn copy_from(&mut self, other: &RowLooks)
+        ensures { self.new ≡ other.now }
+    {
+        self.looks = other.looks;
+        self.patterned = other.patterned;
+        self.tall = other.tall;
+        if other.patterned {
+            self.drawn = other.drawn;
+        }
     }
 
     /// Resolves one cell by itself, in a row without markers, and keeps its look. Answers whether
@@ -125,6 +214,7 @@ impl RowLooks {
         row: &Pen,
         screen: &Pen,
         colours: &Colours,
+        patterns: &Patterns,
         steps: &mut Steps<L>,
     ) -> bool
         requires from_left { 1 ≤ column }
@@ -134,18 +224,75 @@ impl RowLooks {
         requires screen { IsValidPen screen.now }
         ensures looks { self.new
             ≡ slice_set self.old (column - 1)
-            (look_of (paint_in colours.now.paints) row.now screen.now what.now) }
+            (look_of (drawn_with colours.now patterns.now) row.now screen.now what.now) }
         ensures differs { result
             ≡ not (same_look (column_entry blank_look self.old column)
-            (look_of (paint_in colours.now.paints) row.now screen.now what.now)) }
+            (look_of (drawn_with colours.now patterns.now) row.now screen.now what.now)) }
         ensures columns { length self.old ≡ 40 }
         ensures tick { steps.new ≡ steps.old + 1 }
     {
         steps.tick();
+        if is_downloaded(what) {
+            return self.resolve_downloaded(column, what, row, screen, colours, patterns);
+        }
         colours.tell_valid();
+        patterns.tell_valid();
         let fresh = small_alone(what, row, screen, colours);
-        let differs = !same_in_memory(&self.small(column), &fresh);
-        self.put(column, fresh);
+        self.replace(column, &fresh)
+    }
+
+    /// The same of a sign of the downloaded set, without the tick.
+    // A call of its own: a drawing has no room beside looks without one.
+    #[inline(never)]
+    fn resolve_downloaded(
+        &mut self,
+        column: u8,
+        what: &What,
+        row: &Pen,
+        screen: &Pen,
+        colours: &Colours,
+        patterns: &Patterns,
+    ) -> bool
+        requires from_left { 1 ≤ column }
+        requires to_right { column ≤ 40 }
+        requires valid { IsValidWhat what.now }
+        requires row { IsValidPen row.now }
+        requires screen { IsValidPen screen.now }
+        ensures looks { self.new
+            ≡ slice_set self.old (column - 1)
+            (look_of (drawn_with colours.now patterns.now) row.now screen.now what.now) }
+        ensures differs { result
+            ≡ not (same_look (column_entry blank_look self.old column)
+            (look_of (drawn_with colours.now patterns.now) row.now screen.now what.now)) }
+        ensures columns { length self.old ≡ 40 }
+    {
+        colours.tell_valid();
+        patterns.tell_valid();
+        let fresh = small_of_any(what, row, screen, colours, patterns);
+        let drawing = drawing_of(what, colours, patterns);
+        let k = column as usize - 1;
+        let differs = !same_with(&self.looks[k], &self.drawn[k], &fresh, &drawing);
+        self.put_drawn(column, fresh, &drawing);
+        differs
+    }
+
+    /// Keeps a look of single height without a pattern in a column, and answers whether it differs
+    /// from the one before.
+    // A call of its own: the look is then compared at once where it stands, and not field by field.
+    #[inline(never)]
+    fn replace(&mut self, column: u8, look: &SmallLook) -> bool
+        requires from_left { 1 ≤ column }
+        requires to_right { column ≤ 40 }
+        requires plain { has_pattern look.now ≡ false }
+        requires low { covers_below look.now.part ≡ false }
+        requires small { IsSmallLook look.now no_drawing }
+        ensures looks { self.new ≡ slice_set self.old (column - 1) (look_kept look.now no_drawing) }
+        ensures differs { result ≡ not (same_look (column_entry blank_look self.old column)
+            (look_kept look.now no_drawing)) }
+        ensures columns { length self.old ≡ 40 }
+    {
+        let differs = !same(&self.small(column), look);
+        self.put_single(column, *look);
         differs
     }
 
@@ -155,7 +302,7 @@ impl RowLooks {
         ensures valid { (c : ℕ) → 1 ≤ c → c ≤ 40
             → IsValidPart (column_entry single_part result.parts c) }
     {
-        self.tell_keepable();
+        self.tell_columns();
         let mut parts = Parts::flat().parts;
         for column in 1..41u8 {
             parts[column as usize - 1] = self.small(column).part;
@@ -163,27 +310,21 @@ impl RowLooks {
         Parts { parts }
     }
 
-    /// Whether no look covers the place below it.
+    /// Whether no look is known to cover the place below it.
+    #[inline(always)]
     pub(crate) fn covers_nothing(&self) -> bool
         ensures { result ≡ true → (c : ℕ)
             → covers_below (part_of (column_entry blank_look self.now c)) ≡ false }
     {
-        self.tell_keepable();
-        for column in 1..41 {
-            if self.covers_below(column) {
-                return false;
-            }
-        }
-        true
+        !self.tall
     }
 
-    /// Tells the prover that each look can be kept.
+    /// Whether no look is known to be a pattern.
     #[inline(always)]
-    pub(crate) fn tell_keepable(&self)
-        ensures keepable { (c : ℕ) → IsKeepable (column_entry blank_look self.now c) }
-        ensures columns { length self.now ≡ 40 }
+    fn is_plain(&self) -> bool
+        ensures { result ≡ true → HasNoPatterns self.now }
     {
-        let _looks = &self.looks;
+        !self.patterned
     }
 
     /// Whether two rows have the same look in a column.
@@ -191,6 +332,24 @@ impl RowLooks {
     fn same_at(&self, other: &RowLooks, column: u8) -> bool
         requires from_left { 1 ≤ column }
         requires to_right { column ≤ 40 }
+        ensures { result ≡ same_look (column_entry blank_look self.now column)
+            (column_entry blank_look other.now column) }
+    {
+        let k = column as usize - 1;
+        same_with(
+            &self.looks[k],
+            &self.drawn[k],
+            &other.looks[k],
+            &other.drawn[k],
+        )
+    }
+
+    /// The same where one of the rows has no pattern.
+    #[inline(always)]
+    fn same_small_at(&self, other: &RowLooks, column: u8) -> bool
+        requires from_left { 1 ≤ column }
+        requires to_right { column ≤ 40 }
+        requires plain { HasNoPatterns self.now ⊎ HasNoPatterns other.now }
         ensures { result ≡ same_look (column_entry blank_look self.now column)
             (column_entry blank_look other.now column) }
     {
@@ -202,22 +361,86 @@ impl RowLooks {
     pub(crate) fn small(&self, column: u8) -> SmallLook
         requires from_left { 1 ≤ column }
         requires to_right { column ≤ 40 }
-        ensures look { look_kept result ≡ column_entry blank_look self.now column }
-        ensures small { IsSmallLook result }
+        ensures look { result ≡ small_of (column_entry blank_look self.now column) }
+        ensures valid { IsValidLook (column_entry blank_look self.now column) }
         ensures columns { length self.now ≡ 40 }
     {
         self.looks[column as usize - 1]
     }
 
-    /// Keeps a look in a column.
+    /// The drawing of a pattern in a column.
+    #[inline(always)]
+    pub(crate) fn drawing(&self, column: u8) -> &Drawing
+        requires from_left { 1 ≤ column }
+        requires to_right { column ≤ 40 }
+        requires pattern { has_pattern (small_of (column_entry blank_look self.now column))
+            ≡ true }
+        ensures { result.now ≡ drawing_of (column_entry blank_look self.now column).shape }
+    {
+        &self.drawn[column as usize - 1]
+    }
+
+    /// Keeps a look of single height without a pattern in a column.
+    #[inline(always)]
+    pub(crate) fn put_single(&mut self, column: u8, look: SmallLook)
+        requires from_left { 1 ≤ column }
+        requires to_right { column ≤ 40 }
+        requires plain { has_pattern look ≡ false }
+        requires low { covers_below look.part ≡ false }
+        requires small { IsSmallLook look no_drawing }
+        ensures { self.new ≡ slice_set self.old (column - 1) (look_kept look no_drawing) }
+    {
+        self.looks[column as usize - 1] = look;
+    }
+
+    /// Keeps a look without a pattern in a column.
     #[inline(always)]
     pub(crate) fn put(&mut self, column: u8, look: SmallLook)
         requires from_left { 1 ≤ column }
         requires to_right { column ≤ 40 }
-        requires small { IsSmallLook look }
-        ensures looks { self.new ≡ slice_set self.old (column - 1) (look_kept look) }
-        ensures columns { length self.old ≡ 40 }
+        requires plain { has_pattern look ≡ false }
+        requires small { IsSmallLook look no_drawing }
+        ensures { self.new ≡ slice_set self.old (column - 1) (look_kept look no_drawing) }
     {
         self.looks[column as usize - 1] = look;
+        self.tall = self.tall | (look.part.h == 2);
     }
+
+    /// Keeps a look in a column with its drawing.
+    pub(crate) fn put_drawn(&mut self, column: u8, look: SmallLook, drawing: &Drawing)
+        requires from_left { 1 ≤ column }
+        requires to_right { column ≤ 40 }
+        requires small { IsSmallLook look drawing.now }
+        ensures { self.new ≡ slice_set self.old (column - 1) (look_kept look drawing.now) }
+    {
+        let k = column as usize - 1;
+        self.looks[k] = look;
+        self.drawn[k] = *drawing;
+        self.patterned = self.patterned | look.has_pattern();
+        self.tall = self.tall | (look.part.h == 2);
+    }
+
+    /// Makes a row in which a look may be a pattern, or may cover the place below it, one in which
+    /// none is and none does. It keeps no look that it had.
+    #[inline(always)]
+    pub(crate) fn clear(&mut self)
+        ensures { length self.new ≡ 40 }
+    {
+        if self.patterned | self.tall {
+            self.looks = [SmallLook::BLANK; 40];
+            self.patterned = false;
+            self.tall = false;
+        }
+    }
+}
+
+/// Whether two looks with their drawings are the same.
+#[inline(always)]
+fn same_with(a: &SmallLook, a_drawn: &Drawing, b: &SmallLook, b_drawn: &Drawing) -> bool
+    requires a { IsSmallLook a.now a_drawn.now }
+    requires b { IsSmallLook b.now b_drawn.now }
+    ensures { (l m : Look) → look_kept a.now a_drawn.now ≡ l → look_kept b.now b_drawn.now ≡ m
+        → result ≡ same_look l m }
+{
+    same(a, b) && (!a.has_pattern() || same_drawing(a_drawn, b_drawn))
 }

@@ -1,16 +1,18 @@
 ghost use Rattle.std.specs.Prelude.{◌≡◌, ◌↔◌, IsTrue};
-ghost use Rattle.cept_rows.specs.SmallLooks.{look_kept, paint_kept, shape_kept};
+ghost use Rattle.cept_rows.specs.SmallLooks.{has_pattern, look_kept, paint_kept, shape_kept};
 
+use crate::drawing::Drawing;
 use cept_codes::{Flash, Glyph, Look, Paint, Part, Rgb, SetId, Shape};
 
-/// Whether a sign is drawn at all.
+/// What is drawn: nothing, a sign or a pattern.
 #[derive(Clone, Copy, PartialEq, Eq)]
 pub(crate) enum Kind {
     Space,
     Char,
+    Drcs,
 }
 
-/// What is drawn: a sign, or nothing, which is the sign `P` 0/0.
+/// What is drawn. Nothing and a pattern have the sign `P` 0/0.
 #[derive(Clone, Copy)]
 pub(crate) struct Sign {
     pub(crate) kind: Kind,
@@ -37,8 +39,8 @@ pub(crate) struct Style {
     pub(crate) boxed: bool,
 }
 
-/// A look without a pattern, in fields of one byte, which are compared and copied at once. Patterns
-/// have room beside it: a row would keep them in a second list, a kind would say that one is drawn.
+/// A look in fields of one byte, which are compared and copied at once. Of a pattern it says only
+/// that one is drawn: which, stands beside it.
 #[derive(Clone, Copy)]
 pub(crate) struct SmallLook {
     pub(crate) sign: Sign,
@@ -55,6 +57,12 @@ impl Sign {
         set: SetId::P,
         code: 0,
         accent: 0,
+    };
+
+    /// A pattern is drawn.
+    pub(crate) const PATTERN: Sign = Sign {
+        kind: Kind::Drcs,
+        ..Sign::NOTHING
     };
 }
 
@@ -89,7 +97,17 @@ impl SmallLook {
     };
 }
 
-/// Whether two looks are the same.
+impl SmallLook {
+    /// Whether a pattern is drawn.
+    #[inline(always)]
+    pub(crate) fn has_pattern(&self) -> bool
+        ensures { result ≡ has_pattern self.now }
+    {
+        matches!(self.sign.kind, Kind::Drcs)
+    }
+}
+
+/// Whether two small looks are the same.
 // All fields of one byte joined by `&`, since `&&` makes a branch of each.
 #[inline(always)]
 pub(crate) fn same(a: &SmallLook, b: &SmallLook) -> bool
@@ -100,15 +118,6 @@ pub(crate) fn same(a: &SmallLook, b: &SmallLook) -> bool
         & same_tint(&a.fore, &b.fore)
         & same_tint(&a.back, &b.back)
         & same_style(&a.style, &b.style)
-}
-
-/// The same of two looks that stand in memory, so that both are read at once: of one that is just
-/// made, field by field, written in place it would take each field by itself.
-#[inline(never)]
-pub(crate) fn same_in_memory(a: &SmallLook, b: &SmallLook) -> bool
-    ensures { IsTrue result ↔ (a.now ≡ b.now) }
-{
-    same(a, b)
 }
 
 #[inline(always)]
@@ -139,12 +148,12 @@ fn same_style(a: &Style, b: &Style) -> bool
     (a.flash == b.flash) & (a.conceal == b.conceal) & (a.lined == b.lined) & (a.boxed == b.boxed)
 }
 
-/// The whole look.
-pub(crate) fn look_kept(small: &SmallLook) -> Look
-    ensures { result ≡ look_kept small.now }
+/// The whole look, with the drawing of its pattern.
+pub(crate) fn look_kept(small: &SmallLook, drawing: &Drawing) -> Look
+    ensures { result ≡ look_kept small.now drawing.now }
 {
     Look {
-        shape: shape_kept(small.sign),
+        shape: shape_kept(small.sign, drawing),
         dy: small.part.dy,
         dx: small.part.dx,
         w: small.part.w,
@@ -158,8 +167,8 @@ pub(crate) fn look_kept(small: &SmallLook) -> Look
     }
 }
 
-fn shape_kept(sign: Sign) -> Shape
-    ensures { result ≡ shape_kept sign }
+fn shape_kept(sign: Sign, drawing: &Drawing) -> Shape
+    ensures { result ≡ shape_kept sign drawing.now }
 {
     match sign.kind {
         Kind::Space => Shape::Space,
@@ -168,6 +177,7 @@ fn shape_kept(sign: Sign) -> Shape
             code: sign.code,
             accent: sign.accent,
         }),
+        Kind::Drcs => Shape::Drcs(drawing.pattern, drawing.inks),
     }
 }
 

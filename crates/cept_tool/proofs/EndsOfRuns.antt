@@ -1,22 +1,24 @@
 -- How a run of a request ends, by what its parts did.
 use Rattle.std.proofs.Common.{◌≡◌, ◌≢◌, ◌⊎◌, inl, inr, ℕ, ◌^◌, ◌≤◌, Bool, true, false, List, [], take}
-use Rattle.std.proofs.Common.{Option, Some, None, is_some, Ok, refl, sym, ◌∙◌, ap, subst, arith}
+use Rattle.std.proofs.Common.{Option, Some, None, is_some, Result, Ok, Err, OnErr, refl, sym, ◌∙◌, ap, subst, arith}
+use Rattle.std.proofs.Common.{◌<◌, length}
 use Rattle.std.proofs.lemmas.Option.{none-some, same_Some}
 use Rattle.cept_outside.specs.Causes.{Rose}
 use Rattle.cept_outside.specs.ShelfState.{ShelfState, Holds, Lacks, SelectsNothing, KeepsFiles, Selects, IsSound}
 use Rattle.cept_outside.specs.ShelfState.{bytes_under}
-use Rattle.cept_outside.specs.SinkState.{SinkState}
+use Rattle.cept_outside.specs.SinkState.{SinkState, HasPut}
 use Rattle.cept_parser.specs.Items.{items, closed_items, reading_within, closing_items}
 use Rattle.cept_profile.specs.Look.{grid}
 use Rattle.cept_tool.specs.declared.page.Stop.{Stop}
 use Rattle.cept_tool.specs.declared.page.Stop.TheVariants as stops
 use Rattle.cept_tool.specs.declared.run.Status.{Status}
 use Rattle.cept_tool.specs.declared.run.Status.TheVariants as statuses
+use Rattle.cept_tool.specs.declared.words.Action.TheVariants as actions
 use Rattle.cept_tool.specs.Events.{items_text, final_text, report, has_refusal}
 use Rattle.cept_tool.specs.Outside.{Outside, outside_of, HasReported}
 use Rattle.cept_tool.specs.Page.{PageStops}
 use Rattle.cept_repaint.specs.GlassState.{GlassState}
-use Rattle.cept_tool.specs.Run.{IsUntouched, Reports, EndsWhole, EndsAtReadFault, EndsTooLong, Ends}
+use Rattle.cept_tool.specs.Run.{IsUntouched, IsWhole, Reports, EndsWhole, EndsAtReadFault, EndsTooLong, Ends, Keeps}
 use Rattle.cept_tool.specs.Run.{Runs, status_of, status_at_end}
 use Rattle.cept_tool.specs.Progress.{ReportsItems, HasBegun}
 use Rattle.cept_tool.specs.Words.{Request, ReadsGlass, request_of}
@@ -229,3 +231,58 @@ pub too_long_reported : (words : List (List ℕ)) (request : Request) (page : Li
 too_long_reported words request page before after sound sound_after runs is holds =
     too_long_by request page before after sound_after (runs.ends request is) holds
     (at_end words request page before after statuses.TooLong sound runs (λ e. e) is holds)
+
+-- ---- the whole run
+
+-- it is read to its end, or there is a cause
+completes_by : (request : Request) (page : List ℕ) (before after : Outside) (status : Status)
+    → Ends request before after status → Holds before.shelf request.page page → length page ≤ 2 ^ 24
+    → (Rose before.shelf.faults after.shelf.faults → ⊥) → (Rose before.sink.faults after.sink.faults → ⊥)
+    → IsWhole status ⊎ ((status ≡ statuses.NoMemory) × (request.action ≢ actions.Check))
+completes_by request page before after statuses.Done ends holds few shelf sink = inl tt
+completes_by request page before after statuses.Refusals ends holds few shelf sink = inl tt
+completes_by request page before after statuses.Usage ends holds few shelf sink = elim ends [ ]
+completes_by request page before after statuses.ReadFault ends holds few shelf sink =
+    absurd (shelf ends.read_fault)
+completes_by request page before after statuses.WriteFault ends holds few shelf sink =
+    absurd (sink ends.write_fault)
+completes_by request page before after statuses.NoMemory ends holds few shelf sink = inr (refl, ends.memory)
+completes_by request page before after statuses.TooLong ends holds few shelf sink =
+    absurd (omega (arith, few, ends.longer page holds))
+
+runs_by : (words : List (List ℕ)) (request : Request) (before after : Outside) (status : Status)
+    → request_of words ≡ Some request → (status ≡ statuses.Usage → ⊥) → (IsUntouched status → ⊥)
+    → Ends request before after status → Keeps request before after
+    → ((chosen : Option (List ℕ)) → after.shelf.selected ≡ Some chosen
+    → (chosen ≡ None) ⊎ (chosen ≡ Some request.page))
+    → ((IsWhole status → ⊥) → HasPut before.sink after.sink) → Runs words before after status
+runs_by words request before after status is other touched ends keeps selects unflushed =
+    let same : (r : Request) → request_of words ≡ Some r → request ≡ r = λ r e. same_Some request r (sym is ∙ e) in
+    record {
+      usage = ((λ e. absurd (other e)), (λ e. absurd (none-some request (sym e ∙ is))));
+      untouched = λ u. absurd (touched u);
+      ends = λ r e. subst (λ (r : Request). Ends r before after status) (same r e) ends;
+      keeps = λ r e. subst (λ (r : Request). Keeps r before after) (same r e) keeps;
+      selects = λ r e _ chosen now. subst (λ (r : Request). (chosen ≡ None) ⊎ (chosen ≡ Some r.page)) (same r e)
+          (selects chosen now);
+      unflushed = unflushed;
+      completes = λ r page e holds few shelf sink. completes_by r page before after status
+          (subst (λ (r : Request). Ends r before after status) (same r e) ends) holds few shelf sink;
+    }
+
+-- a run of a request whose page was reported, by what was answered
+pub runs_at_end : (words : List (List ℕ)) (request : Request) (before after : Outside) (answer : Result Bool Stop)
+    → request_of words ≡ Some request → Ends request before after (status_at_end answer) → Keeps request before after
+    → ((chosen : Option (List ℕ)) → after.shelf.selected ≡ Some chosen
+    → (chosen ≡ None) ⊎ (chosen ≡ Some request.page))
+    → OnErr answer (HasPut before.sink after.sink) → Runs words before after (status_at_end answer)
+runs_at_end words request before after (Ok false) is ends keeps selects puts =
+    runs_by words request before after statuses.Done is (λ e. cc) (λ e. e) ends keeps selects (λ n. absurd (n tt))
+runs_at_end words request before after (Ok true) is ends keeps selects puts =
+    runs_by words request before after statuses.Refusals is (λ e. cc) (λ e. e) ends keeps selects (λ n. absurd (n tt))
+runs_at_end words request before after (Err stops.ReadFault) is ends keeps selects puts =
+    runs_by words request before after statuses.ReadFault is (λ e. cc) (λ e. e) ends keeps selects (λ n. puts)
+runs_at_end words request before after (Err stops.WriteFault) is ends keeps selects puts =
+    runs_by words request before after statuses.WriteFault is (λ e. cc) (λ e. e) ends keeps selects (λ n. puts)
+runs_at_end words request before after (Err stops.TooLong) is ends keeps selects puts =
+    runs_by words request before after statuses.TooLong is (λ e. cc) (λ e. e) ends keeps selects (λ n. puts)

@@ -8,11 +8,10 @@ ghost use Rattle.cept_tool.specs.Events.{items_text};
 
 use crate::desk::Desk;
 use crate::words::Action;
-use arrayvec::ArrayVec;
-use cept_codes::{Item, NoMemory};
+use cept_codes::NoMemory;
 use cept_outside::{Sink, Steps, WriteFault};
-use cept_parser::Parser;
 use cept_parser::laws::reading_goes_on;
+use cept_parser::{Closed, Parser};
 use cept_repaint::Glass;
 use std::alloc::Global;
 use std::sync::ledger::Ledger;
@@ -41,12 +40,11 @@ impl Decoder {
         })
     }
 
-    /// Reads one byte and reports the items that it closes. They stand on the list until the next
-    /// byte: items are large, and so they are made where they stay.
+    /// Reads one byte and reports the items that it closes. They stand there until the next byte.
     fn read_byte<T: Sink, G: Glass, L: Ledger>(
         &mut self,
         byte: u8,
-        list: &mut ArrayVec<Item, 2>,
+        closed: &mut Closed,
         sink: &mut T,
         glass: &mut G,
         steps: &mut Steps<L>,
@@ -79,9 +77,9 @@ impl Decoder {
         ensures puts { HasPut (T.state sink.old) (T.state sink.new) }
         ensures cause { HasCause (T.state sink.old).faults (T.state sink.new).faults result }
     {
-        list.clear();
-        self.parser.push_into(byte, list);
-        self.desk.report_items(list.as_slice(), sink, glass, steps)
+        self.parser.push_into(byte, closed);
+        self.desk
+            .report_items(closed.as_slice(), sink, glass, steps)
     }
 
     /// Reads a piece of the page.
@@ -124,9 +122,9 @@ impl Decoder {
     {
         // A law: the items of more bytes are those of the first, and then others.
         reading_goes_on();
-        let mut list = ArrayVec::new();
+        let mut closed = Closed::new();
         for byte in piece {
-            self.read_byte(*byte, &mut list, sink, glass, steps)?;
+            self.read_byte(*byte, &mut closed, sink, glass, steps)?;
         }
         Ok(())
     }

@@ -69,34 +69,35 @@ impl Desk {
     }
 
     /// Applies a command, paints what it changes, and reports it. Without an easel nothing happens.
+    #[inline(always)]
     fn report_command<T: Sink, G: Glass, L: Ledger>(
         &mut self,
         place: u64,
-        command: Command,
+        command: &Command,
         sink: &mut T,
         glass: &mut G,
         steps: &mut Steps<L>,
     ) -> Result<(), WriteFault>
-        requires { IsValidCommand command }
+        requires { IsValidCommand command.now }
         ensures action { self.new.action ≡ self.old.action }
         ensures counts { (self.new.items ≡ self.old.items) × (self.new.refused ≡ self.old.refused) }
         ensures screen { (history : List Command) → AllValid history → IsAt self.old.easel history
-            → IsAt self.new.easel (history ++ command ∷ []) }
+            → IsAt self.new.easel (history ++ command.now ∷ []) }
         ensures put { let text = command_text self.old.action place in
             OnOk result ((history : List Command) → AllValid history → IsAt self.old.easel history
             → (T.state sink.new).bytes
-            ≡ append_known (T.state sink.old).bytes (text history command)) }
+            ≡ append_known (T.state sink.old).bytes (text history command.now)) }
         ensures painted { (history : List Command) → AllValid history → IsAt self.old.easel history
-            → Lists (G.state glass.old).paints (changes history command) (G.state glass.new).paints }
+            → Lists (G.state glass.old).paints (changes history command.now) (G.state glass.new).paints }
         ensures grid { (history : List Command) → AllValid history → IsAt self.old.easel history
             → (G.state glass.new).grid
-            ≡ grid_with_paints (G.state glass.old).grid (changes history command) }
+            ≡ grid_with_paints (G.state glass.old).grid (changes history command.now) }
         ensures idle { self.old.easel ≡ None
             → (self.new.easel ≡ None) × (T.state sink.new ≡ T.state sink.old)
             × (G.state glass.new ≡ G.state glass.old) }
         ensures begun { OnErr result ((history : List Command) → AllValid history
             → IsAt self.old.easel history
-            → HasBegun (command_text self.old.action place history command) (T.state sink.old)
+            → HasBegun (command_text self.old.action place history command.now) (T.state sink.old)
             (T.state sink.new)) }
         ensures puts { HasPut (T.state sink.old) (T.state sink.new) }
         ensures cause { HasCause (T.state sink.old).faults (T.state sink.new).faults result }
@@ -104,11 +105,12 @@ impl Desk {
         let action = self.action;
         match &mut self.easel {
             None => Ok(()),
-            Some(easel) => easel.apply(action, place, command, sink, glass, steps),
+            Some(easel) => easel.apply(action, place, *command, sink, glass, steps),
         }
     }
 
     /// Reports that bytes are refused, where that is asked for.
+    #[inline(never)]
     fn report_refusal<T: Sink>(
         &self,
         item: &Item,
@@ -131,6 +133,7 @@ impl Desk {
     }
 
     /// Reports an item.
+    #[inline(always)]
     fn report_item<T: Sink, G: Glass, L: Ledger>(
         &mut self,
         item: &Item,
@@ -165,11 +168,11 @@ impl Desk {
         ensures cause { HasCause (T.state sink.old).faults (T.state sink.new).faults result }
     {
         self.items += 1;
-        match item.what {
+        match &item.what {
             Said::Command(command) => self.report_command(item.at, command, sink, glass, steps),
             Said::Refused(reason) => {
                 self.refused += 1;
-                self.report_refusal(item, reason, sink)
+                self.report_refusal(item, *reason, sink)
             }
         }
     }

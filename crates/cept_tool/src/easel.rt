@@ -65,6 +65,8 @@ impl Easel {
     }
 
     /// Applies a command, paints what it changes, and reports it.
+    // Apart, so that a page is checked without the room that this takes.
+    #[inline(never)]
     pub fn apply<T: Sink, G: Glass, L: Ledger>(
         &mut self,
         action: Action,

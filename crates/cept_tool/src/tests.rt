@@ -209,6 +209,114 @@ fn repeats_to_the_end_of_the_second_row(rt: HostRuntime) -> Result<(), Fail> {
 }
 
 #[test]
+fn reports_downloaded_patterns(rt: HostRuntime) -> Result<(), Fail> {
+    let pages = [
+        (
+            b"\x1F# \x1F#!0\x7F\x7F)\x1B( @!\x1F#!0".as_slice(),
+            "14 1 1 %12x10x1/FFFFFFFFFFFFFFFF00FFFFFFFFFFFFFF 11.00 FFF 000 S---\n\
+             18 1 1 %12x10x1/00000000000000000000000000000000 11.00 FFF 000 S---\n",
+            Status::Done,
+        ),
+        (
+            b"\x1F# \x1F#!0\x7F\x7F)\x1B( @!\x1F#!0`!",
+            "14 1 1 %12x10x1/FFFFFFFFFFFFFFFF00FFFFFFFFFFFFFF 11.00 FFF 000 S---\n\
+             18 1 1 %12x10x1/00000000000010010000000000000000 11.00 FFF 000 S---\n",
+            Status::Done,
+        ),
+        (
+            b"\x1F# ?\x1F#!0/@",
+            "! 9 1 5 BadParameter\n",
+            Status::Refusals,
+        ),
+        (
+            b"\x1F# ?B\x1F#!0/1 \x1B( @!\x1F& \x22\x1F&01D",
+            "16 1 1 %6x6x2/0000000FFFFFFFFF0000000000000000/000F000F0FF0 11.00 FFF 000 S---\n\
+             25 1 1 %6x6x2/0000000FFFFFFFFF0000000000000000/00000F0F0FF0 11.00 FFF 000 S---\n",
+            Status::Done,
+        ),
+    ];
+    for (page, want, status) in pages {
+        compare(&rt, rt.alloc(), "changes", page, want, status)?;
+    }
+    Ok(())
+}
+
+#[test]
+fn reports_scrolling_and_protection(rt: HostRuntime) -> Result<(), Fail> {
+    let pages = [
+        (
+            b"\x9B1;24U\x9B2`\x1FXhAB".as_slice(),
+            "12 23 40 P41 11.00 FFF 000 S---\n13 24 1 P42 11.00 FFF 000 S---\n",
+        ),
+        (
+            b"\x9B1PA\x9B1QB\x0D\x12A\x0D\x18\x0C",
+            "3 1 1 P41 11.00 FFF 000 S---\n7 1 2 P42 11.00 FFF 000 S---\n\
+             12 1 2 - 11.00 FFF 000 S---\n13 1 1 - 11.00 FFF 000 S---\n",
+        ),
+    ];
+    for (page, want) in pages {
+        compare(&rt, rt.alloc(), "changes", page, want, Status::Done)?;
+    }
+    Ok(())
+}
+
+/// A page with a title, a redefined colour, a pattern, an attribute of a row, and a service.
+const WHOLE_PAGE: &[u8] = b"\x1F/B\x0C\x1B# T\x1FAA\x8D\x87BTX\x1F& \x1F&16dd\x1F#  @7A\x1F#!0/\
+    \x1FCA\x1B#!Q\x1B) @\x0E!\x0F\x1B)c\x1F/@XSYS\x1F/OA";
+
+#[test]
+fn reports_a_whole_page(rt: HostRuntime) -> Result<(), Fail> {
+    let alloc = rt.alloc();
+    assert_eq!(rt; WHOLE_PAGE.len(), 65);
+    let request = words(alloc, &["changes", "page"])?;
+    let mut shelf = MemShelf::new(alloc);
+    shelf.add("page", WHOLE_PAGE)?;
+    let mut sink = MemSink::new(alloc, 65536)?;
+    let mut glass = GridGlass::new(alloc)?;
+    assert_eq!(rt;
+        run(alloc, &request, &mut shelf, &mut sink, &mut glass),
+        Status::Done
+    );
+    let lines = sink.bytes().iter().filter(|byte| **byte == b'\n').count();
+    assert_eq!(rt; lines, 1011);
+    assert!(rt; sink.bytes().starts_with(b"4 1 1 - 11.00 FFF 00F S---\n"));
+    let last = b"\n49 3 1 %12x10x1/FFFFFFFFFFFFFFFF00FFFFFFFFFFFFFF 11.00 FFF F00 S---\n\
+        58 24 1 P53 11.00 FFF 00F S---\n59 24 2 P59 11.00 FFF 00F S---\n\
+        60 24 3 P53 11.00 FFF 00F S---\n64 3 2 P41 11.00 FFF F00 S---\n";
+    assert!(rt; sink.bytes().ends_with(last));
+    Ok(())
+}
+
+#[test]
+fn shows_a_whole_page(rt: HostRuntime) -> Result<(), Fail> {
+    let alloc = rt.alloc();
+    let request = words(alloc, &["show", "page"])?;
+    let mut shelf = MemShelf::new(alloc);
+    shelf.add("page", WHOLE_PAGE)?;
+    let mut sink = MemSink::new(alloc, 4096)?;
+    let mut glass = GridGlass::new(alloc)?;
+    assert_eq!(rt;
+        run(alloc, &request, &mut shelf, &mut sink, &mut glass),
+        Status::Done
+    );
+    let mut want = String::new(alloc);
+    for row in 1..25u8 {
+        want.push_str(match row {
+            1 => "BTX",
+            3 => "\u{25A1}A ",
+            24 => "SYS",
+            _ => "   ",
+        })?;
+        for _ in 0..37u8 {
+            want.push(' ')?;
+        }
+        want.push('\n')?;
+    }
+    assert_eq!(rt; sink.bytes(), want.as_bytes());
+    Ok(())
+}
+
+#[test]
 fn stops_at_a_page_that_is_too_long(rt: HostRuntime) -> Result<(), Fail> {
     let alloc = rt.alloc();
     let request = words(alloc, &["check", "page"])?;

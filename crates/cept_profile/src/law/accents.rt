@@ -2,13 +2,14 @@
 ghost use Rattle.std.specs.Prelude.{◌≡◌, ℕ, false, Some, None};
 ghost use Rattle.cept_codes.specs.declared.command.Command.{Command};
 ghost use Rattle.cept_codes.specs.declared.glyph.Glyph.{Glyph};
-ghost use Rattle.cept_profile.specs.Control.{ControlState, control_after, leaves_accent};
+ghost use Rattle.cept_profile.specs.Control.{ControlState, Working, control_after, leaves_accent};
 ghost use Rattle.cept_profile.specs.Writing.{sign_with_accent, graphic_result};
 
 use cept_codes::{Command, Read};
 
 /// An accent waits for the next sign: a sign of set P takes it, and after any sign none waits. NUL
-/// and bytes that are passed over change nothing, and every other command drops it.
+/// and bytes that are passed over change nothing, and every other command drops it. A break of the
+/// service keeps it with the state before it, and the end brings it back.
 pub fn accents_wait()
     ensures waits { (s : ControlState) (byte code : ℕ)
         → (graphic_result s byte).read ≡ Read.Accent code
@@ -23,7 +24,12 @@ pub fn accents_wait()
     ensures nul { (s : ControlState) → control_after s Command.Nul ≡ s }
     ensures skipped { (s : ControlState) → control_after s Command.Skipped ≡ s }
     ensures dropped { (s : ControlState) (command : Command) → leaves_accent command ≡ false
+        → (command ≡ Command.ServiceEnd → s.kept ≡ None)
         → (control_after s command).working.accent ≡ None }
+    ensures kept { (s : ControlState) (row : ℕ) → s.kept ≡ None
+        → (control_after s (Command.ServiceBreak row)).kept ≡ Some s.working }
+    ensures back { (s : ControlState) (w : Working) → s.kept ≡ Some w
+        → (control_after s Command.ServiceEnd).working.accent ≡ w.accent }
 {}
 
 /// A single shift waits, and the next graphic byte spends it, whatever that byte gives.

@@ -1,11 +1,13 @@
-//! Laws of the settings of control: they are what the last command says that sets them, and closed
-//! services set none.
+//! Laws of the settings of control: they are what the last command says that sets them, closed
+//! services set none, and the strokes tell the same rows.
 ghost use Rattle.std.specs.Prelude.{◌≡◌, ℕ, false, List, [], ◌∷◌, ◌++◌, reverse};
 ghost use Rattle.std.specs.List.{AllByRecursion};
 ghost use Rattle.cept_codes.specs.declared.command.Command.{Command};
 ghost use Rattle.cept_profile.specs.Control.{control};
 ghost use Rattle.cept_profile.specs.ControlSettings.{ends_service, is_running, outer_history};
 ghost use Rattle.cept_profile.specs.ControlSettings.{settings, settings_of};
+ghost use Rattle.cept_profile.specs.PageParts.{rows_back};
+ghost use Rattle.cept_profile.specs.Strokes.{strokes_in};
 ghost use Rattle.cept_profile.specs.Valid.{AllValid};
 
 use cept_codes::Command;
@@ -15,6 +17,12 @@ use cept_codes::Command;
 pub fn settings_look_back()
     ensures { (history : List Command) → AllValid history
         → settings_of (control history) ≡ settings history }
+{}
+
+/// The rows of control are those of the last stroke that sets the format, 24 before the first.
+pub fn rows_are_those_of_the_last_format()
+    ensures { (history : List Command) → AllValid history
+        → rows_back (reverse (strokes_in history)) ≡ (control history).rows }
 {}
 
 /// A service that is closed is left out, from its break to its end, and every command that closes

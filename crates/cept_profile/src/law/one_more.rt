@@ -3,7 +3,9 @@
 ghost use Rattle.std.specs.Prelude.{◌≡◌, List, [], ◌∷◌, ◌++◌, reverse};
 ghost use Rattle.cept_codes.specs.declared.command.Command.{Command};
 ghost use Rattle.cept_codes.specs.declared.stroke.Stroke.{Stroke};
+ghost use Rattle.std.specs.List.{AllByRecursion};
 ghost use Rattle.cept_codes.specs.Command.{IsValidCommand};
+ghost use Rattle.cept_codes.specs.Stroke.{IsValidStroke};
 ghost use Rattle.cept_profile.specs.Control.{control, control_after};
 ghost use Rattle.cept_profile.specs.State.{state_after, blank_page, page_after, page, page_back};
 ghost use Rattle.cept_profile.specs.State.{state};
@@ -26,16 +28,18 @@ pub fn one_more_command_by_parts()
     ensures strokes { (history : List Command) (command : Command)
         → strokes_in (history ++ command ∷ [])
         ≡ strokes_in history ++ strokes_of (control history) command }
-    ensures page { (history : List Command) (command : Command)
+    ensures page { (history : List Command) (command : Command) → AllValid history
+        → IsValidCommand command
         → page (history ++ command ∷ [])
         ≡ page_after (page history) (strokes_of (control history) command) }
 {}
 
 /// The page whose cells are asked of the strokes from the last backwards is the blank page with all
-/// strokes drawn in order: those of a history, and whatever others.
+/// strokes drawn in order: those of a history, and whatever other valid ones. A shift that isn't
+/// valid would move rows that there aren't.
 pub fn looking_back_is_drawing()
-    ensures history { (history : List Command)
+    ensures history { (history : List Command) → AllValid history
         → page history ≡ page_after blank_page (strokes_in history) }
-    ensures strokes { (strokes : List Stroke)
+    ensures strokes { (strokes : List Stroke) → AllByRecursion IsValidStroke strokes
         → page_back (reverse strokes) ≡ page_after blank_page strokes }
 {}

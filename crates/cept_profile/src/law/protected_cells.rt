@@ -1,20 +1,22 @@
 //! Laws of cells: what a sign that is put and an erased end of a row change, that a protected cell
-//! outlives all strokes but a wipe, and that a wipe blanks every cell.
-ghost use Rattle.std.specs.Prelude.{◌≡◌, ◌≢◌, ◌⊎◌, ◌≤◌, ◌<◌, ℕ, false, IsTrue, List, [], ◌∷◌, ◌++◌};
-ghost use Rattle.std.specs.List.{Contains};
+//! outlives all strokes but a wipe, and moves or goes by shifts alone, what a shift moves, and that
+//! a wipe blanks every cell.
+ghost use Rattle.std.specs.Prelude.{◌≡◌, ◌≢◌, ◌⊎◌, ◌≤◌, ◌<◌, ◌+◌, ◌-◌, ℕ, false, IsTrue, List, [], ◌∷◌, ◌++◌};
+ghost use Rattle.std.specs.List.{Contains, list_any};
 ghost use Rattle.cept_codes.specs.declared.cell.Cell.{Cell};
 ghost use Rattle.cept_codes.specs.declared.stroke.Stroke.{Stroke};
 ghost use Rattle.cept_codes.specs.Cell.{blank_cell};
 ghost use Rattle.cept_codes.specs.Place.{Place, OnScreen};
 ghost use Rattle.cept_codes.specs.Table.{value_at};
-ghost use Rattle.cept_profile.specs.Cells.{cell_after, cells_after_all};
+ghost use Rattle.cept_profile.specs.Cells.{cell_after, cells_after_all, moves};
 
-use cept_codes::Stroke;
+use cept_codes::{Stroke, Up};
 
 /// A cell that is put stands at its place where the cell there wasn't protected, and no other place
 /// changes. The end of a row that is erased is blank where it wasn't protected, and no other place
-/// changes. A protected cell changes only by `Wipe`, which blanks each cell: after a wipe that is
-/// last none is left, protected or not.
+/// changes. A protected cell changes only by `Wipe`, which blanks each cell, or moves or goes by a
+/// `Shift` of an area in which it is: its rows go one up or down, and the last or the first is
+/// blank. After a wipe that is last none is left, protected or not.
 pub fn protection()
     ensures written { (p : Place) (cell : Cell) (was : ℕ → ℕ → Cell)
         → (was p.row p.column).protected ≡ false
@@ -27,12 +29,21 @@ pub fn protection()
     ensures not_erased { (row from : ℕ) (was : ℕ → ℕ → Cell) (r c : ℕ) → (r ≢ row) ⊎ (c < from)
         → cell_after (Stroke.Erase row from) was r c ≡ was r c }
     ensures stays { (stroke : Stroke) (was : ℕ → ℕ → Cell) (r c : ℕ) → IsTrue (was r c).protected
-        → (stroke ≡ Stroke.Wipe) ⊎ (cell_after stroke was r c ≡ was r c) }
+        → moves stroke r ≡ false → (stroke ≡ Stroke.Wipe) ⊎ (cell_after stroke was r c ≡ was r c) }
     ensures stays_on { (cells : List (List Cell)) (strokes : List Stroke) (r c : ℕ) → OnScreen r c
         → IsTrue (value_at blank_cell cells r c).protected
+        → list_any (λ stroke. moves stroke r) strokes ≡ false
         → Contains strokes Stroke.Wipe
         ⊎ (value_at blank_cell (cells_after_all cells strokes) r c
         ≡ value_at blank_cell cells r c) }
+    ensures up { (a b : ℕ) (was : ℕ → ℕ → Cell) (r c : ℕ) → a ≤ r → r < b
+        → cell_after (Stroke.Shift a b Up.Up) was r c ≡ was (r + 1) c }
+    ensures up_last { (a b : ℕ) (was : ℕ → ℕ → Cell) (c : ℕ) → a ≤ b
+        → cell_after (Stroke.Shift a b Up.Up) was b c ≡ blank_cell }
+    ensures down { (a b : ℕ) (was : ℕ → ℕ → Cell) (r c : ℕ) → a < r → r ≤ b
+        → cell_after (Stroke.Shift a b Up.Down) was r c ≡ was (r - 1) c }
+    ensures down_first { (a b : ℕ) (was : ℕ → ℕ → Cell) (c : ℕ) → a ≤ b
+        → cell_after (Stroke.Shift a b Up.Down) was a c ≡ blank_cell }
     ensures wiped { (was : ℕ → ℕ → Cell) (r c : ℕ) → OnScreen r c
         → cell_after Stroke.Wipe was r c ≡ blank_cell }
     ensures wiped_last { (cells : List (List Cell)) (strokes : List Stroke) (r c : ℕ) → OnScreen r c

@@ -1,5 +1,5 @@
 //! Laws of reach: a command changes nothing that is seen in rows out of its reach.
-ghost use Rattle.std.specs.Prelude.{◌≡◌, ℕ, ◌-◌, ◌≤◌, ◌<◌, ◌||◌, false, List, length};
+ghost use Rattle.std.specs.Prelude.{◌≡◌, ℕ, ◌-◌, ◌≤◌, ◌<◌, ◌||◌, false, List};
 ghost use Rattle.std.specs.List.{count_by, range_with_len};
 ghost use Rattle.cept_codes.specs.declared.cell.Cell.{Cell};
 ghost use Rattle.cept_codes.specs.declared.command.Command.{Command};
@@ -11,15 +11,17 @@ ghost use Rattle.cept_profile.specs.Look.{look, looks_of};
 ghost use Rattle.cept_profile.specs.PageParts.{dclut_in, paint_in, row_pen_in};
 ghost use Rattle.cept_profile.specs.Reach.{in_reach, is_row_touched, one_touches, rows_in_reach};
 ghost use Rattle.cept_profile.specs.RowsFromAbove.{covering_differs};
+ghost use Rattle.cept_profile.specs.Definitions.{AreWhole};
 ghost use Rattle.cept_profile.specs.State.{Core, Page, State, state_after, core_of, page_after};
+ghost use Rattle.cept_profile.specs.State.{definitions_of};
 ghost use Rattle.cept_profile.specs.Strokes.{strokes_of};
 
 /// A row that isn't in reach of a command has after it the looks that it had, on a page of 32
-/// colour entries. In reach are the rows that its strokes touch, those that are last before it or
+/// colour entries, four of the DCLUT and 94 codes. In reach are the rows that its strokes touch, those that are last before it or
 /// after it alone, and those that other looks than before cover from above: at most all 24.
 pub fn rows_out_of_reach_stay()
     ensures looks { (s : State) (command : Command) (r c : ℕ) → OnScreen r c
-        → length s.page.paints ≡ 32 → in_reach s command r ≡ false
+        → AreWhole (definitions_of s.page) → in_reach s command r ≡ false
         → look (core_of (state_after s command)) r c ≡ look (core_of s) r c }
     ensures at_most_24 { (s : State) (command : Command) → rows_in_reach s command ≤ 24 }
     ensures reach { (s : State) (command : Command) (r : ℕ)
@@ -31,7 +33,7 @@ pub fn rows_out_of_reach_stay()
 {}
 
 /// A row that no stroke touches keeps what it is made of: its cells and attributes, the attributes
-/// of the screen, the 32 colour entries and those of the DCLUT. It keeps its looks too, if it is
+/// of the screen, the colour entries, those of the DCLUT and the patterns. It keeps its looks too, if it is
 /// last before and after or neither, and if the same looks cover it from above.
 pub fn untouched_rows_stay()
     ensures cells { (p : Page) (strokes : List Stroke) (r c : ℕ) → OnScreen r c
@@ -48,8 +50,11 @@ pub fn untouched_rows_stay()
     ensures dclut { (p : Page) (strokes : List Stroke) (r i : ℕ) → i < 4
         → one_touches strokes r ≡ false
         → dclut_in (page_after p strokes).dclut i ≡ dclut_in p.dclut i }
+    ensures defined { (p : Page) (strokes : List Stroke) (r : ℕ) → AreWhole (definitions_of p)
+        → one_touches strokes r ≡ false
+        → definitions_of (page_after p strokes) ≡ definitions_of p }
     ensures looks { (k m : Core) (strokes : List Stroke) (r c : ℕ) → OnScreen r c
-        → length k.page.paints ≡ 32 → m.page ≡ page_after k.page strokes
+        → AreWhole (definitions_of k.page) → m.page ≡ page_after k.page strokes
         → is_row_touched strokes k.rows m.rows r ≡ false
         → covering_differs (looks_of k) (looks_of m) r ≡ false
         → look m r c ≡ look k r c }

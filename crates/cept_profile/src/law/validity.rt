@@ -9,17 +9,18 @@ ghost use Rattle.cept_codes.specs.declared.command.Command.{Command};
 ghost use Rattle.cept_codes.specs.Cell.{IsValidWhat};
 ghost use Rattle.cept_codes.specs.Command.{IsValidCommand};
 ghost use Rattle.cept_codes.specs.declared.look.Look.{Look};
-ghost use Rattle.cept_codes.specs.declared.look.Paint.{Paint};
-ghost use Rattle.cept_codes.specs.Look.{IsValidLook, IsValidPaint, blank_look};
+ghost use Rattle.cept_codes.specs.Look.{IsValidLook, blank_look};
 ghost use Rattle.cept_codes.specs.Stroke.{IsValidStroke};
 ghost use Rattle.cept_profile.specs.Control.{ControlState, control_after};
 ghost use Rattle.cept_profile.specs.Look.{grid, look_in_row, look_of, looks_of};
 ghost use Rattle.cept_profile.specs.RowsFromAbove.{row_from_above};
-ghost use Rattle.cept_profile.specs.State.{Core, State, core_of, state, state_after};
+ghost use Rattle.cept_profile.specs.Definitions.{Definitions};
+ghost use Rattle.cept_profile.specs.State.{Core, Page, State, core_of, definitions_of, state};
+ghost use Rattle.cept_profile.specs.State.{state_after};
 ghost use Rattle.cept_profile.specs.Strokes.{strokes_of};
 ghost use Rattle.cept_profile.specs.Valid.{AllValid, IsValidControl, IsValidCore, IsValidGrid};
 ghost use Rattle.cept_profile.specs.Tiling.{column_entry};
-ghost use Rattle.cept_profile.specs.Valid.{IsValidPage, IsValidState};
+ghost use Rattle.cept_profile.specs.Valid.{AreValidDefinitions, IsValidPage, IsValidState};
 
 /// The state is valid at the start and after any list of valid commands, since each valid command
 /// keeps a valid state valid. The core of a valid state is valid.
@@ -43,17 +44,17 @@ pub fn strokes_are_valid()
         → length (strokes_of s command) ≤ 128 }
 {}
 
-/// What stands in a valid cell has a valid look, by itself and in a row of valid cells, and a row
-/// beneath valid looks has valid ones. So the looks of a core with a valid page are valid, and so
+/// What stands in a valid cell has a valid look, by itself and in a row of valid cells, where what
+/// signs are drawn with is valid, as on a valid page, and a row beneath valid looks has valid ones. So the looks of a core with a valid page are valid, and so
 /// is the grid after any list of valid commands.
 pub fn looks_are_valid()
-    ensures of_cell { (paint_of : ℕ → Paint) (row screen : Pen) (what : What)
-        → ((i : ℕ) → IsValidPaint (paint_of i)) → IsValidWhat what
-        → IsValidLook (look_of paint_of row screen what) }
-    ensures in_row { (paint_of : ℕ → Paint) (row : ℕ → What) (pen screen : Pen) (c : ℕ) → 1 ≤ c
-        → ((i : ℕ) → IsValidPaint (paint_of i))
-        → ((d : ℕ) → 1 ≤ d → d ≤ c → IsValidWhat (row d))
-        → IsValidLook (look_in_row paint_of row pen screen c) }
+    ensures of_cell { (defined : Definitions) (row screen : Pen) (what : What)
+        → AreValidDefinitions defined → IsValidWhat what
+        → IsValidLook (look_of defined row screen what) }
+    ensures in_row { (defined : Definitions) (row : ℕ → What) (pen screen : Pen) (c : ℕ) → 1 ≤ c
+        → AreValidDefinitions defined → ((d : ℕ) → 1 ≤ d → d ≤ c → IsValidWhat (row d))
+        → IsValidLook (look_in_row defined row pen screen c) }
+    ensures of_page { (p : Page) → IsValidPage p → AreValidDefinitions (definitions_of p) }
     ensures from_above { (above : List Look) (own : ℕ → Look) (wanted : ℕ → Size) (last : Bool)
         → ((c : ℕ) → 1 ≤ c → c ≤ 40 → IsValidLook (column_entry blank_look above c))
         → ((c : ℕ) → 1 ≤ c → c ≤ 40 → IsValidLook (own c))

@@ -5,6 +5,7 @@ use Rattle.cept_profile.specs.State.{Page}
 use Rattle.cept_profile.specs.Valid.{IsValidPage}
 use Rattle.cept_repaint.specs.Kept.{core_on}
 use Rattle.cept_repaint.proofs.AloneRows.{OthersStay-put}
+use Rattle.cept_repaint.proofs.PageParts.{AreWhole-valid}
 use Rattle.cept_repaint.proofs.OnePlace.{IsPutAlone-drawn, page_after-none, page_after-put_alone}
 use Rattle.cept_repaint.proofs.Refreshed.{differences_none}
 use Rattle.cept_repaint.proofs.RowsTouched.{reach-put}
@@ -14,17 +15,17 @@ use Rattle.cept_repaint.proofs.redraw.redraw.Goals as goal
 pub refresh_rows-requires-clause-others : goal.refresh_rows-requires-clause-others
 refresh_rows-requires-clause-others g c =
     UnreachedStay-drawn c.args.page.now c.draw_all.new.self c.args.strokes.now c.args.before c.args.after
-    c.args.kept.now c.requires.was_valid.colours c.requires.kept c.draw_all.ensures
+    c.args.kept.now (AreWhole-valid c.args.page.now c.requires.was_valid) c.requires.kept c.draw_all.ensures
 
 pub refresh_rows-requires-in-None-clause-others : goal.refresh_rows-requires-in-None-clause-others
 refresh_rows-requires-in-None-clause-others g c =
     UnreachedStay-drawn c.args.page.now c.draw_all-in-None.new.self c.args.strokes.now c.args.before c.args.after
-    c.args.kept.now c.requires.was_valid.colours c.requires.kept c.draw_all-in-None.ensures
+    c.args.kept.now (AreWhole-valid c.args.page.now c.requires.was_valid) c.requires.kept c.draw_all-in-None.ensures
 
 pub refresh_rows-requires-else-put-clause-others : goal.refresh_rows-requires-else-put-clause-others
 refresh_rows-requires-else-put-clause-others g c =
     UnreachedStay-drawn c.args.page.now c.put.new.self c.args.strokes.now c.args.before c.args.after
-    c.args.kept.now c.requires.was_valid.colours c.requires.kept
+    c.args.kept.now (AreWhole-valid c.args.page.now c.requires.was_valid) c.requires.kept
     (page_after-put_alone c.args.page.now c.put.new.self c.args.strokes.now c.in-Some.put.place c.in-Some.put.cell.now
     c.in-Some.ensures c.put.ensures.drawn)
 

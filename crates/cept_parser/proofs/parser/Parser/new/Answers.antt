@@ -1,10 +1,12 @@
 use Rattle.std.proofs.Common.{refl}
 use Rattle.cept_parser.specs.Items.{reading_within}
+use Rattle.cept_parser.proofs.ReaderLemmas.{nothing_beside}
 use Rattle.cept_parser.proofs.WaitingLemmas.{none_waits}
 use Rattle.cept_parser.proofs.parser.Parser.new.Goals as goal
 
 pub invariant_of-result : goal.invariant_of-result
-invariant_of-result c = rw (c.start.ensures, c.new.ensures) none_waits
+invariant_of-result c =
+    record { waits = rw (c.start.ensures, c.new.ensures) none_waits; beside = nothing_beside _ _ _ _ c.new.ensures refl }
 
 pub returns : goal.returns
 unfolding reading_within

@@ -4,5 +4,5 @@ use Rattle.cept_parser.proofs.parser.Parser.pending.Goals as goal
 
 pub returns-clause-few : goal.returns-clause-few
 returns-clause-few c =
-    let w = waits_small _ _ _ c.self.invariant in
+    let w = waits_small _ _ _ c.self.invariant.waits in
     omega (arith, c.len.ensures.value)

@@ -1,5 +1,5 @@
 use Rattle.cept_profile.proofs.WaitingAccents.{accent-waits, accent-graphic_result, accent-spent, nul_leaves}
-use Rattle.cept_profile.proofs.WaitingAccents.{skipped_leaves, accent-dropped}
+use Rattle.cept_profile.proofs.WaitingAccents.{accent-back, accent-dropped, accent-kept, skipped_leaves}
 use Rattle.cept_profile.proofs.law.accents.accents_wait.Goals as goal
 
 pub returns : goal.returns
@@ -10,4 +10,6 @@ returns c = record {
   nul = nul_leaves;
   skipped = skipped_leaves;
   dropped = accent-dropped;
+  kept = accent-kept;
+  back = accent-back;
 }

@@ -1,5 +1,6 @@
 use Rattle.cept_profile.proofs.ProtectedCells.{cell_after-written, cell_after-elsewhere, cell_after-erased}
 use Rattle.cept_profile.proofs.ProtectedCells.{cell_after-not_erased, cell_after-protected, cells_after_all-protected}
+use Rattle.cept_profile.proofs.ProtectedCells.{cell_after-down, cell_after-down_first, cell_after-up, cell_after-up_last}
 use Rattle.cept_profile.proofs.ProtectedCells.{cell_after-wiped, cells_after_all-wiped}
 use Rattle.cept_profile.proofs.law.protected_cells.protection.Goals as goal
 
@@ -13,6 +14,10 @@ returns c = record {
   stays = cell_after-protected;
   stays_on =
       cells_after_all-protected;
+  up = cell_after-up;
+  up_last = cell_after-up_last;
+  down = cell_after-down;
+  down_first = cell_after-down_first;
   wiped = cell_after-wiped;
   wiped_last = cells_after_all-wiped;
 }

@@ -8,5 +8,6 @@ returns c = record {
   screen = Laws.screen_pen-untouched;
   paints = Laws.paint-untouched;
   dclut = Laws.dclut-untouched;
+  defined = Laws.definitions-untouched;
   looks = Laws.look-untouched;
 }

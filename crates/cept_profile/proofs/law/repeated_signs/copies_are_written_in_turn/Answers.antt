@@ -7,6 +7,7 @@ returns c = record {
   no_strokes = Laws.strokes_of_copies-none;
   state = Laws.control_after_copies-more;
   strokes = Laws.strokes_of_copies-more;
-  one_each = Laws.length-strokes_of_copies;
+  two_each = Laws.length-strokes_of_copies;
+  one_each = Laws.length-strokes_of_copies-unscrolled;
   working = Laws.control_with-control_after_copies;
 }

@@ -11,5 +11,5 @@ returns c =
     ap (λ (l : List Look). set c.self.inside.rows.items (c.from.result - 1) l)
     (c.copy_at.ensures
     ∙ ap (λ k. set row (c.col.result - 1) (column_entry blank_look c.args.from.now k)) c.col.ensures.column)
-    ∙ painted_is c.self.invariant c.self.view_is c.args.place _ (c.from.result - 1) (c.col.result - 1) row _
+    ∙ painted_is c.self.invariant.0 c.self.view_is c.args.place _ (c.from.result - 1) (c.col.result - 1) row _
     c.col.ensures.on_screen (omega arith) (omega arith) c.index_mut.ensures.value

@@ -25,7 +25,9 @@ pub returns : goal.returns
 returns c = made c.loop-row.rows.items c.loop-row._row c.loop-row.invariant (omega arith)
 
 pub invariant_of-result : goal.invariant_of-result
-invariant_of-result c =
-    subst (λ (t : List (List Look)). IsTable t)
-    (sym (made c.loop-row.rows.items c.loop-row._row c.loop-row.invariant (omega arith)))
-    (IsTable-table (λ _ _. blank_look))
+invariant_of-result c = (
+  subst (λ (t : List (List Look)). IsTable t)
+      (sym (made c.loop-row.rows.items c.loop-row._row c.loop-row.invariant (omega arith)))
+      (IsTable-table (λ _ _. blank_look)),
+  c.flat-2.ensures,
+)

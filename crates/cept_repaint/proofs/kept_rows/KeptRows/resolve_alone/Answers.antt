@@ -2,7 +2,7 @@ use Rattle.std.proofs.Common.{◌-◌, not, List, set, ap, ◌∙◌, arith}
 use Rattle.cept_codes.specs.declared.look.Look.{Look}
 use Rattle.cept_codes.specs.Same.{same_look}
 use Rattle.cept_profile.specs.Look.{look_of}
-use Rattle.cept_profile.specs.PageParts.{paint_in}
+use Rattle.cept_rows.specs.DrawnWith.{drawn_with}
 use Rattle.cept_repaint.specs.Kept.{looks_differ}
 use Rattle.cept_repaint.proofs.LooksWritten.{painted_is, read_is}
 use Rattle.cept_repaint.proofs.kept_rows.KeptRows.resolve_alone.Goals as goal
@@ -11,8 +11,8 @@ pub returns-clause-looks : goal.returns-clause-looks
 returns-clause-looks g c =
     let row : List Look = c.index_mut-kept.result.now in
     ap (λ (l : List Look). set c.self.inside.rows.items (c.from.result - 1) l) c.resolve_alone.ensures.looks
-    ∙ painted_is c.self.invariant c.self.view_is c.args.place (look_of
-    (paint_in c.args.colours.now.paints) c.args.row.now c.args.screen.now c.args.what.now) (c.from.result - 1)
+    ∙ painted_is c.self.invariant.0 c.self.view_is c.args.place (look_of
+    (drawn_with c.args.colours.now c.args.patterns.now) c.args.row.now c.args.screen.now c.args.what.now) (c.from.result - 1)
     (c.col.result - 1) row _ c.col.ensures.on_screen (omega arith) (omega arith) c.index_mut-kept.ensures.value
 
 pub returns-clause-differs : goal.returns-clause-differs
@@ -20,6 +20,6 @@ unfolding looks_differ
 returns-clause-differs g c =
     c.resolve_alone.ensures.differs
     ∙ ap (λ (l : Look). not (same_look l (look_of
-    (paint_in c.args.colours.now.paints) c.args.row.now c.args.screen.now c.args.what.now)))
-    (read_is c.self.invariant c.self.view_is c.args.place (c.from.result - 1) c.col.result c.index_mut-kept.result.now _
+    (drawn_with c.args.colours.now c.args.patterns.now) c.args.row.now c.args.screen.now c.args.what.now)))
+    (read_is c.self.invariant.0 c.self.view_is c.args.place (c.from.result - 1) c.col.result c.index_mut-kept.result.now _
     c.col.ensures.on_screen (omega arith) c.col.ensures.column c.index_mut-kept.ensures.value)

@@ -13,7 +13,7 @@ returns-clause-drawn c =
     subst (λ (p : Page). IsDrawn p (strokes.Put c.args.place c.args.cell.now)
     (record (page_of c.self.inside) { cells = c.put.new.self })) c.self.view_is
     (IsDrawn-put (page_of c.self.inside) c.args.place c.args.cell.now c.put.new.self c.self.invariant.rows
-    c.self.invariant.colours c.self.invariant.names c.put.ensures.cells)
+    c.self.invariant.colours c.self.invariant.names c.self.invariant.codes c.put.ensures.cells)
 
 pub returns-clause-before : goal.returns-clause-before
 returns-clause-before c = λ yes.
@@ -26,9 +26,9 @@ returns-clause-before c = λ yes.
 
 pub returns-clause-after : goal.returns-clause-after
 returns-clause-after c = λ yes.
-    StandsAlone-unflagged (IsKeptPage-after c.self.invariant
+    StandsAlone-unflagged (IsKeptPage-after tt c.self.invariant
     (IsDrawn-put (page_of c.self.inside) c.args.place c.args.cell.now c.put.new.self c.self.invariant.rows
-    c.self.invariant.colours c.self.invariant.names c.put.ensures.cells)
+    c.self.invariant.colours c.self.invariant.names c.self.invariant.codes c.put.ensures.cells)
     c.flag_put.ensures.marked_rows c.flag_put.ensures.sized_rows c.flag_put.ensures.marked c.flag_put.ensures.sized)
     c.args.place.row c.row.ensures.on_screen.from_top c.row.ensures.on_screen.to_bottom
     (subst (λ n. IsUnflagged c.flag_put.new.marked c.flag_put.new.sized n) c.row.ensures.row
@@ -36,7 +36,7 @@ returns-clause-after c = λ yes.
 
 pub invariant_of-self : goal.invariant_of-self
 invariant_of-self c =
-    IsKeptPage-after c.self.invariant
+    IsKeptPage-after tt c.self.invariant
     (IsDrawn-put (page_of c.self.inside) c.args.place c.args.cell.now c.put.new.self c.self.invariant.rows
-    c.self.invariant.colours c.self.invariant.names c.put.ensures.cells)
+    c.self.invariant.colours c.self.invariant.names c.self.invariant.codes c.put.ensures.cells)
     c.flag_put.ensures.marked_rows c.flag_put.ensures.sized_rows c.flag_put.ensures.marked c.flag_put.ensures.sized

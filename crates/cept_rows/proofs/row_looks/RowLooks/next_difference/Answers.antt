@@ -1,11 +1,10 @@
-use Rattle.std.proofs.Common.{sym, ◌∙◌}
-use Rattle.cept_codes.specs.Look.{blank_look}
-use Rattle.cept_codes.specs.Same.{same_look}
-use Rattle.cept_profile.specs.Tiling.{column_entry}
-use Rattle.cept_rows.proofs.KeptLooks.{alike_more}
+use Rattle.std.proofs.Common.{inl, inr, sym, ◌∙◌}
 use Rattle.cept_rows.proofs.row_looks.RowLooks.next_difference.Goals as goal
+use Rattle.cept_rows.proofs.row_looks.RowLooks.next_difference.Goals.{then-is_plain, else-is_plain}
 
-pub loop-column-preserved : goal.loop-column-preserved
-loop-column-preserved c =
-    alike_more (λ n. same_look (column_entry blank_look c.args.self.now n) (column_entry blank_look c.args.other.now n))
-    c.args.from c.loop-column.column c.loop-column.invariant (sym c.same_at.ensures ∙ c.if-not-same_at.false)
+pub next_small_difference-requires-clause-plain : goal.next_small_difference-requires-clause-plain
+next_small_difference-requires-clause-plain c =
+    elim c.if-is_plain.branch [
+      | then-is_plain w ↦ inl (c.is_plain.ensures w.if-is_plain.true)
+      | else-is_plain w ↦ inr (w.is_plain-else-is_plain.ensures (sym w.value-is ∙ c.if-is_plain-2.true))
+    ]

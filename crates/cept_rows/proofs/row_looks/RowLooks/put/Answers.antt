@@ -1,9 +1,14 @@
-use Rattle.std.proofs.Common.{◌-◌}
-use Rattle.std.proofs.lemmas.List.{map-set}
-use Rattle.cept_rows.specs.SmallLooks.{look_kept}
+use Rattle.std.proofs.Common.{◌==◌, ◌||◌}
+use Rattle.cept_rows.proofs.KeptRows.{put_shown, put_tall}
 use Rattle.cept_rows.proofs.row_looks.RowLooks.put.Goals as goal
 
-pub returns-clause-looks : goal.returns-clause-looks
-returns-clause-looks c =
-    let e = map-set look_kept c.self.inside.looks (c.args.column - 1) c.args.look in
-    let is = c.self.view_is in cc
+pub invariant_of-self : goal.invariant_of-self
+invariant_of-self c =
+    put_tall c.self.inside c.args.column c.args.look c.self.invariant c.requires.from_left c.requires.to_right
+    c.requires.plain c.requires.small
+
+pub returns : goal.returns
+returns c =
+    put_shown c.self.inside c.args.self.now c.args.column c.args.look (c.self.inside.tall ||
+    (c.args.look.part.h == 2)) c.self.invariant c.self.view_is
+    c.requires.from_left c.requires.to_right c.requires.plain

@@ -13,7 +13,7 @@ pub returns-in-Some-clause-put : goal.returns-in-Some-clause-put
 returns-in-Some-clause-put g c =
     on_ok_weaker {P = (history : List Command) → AllValid history → c.in-Some.easel.screen ≡ state history
     → (g.T.Sink.state c.apply.new.sink).bytes ≡ append_known (g.T.Sink.state c.args.sink.now).bytes
-    (command_text c.args.self.now.action c.args.place history c.args.command)}
+    (command_text c.args.self.now.action c.args.place history c.args.command.now)}
     c.apply.result (λ put history valid at.
     put history valid (subst (λ (easel : Option Easel). IsAt easel history) c.in-Some.is at))
     c.apply.ensures.put
@@ -21,7 +21,7 @@ returns-in-Some-clause-put g c =
 pub returns-in-Some-clause-begun : goal.returns-in-Some-clause-begun
 returns-in-Some-clause-begun g c =
     on_err_weaker {P = (history : List Command) → AllValid history → c.in-Some.easel.screen ≡ state history
-    → HasBegun (command_text c.args.self.now.action c.args.place history c.args.command)
+    → HasBegun (command_text c.args.self.now.action c.args.place history c.args.command.now)
     (g.T.Sink.state c.args.sink.now) (g.T.Sink.state c.apply.new.sink)}
     c.apply.result (λ begun history valid at.
     begun history valid (subst (λ (easel : Option Easel). IsAt easel history) c.in-Some.is at))

@@ -1,0 +1,105 @@
+ghost use Rattle.std.specs.Prelude.{◌≡◌, ◌<◌, ◌++◌, length};
+ghost use Rattle.cept_codes.specs.Command.{IsArea};
+ghost use Rattle.cept_profile.specs.Control.{area_without, control_effect};
+ghost use Rattle.cept_profile.specs.Motions.{area_in_force, is_first_of, is_last_of};
+ghost use Rattle.cept_profile.specs.Motions.{scrolling_area, strokes_of_shift};
+
+use crate::control::Control;
+use arrayvec::ArrayVec;
+use cept_codes::{Command, Stroke, Up};
+
+/// The scrolling area, and whether motions scroll it.
+impl Control {
+    pub(crate) fn implicit_scrolling(&mut self, on: bool)
+        ensures { self.new ≡ control_effect self.old (Command.Implicit on) }
+    {
+        self.implicit = on;
+    }
+
+    /// Seldom sent, and so out of the way of the dispatch, which each sign takes.
+    #[inline(never)]
+    pub(crate) fn create_area(&mut self, first: u8, last: u8)
+        requires { IsArea first last }
+        ensures { self.new ≡ control_effect self.old (Command.AreaCreate first last) }
+    {
+        self.area = Some((first, last));
+    }
+
+    /// The area with these rows alone is deleted.
+    #[inline(never)]
+    pub(crate) fn delete_area(&mut self, first: u8, last: u8)
+        ensures { self.new ≡ control_effect self.old (Command.AreaDelete first last) }
+    {
+        self.area = area_without(first, last, self.area);
+    }
+
+    /// The rows of the area in force go one row up or down.
+    pub(crate) fn scroll(&self, way: Up, strokes: &mut ArrayVec<Stroke, 128>)
+        requires { length strokes.old.items < 128 }
+        ensures { strokes.new.items
+            ≡ strokes.old.items ++ strokes_of_shift way (area_in_force self.now) }
+    {
+        push_shift(way, self.area_in_force(), strokes);
+    }
+
+    /// The area in force: it is there, and within the format.
+    fn area_in_force(&self) -> Option<(u8, u8)>
+        ensures { result ≡ area_in_force self.now }
+    {
+        match self.area {
+            Some((first, last)) if last <= self.rows => Some((first, last)),
+            _ => None,
+        }
+    }
+
+    /// The area that motions scroll: the one in force, where implicit scrolling is on.
+    pub(crate) fn scrolling_area(&self) -> Option<(u8, u8)>
+        ensures { result ≡ scrolling_area self.now }
+    {
+        if self.implicit {
+            self.area_in_force()
+        } else {
+            None
+        }
+    }
+}
+
+/// The area, unless it has these rows.
+fn area_without(first: u8, last: u8, area: Option<(u8, u8)>) -> Option<(u8, u8)>
+    ensures { result ≡ area_without first last area }
+{
+    match area {
+        Some((top, bottom)) if top == first && bottom == last => None,
+        _ => area,
+    }
+}
+
+/// Whether the row is the first of the area.
+pub(crate) fn is_first_of(area: Option<(u8, u8)>, row: u8) -> bool
+    ensures { result ≡ is_first_of area row }
+{
+    match area {
+        Some((first, _)) => first == row,
+        None => false,
+    }
+}
+
+/// Whether the row is the last of the area.
+pub(crate) fn is_last_of(area: Option<(u8, u8)>, row: u8) -> bool
+    ensures { result ≡ is_last_of area row }
+{
+    match area {
+        Some((_, last)) => last == row,
+        None => false,
+    }
+}
+
+/// The rows of the area, if there is one, go one row up or down.
+pub(crate) fn push_shift(way: Up, area: Option<(u8, u8)>, strokes: &mut ArrayVec<Stroke, 128>)
+    requires { length strokes.old.items < 128 }
+    ensures { strokes.new.items ≡ strokes.old.items ++ strokes_of_shift way area }
+{
+    if let Some((first, last)) = area {
+        strokes.push(Stroke::Shift(first, last, way));
+    }
+}

@@ -1,0 +1,20 @@
+mod BlockLemmas
+mod Bridge
+mod Counting
+mod DrawnLines
+mod Growing
+mod KeptDrawings
+pub mod Laws
+mod Led
+mod Numbers
+mod PatternLists
+mod Pixels
+mod Reading
+mod Signs
+mod StripLemmas
+mod StripNumbers
+mod StripWords
+mod Takes
+mod ValidPatterns
+mod WordBits
+mod Worked

@@ -1,0 +1,102 @@
+-- Blocks of pattern units: what their bytes add to the lines of a plane (this profile's own). A line is a number whose
+-- bit x, of worth 2 ^ x, is the pixel of column x.
+use Rattle.std.specs.Prelude.{ℕ, ◌+◌, ◌-◌, ◌*◌, ◌/◌, ◌%◌, ◌^◌, Bool, true, not, ◌&&◌, ◌||◌, List, [], ◌∷◌, ◌++◌, length}
+use Rattle.std.specs.Prelude.{slice_index, replicate, if◌then◌else◌, ◌==◌, nat_lt, min, Option, Some, None}
+use Rattle.std.specs.Option.{option_to_list}
+use Rattle.cept_codes.specs.declared.command.Form.{Form}
+use Rattle.cept_drcs.specs.Bytes.{is_between}
+
+-- a byte of columns 4 to 7, which carries six pixels
+abbrev pub has_pixels : ℕ → Bool
+has_pixels a = is_between 0x40 0x7F a
+
+-- a sign of whole lines: 2/0 to 2/15 without 2/11
+abbrev pub is_sign : ℕ → Bool
+is_sign a = is_between 0x20 0x2F a && not (a == 0x2B)
+
+-- six pixels: the left one stands in the highest of the six low bits of the byte
+abbrev pub six : ℕ → ℕ
+six a = a / 32 % 2 + 2 * (a / 16 % 2) + 4 * (a / 8 % 2) + 8 * (a / 4 % 2) + 16 * (a / 2 % 2) + 32 * (a % 2)
+
+-- how many lines a sign asks for, where this many are left
+abbrev pub asked : ℕ → ℕ → ℕ
+asked room a =
+    if is_between 0x21 0x2A a then a - 0x20 else  -- one to ten
+    if is_between 0x2C 0x2D a then 1 else
+    room  -- 20, 2E, 2F: to the end of the block
+
+-- the line of which a sign is: the line before, one of 0 or one of 1
+abbrev pub sign_line : ℕ → ℕ → ℕ → ℕ
+sign_line w before a =
+    if is_between 0x21 0x2A a || a == 0x2E then before else
+    if a == 0x20 || a == 0x2C then 0 else
+    2 ^ w - 1  -- 2D, 2F
+
+-- the lines of a sign; those that the block has no room for are dropped
+abbrev pub sign_lines : ℕ → ℕ → ℕ → ℕ → List ℕ
+sign_lines w room before a = replicate (min (asked room a) room) (sign_line w before a)
+
+-- lines, and the first six pixels of a line whose other six aren't read: a half line
+pub record Drawn : Type 0 where
+  pub lines : List ℕ
+  pub half : Option ℕ
+
+-- nothing yet
+abbrev pub blank : Drawn
+blank = record { lines = []; half = None }
+
+-- whole lines, and a half line alone
+abbrev pub whole : List ℕ → Drawn
+whole ls = record { lines = ls; half = None }
+
+abbrev pub half_line : ℕ → Drawn
+half_line l = record { lines = []; half = Some l }
+
+-- what a byte adds, where this many lines are left, this is the line before and this is the half line: a byte with
+-- pixels is a line of 6, begins one of 12 or completes it; a sign first completes a half line with pixels of 0
+unfoldable pub adds : ℕ → ℕ → ℕ → Option ℕ → ℕ → Drawn
+adds w room before None a =
+    if has_pixels a then (if w == 6 then whole (six a ∷ []) else half_line (six a)) else
+    whole (sign_lines w room before a)
+adds w room before (Some l) a =
+    if has_pixels a then whole ((l + 64 * six a) ∷ []) else
+    whole (l ∷ sign_lines w (room - 1) l a)
+
+-- a byte may come in a block that has this many lines left. A half line is none of its lines, so its last line may be
+-- completed
+abbrev pub may_come : ℕ → ℕ → Bool
+may_come room a = nat_lt 0 room && (has_pixels a || is_sign a)
+
+-- the last of these lines, 0 where there is none
+abbrev pub last_line : List ℕ → ℕ
+last_line ls = slice_index ls (length ls - 1)
+
+-- what was drawn, and more behind it
+abbrev pub behind : Drawn → Drawn → Drawn
+behind d more = record { lines = d.lines ++ more.lines; half = more.half }
+
+-- a block, with one byte more
+abbrev pub draw : Form → Drawn → ℕ → Drawn
+draw f d a = behind d (adds f.w (f.h - length d.lines) (last_line d.lines) d.half a)
+
+-- with these bytes more
+unfoldable pub drawn : Form → Drawn → List ℕ → Drawn
+drawn f d [] = d
+drawn f d (a ∷ u) = drawn f (draw f d a) u
+
+-- each of them may come
+unfoldable pub are_drawn : Form → Drawn → List ℕ → Bool
+are_drawn f d [] = true
+are_drawn f d (a ∷ u) = may_come (f.h - length d.lines) a && are_drawn f (draw f d a) u
+
+-- the lines at the end of a block: a half line is completed with pixels of 0
+abbrev pub closed_lines : List ℕ → Option ℕ → List ℕ
+closed_lines ls half = ls ++ option_to_list half
+
+-- these bytes are a block
+abbrev pub is_block : Form → List ℕ → Bool
+is_block f u = are_drawn f blank u
+
+-- its lines from the top. Those that are missing are 0
+abbrev pub block_lines : Form → List ℕ → List ℕ
+block_lines f u = let d = drawn f blank u in closed_lines d.lines d.half

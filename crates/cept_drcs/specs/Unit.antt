@@ -1,0 +1,85 @@
+-- Pattern units, on the whole list of their bytes: 30 and a block, and then openers with a block each (this profile's
+-- own).
+use Rattle.std.specs.Prelude.{◌≡◌, ◌<◌, ◌++◌, if◌then◌else◌, slice_index}
+use Rattle.std.specs.Prelude.{ℕ, zero, suc, ◌+◌, ◌*◌, ◌/◌, ◌%◌, ◌^◌, Bool, true, false, ◌&&◌, ◌||◌, length, List, []}
+use Rattle.std.specs.Prelude.{◌∷◌, ◌==◌, nat_lt, nat_le}
+use Rattle.cept_codes.specs.declared.command.Form.{Form}
+use Rattle.cept_codes.specs.declared.look.Pattern.{Pattern}
+use Rattle.cept_drcs.specs.Block.{blank, drawn, is_block, block_lines}
+use Rattle.cept_drcs.specs.Cut.{Block, cut}
+
+-- blocks of planes that ascend strictly, from this one on, and are planes of the form
+unfoldable pub are_blocks : Form → ℕ → List Block → Bool
+are_blocks f p [] = true
+are_blocks f p (b ∷ bs) =
+    nat_le p b.plane && (nat_lt b.plane f.planes && (is_block f b.bytes && are_blocks f (b.plane + 1) bs))
+
+-- the first of them is of plane 0
+abbrev pub begins_first_plane : List Block → Bool
+begins_first_plane [] = false
+begins_first_plane (b ∷ bs) = b.plane == 0
+
+-- no byte stands before the first opener
+abbrev pub is_bare : List ℕ → Bool
+is_bare [] = true
+is_bare (a ∷ u) = false
+
+-- these bytes are a pattern unit
+unfoldable pub is_pattern : Form → List ℕ → Bool
+is_pattern f u = let c = cut u in is_bare c.front && (begins_first_plane c.blocks && are_blocks f 0 c.blocks)
+
+-- the last of blocks, this one where there are no more
+unfoldable pub last_block : Block → List Block → Block
+last_block b [] = b
+last_block b (c ∷ bs) = last_block c bs
+
+-- a byte fits behind this last block of a unit: it hasn't all its lines, or there is a further plane with an opener
+abbrev pub block_grows : Form → Block → Bool
+block_grows f b =
+    nat_lt (length (drawn f blank b.bytes).lines) f.h || (nat_lt b.plane 3 && nat_lt (b.plane + 1) f.planes)
+
+-- behind a unit
+abbrev pub blocks_grow : Form → List Block → Bool
+blocks_grow f [] = false
+blocks_grow f (b ∷ bs) = block_grows f (last_block b bs)
+
+unfoldable pub pattern_grows : Form → List ℕ → Bool
+pattern_grows f u = blocks_grow f (cut u).blocks
+
+-- a byte makes a longer unit of these bytes
+pub record IsLonger (f : Form) (u : List ℕ) : Type 0 where
+  pub byte : ℕ
+  pub small : byte < 256
+  pub longer : is_pattern f (u ++ byte ∷ []) ≡ true
+
+-- lines from line n of all planes on, each at its bit of a row of bits: bit x of line n is number n * w + x
+unfoldable pub lines_from : ℕ → ℕ → List ℕ → ℕ
+lines_from w n [] = 0
+lines_from w n (l ∷ ls) = l * 2 ^ (n * w) + lines_from w (n + 1) ls
+
+-- the lines of each block from the first of its plane on. Planes without a block are 0
+unfoldable pub blocks_number : Form → List Block → ℕ
+blocks_number f [] = 0
+blocks_number f (b ∷ bs) = lines_from f.w (b.plane * f.h) (block_lines f b.bytes) + blocks_number f bs
+
+-- a number in words of 64 bits, the lowest first
+unfoldable pub words : ℕ → ℕ → List ℕ
+words zero n = []
+words (suc k) n = (n % 2 ^ 64) ∷ words k (n / 2 ^ 64)
+
+-- the pattern of this form whose bits are this number
+abbrev pub pattern_of : Form → ℕ → Pattern
+pattern_of f n = record { w = f.w; h = f.h; planes = f.planes; bits = words 9 n }
+
+-- the pattern of these bytes
+abbrev pub pattern : Form → List ℕ → Pattern
+pattern f u = pattern_of f (blocks_number f (cut u).blocks)
+
+-- the lines of this plane among blocks, none where it has no block
+unfoldable pub plane_lines : Form → ℕ → List Block → List ℕ
+plane_lines f p [] = []
+plane_lines f p (b ∷ bs) = if b.plane == p then block_lines f b.bytes else plane_lines f p bs
+
+-- the pixel of column x and line y that these bytes draw in a plane, 0 where there is no such line
+abbrev pub drawn_pixel : Form → List ℕ → ℕ → ℕ → ℕ → ℕ
+drawn_pixel f u p y x = slice_index (plane_lines f p (cut u).blocks) y / 2 ^ x % 2

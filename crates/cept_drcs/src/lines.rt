@@ -1,0 +1,50 @@
+ghost use Rattle.std.specs.Prelude.{◌≡◌, ◌≤◌, ◌<◌, ◌+◌, ◌*◌};
+ghost use Rattle.cept_codes.specs.Command.{IsValidForm};
+ghost use Rattle.cept_drcs.specs.Block.{has_pixels, is_sign, asked};
+ghost use Rattle.cept_drcs.specs.Cut.{is_opener};
+
+use cept_codes::Form;
+
+/// A byte that carries six pixels.
+pub fn has_pixels(byte: u8) -> bool
+    ensures { result ≡ has_pixels byte }
+{
+    0x40 <= byte && byte <= 0x7F
+}
+
+/// A sign of whole lines.
+pub fn is_sign(byte: u8) -> bool
+    ensures { result ≡ is_sign byte }
+{
+    0x20 <= byte && byte <= 0x2F && byte != 0x2B
+}
+
+/// A byte that opens a plane.
+pub fn is_opener(byte: u8) -> bool
+    ensures { result ≡ is_opener byte }
+{
+    0x30 <= byte && byte <= 0x33
+}
+
+/// How many lines a sign asks for, where this many are left.
+pub fn asked(room: u8, byte: u8) -> u8
+    ensures { result ≡ asked room byte }
+{
+    if 0x21 <= byte && byte <= 0x2A {
+        byte - 0x20
+    } else if 0x2C <= byte && byte <= 0x2D {
+        1
+    } else {
+        room
+    }
+}
+
+/// The first line of a plane, counted over all planes.
+pub fn first_line(form: &Form, plane: u8) -> u8
+    requires form { IsValidForm form.now }
+    requires plane { plane < form.now.planes }
+    ensures first { result ≡ plane * form.now.h }
+    ensures room { result + form.now.h ≤ 48 }
+{
+    plane * form.h
+}

@@ -1,0 +1,187 @@
+-- What a reader keeps beside the bytes that are pending.
+use Rattle.std.proofs.Common.{◌≡◌, ℕ, ◌+◌, ◌<◌, ◌≤◌, Bool, true, false, not, cond, List, [], ◌∷◌, ◌++◌, length, Option, Some, None}
+use Rattle.std.proofs.Common.{refl, sym, ap, ◌∙◌, arith, subst, inl, inr}
+use Rattle.std.proofs.lemmas.Bool.{both_ways, cases_Bool}
+use Rattle.cept_drcs.specs.Loading.{Loading, Leads}
+use Rattle.cept_codes.specs.declared.command.Command.TheVariants as command
+use Rattle.cept_codes.specs.declared.item.Item.{Item}
+use Rattle.cept_codes.specs.declared.item.Said.TheVariants.{Command as Says}
+use Rattle.cept_codes.specs.declared.command.Form.{Form}
+use Rattle.cept_drcs.specs.Unit.{is_pattern, pattern, pattern_grows as unit_grows}
+use Rattle.cept_drcs.proofs.Laws.{unit_loads, some_plane}
+use Rattle.cept_parser.specs.declared.context.Context.{Context}
+use Rattle.cept_parser.specs.declared.context.Outcome.{Outcome}
+use Rattle.cept_parser.specs.declared.fit.Fit.{Fit}
+use Rattle.cept_parser.specs.declared.reader.Reader.{Reader}
+use Rattle.cept_parser.specs.declared.fit.Fit.TheVariants.{Misfit, Open, Whole, Longer}
+use Rattle.cept_parser.specs.Grammar.{unit, fits, grows}
+use Rattle.cept_parser.specs.Items.{Reading, reading_at, reading_with_items, said_at_end}
+use Rattle.cept_parser.specs.Fit.{fit, fit_by}
+use Rattle.cept_parser.specs.declared.context.Mode.TheVariants.{DrcsRun}
+use Rattle.cept_parser.specs.Context.{with_mode}
+use Rattle.cept_parser.specs.Runs.{pattern_outcome}
+use Rattle.cept_parser.specs.Waits.{in_pattern, IsBeside, HasLeft, outcome_at_misfit, cut_item}
+use Rattle.cept_parser.proofs.GrammarLemmas.{fits_one}
+use Rattle.cept_parser.proofs.OneByteMoreLemmas.{open_by, longer_by, read_as_open, read_as_longer}
+use Rattle.cept_parser.proofs.PatternLemmas.{pattern_run, pattern_more, alone_ends}
+
+-- bytes that are no pattern need no loader
+pub free_beside : (x : Context) (u : List ℕ) (b : Bool) (l : Loading) → in_pattern x u ≡ false → b ≡ false
+    → IsBeside x u b l
+free_beside x u b l h f = record { pattern = f ∙ sym h; leads = λ t. absurd (both_ways b f t) }
+
+pub nothing_beside : (x : Context) (u : List ℕ) (b : Bool) (l : Loading) → u ≡ [] → b ≡ false → IsBeside x u b l
+nothing_beside x u b l e f = free_beside x u b l (rw e refl) f
+
+-- where what is pending is a pattern
+pub beside_free : (x : Context) (u : List ℕ) (b : Bool) (l : Loading) → IsBeside x u b l → b ≡ false
+    → in_pattern x u ≡ false
+beside_free x u b l h f = sym h.pattern ∙ f
+
+pub beside_loading : (x : Context) (u : List ℕ) (b : Bool) (l : Loading) → IsBeside x u b l → b ≡ true
+    → in_pattern x u ≡ true
+beside_loading x u b l h f = sym h.pattern ∙ f
+
+whole_is : (b : Bool) (o : Outcome) → b ≡ true → cond b (Some o) None ≡ None → ⊥
+whole_is true o h e = cc
+whole_is false o h e = cc
+
+-- a byte alone that isn't whole begins no pattern, and one that grows begins one
+open_free : (x : Context) (a : ℕ) → Open ≡ fit x (a ∷ []) → in_pattern x (a ∷ []) ≡ false
+open_free x a f =
+    let p = open_by _ _ _ f in
+    let never : in_pattern x (a ∷ []) ≡ true → in_pattern x (a ∷ []) ≡ false = λ h. let r = pattern_run x (a ∷ []) h in
+    absurd (whole_is (is_pattern x.form (a ∷ [])) _ (sym r.fits ∙ p.0) (sym r.unit ∙ p.1)) in
+    elim (cases_Bool (in_pattern x (a ∷ []))) [ inl h ↦ never h | inr h ↦ h ]
+
+pub longer_pattern : (x : Context) (a : ℕ) → Longer ≡ fit x (a ∷ []) → in_pattern x (a ∷ []) ≡ true
+longer_pattern x a f =
+    let p = longer_by _ _ _ f in
+    elim (cases_Bool (in_pattern x (a ∷ []))) [
+      | inl h ↦ h
+      | inr h ↦ absurd (both_ways _ (alone_ends x a h) p.more)
+    ]
+
+-- the context stays where bytes wait
+pub open_context : (x : Context) (at : ℕ) (u : List ℕ) → Open ≡ fit x u → (reading_at x at u).context ≡ x
+open_context x at u f = ap (λ (r : Reading). r.context) (read_as_open x at u f)
+
+pub longer_context : (x : Context) (at : ℕ) (u : List ℕ) → Longer ≡ fit x u → (reading_at x at u).context ≡ x
+longer_context x at u f = ap (λ (r : Reading). r.context) (read_as_longer x at u f)
+
+pub open_beside : (x y : Context) (a : ℕ) (u : List ℕ) (b : Bool) (l : Loading) → Open ≡ fit x (a ∷ []) → y ≡ x
+    → u ≡ a ∷ [] → b ≡ false → IsBeside y u b l
+open_beside x y a u b l f e q h = free_beside y u b l (rw (e, q) (open_free x a f)) h
+
+-- more bytes are no pattern where the first ones are none
+pub more_beside : (x y : Context) (p : List ℕ) (c : ℕ) (u : List ℕ) (b : Bool) (l m : Loading) → IsBeside x p b m
+    → b ≡ false → 1 ≤ length p → y ≡ x → u ≡ p ++ c ∷ [] → IsBeside y u b l
+more_beside x y p c u b l m k f n e q =
+    free_beside y u b l (rw (e, q) (pattern_more x p c n ∙ beside_free x p b m k f)) f
+
+-- a byte alone that begins a pattern is one
+pub first_pattern : (x : Context) (a : ℕ) → in_pattern x (a ∷ []) ≡ true → is_pattern x.form (a ∷ []) ≡ true
+first_pattern x a h = sym (pattern_run x (a ∷ []) h).fits ∙ fits_one x a
+
+-- what fits is no misfit
+pub whole_fit : Whole ≡ Misfit → ⊥
+whole_fit e = cc
+
+pub open_fit : Open ≡ Misfit → ⊥
+open_fit e = cc
+
+pub longer_fit : Longer ≡ Misfit → ⊥
+longer_fit e = cc
+
+-- a pattern that is read, and what it says where it is closed
+pub record IsLoaded (x : Context) (u : List ℕ) : Type 0 where
+  pub code : ℕ
+  pub mode : x.mode ≡ DrcsRun code
+  pub small : code < 0x7F
+  pub whole : is_pattern x.form u ≡ true
+  pub unit : unit x u ≡ Some (pattern_outcome x code u)
+
+pub loaded : (x : Context) (u : List ℕ) (b : Bool) (l : Loading) → IsBeside x u b l → b ≡ true → IsLoaded x u
+loaded x [] b l h t = absurd (both_ways b h.pattern t)
+loaded x (a ∷ u) b l h t =
+    let p = pattern_run x (a ∷ u) (beside_loading x (a ∷ u) b l h t) in
+    let k = h.leads t in
+    let w : is_pattern x.form (a ∷ u) ≡ true = unit_loads x.form a u (some_plane x.form k.form) ∙ k.continue in
+    record {
+      code = p.code;
+      mode = p.mode;
+      small = p.small;
+      whole = w;
+      unit = p.unit ∙ ap (λ (c : Bool). cond c (Some (pattern_outcome x p.code (a ∷ u))) None) w;
+    }
+
+-- the item of such a pattern
+pub loaded_item : (x : Context) (at : ℕ) (u : List ℕ) (k : IsLoaded x u) → cut_item x at u
+    ≡ record { at = at; len = length u; what = Says (command.DrcsPattern k.code (pattern x.form u)) }
+loaded_item x at u k =
+    ap (λ (w : Option Outcome). record { at = at; len = length u; what = (outcome_at_misfit x w).said }) k.unit
+
+pub loaded_next : (x : Context) (u : List ℕ) (k : IsLoaded x u)
+    → with_mode x (DrcsRun (k.code + 1)) ≡ (outcome_at_misfit x (unit x u)).next
+loaded_next x u k = ap (λ (w : Option Outcome). (outcome_at_misfit x w).next) (sym k.unit)
+
+-- such a pattern at the end of the input
+pub loaded_end : (x : Context) (u : List ℕ) (k : IsLoaded x u)
+    → Says (command.DrcsPattern k.code (pattern x.form u)) ≡ said_at_end (unit x u)
+unfolding said_at_end
+loaded_end x u k = ap said_at_end (sym k.unit)
+
+-- a reading with items before it leaves the same
+pub left_after : (is : List Item) (r : Reading) (s : Reader) → HasLeft r s → HasLeft (reading_with_items is r) s
+left_after is r s h = record { context = h.context; pending = h.pending; beside = h.beside }
+
+-- a pattern with one byte more that its loader took
+pub loaded_beside : (x : Context) (p : List ℕ) (c : ℕ) (u : List ℕ) (b : Bool) (l m : Loading) → IsBeside x p b l
+    → b ≡ true → 1 ≤ length p → u ≡ p ++ c ∷ [] → Leads x.form (p ++ c ∷ []) m → IsBeside x u b m
+loaded_beside x p c u b l m h t n e k =
+    record {
+      pattern = h.pattern ∙ sym (rw e (pattern_more x p c n));
+      leads = λ _. rw e k;
+    }
+
+pub some_loaded : (x : Context) (u : List ℕ) (b : Bool) (l : Loading) → IsBeside x u b l → b ≡ true → 1 ≤ length u
+some_loaded x u b l h t = (pattern_run x u (beside_loading x u b l h t)).some
+
+-- the loader says whether its bytes grow
+pub full_says : (f : Form) (p : List ℕ) (c : ℕ) (l : Loading) (r : Bool)
+    → ((g : Form) (a : ℕ) (u : List ℕ) → Leads g (a ∷ u) l → r ≡ not (unit_grows g (a ∷ u)))
+    → Leads f (p ++ c ∷ []) l → r ≡ not (unit_grows f (p ++ c ∷ []))
+full_says f [] c l r h k = h f c [] k
+full_says f (a ∷ p) c l r h k = h f a (p ++ c ∷ []) k
+
+full_by : (b g : Bool) (w : Option Outcome) (o : Outcome) → b ≡ true → w ≡ Some o → true ≡ not g
+    → Whole ≡ fit_by b g w
+full_by b true w o h e n = absurd cc
+full_by b false w o h e n = rw (h, e) refl
+
+grow_by : (b g : Bool) (w : Option Outcome) (o : Outcome) → b ≡ true → w ≡ Some o → false ≡ not g
+    → Longer ≡ fit_by b g w
+grow_by b true w o h e n = rw (h, e) refl
+grow_by b false w o h e n = absurd cc
+
+-- how the bytes of a pattern stand to the grammar
+pub full_fit : (x : Context) (u : List ℕ) (b : Bool) (l : Loading) → IsBeside x u b l → b ≡ true
+    → true ≡ not (unit_grows x.form u) → Whole ≡ fit x u
+full_fit x u b l h t n =
+    let p = pattern_run x u (beside_loading x u b l h t) in
+    let k = loaded x u b l h t in
+    full_by _ _ _ _ (p.fits ∙ k.whole) k.unit (n ∙ ap not (sym p.grows))
+
+pub grow_fit : (x : Context) (u : List ℕ) (b : Bool) (l : Loading) → IsBeside x u b l → b ≡ true
+    → false ≡ not (unit_grows x.form u) → Longer ≡ fit x u
+grow_fit x u b l h t n =
+    let p = pattern_run x u (beside_loading x u b l h t) in
+    let k = loaded x u b l h t in
+    grow_by _ _ _ _ (p.fits ∙ k.whole) k.unit (n ∙ ap not (sym p.grows))
+
+-- a byte that the loader doesn't take doesn't fit
+pub none_taken : (x : Context) (p : List ℕ) (c : ℕ) (b : Bool) (l : Loading) → IsBeside x p b l → b ≡ true
+    → is_pattern x.form (p ++ c ∷ []) ≡ false → fits x (p ++ c ∷ []) ≡ false
+none_taken x p c b l h t n =
+    let some = some_loaded x p b l h t in
+    (pattern_run x (p ++ c ∷ []) (pattern_more x p c some ∙ beside_loading x p b l h t)).fits ∙ n

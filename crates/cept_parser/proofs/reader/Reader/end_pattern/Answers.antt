@@ -1,0 +1,45 @@
+use Rattle.std.proofs.Common.{◌≡◌, ◌+◌, ℕ, List, [], ◌∷◌, ◌++◌, length, true, false, not, refl, sym, ap, subst, arith, ◌∙◌}
+use Rattle.cept_codes.specs.declared.item.Item.{Item}
+use Rattle.cept_codes.specs.Command.{IsValidForm}
+use Rattle.cept_drcs.specs.Loading.{Leads}
+use Rattle.cept_drcs.specs.Unit.{is_pattern, pattern_grows}
+use Rattle.cept_parser.specs.declared.context.Context.{Context}
+use Rattle.cept_parser.specs.declared.fit.Fit.TheVariants.{Whole, Longer}
+use Rattle.cept_parser.specs.Grammar.{unit, fits}
+use Rattle.cept_parser.specs.Items.{Reading, reading_at, reading_with_items}
+use Rattle.cept_parser.specs.Fit.{fit}
+use Rattle.cept_parser.specs.Waits.{IsBeside, HasLeft, outcome_at_misfit, cut_item}
+use Rattle.cept_parser.proofs.LongestBeginningLemmas.{waits_fits}
+use Rattle.cept_parser.proofs.OneByteMoreLemmas.{read_closed, read_as_longer, read_cut_by, longer_left}
+use Rattle.cept_parser.proofs.ReaderLemmas.{nothing_beside, loaded_beside, some_loaded, full_says, full_fit, grow_fit}
+use Rattle.cept_parser.proofs.ReaderLemmas.{none_taken, left_after}
+use Rattle.cept_parser.proofs.ValidItemLemmas.{cut_sound}
+use Rattle.cept_parser.proofs.WaitingLemmas.{waits_small}
+use Rattle.cept_parser.proofs.reader.Reader.end_pattern.Goals as goal
+
+pub begin-requires-clause-form : goal.begin-requires-clause-form
+begin-requires-clause-form c =
+    let w = c.requires.waits.waits in
+    let v = (cut_sound _ _ w.context w.bytes (waits_fits _ _ w.waits)).valid.next in
+    subst (λ (x : Context). IsValidForm x.form) (sym c.close_pattern.ensures.context) v.form
+
+pub returns-clause-items : goal.returns-clause-items
+returns-clause-items c =
+    let x = c.args.self.now.context in
+    let read =
+    read_cut_by x c.args.at c.args.self.now.bytes c.args.byte _ _ _ _ c.requires.waits.waits.waits c.requires.misfit refl
+    c.close_pattern.ensures.context (rw (c.from.ensures, c.len.ensures.value) refl) refl in
+    c.begin.ensures.items
+    ∙ ap (λ (v : List Item). v ++ (reading_at c.close_pattern.new.self.context (c.args.at + c.from.result) (c.args.byte
+    ∷ [])).items) (c.close_pattern.ensures.items
+    ∙ ap (λ (v : List Item). v ++ cut_item x c.args.at c.args.self.now.bytes ∷ []) c.requires.empty)
+    ∙ ap (λ (r : Reading). r.items) (sym read)
+
+pub returns-clause-left : goal.returns-clause-left
+returns-clause-left c =
+    let x = c.args.self.now.context in
+    let read =
+    read_cut_by x c.args.at c.args.self.now.bytes c.args.byte _ _ _ _ c.requires.waits.waits.waits c.requires.misfit refl
+    c.close_pattern.ensures.context (rw (c.from.ensures, c.len.ensures.value) refl) refl in
+    subst (λ (r : Reading). HasLeft r c.begin.new.self) (sym read)
+    (left_after (cut_item x c.args.at c.args.self.now.bytes ∷ []) _ _ c.begin.ensures.left)

@@ -1,7 +1,0 @@
-use Rattle.cept_parser.proofs.OptionalPartLemmas.{four_parts}
-use Rattle.cept_parser.proofs.units.drcs_header_fit.Goals as goal
-
-pub returns : goal.returns
-returns c =
-    four_parts _ _ _ _ _ _ _ _ _ c.bytes_after-rest.ensures c.bytes_after-rest-2.ensures c.bytes_after-rest-3.ensures
-    c.last_part_fit.ensures _

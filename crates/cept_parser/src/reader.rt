@@ -1,0 +1,222 @@
+ghost use Rattle.std.specs.Prelude.{◌≡◌, ◌≤◌, ◌<◌, ◌+◌, ◌^◌, ◌∷◌, [], ◌++◌, length, true, false};
+ghost use Rattle.cept_codes.specs.Command.{IsValidForm};
+ghost use Rattle.cept_parser.specs.Grammar.{unit, fits};
+ghost use Rattle.cept_parser.specs.Items.{reading_at, said_at_end};
+ghost use Rattle.cept_parser.specs.Waits.{in_pattern, IsBeside, IsWaiting, HasLeft};
+ghost use Rattle.cept_parser.specs.Waits.{outcome_at_misfit, cut_item};
+
+use crate::closed::Closed;
+use crate::context::{Context, Mode};
+use crate::fit::{Fit, fit_of};
+use crate::pending::Pending;
+use cept_codes::{Command, Item, Reason, Said};
+use cept_drcs::Loader;
+
+/// The context, and the bytes that are pending in it.
+#[derive(Drop)]
+pub struct Reader {
+    pub context: Context,
+    pub bytes: Pending,
+    /// Reads the pending bytes where they are those of a pattern.
+    pub loader: Loader,
+    /// They are.
+    pub loading: bool,
+}
+
+impl Reader {
+    /// Reads one byte more after those that are pending at this place, if there are any.
+    #[inline(always)]
+    pub fn read(&mut self, at: u64, byte: u8, closed: &mut Closed)
+        requires waits { IsWaiting self.old (at + length self.old.bytes) }
+        requires few { at + length self.old.bytes < 2 ^ 33 }
+        requires empty { closed.old ≡ [] }
+        ensures items { closed.new
+            ≡ (reading_at self.old.context at (self.old.bytes ++ byte ∷ [])).items }
+        ensures left { HasLeft (reading_at self.old.context at (self.old.bytes ++ byte
+            ∷ [])) self.new }
+    {
+        if self.bytes.is_empty() {
+            self.begin(at, byte, closed);
+        } else if self.loading {
+            self.load(at, byte, closed);
+        } else {
+            self.go_on(at, byte, closed);
+        }
+    }
+
+    /// Reads a byte at this place, where nothing is pending.
+    // In place, since most units are one byte.
+    #[inline(always)]
+    fn begin(&mut self, at: u64, byte: u8, closed: &mut Closed)
+        requires idle { self.old.bytes ≡ [] }
+        requires free { self.old.loading ≡ false }
+        requires form { IsValidForm self.old.context.form }
+        requires room { length closed.old < 2 }
+        ensures items { closed.new
+            ≡ closed.old ++ (reading_at self.old.context at (byte ∷ [])).items }
+        ensures left { HasLeft (reading_at self.old.context at (byte ∷ [])) self.new }
+    {
+        match closed.settle(&mut self.context, &[byte], at) {
+            Fit::Whole => {}
+            Fit::Open => self.bytes.push(byte),
+            Fit::Longer => self.begin_pattern(byte),
+            Fit::Misfit => {}
+        }
+    }
+
+    /// Begins to read a pattern with this byte.
+    #[inline(never)]
+    fn begin_pattern(&mut self, byte: u8)
+        requires idle { self.old.bytes ≡ [] }
+        requires form { IsValidForm self.old.context.form }
+        requires pattern { in_pattern self.old.context (byte ∷ []) ≡ true }
+        ensures context { self.new.context ≡ self.old.context }
+        ensures pending { self.new.bytes ≡ byte ∷ [] }
+        ensures beside { IsBeside self.new.context self.new.bytes self.new.loading self.new.loader }
+    {
+        self.bytes.push(byte);
+        self.loader.restart(self.context.form);
+        self.loader.feed(byte);
+        self.loading = true;
+    }
+
+    /// Reads one byte more after bytes that are pending at this place and are no pattern.
+    #[inline(always)]
+    fn go_on(&mut self, at: u64, byte: u8, closed: &mut Closed)
+        requires waits { IsWaiting self.old (at + length self.old.bytes) }
+        requires some { 1 ≤ length self.old.bytes }
+        requires free { self.old.loading ≡ false }
+        requires few { at + length self.old.bytes < 2 ^ 33 }
+        requires empty { closed.old ≡ [] }
+        ensures items { closed.new
+            ≡ (reading_at self.old.context at (self.old.bytes ++ byte ∷ [])).items }
+        ensures left { HasLeft (reading_at self.old.context at (self.old.bytes ++ byte
+            ∷ [])) self.new }
+    {
+        self.bytes.push(byte);
+        match closed.settle(&mut self.context, self.bytes.as_slice(), at) {
+            Fit::Whole => self.bytes.clear(),
+            Fit::Open => {}
+            Fit::Longer => {}
+            Fit::Misfit => {
+                self.bytes.pop();
+                self.break_off(at, byte, closed);
+            }
+        }
+    }
+
+    /// Closes the bytes that are pending at this place and are no pattern, and reads afresh one
+    /// byte more, which doesn't fit after them.
+    #[inline(never)]
+    fn break_off(&mut self, at: u64, byte: u8, closed: &mut Closed)
+        requires waits { IsWaiting self.old (at + length self.old.bytes) }
+        requires free { self.old.loading ≡ false }
+        requires few { at + length self.old.bytes < 2 ^ 33 }
+        requires misfit { fits self.old.context (self.old.bytes ++ byte ∷ []) ≡ false }
+        requires empty { closed.old ≡ [] }
+        ensures items { closed.new
+            ≡ (reading_at self.old.context at (self.old.bytes ++ byte ∷ [])).items }
+        ensures left { HasLeft (reading_at self.old.context at (self.old.bytes ++ byte
+            ∷ [])) self.new }
+    {
+        let from = at + u64::from(self.bytes.len());
+        closed.cut(&mut self.context, self.bytes.as_slice(), at);
+        self.bytes.clear();
+        self.begin(from, byte, closed);
+    }
+
+    /// Reads one byte more after those of a pattern, which are pending at this place.
+    #[inline(always)]
+    fn load(&mut self, at: u64, byte: u8, closed: &mut Closed)
+        requires waits { IsWaiting self.old (at + length self.old.bytes) }
+        requires loading { self.old.loading ≡ true }
+        requires few { at + length self.old.bytes < 2 ^ 33 }
+        requires empty { closed.old ≡ [] }
+        ensures items { closed.new
+            ≡ (reading_at self.old.context at (self.old.bytes ++ byte ∷ [])).items }
+        ensures left { HasLeft (reading_at self.old.context at (self.old.bytes ++ byte
+            ∷ [])) self.new }
+    {
+        if self.loader.feed(byte) {
+            self.bytes.push(byte);
+            if self.loader.full() {
+                self.close_pattern(at, closed);
+            }
+        } else {
+            self.end_pattern(at, byte, closed);
+        }
+    }
+
+    /// Closes the pattern whose bytes are pending at this place, and reads afresh one byte more,
+    /// which doesn't fit after them.
+    #[inline(never)]
+    fn end_pattern(&mut self, at: u64, byte: u8, closed: &mut Closed)
+        requires waits { IsWaiting self.old (at + length self.old.bytes) }
+        requires loading { self.old.loading ≡ true }
+        requires few { at + length self.old.bytes < 2 ^ 33 }
+        requires misfit { fits self.old.context (self.old.bytes ++ byte ∷ []) ≡ false }
+        requires empty { closed.old ≡ [] }
+        ensures items { closed.new
+            ≡ (reading_at self.old.context at (self.old.bytes ++ byte ∷ [])).items }
+        ensures left { HasLeft (reading_at self.old.context at (self.old.bytes ++ byte
+            ∷ [])) self.new }
+    {
+        let from = at + u64::from(self.bytes.len());
+        self.close_pattern(at, closed);
+        self.begin(from, byte, closed);
+    }
+
+    /// Closes the pattern whose bytes are pending at this place.
+    #[inline(never)]
+    fn close_pattern(&mut self, at: u64, closed: &mut Closed)
+        requires pattern { in_pattern self.old.context self.old.bytes ≡ true }
+        requires beside { IsBeside self.old.context self.old.bytes self.old.loading
+            self.old.loader }
+        requires loading { self.old.loading ≡ true }
+        requires room { length closed.old < 2 }
+        ensures items { closed.new
+            ≡ closed.old ++ cut_item self.old.context at self.old.bytes ∷ [] }
+        ensures context { self.new.context
+            ≡ (outcome_at_misfit self.old.context (unit self.old.context self.old.bytes)).next }
+        ensures pending { self.new.bytes ≡ [] }
+        ensures free { self.new.loading ≡ false }
+    {
+        let code = self.context.code();
+        closed.push(Item {
+            at,
+            len: self.bytes.len(),
+            what: Said::Command(Command::DrcsPattern(code, self.loader.pattern())),
+        });
+        self.context.mode = Mode::DrcsRun(code + 1);
+        self.clear();
+    }
+
+    /// Takes off what is pending.
+    pub fn clear(&mut self)
+        ensures context { self.new.context ≡ self.old.context }
+        ensures pending { self.new.bytes ≡ [] }
+        ensures free { self.new.loading ≡ false }
+    {
+        self.bytes.clear();
+        self.loading = false;
+    }
+
+    /// What the pending bytes say at the end of the input: their command where they are a unit,
+    /// else they are truncated.
+    pub fn said_at_end(&self) -> Said
+        requires form { IsValidForm self.now.context.form }
+        requires beside { IsBeside self.now.context self.now.bytes self.now.loading
+            self.now.loader }
+        requires fits { fits self.now.context self.now.bytes ≡ true }
+        ensures { result ≡ said_at_end (unit self.now.context self.now.bytes) }
+    {
+        if self.loading {
+            let code = self.context.code();
+            return Said::Command(Command::DrcsPattern(code, self.loader.pattern()));
+        }
+        let mut context = self.context;
+        let mut said = Said::Refused(Reason::Truncated);
+        fit_of(&mut context, self.bytes.as_slice(), true, &mut said);
+        said
+    }
+}

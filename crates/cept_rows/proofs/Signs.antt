@@ -1,0 +1,180 @@
+-- Signs: those of the downloaded set are drawn by the pattern of their code, all others as themselves.
+use Rattle.std.proofs.Common.{◌≡◌, ℕ, ◌-◌, ◌≤◌, get_or, ◌&&◌, ◌==◌, Bool, true, false, cond, Option, Some, None, IfSome}
+use Rattle.std.proofs.Common.{List, not, refl}
+use Rattle.std.proofs.Common.{sym, ap, ◌∙◌, subst}
+use Rattle.std.proofs.lemmas.Bool.{cond_both}
+use Rattle.cept_codes.specs.declared.attribute.Full.{Full}
+use Rattle.cept_codes.specs.declared.attribute.Pen.{Pen}
+use Rattle.cept_codes.specs.declared.cell.Cell.{Cell}
+use Rattle.cept_codes.specs.declared.cell.What.{What}
+use Rattle.cept_codes.specs.declared.cell.What.TheVariants as whats
+use Rattle.cept_codes.specs.declared.glyph.Glyph.{Glyph}
+use Rattle.cept_codes.specs.declared.glyph.SetId.{SetId}
+use Rattle.cept_codes.specs.declared.glyph.SetId.TheVariants as sets
+use Rattle.cept_codes.specs.declared.look.Paint.{Paint}
+use Rattle.cept_codes.specs.declared.look.Pattern.{Pattern}
+use Rattle.cept_codes.specs.declared.look.Shape.TheVariants as shapes
+use Rattle.cept_codes.specs.Cell.{IsValidWhat}
+use Rattle.cept_profile.specs.Definitions.{Definitions}
+use Rattle.cept_profile.specs.Look.{attributes_of, look_in_row, look_of, look_with, shape_by_pattern, shape_in}
+use Rattle.cept_profile.specs.Look.{shape_in_set, shape_of}
+use Rattle.cept_profile.specs.Look.{shape_of_sign}
+use Rattle.cept_profile.specs.PageParts.{paint_in, pattern_in}
+use Rattle.cept_profile.specs.Serial.{held_sign, is_holding, is_marker, is_mosaic, is_sized_since, kept_sign, mosaic_of}
+use Rattle.cept_profile.specs.Serial.{nearest_column, row_in, value_found}
+use Rattle.cept_profile.specs.Valid.{AreValidDefinitions}
+use Rattle.cept_profile.proofs.Laws.{IsValidLook-look_of}
+use Rattle.cept_rows.specs.declared.drawing.Drawing.{Drawing}
+use Rattle.cept_rows.specs.declared.small_look.SmallLook.{SmallLook}
+use Rattle.cept_rows.specs.RowsByCell.{is_downloaded, is_set_d, pattern_of_sign}
+use Rattle.cept_rows.specs.SmallLooks.{IsSmallLook, drawing_of, has_pattern, is_drcs, look_kept, no_drawing, sign_of}
+use Rattle.cept_rows.specs.SmallLooks.{small_of}
+use Rattle.cept_rows.proofs.KeptLooks.{kept_is, small_is}
+
+-- ---- signs
+
+in_set_plain : (defined : Definitions) (g : Glyph) (s : SetId)
+    → cond (is_set_d s) (pattern_in defined.patterns g.code) None ≡ None → shape_in_set defined g s ≡ shapes.Char g
+in_set_plain defined g sets.P e = refl
+in_set_plain defined g sets.S e = refl
+in_set_plain defined g sets.M e = refl
+in_set_plain defined g sets.N e = refl
+in_set_plain defined g sets.D e = ap (shape_by_pattern defined g) e
+
+-- a sign without a pattern is drawn as itself
+sign_plain : (defined : Definitions) (g : Glyph) → pattern_of_sign defined.patterns g ≡ None
+    → shape_of_sign defined g ≡ cond (g.code == 0x20 && g.accent == 0) shapes.Space (shapes.Char g)
+sign_plain defined g e =
+    ap (λ s. cond (g.code == 0x20 && g.accent == 0) shapes.Space s) (in_set_plain defined g g.set e)
+
+-- ---- held signs
+
+-- a held sign is a mosaic, and so none of the downloaded set
+mosaic_is_other : (g : Glyph) (s : SetId) → is_mosaic s ≡ true → is_set_d s ≡ false
+mosaic_is_other g sets.P e = refl
+mosaic_is_other g sets.S e = refl
+mosaic_is_other g sets.M e = refl
+mosaic_is_other g sets.N e = refl
+mosaic_is_other g sets.D e = cc
+
+abbrev IsOther : Option Glyph → Type 0
+IsOther o = IfSome o (λ g. is_set_d g.set ≡ false)
+
+mosaic_other : (w : What) → IsOther (mosaic_of w)
+mosaic_other whats.Blank = tt
+mosaic_other (whats.Serial g) =
+    cond_both (is_mosaic g.set) (Some g) None IsOther (λ e. mosaic_is_other g g.set e) (λ e. tt)
+mosaic_other (whats.Parallel g pen) = tt
+mosaic_other (whats.Marker m) = tt
+
+found_other : (f : ℕ → Option Glyph) (o : Option ℕ) → ((d : ℕ) → IsOther (f d)) → IsOther (value_found f o)
+found_other f None each = tt
+found_other f (Some d) each = each d
+
+kept_other : (row : ℕ → What) (c : ℕ) → IsOther (kept_sign row c)
+unfolding kept_sign
+kept_other row c =
+    found_other (λ d. cond (is_sized_since row d c) None (mosaic_of (row d)))
+    (nearest_column (λ d. not (is_marker (row d))) c)
+    (λ d. cond_both (is_sized_since row d c) None (mosaic_of (row d)) IsOther (λ e. tt) (λ e. mosaic_other (row d)))
+
+held_other : (row : ℕ → What) (c : ℕ) → IfSome (held_sign row c) (λ g. is_set_d g.set ≡ false)
+held_other row c =
+    cond_both (is_marker (row c) && is_holding row c) (kept_sign row c) None IsOther (λ e. kept_other row c) (λ e. tt)
+
+-- the same of one that was found
+pub held_found : (cells : List Cell) (helds : List (Option Glyph)) (c : ℕ) (d : Option Glyph) → 1 ≤ c → c ≤ 40
+    → ((c : ℕ) (d : Option Glyph) → 1 ≤ c → c ≤ 40 → get_or helds (c - 1) d ≡ held_sign (row_in cells) c)
+    → IfSome (get_or helds (c - 1) d) (λ g. is_set_d g.set ≡ false)
+held_found cells helds c d low high found =
+    subst IsOther (sym (found c d low high)) (held_other (row_in cells) c)
+
+-- ---- cells
+
+-- a sign of another set has no pattern
+no_pattern : (patterns : List (Option Pattern)) (g : Glyph) → is_set_d g.set ≡ false → pattern_of_sign patterns g ≡ None
+no_pattern patterns g e = ap (λ b. cond b (pattern_in patterns g.code) None) e
+
+drawing_plain : (b : Bool) (g : Glyph) → drawing_of (cond b shapes.Space (shapes.Char g)) ≡ no_drawing
+drawing_plain true g = refl
+drawing_plain false g = refl
+
+drcs_plain : (b : Bool) (g : Glyph) → is_drcs (sign_of (cond b shapes.Space (shapes.Char g))).kind ≡ false
+drcs_plain true g = refl
+drcs_plain false g = refl
+
+-- what stands in a cell and is no sign of the downloaded set is drawn without one
+sign_is_plain : (defined : Definitions) (g : Glyph) → is_set_d g.set ≡ false
+    → is_drcs (sign_of (shape_of_sign defined g)).kind ≡ false
+sign_is_plain defined g other =
+    ap (λ s. is_drcs (sign_of s).kind) (sign_plain defined g (no_pattern defined.patterns g other))
+    ∙ drcs_plain (g.code == 0x20 && g.accent == 0) g
+
+cell_is_plain : (defined : Definitions) (w : What) → is_downloaded w ≡ false
+    → is_drcs (sign_of (shape_of defined w)).kind ≡ false
+cell_is_plain defined whats.Blank other = refl
+cell_is_plain defined (whats.Serial g) other = sign_is_plain defined g other
+cell_is_plain defined (whats.Parallel g pen) other = sign_is_plain defined g other
+cell_is_plain defined (whats.Marker m) other = refl
+
+-- and so is its small look
+pub look_is_plain : (s : SmallLook) (defined : Definitions) (paint_of : ℕ → Paint) (w : What) (full : Full)
+    → s ≡ small_of (look_with paint_of (shape_of defined w) full) → is_downloaded w ≡ false → has_pattern s ≡ false
+look_is_plain s defined paint_of w full e other = ap has_pattern e ∙ cell_is_plain defined w other
+
+pub look_of_is_plain : (s : SmallLook) (defined : Definitions) (row screen : Pen) (w : What)
+    → s ≡ small_of (look_of defined row screen w) → is_downloaded w ≡ false → has_pattern s ≡ false
+unfolding look_of
+look_of_is_plain s defined row screen w e other = ap has_pattern e ∙ cell_is_plain defined w other
+
+-- what a marker holds is drawn without one
+drawing_unheld : (defined : Definitions) (w : What) (held : Option Glyph)
+    → IfSome held (λ g. is_set_d g.set ≡ false)
+    → drawing_of (shape_in defined w held) ≡ drawing_of (shape_of defined w)
+drawing_unheld defined (whats.Marker m) None other = refl
+drawing_unheld defined (whats.Marker m) (Some g) other =
+    ap drawing_of (sign_plain defined g (no_pattern defined.patterns g other))
+    ∙ drawing_plain (g.code == 0x20 && g.accent == 0) g
+drawing_unheld defined whats.Blank held other = refl
+drawing_unheld defined (whats.Serial g) held other = refl
+drawing_unheld defined (whats.Parallel g pen) held other = refl
+
+-- and a marker that holds none is drawn as nothing
+shape_unheld : (defined : Definitions) (w : What) → shape_in defined w None ≡ shape_of defined w
+shape_unheld defined (whats.Marker m) = refl
+shape_unheld defined whats.Blank = refl
+shape_unheld defined (whats.Serial g) = refl
+shape_unheld defined (whats.Parallel g pen) = refl
+
+pub small_of-unheld : (defined : Definitions) (row screen : Pen) (w : What)
+    → small_of (look_with (paint_in defined.paints) (shape_in defined w None) (attributes_of row screen w))
+    ≡ small_of (look_of defined row screen w)
+unfolding look_of
+small_of-unheld defined row screen w =
+    ap (λ s. small_of (look_with (paint_in defined.paints) s (attributes_of row screen w))) (shape_unheld defined w)
+
+-- the drawings of looks
+drawing_of-look_of : (defined : Definitions) (row screen : Pen) (w : What)
+    → drawing_of (shape_of defined w) ≡ drawing_of (look_of defined row screen w).shape
+unfolding look_of
+drawing_of-look_of defined row screen w = refl
+
+pub drawing_of-look_in_row : (defined : Definitions) (row : ℕ → What) (pen screen : Pen) (c : ℕ)
+    → drawing_of (shape_of defined (row c)) ≡ drawing_of (look_in_row defined row pen screen c).shape
+unfolding look_in_row
+drawing_of-look_in_row defined row pen screen c =
+    sym (drawing_unheld defined (row c) (held_sign row c) (held_other row c))
+
+-- what stands in a cell by itself is kept
+pub any_kept : (s : SmallLook) (d : Drawing) (defined : Definitions) (row screen : Pen) (w : What)
+    → s ≡ small_of (look_of defined row screen w) → d ≡ drawing_of (shape_of defined w)
+    → look_kept s d ≡ look_of defined row screen w
+any_kept s d defined row screen w e f =
+    kept_is s d (look_of defined row screen w) e (f ∙ drawing_of-look_of defined row screen w)
+
+pub any_small : (s : SmallLook) (d : Drawing) (defined : Definitions) (row screen : Pen) (w : What)
+    → s ≡ small_of (look_of defined row screen w) → d ≡ drawing_of (shape_of defined w)
+    → AreValidDefinitions defined → IsValidWhat w → IsSmallLook s d
+any_small s d defined row screen w e f are valid =
+    small_is s d (look_of defined row screen w) e (f ∙ drawing_of-look_of defined row screen w)
+    (IsValidLook-look_of defined row screen w are valid)

@@ -1,0 +1,9 @@
+use Rattle.cept_codes.specs.Look.{black_paint}
+use Rattle.cept_codes.specs.Table.{HasMadeEntries}
+use Rattle.cept_profile.specs.PageParts.{dclut_in, paint_in}
+use Rattle.cept_rows.proofs.drawing.inks_of_two_planes.Given as goal
+
+abbrev pub invariant-loop-i : goal.invariant-loop-i
+invariant-loop-i l =
+    HasMadeEntries black_paint 0 16 (λ k. paint_in l.colours.paints (dclut_in l.colours.dclut k)) (λ _. black_paint)
+    l.paints l.i

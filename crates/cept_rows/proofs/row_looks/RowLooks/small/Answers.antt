@@ -1,0 +1,15 @@
+use Rattle.cept_rows.proofs.KeptRows.{columns_of, small_at, valid_at}
+use Rattle.cept_rows.proofs.row_looks.RowLooks.small.Goals as goal
+
+pub returns-clause-look : goal.returns-clause-look
+returns-clause-look c =
+    small_at c.self.inside c.args.self.now c.args.column _ c.self.invariant c.self.view_is c.requires.from_left
+    c.requires.to_right
+
+pub returns-clause-valid : goal.returns-clause-valid
+returns-clause-valid c =
+    valid_at c.self.inside c.args.self.now c.args.column c.self.invariant c.self.view_is c.requires.from_left
+    c.requires.to_right
+
+pub returns-clause-columns : goal.returns-clause-columns
+returns-clause-columns c = columns_of c.self.inside c.args.self.now c.self.view_is
