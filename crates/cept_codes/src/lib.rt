@@ -9,6 +9,7 @@ mod command;
 mod glyph;
 mod item;
 mod law;
+mod line_reason;
 mod look;
 mod memory;
 mod position;
@@ -26,6 +27,7 @@ pub use law::{
     reading_order, strokes_compare_by_their_fields, tables_are_by_place, tables_are_by_row,
     tables_are_made_in_turn,
 };
+pub use line_reason::LineReason;
 pub use look::{Inks, Look, Paint, Part, Pattern, Rgb, Shape};
 pub use memory::NoMemory;
 pub use position::Pos;

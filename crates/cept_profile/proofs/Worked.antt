@@ -109,14 +109,14 @@ down_goes_down = refl
 pub down_wraps : control (Position 24 7 ∷ Down ∷ []) ≡ at_place 1 7
 down_wraps = refl
 
--- a command that isn't built changes nothing, but an accent waits no more
-pub unbuilt_leaves : control (Graphic 0x41 ∷ Cancel ∷ []) ≡ control (Graphic 0x41 ∷ [])
+-- Cancel leaves control as it is, but an accent waits no more
+pub cancel_leaves : control (Graphic 0x41 ∷ Cancel ∷ []) ≡ control (Graphic 0x41 ∷ [])
 unfolding set_of read_as
-unbuilt_leaves = refl
+cancel_leaves = refl
 
-pub unbuilt_drops_the_accent : control (Graphic 0xC8 ∷ Cancel ∷ []) ≡ initial_control
+pub cancel_drops_the_accent : control (Graphic 0xC8 ∷ Cancel ∷ []) ≡ initial_control
 unfolding set_of read_as
-unbuilt_drops_the_accent = refl
+cancel_drops_the_accent = refl
 
 -- ---- accents
 
