@@ -16,7 +16,8 @@ pub use Rattle.cept_profile.proofs.ValidLook.{IsValidLook-look_of, IsValidLook-l
 pub use Rattle.cept_profile.proofs.ValidLook.{AreValidDefinitions-page, IsValidLook-row_from_above}
 -- ---- painting_the_changes, each_command_is_shown
 pub use Rattle.cept_profile.proofs.PaintedPlaces.{grid_with_paints-append}
-pub use Rattle.cept_profile.proofs.ListOfChanges.{grid_with_paints-changes}
+pub use Rattle.cept_profile.proofs.ListOfChanges.{grid_with_paints-changes, changes_between-same}
+pub use Rattle.cept_profile.proofs.ListOfChanges.{grid_with_paints-changes_between}
 -- ---- marked_places_in_order
 pub use Rattle.cept_profile.proofs.MarkedPlaces.{marked_looks_below-none, marked_looks_below-next}
 pub use Rattle.cept_profile.proofs.MarkedPlaces.{marked_looks_below-unmarked, marked_looks_below-rest}
