@@ -148,6 +148,13 @@ impl Grid {
         blank_rows(&mut self.rows);
     }
 
+    /// Takes over all cells of another grid.
+    pub fn copy_from(&mut self, from: &Grid)
+        ensures { self.new ≡ from.now }
+    {
+        self.rows.copy_from_slice(&from.rows);
+    }
+
     /// Moves the rows from the first to the last, `1 <= first <= last <= 24`, one row up or down,
     /// each whole with the protection of its cells. The one that comes free is blank.
     pub fn shift(&mut self, first: u8, last: u8, way: Up)

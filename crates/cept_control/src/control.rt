@@ -67,16 +67,16 @@ impl Control {
         ensures few { length result.items ≤ 128 }
     {
         let mut strokes = ArrayVec::new();
-        self.step_into(command, &mut strokes);
+        self.step_into(&command, &mut strokes);
         strokes
     }
 
     /// The same, with the strokes left in a list of the caller's, which saves the copy of a whole
     /// list.
-    pub fn step_into(&mut self, command: Command, strokes: &mut ArrayVec<Stroke, 128>)
-        requires { IsValidCommand command }
-        ensures state { self.new ≡ control_after self.old command }
-        ensures strokes { strokes.new.items ≡ strokes_of self.old command }
+    pub fn step_into(&mut self, command: &Command, strokes: &mut ArrayVec<Stroke, 128>)
+        requires { IsValidCommand command.now }
+        ensures state { self.new ≡ control_after self.old command.now }
+        ensures strokes { strokes.new.items ≡ strokes_of self.old command.now }
         ensures was_valid { IsValidControl self.old }
         ensures valid { IsValidControl self.new }
         ensures valid_strokes { AllByRecursion IsValidStroke strokes.new.items }
@@ -88,7 +88,7 @@ impl Control {
         } else {
             strokes.clear();
         }
-        self.prepare(&command);
+        self.prepare(command);
         self.take_effect(command, strokes);
     }
 
@@ -150,11 +150,11 @@ impl Control {
     }
 
     /// What the command does, one call for each.
-    fn take_effect(&mut self, command: Command, strokes: &mut ArrayVec<Stroke, 128>)
-        requires valid { IsValidCommand command }
+    fn take_effect(&mut self, command: &Command, strokes: &mut ArrayVec<Stroke, 128>)
+        requires valid { IsValidCommand command.now }
         requires empty { strokes.old.items ≡ [] }
-        ensures state { self.new ≡ control_effect self.old command }
-        ensures strokes { strokes.new.items ≡ strokes_when self.old command }
+        ensures state { self.new ≡ control_effect self.old command.now }
+        ensures strokes { strokes.new.items ≡ strokes_when self.old command.now }
     {
         match command {
             Command::Back => self.back(strokes),
@@ -164,36 +164,36 @@ impl Control {
             Command::Return => self.to_first_column(),
             Command::Home => self.home(),
             Command::Clear => self.clear(strokes),
-            Command::Position(row, column) => self.to_position(row, column),
-            Command::LockLeft(g) => self.lock_left(g),
-            Command::LockRight(g) => self.lock_right(g),
-            Command::Single(g) => self.single(g),
-            Command::Designate(g, set) => self.designate(g, set),
-            Command::Graphic(byte) => self.graphic(byte, strokes),
-            Command::Repeat(count) => self.repeat_last(count, strokes),
+            Command::Position(row, column) => self.to_position(*row, *column),
+            Command::LockLeft(g) => self.lock_left(*g),
+            Command::LockRight(g) => self.lock_right(*g),
+            Command::Single(g) => self.single(*g),
+            Command::Designate(g, set) => self.designate(*g, *set),
+            Command::Graphic(byte) => self.graphic(*byte, strokes),
+            Command::Repeat(count) => self.repeat_last(*count, strokes),
             Command::Cancel => self.cancel(strokes),
-            Command::C1(n) => self.c1_code(n, strokes),
-            Command::FlashMode(mode) => self.flash_mode(mode, strokes),
+            Command::C1(n) => self.c1_code(*n, strokes),
+            Command::FlashMode(mode) => self.flash_mode(*mode, strokes),
             Command::StopConceal => self.stop_conceal(strokes),
-            Command::DesignateC1(set) => self.designate_c1(set),
-            Command::Table(table) => self.colour_table(table),
-            Command::FullScreen(n) => self.full_screen(n, strokes),
-            Command::FullRow(n) => self.full_row(n, strokes),
+            Command::DesignateC1(set) => self.designate_c1(*set),
+            Command::Table(table) => self.colour_table(*table),
+            Command::FullScreen(n) => self.full_screen(*n, strokes),
+            Command::FullRow(n) => self.full_row(*n, strokes),
             Command::ColourDefaults => self.colour_defaults(strokes),
-            Command::Entry(i, colour) => self.colour_entry(i, colour, strokes),
-            Command::Dclut(i, entry) => self.dclut_entry(i, entry, strokes),
-            Command::DrcsHeader(delete, _) => self.drcs_header(delete, strokes),
-            Command::DrcsPattern(code, pattern) => self.drcs_pattern(code, &pattern, strokes),
+            Command::Entry(i, colour) => self.colour_entry(*i, *colour, strokes),
+            Command::Dclut(i, entry) => self.dclut_entry(*i, *entry, strokes),
+            Command::DrcsHeader(delete, _) => self.drcs_header(*delete, strokes),
+            Command::DrcsPattern(code, pattern) => self.drcs_pattern(*code, pattern, strokes),
             Command::ScrollUp => self.scroll(Up::Up, strokes),
             Command::ScrollDown => self.scroll(Up::Down, strokes),
-            Command::Implicit(on) => self.implicit_scrolling(on),
-            Command::Protect(on) => self.protection(on),
-            Command::AreaCreate(first, last) => self.create_area(first, last),
-            Command::AreaDelete(first, last) => self.delete_area(first, last),
-            Command::Format(rows, wrap) => self.format(rows, wrap, strokes),
-            Command::ControlDefaults(set) => self.control_defaults(set),
-            Command::FullDefaults(set) => self.full_defaults(set, strokes),
-            Command::ServiceBreak(row) => self.service_break(row),
+            Command::Implicit(on) => self.implicit_scrolling(*on),
+            Command::Protect(on) => self.protection(*on),
+            Command::AreaCreate(first, last) => self.create_area(*first, *last),
+            Command::AreaDelete(first, last) => self.delete_area(*first, *last),
+            Command::Format(rows, wrap) => self.format(*rows, *wrap, strokes),
+            Command::ControlDefaults(set) => self.control_defaults(*set),
+            Command::FullDefaults(set) => self.full_defaults(*set, strokes),
+            Command::ServiceBreak(row) => self.service_break(*row),
             Command::ServiceEnd => self.service_end(),
             // these leave control as it is
             Command::Nul

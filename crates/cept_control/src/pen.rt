@@ -1,8 +1,8 @@
-ghost use Rattle.std.specs.Prelude.{◌≡◌, ◌≤◌, [], IfSome};
+ghost use Rattle.std.specs.Prelude.{◌≡◌, ◌≤◌, [], true, false, IfSome};
 ghost use Rattle.cept_codes.specs.Attribute.{IsValidAttr, IsValidPen};
-ghost use Rattle.cept_codes.specs.Command.{IsC1};
-ghost use Rattle.cept_profile.specs.Control.{control_effect};
-ghost use Rattle.cept_profile.specs.Strokes.{strokes_when};
+ghost use Rattle.cept_codes.specs.Command.{IsC1, IsValidCommand};
+ghost use Rattle.cept_profile.specs.Control.{control_after, control_effect};
+ghost use Rattle.cept_profile.specs.Strokes.{strokes_of, strokes_when};
 ghost use Rattle.cept_profile.specs.Pens.{attribute_of, fast_after, fast_after_code, fast_before};
 ghost use Rattle.cept_profile.specs.Pens.{fast_flash, flash_of, next_fast, pen_with_any, pen_with};
 
@@ -13,6 +13,26 @@ use cept_codes::{Attr, C1Set, Command, Flash, Marker, Pen, Size, Stroke};
 
 /// What sets attributes: under the parallel set those of the pen, under the serial set markers.
 impl Control {
+    /// Takes a C1 code under the parallel set, which makes no stroke, and answers whether the
+    /// command is one. Any other command is left to `step`.
+    #[inline(always)]
+    pub fn step_attribute(&mut self, command: &Command) -> bool
+        requires { IsValidCommand command.now }
+        ensures state { result ≡ true → self.new ≡ control_after self.old command.now }
+        ensures strokes { result ≡ true → strokes_of self.old command.now ≡ [] }
+        ensures rows { self.new.rows ≡ self.old.rows }
+        ensures left { result ≡ false → self.new ≡ self.old }
+    {
+        match (command, self.working.c1) {
+            (Command::C1(n), C1Set::Parallel) => {
+                self.working.accent = None;
+                self.attribute_code(*n);
+                true
+            }
+            _ => false,
+        }
+    }
+
     pub(crate) fn c1_code(&mut self, n: u8, strokes: &mut ArrayVec<Stroke, 128>)
         requires code { IsC1 n }
         requires empty { strokes.old.items ≡ [] }
@@ -20,13 +40,7 @@ impl Control {
         ensures strokes { strokes.new.items ≡ strokes_when self.old (Command.C1 n) }
     {
         match self.working.c1 {
-            C1Set::Parallel => {
-                self.working.pen = pen_with_any(
-                    attribute_of(self.working.table, n),
-                    self.working.pen,
-                );
-                self.working.fast = fast_after_code(n, self.working.fast);
-            }
+            C1Set::Parallel => self.attribute_code(n),
             C1Set::Serial => {
                 let fast = fast_after_code(n, self.working.fast);
                 if let Some(marker) = marker_of(self.working.table, n) {
@@ -35,6 +49,18 @@ impl Control {
                 self.working.fast = fast;
             }
         }
+    }
+
+    /// A C1 code under the parallel set.
+    fn attribute_code(&mut self, n: u8)
+        requires code { IsC1 n }
+        requires parallel { self.old.working.c1 ≡ C1Set.Parallel }
+        ensures state { self.new ≡ control_effect self.old (Command.C1 n) }
+        ensures strokes { strokes_when self.old (Command.C1 n) ≡ [] }
+    {
+        let attribute = attribute_of(self.working.table, n);
+        set_any(attribute, &mut self.working.pen);
+        self.working.fast = fast_after_code(n, self.working.fast);
     }
 
     pub(crate) fn flash_mode(&mut self, mode: u8, strokes: &mut ArrayVec<Stroke, 128>)
@@ -46,7 +72,7 @@ impl Control {
         match self.working.c1 {
             C1Set::Parallel => {
                 let flash = flash_of(mode, self.working.fast);
-                self.working.pen = pen_with(Attr::Flash(flash), self.working.pen);
+                set(Attr::Flash(flash), &mut self.working.pen);
                 self.working.fast = fast_after(mode, self.working.fast);
             }
             C1Set::Serial => {
@@ -63,7 +89,7 @@ impl Control {
         ensures strokes { strokes.new.items ≡ strokes_when self.old Command.StopConceal }
     {
         match self.working.c1 {
-            C1Set::Parallel => self.working.pen = pen_with(Attr::Conceal(false), self.working.pen),
+            C1Set::Parallel => set(Attr::Conceal(false), &mut self.working.pen),
             C1Set::Serial => self.leave(Marker::Conceal(false), strokes),
         }
     }
@@ -105,27 +131,25 @@ pub(crate) fn attribute_of(table: u8, n: u8) -> Option<Attr>
     }
 }
 
-/// A pen with the attribute set, if there is one.
-fn pen_with_any(attribute: Option<Attr>, pen: Pen) -> Pen
-    requires pen { IsValidPen pen }
+/// Sets an attribute of a pen, if there is one.
+fn set_any(attribute: Option<Attr>, pen: &mut Pen)
+    requires pen { IsValidPen pen.old }
     requires attribute { IfSome attribute IsValidAttr }
-    ensures pen { result ≡ pen_with_any attribute pen }
-    ensures valid { IsValidPen result }
+    ensures pen { pen.new ≡ pen_with_any attribute pen.old }
+    ensures valid { IsValidPen pen.new }
 {
-    match attribute {
-        Some(attribute) => pen_with(attribute, pen),
-        None => pen,
+    if let Some(attribute) = attribute {
+        set(attribute, pen);
     }
 }
 
-/// A pen with the attribute set.
-fn pen_with(attribute: Attr, pen: Pen) -> Pen
-    requires pen { IsValidPen pen }
+/// Sets an attribute of a pen where it stands.
+fn set(attribute: Attr, pen: &mut Pen)
+    requires pen { IsValidPen pen.old }
     requires attribute { IsValidAttr attribute }
-    ensures pen { result ≡ pen_with attribute pen }
-    ensures valid { IsValidPen result }
+    ensures pen { pen.new ≡ pen_with attribute pen.old }
+    ensures valid { IsValidPen pen.new }
 {
-    let mut pen = pen;
     match attribute {
         Attr::Fore(entry) => pen.fore = Some(entry),
         Attr::Back(entry) => pen.back = Some(entry),
@@ -137,7 +161,6 @@ fn pen_with(attribute: Attr, pen: Pen) -> Pen
         Attr::Size(size) => pen.size = Some(size),
         Attr::Invert(on) => pen.invert = Some(on),
     }
-    pen
 }
 
 /// The flash of a flash mode.

@@ -83,6 +83,13 @@ impl Patterns {
         self.patterns[usize::from(code) - 0x21]
     }
 
+    /// Takes over all patterns of another.
+    pub fn copy_from(&mut self, from: &Patterns)
+        ensures { self.new ≡ from.now }
+    {
+        self.patterns.copy_from_slice(&from.patterns);
+    }
+
     /// Takes all patterns away.
     pub fn clear(&mut self)
         ensures { self.new ≡ list_of_patterns (λ _. None) }

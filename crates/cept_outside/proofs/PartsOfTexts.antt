@@ -5,7 +5,7 @@ use Rattle.std.specs.Io.KnownBytes.{append_known, prepend_known}
 use Rattle.std.proofs.Math.Seq.{take-append_seam, drop-append_seam}
 use Rattle.std.proofs.lemmas.List.{drop-drop, take-append-drop}
 use Rattle.std.proofs.lemmas.Option.{same_Some, none-some}
-use Rattle.cept_outside.specs.SinkState.{SinkState, Gains, HasPut}
+use Rattle.cept_outside.specs.SinkState.{SinkState, Gains, HasPut, GainsPart}
 
 -- what is left after what a take moved, and what it moved
 pub left_after : (whole front : List ℕ) (place n : ℕ) (old new : Option (List ℕ)) → length front ≡ n
@@ -72,3 +72,7 @@ HasPut-more a b c first second = record {
   part = first.part ++ second.part;
   gains = Gains-append a b c first.part second.part first.gains second.gains;
 }
+
+-- a part of a text put is some bytes put
+pub HasPut-part : (a b : SinkState) (text : List ℕ) → GainsPart a text b → HasPut a b
+HasPut-part a b text part = record { part = take part.size text; gains = part.gains }

@@ -2,6 +2,7 @@
 use Rattle.std.specs.Prelude.{◌≡◌, ℕ, ◌<◌, ◌≤◌, Bool, true, false, List, [], take, length, Option, Result, OnOk}
 use Rattle.std.specs.Prelude.{OnErr, IfOk}
 use Rattle.std.specs.Io.KnownBytes.{append_known}
+use Rattle.cept_outside.specs.Causes.{HasCause}
 
 -- what a sink means
 pub record SinkState : Type 0 where
@@ -36,3 +37,16 @@ pub record Gains (old : SinkState) (part : List ℕ) (new : SinkState) : Type 0 
 pub record HasPut (old new : SinkState) : Type 0 where
   pub part : List ℕ
   pub gains : Gains old part new
+
+-- a part of a text was put, from its front on, and not the whole
+pub record GainsPart (old : SinkState) (text : List ℕ) (new : SinkState) : Type 0 where
+  pub size : ℕ
+  pub short : size < length text
+  pub gains : Gains old (take size text) new
+
+-- a text was put: the whole of it after a success; after a failure a part, and the failure has a cause
+pub record PutsText {X E : Type 0} (old : SinkState) (text : List ℕ) (result : Result X E) (new : SinkState) : Type 0
+  where
+    pub whole : OnOk result (Gains old text new)
+    pub part : OnErr result (GainsPart old text new)
+    pub cause : HasCause old.faults new.faults result

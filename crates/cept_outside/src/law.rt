@@ -1,7 +1,7 @@
 //! Laws of texts in parts: what is put part by part is put as a whole, and so is what is taken.
 ghost use Rattle.std.specs.Prelude.{◌≡◌, ℕ, ◌+◌, List, [], ◌++◌, take, drop, length, Option, Some};
 ghost use Rattle.std.specs.Io.KnownBytes.{append_known, prepend_known};
-ghost use Rattle.cept_outside.specs.SinkState.{SinkState, Gains, HasPut};
+ghost use Rattle.cept_outside.specs.SinkState.{SinkState, Gains, HasPut, GainsPart};
 
 /// Two texts put one after the other are their joined text put, and no text changes nothing. The
 /// same holds of some text put, whichever, and of the bytes alone, told or not.
@@ -11,6 +11,7 @@ pub fn texts_are_put_in_parts()
         → Gains a (xs ++ ys) c }
     ensures put_nothing { (s : SinkState) → HasPut s s }
     ensures put_more { (a b c : SinkState) → HasPut a b → HasPut b c → HasPut a c }
+    ensures put_part { (a b : SinkState) (text : List ℕ) → GainsPart a text b → HasPut a b }
     ensures no_bytes { (known : Option (List ℕ)) → known ≡ append_known known [] }
     ensures bytes { (known : Option (List ℕ)) (xs ys : List ℕ)
         → append_known (append_known known xs) ys ≡ append_known known (xs ++ ys) }

@@ -15,3 +15,14 @@ pub mod ToldLemmas
 pub mod ClosedLemmas
 pub mod PatternLemmas
 pub mod ReaderLemmas
+pub mod WorkedSpelling
+pub mod EndedUnitLemmas
+pub mod BreakerLemmas
+pub mod SpelledLemmas
+pub mod PatternPixelLemmas
+pub mod WrittenPatternLemmas
+pub mod PatternSpelledLemmas
+pub mod SpellingLemmas
+pub mod SpellingByteLemmas
+pub mod ReadsLemmas
+pub mod TextualLemmas

@@ -1,7 +1,8 @@
 -- What a reader keeps beside the bytes that are pending.
-use Rattle.std.proofs.Common.{◌≡◌, ℕ, ◌+◌, ◌<◌, ◌≤◌, Bool, true, false, not, cond, List, [], ◌∷◌, ◌++◌, length, Option, Some, None}
+use Rattle.std.proofs.Common.{◌≡◌, ℕ, ◌+◌, ◌-◌, ◌<◌, ◌≤◌, Bool, true, false, not, cond, List, [], ◌∷◌, ◌++◌, length, Option, Some, None}
 use Rattle.std.proofs.Common.{refl, sym, ap, ◌∙◌, arith, subst, inl, inr}
 use Rattle.std.proofs.lemmas.Bool.{both_ways, cases_Bool}
+use Rattle.std.proofs.lemmas.List.{length-append}
 use Rattle.cept_drcs.specs.Loading.{Loading, Leads}
 use Rattle.cept_codes.specs.declared.command.Command.TheVariants as command
 use Rattle.cept_codes.specs.declared.item.Item.{Item}
@@ -20,7 +21,7 @@ use Rattle.cept_parser.specs.Fit.{fit, fit_by}
 use Rattle.cept_parser.specs.declared.context.Mode.TheVariants.{DrcsRun}
 use Rattle.cept_parser.specs.Context.{with_mode}
 use Rattle.cept_parser.specs.Runs.{pattern_outcome}
-use Rattle.cept_parser.specs.Waits.{in_pattern, IsBeside, HasLeft, outcome_at_misfit, cut_item}
+use Rattle.cept_parser.specs.Waits.{in_pattern, IsBeside, IsWaiting, HasLeft, outcome_at_misfit, cut_item}
 use Rattle.cept_parser.proofs.GrammarLemmas.{fits_one}
 use Rattle.cept_parser.proofs.OneByteMoreLemmas.{open_by, longer_by, read_as_open, read_as_longer}
 use Rattle.cept_parser.proofs.PatternLemmas.{pattern_run, pattern_more, alone_ends}
@@ -185,3 +186,29 @@ pub none_taken : (x : Context) (p : List ℕ) (c : ℕ) (b : Bool) (l : Loading)
 none_taken x p c b l h t n =
     let some = some_loaded x p b l h t in
     (pattern_run x (p ++ c ∷ []) (pattern_more x p c some ∙ beside_loading x p b l h t)).fits ∙ n
+
+-- a reader waits right after its first place and the bytes that are pending
+pub waiting_from : (s : Reader) (place at : ℕ) → IsWaiting s place → at ≡ place - length s.bytes
+    → IsWaiting s (at + length s.bytes)
+waiting_from s place at w e =
+    let back : place ≡ at + length s.bytes = omega (arith, e, w.waits.counted) in subst (IsWaiting s) back w
+
+-- the place of the first byte stays with one byte more
+pub start_after : (place at : ℕ) (p : List ℕ) (c : ℕ) (u : List ℕ) → length p ≤ place → u ≡ p ++ c ∷ []
+    → at ≡ place + 1 - length u → at ≡ place - length p
+start_after place at p c u l e h = omega (arith, h, ap length e, length-append p (c ∷ []), l)
+
+-- a loader that took one byte more is beside the bytes with it, and says whether these grow
+pub record HasTaken (x : Context) (u : List ℕ) (b : Bool) (l : Loading) (full : Bool) : Type 0 where
+  pub beside : IsBeside x u b l
+  pub says : full ≡ not (unit_grows x.form u)
+
+pub one_taken : (x : Context) (p : List ℕ) (c : ℕ) (b : Bool) (l m : Loading) (full : Bool) → IsBeside x p b l → b ≡ true
+    → Leads x.form (p ++ c ∷ []) m
+    → ((g : Form) (a : ℕ) (u : List ℕ) → Leads g (a ∷ u) m → full ≡ not (unit_grows g (a ∷ u)))
+    → HasTaken x (p ++ c ∷ []) b m full
+one_taken x p c b l m full h t k says =
+    record {
+      beside = loaded_beside x p c (p ++ c ∷ []) b l m h t (some_loaded x p b l h t) refl k;
+      says = full_says x.form p c m full says k;
+    }

@@ -12,3 +12,5 @@ pub mod State
 pub mod Beginning
 pub mod Fit
 pub mod Waits
+pub mod ReadsAs
+pub mod Spelling

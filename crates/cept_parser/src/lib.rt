@@ -14,6 +14,7 @@ mod parser;
 mod pending;
 mod reader;
 mod runs;
+pub mod spelling_laws;
 #[cfg(test)]
 mod sweep;
 #[cfg(test)]

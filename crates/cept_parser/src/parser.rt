@@ -129,9 +129,8 @@ impl Parser {
         ensures valid { AreValid list.new }
         ensures measured { AreMeasured list.new }
     {
-        let at = self.place - u64::from(self.reader.bytes.len());
         list.clear();
-        self.reader.read(at, byte, list);
+        self.reader.read(self.place, byte, list);
         self.place += 1;
     }
 

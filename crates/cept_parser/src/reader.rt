@@ -1,4 +1,4 @@
-ghost use Rattle.std.specs.Prelude.{◌≡◌, ◌≤◌, ◌<◌, ◌+◌, ◌^◌, ◌∷◌, [], ◌++◌, length, true, false};
+ghost use Rattle.std.specs.Prelude.{◌≡◌, ◌≤◌, ◌<◌, ◌+◌, ◌-◌, ◌^◌, ◌∷◌, [], ◌++◌, length, true, false};
 ghost use Rattle.cept_codes.specs.Command.{IsValidForm};
 ghost use Rattle.cept_parser.specs.Grammar.{unit, fits};
 ghost use Rattle.cept_parser.specs.Items.{reading_at, said_at_end};
@@ -24,24 +24,40 @@ pub struct Reader {
 }
 
 impl Reader {
-    /// Reads one byte more after those that are pending at this place, if there are any.
+    /// Reads the byte at this place after those that are pending right before it, if there are any.
+    // Nearly all bytes of a pattern carry pixels: these are read in place.
     #[inline(always)]
-    pub fn read(&mut self, at: u64, byte: u8, closed: &mut Closed)
-        requires waits { IsWaiting self.old (at + length self.old.bytes) }
-        requires few { at + length self.old.bytes < 2 ^ 33 }
+    pub fn read(&mut self, place: u64, byte: u8, closed: &mut Closed)
+        requires waits { IsWaiting self.old place }
+        requires few { place < 2 ^ 33 }
         requires empty { closed.old ≡ [] }
         ensures items { closed.new
-            ≡ (reading_at self.old.context at (self.old.bytes ++ byte ∷ [])).items }
-        ensures left { HasLeft (reading_at self.old.context at (self.old.bytes ++ byte
-            ∷ [])) self.new }
+            ≡ (reading_at self.old.context (place - length self.old.bytes) (self.old.bytes ++ byte
+            ∷ [])).items }
+        ensures left { HasLeft (reading_at self.old.context (place - length self.old.bytes)
+            (self.old.bytes ++ byte ∷ [])) self.new }
     {
-        if self.bytes.is_empty() {
-            self.begin(at, byte, closed);
-        } else if self.loading {
-            self.load(at, byte, closed);
+        if self.loading {
+            match byte {
+                0x40..=0x7F => self.load(place, byte, closed),
+                _ => self.load_other(place, byte, closed),
+            }
+        } else if self.bytes.is_empty() {
+            self.begin(place, byte, closed);
         } else {
+            let at = self.start(place);
             self.go_on(at, byte, closed);
         }
+    }
+
+    /// The place of the first byte that is pending, where the last one stands right before this
+    /// place.
+    #[inline(always)]
+    fn start(&self, place: u64) -> u64
+        requires { length self.now.bytes ≤ place }
+        ensures { result ≡ place - length self.now.bytes }
+    {
+        place - u64::from(self.bytes.len())
     }
 
     /// Reads a byte at this place, where nothing is pending.
@@ -105,12 +121,11 @@ impl Reader {
         }
     }
 
-    /// Closes the bytes that are pending at this place and are no pattern, and reads afresh one
-    /// byte more, which doesn't fit after them.
+    /// Closes what is pending at this place, and reads afresh one byte more, which doesn't fit after
+    /// it.
     #[inline(never)]
     fn break_off(&mut self, at: u64, byte: u8, closed: &mut Closed)
         requires waits { IsWaiting self.old (at + length self.old.bytes) }
-        requires free { self.old.loading ≡ false }
         requires few { at + length self.old.bytes < 2 ^ 33 }
         requires misfit { fits self.old.context (self.old.bytes ++ byte ∷ []) ≡ false }
         requires empty { closed.old ≡ [] }
@@ -120,50 +135,71 @@ impl Reader {
             ∷ [])) self.new }
     {
         let from = at + u64::from(self.bytes.len());
-        closed.cut(&mut self.context, self.bytes.as_slice(), at);
-        self.bytes.clear();
+        self.close(at, closed);
         self.begin(from, byte, closed);
     }
 
-    /// Reads one byte more after those of a pattern, which are pending at this place.
+    /// Closes what is pending at this place, after which the next byte doesn't fit.
+    fn close(&mut self, at: u64, closed: &mut Closed)
+        requires form { IsValidForm self.old.context.form }
+        requires beside { IsBeside self.old.context self.old.bytes self.old.loading
+            self.old.loader }
+        requires fits { fits self.old.context self.old.bytes ≡ true }
+        requires room { length closed.old < 2 }
+        ensures items { closed.new
+            ≡ closed.old ++ cut_item self.old.context at self.old.bytes ∷ [] }
+        ensures context { self.new.context
+            ≡ (outcome_at_misfit self.old.context (unit self.old.context self.old.bytes)).next }
+        ensures pending { self.new.bytes ≡ [] }
+        ensures free { self.new.loading ≡ false }
+    {
+        if self.loading {
+            self.close_pattern(at, closed);
+        } else {
+            closed.cut(&mut self.context, self.bytes.as_slice(), at);
+            self.bytes.clear();
+        }
+    }
+
+    /// Reads the byte at this place after those of a pattern, which are pending right before it.
     #[inline(always)]
-    fn load(&mut self, at: u64, byte: u8, closed: &mut Closed)
-        requires waits { IsWaiting self.old (at + length self.old.bytes) }
+    fn load(&mut self, place: u64, byte: u8, closed: &mut Closed)
+        requires waits { IsWaiting self.old place }
         requires loading { self.old.loading ≡ true }
-        requires few { at + length self.old.bytes < 2 ^ 33 }
+        requires few { place < 2 ^ 33 }
         requires empty { closed.old ≡ [] }
         ensures items { closed.new
-            ≡ (reading_at self.old.context at (self.old.bytes ++ byte ∷ [])).items }
-        ensures left { HasLeft (reading_at self.old.context at (self.old.bytes ++ byte
-            ∷ [])) self.new }
+            ≡ (reading_at self.old.context (place - length self.old.bytes) (self.old.bytes ++ byte
+            ∷ [])).items }
+        ensures left { HasLeft (reading_at self.old.context (place - length self.old.bytes)
+            (self.old.bytes ++ byte ∷ [])) self.new }
     {
         if self.loader.feed(byte) {
             self.bytes.push(byte);
             if self.loader.full() {
+                let at = self.start(place + 1);
                 self.close_pattern(at, closed);
             }
         } else {
-            self.end_pattern(at, byte, closed);
+            let from = self.start(place);
+            self.break_off(from, byte, closed);
         }
     }
 
-    /// Closes the pattern whose bytes are pending at this place, and reads afresh one byte more,
-    /// which doesn't fit after them.
+    /// The same, apart.
     #[inline(never)]
-    fn end_pattern(&mut self, at: u64, byte: u8, closed: &mut Closed)
-        requires waits { IsWaiting self.old (at + length self.old.bytes) }
+    fn load_other(&mut self, place: u64, byte: u8, closed: &mut Closed)
+        requires waits { IsWaiting self.old place }
         requires loading { self.old.loading ≡ true }
-        requires few { at + length self.old.bytes < 2 ^ 33 }
-        requires misfit { fits self.old.context (self.old.bytes ++ byte ∷ []) ≡ false }
+        requires few { place < 2 ^ 33 }
         requires empty { closed.old ≡ [] }
         ensures items { closed.new
-            ≡ (reading_at self.old.context at (self.old.bytes ++ byte ∷ [])).items }
-        ensures left { HasLeft (reading_at self.old.context at (self.old.bytes ++ byte
-            ∷ [])) self.new }
+            ≡ (reading_at self.old.context (place - length self.old.bytes) (self.old.bytes ++ byte
+            ∷ [])).items }
+        ensures left { HasLeft (reading_at self.old.context (place - length self.old.bytes)
+            (self.old.bytes ++ byte ∷ [])) self.new }
     {
-        let from = at + u64::from(self.bytes.len());
-        self.close_pattern(at, closed);
-        self.begin(from, byte, closed);
+        self.load(place, byte, closed);
     }
 
     /// Closes the pattern whose bytes are pending at this place.

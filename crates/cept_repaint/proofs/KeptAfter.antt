@@ -1,5 +1,6 @@
 -- States by their parts, and what is kept of them at the start and after a command.
-use Rattle.std.proofs.Common.{◌≡◌, ℕ, Bool, List, refl, sym, ap, subst, ◌∙◌}
+use Rattle.std.proofs.Common.{◌≡◌, ℕ, Bool, true, false, List, [], refl, sym, ap, subst, ◌∙◌, inl, inr}
+use Rattle.std.proofs.lemmas.Bool.{cases_Bool}
 use Rattle.cept_codes.specs.declared.command.Command.{Command}
 use Rattle.cept_codes.specs.declared.look.Look.{Look}
 use Rattle.cept_codes.specs.declared.stroke.Stroke.{Stroke}
@@ -13,6 +14,7 @@ use Rattle.cept_profile.specs.Strokes.{strokes_of}
 use Rattle.cept_profile.specs.Valid.{IsValidState}
 use Rattle.cept_profile.proofs.Laws.{IsValidState-state_after}
 use Rattle.cept_repaint.specs.Kept.{IsKept, core_on, reached_rows}
+use Rattle.cept_repaint.proofs.OnePlace.{page_after-none}
 use Rattle.cept_repaint.proofs.RowsTouched.{reached-in_reach}
 use Rattle.cept_profile.proofs.Laws.{looks_of-alike}
 
@@ -73,3 +75,29 @@ pub marks-kept : (s t u : State) (was now : List (List Look)) (marks : List Bool
 marks-kept s t u was now marks kept e looks m =
     m ∙ ap (λ (g : List (List Look)). differences g now) (kept ∙ ap (λ (x : State). looks_of (core_of x)) e)
     ∙ ap (differences (looks_of (core_of t))) looks
+
+-- the state after a command without strokes
+pub state_after-still : (p : Page) (c : ControlState) (command : Command) (d : ControlState)
+    → d ≡ control_after c command → strokes_of c command ≡ []
+    → (let s : State = record { page = p; control = d } in s) ≡ state_after (record { page = p; control = c }) command
+state_after-still p c command d e none = state_after-drawn p c command p d [] (sym none) (sym (page_after-none p [] refl)) e
+
+-- the looks stay where the page and the number of its rows do
+pub looks_of-still : (p : Page) (c d : ControlState) → d.rows ≡ c.rows
+    → looks_of (core_of (record { page = p; control = d })) ≡ looks_of (core_of (record { page = p; control = c }))
+looks_of-still p c d e =
+    looks_of-state (record { page = p; control = d }) ∙ ap (λ n. looks_of (core_on p n)) e
+    ∙ sym (looks_of-state (record { page = p; control = c }))
+
+-- what is kept where a command without strokes is taken or not
+pub IsKept-still : {p : Page} {c : ControlState} {kept : List (List Look)}
+    → IsKept (record { page = p; control = c }) kept
+    → (command : Command) → IsValidCommand command → (d : ControlState) (taken : Bool)
+    → (taken ≡ true → d ≡ control_after c command) → (taken ≡ true → strokes_of c command ≡ [])
+    → (taken ≡ false → d ≡ c) → d.rows ≡ c.rows → IsKept (record { page = p; control = d }) kept
+IsKept-still {p} {c} {kept} is command valid d taken after none left rows =
+    elim (cases_Bool taken) [
+      | inl t ↦ IsKept-state_after is command valid p d kept (state_after-still p c command d (after t) (none t))
+          (is.looks ∙ sym (looks_of-still p c d rows))
+      | inr f ↦ subst (λ (e : ControlState). IsKept (record { page = p; control = e }) kept) (sym (left f)) is
+    ]

@@ -8,8 +8,10 @@ pub mod OnePlace
 pub mod PageParts
 pub mod PaintedInOrder
 pub mod Refreshed
+pub mod RestoredRows
 pub mod RowsOfLooks
 pub mod RowsTouched
 pub mod Unmarked
 pub mod ValidGrids
 pub mod WalkedRows
+mod Unchanged

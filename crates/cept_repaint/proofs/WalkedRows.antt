@@ -75,7 +75,7 @@ WalkedTo-kept {xs} {before} {k} {was} {now} {former} {marks} {covered} {start} {
     }
 
 -- the row above this one is that of the core already
-above_is : (k : Core) (was now : List (List Look)) (former marks : List Bool) (row : ℕ) → 1 ≤ row → row ≤ 24
+pub above_is : (k : Core) (was now : List (List Look)) (former marks : List Bool) (row : ℕ) → 1 ≤ row → row ≤ 24
     → IsRefreshed (look k) was now former marks 0 (40 * (row - 1))
     → looks_in now (row - 1) ≡ looks_in (looks_of k) (row - 1)
 above_is k was now former marks row top bottom m =
@@ -90,7 +90,7 @@ above_is k was now former marks row top bottom m =
     ]
 
 -- so what is resolved beneath it is the row of the core
-beneath_is : (k : Core) (above : List Look) (row : ℕ) (last : Bool) → 1 ≤ row → row ≤ 24
+pub beneath_is : (k : Core) (above : List Look) (row : ℕ) (last : Bool) → 1 ≤ row → row ≤ 24
     → above ≡ looks_in (looks_of k) (row - 1) → last ≡ is_last_row k.rows row
     → row_beneath above k.page row last ≡ row_of (look k row)
 beneath_is k above row last top bottom e el =

@@ -12,6 +12,7 @@ use Rattle.cept_codes.specs.Place.{Place, OnScreen, number}
 use Rattle.cept_codes.specs.Same.{same_look}
 use Rattle.cept_codes.specs.Table.{value_at, IsTable}
 use Rattle.cept_profile.specs.Cells.{is_at}
+use Rattle.cept_profile.specs.Control.{ControlState}
 use Rattle.cept_profile.specs.Look.{look, look_in_row, look_of, looks_of, size_in_row}
 use Rattle.cept_profile.specs.PageParts.{row_pen_in}
 use Rattle.cept_profile.specs.Reach.{is_row_touched}
@@ -56,6 +57,10 @@ reached_rows strokes before after was now = count_by (is_reached strokes before 
 -- the looks aren't the same
 unfoldable pub looks_differ : Look → Look → Bool
 looks_differ a b = not (same_look a b)
+
+-- the state with this page and this control
+abbrev pub state_of_parts : Page → ControlState → State
+state_of_parts p c = record { page = p; control = c }
 
 -- the state is valid, and the kept looks are those of its core
 pub record IsKept (s : State) (kept : List (List Look)) : Type 0 where

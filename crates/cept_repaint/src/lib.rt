@@ -11,8 +11,10 @@ mod page_parts;
 mod painting;
 mod reach;
 mod redraw;
+mod redraw_all;
 mod row_flags;
 mod screen;
+mod snapshot;
 mod tape_glass;
 #[cfg(test)]
 mod tests;
@@ -21,4 +23,5 @@ pub use glass::Glass;
 pub use grid_glass::GridGlass;
 pub use marks::Marks;
 pub use screen::Screen;
+pub use snapshot::Snapshot;
 pub use tape_glass::TapeGlass;

@@ -76,6 +76,9 @@ impl Marks {
     pub(crate) fn clear(&mut self)
         ensures { self.new ≡ no_marks }
     {
+        if self.first == self.end {
+            return;
+        }
         unmark_within(&mut self.flags, self.first, self.end);
         self.first = 0;
         self.end = 0;

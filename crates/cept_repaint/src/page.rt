@@ -173,6 +173,19 @@ impl Page {
         is_unflagged(place.row(), &self.marked, &self.sized)
     }
 
+    /// Takes over all of another page.
+    pub(crate) fn copy_from(&mut self, from: &Page)
+        ensures { self.new ≡ from.now }
+    {
+        self.grid.copy_from(&from.grid);
+        self.row_pens = from.row_pens;
+        self.screen_pen = from.screen_pen;
+        self.colours = from.colours;
+        self.patterns.copy_from(&from.patterns);
+        self.marked = from.marked;
+        self.sized = from.sized;
+    }
+
     /// Changes the page as a stroke does.
     fn draw(&mut self, stroke: &Stroke)
         requires { IsValidStroke stroke.now }

@@ -182,7 +182,7 @@ fn refresh_rows<L: Ledger>(
 
 /// Resolves a row beneath the looks kept of the row above, keeps its looks, and marks the places at
 /// which they differ from those before. Answers whether what covers the row below differs.
-fn refresh_row<L: Ledger>(
+pub(crate) fn refresh_row<L: Ledger>(
     page: &Page,
     row: u8,
     last: bool,

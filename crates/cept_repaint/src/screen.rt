@@ -1,4 +1,5 @@
-ghost use Rattle.std.specs.Prelude.{◌≡◌, ◌≤◌, ◌<◌, ◌+◌, List, [], ◌∷◌, ◌++◌, IfOk, IfSome};
+ghost use Rattle.std.specs.Prelude.{◌≡◌, ◌≤◌, ◌<◌, ◌+◌, List, [], ◌∷◌, ◌++◌, true, false};
+ghost use Rattle.std.specs.Prelude.{IfOk, IfSome};
 ghost use Rattle.cept_codes.specs.declared.command.Command.{Command};
 ghost use Rattle.cept_codes.specs.Attribute.{IsEntry, IsRowPen, IsScreenPen};
 ghost use Rattle.cept_codes.specs.Cell.{IsValidCell};
@@ -15,6 +16,7 @@ ghost use Rattle.cept_profile.specs.State.{state, state_after, core_of};
 ghost use Rattle.cept_profile.specs.Valid.{AllValid, IsValidState};
 ghost use Rattle.cept_repaint.specs.GlassState.{Lists};
 ghost use Rattle.cept_repaint.specs.Kept.{cell_at};
+ghost use Rattle.cept_repaint.specs.Marks.{no_marks};
 
 use crate::glass::Glass;
 use crate::kept_rows::KeptRows;
@@ -22,6 +24,8 @@ use crate::marks::Marks;
 use crate::page::Page;
 use crate::painting::paint_marked;
 use crate::redraw::redraw;
+use crate::redraw_all::redraw_all;
+use crate::snapshot::Snapshot;
 use arrayvec::ArrayVec;
 use cept_codes::{Cell, Command, Look, NoMemory, Paint, Pattern, Pen, Pos, Stroke};
 use cept_control::Control;
@@ -92,17 +96,88 @@ impl Screen {
         ensures cost { steps.new ≤ steps.old + rows_in_reach self.old command }
         ensures at_most_24 { steps.new ≤ steps.old + 24 }
     {
+        self.apply_from(&command, glass, marks, steps);
+    }
+
+    /// The same of a command where it stands, which saves its copy.
+    #[inline(always)]
+    pub fn apply_from<G: Glass, L: Ledger>(
+        &mut self,
+        command: &Command,
+        glass: &mut G,
+        marks: &mut Marks,
+        steps: &mut Steps<L>,
+    )
+        requires { IsValidCommand command.now }
+        ensures goes_on { (history : List Command) → AllValid history → self.old ≡ state history
+            → self.new ≡ state (history ++ command.now ∷ []) }
+        ensures after { self.new ≡ state_after self.old command.now }
+        ensures marks { marks.new
+            ≡ differences (looks_of (core_of self.old)) (looks_of (core_of self.new)) }
+        ensures shown { (G.state glass.new).grid ≡ grid_with_paints (G.state glass.old).grid
+            (changes_between (looks_of (core_of self.old)) (looks_of (core_of self.new))) }
+        ensures told { Lists (G.state glass.old).paints
+            (changes_between (looks_of (core_of self.old)) (looks_of (core_of self.new)))
+            (G.state glass.new).paints }
+        ensures cost { steps.new ≤ steps.old + rows_in_reach self.old command.now }
+        ensures at_most_24 { steps.new ≤ steps.old + 24 }
+    {
+        if self.write_attribute(command, marks) {
+            return;
+        }
+        self.write_and_paint(command, glass, marks, steps);
+    }
+
+    /// Takes a command that sets an attribute for the signs after it, if it is known as one: no
+    /// look changes. Else all stays as it is.
+    #[inline(always)]
+    fn write_attribute(&mut self, command: &Command, marks: &mut Marks) -> bool
+        requires { IsValidCommand command.now }
+        ensures after { result ≡ true → self.new ≡ state_after self.old command.now }
+        ensures looks { looks_of (core_of self.new) ≡ looks_of (core_of self.old) }
+        ensures marks { result ≡ true → marks.new ≡ no_marks }
+        ensures left { result ≡ false → self.new ≡ self.old }
+    {
+        if !self.control.step_attribute(command) {
+            return false;
+        }
+        marks.clear();
+        true
+    }
+
+    /// Applies any command.
+    // Apart, since most commands are attributes, which need less.
+    #[inline(never)]
+    fn write_and_paint<G: Glass, L: Ledger>(
+        &mut self,
+        command: &Command,
+        glass: &mut G,
+        marks: &mut Marks,
+        steps: &mut Steps<L>,
+    )
+        requires { IsValidCommand command.now }
+        ensures after { self.new ≡ state_after self.old command.now }
+        ensures marks { marks.new
+            ≡ differences (looks_of (core_of self.old)) (looks_of (core_of self.new)) }
+        ensures shown { (G.state glass.new).grid ≡ grid_with_paints (G.state glass.old).grid
+            (changes_between (looks_of (core_of self.old)) (looks_of (core_of self.new))) }
+        ensures told { Lists (G.state glass.old).paints
+            (changes_between (looks_of (core_of self.old)) (looks_of (core_of self.new)))
+            (G.state glass.new).paints }
+        ensures cost { steps.new ≤ steps.old + rows_in_reach self.old command.now }
+        ensures at_most_24 { steps.new ≤ steps.old + 24 }
+    {
         self.write(command, marks, steps);
         paint_marked(self, glass, marks);
     }
 
     /// Makes the strokes of a command, and marks the places whose look changes.
-    fn write<L: Ledger>(&mut self, command: Command, marks: &mut Marks, steps: &mut Steps<L>)
-        requires { IsValidCommand command }
-        ensures after { self.new ≡ state_after self.old command }
+    fn write<L: Ledger>(&mut self, command: &Command, marks: &mut Marks, steps: &mut Steps<L>)
+        requires { IsValidCommand command.now }
+        ensures after { self.new ≡ state_after self.old command.now }
         ensures marks { marks.new
             ≡ differences (looks_of (core_of self.old)) (looks_of (core_of self.new)) }
-        ensures cost { steps.new ≤ steps.old + rows_in_reach self.old command }
+        ensures cost { steps.new ≤ steps.old + rows_in_reach self.old command.now }
         ensures at_most_24 { steps.new ≤ steps.old + 24 }
     {
         let before = self.control.rows();
@@ -220,5 +295,54 @@ impl Screen {
         ensures implicit { result ≡ self.now.control.implicit }
     {
         self.control.implicit()
+    }
+
+    /// Saves its state.
+    pub fn save(&self, into: &mut Snapshot)
+        ensures { into.new ≡ self.now }
+    {
+        into.copy_from(&self.page, &self.control);
+    }
+
+    /// Brings a saved state back, all of it: marks exactly the places whose look changes, and paints
+    /// each of them once, in reading order, with its new look. Takes no memory.
+    pub fn bring_back<G: Glass, L: Ledger>(
+        &mut self,
+        from: &Snapshot,
+        glass: &mut G,
+        marks: &mut Marks,
+        steps: &mut Steps<L>,
+    )
+        ensures state { self.new ≡ from.now }
+        ensures marks { marks.new
+            ≡ differences (looks_of (core_of self.old)) (looks_of (core_of self.new)) }
+        ensures shown { (G.state glass.new).grid ≡ grid_with_paints (G.state glass.old).grid
+            (changes_between (looks_of (core_of self.old)) (looks_of (core_of self.new))) }
+        ensures told { Lists (G.state glass.old).paints
+            (changes_between (looks_of (core_of self.old)) (looks_of (core_of self.new)))
+            (G.state glass.new).paints }
+        ensures at_most_24 { steps.new ≤ steps.old + 24 }
+    {
+        self.take_over(from, marks, steps);
+        paint_marked(self, glass, marks);
+    }
+
+    /// Takes over a saved state, and marks the places whose look changes.
+    fn take_over<L: Ledger>(&mut self, from: &Snapshot, marks: &mut Marks, steps: &mut Steps<L>)
+        ensures state { self.new ≡ from.now }
+        ensures marks { marks.new
+            ≡ differences (looks_of (core_of self.old)) (looks_of (core_of self.new)) }
+        ensures at_most_24 { steps.new ≤ steps.old + 24 }
+    {
+        from.copy_to(&mut self.page, &mut self.control);
+        let rows = self.control.rows();
+        redraw_all(
+            &self.page,
+            rows,
+            &mut self.rows,
+            &mut self.fresh,
+            marks,
+            steps,
+        );
     }
 }

@@ -1,12 +1,13 @@
 -- A text that is put line by line.
-use Rattle.std.proofs.Common.{◌≡◌, ℕ, ◌+◌, ◌-◌, ◌<◌, ◌≤◌, Bool, false, List, [], ◌∷◌, ◌++◌, length, take, refl, sym}
-use Rattle.std.proofs.Common.{◌∙◌, ap, subst, arith, append_assoc, append-nil, length-append}
+use Rattle.std.proofs.Common.{◌≡◌, ℕ, ◌+◌, ◌-◌, ◌≤◌, Bool, false, List, [], ◌∷◌, ◌++◌, length, take, refl, sym}
+use Rattle.std.proofs.Common.{◌∙◌, ap, subst, arith, append_assoc, append-nil, length-append, Ok, Err}
 use Rattle.std.proofs.Math.Seq.{take-append-add}
 use Rattle.std.proofs.lemmas.List.{take-append-le}
 use Rattle.cept_codes.specs.declared.look.Look.{Look}
 use Rattle.cept_codes.specs.Place.{Place, number, place_of}
 use Rattle.cept_codes.proofs.Laws.{place_of-number, number-lt}
-use Rattle.cept_outside.specs.SinkState.{SinkState, Gains}
+use Rattle.cept_outside.specs.Causes.{Rose, HasCause}
+use Rattle.cept_outside.specs.SinkState.{SinkState, Gains, GainsPart, PutsText}
 use Rattle.cept_outside.proofs.Laws.{Gains-nil, Gains-append}
 use Rattle.cept_profile.specs.Changes.{look_at, marked_looks, marked_looks_below}
 use Rattle.cept_profile.proofs.Laws.{marked_looks_below-whole, marked_looks_below-next, marked_looks_below-unmarked}
@@ -33,18 +34,18 @@ change_lines-append label (x ∷ xs) ys =
 
 -- a part of one line more is a part of the whole text
 pub Gains-part : (s t u : SinkState) (whole done line rest : List ℕ) → whole ≡ (done ++ line) ++ rest
-    → Gains s done t → (n : ℕ) × (n < length line) × Gains t (take n line) u
-    → (n : ℕ) × (n < length whole) × Gains s (take n whole) u
+    → Gains s done t → GainsPart t line u
+    → GainsPart s whole u
 Gains-part s t u whole done line rest is gs part =
-    let n = part.0 in
+    let n = part.size in
     let e : take (length done + n) whole ≡ done ++ take n line =
     ap (take (length done + n)) (is ∙ append_assoc done line rest) ∙ take-append-add done (line ++ rest) n
-    ∙ ap (λ l. done ++ l) (take-append-le n line rest (omega (arith, part.1))) in (
-      length done + n,
-      (let below : length done + n < length whole =
-          omega (arith, part.1, ap length is, length-append (done ++ line) rest, length-append done line) in below),
-      subst (λ (l : List ℕ). Gains s l u) (sym e) (Gains-append s t u done (take n line) gs part.2),
-    )
+    ∙ ap (λ l. done ++ l) (take-append-le n line rest (omega (arith, part.short))) in
+    record {
+      size = length done + n;
+      short = omega (arith, part.short, ap length is, length-append (done ++ line) rest, length-append done line);
+      gains = subst (λ (l : List ℕ). Gains s l u) (sym e) (Gains-append s t u done (take n line) gs part.gains);
+    }
 
 -- the lines up to the first marked place after a bound
 lines-next : (marks : List Bool) (g : List (List Look)) (label from : ℕ) (p : Place) → IsFirstFrom marks from p
@@ -86,9 +87,8 @@ text-goes_on marks g label from p first =
 pub Gains-failed : (s t u : SinkState) (marks : List Bool) (g : List (List Look)) (label from : ℕ) (p : Place)
     (line : List ℕ) → IsFirstFrom marks from p → line ≡ change_line label p (look_at g p)
     → Gains s (change_lines label (marked_looks_below marks g from)) t
-    → (n : ℕ) × (n < length line) × Gains t (take n line) u
-    → (n : ℕ) × (n < length (change_lines label (marked_looks marks g))) × Gains s
-    (take n (change_lines label (marked_looks marks g))) u
+    → GainsPart t line u
+    → GainsPart s (change_lines label (marked_looks marks g)) u
 Gains-failed s t u marks g label from p line first is before part =
     let more = text-goes_on marks g label from p first in
     Gains-part s t u _ (change_lines label (marked_looks_below marks g from)) line more.0
@@ -109,3 +109,25 @@ pub Gains-none : (s : SinkState) (marks : List Bool) (g : List (List Look)) (lab
     → Gains s (change_lines label (marked_looks_below marks g 0)) s
 unfolding marked_looks_below change_lines
 Gains-none s marks g label = Gains-nil s
+
+-- all of a text was put, or a part of it after what was put without a fault
+pub PutsText-whole : {X E : Type 0} {x : X} (s t : SinkState) (text : List ℕ) → Gains s text t → t.faults ≡ s.faults
+    → PutsText {E = E} s text (Ok x) t
+PutsText-whole s t text gains stays = record {
+  whole = gains;
+  part = tt;
+  cause = record { later = omega (arith, stays); failed = tt; stays = stays };
+}
+
+pub PutsText-part : {X Y E : Type 0} {e f : E} (s t u : SinkState) (text : List ℕ) → t.faults ≡ s.faults
+    → GainsPart s text u → HasCause {X = Y} {E = E} t.faults u.faults (Err f)
+    → PutsText {X = X} {E = E} s text (Err e) u
+PutsText-part s t u text stays part cause = record {
+  whole = tt;
+  part = part;
+  cause = record {
+    later = omega (arith, stays, cause.later);
+    failed = subst (λ n. Rose n u.faults) stays cause.failed;
+    stays = tt;
+  };
+}

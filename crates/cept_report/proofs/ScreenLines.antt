@@ -1,12 +1,12 @@
 -- The screen and its cells, piece by piece.
-use Rattle.std.proofs.Common.{◌≡◌, ℕ, ◌+◌, ◌*◌, ◌<◌, List, [], ◌∷◌, ◌++◌, length, take, refl, sym, ◌∙◌, ap, subst}
+use Rattle.std.proofs.Common.{◌≡◌, ℕ, ◌+◌, ◌*◌, ◌<◌, List, [], ◌∷◌, ◌++◌, refl, sym, ◌∙◌, ap, subst}
 use Rattle.std.proofs.Common.{arith, zero-add}
 use Rattle.std.specs.Char.{encode_utf8}
 use Rattle.cept_codes.specs.declared.look.Look.{Look}
 use Rattle.cept_codes.specs.Look.{blank_look}
 use Rattle.cept_codes.specs.Place.{Place, place_of}
 use Rattle.cept_codes.specs.Table.{value_at}
-use Rattle.cept_outside.specs.SinkState.{SinkState, Gains}
+use Rattle.cept_outside.specs.SinkState.{SinkState, Gains, GainsPart}
 use Rattle.cept_profile.specs.Changes.{look_at}
 use Rattle.cept_report.specs.Screen.{look_sign, row_line, screen_text, cell_text, cells_text}
 use Rattle.cept_report.proofs.TextsInPieces.{pieces, pieces-more, Gains-piece, Gains-piece_failed}
@@ -59,10 +59,10 @@ Gains-row s t u g i line is before now = Gains-piece s t u (row_line g) 1 i line
 
 pub Gains-row_failed : (s t u : SinkState) (g : List (List Look)) (i rows : ℕ) (line : List ℕ) → i < rows
     → line ≡ row_line g (i + 1) → Gains s (pieces (row_line g) 1 i) t
-    → (k : ℕ) × (k < length line) × Gains t (take k line) u
-    → (k : ℕ) × (k < length (screen_text g rows)) × Gains s (take k (screen_text g rows)) u
+    → GainsPart t line u
+    → GainsPart s (screen_text g rows) u
 Gains-row_failed s t u g i rows line h is before part =
-    subst (λ (text : List ℕ). (k : ℕ) × (k < length text) × Gains s (take k text) u) (sym (screen_text-is g rows))
+    subst (λ (text : List ℕ). GainsPart s text u) (sym (screen_text-is g rows))
     (Gains-piece_failed s t u (row_line g) 1 i rows line h (next_row g i line is) before part)
 
 pub Gains-screen : (s t : SinkState) (g : List (List Look)) (i rows : ℕ) → i ≡ rows
@@ -73,10 +73,10 @@ Gains-screen s t g i rows e before = subst (λ (text : List ℕ). Gains s text t
 -- a part of the line of a place was put, and all lines
 pub Gains-cell_failed : (s t u : SinkState) (g : List (List Look)) (n rows : ℕ) (line : List ℕ) → n < 40 * rows
     → line ≡ line_at g (0 + n) → Gains s (pieces (line_at g) 0 n) t
-    → (k : ℕ) × (k < length line) × Gains t (take k line) u
-    → (k : ℕ) × (k < length (cells_text g rows)) × Gains s (take k (cells_text g rows)) u
+    → GainsPart t line u
+    → GainsPart s (cells_text g rows) u
 Gains-cell_failed s t u g n rows line h is before part =
-    subst (λ (text : List ℕ). (k : ℕ) × (k < length text) × Gains s (take k text) u) (sym (cells_text-is g rows))
+    subst (λ (text : List ℕ). GainsPart s text u) (sym (cells_text-is g rows))
     (Gains-piece_failed s t u (line_at g) 0 n (40 * rows) line h is before part)
 
 pub Gains-cells : (s t : SinkState) (g : List (List Look)) (n rows : ℕ) → n ≡ 40 * rows

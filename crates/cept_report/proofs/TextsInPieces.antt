@@ -1,8 +1,8 @@
 -- Texts made of a piece for each number, and put piece by piece.
-use Rattle.std.proofs.Common.{◌≡◌, ℕ, ◌+◌, ◌-◌, ◌<◌, zero, suc, List, [], ◌++◌, length, take, refl, sym, ◌∙◌, ap}
+use Rattle.std.proofs.Common.{◌≡◌, ℕ, ◌+◌, ◌-◌, ◌<◌, zero, suc, List, [], ◌++◌, refl, sym, ◌∙◌, ap}
 use Rattle.std.proofs.Common.{subst, arith, append_assoc, append-nil, add-zero, add-one}
 use Rattle.std.specs.List.{flat_map, range_with_len}
-use Rattle.cept_outside.specs.SinkState.{SinkState, Gains}
+use Rattle.cept_outside.specs.SinkState.{SinkState, Gains, GainsPart}
 use Rattle.cept_outside.proofs.Laws.{Gains-nil, Gains-append}
 use Rattle.cept_report.proofs.LinesPut.{Gains-part}
 
@@ -58,8 +58,8 @@ Gains-piece s t u f a n piece is before now =
 
 -- a part of the next piece was put
 pub Gains-piece_failed : (s t u : SinkState) (f : ℕ → List ℕ) (a n m : ℕ) (piece : List ℕ) → n < m
-    → piece ≡ f (a + n) → Gains s (pieces f a n) t → (k : ℕ) × (k < length piece) × Gains t (take k piece) u
-    → (k : ℕ) × (k < length (pieces f a m)) × Gains s (take k (pieces f a m)) u
+    → piece ≡ f (a + n) → Gains s (pieces f a n) t → GainsPart t piece u
+    → GainsPart s (pieces f a m) u
 Gains-piece_failed s t u f a n m piece h is before part =
     let more = pieces-go_on f a n m h in
     Gains-part s t u (pieces f a m) (pieces f a n) piece more.0

@@ -12,6 +12,11 @@ pub const ROOM: usize = 256;
 /// A line while it is made.
 pub type Line = ArrayVec<u8, ROOM>;
 
+/// The hexadecimal digits, in upper case.
+const HEX_DIGITS: [u8; 16] = [
+    b'0', b'1', b'2', b'3', b'4', b'5', b'6', b'7', b'8', b'9', b'A', b'B', b'C', b'D', b'E', b'F',
+];
+
 /// Adds one byte.
 pub fn add_byte(line: &mut Line, byte: u8)
     requires { array_vec_len line.old < 256 }
@@ -52,7 +57,8 @@ pub fn add_small(line: &mut Line, number: u8)
     if number < 10 {
         add_byte(line, b'0' + number);
     } else {
-        add_text(line, &[b'0' + number / 10, b'0' + number % 10]);
+        add_byte(line, b'0' + number / 10);
+        add_byte(line, b'0' + number % 10);
     }
 }
 
@@ -61,11 +67,7 @@ pub fn hex_digit(number: u8) -> u8
     requires { number < 16 }
     ensures { result ≡ hex_digit number }
 {
-    if number < 10 {
-        b'0' + number
-    } else {
-        b'A' - 10 + number
-    }
+    HEX_DIGITS[usize::from(number)]
 }
 
 /// Adds a byte as two hexadecimal digits.
@@ -74,7 +76,8 @@ pub fn add_hex_byte(line: &mut Line, byte: u8)
     ensures text { line.new.items ≡ line.old.items ++ hex_byte byte }
     ensures len { array_vec_len line.new ≡ array_vec_len line.old + 2 }
 {
-    add_text(line, &[hex_digit(byte / 16), hex_digit(byte % 16)]);
+    add_byte(line, hex_digit(byte / 16));
+    add_byte(line, hex_digit(byte % 16));
 }
 
 /// Adds a word as sixteen hexadecimal digits.

@@ -10,36 +10,31 @@ use crate::line::{Line, add_byte, add_number, add_small, add_text};
 use crate::look::add_look;
 use cept_codes::{Look, Pos, Reason};
 
-/// The line of a changed place.
-pub fn change_line(label: u64, at: Pos, look: &Look) -> Line
-    requires { IsValidLook look.now }
-    ensures { result.items ≡ change_line label at look.now }
+/// Adds the line of a changed place.
+pub fn add_change_line(line: &mut Line, label: u64, at: Pos, look: &Look)
+    requires empty { line.old.items ≡ [] }
+    requires valid { IsValidLook look.now }
+    ensures { line.new.items ≡ change_line label at look.now }
 {
-    let mut line = Line::new();
-    add_number(&mut line, label);
-    add_byte(&mut line, b' ');
-    add_small(&mut line, at.row());
-    add_byte(&mut line, b' ');
-    add_small(&mut line, at.col());
-    add_byte(&mut line, b' ');
-    add_look(&mut line, look);
-    add_byte(&mut line, b'\n');
-    line
+    add_number(line, label);
+    add_byte(line, b' ');
+    add_cell_line(line, at, look);
 }
 
-/// The line of a place.
-fn cell_line(at: Pos, look: &Look) -> Line
-    requires { IsValidLook look.now }
-    ensures { result.items ≡ cell_line at look.now }
+/// Adds the line of a place.
+// In place, so that the length of the line is kept at hand.
+#[inline(always)]
+fn add_cell_line(line: &mut Line, at: Pos, look: &Look)
+    requires room { array_vec_len line.old + 228 ≤ 256 }
+    requires valid { IsValidLook look.now }
+    ensures { line.new.items ≡ line.old.items ++ cell_line at look.now }
 {
-    let mut line = Line::new();
-    add_small(&mut line, at.row());
-    add_byte(&mut line, b' ');
-    add_small(&mut line, at.col());
-    add_byte(&mut line, b' ');
-    add_look(&mut line, look);
-    add_byte(&mut line, b'\n');
-    line
+    add_small(line, at.row());
+    add_byte(line, b' ');
+    add_small(line, at.col());
+    add_byte(line, b' ');
+    add_look(line, look);
+    add_byte(line, b'\n');
 }
 
 /// The line of a place, and nothing where its look is blank.
@@ -48,11 +43,11 @@ pub fn cell_text(at: Pos, look: &Look) -> Line
     requires { IsValidLook look.now }
     ensures { result.items ≡ cell_text at look.now }
 {
-    if *look == Look::BLANK {
-        Line::new()
-    } else {
-        cell_line(at, look)
+    let mut line = Line::new();
+    if *look != Look::BLANK {
+        add_cell_line(&mut line, at, look);
     }
+    line
 }
 
 /// The line of the items and the refused ones among them.

@@ -4,7 +4,7 @@ ghost use Rattle.arrayvec.specs.ArrayVec.{array_vec_len};
 ghost use Rattle.cept_codes.specs.Look.{IsValidPaint};
 ghost use Rattle.cept_report.specs.Text.{paint_text};
 
-use crate::line::{Line, add_text, hex_digit};
+use crate::line::{Line, add_byte, add_text, hex_digit};
 use cept_codes::Paint;
 
 /// Adds a paint.
@@ -15,10 +15,12 @@ pub fn add_paint(line: &mut Line, paint: &Paint)
     ensures len { array_vec_len line.new ≡ array_vec_len line.old + 3 }
 {
     match paint {
-        Paint::Ink(ink) => add_text(
-            line,
-            &[hex_digit(ink.r), hex_digit(ink.g), hex_digit(ink.b)],
-        ),
+        Paint::Ink(ink) => {
+            let (red, green, blue) = (hex_digit(ink.r), hex_digit(ink.g), hex_digit(ink.b));
+            add_byte(line, red);
+            add_byte(line, green);
+            add_byte(line, blue);
+        }
         Paint::Video => add_text(line, b"---"),
     }
 }

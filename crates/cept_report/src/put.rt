@@ -1,14 +1,14 @@
-ghost use Rattle.std.specs.Prelude.{◌≡◌, ◌<◌, ◌≤◌, ℕ, length, take, OnOk, OnErr};
+ghost use Rattle.std.specs.Prelude.{◌≤◌};
 ghost use Rattle.cept_codes.specs.Place.{number};
-ghost use Rattle.cept_outside.specs.Causes.{HasCause};
-ghost use Rattle.cept_outside.specs.SinkState.{Gains, HasPut};
-ghost use Rattle.cept_profile.specs.Changes.{marked_looks};
+ghost use Rattle.cept_outside.specs.SinkState.{PutsText};
+ghost use Rattle.cept_profile.specs.Changes.{look_at, marked_looks};
 ghost use Rattle.cept_profile.specs.Look.{looks_of};
 ghost use Rattle.cept_profile.specs.State.{core_of};
 ghost use Rattle.cept_report.specs.Screen.{cells_text, screen_text};
-ghost use Rattle.cept_report.specs.Text.{change_lines, check_line, refusal_line};
+ghost use Rattle.cept_report.specs.Text.{change_line, change_lines, check_line, refusal_line};
 
-use crate::lines::{cell_text, change_line, check_line, refusal_line};
+use crate::line::Line;
+use crate::lines::{add_change_line, cell_text, check_line, refusal_line};
 use crate::signs::row_line;
 use cept_codes::{Pos, Reason};
 use cept_outside::{Sink, WriteFault, put_all};
@@ -22,51 +22,49 @@ pub fn put_refusal<T: Sink>(
     len: u8,
     reason: Reason,
 ) -> Result<(), WriteFault>
-    ensures whole { OnOk result (Gains (T.state sink.old) (refusal_line at len reason)
-        (T.state sink.new)) }
-    ensures part { OnErr result ((n : ℕ) × (n < length (refusal_line at len reason))
-        × Gains (T.state sink.old) (take n (refusal_line at len reason)) (T.state sink.new)) }
-    ensures puts { HasPut (T.state sink.old) (T.state sink.new) }
-    ensures cause { HasCause (T.state sink.old).faults (T.state sink.new).faults result }
+    ensures { PutsText (T.state sink.old) (refusal_line at len reason) result (T.state sink.new) }
 {
     put_all(sink, refusal_line(at, len, reason).as_slice())
 }
 
 /// Puts a line for each marked place in reading order: the label, the place, and its look on the
 /// screen. After `WriteFault` a part of the text was put, from its front on, and not the whole.
+#[inline(never)]
 pub fn put_changes<T: Sink>(
     sink: &mut T,
     label: u64,
     marks: &Marks,
     screen: &Screen,
 ) -> Result<(), WriteFault>
-    ensures whole { let text =
+    ensures { let text =
         change_lines label (marked_looks marks.now (looks_of (core_of screen.now))) in
-        OnOk result (Gains (T.state sink.old) text (T.state sink.new)) }
-    ensures part { let text =
-        change_lines label (marked_looks marks.now (looks_of (core_of screen.now))) in
-        OnErr result ((n : ℕ) × (n < length text)
-        × Gains (T.state sink.old) (take n text) (T.state sink.new)) }
-    ensures puts { HasPut (T.state sink.old) (T.state sink.new) }
-    ensures cause { HasCause (T.state sink.old).faults (T.state sink.new).faults result }
+        PutsText (T.state sink.old) text result (T.state sink.new) }
 {
     let mut from = 0u16;
     while let Some(at) = marks.next_from(from) {
-        put_all(sink, change_line(label, at, &screen.look(at)).as_slice())?;
+        put_change(sink, label, at, screen)?;
         from = at.number() + 1;
     }
     Ok(())
 }
 
+/// Puts the line of a changed place.
+// A call of its own: most commands change no place or one, and without a line its memory needn't be
+// made ready.
+#[inline(never)]
+fn put_change<T: Sink>(sink: &mut T, label: u64, at: Pos, screen: &Screen) -> Result<(), WriteFault>
+    ensures { let text = change_line label at (look_at (looks_of (core_of screen.now)) at) in
+        PutsText (T.state sink.old) text result (T.state sink.new) }
+{
+    let mut line = Line::new();
+    add_change_line(&mut line, label, at, &screen.look(at));
+    put_all(sink, line.as_slice())
+}
+
 /// Puts how many items there are, and how many of them are refused. After `WriteFault` a part of
 /// the line was put, from its front on, and not the whole.
 pub fn put_check<T: Sink>(sink: &mut T, items: u64, refused: u64) -> Result<(), WriteFault>
-    ensures whole { OnOk result (Gains (T.state sink.old) (check_line items refused)
-        (T.state sink.new)) }
-    ensures part { OnErr result ((n : ℕ) × (n < length (check_line items refused))
-        × Gains (T.state sink.old) (take n (check_line items refused)) (T.state sink.new)) }
-    ensures puts { HasPut (T.state sink.old) (T.state sink.new) }
-    ensures cause { HasCause (T.state sink.old).faults (T.state sink.new).faults result }
+    ensures { PutsText (T.state sink.old) (check_line items refused) result (T.state sink.new) }
 {
     put_all(sink, check_line(items, refused).as_slice())
 }
@@ -76,13 +74,8 @@ pub fn put_check<T: Sink>(sink: &mut T, items: u64, refused: u64) -> Result<(), 
 /// the whole.
 pub fn put_screen<T: Sink, G: Glass>(sink: &mut T, glass: &G, rows: u8) -> Result<(), WriteFault>
     requires { rows ≤ 24 }
-    ensures whole { let text = screen_text (G.state glass.now).grid rows in
-        OnOk result (Gains (T.state sink.old) text (T.state sink.new)) }
-    ensures part { let text = screen_text (G.state glass.now).grid rows in
-        OnErr result ((n : ℕ) × (n < length text)
-        × Gains (T.state sink.old) (take n text) (T.state sink.new)) }
-    ensures puts { HasPut (T.state sink.old) (T.state sink.new) }
-    ensures cause { HasCause (T.state sink.old).faults (T.state sink.new).faults result }
+    ensures { let text = screen_text (G.state glass.now).grid rows in
+        PutsText (T.state sink.old) text result (T.state sink.new) }
 {
     for i in 0..rows {
         put_all(sink, row_line(glass, i + 1).as_slice())?;
@@ -95,13 +88,8 @@ pub fn put_screen<T: Sink, G: Glass>(sink: &mut T, glass: &G, rows: u8) -> Resul
 /// from its front on, and not the whole.
 pub fn put_cells<T: Sink, G: Glass>(sink: &mut T, glass: &G, rows: u8) -> Result<(), WriteFault>
     requires { rows ≤ 24 }
-    ensures whole { let text = cells_text (G.state glass.now).grid rows in
-        OnOk result (Gains (T.state sink.old) text (T.state sink.new)) }
-    ensures part { let text = cells_text (G.state glass.now).grid rows in
-        OnErr result ((n : ℕ) × (n < length text)
-        × Gains (T.state sink.old) (take n text) (T.state sink.new)) }
-    ensures puts { HasPut (T.state sink.old) (T.state sink.new) }
-    ensures cause { HasCause (T.state sink.old).faults (T.state sink.new).faults result }
+    ensures { let text = cells_text (G.state glass.now).grid rows in
+        PutsText (T.state sink.old) text result (T.state sink.new) }
 {
     for n in 0..40 * u16::from(rows) {
         let at = Pos::from_number(n).unwrap();

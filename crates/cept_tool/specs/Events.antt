@@ -1,66 +1,77 @@
--- The events of a run: one for each item, with the commands before it and after it. Its text is put and its changes are
--- painted. This project's own.
-use Rattle.std.specs.Prelude.{ℕ, Bool, true, false, List, [], ◌∷◌, ◌++◌, length, count_by, nat_lt, if◌then◌else◌}
+-- The events of a run: one for each item of the page, and one at the end. Each has the commands that were applied before
+-- it and after it, and a text. The texts are put, and the changes from the one to the other are painted. This project's
+-- own.
+use Rattle.std.specs.Prelude.{ℕ, Bool, true, false, List, [], ◌∷◌, ◌++◌, length, map, take, count_by, nat_lt}
+use Rattle.std.specs.Prelude.{if◌then◌else◌}
+use Rattle.std.specs.List.{enumerate_from, flat_map}
 use Rattle.cept_codes.specs.declared.command.Command.{Command}
 use Rattle.cept_codes.specs.declared.item.Item.{Item}
-use Rattle.cept_codes.specs.declared.item.Reason.{Reason}
 use Rattle.cept_codes.specs.declared.item.Said.{Said}
 use Rattle.cept_codes.specs.declared.item.Said.TheVariants as said
 use Rattle.cept_codes.specs.declared.look.Look.{Look}
 use Rattle.cept_codes.specs.Place.{Place}
 use Rattle.cept_parser.specs.Items.{closed_items, commands_of}
-use Rattle.cept_profile.specs.Changes.{changes}
+use Rattle.cept_profile.specs.Changes.{changes_between}
 use Rattle.cept_profile.specs.Control.{control}
 use Rattle.cept_profile.specs.Look.{grid}
 use Rattle.cept_report.specs.Screen.{screen_text, cells_text}
 use Rattle.cept_report.specs.Text.{change_lines, refusal_line, check_line}
+use Rattle.cept_profile.specs.State.{core}
+use Rattle.cept_writer.specs.PageCommands.{page_text}
 use Rattle.cept_tool.specs.declared.words.Action.{Action}
 use Rattle.cept_tool.specs.declared.words.Action.TheVariants as actions
-use Rattle.cept_tool.specs.Words.{is_painting}
+use Rattle.cept_tool.specs.declared.words.Asked.{Asked}
+use Rattle.cept_tool.specs.Words.{asked_of}
 
--- the commands that were applied of these items
-abbrev pub applied_commands : Action → List Item → List Command
-applied_commands action items = if is_painting action then commands_of items else []
+-- the commands that remain before it and after it, and what is put
+pub record Event : Type 0 where
+  pub before : List Command
+  pub after : List Command
+  pub text : List ℕ
 
--- what is reported of the places that a command changes
-abbrev pub lines_text : Action → ℕ → List (Place × Look) → List ℕ
-lines_text actions.Changes place xs = change_lines place xs
-lines_text actions.Check place xs = []
-lines_text actions.Show place xs = []
-lines_text actions.Cells place xs = []
+-- the places whose look it changes, in reading order, each with its look after it
+abbrev pub event_changes : Event → List (Place × Look)
+event_changes e = changes_between (grid e.before) (grid e.after)
 
--- what is reported of a command at this place, after these commands
-abbrev pub command_text : Action → ℕ → List Command → Command → List ℕ
-command_text action place history command = lines_text action place (changes history command)
+-- all texts in order
+unfoldable pub report : List Event → List ℕ
+report events = flat_map (λ e. e.text) events
 
--- what is reported of refused bytes
-abbrev pub refusal_text : Action → ℕ → ℕ → Reason → List ℕ
-refusal_text actions.Changes place size reason = refusal_line place size reason
-refusal_text actions.Check place size reason = refusal_line place size reason
-refusal_text actions.Show place size reason = []
-refusal_text actions.Cells place size reason = []
+-- all changes in order
+unfoldable pub paints : List Event → List (Place × Look)
+paints events = flat_map event_changes events
 
--- what is reported of an item, after these commands
-abbrev pub item_text : Action → List Command → Item → Said → List ℕ
-item_text action history item (said.Command command) = command_text action item.at history command
-item_text action history item (said.Refused reason) = refusal_text action item.at item.len reason
+-- ---- items
 
--- the places that an item changes: a refusal changes none
-abbrev pub item_paints : Action → List Command → Said → List (Place × Look)
-item_paints action history (said.Command command) = if is_painting action then changes history command else []
-item_paints action history (said.Refused reason) = []
+-- the commands that are applied of items
+abbrev pub history : Action → List Item → List Command
+history action items = if (asked_of action).painting then commands_of items else []
 
--- what is reported of items: of each after the commands of those before it
-unfoldable pub items_text : Action → List Item → List Item → List ℕ
-items_text action earlier [] = []
-items_text action earlier (i ∷ is) =
-    item_text action (applied_commands action earlier) i i.what ++ items_text action (earlier ++ i ∷ []) is
+-- what is put of an item that changes these places
+abbrev pub text_of_said : Asked → Item → Said → List (Place × Look) → List ℕ
+text_of_said asked item (said.Command command) changes = if asked.changes then change_lines item.at changes else []
+text_of_said asked item (said.Refused reason) changes =
+    if asked.refusals then refusal_line item.at item.len reason else []
 
--- the places that items change, in order: of each after the commands of those before it
-unfoldable pub items_paints : Action → List Item → List Item → List (Place × Look)
-items_paints action earlier [] = []
-items_paints action earlier (i ∷ is) =
-    item_paints action (applied_commands action earlier) i.what ++ items_paints action (earlier ++ i ∷ []) is
+-- an item that comes with these commands before it and these after it
+abbrev pub event_between : Asked → Item → List Command → List Command → Event
+event_between asked item before after = record {
+  before = before;
+  after = after;
+  text = text_of_said asked item item.what (changes_between (grid before) (grid after));
+}
+
+-- an item that comes after these
+abbrev pub item_event : Action → List Item → Item → Event
+item_event action earlier item =
+    event_between (asked_of action) item (history action earlier) (history action (earlier ++ item ∷ []))
+
+-- each of these items, after those before it
+unfoldable pub item_events : Action → List Item → List Event
+item_events action items =
+    map (λ numbered. item_event action (take numbered.0 items) numbered.1) (enumerate_from 0 items)
+
+-- ---- refusals, and the end
 
 -- it says that bytes are refused
 abbrev pub is_refused : Said → Bool
@@ -77,15 +88,24 @@ has_refusal items = nat_lt 0 (refused_count items)
 
 -- how many rows the page has after the commands
 abbrev pub rows_after : List Command → ℕ
-rows_after history = (control history).rows
+rows_after commands = (control commands).rows
 
--- the text after the last item
-abbrev pub final_text : Action → List Item → List ℕ
-final_text actions.Changes items = []
-final_text actions.Check items = check_line (length items) (refused_count items)
-final_text actions.Show items = screen_text (grid (commands_of items)) (rows_after (commands_of items))
-final_text actions.Cells items = cells_text (grid (commands_of items)) (rows_after (commands_of items))
+-- what is put after these items, where the glass shows this grid
+abbrev pub text_at_end : Action → List (List Look) → List Item → List ℕ
+text_at_end actions.Changes shown items = []
+text_at_end actions.Check shown items = check_line (length items) (refused_count items)
+text_at_end actions.Show shown items = screen_text shown (rows_after (commands_of items))
+text_at_end actions.Cells shown items = cells_text shown (rows_after (commands_of items))
+text_at_end actions.Write shown items = page_text (core (commands_of items))
 
--- the whole report of a page
-abbrev pub report : Action → List ℕ → List ℕ
-report action page = items_text action [] (closed_items page) ++ final_text action (closed_items page)
+-- the end, after these items: it changes nothing
+abbrev pub end_event : Action → List Item → Event
+end_event action items =
+    let commands = history action items in
+    record { before = commands; after = commands; text = text_at_end action (grid commands) items }
+
+-- all events of a page that is read to its end
+abbrev pub page_events : Action → List ℕ → List Event
+page_events action page =
+    let items = closed_items page in
+    item_events action items ++ end_event action items ∷ []

@@ -1,73 +1,89 @@
--- How the reading of a selected page ends, and what is reported of it then. This project's own. Private clauses alone
--- cite this file.
-use Rattle.std.specs.Prelude.{◌≡◌, ℕ, ◌^◌, ◌<◌, ◌≤◌, List, [], length, take, Some, Result, Ok, Err}
+-- How the reading of a selected page ends. The bytes that were read are those of the page, where the shelf tells it. This
+-- project's own. Private clauses alone cite this file.
+use Rattle.std.specs.Prelude.{◌≡◌, ◌⊎◌, ℕ, ◌^◌, ◌<◌, ◌≤◌, Bool, false, List, [], ◌++◌, length, take, Some, Result, Ok}
+use Rattle.std.specs.Prelude.{Err}
+use Rattle.std.specs.Io.KnownBytes.{append_known}
+use Rattle.cept_codes.specs.declared.item.Item.{Item}
 use Rattle.cept_outside.specs.Causes.{Rose}
-use Rattle.cept_outside.specs.ShelfState.{KeepsFiles}
-use Rattle.cept_outside.specs.SinkState.{HasPut}
+use Rattle.cept_outside.specs.ShelfState.{ShelfState, KeepsFiles}
+use Rattle.cept_outside.specs.SinkState.{SinkState, Gains, GainsPart}
 use Rattle.cept_parser.specs.Items.{items, closed_items}
 use Rattle.cept_tool.specs.declared.page.Stop.{Stop}
 use Rattle.cept_tool.specs.declared.page.Stop.TheVariants as stops
 use Rattle.cept_tool.specs.declared.words.Action.{Action}
-use Rattle.cept_tool.specs.Events.{items_text}
-use Rattle.cept_tool.specs.Outside.{Outside, HasReported}
-use Rattle.cept_tool.specs.Progress.{HasBegun}
+use Rattle.cept_tool.specs.Events.{item_events}
+use Rattle.cept_tool.specs.Made.{AreMade, AreCutOff}
+use Rattle.cept_tool.specs.Outside.{Outside, output}
+use Rattle.cept_tool.specs.Reporting.{ReporterState, HasReported}
 
 -- it was read to its end
-pub record PageWhole (action : Action) (before after : Outside) : Type 0 where
-  -- at most 2^24 bytes were taken
+pub record PageWhole (action : Action) (reporter : ReporterState) (before after : Outside) : Type 0 where
+  pub bytes : List ℕ
+  pub known : (page : List ℕ) → before.shelf.left ≡ Some page → bytes ≡ page
+  pub reported : HasReported action reporter (closed_items bytes) (output before) (output after)
+  -- at most 2^24 bytes were taken, and no fault was counted
   pub short : after.shelf.taken ≤ 2 ^ 24
-  -- all of it is reported
-  pub reported : (page : List ℕ) → before.shelf.left ≡ Some page
-      → HasReported action (closed_items page) before after
-  -- no fault was counted
-  pub shelf_stays : after.shelf.faults ≡ before.shelf.faults
-  pub sink_stays : after.sink.faults ≡ before.sink.faults
+  pub stays : after.shelf.faults ≡ before.shelf.faults
 
 -- the shelf failed
 pub record PageUnread (action : Action) (before after : Outside) : Type 0 where
   pub cause : Rose before.shelf.faults after.shelf.faults
-  -- at most 2^24 bytes were taken
+  pub bytes : List ℕ
+  pub known : (page : List ℕ) → before.shelf.left ≡ Some page → bytes ≡ take after.shelf.taken page
+  pub made : AreMade (item_events action (items bytes)) (output before) (output after)
+  pub stays : after.sink.faults ≡ before.sink.faults
+  -- at most 2^24 bytes were taken; where none was, none was read
   pub short : after.shelf.taken ≤ 2 ^ 24
-  -- what was taken before is reported
-  pub reported : (page : List ℕ) → before.shelf.left ≡ Some page
-      → HasReported action (items (take after.shelf.taken page)) before after
-  -- where nothing was taken, nothing was put and nothing painted
-  pub untaken : after.shelf.taken ≡ 0 → (after.sink ≡ before.sink) × (after.glass ≡ before.glass)
+  pub untaken : after.shelf.taken ≡ 0 → bytes ≡ []
 
 -- the sink failed
 pub record PageUnput (action : Action) (before after : Outside) : Type 0 where
-  pub cause : Rose before.sink.faults after.sink.faults
-  -- a beginning of what is reported was put
-  pub begun : (page : List ℕ) → before.shelf.left ≡ Some page
-      → HasBegun (items_text action [] (closed_items page)) before.sink after.sink
+  pub items : List Item
+  pub known : (page : List ℕ) → before.shelf.left ≡ Some page → (others : List Item)
+      × (closed_items page ≡ items ++ others)
+  pub cut : AreCutOff (item_events action items) (output before) (output after)
 
 -- it has more than 2^24 bytes
 pub record PageTooLong (action : Action) (before after : Outside) : Type 0 where
   pub cause : 2 ^ 24 < after.shelf.taken
-  pub longer : (page : List ℕ) → before.shelf.left ≡ Some page → 2 ^ 24 < length page
-  -- exactly the first 2^24 bytes are reported
-  pub reported : (page : List ℕ) → before.shelf.left ≡ Some page
-      → HasReported action (items (take (2 ^ 24) page)) before after
+  pub bytes : List ℕ
+  pub known : (page : List ℕ) → before.shelf.left ≡ Some page → (2 ^ 24 < length page) × (bytes ≡ take (2 ^ 24) page)
+  pub made : AreMade (item_events action (items bytes)) (output before) (output after)
   -- no fault was counted
   pub shelf_stays : after.shelf.faults ≡ before.shelf.faults
   pub sink_stays : after.sink.faults ≡ before.sink.faults
 
 -- it wasn't read to its end, for this reason
-abbrev pub PageStops : Action → Outside → Outside → Stop → Type 0
-PageStops action before after stops.ReadFault = PageUnread action before after
-PageStops action before after stops.WriteFault = PageUnput action before after
-PageStops action before after stops.TooLong = PageTooLong action before after
+abbrev pub PageStops : Action → Outside → Stop → Outside → Type 0
+PageStops action before stops.ReadFault after = PageUnread action before after
+PageStops action before stops.WriteFault after = PageUnput action before after
+PageStops action before stops.TooLong after = PageTooLong action before after
 
 -- how its reading ends
-abbrev pub PageEnds : {X : Type 0} → Action → Outside → Outside → Result X Stop → Type 0
-PageEnds action before after (Ok _) = PageWhole action before after
-PageEnds action before after (Err stop) = PageStops action before after stop
+abbrev pub PageEnds : {X : Type 0} → Action → Outside → Result X Stop → ReporterState → Outside → Type 0
+PageEnds action before (Ok _) reporter after = PageWhole action reporter before after
+PageEnds action before (Err stop) reporter after = PageStops action before stop after
 
--- however it ends, the files and the selection stay, no count of faults falls, and some bytes were put at most
-pub record ReadsOn (before after : Outside) : Type 0 where
-  pub files : KeepsFiles before.shelf after.shelf
-  pub selected : after.shelf.selected ≡ before.shelf.selected
-  pub missed : after.shelf.missed ≡ before.shelf.missed
-  pub shelf_faults : before.shelf.faults ≤ after.shelf.faults
-  pub sink_faults : before.sink.faults ≤ after.sink.faults
-  pub puts : HasPut before.sink after.sink
+-- however it ends, the files and the selection stay, and no count of faults falls
+pub record KeepsShelf (before after : ShelfState) : Type 0 where
+  pub files : KeepsFiles before after
+  pub selected : after.selected ≡ before.selected
+  pub missed : after.missed ≡ before.missed
+  pub faults : before.faults ≤ after.faults
+
+-- a text was put whole and flushed
+pub record PutsWhole (text : List ℕ) (before after : SinkState) : Type 0 where
+  pub put : after.bytes ≡ append_known before.bytes text
+  pub flushed : after.unflushed ≡ false
+  pub stays : after.faults ≡ before.faults
+
+-- a text was put, whole or a part of it, and the sink failed
+pub record PutsUnflushed (text : List ℕ) (before after : SinkState) : Type 0 where
+  pub cause : Rose before.faults after.faults
+  pub later : before.faults ≤ after.faults
+  pub put : GainsPart before text after ⊎ Gains before text after
+
+-- the text at the end was put whole and flushed, and this says whether an item was refused; or the sink failed
+abbrev pub PutsEnd : List ℕ → Bool → SinkState → Result Bool Stop → SinkState → Type 0
+PutsEnd text refused before (Ok answer) after = PutsWhole text before after × (answer ≡ refused)
+PutsEnd text refused before (Err stop) after = PutsUnflushed text before after × (stop ≡ stops.WriteFault)

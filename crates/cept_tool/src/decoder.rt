@@ -1,12 +1,13 @@
-ghost use Rattle.std.specs.Prelude.{◌≡◌, ◌+◌, ◌*◌, ◌^◌, ◌<◌, ◌≤◌, ◌∷◌, [], ◌++◌, ℕ, List};
-ghost use Rattle.std.specs.Prelude.{IfOk, OnOk, OnErr, IsOk, None, false, length};
-ghost use Rattle.cept_outside.specs.Causes.{HasCause};
-ghost use Rattle.cept_outside.specs.SinkState.{SinkState, HasPut};
-ghost use Rattle.cept_parser.specs.Items.{items, closed_items};
-ghost use Rattle.cept_repaint.specs.GlassState.{GlassState};
-ghost use Rattle.cept_tool.specs.Events.{items_text};
+//! Reads a page of bytes, and has its items reported. It knows no words and no files.
 
-use crate::desk::Desk;
+ghost use Rattle.std.specs.Prelude.{◌≡◌, ◌+◌, ◌*◌, ◌^◌, ◌<◌, ◌≤◌, ◌∷◌, [], List};
+ghost use Rattle.std.specs.Prelude.{IfOk, IsOk, false, length, if◌then◌else◌, nat_lt};
+ghost use Rattle.cept_codes.specs.declared.item.Item.{Item};
+ghost use Rattle.cept_outside.specs.SinkState.{PutsText};
+ghost use Rattle.cept_tool.specs.Events.{text_at_end};
+ghost use Rattle.cept_tool.specs.Made.{Output, output_of};
+
+use crate::reporter::Reporter;
 use crate::words::Action;
 use cept_codes::NoMemory;
 use cept_outside::{Sink, Steps, WriteFault};
@@ -14,29 +15,42 @@ use cept_parser::laws::reading_goes_on;
 use cept_parser::{Closed, Parser};
 use cept_repaint::Glass;
 use std::alloc::Global;
+use std::marker::Model;
 use std::sync::ledger::Ledger;
 
-/// What reads a page: the parser of its bytes, and the desk that its items go to.
+/// What reads a page: the parser of its bytes, and the reporter of its items.
 #[derive(Drop)]
 pub struct Decoder {
-    pub parser: Parser,
-    pub desk: Desk,
+    parser: Parser,
+    reporter: Reporter,
+}
+
+impl Model for Decoder {
+    ghost use Rattle.std.specs.Prelude.{◌≤◌, ◌+◌, ◌*◌, if◌then◌else◌};
+    ghost use Rattle.cept_tool.specs.Reporting.{DecoderState};
+
+    ghost Value = { DecoderState };
+
+    ghost view = { λ d. record { parser = d.parser; reporter = d.reporter } };
+
+    // A byte closes two items at most, and so does the end.
+    ghost invariant = { λ d. d.reporter.items
+        ≤ 2 * d.parser.place + (if d.parser.finished then 2 else 0) };
 }
 
 impl Decoder {
-    ghost use Rattle.cept_tool.specs.Progress.{Stands, HasRead, ReportsItems, HasBegun};
+    ghost use Rattle.cept_tool.specs.declared.words.Action.{Action};
+    ghost use Rattle.cept_tool.specs.Reporting.{Stands, HasRead, ReadsOn, ReadsToEnd};
 
     /// A decoder before the first byte.
     pub fn new(alloc: Global, action: Action) -> Result<Decoder, NoMemory>
-        ensures read { IfOk result (λ decoder. HasRead decoder []) }
-        ensures action { IfOk result (λ decoder. decoder.desk.action ≡ action) }
-        ensures counts { IfOk result (λ decoder. (decoder.desk.items ≡ 0)
-            × (decoder.desk.refused ≡ 0)) }
+        ensures read { IfOk result (λ decoder. (start : Output)
+            → HasRead action decoder [] start start) }
         ensures memory { action ≡ Action.Check → IsOk result }
     {
         Ok(Decoder {
             parser: Parser::new(),
-            desk: Desk::new(alloc, action)?,
+            reporter: Reporter::new(alloc, action)?,
         })
     }
 
@@ -51,34 +65,12 @@ impl Decoder {
     ) -> Result<(), WriteFault>
         requires running { self.old.parser.finished ≡ false }
         requires few { self.old.parser.place < 2 ^ 32 }
-        requires few_items { (self.old.desk.items + 2 < 2 ^ 64)
-            × (self.old.desk.refused + 2 < 2 ^ 64) }
-        ensures place { (self.new.parser.place ≡ self.old.parser.place + 1)
-            × (self.new.parser.finished ≡ false) }
-        ensures counts { OnOk result ((self.new.desk.items ≤ self.old.desk.items + 2)
-            × (self.new.desk.refused ≤ self.old.desk.refused + 2)) }
-        ensures action { self.new.desk.action ≡ self.old.desk.action }
-        ensures read { OnOk result ((bytes : List ℕ) → HasRead self.old bytes
-            → HasRead self.new (bytes ++ byte ∷ [])) }
-        ensures reported { OnOk result ((bytes : List ℕ) (before : SinkState) (shown : GlassState)
-            → HasRead self.old bytes
-            → ReportsItems self.old.desk.action (items bytes) before (T.state sink.old) shown
-            (G.state glass.old)
-            → ReportsItems self.old.desk.action (items (bytes ++ byte ∷ []))
-            before (T.state sink.new) shown (G.state glass.new)) }
-        ensures idle { self.old.desk.easel ≡ None → (self.new.desk.easel ≡ None)
-            × (G.state glass.new ≡ G.state glass.old) }
-        ensures begun { OnErr result ((bytes : List ℕ) (before : SinkState) (shown : GlassState)
-            → HasRead self.old bytes
-            → ReportsItems self.old.desk.action (items bytes) before (T.state sink.old) shown
-            (G.state glass.old)
-            → HasBegun (items_text self.old.desk.action [] (items (bytes ++ byte ∷ []))) before
-            (T.state sink.new)) }
-        ensures puts { HasPut (T.state sink.old) (T.state sink.new) }
-        ensures cause { HasCause (T.state sink.old).faults (T.state sink.new).faults result }
+        ensures { ReadsOn self.old (byte ∷ [])
+            (output_of (T.state sink.old) (G.state glass.old)) result self.new
+            (output_of (T.state sink.new) (G.state glass.new)) }
     {
         self.parser.push_into(byte, closed);
-        self.desk
+        self.reporter
             .report_items(closed.as_slice(), sink, glass, steps)
     }
 
@@ -92,33 +84,9 @@ impl Decoder {
     ) -> Result<(), WriteFault>
         requires running { self.old.parser.finished ≡ false }
         requires few { self.old.parser.place + length piece.now < 2 ^ 32 }
-        requires few_items { (self.old.desk.items + 2 * length piece.now < 2 ^ 64)
-            × (self.old.desk.refused + 2 * length piece.now < 2 ^ 64) }
-        ensures place { OnOk result ((self.new.parser.place
-            ≡ self.old.parser.place + length piece.now)
-            × (self.new.parser.finished ≡ false)) }
-        ensures counts { OnOk result
-            ((self.new.desk.items ≤ self.old.desk.items + 2 * length piece.now)
-            × (self.new.desk.refused ≤ self.old.desk.refused + 2 * length piece.now)) }
-        ensures action { self.new.desk.action ≡ self.old.desk.action }
-        ensures read { OnOk result ((bytes : List ℕ) → HasRead self.old bytes
-            → HasRead self.new (bytes ++ piece.now)) }
-        ensures reported { OnOk result ((bytes : List ℕ) (before : SinkState) (shown : GlassState)
-            → HasRead self.old bytes
-            → ReportsItems self.old.desk.action (items bytes) before (T.state sink.old) shown
-            (G.state glass.old)
-            → ReportsItems self.old.desk.action (items (bytes ++ piece.now))
-            before (T.state sink.new) shown (G.state glass.new)) }
-        ensures idle { self.old.desk.easel ≡ None → (self.new.desk.easel ≡ None)
-            × (G.state glass.new ≡ G.state glass.old) }
-        ensures begun { OnErr result ((bytes : List ℕ) (before : SinkState) (shown : GlassState)
-            → HasRead self.old bytes
-            → ReportsItems self.old.desk.action (items bytes) before (T.state sink.old) shown
-            (G.state glass.old)
-            → HasBegun (items_text self.old.desk.action [] (items (bytes ++ piece.now))) before
-            (T.state sink.new)) }
-        ensures puts { HasPut (T.state sink.old) (T.state sink.new) }
-        ensures cause { HasCause (T.state sink.old).faults (T.state sink.new).faults result }
+        ensures { ReadsOn self.old piece.now
+            (output_of (T.state sink.old) (G.state glass.old)) result self.new
+            (output_of (T.state sink.new) (G.state glass.new)) }
     {
         // A law: the items of more bytes are those of the first, and then others.
         reading_goes_on();
@@ -137,29 +105,29 @@ impl Decoder {
         steps: &mut Steps<L>,
     ) -> Result<(), WriteFault>
         requires running { self.old.parser.finished ≡ false }
-        requires few_items { (self.old.desk.items + 2 < 2 ^ 64)
-            × (self.old.desk.refused + 2 < 2 ^ 64) }
-        ensures action { self.new.desk.action ≡ self.old.desk.action }
-        ensures stands { OnOk result ((bytes : List ℕ) → HasRead self.old bytes
-            → Stands self.new.desk (closed_items bytes)) }
-        ensures reported { OnOk result ((bytes : List ℕ) (before : SinkState) (shown : GlassState)
-            → HasRead self.old bytes
-            → ReportsItems self.old.desk.action (items bytes) before (T.state sink.old) shown
-            (G.state glass.old)
-            → ReportsItems self.old.desk.action (closed_items bytes)
-            before (T.state sink.new) shown (G.state glass.new)) }
-        ensures idle { self.old.desk.easel ≡ None → (self.new.desk.easel ≡ None)
-            × (G.state glass.new ≡ G.state glass.old) }
-        ensures begun { OnErr result ((bytes : List ℕ) (before : SinkState) (shown : GlassState)
-            → HasRead self.old bytes
-            → ReportsItems self.old.desk.action (items bytes) before (T.state sink.old) shown
-            (G.state glass.old)
-            → HasBegun (items_text self.old.desk.action [] (closed_items bytes)) before
-            (T.state sink.new)) }
-        ensures puts { HasPut (T.state sink.old) (T.state sink.new) }
-        ensures cause { HasCause (T.state sink.old).faults (T.state sink.new).faults result }
+        requires few { self.old.parser.place < 2 ^ 32 }
+        ensures { ReadsToEnd self.old
+            (output_of (T.state sink.old) (G.state glass.old)) result self.new
+            (output_of (T.state sink.new) (G.state glass.new)) }
     {
         let items = self.parser.finish();
-        self.desk.report_items(items.as_slice(), sink, glass, steps)
+        self.reporter
+            .report_items(items.as_slice(), sink, glass, steps)
+    }
+
+    /// Puts the text at the end, after these items.
+    pub fn put_end<T: Sink, G: Glass>(&self, sink: &mut T, glass: &G) -> Result<(), WriteFault>
+        ensures { (action : Action) (items : List Item) → Stands action self.now.reporter items
+            → PutsText (T.state sink.old) (text_at_end action (G.state glass.now).grid items) result
+            (T.state sink.new) }
+    {
+        self.reporter.put_end(sink, glass)
+    }
+
+    /// Whether an item was refused.
+    pub fn has_refusal(&self) -> bool
+        ensures { result ≡ nat_lt 0 self.now.reporter.refused }
+    {
+        self.reporter.has_refusal()
     }
 }

@@ -1,40 +1,45 @@
 //! Laws of the report. The functions do nothing: their contracts are the laws.
 
-ghost use Rattle.std.specs.Prelude.{◌≡◌, ◌^◌, ℕ, List, [], ◌∷◌, ◌++◌, Some, take};
+ghost use Rattle.std.specs.Prelude.{◌≡◌, ◌^◌, ℕ, List, [], ◌∷◌, ◌++◌, Some, take, true, false};
+ghost use Rattle.cept_codes.specs.declared.command.Command.{Command};
 ghost use Rattle.cept_codes.specs.declared.item.Item.{Item};
-ghost use Rattle.cept_outside.specs.ShelfState.{Holds, IsSound};
+ghost use Rattle.cept_codes.specs.declared.item.Reason.{Reason};
+ghost use Rattle.cept_codes.specs.declared.item.Said.TheVariants as said;
+ghost use Rattle.cept_outside.specs.ShelfState.{IsSound};
 ghost use Rattle.cept_parser.specs.Items.{items};
-ghost use Rattle.cept_profile.specs.Changes.{grid_with_paints};
+ghost use Rattle.cept_profile.specs.Changes.{changes, grid_with_paints};
 ghost use Rattle.cept_profile.specs.Look.{grid};
 ghost use Rattle.cept_tool.specs.declared.run.Status.TheVariants as statuses;
 ghost use Rattle.cept_tool.specs.declared.words.Action.{Action};
-ghost use Rattle.cept_tool.specs.Events.{applied_commands, item_paints, item_text, items_paints};
-ghost use Rattle.cept_tool.specs.Events.{items_text};
-ghost use Rattle.cept_tool.specs.Outside.{Outside, HasReported};
+ghost use Rattle.cept_tool.specs.Events.{event_changes, paints, history, item_event, item_events};
+ghost use Rattle.cept_tool.specs.Outside.{Outside, ReportsItems};
 ghost use Rattle.cept_tool.specs.Run.{Runs};
-ghost use Rattle.cept_tool.specs.Words.{Request, request_of};
+ghost use Rattle.cept_tool.specs.Words.{Request, Asks, asked_of};
 
-/// What is reported and painted of some items and one more is that of the items and then that of
-/// the one, as it is after the commands of all items before it. Of no items nothing is reported or
-/// painted.
+/// The events of some items and one more are those of the items and then that of the one, as it is
+/// after them. A command that is applied comes after the commands before it, and changes what it
+/// changes after these; a refused item, and any item of a page that is checked, changes nothing.
 pub fn each_item_after_those_before_it()
-    ensures nothing_reported { (action : Action) → items_text action [] [] ≡ [] }
-    ensures reported { (action : Action) (items : List Item) (item : Item)
-        → items_text action [] (items ++ item ∷ [])
-        ≡ items_text action [] items
-        ++ item_text action (applied_commands action items) item item.what }
-    ensures nothing_painted { (action : Action) → items_paints action [] [] ≡ [] }
-    ensures painted { (action : Action) (items : List Item) (item : Item)
-        → items_paints action [] (items ++ item ∷ [])
-        ≡ items_paints action [] items
-        ++ item_paints action (applied_commands action items) item.what }
+    ensures none { (action : Action) → item_events action [] ≡ [] }
+    ensures more { (action : Action) (items : List Item) (item : Item)
+        → item_events action (items ++ item ∷ [])
+        ≡ item_events action items ++ item_event action items item ∷ [] }
+    ensures applied { (action : Action) (items : List Item) (item : Item) (command : Command)
+        → (asked_of action).painting ≡ true → item.what ≡ said.Command command
+        → event_changes (item_event action items item)
+        ≡ changes (history action items) command }
+    ensures refused { (action : Action) (items : List Item) (item : Item) (reason : Reason)
+        → item.what ≡ said.Refused reason → event_changes (item_event action items item) ≡ [] }
+    ensures checked { (action : Action) (items : List Item) (item : Item)
+        → (asked_of action).painting ≡ false
+        → event_changes (item_event action items item) ≡ [] }
 {}
 
 /// A blank glass with the paints of items over it shows their meaning.
 pub fn a_blank_glass_shows_the_meaning()
     ensures { (action : Action) (items : List Item)
-        → grid_with_paints (grid []) (items_paints action [] items)
-        ≡ grid (applied_commands action items) }
+        → grid_with_paints (grid []) (paints (item_events action items))
+        ≡ grid (history action items) }
 {}
 
 /// A known page that can't be read on, or is too long, is reported as far as it was taken, whether
@@ -43,11 +48,11 @@ pub fn a_known_page_is_reported_as_far_as_taken()
     ensures read_fault { (words : List (List ℕ)) (request : Request) (page : List ℕ)
         (before after : Outside)
         → IsSound before.shelf → IsSound after.shelf → Runs words before after statuses.ReadFault
-        → request_of words ≡ Some request → Holds before.shelf request.page page
-        → HasReported request.action (items (take after.shelf.taken page)) before after }
+        → Asks words before.shelf request page
+        → ReportsItems request.action (items (take after.shelf.taken page)) before after }
     ensures too_long { (words : List (List ℕ)) (request : Request) (page : List ℕ)
         (before after : Outside)
         → IsSound before.shelf → IsSound after.shelf → Runs words before after statuses.TooLong
-        → request_of words ≡ Some request → Holds before.shelf request.page page
-        → HasReported request.action (items (take (2 ^ 24) page)) before after }
+        → Asks words before.shelf request page
+        → ReportsItems request.action (items (take (2 ^ 24) page)) before after }
 {}

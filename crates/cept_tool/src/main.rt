@@ -3,10 +3,9 @@
 #![tactic(auto)]
 
 mod decoder;
-mod desk;
-mod easel;
 mod laws;
 mod page;
+mod reporter;
 mod run;
 #[cfg(test)]
 mod tests;

@@ -1,8 +1,10 @@
-ghost use Rattle.std.specs.Prelude.{◌≡◌, ◌+◌, ◌-◌, ◌^◌, ◌<◌, ◌≤◌, [], List, ℕ, OnOk, Some, None};
-ghost use Rattle.cept_parser.specs.Items.{closed_items};
+//! Takes a page from the shelf and has it read, to its end or as far as it goes.
+
+ghost use Rattle.std.specs.Prelude.{◌≡◌, ◌+◌, ◌-◌, ◌^◌, ◌<◌, ◌≤◌, []};
+ghost use Rattle.cept_tool.specs.Made.{Output};
 ghost use Rattle.cept_tool.specs.Outside.{outside_of};
-ghost use Rattle.cept_tool.specs.Page.{PageEnds, ReadsOn};
-ghost use Rattle.cept_tool.specs.Progress.{Stands, HasRead};
+ghost use Rattle.cept_tool.specs.Page.{PageEnds, KeepsShelf};
+ghost use Rattle.cept_tool.specs.Reporting.{HasRead};
 
 use crate::decoder::Decoder;
 use cept_outside::{Shelf, Sink, Steps, WriteFault};
@@ -38,6 +40,7 @@ impl From<WriteFault> for Stop {
 }
 
 /// Takes the selected page piece by piece and reports its items, and at the end what is left.
+#[tactic(auto, using(crate::proofs::PagesInPieces::keeps_shelf_more))]
 pub fn read_page<F: Shelf, T: Sink, G: Glass, L: Ledger>(
     decoder: &mut Decoder,
     shelf: &mut F,
@@ -45,21 +48,14 @@ pub fn read_page<F: Shelf, T: Sink, G: Glass, L: Ledger>(
     glass: &mut G,
     steps: &mut Steps<L>,
 ) -> Result<(), Stop>
-    requires fresh { HasRead decoder.old [] }
-    requires uncounted { (decoder.old.desk.items ≡ 0) × (decoder.old.desk.refused ≡ 0) }
+    requires fresh { (start : Output)
+        → HasRead decoder.old.reporter.action decoder.old [] start start }
     requires selected { (F.state shelf.old).taken ≡ 0 }
-    ensures ends { let before =
-        outside_of (F.state shelf.old) (T.state sink.old) (G.state glass.old) in
-        let after = outside_of (F.state shelf.new) (T.state sink.new) (G.state glass.new) in
-        PageEnds decoder.old.desk.action before after result }
-    ensures stands { OnOk result ((page : List ℕ) → (F.state shelf.old).left ≡ Some page
-        → Stands decoder.new.desk (closed_items page)) }
-    ensures action { decoder.new.desk.action ≡ decoder.old.desk.action }
-    ensures idle { decoder.old.desk.easel ≡ None → G.state glass.new ≡ G.state glass.old }
-    ensures reads { let before =
-        outside_of (F.state shelf.old) (T.state sink.old) (G.state glass.old) in
-        let after = outside_of (F.state shelf.new) (T.state sink.new) (G.state glass.new) in
-        ReadsOn before after }
+    ensures ends { PageEnds decoder.old.reporter.action
+        (outside_of (F.state shelf.old) (T.state sink.old) (G.state glass.old)) result
+        decoder.new.reporter
+        (outside_of (F.state shelf.new) (T.state sink.new) (G.state glass.new)) }
+    ensures shelf { KeepsShelf (F.state shelf.old) (F.state shelf.new) }
 {
     // A law: the items of more bytes are those of the first, and then others.
     reading_goes_on();

@@ -1,14 +1,16 @@
-ghost use Rattle.std.specs.Prelude.{◌≡◌, ◌≢◌, ◌^◌, ◌<◌, ◌≤◌, ◌⊎◌, [], List, ℕ, OnErr, Option, Some};
-ghost use Rattle.std.specs.Prelude.{None};
+ghost use Rattle.std.specs.Prelude.{◌≡◌, ◌≢◌, ◌^◌, ◌<◌, ◌≤◌, [], List, ℕ};
 ghost use Rattle.std.specs.Prelude.{map, string_bytes, length};
+ghost use Rattle.cept_codes.specs.declared.item.Item.{Item};
+ghost use Rattle.cept_tool.specs.declared.words.Action.{Action};
 ghost use Rattle.cept_outside.specs.QuietShelf.{quiet_shelf_state};
 ghost use Rattle.cept_outside.specs.QuietSink.{quiet_sink_state};
-ghost use Rattle.cept_outside.specs.ShelfState.{Holds};
-ghost use Rattle.cept_outside.specs.SinkState.{HasPut};
+ghost use Rattle.cept_tool.specs.Events.{text_at_end, has_refusal};
+ghost use Rattle.cept_tool.specs.Made.{Output};
 ghost use Rattle.cept_tool.specs.Outside.{outside_of};
-ghost use Rattle.cept_tool.specs.Run.{Ends, Keeps, Runs, status_number, status_of, status_at_end};
-ghost use Rattle.cept_tool.specs.Progress.{HasRead};
-ghost use Rattle.cept_tool.specs.Words.{Request, request_of, request_with};
+ghost use Rattle.cept_tool.specs.Page.{PutsEnd};
+ghost use Rattle.cept_tool.specs.Reporting.{Stands, HasRead};
+ghost use Rattle.cept_tool.specs.Run.{Runs, RunsRequest, status_number, status_of, status_at_end};
+ghost use Rattle.cept_tool.specs.Words.{Request, Asks, request_with};
 
 use crate::decoder::Decoder;
 use crate::page::{Stop, read_page};
@@ -88,6 +90,19 @@ impl Status {
     }
 }
 
+/// Puts the text at the end and flushes. Answers whether an item was refused.
+fn end_report<T: Sink, G: Glass>(decoder: &Decoder, sink: &mut T, glass: &G) -> Result<bool, Stop>
+    ensures { (action : Action) (items : List Item) → Stands action decoder.now.reporter items
+        → PutsEnd (text_at_end action (G.state glass.now).grid items) (has_refusal items)
+        (T.state sink.old) result (T.state sink.new) }
+{
+    decoder.put_end(sink, glass)?;
+    let Ok(()) = sink.flush() else {
+        return Err(Stop::WriteFault);
+    };
+    Ok(decoder.has_refusal())
+}
+
 /// Selects a page, reports it to its end and flushes. Answers whether an item was refused.
 fn report_page<F: Shelf, T: Sink, G: Glass, L: Ledger>(
     decoder: &mut Decoder,
@@ -97,34 +112,23 @@ fn report_page<F: Shelf, T: Sink, G: Glass, L: Ledger>(
     glass: &mut G,
     blank: Blank,
 ) -> Result<bool, Stop>
-    requires fresh { HasRead decoder.old [] }
-    requires uncounted { (decoder.old.desk.items ≡ 0) × (decoder.old.desk.refused ≡ 0) }
+    requires fresh { (start : Output)
+        → HasRead decoder.old.reporter.action decoder.old [] start start }
     requires name { blank.name ≡ L.name }
     requires parts { blank.parts ≡ L.parts }
     requires some { 0 < blank.parts }
-    ensures ends { let before =
-        outside_of (F.state shelf.old) (T.state sink.old) (G.state glass.old) in
-        let after = outside_of (F.state shelf.new) (T.state sink.new) (G.state glass.new) in
-        Ends (request_with decoder.old.desk.action (string_bytes page.now)) before after
+    ensures { RunsRequest
+        (request_with decoder.old.reporter.action (string_bytes page.now))
+        (outside_of (F.state shelf.old) (T.state sink.old) (G.state glass.old))
+        (outside_of (F.state shelf.new) (T.state sink.new) (G.state glass.new))
         (status_at_end result) }
-    ensures keeps { let before =
-        outside_of (F.state shelf.old) (T.state sink.old) (G.state glass.old) in
-        let after = outside_of (F.state shelf.new) (T.state sink.new) (G.state glass.new) in
-        Keeps (request_with decoder.old.desk.action (string_bytes page.now)) before after }
-    ensures selects { (chosen : Option (List ℕ)) → (F.state shelf.new).selected ≡ Some chosen
-        → (chosen ≡ None) ⊎ (chosen ≡ Some (string_bytes page.now)) }
-    ensures unflushed { OnErr result (HasPut (T.state sink.old) (T.state sink.new)) }
 {
     let Ok(()) = shelf.select(page.as_str()) else {
         return Err(Stop::ReadFault);
     };
     let mut steps = Steps::<L>::new(blank);
     read_page(decoder, shelf, sink, glass, &mut steps)?;
-    decoder.desk.put_end(sink, glass)?;
-    let Ok(()) = sink.flush() else {
-        return Err(Stop::WriteFault);
-    };
-    Ok(decoder.desk.refused > 0)
+    end_report(decoder, sink, glass)
 }
 
 /// Runs the program on its words, those after the program's name, over a shelf, a sink and a glass.
@@ -141,10 +145,9 @@ pub fn run<F: Shelf, T: Sink, G: Glass>(
     sink: &mut T,
     glass: &mut G,
 ) -> Status
-    ensures runs { let before =
-        outside_of (F.state shelf.old) (T.state sink.old) (G.state glass.old) in
-        let after = outside_of (F.state shelf.new) (T.state sink.new) (G.state glass.new) in
-        Runs (map string_bytes words.now.items) before after result }
+    ensures { Runs (map string_bytes words.now.items)
+        (outside_of (F.state shelf.old) (T.state sink.old) (G.state glass.old))
+        (outside_of (F.state shelf.new) (T.state sink.new) (G.state glass.new)) result }
 {
     let Some((action, page)) = request_of(words.as_slice()) else {
         return Status::Usage;
@@ -166,16 +169,15 @@ pub fn run_quietly<G: Glass>(
     sink: &mut QuietSink,
     glass: &mut G,
 ) -> Status
-    ensures runs { let before = outside_of (quiet_shelf_state shelf.old) (quiet_sink_state sink.old)
-        (G.state glass.old) in
-        let after = outside_of (quiet_shelf_state shelf.new) (quiet_sink_state sink.new)
-        (G.state glass.new) in
-        Runs (map string_bytes words.now.items) before after result }
+    ensures runs { Runs (map string_bytes words.now.items)
+        (outside_of (quiet_shelf_state shelf.old) (quiet_sink_state sink.old) (G.state glass.old))
+        (outside_of (quiet_shelf_state shelf.new) (quiet_sink_state sink.new) (G.state glass.new))
+        result }
     ensures read_fault { result ≢ Status.ReadFault }
     ensures write_fault { result ≢ Status.WriteFault }
     ensures too_long { (request : Request) (page : List ℕ)
-        → request_of (map string_bytes words.now.items) ≡ Some request
-        → Holds (quiet_shelf_state shelf.old) request.page page → length page ≤ 2 ^ 24
+        → Asks (map string_bytes words.now.items) (quiet_shelf_state shelf.old) request page
+        → length page ≤ 2 ^ 24
         → result ≢ Status.TooLong }
 {
     run(alloc, words, shelf, sink, glass)

@@ -316,6 +316,41 @@ fn shows_a_whole_page(rt: HostRuntime) -> Result<(), Fail> {
     Ok(())
 }
 
+/// The bytes of the whole page, written.
+const WRITTEN_PAGE: &[u8] =
+    b"\x1F/B\x1F-Ap\x1F&  \x1F&16dd\x1F#  @7A\x1F#!0\x7F\x7F\x7F\x7F\x7F\x7F\x7F\x7F\x7F\
+    \x7F\x7F\x7F\x7F\x7F\x7F\x7F\x7F\x7F\x7F\x7F\x9B0@\x1B# T\x1FCA\x9B0@\x1B#!Q\x1FAA\
+    \x1B\x22A\x9B0@\x87\x8DB\x1FAB\x1B\x22A\x9B0@\x87\x8DT\x1FAC\x1B\x22A\x9B0@\x87\x8DX\
+    \x1FCA\x1B\x22A\x1B( @!\x1B(@\x1FCB\x1B\x22AA\x1FXA\x1B\x22AS\x1FXB\x1B\x22AY\x1FXC\
+    \x1B\x22AS";
+
+/// Writes a page, with ample memory, and compares the bytes.
+fn compare_written(rt: &impl Abort, alloc: Global, page: &[u8], want: &[u8]) -> Result<(), Fail> {
+    let words = words(alloc, &["write", "page"])?;
+    let mut shelf = MemShelf::new(alloc);
+    shelf.add("page", page)?;
+    let mut sink = MemSink::new(alloc, 4096)?;
+    let mut glass = GridGlass::new(alloc)?;
+    let ended = run(alloc, &words, &mut shelf, &mut sink, &mut glass);
+    assert_eq!(rt; ended, Status::Done);
+    assert_eq!(rt; sink.bytes(), want);
+    Ok(())
+}
+
+#[test]
+fn writes_pages_back(rt: HostRuntime) -> Result<(), Fail> {
+    let pages = [
+        (b"".as_slice(), b"\x1F/B\x1F-Ap".as_slice()),
+        (b"A", b"\x1F/B\x1F-Ap\x1FAA\x1B\x22AA"),
+        (WHOLE_PAGE, WRITTEN_PAGE),
+        (WRITTEN_PAGE, WRITTEN_PAGE),
+    ];
+    for (page, want) in pages {
+        compare_written(&rt, rt.alloc(), page, want)?;
+    }
+    Ok(())
+}
+
 #[test]
 fn stops_at_a_page_that_is_too_long(rt: HostRuntime) -> Result<(), Fail> {
     let alloc = rt.alloc();

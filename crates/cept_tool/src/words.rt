@@ -1,6 +1,6 @@
 ghost use Rattle.std.specs.Prelude.{◌≡◌, ◌∷◌, [], map, codes, string_bytes};
 ghost use Rattle.std.specs.Option.{option_map};
-ghost use Rattle.cept_tool.specs.Words.{Request, action_of, request_of, is_painting};
+ghost use Rattle.cept_tool.specs.Words.{Request, action_of, asking, asked_of, request_of};
 
 /// What the program is asked for.
 #[derive(Clone, Copy, Debug, PartialEq, Eq)]
@@ -13,6 +13,47 @@ pub enum Action {
     Show,
     /// `cells PAGE`: the cells of the screen at the end that aren't blank.
     Cells,
+    /// `write PAGE`: the page at the end, as bytes that bring it back.
+    Write,
+}
+
+/// What is asked for beside the text at the end.
+#[derive(Clone, Copy, Debug, PartialEq, Eq)]
+pub struct Asked {
+    /// The commands of the page are applied and painted.
+    pub painting: bool,
+    /// The changes of each command are listed.
+    pub changes: bool,
+    /// The refused items are named.
+    pub refusals: bool,
+}
+
+/// These three.
+#[inline(always)]
+fn asking(painting: bool, changes: bool, refusals: bool) -> Asked
+    ensures { result ≡ asking painting changes refusals }
+{
+    Asked {
+        painting,
+        changes,
+        refusals,
+    }
+}
+
+impl Action {
+    /// What it asks for.
+    #[inline(always)]
+    pub fn asked(self) -> Asked
+        ensures { result ≡ asked_of self }
+    {
+        match self {
+            Action::Changes => asking(true, true, true),
+            Action::Check => asking(false, false, true),
+            Action::Show => asking(true, false, false),
+            Action::Cells => asking(true, false, false),
+            Action::Write => asking(true, false, false),
+        }
+    }
 }
 
 /// The action of a word.
@@ -27,6 +68,8 @@ fn action_of(word: &str) -> Option<Action>
         Some(Action::Show)
     } else if word == "cells" {
         Some(Action::Cells)
+    } else if word == "write" {
+        Some(Action::Write)
     } else {
         None
     }

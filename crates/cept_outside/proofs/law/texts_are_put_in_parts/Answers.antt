@@ -7,6 +7,7 @@ returns c = record {
   parts = Laws.Gains-append;
   put_nothing = Laws.HasPut-nothing;
   put_more = Laws.HasPut-more;
+  put_part = Laws.HasPut-part;
   no_bytes = Laws.append_known-nil;
   bytes = Laws.append_known-append_known;
 }

@@ -1,7 +1,7 @@
 use Rattle.std.proofs.Common.{◌≡◌, ◌*◌, ◌∙◌, arith, refl}
 use Rattle.cept_report.proofs.TextsInPieces.{Gains-no_piece, Gains-piece}
 use Rattle.cept_report.proofs.ScreenLines.{line_at, line_at-is, Gains-cell_failed, Gains-cells}
-use Rattle.cept_outside.proofs.Laws.{HasPut-more}
+use Rattle.cept_report.proofs.LinesPut.{PutsText-whole, PutsText-part}
 use Rattle.std.proofs.lemmas.Option.{MatchOption-at_some}
 use Rattle.std.proofs.lemmas.Result.{err_from_is_err_and}
 use Rattle.cept_report.proofs.put.put_cells.Goals as goal
@@ -19,27 +19,21 @@ loop-n-preserved g c =
     (MatchOption-at_some _ _ c.unwrap-at.result c.unwrap-at.ensures c.from_number.ensures.place)
     c.shown.ensures.look in
     record {
-      put = Gains-piece _ _ _ _ _ _ _ line c.loop-n.invariant.put c.in_ok-put_all.ensures.whole;
-      stays = c.in_ok-put_all.ensures.cause.stays ∙ c.loop-n.invariant.stays;
+      put = Gains-piece _ _ _ _ _ _ _ line c.loop-n.invariant.put c.in_ok-put_all.ensures.puts.whole;
+      stays = c.in_ok-put_all.ensures.puts.cause.stays ∙ c.loop-n.invariant.stays;
     }
 
-pub returns-in_err-put_all-clause-part : goal.returns-in_err-put_all-clause-part
-returns-in_err-put_all-clause-part g c =
+pub returns-in_err-put_all : goal.returns-in_err-put_all
+returns-in_err-put_all g c =
     let line = c.as_slice.ensures.value ∙ c.cell_text.ensures
     ∙ line_at-is _ _ _ _
     (MatchOption-at_some _ _ c.unwrap-at.result c.unwrap-at.ensures c.from_number.ensures.place)
     c.shown.ensures.look in
     rw (err_from_is_err_and c.from_residual.result c.from_residual.ensures.1).1
-    (Gains-cell_failed _ _ _ _ _ c.args.rows _ (omega arith) line c.loop-n.invariant.put
-    c.in_err-put_all.ensures.part)
+    (PutsText-part _ (g.T.Sink.state c.loop-n.sink) _ _ c.loop-n.invariant.stays (Gains-cell_failed _ _ _ _ _ c.args.rows _ (omega arith) line
+    c.loop-n.invariant.put c.in_err-put_all.ensures.puts.part) c.in_err-put_all.ensures.puts.cause)
 
-pub returns-clause-whole : goal.returns-clause-whole
-returns-clause-whole g c =
-    Gains-cells _ _ _ _ _ (let e : c.loop-n.n ≡ 40 * c.args.rows = omega arith in e) c.loop-n.invariant.put
-
-pub returns-in_err-put_all-clause-puts : goal.returns-in_err-put_all-clause-puts
-returns-in_err-put_all-clause-puts g c =
-    HasPut-more _ _ _ (record { part = _; gains = c.loop-n.invariant.put }) c.put_all.ensures.puts
-
-pub returns-clause-puts : goal.returns-clause-puts
-returns-clause-puts g c = record { part = _; gains = c.loop-n.invariant.put }
+pub returns : goal.returns
+returns g c =
+    PutsText-whole _ _ _ (Gains-cells _ _ _ _ _ (let e : c.loop-n.n ≡ 40 * c.args.rows = omega arith in e)
+    c.loop-n.invariant.put) c.loop-n.invariant.stays

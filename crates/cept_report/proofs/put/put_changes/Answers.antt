@@ -1,9 +1,7 @@
-use Rattle.std.proofs.Common.{refl, ap, ◌∙◌, arith}
+use Rattle.std.proofs.Common.{refl, ◌∙◌, arith}
 use Rattle.cept_profile.specs.Look.{looks_of}
 use Rattle.cept_profile.specs.State.{core_of}
-use Rattle.cept_report.specs.Text.{change_line}
-use Rattle.cept_report.proofs.LinesPut.{Gains-none, Gains-next, Gains-failed, Gains-all}
-use Rattle.cept_outside.proofs.Laws.{HasPut-more}
+use Rattle.cept_report.proofs.LinesPut.{Gains-none, Gains-next, Gains-failed, Gains-all, PutsText-whole, PutsText-part}
 use Rattle.std.proofs.lemmas.Result.{err_from_is_err_and}
 use Rattle.cept_report.proofs.put.put_changes.Goals as goal
 
@@ -17,30 +15,20 @@ loop-at-init g c = record {
 
 pub loop-at-preserved : goal.loop-at-preserved
 loop-at-preserved g c =
-    let line = c.as_slice.ensures.value ∙ c.change_line.ensures
-    ∙ ap (change_line c.args.label c.in-Some.at) c.look.ensures.look in
     record {
       within = omega arith;
-      put = rw c.number-from.ensures.number (Gains-next _ _ _ _ _ _ _ _ _ c.in-Some.ensures.first line
-          c.loop-at.invariant.put c.in_ok-put_all.ensures.whole);
-      stays = c.in_ok-put_all.ensures.cause.stays ∙ c.loop-at.invariant.stays;
+      put = rw c.number-from.ensures.number (Gains-next _ _ _ _ _ _ _ _ _ c.in-Some.ensures.first refl
+          c.loop-at.invariant.put c.in_ok-put_change.ensures.whole);
+      stays = c.in_ok-put_change.ensures.cause.stays ∙ c.loop-at.invariant.stays;
     }
 
-pub returns-in_err-put_all-clause-part : goal.returns-in_err-put_all-clause-part
-returns-in_err-put_all-clause-part g c =
-    let line = c.as_slice.ensures.value ∙ c.change_line.ensures
-    ∙ ap (change_line c.args.label c.in-Some.at) c.look.ensures.look in
+pub returns-in_err-put_change : goal.returns-in_err-put_change
+returns-in_err-put_change g c =
     rw (err_from_is_err_and c.from_residual.result c.from_residual.ensures.1).1
-    (Gains-failed _ _ _ _ _ _ _ _ _ c.in-Some.ensures.first line c.loop-at.invariant.put
-    c.in_err-put_all.ensures.part)
+    (PutsText-part _ (g.T.Sink.state c.loop-at.sink) _ _ c.loop-at.invariant.stays (Gains-failed _ _ _ _ _ _ _ _ _ c.in-Some.ensures.first refl
+    c.loop-at.invariant.put c.in_err-put_change.ensures.part) c.in_err-put_change.ensures.cause)
 
-pub returns-clause-whole : goal.returns-clause-whole
-returns-clause-whole g c =
-    Gains-all _ _ _ _ _ _ c.loop-at.invariant.within (c.in_default.ensures.none.0 refl) c.loop-at.invariant.put
-
-pub returns-in_err-put_all-clause-puts : goal.returns-in_err-put_all-clause-puts
-returns-in_err-put_all-clause-puts g c =
-    HasPut-more _ _ _ (record { part = _; gains = c.loop-at.invariant.put }) c.put_all.ensures.puts
-
-pub returns-clause-puts : goal.returns-clause-puts
-returns-clause-puts g c = record { part = _; gains = c.loop-at.invariant.put }
+pub returns : goal.returns
+returns g c =
+    PutsText-whole _ _ _ (Gains-all _ _ _ _ _ _ c.loop-at.invariant.within (c.in_default.ensures.none.0 refl)
+    c.loop-at.invariant.put) c.loop-at.invariant.stays

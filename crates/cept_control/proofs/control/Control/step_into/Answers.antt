@@ -12,21 +12,21 @@ use Rattle.cept_control.proofs.control.Control.step_into.Goals as goal
 
 pub returns-clause-valid : goal.returns-clause-valid
 returns-clause-valid c =
-    let state : c.take_effect.new.self ≡ control_after c.args.self.now c.args.command =
-    c.take_effect.ensures.state ∙ ap (λ (s : ControlState). control_effect s c.args.command) c.prepare.ensures.ready in
+    let state : c.take_effect.new.self ≡ control_after c.args.self.now c.args.command.now =
+    c.take_effect.ensures.state ∙ ap (λ (s : ControlState). control_effect s c.args.command.now) c.prepare.ensures.ready in
     subst (λ (s : ControlState). IsValidControl s) (sym state)
-    (IsValidControl-control_after c.args.self.now c.args.command c.prepare.ensures.was_valid c.requires)
+    (IsValidControl-control_after c.args.self.now c.args.command.now c.prepare.ensures.was_valid c.requires)
 
 pub returns-clause-valid_strokes : goal.returns-clause-valid_strokes
 returns-clause-valid_strokes c =
-    let strokes : c.take_effect.new.strokes.items ≡ strokes_of c.args.self.now c.args.command =
-    c.take_effect.ensures.strokes ∙ ap (λ (s : ControlState). strokes_when s c.args.command) c.prepare.ensures.ready in
+    let strokes : c.take_effect.new.strokes.items ≡ strokes_of c.args.self.now c.args.command.now =
+    c.take_effect.ensures.strokes ∙ ap (λ (s : ControlState). strokes_when s c.args.command.now) c.prepare.ensures.ready in
     subst (λ (xs : List Stroke). AllByRecursion IsValidStroke xs) (sym strokes)
-    (IsValidStroke-strokes_of c.args.self.now c.args.command c.prepare.ensures.was_valid c.requires)
+    (IsValidStroke-strokes_of c.args.self.now c.args.command.now c.prepare.ensures.was_valid c.requires)
 
 pub returns-clause-few : goal.returns-clause-few
 returns-clause-few c =
-    let strokes : c.take_effect.new.strokes.items ≡ strokes_of c.args.self.now c.args.command =
-    c.take_effect.ensures.strokes ∙ ap (λ (s : ControlState). strokes_when s c.args.command) c.prepare.ensures.ready in
+    let strokes : c.take_effect.new.strokes.items ≡ strokes_of c.args.self.now c.args.command.now =
+    c.take_effect.ensures.strokes ∙ ap (λ (s : ControlState). strokes_when s c.args.command.now) c.prepare.ensures.ready in
     subst (λ (xs : List Stroke). length xs ≤ 128) (sym strokes)
-    (length-strokes_of c.args.self.now c.args.command c.requires)
+    (length-strokes_of c.args.self.now c.args.command.now c.requires)

@@ -23,7 +23,7 @@ invariant_of-self c =
 answer : (c : After-read) → c.read.new.closed ≡ (reading_with c.args.self.now c.args.byte).items
 answer c =
     c.read.ensures.items
-    ∙ rw (← c.self.view_is, c.from.ensures, c.len.ensures.value) refl
+    ∙ rw (← c.self.view_is) refl
 
 state : (c : After-read) → record {
   place = c.self.inside.place + 1;
@@ -36,8 +36,6 @@ state c =
       ← c.self.view_is,
       c.read.ensures.left.context,
       c.read.ensures.left.pending,
-      c.from.ensures,
-      c.len.ensures.value,
     ) refl
 
 pub returns-clause-items : goal.returns-clause-items

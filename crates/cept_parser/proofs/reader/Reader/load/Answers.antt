@@ -1,56 +1,50 @@
-use Rattle.std.proofs.Common.{◌≡◌, ◌+◌, ℕ, List, [], ◌∷◌, ◌++◌, length, true, false, not, refl, sym, ap, subst, arith, ◌∙◌}
+use Rattle.std.proofs.Common.{◌≡◌, ℕ, ◌-◌, List, [], ◌∷◌, ◌++◌, length, not, sym, ap, arith, ◌∙◌}
 use Rattle.cept_codes.specs.declared.item.Item.{Item}
-use Rattle.cept_codes.specs.Command.{IsValidForm}
-use Rattle.cept_drcs.specs.Loading.{Leads}
-use Rattle.cept_drcs.specs.Unit.{is_pattern, pattern_grows}
-use Rattle.cept_parser.specs.declared.context.Context.{Context}
-use Rattle.cept_parser.specs.declared.fit.Fit.TheVariants.{Whole, Longer}
-use Rattle.cept_parser.specs.Grammar.{unit, fits}
-use Rattle.cept_parser.specs.Items.{Reading, reading_at, reading_with_items}
-use Rattle.cept_parser.specs.Fit.{fit}
-use Rattle.cept_parser.specs.Waits.{IsBeside, HasLeft, outcome_at_misfit, cut_item}
-use Rattle.cept_parser.proofs.LongestBeginningLemmas.{waits_fits}
-use Rattle.cept_parser.proofs.OneByteMoreLemmas.{read_closed, read_as_longer, read_cut_by, longer_left}
-use Rattle.cept_parser.proofs.ReaderLemmas.{nothing_beside, loaded_beside, some_loaded, full_says, full_fit, grow_fit}
-use Rattle.cept_parser.proofs.ReaderLemmas.{none_taken, left_after}
-use Rattle.cept_parser.proofs.ValidItemLemmas.{cut_sound}
+use Rattle.cept_parser.specs.Grammar.{unit}
+use Rattle.cept_parser.specs.Items.{Reading, reading_at}
+use Rattle.cept_parser.specs.Waits.{outcome_at_misfit, cut_item}
+use Rattle.cept_parser.proofs.OneByteMoreLemmas.{read_closed, read_as_longer}
+use Rattle.cept_parser.proofs.ReaderLemmas.{HasTaken, one_taken, nothing_beside, full_fit, grow_fit}
+use Rattle.cept_parser.proofs.ReaderLemmas.{none_taken, start_after, waiting_from}
 use Rattle.cept_parser.proofs.WaitingLemmas.{waits_small}
 use Rattle.cept_parser.proofs.reader.Reader.load.Goals as goal
+use Rattle.cept_parser.proofs.reader.Reader.load.Goals.{After-full}
 
 pub push-requires : goal.push-requires
 push-requires c = let w = waits_small _ _ _ c.requires.waits.waits in omega arith
 
+-- the bytes with the one that was taken
+abbrev all : After-full → List ℕ
+all c = c.args.self.now.bytes ++ c.args.byte ∷ []
+
+-- the place of the first of them
+abbrev start : After-full → ℕ
+start c = c.args.place - length c.args.self.now.bytes
+
+taken : (c : After-full) → HasTaken c.args.self.now.context (all c) c.args.self.now.loading c.feed.new.self c.full.result
+taken c =
+    one_taken _ c.args.self.now.bytes c.args.byte _ _ _ _ c.requires.waits.beside c.requires.loading
+    (c.feed.ensures.leads _ _ (c.requires.waits.beside.leads c.requires.loading) c.if-feed.true)
+    (λ g a u k. c.full.ensures.grows g a u k)
+
 pub returns-then-full-clause-items : goal.returns-then-full-clause-items
 returns-then-full-clause-items c =
     let x = c.args.self.now.context in
-    let all : List ℕ = c.args.self.now.bytes ++ c.args.byte ∷ [] in
-    let leads : Leads x.form all c.feed.new.self =
-    c.feed.ensures.leads _ _ (c.requires.waits.beside.leads c.requires.loading) c.if-feed.true in
-    let some = some_loaded _ _ _ _ c.requires.waits.beside c.requires.loading in
-    let beside : IsBeside x all c.args.self.now.loading c.feed.new.self =
-    loaded_beside x c.args.self.now.bytes c.args.byte all _ _ _ c.requires.waits.beside c.requires.loading some refl
-    leads in
-    let says : c.full.result ≡ not (pattern_grows x.form all) =
-    full_says x.form c.args.self.now.bytes c.args.byte c.feed.new.self c.full.result
-    (λ g a u k. c.full.ensures.grows g a u k) leads in
-    let read = read_closed x c.args.at all (full_fit x all _ _ beside c.requires.loading (sym c.if-full.true ∙ says)) in
-    c.close_pattern.ensures.items ∙ ap (λ (v : List Item). v ++ cut_item x c.args.at c.push.new.self ∷ []) c.requires.empty
-    ∙ ap (λ (u : List ℕ). cut_item x c.args.at u ∷ []) c.push.ensures ∙ ap (λ (r : Reading). r.items) (sym read)
+    let t = taken c.before.before.before.before.before in
+    let from = start_after c.args.place c.start-at.result c.args.self.now.bytes c.args.byte c.push.new.self
+    c.requires.waits.waits.counted c.push.ensures c.start-at.ensures in
+    let read = read_closed x (start c.before.before.before.before.before) (all c.before.before.before.before.before)
+    (full_fit x (all c.before.before.before.before.before) _ _ t.beside c.requires.loading (sym c.if-full.true ∙ t.says)) in
+    c.close_pattern.ensures.items ∙ ap (λ (v : List Item). v ++ cut_item x c.start-at.result c.push.new.self ∷ []) c.requires.empty
+    ∙ ap (λ (k : ℕ). cut_item x k c.push.new.self ∷ []) from
+    ∙ ap (λ (u : List ℕ). cut_item x (start c.before.before.before.before.before) u ∷ []) c.push.ensures ∙ ap (λ (r : Reading). r.items) (sym read)
 
 pub returns-then-full-clause-left : goal.returns-then-full-clause-left
 returns-then-full-clause-left c =
     let x = c.args.self.now.context in
-    let all : List ℕ = c.args.self.now.bytes ++ c.args.byte ∷ [] in
-    let leads : Leads x.form all c.feed.new.self =
-    c.feed.ensures.leads _ _ (c.requires.waits.beside.leads c.requires.loading) c.if-feed.true in
-    let some = some_loaded _ _ _ _ c.requires.waits.beside c.requires.loading in
-    let beside : IsBeside x all c.args.self.now.loading c.feed.new.self =
-    loaded_beside x c.args.self.now.bytes c.args.byte all _ _ _ c.requires.waits.beside c.requires.loading some refl
-    leads in
-    let says : c.full.result ≡ not (pattern_grows x.form all) =
-    full_says x.form c.args.self.now.bytes c.args.byte c.feed.new.self c.full.result
-    (λ g a u k. c.full.ensures.grows g a u k) leads in
-    let read = read_closed x c.args.at all (full_fit x all _ _ beside c.requires.loading (sym c.if-full.true ∙ says)) in
+    let t = taken c.before.before.before.before.before in
+    let read = read_closed x (start c.before.before.before.before.before) (all c.before.before.before.before.before)
+    (full_fit x (all c.before.before.before.before.before) _ _ t.beside c.requires.loading (sym c.if-full.true ∙ t.says)) in
     record {
       context = c.close_pattern.ensures.context
           ∙ ap (λ (u : List ℕ). (outcome_at_misfit x (unit x u)).next) c.push.ensures
@@ -61,46 +55,28 @@ returns-then-full-clause-left c =
 
 pub returns-else-full-clause-items : goal.returns-else-full-clause-items
 returns-else-full-clause-items c =
-    let x = c.args.self.now.context in
-    let all : List ℕ = c.args.self.now.bytes ++ c.args.byte ∷ [] in
-    let leads : Leads x.form all c.feed.new.self =
-    c.feed.ensures.leads _ _ (c.requires.waits.beside.leads c.requires.loading) c.if-feed.true in
-    let some = some_loaded _ _ _ _ c.requires.waits.beside c.requires.loading in
-    let beside : IsBeside x all c.args.self.now.loading c.feed.new.self =
-    loaded_beside x c.args.self.now.bytes c.args.byte all _ _ _ c.requires.waits.beside c.requires.loading some refl
-    leads in
-    let says : c.full.result ≡ not (pattern_grows x.form all) =
-    full_says x.form c.args.self.now.bytes c.args.byte c.feed.new.self c.full.result
-    (λ g a u k. c.full.ensures.grows g a u k) leads in
-    let word = grow_fit x all _ _ beside c.requires.loading (sym c.if-full.false ∙ says) in
-    let read = read_as_longer x c.args.at all word in
-    c.requires.empty ∙ ap (λ (r : Reading). r.items) (sym read)
+    let t = taken c.before in
+    let word = grow_fit c.args.self.now.context (all c.before) _ _ t.beside c.requires.loading (sym c.if-full.false ∙ t.says) in
+    c.requires.empty ∙ ap (λ (r : Reading). r.items) (sym (read_as_longer _ (start c.before) (all c.before) word))
 
 pub returns-else-full-clause-left : goal.returns-else-full-clause-left
 returns-else-full-clause-left c =
-    let x = c.args.self.now.context in
-    let all : List ℕ = c.args.self.now.bytes ++ c.args.byte ∷ [] in
-    let leads : Leads x.form all c.feed.new.self =
-    c.feed.ensures.leads _ _ (c.requires.waits.beside.leads c.requires.loading) c.if-feed.true in
-    let some = some_loaded _ _ _ _ c.requires.waits.beside c.requires.loading in
-    let beside : IsBeside x all c.args.self.now.loading c.feed.new.self =
-    loaded_beside x c.args.self.now.bytes c.args.byte all _ _ _ c.requires.waits.beside c.requires.loading some refl
-    leads in
-    let says : c.full.result ≡ not (pattern_grows x.form all) =
-    full_says x.form c.args.self.now.bytes c.args.byte c.feed.new.self c.full.result
-    (λ g a u k. c.full.ensures.grows g a u k) leads in
-    let word = grow_fit x all _ _ beside c.requires.loading (sym c.if-full.false ∙ says) in
-    let read = read_as_longer x c.args.at all word in
+    let t = taken c.before in
+    let word = grow_fit c.args.self.now.context (all c.before) _ _ t.beside c.requires.loading (sym c.if-full.false ∙ t.says) in
+    let read = read_as_longer c.args.self.now.context (start c.before) (all c.before) word in
     record {
       context = ap (λ (r : Reading). r.context) (sym read);
       pending = c.push.ensures ∙ ap (λ (r : Reading). r.pending) (sym read);
-      beside = rw c.push.ensures beside;
+      beside = rw c.push.ensures t.beside;
     }
 
-pub end_pattern-requires-clause-waits : goal.end_pattern-requires-clause-waits
-end_pattern-requires-clause-waits c = record { waits = c.requires.waits.waits; beside = rw (c.feed.ensures.stays c.if-feed.false) c.requires.waits.beside }
+pub break_off-requires-clause-waits : goal.break_off-requires-clause-waits
+break_off-requires-clause-waits c =
+    waiting_from _ c.args.place c.start-from.result
+    (record { waits = c.requires.waits.waits; beside = rw (c.feed.ensures.stays c.if-feed.false) c.requires.waits.beside })
+    c.start-from.ensures
 
-pub end_pattern-requires-clause-misfit : goal.end_pattern-requires-clause-misfit
-end_pattern-requires-clause-misfit c =
+pub break_off-requires-clause-misfit : goal.break_off-requires-clause-misfit
+break_off-requires-clause-misfit c =
     none_taken c.args.self.now.context _ c.args.byte _ _ c.requires.waits.beside c.requires.loading
     (sym (c.feed.ensures.unit _ _ (c.requires.waits.beside.leads c.requires.loading)) ∙ c.if-feed.false)

@@ -1,8 +1,13 @@
-use Rattle.std.proofs.Common.{Bool, List, sym, subst}
+use Rattle.std.proofs.Common.{◌≡◌, Bool, List, length, rules, sym, subst, ◌∙◌}
 use Rattle.cept_repaint.specs.Marks.{AreWithin}
-use Rattle.cept_repaint.proofs.MarkedWithin.{AreWithin-none}
+use Rattle.cept_repaint.proofs.MarkedWithin.{AreWithin-none, none_within}
 use Rattle.cept_repaint.proofs.marks.Marks.clear.Goals as goal
 
 pub invariant_of-self : goal.invariant_of-self
 invariant_of-self c =
     subst (λ (flags : List Bool). AreWithin flags 0 0) (sym c.unmark_within.ensures) AreWithin-none
+
+pub returns-then-self : goal.returns-then-self
+returns-then-self c =
+    let places : length c.self.inside.flags ≡ 960 = search rules in
+    sym c.self.view_is ∙ none_within c.self.invariant places c.if-self.true

@@ -21,14 +21,14 @@ redraw-requires-clause-valid g c =
     let was : State = record { page = c.self.inside.page; control = c.self.inside.control } in
     subst (λ (xs : List Stroke). IsValidPage (page_after c.self.inside.page xs))
     (sym (c.as_slice-strokes.ensures.value ∙ c.step_into.ensures.strokes))
-    (IsValidState-state_after was c.args.command c.self.invariant.valid c.requires).page
+    (IsValidState-state_after was c.args.command.now c.self.invariant.valid c.requires).page
 
 pub returns-clause-after : goal.returns-clause-after
 returns-clause-after g c =
-    state_after-drawn c.self.inside.page c.self.inside.control c.args.command c.redraw.new.page
+    state_after-drawn c.self.inside.page c.self.inside.control c.args.command.now c.redraw.new.page
     c.step_into.new.self c.as_slice-strokes.result.now
     (c.as_slice-strokes.ensures.value ∙ c.step_into.ensures.strokes) c.redraw.ensures.page c.step_into.ensures.state
-    ∙ ap (λ (s : State). state_after s c.args.command) c.self.view_is
+    ∙ ap (λ (s : State). state_after s c.args.command.now) c.self.view_is
 
 pub returns-clause-marks : goal.returns-clause-marks
 returns-clause-marks g c =
@@ -43,14 +43,14 @@ returns-clause-marks g c =
 pub returns-clause-cost : goal.returns-clause-cost
 returns-clause-cost g c =
     let strokes = c.as_slice-strokes.ensures.value ∙ c.step_into.ensures.strokes in
-    let whole = state_after-drawn c.self.inside.page c.self.inside.control c.args.command c.redraw.new.page
+    let whole = state_after-drawn c.self.inside.page c.self.inside.control c.args.command.now c.redraw.new.page
     c.step_into.new.self c.as_slice-strokes.result.now strokes c.redraw.ensures.page c.step_into.ensures.state in
     let looks = looks_of-drawn c.redraw.new.page c.step_into.new.self c.rows-after.result c.redraw.new.kept
     c.rows-after.ensures.rows c.redraw.ensures.kept in
     omega (
       arith,
       c.redraw.ensures.cost,
-      reached-in_reach_of c.self.invariant c.args.command c.redraw.new.page c.step_into.new.self c.redraw.new.kept
+      reached-in_reach_of c.self.invariant c.args.command.now c.redraw.new.page c.step_into.new.self c.redraw.new.kept
           c.as_slice-strokes.result.now c.rows-before.result c.rows-after.result strokes
           c.rows-before.ensures.rows c.rows-after.ensures.rows whole looks c.args.self.now c.self.view_is,
     )
@@ -58,25 +58,25 @@ returns-clause-cost g c =
 pub returns-clause-at_most_24 : goal.returns-clause-at_most_24
 returns-clause-at_most_24 g c =
     let strokes = c.as_slice-strokes.ensures.value ∙ c.step_into.ensures.strokes in
-    let whole = state_after-drawn c.self.inside.page c.self.inside.control c.args.command c.redraw.new.page
+    let whole = state_after-drawn c.self.inside.page c.self.inside.control c.args.command.now c.redraw.new.page
     c.step_into.new.self c.as_slice-strokes.result.now strokes c.redraw.ensures.page c.step_into.ensures.state in
     let looks = looks_of-drawn c.redraw.new.page c.step_into.new.self c.rows-after.result c.redraw.new.kept
     c.rows-after.ensures.rows c.redraw.ensures.kept in
     omega (
       arith,
       c.redraw.ensures.cost,
-      reached-in_reach_of c.self.invariant c.args.command c.redraw.new.page c.step_into.new.self c.redraw.new.kept
+      reached-in_reach_of c.self.invariant c.args.command.now c.redraw.new.page c.step_into.new.self c.redraw.new.kept
           c.as_slice-strokes.result.now c.rows-before.result c.rows-after.result strokes
           c.rows-before.ensures.rows c.rows-after.ensures.rows whole looks c.args.self.now c.self.view_is,
-      rows_in_reach-le c.args.self.now c.args.command,
+      rows_in_reach-le c.args.self.now c.args.command.now,
     )
 
 pub invariant_of-self : goal.invariant_of-self
 invariant_of-self g c =
     let strokes = c.as_slice-strokes.ensures.value ∙ c.step_into.ensures.strokes in
-    IsKept-state_after c.self.invariant c.args.command c.requires c.redraw.new.page c.step_into.new.self
+    IsKept-state_after c.self.invariant c.args.command.now c.requires c.redraw.new.page c.step_into.new.self
     c.redraw.new.kept
-    (state_after-drawn c.self.inside.page c.self.inside.control c.args.command c.redraw.new.page
+    (state_after-drawn c.self.inside.page c.self.inside.control c.args.command.now c.redraw.new.page
     c.step_into.new.self c.as_slice-strokes.result.now strokes c.redraw.ensures.page c.step_into.ensures.state)
     (looks_of-drawn c.redraw.new.page c.step_into.new.self c.rows-after.result c.redraw.new.kept
     c.rows-after.ensures.rows c.redraw.ensures.kept)

@@ -1,0 +1,10 @@
+pub mod FirstParts
+pub mod CountedWords
+pub mod DigitPairs
+pub mod BytesSaid
+pub mod RawWords
+pub mod KeptLines
+pub mod ValidOrders
+pub mod DigitsLeft
+pub mod Worked
+pub mod WorkedBytes

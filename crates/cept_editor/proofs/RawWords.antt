@@ -1,0 +1,57 @@
+-- What one word of hexadecimal digits means.
+use Rattle.std.proofs.Common.{◌≡◌, ℕ, ◌<◌, ◌==◌, Bool, true, false, List, [], ◌∷◌, length, Option, Some, None, is_some}
+use Rattle.std.proofs.Common.{Result, Ok, Err, cond, refl, sym, ap, ◌∙◌, subst, arith}
+use Rattle.std.specs.Option.{unwrap_or}
+use Rattle.std.proofs.lemmas.Bool.{eqb-true}
+use Rattle.hex.specs.Hex.{hex_digit_value}
+use Rattle.cept_codes.specs.declared.line_reason.LineReason.{LineReason}
+use Rattle.cept_codes.specs.declared.line_reason.LineReason.TheVariants as reasons
+use Rattle.cept_parser.specs.Items.{commands}
+use Rattle.cept_editor.specs.Meaning.{byte_of, with_byte, hex_bytes, has_refusal, bytes_step, Step, Edit}
+use Rattle.cept_editor.specs.Order.{raw_bytes}
+
+pub unread_step : (o : Option (List ℕ)) → is_some o ≡ false → bytes_step o ≡ Err reasons.BadHex
+unread_step None e = refl
+unread_step (Some bytes) e = absurd cc
+
+pub no_digits : (digits : List ℕ) → length digits ≡ 0 → bytes_step (hex_bytes digits) ≡ Err reasons.BadHex
+unfolding hex_bytes
+no_digits [] e = refl
+no_digits (a ∷ more) e = absurd (omega arith)
+
+abbrev HasByte : Option (List ℕ) → Type 0
+HasByte o = (a : ℕ) × (more : List ℕ) × (o ≡ Some (a ∷ more))
+
+with_some : (o : Option ℕ) (p : Option (List ℕ)) → is_some (with_byte o p) ≡ true → HasByte (with_byte o p)
+with_some None p e = absurd cc
+with_some (Some a) None e = absurd cc
+with_some (Some a) (Some more) e = (a, more, refl)
+
+has_byte : (digits : List ℕ) → 0 < length digits → is_some (hex_bytes digits) ≡ true → HasByte (hex_bytes digits)
+unfolding hex_bytes
+has_byte [] l e = absurd (omega arith)
+has_byte (a ∷ []) l e = absurd cc
+has_byte (a ∷ b ∷ more) l e = with_some (byte_of (hex_digit_value a) (hex_digit_value b)) (hex_bytes more) e
+
+-- the step of bytes of which an item is refused or not
+abbrev pub by_refusal : Bool → List ℕ → Result Step LineReason
+by_refusal refused bytes = cond refused (Err reasons.BadBytes) (Ok (Edit (commands bytes)))
+
+some_bytes : (o : Option (List ℕ)) (a : ℕ) (more : List ℕ) → o ≡ Some (a ∷ more)
+    → bytes_step o ≡ by_refusal (has_refusal (unwrap_or o [])) (unwrap_or o [])
+some_bytes o a more e =
+    subst (λ (p : Option (List ℕ)). bytes_step p ≡ by_refusal (has_refusal (unwrap_or p [])) (unwrap_or p [])) (sym e) refl
+
+pub raw_step : (digits : List ℕ) (refused : Bool) → 0 < length digits → is_some (hex_bytes digits) ≡ true
+    → refused ≡ has_refusal (raw_bytes digits) → bytes_step (hex_bytes digits) ≡ by_refusal refused (raw_bytes digits)
+raw_step digits refused l e r =
+    let b = has_byte digits l e in
+    some_bytes (hex_bytes digits) b.0 b.1 b.2 ∙ ap (λ (x : Bool). by_refusal x (raw_bytes digits)) (sym r)
+
+pub no_length : (digits : List ℕ) → (length digits == 0) ≡ true → length digits ≡ 0
+no_length [] e = refl
+no_length (a ∷ more) e = eqb-true (length (a ∷ more)) 0 e
+
+pub some_length : (digits : List ℕ) → (length digits == 0) ≡ false → 0 < length digits
+some_length [] e = absurd cc
+some_length (a ∷ more) e = omega arith

@@ -1,0 +1,8 @@
+use Rattle.std.proofs.Common.{sym}
+use Rattle.cept_editor.proofs.ValidOrders.{kept_some}
+use Rattle.cept_editor.proofs.script.keep_line.Goals as goal
+
+pub returns-in_ok-push-in-Ok-Some-clause-kept : goal.returns-in_ok-push-in-Ok-Some-clause-kept
+returns-in_ok-push-in-Ok-Some-clause-kept c =
+    let told = rw c.in-Ok-Some.field-0-is at c.in-Ok-Some.ensures in
+    kept_some _ c.in-Ok-Some.field-0-0 _ _ _ (sym told.meant) told.sound c.in_ok-push-in-Ok-Some.ensures.items

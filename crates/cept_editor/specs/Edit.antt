@@ -1,0 +1,9 @@
+-- What an edit does (this project's own), and what is left of its commands.
+use Rattle.cept_editor.specs.declared.commands.Edit.{Edit}
+use Rattle.cept_editor.specs.declared.commands.Edit.TheVariants as edits
+use Rattle.cept_editor.specs.Meaning.{Step, TakeBack, Edit as EditOf}
+
+-- the step of an edit: to undo, or the commands that are left
+abbrev pub edit_step : Edit → Step
+edit_step edits.Undo = TakeBack
+edit_step (edits.Commands commands) = EditOf commands

@@ -1,0 +1,10 @@
+pub mod Cut
+pub mod Lines
+pub mod Table
+pub mod Meaning
+pub mod Script
+pub mod Order
+pub mod Places
+pub mod Fault
+pub mod Decoding
+pub mod Edit

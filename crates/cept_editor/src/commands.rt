@@ -1,0 +1,93 @@
+ghost use Rattle.std.specs.Prelude.{◌≡◌, ◌∷◌, [], true, MatchOption, IfSome};
+ghost use Rattle.std.specs.List.{AllByRecursion, list_all};
+ghost use Rattle.cept_codes.specs.Command.{IsValidCommand};
+ghost use Rattle.cept_editor.specs.Edit.{edit_step};
+ghost use Rattle.cept_editor.specs.Meaning.{is_sign, IsValidStep};
+ghost use Rattle.cept_editor.specs.Order.{order_step, IsSoundOrder};
+
+use crate::decoding::Decoding;
+use crate::order::Order;
+use cept_codes::Command;
+use std::marker::Model;
+
+/// What is left of the commands of an edit: its value is the list of them. They take no memory.
+#[derive(Drop)]
+pub struct Commands<'a> {
+    first: Option<Command>,
+    text: &'a [u8],
+    raw: Option<Decoding<'a>>,
+}
+
+impl<'a> Model for Commands<'a> {
+    ghost use Rattle.std.specs.Prelude.{List};
+    ghost use Rattle.std.specs.List.{AllByRecursion};
+    ghost use Rattle.cept_codes.specs.Command.{IsValidCommand};
+    ghost use Rattle.cept_codes.specs.declared.command.Command.{Command};
+    ghost use Rattle.cept_editor.specs.Decoding.{commands_of_parts, IsDecodingIfAny};
+
+    ghost Value = { List Command };
+
+    ghost view = { λ c. commands_of_parts c.first c.text.now c.raw };
+
+    ghost invariant = { λ c. AllByRecursion IsValidCommand (commands_of_parts c.first c.text.now c.raw)
+        × IsDecodingIfAny c.raw };
+}
+
+impl<'a> Commands<'a> {
+    /// The next command. Each is valid.
+    pub fn next(&mut self) -> Option<Command>
+        ensures next { MatchOption result ((self.old ≡ []) × (self.new ≡ []))
+            (λ command. self.old ≡ command ∷ self.new) }
+        ensures valid { IfSome result IsValidCommand }
+    {
+        if let Some(command) = self.first {
+            self.first = None;
+            return Some(command);
+        }
+        if let [byte, more @ ..] = self.text {
+            self.text = more;
+            return Some(Command::Graphic(*byte));
+        }
+        match &mut self.raw {
+            None => None,
+            Some(raw) => raw.next(),
+        }
+    }
+}
+
+/// What an edit does.
+#[derive(Drop)]
+pub enum Edit<'a> {
+    /// It takes back the last kept edit.
+    Undo,
+    /// It applies these commands.
+    Commands(Commands<'a>),
+}
+
+impl<'a> Edit<'a> {
+    /// The edit of an order.
+    pub(crate) fn of(order: Order<'a>) -> Edit<'a>
+        requires { IsSoundOrder order }
+        ensures step { edit_step result ≡ order_step order.entry }
+        ensures valid { IsValidStep (edit_step result) }
+    {
+        match order {
+            Order::TakeBack => Edit::Undo,
+            Order::One(command) => Edit::Commands(Commands {
+                first: Some(command),
+                text: &[],
+                raw: None,
+            }),
+            Order::Text(text) => Edit::Commands(Commands {
+                first: Some(Command::LockLeft(0)),
+                text,
+                raw: None,
+            }),
+            Order::Raw(digits) => Edit::Commands(Commands {
+                first: None,
+                text: &[],
+                raw: Some(Decoding::new(digits)),
+            }),
+        }
+    }
+}

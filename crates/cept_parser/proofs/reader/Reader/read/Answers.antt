@@ -1,0 +1,8 @@
+use Rattle.std.proofs.Common.{◌≡◌, ℕ, ◌-◌, List, [], ◌∷◌, ◌++◌, length, sym, ap, ◌∙◌, arith, subst}
+use Rattle.cept_parser.specs.Items.{Reading, reading_at}
+use Rattle.cept_parser.specs.Waits.{HasLeft}
+use Rattle.cept_parser.proofs.ReaderLemmas.{waiting_from}
+use Rattle.cept_parser.proofs.reader.Reader.read.Goals as goal
+
+pub go_on-requires-clause-waits : goal.go_on-requires-clause-waits
+go_on-requires-clause-waits c = waiting_from _ c.args.place c.start-at.result c.requires.waits c.start-at.ensures

@@ -1,0 +1,51 @@
+use Rattle.std.proofs.Common.{sym, ap, subst, ◌∙◌}
+use Rattle.cept_outside.specs.SinkState.{PutsText}
+use Rattle.cept_parser.specs.Items.{commands_of}
+use Rattle.cept_report.specs.Screen.{screen_text, cells_text}
+use Rattle.cept_report.specs.Text.{check_line}
+use Rattle.cept_tool.specs.Events.{refused_count}
+use Rattle.cept_tool.specs.declared.words.Action.TheVariants as actions
+use Rattle.cept_tool.specs.Reporting.{ReporterState}
+use Rattle.cept_tool.proofs.ReportedItems.{PutsText-nothing, puts_at_end, screen_at}
+use Rattle.cept_tool.proofs.reporter.Reporter.put_end.Goals as goal
+
+pub returns-in-Changes : goal.returns-in-Changes
+returns-in-Changes g c = λ action items stands.
+    puts_at_end actions.Changes action (g.G.Glass.state c.args.glass.now).grid items _ _ _
+    (sym c.in-Changes.is ∙ ap (λ (r : ReporterState). r.action) c.self.view_is ∙ stands.action_is) (PutsText-nothing (g.T.Sink.state c.args.sink.now))
+
+pub returns-in-Check : goal.returns-in-Check
+returns-in-Check g c = λ action items stands.
+    let sink = g.T.Sink.state c.args.sink.now in
+    let now = g.T.Sink.state c.put_check.new.sink in
+    let counted = ap (λ (r : ReporterState). r.items) c.self.view_is ∙ stands.items in
+    let refused = ap (λ (r : ReporterState). r.refused) c.self.view_is ∙ stands.refused in
+    puts_at_end actions.Check action (g.G.Glass.state c.args.glass.now).grid items _ _ _
+    (sym c.in-Check.is ∙ ap (λ (r : ReporterState). r.action) c.self.view_is ∙ stands.action_is)
+    (subst (λ n. PutsText sink (check_line n (refused_count items)) c.put_check.result now) counted
+    (subst (λ n. PutsText sink (check_line c.self.inside.items n) c.put_check.result now) refused
+    c.put_check.ensures))
+
+pub returns-in-Show : goal.returns-in-Show
+returns-in-Show g c = λ action items stands.
+    let is = sym c.in-Show.is ∙ ap (λ (r : ReporterState). r.action) c.self.view_is ∙ stands.action_is in
+    let shown = (g.G.Glass.state c.args.glass.now).grid in
+    puts_at_end actions.Show action shown items _ _ _ is
+    (subst (λ n. PutsText (g.T.Sink.state c.args.sink.now) (screen_text shown n) c.put_screen.result
+    (g.T.Sink.state c.put_screen.new.sink)) (c.rows.ensures.rows (commands_of items) (screen_at actions.Show action _ items is stands))
+    c.put_screen.ensures)
+
+pub returns-in-Cells : goal.returns-in-Cells
+returns-in-Cells g c = λ action items stands.
+    let is = sym c.in-Cells.is ∙ ap (λ (r : ReporterState). r.action) c.self.view_is ∙ stands.action_is in
+    let shown = (g.G.Glass.state c.args.glass.now).grid in
+    puts_at_end actions.Cells action shown items _ _ _ is
+    (subst (λ n. PutsText (g.T.Sink.state c.args.sink.now) (cells_text shown n) c.put_cells.result
+    (g.T.Sink.state c.put_cells.new.sink))
+    (c.rows-in-Cells.ensures.rows (commands_of items) (screen_at actions.Cells action _ items is stands)) c.put_cells.ensures)
+
+pub returns-in-Write : goal.returns-in-Write
+returns-in-Write g c = λ action items stands.
+    let is = sym c.in-Write.is ∙ ap (λ (r : ReporterState). r.action) c.self.view_is ∙ stands.action_is in
+    puts_at_end actions.Write action (g.G.Glass.state c.args.glass.now).grid items _ _ _ is
+    (c.put_page.ensures (commands_of items) (screen_at actions.Write action _ items is stands))

@@ -1,0 +1,223 @@
+//! Reports items: applies and paints their commands where that is asked for, and puts their texts.
+//! It knows no bytes of a page, no words and no files.
+
+ghost use Rattle.std.specs.Prelude.{◌≡◌, ◌+◌, ◌^◌, ◌<◌, ◌≤◌, ◌∷◌, [], ◌++◌, List};
+ghost use Rattle.std.specs.Prelude.{IfOk, IsOk, Some, None, length, nat_lt, if◌then◌else◌};
+ghost use Rattle.std.specs.List.{AllByRecursion};
+ghost use Rattle.cept_codes.specs.Command.{IsValidCommand, IsValidSaid};
+ghost use Rattle.cept_codes.specs.declared.command.Command.{Command};
+ghost use Rattle.cept_codes.specs.declared.item.Item.{Item};
+ghost use Rattle.cept_outside.specs.SinkState.{PutsText};
+ghost use Rattle.cept_profile.specs.State.{core, state};
+ghost use Rattle.cept_profile.specs.Valid.{AllValid};
+ghost use Rattle.cept_tool.specs.Events.{rows_after, text_at_end};
+ghost use Rattle.cept_tool.specs.Made.{output_of};
+ghost use Rattle.cept_tool.specs.Words.{asked_of};
+ghost use Rattle.cept_writer.specs.PageCommands.{page_text};
+
+use crate::words::Action;
+use cept_codes::{Command, Item, NoMemory, Reason, Said};
+use cept_outside::{Sink, Steps, WriteFault};
+use cept_repaint::{Glass, Marks, Screen};
+use cept_report::{put_cells, put_changes, put_check, put_refusal, put_screen};
+use cept_writer::write_page;
+use std::alloc::Global;
+use std::marker::Model;
+use std::sync::ledger::Ledger;
+
+/// Reports items one after the other: what is asked for, the screen where commands are painted with
+/// the places that its last command changed, and how many items there were and were refused.
+#[derive(Drop)]
+pub struct Reporter {
+    action: Action,
+    screen: Option<Screen>,
+    marks: Marks,
+    items: u64,
+    refused: u64,
+}
+
+impl Model for Reporter {
+    ghost use Rattle.std.specs.Prelude.{◌≤◌};
+    ghost use Rattle.cept_tool.specs.Reporting.{ReporterState};
+
+    ghost Value = { ReporterState };
+
+    ghost view = { λ r. record {
+      action = r.action;
+      screen = r.screen;
+      items = r.items;
+      refused = r.refused;
+    } };
+
+    ghost invariant = { λ r. r.refused ≤ r.items };
+}
+
+/// The screen, where commands are painted.
+fn screen_for(alloc: Global, action: Action) -> Result<Option<Screen>, NoMemory>
+    ensures screen { IfOk result (λ screen. screen
+        ≡ (if (asked_of action).painting then Some (state []) else None)) }
+    ensures memory { action ≡ Action.Check → IsOk result }
+{
+    if action.asked().painting {
+        Ok(Some(Screen::new(alloc)?))
+    } else {
+        Ok(None)
+    }
+}
+
+impl Reporter {
+    ghost use Rattle.cept_tool.specs.declared.words.Action.{Action};
+    ghost use Rattle.cept_tool.specs.Reporting.{Stands, Applies, ReportsOn, refusal_text};
+
+    /// A reporter before the first item. To check a page it takes no memory.
+    pub fn new(alloc: Global, action: Action) -> Result<Reporter, NoMemory>
+        ensures stands { IfOk result (λ reporter. Stands action reporter []) }
+        ensures memory { action ≡ Action.Check → IsOk result }
+    {
+        Ok(Reporter {
+            action,
+            screen: screen_for(alloc, action)?,
+            marks: Marks::new(),
+            items: 0,
+            refused: 0,
+        })
+    }
+
+    /// Applies a command, paints what it changes, and puts its lines where they are asked for.
+    /// Without a screen nothing happens.
+    // In place, since most commands are attributes, which need little.
+    #[inline(always)]
+    fn apply<T: Sink, G: Glass, L: Ledger>(
+        &mut self,
+        place: u64,
+        command: &Command,
+        sink: &mut T,
+        glass: &mut G,
+        steps: &mut Steps<L>,
+    ) -> Result<(), WriteFault>
+        requires { IsValidCommand command.now }
+        ensures { Applies self.old place command.now
+            (output_of (T.state sink.old) (G.state glass.old)) result self.new
+            (output_of (T.state sink.new) (G.state glass.new)) }
+    {
+        let Some(screen) = &mut self.screen else {
+            return Ok(());
+        };
+        screen.apply_from(command, glass, &mut self.marks, steps);
+        if self.action.asked().changes {
+            put_changes(sink, place, &self.marks, screen)
+        } else {
+            Ok(())
+        }
+    }
+
+    /// Names refused bytes, where that is asked for.
+    #[inline(never)]
+    fn name_refusal<T: Sink>(
+        &self,
+        item: &Item,
+        reason: Reason,
+        sink: &mut T,
+    ) -> Result<(), WriteFault>
+        ensures { PutsText (T.state sink.old) (refusal_text self.now.action item.now reason) result
+            (T.state sink.new) }
+    {
+        if self.action.asked().refusals {
+            put_refusal(sink, item.at, item.len, reason)
+        } else {
+            Ok(())
+        }
+    }
+
+    /// Reports an item.
+    #[inline(always)]
+    fn report_item<T: Sink, G: Glass, L: Ledger>(
+        &mut self,
+        item: &Item,
+        sink: &mut T,
+        glass: &mut G,
+        steps: &mut Steps<L>,
+    ) -> Result<(), WriteFault>
+        requires valid { IsValidSaid item.now.what }
+        requires few { self.old.items + 1 < 2 ^ 64 }
+        ensures { ReportsOn self.old (item.now ∷ [])
+            (output_of (T.state sink.old) (G.state glass.old)) result self.new
+            (output_of (T.state sink.new) (G.state glass.new)) }
+    {
+        self.items += 1;
+        match &item.what {
+            Said::Command(command) => self.apply(item.at, command, sink, glass, steps),
+            Said::Refused(reason) => {
+                self.refused += 1;
+                self.name_refusal(item, *reason, sink)
+            }
+        }
+    }
+
+    /// Reports items one after the other.
+    // In place, since it is called for each byte and most often has one item.
+    #[inline(always)]
+    pub fn report_items<T: Sink, G: Glass, L: Ledger>(
+        &mut self,
+        items: &[Item],
+        sink: &mut T,
+        glass: &mut G,
+        steps: &mut Steps<L>,
+    ) -> Result<(), WriteFault>
+        requires valid { AllByRecursion (λ i. IsValidSaid i.what) items.now }
+        requires few { self.old.items + length items.now < 2 ^ 64 }
+        ensures { ReportsOn self.old items.now
+            (output_of (T.state sink.old) (G.state glass.old)) result self.new
+            (output_of (T.state sink.new) (G.state glass.new)) }
+    {
+        for item in items {
+            self.report_item(item, sink, glass, steps)?;
+        }
+        Ok(())
+    }
+
+    /// How many rows the page has, at most 24.
+    fn rows(&self) -> u8
+        ensures few { result ≤ 24 }
+        ensures rows { (commands : List Command) → self.now.screen ≡ Some (state commands)
+            → result ≡ rows_after commands }
+    {
+        match &self.screen {
+            None => 0,
+            Some(screen) => screen.rows(),
+        }
+    }
+
+    /// Puts the page, where commands are painted.
+    fn put_page<T: Sink>(&self, sink: &mut T) -> Result<(), WriteFault>
+        ensures { (commands : List Command) → self.now.screen ≡ Some (state commands)
+            → PutsText (T.state sink.old) (page_text (core commands)) result (T.state sink.new) }
+    {
+        match &self.screen {
+            None => Ok(()),
+            Some(screen) => write_page(screen, sink),
+        }
+    }
+
+    /// Puts the text at the end, after these items.
+    pub fn put_end<T: Sink, G: Glass>(&self, sink: &mut T, glass: &G) -> Result<(), WriteFault>
+        ensures { (action : Action) (items : List Item) → Stands action self.now items
+            → PutsText (T.state sink.old) (text_at_end action (G.state glass.now).grid items) result
+            (T.state sink.new) }
+    {
+        match self.action {
+            Action::Changes => Ok(()),
+            Action::Check => put_check(sink, self.items, self.refused),
+            Action::Show => put_screen(sink, glass, self.rows()),
+            Action::Cells => put_cells(sink, glass, self.rows()),
+            Action::Write => self.put_page(sink),
+        }
+    }
+
+    /// Whether an item was refused.
+    pub fn has_refusal(&self) -> bool
+        ensures { result ≡ nat_lt 0 self.now.refused }
+    {
+        self.refused > 0
+    }
+}

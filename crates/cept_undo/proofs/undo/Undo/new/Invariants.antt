@@ -1,0 +1,5 @@
+use Rattle.std.proofs.Common.{◌≡◌, length}
+use Rattle.cept_undo.proofs.undo.Undo.new.Given as goal
+
+abbrev pub invariant-loop-place : goal.invariant-loop-place
+invariant-loop-place l = (length l.spare.items ≡ l._place) × (l.spare.capacity ≡ 33)

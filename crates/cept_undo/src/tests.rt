@@ -1,0 +1,110 @@
+ghost use Rattle.std.specs.Prelude.{◌≡◌, ◌<◌, ◌≤◌};
+ghost use Rattle.cept_codes.specs.Command.{IsValidCommand};
+
+use crate::{Undo, Undone};
+use cept_codes::{Command, Glyph, Look, NoMemory, Pos, SetId, Shape};
+use cept_outside::Steps;
+use cept_repaint::{Glass, GridGlass, Marks, Screen};
+use std::alloc::Global;
+use std::marker::Brand;
+use std::sync::ledger::{Blank, Ledger};
+use std::test::Fail;
+
+/// The look of a sign of the primary set.
+fn sign(code: u8) -> Look {
+    Look {
+        shape: Shape::Char(Glyph {
+            set: SetId::P,
+            code,
+            accent: 0,
+        }),
+        ..Look::BLANK
+    }
+}
+
+/// What a run of edits and undos leaves.
+#[derive(Drop)]
+struct Left {
+    screen: Screen,
+    glass: GridGlass,
+    undone: u8,
+    last: Undone,
+}
+
+/// An A in red ink, whose ink alone is an edit and is taken back.
+fn ink_taken_back<L: Ledger>(alloc: Global, blank: Blank) -> Result<GridGlass, NoMemory>
+    requires name { blank.name ≡ L.name }
+    requires parts { blank.parts ≡ L.parts }
+    requires some { 0 < blank.parts }
+{
+    let mut screen = Screen::new(alloc)?;
+    let mut glass = GridGlass::new(alloc)?;
+    let mut marks = Marks::new();
+    let mut steps = Steps::<L>::new(blank);
+    let mut undo = Undo::new(alloc)?;
+    undo.begin(&screen);
+    undo.apply(
+        &mut screen,
+        Command::C1(1),
+        &mut glass,
+        &mut marks,
+        &mut steps,
+    );
+    undo.commit();
+    let _ = undo.undo(&mut screen, &mut glass, &mut marks, &mut steps);
+    screen.apply(Command::Graphic(0x41), &mut glass, &mut marks, &mut steps);
+    Ok(glass)
+}
+
+/// An edit that writes an A, and 32 more, each of which writes a B; and 33 undos.
+fn all_taken_back<L: Ledger>(alloc: Global, blank: Blank) -> Result<Left, NoMemory>
+    requires name { blank.name ≡ L.name }
+    requires parts { blank.parts ≡ L.parts }
+    requires some { 0 < blank.parts }
+{
+    let mut screen = Screen::new(alloc)?;
+    let mut glass = GridGlass::new(alloc)?;
+    let mut marks = Marks::new();
+    let mut steps = Steps::<L>::new(blank);
+    let mut undo = Undo::new(alloc)?;
+    for edit in 0..33u8 {
+        let command = Command::Graphic(if edit == 0 { 0x41 } else { 0x42 });
+        undo.begin(&screen);
+        undo.apply(&mut screen, command, &mut glass, &mut marks, &mut steps);
+        undo.commit();
+    }
+    let mut undone = 0u8;
+    let mut last = Undone::Undone;
+    for _ in 0..33u8 {
+        last = undo.undo(&mut screen, &mut glass, &mut marks, &mut steps);
+        if last == Undone::Undone {
+            undone = undone.saturating_add(1);
+        }
+    }
+    Ok(Left {
+        screen,
+        glass,
+        undone,
+        last,
+    })
+}
+
+#[test]
+fn an_undo_brings_back_the_pen(rt: HostRuntime) -> Result<(), Fail> {
+    let glass = ink_taken_back::<Brand>(rt.alloc(), Blank::new(1))?;
+    assert!(rt; glass.shown(Pos::new(1, 1).ok_or("no place")?) == sign(0x41));
+    Ok(())
+}
+
+#[test]
+fn of_33_edits_the_first_stays(rt: HostRuntime) -> Result<(), Fail> {
+    let left = all_taken_back::<Brand>(rt.alloc(), Blank::new(1))?;
+    let first = Pos::new(1, 1).ok_or("no place")?;
+    let second = Pos::new(1, 2).ok_or("no place")?;
+    assert_eq!(rt; left.undone, 32);
+    assert!(rt; left.last == Undone::Nothing);
+    assert!(rt; left.screen.look(first) == sign(0x41));
+    assert!(rt; left.glass.shown(first) == sign(0x41));
+    assert!(rt; left.glass.shown(second) == Look::BLANK);
+    Ok(())
+}

@@ -1,0 +1,161 @@
+-- The commands of a marker leave it once.
+use Rattle.std.proofs.Common.{◌≡◌, ℕ, ◌+◌, ◌-◌, ◌*◌, ◌/◌, ◌%◌, ◌≤◌, ◌<◌, Bool, true, false, eqb, ltb}
+use Rattle.std.proofs.Common.{Option, None, Some, List, [], ◌∷◌, refl, ap, ◌∙◌, arith}
+use Rattle.std.proofs.lemmas.Bool.Decides.{nat_tests}
+use Rattle.cept_codes.specs.declared.attribute.Flash.{Flash}
+use Rattle.cept_codes.specs.declared.attribute.Flash.TheVariants as flashes
+use Rattle.cept_codes.specs.declared.attribute.Size.TheVariants as sizes
+use Rattle.cept_codes.specs.declared.cell.Marker.{Marker}
+use Rattle.cept_codes.specs.declared.cell.Marker.TheVariants as markers
+use Rattle.cept_codes.specs.declared.cell.What.TheVariants as whats
+use Rattle.cept_codes.specs.declared.command.C1Set.TheVariants as c1sets
+use Rattle.cept_codes.specs.declared.command.Command.{Command}
+use Rattle.cept_codes.specs.declared.command.Command.TheVariants as commands
+use Rattle.cept_codes.specs.declared.stroke.Stroke.{Stroke}
+use Rattle.cept_codes.specs.declared.stroke.Stroke.TheVariants as strokes
+use Rattle.cept_profile.specs.Control.{ControlState, Working, control_with, initial_sets}
+use Rattle.cept_profile.specs.Markers.{marker_of, run_after, step_after, strokes_of_any_marker, strokes_of_marker}
+use Rattle.cept_profile.specs.Markers.{working_after_any_marker, working_after_marker}
+use Rattle.cept_profile.specs.Pens.{fast_after, fast_after_code, flash_of}
+use Rattle.cept_writer.specs.CellCommands.{marker_commands}
+use Rattle.cept_writer.proofs.Drawing.{Draws, draws_one, draws_silent}
+use Rattle.cept_writer.proofs.Resting.{Hand, hand_ahead, control_in_cell, moves_on, stays}
+
+-- under the serial set
+abbrev pub hand_under_serial : Hand → Hand
+hand_under_serial v = record v { c1 = c1sets.Serial }
+
+-- from rest but for protection the commands leave this marker, and control is the same afterwards
+pub record Leaves (rows : ℕ) (wrap : Bool) (protect : Bool) (v : Hand) (m : Marker) (cs : List Command) : Type 0 where
+  pub hand : Hand
+  pub draws : Draws (control_in_cell rows wrap initial_sets None protect (hand_under_serial v)) cs
+      (strokes.Put (record { row = v.row; column = v.column })
+      (record { what = whats.Marker m; protected = protect }) ∷ []) (control_in_cell rows wrap initial_sets None protect hand)
+
+-- ---- colours by their table and their code
+
+alpha_code : (t n : ℕ) → n < 8 → marker_of t n ≡ Some (markers.Alpha (8 * t + n))
+alpha_code t n low =
+    let is : ltb n 8 ≡ true = grind (arith, nat_tests) in
+    rw is refl
+
+mosaic_code : (t n : ℕ) → 16 ≤ n → n < 24 → marker_of t n ≡ Some (markers.Mosaic (8 * t + (n - 16)))
+mosaic_code t n low high =
+    let a : ltb n 8 ≡ false = grind (arith, nat_tests) in
+    let b : eqb n 8 ≡ false = grind (arith, nat_tests) in
+    let c : eqb n 9 ≡ false = grind (arith, nat_tests) in
+    let d : eqb n 10 ≡ false = grind (arith, nat_tests) in
+    let e : eqb n 11 ≡ false = grind (arith, nat_tests) in
+    let f : eqb n 12 ≡ false = grind (arith, nat_tests) in
+    let g : eqb n 13 ≡ false = grind (arith, nat_tests) in
+    let h : eqb n 14 ≡ false = grind (arith, nat_tests) in
+    let i : eqb n 15 ≡ false = grind (arith, nat_tests) in
+    let j : ltb n 24 ≡ true = grind (arith, nat_tests) in
+    rw (a, b, c, d, e, f, g, h, i, j) refl
+
+alpha_entry : (e : ℕ) → marker_of (e / 8) (0 + e % 8) ≡ Some (markers.Alpha e)
+alpha_entry e =
+    alpha_code (e / 8) (0 + e % 8) (omega arith)
+    ∙ ap (λ (k : ℕ). let m : Option Marker = Some (markers.Alpha k) in m) (let same : 8 * (e / 8) + (0 + e % 8) ≡ e = omega arith in same)
+
+mosaic_entry : (e : ℕ) → marker_of (e / 8) (16 + e % 8) ≡ Some (markers.Mosaic e)
+mosaic_entry e =
+    mosaic_code (e / 8) (16 + e % 8) (omega arith) (omega arith)
+    ∙ ap (λ (k : ℕ). let m : Option Marker = Some (markers.Mosaic k) in m)
+    (let same : 8 * (e / 8) + (16 + e % 8 - 16) ≡ e = omega arith in same)
+
+-- ---- one marker
+
+module _ (rows : ℕ) (wrap : Bool) (protect : Bool) where
+  -- a code that leaves it
+  coded : (v : Hand) (n : ℕ) (m : Marker) → marker_of v.table n ≡ Some m
+      → Leaves rows wrap protect v m (commands.C1 n ∷ [])
+  coded v n m is =
+      let s : ControlState = control_in_cell rows wrap initial_sets None protect (hand_under_serial v) in
+      record {
+        hand = record (hand_ahead rows wrap (hand_under_serial v) 1) {
+          run = run_after m v.run;
+          step = step_after m v.step;
+          fast = fast_after_code n v.fast;
+        };
+        draws = draws_one _ _ (commands.C1 n) _
+            (ap (λ (o : Option Marker). control_with s (record (working_after_any_marker s o)
+            { fast = fast_after_code n v.fast })) is
+            ∙ ap (λ (w : Working). control_with s (record w
+            { run = run_after m v.run; step = step_after m v.step; fast = fast_after_code n v.fast }))
+            (moves_on rows wrap initial_sets None protect (hand_under_serial v) 1))
+            (ap (λ (o : Option Marker). strokes_of_any_marker s o) is
+            ∙ ap (λ (more : List Stroke). strokes.Put (record { row = v.row; column = v.column })
+            (record { what = whats.Marker m; protected = protect }) ∷ more)
+            (stays rows wrap initial_sets None protect (hand_under_serial v) 1));
+      }
+
+  -- a colour by its table
+  coloured : (v : Hand) (t n : ℕ) (m : Marker) → marker_of t n ≡ Some m
+      → Leaves rows wrap protect v m (commands.Table t ∷ commands.C1 n ∷ [])
+  coloured v t n m is =
+      let there = coded (record v { table = t }) n m is in
+      record {
+        hand = there.hand;
+        draws = draws_silent _ (control_in_cell rows wrap initial_sets None protect (hand_under_serial (record v { table = t }))) _
+            (commands.Table t) _ _ refl refl there.draws;
+      }
+
+  -- a flash mode
+  moded : (v : Hand) (k : ℕ) (f : Flash) → flash_of k v.fast ≡ f
+      → Leaves rows wrap protect v (markers.Flash f) (commands.FlashMode k ∷ [])
+  unfolding hand_ahead
+  moded v k f is =
+      let s : ControlState = control_in_cell rows wrap initial_sets None protect (hand_under_serial v) in
+      record {
+        hand = record (hand_ahead rows wrap (hand_under_serial v) 1) { fast = fast_after k v.fast };
+        draws = draws_one _ _ (commands.FlashMode k) _
+            (ap (λ (g : Flash). control_with s (record (working_after_marker s (markers.Flash g))
+            { fast = fast_after k v.fast })) is
+            ∙ ap (λ (w : Working). control_with s (record w { run = v.run; step = v.step; fast = fast_after k v.fast }))
+            (moves_on rows wrap initial_sets None protect (hand_under_serial v) 1))
+            (ap (λ (g : Flash). strokes_of_marker s (markers.Flash g)) is
+            ∙ ap (λ (more : List Stroke). strokes.Put (record { row = v.row; column = v.column })
+            (record { what = whats.Marker (markers.Flash f); protected = protect }) ∷ more)
+            (stays rows wrap initial_sets None protect (hand_under_serial v) 1));
+      }
+
+  -- the end of concealing
+  revealed : (v : Hand) → Leaves rows wrap protect v (markers.Conceal false) (commands.StopConceal ∷ [])
+  unfolding hand_ahead
+  revealed v =
+      let s : ControlState = control_in_cell rows wrap initial_sets None protect (hand_under_serial v) in
+      record {
+        hand = hand_ahead rows wrap (hand_under_serial v) 1;
+        draws = draws_one _ _ commands.StopConceal _
+            (ap (λ (w : Working). control_with s (record w { run = v.run; step = v.step }))
+            (moves_on rows wrap initial_sets None protect (hand_under_serial v) 1))
+            (ap (λ (more : List Stroke). strokes.Put (record { row = v.row; column = v.column })
+            (record { what = whats.Marker (markers.Conceal false); protected = protect }) ∷ more)
+            (stays rows wrap initial_sets None protect (hand_under_serial v) 1));
+      }
+
+  pub marker_leaves : (v : Hand) (m : Marker) → Leaves rows wrap protect v m (marker_commands m)
+  marker_leaves v (markers.Alpha e) = coloured v (e / 8) (0 + e % 8) (markers.Alpha e) (alpha_entry e)
+  marker_leaves v (markers.Mosaic e) = coloured v (e / 8) (16 + e % 8) (markers.Mosaic e) (mosaic_entry e)
+  marker_leaves v markers.BlackBack = coded v 28 markers.BlackBack refl
+  marker_leaves v markers.NewBack = coded v 29 markers.NewBack refl
+  marker_leaves v markers.Hold = coded v 30 markers.Hold refl
+  marker_leaves v markers.Release = coded v 31 markers.Release refl
+  marker_leaves v (markers.Flash flashes.Plain) = coded v 8 (markers.Flash flashes.Plain) refl
+  marker_leaves v (markers.Flash flashes.Steady) = coded v 9 (markers.Flash flashes.Steady) refl
+  marker_leaves v (markers.Flash flashes.Inverted) = moded v 0 flashes.Inverted refl
+  marker_leaves v (markers.Flash flashes.Reduced) = moded v 1 flashes.Reduced refl
+  marker_leaves v (markers.Flash flashes.Fast1) = moded v 2 flashes.Fast1 refl
+  marker_leaves v (markers.Flash flashes.Fast2) = moded v 3 flashes.Fast2 refl
+  marker_leaves v (markers.Flash flashes.Fast3) = moded v 4 flashes.Fast3 refl
+  marker_leaves v (markers.Conceal true) = coded v 24 (markers.Conceal true) refl
+  marker_leaves v (markers.Conceal false) = revealed v
+  marker_leaves v (markers.Lined true) = coded v 26 (markers.Lined true) refl
+  marker_leaves v (markers.Lined false) = coded v 25 (markers.Lined false) refl
+  marker_leaves v (markers.Boxed true) = coded v 11 (markers.Boxed true) refl
+  marker_leaves v (markers.Boxed false) = coded v 10 (markers.Boxed false) refl
+  marker_leaves v (markers.Size sizes.Normal) = coded v 12 (markers.Size sizes.Normal) refl
+  marker_leaves v (markers.Size sizes.High) = coded v 13 (markers.Size sizes.High) refl
+  marker_leaves v (markers.Size sizes.Wide) = coded v 14 (markers.Size sizes.Wide) refl
+  marker_leaves v (markers.Size sizes.Both) = coded v 15 (markers.Size sizes.Both) refl

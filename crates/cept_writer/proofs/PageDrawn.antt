@@ -1,0 +1,249 @@
+-- The strokes of a written page, part by part, and control after it: as at the start but for what cells leave, with the
+-- format, the area and implicit scrolling of the core.
+use Rattle.std.proofs.Common.{◌≡◌, ℕ, ◌≤◌, ◌<◌, ◌⊎◌, Bool, true, false, cond, IfSome, Option, None, Some, List, []}
+use Rattle.std.proofs.Common.{◌∷◌, ◌++◌, flat_map, map, refl, sym, subst, inl, inr, arith}
+use Rattle.std.specs.List.{AllByRecursion, range_with_len}
+use Rattle.std.proofs.lemmas.Bool.{cases_lt}
+use Rattle.std.proofs.lemmas.List.{append-nil}
+use Rattle.cept_codes.specs.declared.attribute.Attr.{Attr}
+use Rattle.cept_codes.specs.declared.attribute.Attr.TheVariants as attrs
+use Rattle.cept_codes.specs.declared.attribute.Flash.{Flash}
+use Rattle.cept_codes.specs.declared.attribute.Pen.{Pen}
+use Rattle.cept_codes.specs.declared.command.C1Set.TheVariants as c1sets
+use Rattle.cept_codes.specs.declared.command.Command.{Command}
+use Rattle.cept_codes.specs.declared.command.Command.TheVariants as commands
+use Rattle.cept_codes.specs.declared.look.Paint.{Paint}
+use Rattle.cept_codes.specs.declared.look.Paint.TheVariants as paints
+use Rattle.cept_codes.specs.declared.look.Pattern.{Pattern}
+use Rattle.cept_codes.specs.declared.stroke.Stroke.{Stroke}
+use Rattle.cept_codes.specs.declared.stroke.Stroke.TheVariants as strokes
+use Rattle.cept_codes.specs.Attribute.{IsPlainFlash, IsRowPen, unset_pen}
+use Rattle.cept_codes.specs.Same.{same_paint}
+use Rattle.cept_profile.specs.Colours.{default_paint}
+use Rattle.cept_profile.specs.Control.{ControlState, initial_control}
+use Rattle.cept_profile.specs.PageParts.{dclut_in, paint_in, pattern_in, row_pen_in}
+use Rattle.cept_profile.specs.State.{Core}
+use Rattle.cept_profile.specs.Valid.{IsValidCore}
+use Rattle.cept_writer.specs.AttributeCommands.{attributes_of, class_attributes, pen_commands}
+use Rattle.cept_writer.specs.PageCommands.{area_commands, at_row, dclut_commands, entries_below, entry_commands}
+use Rattle.cept_writer.specs.PageCommands.{implicit_commands, is_default_dclut, page_commands, pattern_commands}
+use Rattle.cept_writer.specs.PageCommands.{patterns_below, row_commands, rows_below, screen_commands, with_colour_header}
+use Rattle.cept_writer.proofs.AttributesSet.{HasCode, Strikes, row_strikes, screen_strikes}
+use Rattle.cept_writer.proofs.CellsWritten.{AreValidCells, cells_rest, hand_at, position-hand_at, puts_below}
+use Rattle.cept_writer.proofs.Drawing.{Draws, draws_joined, draws_silent}
+use Rattle.cept_writer.proofs.StrokesByPart.{all_append}
+use Rattle.cept_writer.proofs.Resting.{AlwaysRests, Hand, Rests, rests_none, rests_range, control_at_rest}
+
+-- ---- the strokes of a page
+
+abbrev pub entry_strokes : ℕ → Paint → List Stroke
+entry_strokes i paints.Video = []
+entry_strokes i (paints.Ink c) =
+    cond (same_paint (paints.Ink c) (default_paint i)) [] (strokes.Colour i (paints.Ink c) ∷ [])
+
+unfoldable pub entries_strokes : List Paint → ℕ → List Stroke
+entries_strokes defined n = flat_map (λ i. entry_strokes i (paint_in defined i)) (range_with_len 0 n)
+
+abbrev pub dclut_strokes : List ℕ → List Stroke
+dclut_strokes dclut =
+    cond (is_default_dclut dclut) [] (strokes.Dclut 0 (dclut_in dclut 0) ∷ strokes.Dclut 1 (dclut_in dclut 1)
+    ∷ strokes.Dclut 2 (dclut_in dclut 2) ∷ strokes.Dclut 3 (dclut_in dclut 3) ∷ [])
+
+abbrev pub pattern_strokes : ℕ → Option Pattern → List Stroke
+pattern_strokes code None = []
+pattern_strokes code (Some pattern) = strokes.Drcs code pattern ∷ []
+
+unfoldable pub patterns_strokes : List (Option Pattern) → ℕ → List Stroke
+patterns_strokes patterns n = flat_map (λ code. pattern_strokes code (pattern_in patterns code)) (range_with_len 0x21 n)
+
+abbrev pub screen_strokes : Pen → List Stroke
+screen_strokes pen = map (λ attr. strokes.ScreenAttr attr) (attributes_of pen)
+
+abbrev pub row_strokes_of : ℕ → Pen → List Stroke
+row_strokes_of r pen = map (λ attr. strokes.RowAttr r attr) (attributes_of pen)
+
+unfoldable pub rows_strokes : List Pen → ℕ → List Stroke
+rows_strokes pens n = flat_map (λ r. row_strokes_of r (row_pen_in pens r)) (range_with_len 1 n)
+
+-- those of the reset and the format
+abbrev pub first_strokes : ℕ → List Stroke
+first_strokes rows =
+    strokes.Format 24 ∷ strokes.Wipe ∷ strokes.ScreenClear ∷ strokes.ColourDefaults ∷ strokes.DrcsClear
+    ∷ strokes.Format rows ∷ strokes.Wipe ∷ []
+
+unfoldable pub page_strokes : Core → List Stroke
+page_strokes k =
+    first_strokes k.rows ++ (entries_strokes k.page.paints 32 ++ (dclut_strokes k.page.dclut
+    ++ (patterns_strokes k.page.patterns 94 ++ (screen_strokes k.page.screen_pen ++ (rows_strokes k.page.row_pens 24
+    ++ puts_below k.page.cells 960)))))
+
+-- ---- attributes that have codes
+
+class_coded : {X : Type 0} (attr : X → Attr) (o : Option X) → ((x : X) → HasCode (attr x))
+    → AllByRecursion HasCode (class_attributes attr o)
+class_coded attr None has = tt
+class_coded attr (Some x) has = (has x, tt)
+
+flash_coded : (o : Option Flash) → IfSome o IsPlainFlash → AllByRecursion HasCode (class_attributes (λ f. attrs.Flash f) o)
+flash_coded None is = tt
+flash_coded (Some f) is = (is, tt)
+
+pub attributes_coded : (p : Pen) → IsRowPen p → AllByRecursion HasCode (attributes_of p)
+unfolding attributes_of
+attributes_coded p is =
+    all_append HasCode _ _ (class_coded (λ e. attrs.Fore e) p.fore (λ e. tt))
+    (all_append HasCode _ _ (class_coded (λ e. attrs.Back e) p.back (λ e. tt))
+    (all_append HasCode _ _ (flash_coded p.flash is.flash)
+    (all_append HasCode _ _ (class_coded (λ b. attrs.Conceal b) p.conceal (λ b. tt))
+    (all_append HasCode _ _ (class_coded (λ b. attrs.Lined b) p.lined (λ b. tt))
+    (all_append HasCode _ _ (class_coded (λ b. attrs.Boxed b) p.boxed (λ b. tt))
+    (all_append HasCode _ _ (class_coded (λ s. attrs.Size s) p.size (λ s. tt))
+    (class_coded (λ b. attrs.Invert b) p.invert (λ b. tt))))))))
+
+-- ---- each part
+
+module _ (rows : ℕ) (wrap : Bool) where
+  entry_rests : (i : ℕ) (paint : Paint) → AlwaysRests rows wrap (entry_commands i paint) (entry_strokes i paint)
+  entry_rests i paints.Video v = rests_none rows wrap v
+  entry_rests i (paints.Ink c) v = by_test (same_paint (paints.Ink c) (default_paint i)) where
+    by_test : (same : Bool) → Rests rows wrap v (cond same [] (commands.ColourStart i ∷ commands.Entry i c ∷ []))
+        (cond same [] (strokes.Colour i (paints.Ink c) ∷ []))
+    by_test true = rests_none rows wrap v
+    by_test false = record { hand = v; draws = record { control = refl; strokes = refl } }
+
+  entries_rest : (defined : List Paint) → AlwaysRests rows wrap (entries_below defined 32) (entries_strokes defined 32)
+  unfolding entries_below entries_strokes
+  entries_rest defined =
+      rests_range rows wrap (λ i. entry_commands i (paint_in defined i)) (λ i. entry_strokes i (paint_in defined i)) 0 32
+      (λ j low high. entry_rests j (paint_in defined j)) 0 32 (omega arith) (omega arith)
+
+  headed : (cs : List Command) (made : List Stroke) → AlwaysRests rows wrap cs made
+      → AlwaysRests rows wrap (with_colour_header cs) made
+  headed [] made rests v = rests v
+  headed (c ∷ cs) made rests v =
+      let there = rests v in
+      record {
+        hand = there.hand;
+        draws = draws_silent _ (control_at_rest rows wrap v) _ (commands.ColourHeader false) (c ∷ cs) _ refl refl there.draws;
+      }
+
+  dclut_rests : (dclut : List ℕ) → AlwaysRests rows wrap (dclut_commands dclut) (dclut_strokes dclut)
+  dclut_rests dclut v = by_test (is_default_dclut dclut) where
+    by_test : (same : Bool) → Rests rows wrap v (cond same [] (commands.ColourHeader true ∷ commands.ColourStart 0
+        ∷ commands.Dclut 0 (dclut_in dclut 0) ∷ commands.Dclut 1 (dclut_in dclut 1)
+        ∷ commands.Dclut 2 (dclut_in dclut 2) ∷ commands.Dclut 3 (dclut_in dclut 3) ∷ []))
+        (cond same [] (strokes.Dclut 0 (dclut_in dclut 0) ∷ strokes.Dclut 1 (dclut_in dclut 1)
+        ∷ strokes.Dclut 2 (dclut_in dclut 2) ∷ strokes.Dclut 3 (dclut_in dclut 3) ∷ []))
+    by_test true = rests_none rows wrap v
+    by_test false = record { hand = v; draws = record { control = refl; strokes = refl } }
+
+  pattern_rests : (code : ℕ) (o : Option Pattern) → AlwaysRests rows wrap (pattern_commands code o) (pattern_strokes code o)
+  pattern_rests code None v = rests_none rows wrap v
+  pattern_rests code (Some pattern) v = record { hand = v; draws = record { control = refl; strokes = refl } }
+
+  patterns_rest : (patterns : List (Option Pattern))
+      → AlwaysRests rows wrap (patterns_below patterns 94) (patterns_strokes patterns 94)
+  unfolding patterns_below patterns_strokes
+  patterns_rest patterns =
+      rests_range rows wrap (λ code. pattern_commands code (pattern_in patterns code))
+      (λ code. pattern_strokes code (pattern_in patterns code)) 0x21 127
+      (λ j low high. pattern_rests j (pattern_in patterns j)) 0x21 94 (omega arith) (omega arith)
+
+  screen_rests : (pen : Pen) → IsRowPen pen → AlwaysRests rows wrap (screen_commands pen) (screen_strokes pen)
+  screen_rests pen is v =
+      let there = screen_strikes rows wrap v (attributes_of pen) (attributes_coded pen is) in
+      record { hand = record v { table = there.table }; draws = there.draws }
+
+  -- a position before what isn't empty
+  at_row_rests : (r : ℕ) (cs : List Command) (made : List Stroke) → r ≤ rows
+      → ((v : Hand) → Strikes rows wrap (hand_at v (record { row = r; column = 1 })) made cs)
+      → AlwaysRests rows wrap (at_row r cs) made
+  at_row_rests r [] made within there v =
+      record { hand = v; draws = record { control = refl; strokes = (there v).draws.strokes } }
+  at_row_rests r (c ∷ cs) made within there v = record {
+    hand = record (hand_at v (record { row = r; column = 1 })) { table = (there v).table };
+    draws = draws_silent _ (control_at_rest rows wrap (hand_at v (record { row = r; column = 1 }))) _
+        (commands.Position r 1) (c ∷ cs) _ (position-hand_at rows wrap v (record { row = r; column = 1 }) within) refl
+        (there v).draws;
+  }
+
+  unset_rests : (r : ℕ) → AlwaysRests rows wrap (row_commands r unset_pen) (row_strokes_of r unset_pen)
+  unfolding attributes_of
+  unset_rests r v = rests_none rows wrap v
+
+  row_rests : (r : ℕ) (pen : Pen) → (r ≤ rows) ⊎ (pen ≡ unset_pen) → IsRowPen pen
+      → AlwaysRests rows wrap (row_commands r pen) (row_strokes_of r pen)
+  row_rests r pen (inl within) is =
+      at_row_rests r (pen_commands (λ n. commands.FullRow n) pen) (row_strokes_of r pen) within
+      (λ v. row_strikes rows wrap (hand_at v (record { row = r; column = 1 })) (attributes_of pen) (attributes_coded pen is))
+  row_rests r pen (inr unset) is =
+      subst (λ (p : Pen). AlwaysRests rows wrap (row_commands r p) (row_strokes_of r p)) (sym unset) (unset_rests r)
+
+  rows_rest : (pens : List Pen) → ((r : ℕ) → 1 ≤ r → r ≤ 24 → IsRowPen (row_pen_in pens r))
+      → ((r : ℕ) → 1 ≤ r → r ≤ 24 → rows < r → row_pen_in pens r ≡ unset_pen)
+      → AlwaysRests rows wrap (rows_below pens 24) (rows_strokes pens 24)
+  unfolding rows_below rows_strokes
+  rows_rest pens valid past =
+      rests_range rows wrap (λ r. row_commands r (row_pen_in pens r)) (λ r. row_strokes_of r (row_pen_in pens r)) 1 25
+      (λ r low high. row_rests r (row_pen_in pens r) (elim (cases_lt rows r)
+      [ inl more ↦ inr (past r low (omega (arith, high)) more) | inr within ↦ inl within ])
+      (valid r low (omega (arith, high)))) 1 24 (omega arith) (omega arith)
+
+-- ---- the page
+
+-- control with an area and implicit scrolling
+abbrev pub control_with_settings : Core → Hand → ControlState
+control_with_settings k v = record (control_at_rest k.rows k.wrap v) { area = k.area; implicit = k.implicit }
+
+settles : (k : Core) (v : Hand) (area : Option (ℕ × ℕ)) (implicit : Bool)
+    → Draws (control_at_rest k.rows k.wrap v) (area_commands area ++ implicit_commands implicit) []
+    (record (control_at_rest k.rows k.wrap v) { area = area; implicit = implicit })
+settles k v None false = record { control = refl; strokes = refl }
+settles k v None true = record { control = refl; strokes = refl }
+settles k v (Some area) false = record { control = refl; strokes = refl }
+settles k v (Some area) true = record { control = refl; strokes = refl }
+
+pub record PageDraws (k : Core) : Type 0 where
+  pub hand : Hand
+  pub draws : Draws initial_control (page_commands k) (page_strokes k) (control_with_settings k hand)
+
+-- the hand after the reset and the format
+abbrev first_hand : Hand
+first_hand = record {
+  row = 1;
+  column = 1;
+  c1 = c1sets.Parallel;
+  last = None;
+  pen = unset_pen;
+  fast = 0;
+  run = false;
+  step = 1;
+  table = 0;
+}
+
+-- commands that make no stroke come last
+ends : (s t u : ControlState) (cs ds : List Command) (p : List Stroke) → Draws s cs p t → Draws t ds [] u
+    → Draws s (cs ++ ds) p u
+ends s t u cs ds p a b =
+    subst (λ (q : List Stroke). Draws s (cs ++ ds) q u) (append-nil p) (draws_joined s t u cs ds p [] a b)
+
+pub page_draws : (k : Core) → IsValidCore k → PageDraws k
+unfolding page_commands page_strokes
+page_draws k is =
+    let cells : AreValidCells k.rows k.page.cells = record { valid = is.page.cells; past = is.past } in
+    let a = headed k.rows k.wrap (entries_below k.page.paints 32) (entries_strokes k.page.paints 32)
+    (entries_rest k.rows k.wrap k.page.paints) first_hand in
+    let b = dclut_rests k.rows k.wrap k.page.dclut a.hand in
+    let c = patterns_rest k.rows k.wrap k.page.patterns b.hand in
+    let d = screen_rests k.rows k.wrap k.page.screen_pen is.page.screen_pen.row c.hand in
+    let e = rows_rest k.rows k.wrap k.page.row_pens is.page.row_pens is.unset d.hand in
+    let f = cells_rest k.rows k.wrap k.page.cells cells e.hand in
+    let last = settles k f.hand k.area k.implicit in
+    let first : Draws initial_control (commands.FullDefaults c1sets.Parallel ∷ commands.Format k.rows k.wrap ∷ [])
+    (first_strokes k.rows) (control_at_rest k.rows k.wrap first_hand) = record { control = refl; strokes = refl } in
+    record {
+      hand = f.hand;
+      draws = draws_joined _ _ _ _ _ _ _ first (draws_joined _ _ _ _ _ _ _ a.draws (draws_joined _ _ _ _ _ _ _ b.draws
+          (draws_joined _ _ _ _ _ _ _ c.draws (draws_joined _ _ _ _ _ _ _ d.draws (draws_joined _ _ _ _ _ _ _ e.draws
+          (ends _ _ _ _ _ _ f.draws last))))));
+    }

@@ -1,0 +1,511 @@
+-- The commands of a written page are spelled from the start on.
+use Rattle.std.proofs.Common.{◌≡◌, ◌⊎◌, ℕ, zero, suc, ◌+◌, ◌%◌, ◌<◌, ◌≤◌, Bool, true, false, cond, eqb}
+use Rattle.std.proofs.Common.{List, [], ◌∷◌, ◌++◌, Option, Some, None, IfSome, refl, sym, ap, ◌∙◌, subst, arith, inl}
+use Rattle.std.proofs.Common.{inr}
+use Rattle.std.proofs.lemmas.Bool.{cases_Bool}
+use Rattle.std.proofs.lemmas.Bool.Decides.{nat_tests}
+use Rattle.std.specs.List.{AllByRecursion, flat_map, range_with_len}
+use Rattle.cept_codes.specs.declared.attribute.Attr.{Attr}
+use Rattle.cept_codes.specs.declared.attribute.Attr.TheVariants as attrs
+use Rattle.cept_codes.specs.declared.attribute.Flash.{Flash}
+use Rattle.cept_codes.specs.declared.attribute.Flash.TheVariants as flashes
+use Rattle.cept_codes.specs.declared.attribute.Pen.{Pen}
+use Rattle.cept_codes.specs.declared.attribute.Size.{Size}
+use Rattle.cept_codes.specs.declared.attribute.Size.TheVariants as sizes
+use Rattle.cept_codes.specs.declared.cell.Marker.{Marker}
+use Rattle.cept_codes.specs.declared.cell.Marker.TheVariants as markers
+use Rattle.cept_codes.specs.declared.cell.What.{What}
+use Rattle.cept_codes.specs.declared.cell.What.TheVariants as whats
+use Rattle.cept_codes.specs.declared.command.C1Set.TheVariants as c1_set
+use Rattle.cept_codes.specs.declared.command.Command.{Command}
+use Rattle.cept_codes.specs.declared.command.Command.TheVariants as command
+use Rattle.cept_codes.specs.declared.command.Form.{Form}
+use Rattle.cept_codes.specs.declared.glyph.SetId.{SetId}
+use Rattle.cept_codes.specs.declared.glyph.SetId.TheVariants as set
+use Rattle.cept_codes.specs.declared.look.Paint.{Paint}
+use Rattle.cept_codes.specs.declared.look.Paint.TheVariants as paints
+use Rattle.cept_codes.specs.declared.look.Pattern.{Pattern}
+use Rattle.cept_codes.specs.Attribute.{IsValidAttr, IsValidPen, IsScreenPen}
+use Rattle.cept_codes.specs.Cell.{IsValidMarker, IsValidWhat}
+use Rattle.cept_codes.specs.Command.{IsArea, IsC1, IsScreenC1}
+use Rattle.cept_codes.specs.Glyph.{IsCodeOf, IsValidAccent}
+use Rattle.cept_codes.specs.Look.{IsValidPattern}
+use Rattle.cept_codes.specs.Place.{OnScreen, place_of}
+use Rattle.cept_codes.specs.Same.{same_paint}
+use Rattle.cept_codes.specs.Stroke.{IsPaintOf}
+use Rattle.cept_codes.proofs.Laws.{OnScreen-place_of}
+use Rattle.cept_parser.specs.declared.context.ColourKind.TheVariants.{ColourTable}
+use Rattle.cept_parser.specs.declared.context.Context.{Context}
+use Rattle.cept_parser.specs.declared.context.Mode.{Mode}
+use Rattle.cept_parser.specs.declared.context.Mode.TheVariants.{TableRun, Skip}
+use Rattle.cept_parser.specs.Context.{start_context}
+use Rattle.cept_parser.specs.Items.{closed_items, commands, is_refusal}
+use Rattle.cept_parser.specs.ReadsAs.{begins_anew, Reads}
+use Rattle.cept_parser.specs.Spelling.{spelling, spellings, context_after, context_after_all, IsSpelled, AreSpelled}
+use Rattle.cept_parser.specs.Spelling.{IsTextual, AreTextual}
+use Rattle.cept_parser.proofs.ReadsLemmas.{anew_more, spelled-append, spellings-append, context_after_all-append}
+use Rattle.cept_parser.proofs.ReadsLemmas.{reads_list, no_refusals, commands_are}
+use Rattle.cept_parser.proofs.TextualLemmas.{textual_spelled, textual-append}
+use Rattle.cept_profile.specs.Colours.{default_paint}
+use Rattle.cept_profile.specs.PageParts.{dclut_in, paint_in, pattern_in, row_pen_in}
+use Rattle.cept_profile.specs.State.{Core}
+use Rattle.cept_profile.specs.Valid.{IsValidCore}
+use Rattle.cept_writer.specs.AttributeCommands.{class_attributes, attributes_of, colour_commands, flash_commands}
+use Rattle.cept_writer.specs.AttributeCommands.{size_code, attribute_commands, attributes_commands, pen_commands}
+use Rattle.cept_writer.specs.CellCommands.{accent_commands, sign_commands, glyph_commands, marker_commands}
+use Rattle.cept_writer.specs.CellCommands.{content_commands, protected_commands, cell_commands}
+use Rattle.cept_writer.specs.PageCommands.{entry_commands, entries_below, with_colour_header, is_default_dclut}
+use Rattle.cept_writer.specs.PageCommands.{dclut_commands, pattern_commands, patterns_below, screen_commands}
+use Rattle.cept_writer.specs.PageCommands.{at_row, row_commands, rows_below, cell_numbered, cells_below, area_commands}
+use Rattle.cept_writer.specs.PageCommands.{implicit_commands, page_commands}
+
+-- ---- commands that are spelled in any context
+
+abbrev Anywhere : List Command → Type 0
+Anywhere cs = (x : Context) → AreSpelled x cs
+
+-- there are none, or they begin with a breaker
+abbrev AnewOrNone : List Command → Type 0
+AnewOrNone cs = (cs ≡ []) ⊎ (begins_anew (spellings cs) ≡ true)
+
+anywhere-append : (a b : List Command) → Anywhere a → Anywhere b → Anywhere (a ++ b)
+anywhere-append a b h k x = spelled-append x a b (h x) (k (context_after_all x a))
+
+anywhere_each : (f : ℕ → List Command) (from n : ℕ) → ((i : ℕ) → from ≤ i → i < from + n → Anywhere (f i))
+    → Anywhere (flat_map f (range_with_len from n))
+anywhere_each f from zero h x = tt
+anywhere_each f from (suc n) h x =
+    anywhere-append (f from) (flat_map f (range_with_len (from + 1) n)) (h from (omega arith) (omega arith))
+    (anywhere_each f (from + 1) n (λ i l m. h i (omega arith) (omega arith))) x
+
+anew-append : (a b : List Command) → AnewOrNone a → AnewOrNone b → AnewOrNone (a ++ b)
+anew-append a b (inl e) k = subst (λ (c : List Command). AnewOrNone (c ++ b)) (sym e) k
+anew-append a b (inr h) k =
+    inr (ap begins_anew (spellings-append a b) ∙ anew_more (spellings a) (spellings b) h)
+
+anew_each : (f : ℕ → List Command) (from n : ℕ) → ((i : ℕ) → AnewOrNone (f i))
+    → AnewOrNone (flat_map f (range_with_len from n))
+anew_each f from zero h = inl refl
+anew_each f from (suc n) h =
+    anew-append (f from) (flat_map f (range_with_len (from + 1) n)) (h from) (anew_each f (from + 1) n h)
+
+textual_anywhere : (cs : List Command) → AreTextual cs → AnewOrNone cs → Anywhere cs
+textual_anywhere cs h (inl e) x = subst (AreSpelled x) (sym e) tt
+textual_anywhere cs h (inr e) x = textual_spelled x cs h (inr e)
+
+-- ---- attributes
+
+-- a code of the size of an attribute stands, where it is one
+abbrev SizeStands : (ℕ → Command) → Attr → Type 0
+SizeStands code (attrs.Size s) = IsTextual (code (size_code s))
+SizeStands code attr = Unit {0}
+
+abbrev Stands : (ℕ → Command) → Attr → Type 0
+Stands code attr = IsValidAttr attr × SizeStands code attr
+
+-- codes that may stand for the screen stand here
+abbrev IsCoded : (ℕ → Command) → Type 0
+IsCoded code = (n : ℕ) → IsScreenC1 n → IsTextual (code n)
+
+colour_textual : (code : ℕ → Command) (first e : ℕ) → IsCoded code → (first ≡ 0) ⊎ (first ≡ 16) → e < 32
+    → AreTextual (colour_commands code first e)
+colour_textual code first e h (inl f) l =
+    (omega arith, (h (first + e % 8) ((omega arith, λ q. omega arith), inl (omega arith)), tt))
+colour_textual code first e h (inr f) l =
+    (omega arith, (h (first + e % 8) ((omega arith, λ q. omega arith), inr (omega arith)), tt))
+
+-- one code that isn't that of a size
+code_textual : (code : ℕ → Command) (n : ℕ) → IsCoded code → IsScreenC1 n → AreTextual (code n ∷ [])
+code_textual code n h l = (h n l, tt)
+
+below_sizes : (n : ℕ) → n < 12 → IsScreenC1 n
+below_sizes n l = ((omega arith, λ q. omega arith), inl l)
+
+above_sizes : (n : ℕ) → 15 < n → n < 27 → IsScreenC1 n
+above_sizes n l m = ((omega arith, λ q. omega arith), inr l)
+
+last_codes : (n : ℕ) → 27 < n → n < 32 → IsScreenC1 n
+last_codes n l m = ((omega arith, λ q. omega arith), inr (omega arith))
+
+flash_textual : (code : ℕ → Command) (f : Flash) → IsCoded code → AreTextual (flash_commands code f)
+flash_textual code flashes.Plain h = code_textual code 8 h (below_sizes 8 (omega arith))
+flash_textual code flashes.Steady h = code_textual code 9 h (below_sizes 9 (omega arith))
+flash_textual code flashes.Inverted h = (omega arith, tt)
+flash_textual code flashes.Reduced h = (omega arith, tt)
+flash_textual code flashes.Fast1 h = (omega arith, tt)
+flash_textual code flashes.Fast2 h = (omega arith, tt)
+flash_textual code flashes.Fast3 h = (omega arith, tt)
+
+attribute_textual : (code : ℕ → Command) (attr : Attr) → IsCoded code → Stands code attr
+    → AreTextual (attribute_commands code attr)
+attribute_textual code (attrs.Fore e) h s = colour_textual code 0 e h (inl refl) s.0
+attribute_textual code (attrs.Back e) h s = colour_textual code 16 e h (inr refl) s.0
+attribute_textual code attrs.NoBack h s = code_textual code 30 h (last_codes 30 (omega arith) (omega arith))
+attribute_textual code (attrs.Flash f) h s = flash_textual code f h
+attribute_textual code (attrs.Conceal true) h s = code_textual code 24 h (above_sizes 24 (omega arith) (omega arith))
+attribute_textual code (attrs.Conceal false) h s = code_textual code 31 h (last_codes 31 (omega arith) (omega arith))
+attribute_textual code (attrs.Lined true) h s = code_textual code 26 h (above_sizes 26 (omega arith) (omega arith))
+attribute_textual code (attrs.Lined false) h s = code_textual code 25 h (above_sizes 25 (omega arith) (omega arith))
+attribute_textual code (attrs.Boxed true) h s = code_textual code 11 h (below_sizes 11 (omega arith))
+attribute_textual code (attrs.Boxed false) h s = code_textual code 10 h (below_sizes 10 (omega arith))
+attribute_textual code (attrs.Size s) h k = (k.1, tt)
+attribute_textual code (attrs.Invert true) h s = code_textual code 29 h (last_codes 29 (omega arith) (omega arith))
+attribute_textual code (attrs.Invert false) h s = code_textual code 28 h (last_codes 28 (omega arith) (omega arith))
+
+attributes_textual : (code : ℕ → Command) (list : List Attr) → IsCoded code → AllByRecursion (Stands code) list
+    → AreTextual (attributes_commands code list)
+attributes_textual code [] h k = tt
+attributes_textual code (a ∷ more) h k =
+    textual-append (attribute_commands code a) (attributes_commands code more) (attribute_textual code a h k.0)
+    (attributes_textual code more h k.1)
+
+all-append : (P : Attr → Type 0) (a b : List Attr) → AllByRecursion P a → AllByRecursion P b → AllByRecursion P (a ++ b)
+all-append P [] b h k = k
+all-append P (x ∷ a) b h k = (h.0, all-append P a b h.1 k)
+
+class_all : {X : Type 0} (P : Attr → Type 0) (attr : X → Attr) (o : Option X) → IfSome o (λ v. P (attr v))
+    → AllByRecursion P (class_attributes attr o)
+class_all P attr None h = tt
+class_all P attr (Some v) h = (h, tt)
+
+if_any : {X : Type 0} (R : X → Type 0) (o : Option X) → ((v : X) → R v) → IfSome o R
+if_any R None h = tt
+if_any R (Some v) h = h v
+
+if_valid : {X : Type 0} (R S : X → Type 0) (o : Option X) → ((v : X) → R v → S v) → IfSome o R → IfSome o S
+if_valid R S None h k = tt
+if_valid R S (Some v) h k = h v k
+
+pen_stands : (code : ℕ → Command) (p : Pen) → IsValidPen p → IfSome p.size (λ s. IsTextual (code (size_code s)))
+    → AllByRecursion (Stands code) (attributes_of p)
+unfolding attributes_of
+pen_stands code p v s =
+    let P : Attr → Type 0 = Stands code in
+    all-append P _ _ (class_all P (λ e. attrs.Fore e) p.fore (if_valid _ _ p.fore (λ e h. (h, tt)) v.fore))
+    (all-append P _ _ (class_all P (λ e. attrs.Back e) p.back (if_valid _ _ p.back (λ e h. (h, tt)) v.back))
+    (all-append P _ _ (class_all P (λ f. attrs.Flash f) p.flash (if_any _ p.flash (λ f. (tt, tt))))
+    (all-append P _ _ (class_all P (λ b. attrs.Conceal b) p.conceal (if_any _ p.conceal (λ b. (tt, tt))))
+    (all-append P _ _ (class_all P (λ b. attrs.Lined b) p.lined (if_any _ p.lined (λ b. (tt, tt))))
+    (all-append P _ _ (class_all P (λ b. attrs.Boxed b) p.boxed (if_any _ p.boxed (λ b. (tt, tt))))
+    (all-append P _ _ (class_all P (λ z. attrs.Size z) p.size (if_valid _ _ p.size (λ z h. (tt, h)) s))
+    (class_all P (λ b. attrs.Invert b) p.invert (if_any _ p.invert (λ b. (tt, tt))))))))))
+
+pen_textual : (code : ℕ → Command) (p : Pen) → IsCoded code → IsValidPen p
+    → IfSome p.size (λ s. IsTextual (code (size_code s))) → AreTextual (pen_commands code p)
+pen_textual code p h v s = attributes_textual code (attributes_of p) h (pen_stands code p v s)
+
+size_c1 : (s : Size) → IsC1 (size_code s)
+size_c1 sizes.Normal = (omega arith, λ q. omega arith)
+size_c1 sizes.High = (omega arith, λ q. omega arith)
+size_c1 sizes.Wide = (omega arith, λ q. omega arith)
+size_c1 sizes.Both = (omega arith, λ q. omega arith)
+
+-- ---- cells
+
+signs_coded : IsCoded (λ n. command.C1 n)
+signs_coded n h = h.0
+
+rows_coded : IsCoded (λ n. command.FullRow n)
+rows_coded n h = h.0
+
+screen_coded : IsCoded (λ n. command.FullScreen n)
+screen_coded n h = h
+
+accent_textual : (accent : ℕ) → (accent ≡ 0) ⊎ ((0x40 ≤ accent) × (accent ≤ 0x4F)) → AreTextual (accent_commands accent)
+accent_textual accent (inl e) = subst (λ (n : ℕ). AreTextual (accent_commands n)) (sym e) tt
+accent_textual accent (inr h) =
+    let some : eqb accent 0 ≡ false = above_zero accent h.0 in
+    rw some ((omega arith, omega arith), ((omega (arith, h.0), omega (arith, h.1)), tt))
+  where
+    above_zero : (n : ℕ) → 0x40 ≤ n → eqb n 0 ≡ false
+    above_zero n l = grind (arith, nat_tests)
+
+sign_textual : (s : SetId) (code accent : ℕ) → IsCodeOf s code → IsValidAccent s accent
+    → AreTextual (sign_commands s code accent)
+sign_textual set.P code accent h k =
+    textual-append (accent_commands accent) (command.Graphic code ∷ []) (accent_textual accent k) ((h.0, h.1), tt)
+sign_textual set.S code accent h k = ((omega arith, omega arith), ((omega (arith, h.0), h.1), tt))
+sign_textual set.M code accent h k = (omega arith, ((omega (arith, h.0), h.1), (omega arith, tt)))
+sign_textual set.N code accent h k = ((omega arith, omega arith), ((omega (arith, h.0), h.1), tt))
+sign_textual set.D code accent h k = (omega arith, ((omega (arith, h.0), h.1), (omega arith, tt)))
+
+marker_textual : (m : Marker) → IsValidMarker m → AreTextual (marker_commands m)
+marker_textual (markers.Alpha e) h = colour_textual (λ n. command.C1 n) 0 e signs_coded (inl refl) h
+marker_textual (markers.Mosaic e) h = colour_textual (λ n. command.C1 n) 16 e signs_coded (inr refl) h
+marker_textual markers.BlackBack h = ((omega arith, λ q. omega arith), tt)
+marker_textual markers.NewBack h = ((omega arith, λ q. omega arith), tt)
+marker_textual markers.Hold h = ((omega arith, λ q. omega arith), tt)
+marker_textual markers.Release h = ((omega arith, λ q. omega arith), tt)
+marker_textual (markers.Flash f) h = flash_textual (λ n. command.C1 n) f signs_coded
+marker_textual (markers.Conceal true) h = ((omega arith, λ q. omega arith), tt)
+marker_textual (markers.Conceal false) h = (tt, tt)
+marker_textual (markers.Lined true) h = ((omega arith, λ q. omega arith), tt)
+marker_textual (markers.Lined false) h = ((omega arith, λ q. omega arith), tt)
+marker_textual (markers.Boxed true) h = ((omega arith, λ q. omega arith), tt)
+marker_textual (markers.Boxed false) h = ((omega arith, λ q. omega arith), tt)
+marker_textual (markers.Size s) h = (size_c1 s, tt)
+
+content_textual : (w : What) → IsValidWhat w → AreTextual (content_commands w)
+content_textual whats.Blank h = tt
+content_textual (whats.Serial g) h = (tt, sign_textual g.set g.code g.accent h.code h.accent)
+content_textual (whats.Parallel g pen) h = (
+  tt,
+  textual-append (pen_commands (λ n. command.C1 n) pen) (glyph_commands g)
+      (pen_textual (λ n. command.C1 n) pen signs_coded h.1
+      (if_any _ pen.size size_c1)) (sign_textual g.set g.code g.accent h.0.code h.0.accent),
+)
+content_textual (whats.Marker m) h = (tt, marker_textual m h)
+
+protected_textual : (b : Bool) (cs : List Command) → AreTextual cs → AreTextual (protected_commands b cs)
+protected_textual true cs h = (tt, textual-append cs (command.Protect false ∷ []) h (tt, tt))
+protected_textual false cs h = h
+
+-- commands at a place are spelled anywhere
+placed_anywhere : (r c : ℕ) (cs : List Command) → OnScreen r c → AreTextual cs → Anywhere (command.Position r c ∷ cs)
+unfolding spelling
+placed_anywhere r c cs on h = textual_anywhere (command.Position r c ∷ cs) (on, h) (inr refl)
+
+cell_anywhere : (r c : ℕ) (b : Bool) (w : What) → OnScreen r c → IsValidWhat w
+    → Anywhere (cell_commands (record { row = r; column = c }) b w)
+cell_anywhere r c b whats.Blank on h x = tt
+cell_anywhere r c b (whats.Serial g) on h x =
+    placed_anywhere r c _ on (protected_textual b _ (content_textual (whats.Serial g) h)) x
+cell_anywhere r c b (whats.Parallel g pen) on h x =
+    placed_anywhere r c _ on (protected_textual b _ (content_textual (whats.Parallel g pen) h)) x
+cell_anywhere r c b (whats.Marker m) on h x =
+    placed_anywhere r c _ on (protected_textual b _ (content_textual (whats.Marker m) h)) x
+
+cells_anywhere : (k : Core) → IsValidCore k → Anywhere (cells_below k.page.cells 960)
+unfolding cells_below
+cells_anywhere k v =
+    anywhere_each
+    (λ m. cell_commands (place_of m) (cell_numbered k.page.cells m).protected (cell_numbered k.page.cells m).what)
+    0 960 (λ m l n.
+    let on = OnScreen-place_of m n in
+    cell_anywhere (place_of m).row (place_of m).column (cell_numbered k.page.cells m).protected
+    (cell_numbered k.page.cells m).what on (v.page.cells (place_of m).row (place_of m).column on))
+
+-- ---- attributes of rows and of the screen
+
+at_row_anywhere : (r : ℕ) (cs : List Command) → 1 ≤ r → r ≤ 24 → AreTextual cs → Anywhere (at_row r cs)
+at_row_anywhere r [] l m h x = tt
+at_row_anywhere r (c ∷ cs) l m h x =
+    placed_anywhere r 1 (c ∷ cs)
+    (record { from_top = l; to_bottom = m; from_left = omega arith; to_right = omega arith }) h x
+
+rows_anywhere : (k : Core) → IsValidCore k → Anywhere (rows_below k.page.row_pens 24)
+unfolding rows_below
+rows_anywhere k v =
+    anywhere_each (λ r. row_commands r (row_pen_in k.page.row_pens r)) 1 24 (λ r l m.
+    let small : r ≤ 24 = omega arith in
+    let p = row_pen_in k.page.row_pens r in
+    at_row_anywhere r (pen_commands (λ n. command.FullRow n) p) l small
+    (pen_textual (λ n. command.FullRow n) p rows_coded
+    (v.page.row_pens r l small).valid (if_any _ p.size size_c1)))
+
+screen_anew : (attr : Attr) → begins_anew (spellings (attribute_commands (λ n. command.FullScreen n) attr)) ≡ true
+unfolding spelling
+screen_anew (attrs.Fore e) = refl
+screen_anew (attrs.Back e) = refl
+screen_anew attrs.NoBack = refl
+screen_anew (attrs.Flash flashes.Plain) = refl
+screen_anew (attrs.Flash flashes.Steady) = refl
+screen_anew (attrs.Flash flashes.Inverted) = refl
+screen_anew (attrs.Flash flashes.Reduced) = refl
+screen_anew (attrs.Flash flashes.Fast1) = refl
+screen_anew (attrs.Flash flashes.Fast2) = refl
+screen_anew (attrs.Flash flashes.Fast3) = refl
+screen_anew (attrs.Conceal on) = refl
+screen_anew (attrs.Lined on) = refl
+screen_anew (attrs.Boxed on) = refl
+screen_anew (attrs.Size s) = refl
+screen_anew (attrs.Invert on) = refl
+
+attributes_anew : (list : List Attr) → AnewOrNone (attributes_commands (λ n. command.FullScreen n) list)
+attributes_anew [] = inl refl
+attributes_anew (a ∷ more) =
+    anew-append (attribute_commands (λ n. command.FullScreen n) a)
+    (attributes_commands (λ n. command.FullScreen n) more) (inr (screen_anew a))
+    (attributes_anew more)
+
+no_size : (o : Option Size) → o ≡ None → IfSome o (λ s. IsTextual (command.FullScreen (size_code s)))
+no_size o e = subst (λ (q : Option Size). IfSome q (λ s. IsTextual (command.FullScreen (size_code s)))) (sym e) tt
+
+screen_anywhere : (p : Pen) → IsScreenPen p → Anywhere (screen_commands p)
+screen_anywhere p v =
+    textual_anywhere (screen_commands p)
+    (pen_textual (λ n. command.FullScreen n) p screen_coded v.row.valid (no_size p.size v.size))
+    (attributes_anew (attributes_of p))
+
+-- ---- colours
+
+-- a context in which entries of the table come
+abbrev in_table : Mode → Form → Context
+in_table m f = record { mode = m; kind = ColourTable; form = f }
+
+-- commands that are spelled there, and after which there still is one
+record InTable (cs : List Command) : Type 0 where
+  mode : Mode → Mode
+  spelled : (m : Mode) (f : Form) → AreSpelled (in_table m f) cs
+  leads : (m : Mode) (f : Form) → context_after_all (in_table m f) cs ≡ in_table (mode m) f
+
+in_table-none : InTable []
+in_table-none = record { mode = λ m. m; spelled = λ m f. tt; leads = λ m f. refl }
+
+in_table-append : (a b : List Command) → InTable a → InTable b → InTable (a ++ b)
+in_table-append a b p q =
+    record {
+      mode = λ m. q.mode (p.mode m);
+      spelled = λ m f. spelled-append (in_table m f) a b (p.spelled m f)
+          (subst (λ (x : Context). AreSpelled x b) (sym (p.leads m f))
+          (q.spelled (p.mode m) f));
+      leads = λ m f. context_after_all-append (in_table m f) a b
+          ∙ ap (λ (x : Context). context_after_all x b) (p.leads m f)
+          ∙ q.leads (p.mode m) f;
+    }
+
+in_table_each : (g : ℕ → List Command) (from n : ℕ) → ((i : ℕ) → from ≤ i → i < from + n → InTable (g i))
+    → InTable (flat_map g (range_with_len from n))
+in_table_each g from zero h = in_table-none
+in_table_each g from (suc n) h =
+    in_table-append (g from) (flat_map g (range_with_len (from + 1) n)) (h from (omega arith) (omega arith))
+    (in_table_each g (from + 1) n (λ i l m. h i (omega arith) (omega arith)))
+
+entry_in_table : (i : ℕ) (p : Paint) → i < 32 → IsPaintOf i p → InTable (entry_commands i p)
+unfolding IsSpelled context_after
+entry_in_table i paints.Video l h = in_table-none
+entry_in_table i (paints.Ink c) l h =
+    each_choice (same_paint (paints.Ink c) (default_paint i)) in_table-none (record {
+      mode = λ m. TableRun (i + 1);
+      spelled = λ m f. (omega arith, refl, ((refl, (omega arith, h)), refl, tt));
+      leads = λ m f. refl;
+    })
+  where
+    each_choice : (b : Bool) {s t : List Command} → InTable s → InTable t → InTable (cond b s t)
+    each_choice true p q = p
+    each_choice false p q = q
+
+entry_anew : (i : ℕ) (p : Paint) → AnewOrNone (entry_commands i p)
+unfolding spelling
+entry_anew i paints.Video = inl refl
+entry_anew i (paints.Ink c) = each_choice (same_paint (paints.Ink c) (default_paint i)) (inl refl) (inr refl)
+  where
+    each_choice : (b : Bool) {s t : List Command} → AnewOrNone s → AnewOrNone t → AnewOrNone (cond b s t)
+    each_choice true p q = p
+    each_choice false p q = q
+
+header_anywhere : (cs : List Command) → InTable cs → AnewOrNone cs → Anywhere (with_colour_header cs)
+unfolding IsSpelled context_after
+header_anywhere [] p h x = tt
+header_anywhere (c ∷ cs) p (inl e) x = absurd cc
+header_anywhere (c ∷ cs) p (inr h) x = (tt, h, p.spelled Skip x.form)
+
+colours_anywhere : (k : Core) → IsValidCore k → Anywhere (with_colour_header (entries_below k.page.paints 32))
+unfolding entries_below
+colours_anywhere k v =
+    let g : ℕ → List Command = λ i. entry_commands i (paint_in k.page.paints i) in
+    header_anywhere (entries_below k.page.paints 32)
+    (in_table_each g 0 32 (λ i l m. entry_in_table i (paint_in k.page.paints i) m (v.page.paints i m)))
+    (anew_each g 0 32 (λ i. entry_anew i (paint_in k.page.paints i)))
+
+-- the four entries of the DCLUT stand behind their header
+dclut_spelled : (x : Context) (a b c d : ℕ) → a < 32 → b < 32 → c < 32 → d < 32
+    → AreSpelled x (command.ColourHeader true ∷ command.ColourStart 0 ∷ command.Dclut 0 a ∷ command.Dclut 1 b
+    ∷ command.Dclut 2 c ∷ command.Dclut 3 d ∷ [])
+unfolding IsSpelled context_after spelling
+dclut_spelled x a b c d k l m n = (
+  tt,
+  refl,
+  (
+    omega arith,
+    refl,
+    (
+      (refl, (omega arith, omega arith)),
+      refl,
+      (
+        (refl, (omega arith, omega arith)),
+        refl,
+        ((refl, (omega arith, omega arith)), refl, ((refl, (omega arith, omega arith)), refl, tt)),
+      ),
+    ),
+  ),
+)
+
+dclut_anywhere : (d : List ℕ) → ((i : ℕ) → i < 4 → dclut_in d i < 32) → Anywhere (dclut_commands d)
+dclut_anywhere d h x =
+    elim (cases_Bool (is_default_dclut d)) [
+      | inl e ↦ rw e tt
+      | inr e ↦ rw e (dclut_spelled x (dclut_in d 0) (dclut_in d 1) (dclut_in d 2) (dclut_in d 3) (h 0 (omega arith))
+          (h 1 (omega arith)) (h 2 (omega arith)) (h 3 (omega arith)))
+    ]
+
+-- ---- patterns
+
+pattern_anywhere : (code : ℕ) (o : Option Pattern) → 0x21 ≤ code → code ≤ 0x7E → IfSome o IsValidPattern
+    → Anywhere (pattern_commands code o)
+unfolding IsSpelled context_after
+pattern_anywhere code None l m h x = tt
+pattern_anywhere code (Some p) l m h x =
+    (record { size = h.size; planes = h.planes }, refl, ((l, m), refl, ((refl, refl, m, h), refl, tt)))
+
+patterns_anywhere : (k : Core) → IsValidCore k → Anywhere (patterns_below k.page.patterns 94)
+unfolding patterns_below
+patterns_anywhere k v =
+    anywhere_each (λ code. pattern_commands code (pattern_in k.page.patterns code)) 0x21 94 (λ code l m.
+    let small : code ≤ 0x7E = omega arith in
+    pattern_anywhere code (pattern_in k.page.patterns code) l small (v.page.patterns code l small))
+
+-- ---- the page
+
+area_anywhere : (a : Option (ℕ × ℕ)) → IfSome a (λ b. IsArea b.0 b.1) → Anywhere (area_commands a)
+unfolding spelling
+area_anywhere None h x = tt
+area_anywhere (Some a) h x = textual_anywhere (area_commands (Some a)) (h, tt) (inr refl) x
+
+implicit_anywhere : (b : Bool) → Anywhere (implicit_commands b)
+unfolding spelling
+implicit_anywhere true x = textual_anywhere (implicit_commands true) (tt, tt) (inr refl) x
+implicit_anywhere false x = tt
+
+head_anywhere : (rows : ℕ) (wrap : Bool) → (rows ≡ 24) ⊎ (rows ≡ 20)
+    → Anywhere (command.FullDefaults c1_set.Parallel ∷ command.Format rows wrap ∷ [])
+unfolding IsSpelled context_after
+head_anywhere rows wrap h x = (tt, refl, (h, refl, tt))
+
+pub page_anywhere : (k : Core) → IsValidCore k → Anywhere (page_commands k)
+unfolding page_commands
+page_anywhere k v =
+    let head = command.FullDefaults c1_set.Parallel ∷ command.Format k.rows k.wrap ∷ [] in
+    let colours = with_colour_header (entries_below k.page.paints 32) in
+    let area = area_commands k.area in
+    let implicit = implicit_commands k.implicit in
+    let cells = cells_below k.page.cells 960 ++ (area ++ implicit) in
+    let rows = rows_below k.page.row_pens 24 ++ cells in
+    let screen = screen_commands k.page.screen_pen ++ rows in
+    let patterns = patterns_below k.page.patterns 94 ++ screen in
+    let dclut = dclut_commands k.page.dclut ++ patterns in
+    anywhere-append head (colours ++ dclut) (head_anywhere k.rows k.wrap v.rows)
+    (anywhere-append colours dclut (colours_anywhere k v)
+    (anywhere-append (dclut_commands k.page.dclut) patterns (dclut_anywhere k.page.dclut v.page.dclut)
+    (anywhere-append (patterns_below k.page.patterns 94) screen (patterns_anywhere k v)
+    (anywhere-append (screen_commands k.page.screen_pen) rows (screen_anywhere k.page.screen_pen v.page.screen_pen)
+    (anywhere-append (rows_below k.page.row_pens 24) cells (rows_anywhere k v)
+    (anywhere-append (cells_below k.page.cells 960) (area ++ implicit) (cells_anywhere k v)
+    (anywhere-append area implicit (area_anywhere k.area v.area) (implicit_anywhere k.implicit))))))))
+
+pub page_spelled : (k : Core) → IsValidCore k → AreSpelled start_context (page_commands k)
+page_spelled k v = page_anywhere k v start_context
+
+-- ---- its bytes
+
+page_reads : (k : Core) → IsValidCore k
+    → Reads start_context (spellings (page_commands k)) (page_commands k)
+    (context_after_all start_context (page_commands k))
+page_reads k v = reads_list start_context (page_commands k) (page_spelled k v)
+
+pub page_commands_read : (k : Core) → IsValidCore k → commands (spellings (page_commands k)) ≡ page_commands k
+page_commands_read k v = commands_are (spellings (page_commands k)) (page_commands k) _ (page_reads k v)
+
+pub page_unrefused : (k : Core) → IsValidCore k
+    → AllByRecursion (λ i. is_refusal i.what ≡ false) (closed_items (spellings (page_commands k)))
+page_unrefused k v = no_refusals (spellings (page_commands k)) (page_commands k) _ (page_reads k v)

@@ -1,0 +1,129 @@
+-- Control at rest: as at the start but for what a written cell leaves, so that the next part of a page may follow.
+use Rattle.std.proofs.Common.{◌≡◌, ℕ, zero, suc, ◌+◌, ◌≤◌, ◌<◌, Bool, true, false, cond, eqb, leb, Option, None}
+use Rattle.std.proofs.Common.{List, [], ◌++◌, flat_map, refl, arith}
+use Rattle.std.specs.List.{range_with_len}
+use Rattle.cept_codes.specs.declared.attribute.Pen.{Pen}
+use Rattle.cept_codes.specs.declared.command.C1Set.{C1Set}
+use Rattle.cept_codes.specs.declared.command.Command.{Command}
+use Rattle.cept_codes.specs.declared.glyph.Glyph.{Glyph}
+use Rattle.cept_codes.specs.declared.stroke.Stroke.{Stroke}
+use Rattle.cept_profile.specs.Control.{ControlState, Sets, initial_sets}
+use Rattle.cept_profile.specs.Motions.{on_strokes, working_ahead}
+use Rattle.cept_writer.proofs.Drawing.{Draws, draws_joined, draws_none}
+
+-- what cells leave as they please
+pub record Hand : Type 0 where
+  pub row : ℕ
+  pub column : ℕ
+  pub c1 : C1Set
+  pub last : Option Glyph
+  pub pen : Pen
+  pub fast : ℕ
+  pub run : Bool
+  pub step : ℕ
+  pub table : ℕ
+
+-- control while a cell is written: with these sets, an accent that waits, and protection
+abbrev pub control_in_cell : ℕ → Bool → Sets → Option ℕ → Bool → Hand → ControlState
+control_in_cell rows wrap sets accent protect v = record {
+  working = record {
+    row = v.row;
+    column = v.column;
+    c1 = v.c1;
+    sets = sets;
+    accent = accent;
+    last = v.last;
+    pen = v.pen;
+    fast = v.fast;
+    run = v.run;
+    step = v.step;
+    table = v.table;
+    protect = protect;
+  };
+  rows = rows;
+  wrap = wrap;
+  area = None;
+  implicit = false;
+  kept = None;
+}
+
+-- control at rest
+abbrev pub control_at_rest : ℕ → Bool → Hand → ControlState
+control_at_rest rows wrap v = control_in_cell rows wrap initial_sets None false v
+
+-- from rest the commands make these strokes and leave control at rest
+pub record Rests (rows : ℕ) (wrap : Bool) (v : Hand) (cs : List Command) (made : List Stroke) : Type 0 where
+  pub hand : Hand
+  pub draws : Draws (control_at_rest rows wrap v) cs made (control_at_rest rows wrap hand)
+
+pub rests_none : (rows : ℕ) (wrap : Bool) (v : Hand) → Rests rows wrap v [] []
+rests_none rows wrap v = record { hand = v; draws = draws_none (control_at_rest rows wrap v) }
+
+-- a part of the commands of a page, from whatever hand
+abbrev pub AlwaysRests : ℕ → Bool → List Command → List Stroke → Type 0
+AlwaysRests rows wrap cs made = (v : Hand) → Rests rows wrap v cs made
+
+pub rests_joined : (rows : ℕ) (wrap : Bool) (cs ds : List Command) (p q : List Stroke) → AlwaysRests rows wrap cs p
+    → AlwaysRests rows wrap ds q → AlwaysRests rows wrap (cs ++ ds) (p ++ q)
+rests_joined rows wrap cs ds p q a b v =
+    let first = a v in
+    let second = b first.hand in
+    record {
+      hand = second.hand;
+      draws = draws_joined (control_at_rest rows wrap v) (control_at_rest rows wrap first.hand) (control_at_rest rows wrap second.hand)
+          cs ds p q first.draws second.draws;
+    }
+
+-- parts by their numbers
+pub rests_range : (rows : ℕ) (wrap : Bool) (f : ℕ → List Command) (g : ℕ → List Stroke) (low bound : ℕ)
+    → ((j : ℕ) → low ≤ j → j < bound → AlwaysRests rows wrap (f j) (g j)) → (from n : ℕ) → low ≤ from → from + n ≤ bound
+    → AlwaysRests rows wrap (flat_map f (range_with_len from n)) (flat_map g (range_with_len from n))
+rests_range rows wrap f g low bound each from zero above below v = rests_none rows wrap v
+rests_range rows wrap f g low bound each from (suc n) above below v =
+    rests_joined rows wrap (f from) (flat_map f (range_with_len (from + 1) n)) (g from)
+    (flat_map g (range_with_len (from + 1) n)) (each from above (omega (arith, below)))
+    (rests_range rows wrap f g low bound each (from + 1) n (omega (arith, above)) (omega (arith, below))) v
+
+-- ---- moving on
+
+-- the row and the column n columns on
+abbrev row_on : ℕ → Bool → Bool → ℕ → ℕ
+row_on rows wrap within r = cond within r (cond wrap (cond (eqb r rows) 1 (r + 1)) r)
+
+abbrev column_on : Bool → Bool → ℕ → ℕ
+column_on wrap within c = cond within c (cond wrap 1 40)
+
+-- the hand n columns on
+unfoldable pub hand_ahead : ℕ → Bool → Hand → ℕ → Hand
+hand_ahead rows wrap v n = record v {
+  row = row_on rows wrap (leb (v.column + n) 40) v.row;
+  column = column_on wrap (leb (v.column + n) 40) (v.column + n);
+}
+
+pub moves_on : (rows : ℕ) (wrap : Bool) (sets : Sets) (accent : Option ℕ) (protect : Bool) (v : Hand) (n : ℕ)
+    → working_ahead (control_in_cell rows wrap sets accent protect v) n (control_in_cell rows wrap sets accent protect v).working
+    ≡ (control_in_cell rows wrap sets accent protect (hand_ahead rows wrap v n)).working
+unfolding hand_ahead
+moves_on rows wrap sets accent protect v n = by_test (leb (v.column + n) 40) wrap where
+  s : ControlState
+  s = control_in_cell rows wrap sets accent protect v
+
+  by_test : (within wraps : Bool) → cond within (record s.working { row = v.row; column = v.column + n })
+      (cond wraps (record s.working { row = cond (eqb v.row rows) (cond wraps 1 v.row) (v.row + 1); column = 1 })
+      (record s.working { row = v.row; column = 40 }))
+      ≡ record s.working { row = row_on rows wraps within v.row; column = column_on wraps within (v.column + n) }
+  by_test true wraps = refl
+  by_test false true = refl
+  by_test false false = refl
+
+-- no row scrolls
+pub stays : (rows : ℕ) (wrap : Bool) (sets : Sets) (accent : Option ℕ) (protect : Bool) (v : Hand) (n : ℕ)
+    → on_strokes (control_in_cell rows wrap sets accent protect v) n ≡ []
+stays rows wrap sets accent protect v n = by_test (leb (v.column + n) 40) wrap where
+  none : List Stroke
+  none = []
+
+  by_test : (within wraps : Bool) → cond within none (cond wraps none none) ≡ none
+  by_test true wraps = refl
+  by_test false true = refl
+  by_test false false = refl

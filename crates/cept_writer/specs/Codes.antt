@@ -1,0 +1,19 @@
+-- What an attribute is written for: signs, a row or the screen, each with codes of its own (T/CD 6-1, the C1 codes and
+-- the full row and full screen attributes).
+use Rattle.std.specs.Prelude.{ℕ, List, [], ◌∷◌}
+use Rattle.cept_codes.specs.declared.command.Command.{Command}
+use Rattle.cept_codes.specs.declared.command.Command.TheVariants as commands
+use Rattle.cept_writer.specs.declared.list.Reach.{Reach}
+use Rattle.cept_writer.specs.declared.list.Reach.TheVariants as reaches
+
+-- the code of this number
+abbrev pub code_of : Reach → ℕ → Command
+code_of reaches.Signs n = commands.C1 n
+code_of reaches.Row n = commands.FullRow n
+code_of reaches.Screen n = commands.FullScreen n
+
+-- commands behind their header; none where it stands alone
+abbrev pub after_header : List Command → List Command
+after_header [] = []
+after_header (header ∷ []) = []
+after_header (header ∷ (first ∷ more)) = header ∷ (first ∷ more)

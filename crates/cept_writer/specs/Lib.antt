@@ -1,0 +1,4 @@
+pub mod AttributeCommands
+pub mod CellCommands
+pub mod PageCommands
+pub mod Codes

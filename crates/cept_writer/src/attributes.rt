@@ -1,0 +1,186 @@
+ghost use Rattle.std.specs.Prelude.{◌≡◌, ◌+◌, ◌≤◌, ◌++◌, length};
+ghost use Rattle.cept_codes.specs.declared.attribute.Attr.TheVariants as attrs;
+ghost use Rattle.cept_writer.specs.AttributeCommands.{attribute_commands, attributes_commands};
+ghost use Rattle.cept_writer.specs.AttributeCommands.{attributes_of, class_attributes};
+ghost use Rattle.cept_writer.specs.AttributeCommands.{colour_commands, flash_commands};
+ghost use Rattle.cept_writer.specs.AttributeCommands.{pen_commands, size_code};
+ghost use Rattle.cept_writer.specs.Codes.{code_of};
+
+use crate::list::{Commands, Reach};
+use cept_codes::{Attr, Command, Flash, Pen, Size};
+
+/// The code of a size.
+pub fn size_code(size: Size) -> u8
+    ensures { result ≡ size_code size }
+{
+    match size {
+        Size::Normal => 12,
+        Size::High => 13,
+        Size::Wide => 14,
+        Size::Both => 15,
+    }
+}
+
+/// Adds a colour entry, by its table and its code there, counted from the first.
+pub fn add_colour(list: &mut Commands, reach: Reach, first: u8, e: u8)
+    requires room { length list.old + 2 ≤ 72 }
+    requires first { first ≤ 16 }
+    ensures commands { list.new ≡ list.old ++ colour_commands (code_of reach) first e }
+    ensures len { length list.new ≡ length list.old + 2 }
+{
+    list.add(Command::Table(e / 8));
+    list.add_code(reach, first + e % 8);
+}
+
+/// Adds a flash.
+pub fn add_flash(list: &mut Commands, reach: Reach, flash: Flash)
+    requires { length list.old + 1 ≤ 72 }
+    ensures commands { list.new ≡ list.old ++ flash_commands (code_of reach) flash }
+    ensures len { length list.new ≡ length list.old + 1 }
+{
+    match flash {
+        Flash::Plain => list.add_code(reach, 8),
+        Flash::Steady => list.add_code(reach, 9),
+        Flash::Inverted => list.add(Command::FlashMode(0)),
+        Flash::Reduced => list.add(Command::FlashMode(1)),
+        Flash::Fast1 => list.add(Command::FlashMode(2)),
+        Flash::Fast2 => list.add(Command::FlashMode(3)),
+        Flash::Fast3 => list.add(Command::FlashMode(4)),
+    }
+}
+
+/// Adds an attribute.
+pub fn add_attribute(list: &mut Commands, reach: Reach, attribute: Attr)
+    requires { length list.old + 2 ≤ 72 }
+    ensures commands { list.new
+        ≡ list.old ++ attribute_commands (code_of reach) attribute }
+    ensures len { length list.new ≤ length list.old + 2 }
+{
+    match attribute {
+        Attr::Fore(e) => add_colour(list, reach, 0, e),
+        Attr::Back(e) => add_colour(list, reach, 16, e),
+        Attr::NoBack => list.add_code(reach, 30),
+        Attr::Flash(flash) => add_flash(list, reach, flash),
+        Attr::Conceal(true) => list.add_code(reach, 24),
+        Attr::Conceal(false) => list.add_code(reach, 31),
+        Attr::Lined(true) => list.add_code(reach, 26),
+        Attr::Lined(false) => list.add_code(reach, 25),
+        Attr::Boxed(true) => list.add_code(reach, 11),
+        Attr::Boxed(false) => list.add_code(reach, 10),
+        Attr::Size(size) => list.add_code(reach, size_code(size)),
+        Attr::Invert(true) => list.add_code(reach, 29),
+        Attr::Invert(false) => list.add_code(reach, 28),
+    }
+}
+
+/// Adds the foreground where it is set.
+fn add_fore(list: &mut Commands, reach: Reach, class: Option<u8>)
+    requires { length list.old + 2 ≤ 72 }
+    ensures commands { list.new ≡ list.old
+        ++ attributes_commands (code_of reach) (class_attributes (λ e. attrs.Fore e) class) }
+    ensures len { length list.new ≤ length list.old + 2 }
+{
+    if let Some(value) = class {
+        add_attribute(list, reach, Attr::Fore(value));
+    }
+}
+
+/// Adds the background where it is set.
+fn add_back(list: &mut Commands, reach: Reach, class: Option<u8>)
+    requires { length list.old + 2 ≤ 72 }
+    ensures commands { list.new ≡ list.old
+        ++ attributes_commands (code_of reach) (class_attributes (λ e. attrs.Back e) class) }
+    ensures len { length list.new ≤ length list.old + 2 }
+{
+    if let Some(value) = class {
+        add_attribute(list, reach, Attr::Back(value));
+    }
+}
+
+/// Adds the flash where it is set.
+fn add_flash_class(list: &mut Commands, reach: Reach, class: Option<Flash>)
+    requires { length list.old + 2 ≤ 72 }
+    ensures commands { list.new ≡ list.old
+        ++ attributes_commands (code_of reach) (class_attributes (λ f. attrs.Flash f) class) }
+    ensures len { length list.new ≤ length list.old + 2 }
+{
+    if let Some(value) = class {
+        add_attribute(list, reach, Attr::Flash(value));
+    }
+}
+
+/// Adds the concealing where it is set.
+fn add_conceal(list: &mut Commands, reach: Reach, class: Option<bool>)
+    requires { length list.old + 2 ≤ 72 }
+    ensures commands { list.new ≡ list.old
+        ++ attributes_commands (code_of reach) (class_attributes (λ b. attrs.Conceal b) class) }
+    ensures len { length list.new ≤ length list.old + 2 }
+{
+    if let Some(value) = class {
+        add_attribute(list, reach, Attr::Conceal(value));
+    }
+}
+
+/// Adds the lining where it is set.
+fn add_lined(list: &mut Commands, reach: Reach, class: Option<bool>)
+    requires { length list.old + 2 ≤ 72 }
+    ensures commands { list.new ≡ list.old
+        ++ attributes_commands (code_of reach) (class_attributes (λ b. attrs.Lined b) class) }
+    ensures len { length list.new ≤ length list.old + 2 }
+{
+    if let Some(value) = class {
+        add_attribute(list, reach, Attr::Lined(value));
+    }
+}
+
+/// Adds the boxing where it is set.
+fn add_boxed(list: &mut Commands, reach: Reach, class: Option<bool>)
+    requires { length list.old + 2 ≤ 72 }
+    ensures commands { list.new ≡ list.old
+        ++ attributes_commands (code_of reach) (class_attributes (λ b. attrs.Boxed b) class) }
+    ensures len { length list.new ≤ length list.old + 2 }
+{
+    if let Some(value) = class {
+        add_attribute(list, reach, Attr::Boxed(value));
+    }
+}
+
+/// Adds the size where it is set.
+fn add_size(list: &mut Commands, reach: Reach, class: Option<Size>)
+    requires { length list.old + 2 ≤ 72 }
+    ensures commands { list.new ≡ list.old
+        ++ attributes_commands (code_of reach) (class_attributes (λ s. attrs.Size s) class) }
+    ensures len { length list.new ≤ length list.old + 2 }
+{
+    if let Some(value) = class {
+        add_attribute(list, reach, Attr::Size(value));
+    }
+}
+
+/// Adds the inverting where it is set.
+fn add_invert(list: &mut Commands, reach: Reach, class: Option<bool>)
+    requires { length list.old + 2 ≤ 72 }
+    ensures commands { list.new ≡ list.old
+        ++ attributes_commands (code_of reach) (class_attributes (λ b. attrs.Invert b) class) }
+    ensures len { length list.new ≤ length list.old + 2 }
+{
+    if let Some(value) = class {
+        add_attribute(list, reach, Attr::Invert(value));
+    }
+}
+
+/// Adds the classes that a pen sets.
+pub fn add_pen(list: &mut Commands, reach: Reach, pen: &Pen)
+    requires { length list.old + 16 ≤ 72 }
+    ensures commands { list.new ≡ list.old ++ pen_commands (code_of reach) pen.now }
+    ensures len { length list.new ≤ length list.old + 16 }
+{
+    add_fore(list, reach, pen.fore);
+    add_back(list, reach, pen.back);
+    add_flash_class(list, reach, pen.flash);
+    add_conceal(list, reach, pen.conceal);
+    add_lined(list, reach, pen.lined);
+    add_boxed(list, reach, pen.boxed);
+    add_size(list, reach, pen.size);
+    add_invert(list, reach, pen.invert);
+}

@@ -1,0 +1,82 @@
+ghost use Rattle.std.specs.Prelude.{◌≡◌, ◌+◌, ◌≤◌, ◌++◌, ◌==◌, ◌&&◌, length};
+ghost use Rattle.cept_outside.specs.SinkState.{PutsText};
+ghost use Rattle.cept_parser.specs.Spelling.{spellings};
+ghost use Rattle.cept_profile.specs.Colours.{default_paint};
+ghost use Rattle.cept_writer.specs.PageCommands.{dclut_commands, entries_below, entry_commands};
+ghost use Rattle.cept_writer.specs.PageCommands.{with_colour_header};
+
+use crate::list::Commands;
+use crate::put::{put_commands, put_headed};
+use cept_codes::{Command, Paint};
+use cept_colours::Colours;
+use cept_outside::{Sink, WriteFault};
+use cept_profile::validity_is_kept;
+use cept_repaint::Screen;
+
+/// Adds a colour entry, nothing where it is its default.
+fn add_entry(list: &mut Commands, i: u8, paint: Paint, default: Paint)
+    requires room { length list.old + 2 ≤ 72 }
+    requires default { default ≡ default_paint i }
+    ensures commands { list.new ≡ list.old ++ entry_commands i paint }
+    ensures len { length list.new ≤ length list.old + 2 }
+{
+    if let Paint::Ink(colour) = paint {
+        if paint == default {
+            return;
+        }
+        list.add(Command::ColourStart(i));
+        list.add(Command::Entry(i, colour));
+    }
+}
+
+/// Adds all colour entries.
+fn add_entries(list: &mut Commands, screen: &Screen)
+    requires { length list.old ≤ 8 }
+    ensures { list.new ≡ list.old ++ entries_below screen.now.page.paints 32 }
+{
+    let defaults = Colours::new();
+    for i in 0..32u8 {
+        add_entry(list, i, screen.colour(i), defaults.paint(i));
+    }
+}
+
+/// Puts the colour entries after their header, nothing where all are their defaults.
+pub fn put_colours<T: Sink>(sink: &mut T, screen: &Screen) -> Result<(), WriteFault>
+    ensures { let text = spellings (with_colour_header (entries_below screen.now.page.paints 32)) in
+        PutsText (T.state sink.old) text result (T.state sink.new) }
+{
+    validity_is_kept();
+    let _rows = screen.rows();
+    let mut list = Commands::new();
+    list.add(Command::ColourHeader(false));
+    add_entries(&mut list, screen);
+    put_headed(sink, list.as_slice())
+}
+
+/// Whether these are the default entries of the DCLUT.
+fn is_default(first: u8, second: u8, third: u8, fourth: u8) -> bool
+    ensures { result ≡ (first == 0 && second == 1 && third == 2 && fourth == 3) }
+{
+    first == 0 && second == 1 && third == 2 && fourth == 3
+}
+
+/// Puts the DCLUT, nothing where each entry names the colour entry of its own number.
+pub fn put_dclut<T: Sink>(sink: &mut T, screen: &Screen) -> Result<(), WriteFault>
+    ensures { let text = spellings (dclut_commands screen.now.page.dclut) in
+        PutsText (T.state sink.old) text result (T.state sink.new) }
+{
+    let (first, second) = (screen.dclut(0), screen.dclut(1));
+    let (third, fourth) = (screen.dclut(2), screen.dclut(3));
+    if is_default(first, second, third, fourth) {
+        return Ok(());
+    }
+    let list = [
+        Command::ColourHeader(true),
+        Command::ColourStart(0),
+        Command::Dclut(0, first),
+        Command::Dclut(1, second),
+        Command::Dclut(2, third),
+        Command::Dclut(3, fourth),
+    ];
+    put_commands(sink, &list)
+}

@@ -1,0 +1,10 @@
+//! The laws of written pages, each the contract of a function that computes nothing.
+mod pages;
+mod pens;
+mod spelled;
+mod turns;
+
+pub use pages::pages_are_restored;
+pub use pens::attributes_make_the_pen;
+pub use spelled::{bytes_of_pages_bring_them_back, pages_are_spelled};
+pub use turns::parts_are_written_in_turn;

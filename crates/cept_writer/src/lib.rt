@@ -1,0 +1,22 @@
+//! Written pages: the commands that bring a core back on a reset decoder, and the bytes that spell
+//! them, put into a sink. It knows no control and draws nothing.
+#![tactic(auto)]
+
+mod attributes;
+mod cells;
+mod colours;
+mod law;
+mod list;
+mod page;
+mod pattern;
+mod put;
+mod spelling;
+#[cfg(test)]
+mod tests;
+mod text;
+
+pub use law::{
+    attributes_make_the_pen, bytes_of_pages_bring_them_back, pages_are_restored, pages_are_spelled,
+    parts_are_written_in_turn,
+};
+pub use page::write_page;

@@ -1,0 +1,171 @@
+ghost use Rattle.std.specs.Prelude.{◌≡◌, ◌+◌, ◌≤◌, ◌<◌, ◌++◌, ◌∷◌, [], length};
+ghost use Rattle.cept_codes.specs.declared.command.C1Set.TheVariants as c1sets;
+ghost use Rattle.cept_codes.specs.declared.command.Command.TheVariants as commands;
+ghost use Rattle.cept_codes.specs.Place.{place_of};
+ghost use Rattle.cept_outside.specs.SinkState.{PutsText};
+ghost use Rattle.cept_parser.specs.Spelling.{spellings};
+ghost use Rattle.cept_profile.specs.PageParts.{pattern_in, row_pen_in};
+ghost use Rattle.cept_profile.specs.State.{core_of};
+ghost use Rattle.cept_writer.specs.CellCommands.{cell_commands};
+ghost use Rattle.cept_writer.specs.PageCommands.{area_commands, cell_numbered, cells_below};
+ghost use Rattle.cept_writer.specs.PageCommands.{implicit_commands, page_text};
+ghost use Rattle.cept_writer.specs.PageCommands.{pattern_commands, patterns_below, row_commands};
+ghost use Rattle.cept_writer.specs.PageCommands.{rows_below, screen_commands};
+
+use crate::attributes::add_pen;
+use crate::cells::add_cell;
+use crate::colours::{put_colours, put_dclut};
+use crate::list::{Commands, Reach};
+use crate::put::{put_commands, put_headed};
+use cept_codes::{C1Set, Command, Form, Pos};
+use cept_outside::{Sink, WriteFault};
+use cept_repaint::Screen;
+
+/// Puts a reset and the format.
+fn put_beginning<T: Sink>(sink: &mut T, screen: &Screen) -> Result<(), WriteFault>
+    ensures { let text = spellings (commands.FullDefaults c1sets.Parallel
+        ∷ commands.Format screen.now.control.rows screen.now.control.wrap ∷ []) in
+        PutsText (T.state sink.old) text result (T.state sink.new) }
+{
+    let list = [
+        Command::FullDefaults(C1Set::Parallel),
+        Command::Format(screen.rows(), screen.wrap()),
+    ];
+    put_commands(sink, &list)
+}
+
+/// Puts the pattern of a code, nothing where none is defined.
+fn put_pattern<T: Sink>(sink: &mut T, screen: &Screen, code: u8) -> Result<(), WriteFault>
+    requires from_first { 0x21 ≤ code }
+    requires to_last { code ≤ 0x7E }
+    ensures { let text =
+        spellings (pattern_commands code (pattern_in screen.now.page.patterns code)) in
+        PutsText (T.state sink.old) text result (T.state sink.new) }
+{
+    match screen.pattern(code) {
+        None => Ok(()),
+        Some(pattern) => {
+            let form = Form {
+                w: pattern.w,
+                h: pattern.h,
+                planes: pattern.planes,
+            };
+            let list = [
+                Command::DrcsHeader(false, form),
+                Command::DrcsStart(code),
+                Command::DrcsPattern(code, pattern),
+            ];
+            put_commands(sink, &list)
+        }
+    }
+}
+
+/// Puts the patterns of all codes.
+fn put_patterns<T: Sink>(sink: &mut T, screen: &Screen) -> Result<(), WriteFault>
+    ensures { let text = spellings (patterns_below screen.now.page.patterns 94) in
+        PutsText (T.state sink.old) text result (T.state sink.new) }
+{
+    for i in 0..94u8 {
+        put_pattern(sink, screen, 0x21 + i)?;
+    }
+    Ok(())
+}
+
+/// Puts the attributes of the screen.
+fn put_screen_pen<T: Sink>(sink: &mut T, screen: &Screen) -> Result<(), WriteFault>
+    ensures { let text = spellings (screen_commands screen.now.page.screen_pen) in
+        PutsText (T.state sink.old) text result (T.state sink.new) }
+{
+    let mut list = Commands::new();
+    add_pen(&mut list, Reach::Screen, &screen.screen_pen());
+    put_commands(sink, list.as_slice())
+}
+
+/// Puts the attributes of a row at its first place, nothing where none is set.
+fn put_row<T: Sink>(sink: &mut T, screen: &Screen, row: u8) -> Result<(), WriteFault>
+    requires from_top { 1 ≤ row }
+    requires to_bottom { row ≤ 24 }
+    ensures { let text = spellings (row_commands row (row_pen_in screen.now.page.row_pens row)) in
+        PutsText (T.state sink.old) text result (T.state sink.new) }
+{
+    let mut list = Commands::new();
+    list.add(Command::Position(row, 1));
+    add_pen(&mut list, Reach::Row, &screen.row_pen(row));
+    put_headed(sink, list.as_slice())
+}
+
+/// Puts the attributes of all rows.
+fn put_rows<T: Sink>(sink: &mut T, screen: &Screen) -> Result<(), WriteFault>
+    ensures { let text = spellings (rows_below screen.now.page.row_pens 24) in
+        PutsText (T.state sink.old) text result (T.state sink.new) }
+{
+    for i in 0..24u8 {
+        put_row(sink, screen, 1 + i)?;
+    }
+    Ok(())
+}
+
+/// Puts the cell with this number, nothing where nothing stands in it.
+fn put_cell<T: Sink>(sink: &mut T, screen: &Screen, n: u16) -> Result<(), WriteFault>
+    requires { n < 960 }
+    ensures { let cell = cell_numbered screen.now.page.cells n in
+        let text = spellings (cell_commands (place_of n) cell.protected cell.what) in
+        PutsText (T.state sink.old) text result (T.state sink.new) }
+{
+    let at = Pos::from_number(n).unwrap();
+    let mut list = Commands::new();
+    add_cell(&mut list, at, &screen.cell(at));
+    put_commands(sink, list.as_slice())
+}
+
+/// Puts all cells in reading order.
+fn put_cells<T: Sink>(sink: &mut T, screen: &Screen) -> Result<(), WriteFault>
+    ensures { let text = spellings (cells_below screen.now.page.cells 960) in
+        PutsText (T.state sink.old) text result (T.state sink.new) }
+{
+    for n in 0..960u16 {
+        put_cell(sink, screen, n)?;
+    }
+    Ok(())
+}
+
+/// Puts the area, nothing where there is none.
+fn put_area<T: Sink>(sink: &mut T, screen: &Screen) -> Result<(), WriteFault>
+    ensures { let text = spellings (area_commands screen.now.control.area) in
+        PutsText (T.state sink.old) text result (T.state sink.new) }
+{
+    match screen.area() {
+        None => Ok(()),
+        Some((first, last)) => put_commands(sink, &[Command::AreaCreate(first, last)]),
+    }
+}
+
+/// Puts implicit scrolling where it is on.
+fn put_implicit<T: Sink>(sink: &mut T, screen: &Screen) -> Result<(), WriteFault>
+    ensures { let text = spellings (implicit_commands screen.now.control.implicit) in
+        PutsText (T.state sink.old) text result (T.state sink.new) }
+{
+    if screen.implicit() {
+        put_commands(sink, &[Command::Implicit(true)])
+    } else {
+        Ok(())
+    }
+}
+
+/// Puts the bytes that bring the page of a screen back on a decoder that starts anew, with its
+/// format, its area and implicit scrolling. Takes no memory. After `WriteFault` a part of the text
+/// was put, from its front on, and not the whole.
+pub fn write_page<T: Sink>(screen: &Screen, sink: &mut T) -> Result<(), WriteFault>
+    ensures { PutsText (T.state sink.old) (page_text (core_of screen.now)) result
+        (T.state sink.new) }
+{
+    put_beginning(sink, screen)?;
+    put_colours(sink, screen)?;
+    put_dclut(sink, screen)?;
+    put_patterns(sink, screen)?;
+    put_screen_pen(sink, screen)?;
+    put_rows(sink, screen)?;
+    put_cells(sink, screen)?;
+    put_area(sink, screen)?;
+    put_implicit(sink, screen)
+}

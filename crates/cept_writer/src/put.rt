@@ -1,0 +1,48 @@
+ghost use Rattle.std.specs.Prelude.{◌≡◌, ◌+◌, ◌*◌, ◌≤◌, ◌<◌, ◌++◌, ◌∷◌, [], length};
+ghost use Rattle.std.specs.List.{flat_map};
+ghost use Rattle.arrayvec.specs.ArrayVec.{array_vec_len};
+ghost use Rattle.cept_outside.specs.SinkState.{PutsText};
+ghost use Rattle.cept_parser.specs.Spelling.{spelling, spellings};
+ghost use Rattle.cept_profile.specs.Valid.{AllValid};
+ghost use Rattle.cept_writer.specs.Codes.{after_header};
+
+use crate::spelling::add_spelling;
+use crate::text::Text;
+use cept_codes::Command;
+use cept_outside::{Sink, WriteFault, put_all};
+
+/// Adds the bytes of commands one after the other.
+fn add_spellings(text: &mut Text, commands: &[Command])
+    requires room { array_vec_len text.old + 101 * length commands.now ≤ 7272 }
+    requires valid { AllValid commands.now }
+    ensures text { text.new.items ≡ text.old.items ++ flat_map spelling commands.now }
+    ensures len { array_vec_len text.new ≤ array_vec_len text.old + 101 * length commands.now }
+{
+    for command in commands {
+        add_spelling(text, command);
+    }
+}
+
+/// Puts the bytes of commands, in one piece.
+pub fn put_commands<T: Sink>(sink: &mut T, commands: &[Command]) -> Result<(), WriteFault>
+    requires few { length commands.now ≤ 72 }
+    requires valid { AllValid commands.now }
+    ensures { PutsText (T.state sink.old) (spellings commands.now) result (T.state sink.new) }
+{
+    let mut text = Text::new();
+    add_spellings(&mut text, commands);
+    put_all(sink, text.as_slice())
+}
+
+/// Puts the bytes of commands behind their header, nothing where it stands alone.
+pub fn put_headed<T: Sink>(sink: &mut T, commands: &[Command]) -> Result<(), WriteFault>
+    requires few { length commands.now ≤ 72 }
+    requires valid { AllValid commands.now }
+    ensures { let text = spellings (after_header commands.now) in
+        PutsText (T.state sink.old) text result (T.state sink.new) }
+{
+    if commands.len() < 2 {
+        return Ok(());
+    }
+    put_commands(sink, commands)
+}
