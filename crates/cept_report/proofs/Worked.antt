@@ -1,6 +1,7 @@
 -- Worked cases: texts, by computing.
 use Rattle.std.proofs.Common.{◌≡◌, true, [], ◌∷◌, codes, refl}
 use Rattle.std.specs.Char.{encode_utf8}
+use Rattle.std.specs.Fmt.{digits}
 use Rattle.cept_codes.specs.declared.glyph.SetId.TheVariants.{P}
 use Rattle.cept_codes.specs.declared.look.Look.{Look}
 use Rattle.cept_codes.specs.declared.look.Paint.TheVariants as paints
@@ -8,7 +9,9 @@ use Rattle.cept_codes.specs.declared.look.Shape.TheVariants as shapes
 use Rattle.cept_codes.specs.Look.{blank_look}
 use Rattle.cept_charsets.specs.Rendition.{mark}
 use Rattle.cept_report.specs.Screen.{shape_sign, look_sign, cell_text}
-use Rattle.cept_report.specs.Text.{look_text, shape_text}
+use Rattle.cept_codes.specs.declared.line_reason.LineReason.TheVariants as line_reasons
+use Rattle.cept_report.specs.Text.{look_text, shape_text, nothing_line, script_fault_line, load_line}
+use Rattle.cept_report.specs.Text.{line_reason_number, line_reason_name}
 
 -- an a with diaeresis, white on magenta
 abbrev pub umlaut : Look
@@ -43,3 +46,16 @@ pub picture_behind_is_reported : look_text (record blank_look { back = paints.Vi
     ≡ codes "- 11.00 FFF --- S-l-"
 unfolding shape_text
 picture_behind_is_reported = refl
+
+pub undo_without_an_edit_is_reported : nothing_line 66 ≡ codes "66 nothing\n"
+unfolding digits
+undo_without_an_edit_is_reported = refl
+
+pub fault_of_a_script_is_reported : script_fault_line 2 line_reasons.BadNumber
+    ≡ codes "script line 2: 3 BadNumber\n"
+unfolding line_reason_number line_reason_name digits
+fault_of_a_script_is_reported = refl
+
+pub loaded_page_is_reported : load_line 140003 20001 7 ≡ codes "bytes 140003 items 20001 paints 7\n"
+unfolding digits
+loaded_page_is_reported = refl

@@ -11,6 +11,8 @@ use Rattle.cept_codes.specs.declared.glyph.SetId.{SetId}
 use Rattle.cept_codes.specs.declared.glyph.SetId.TheVariants as sets
 use Rattle.cept_codes.specs.declared.item.Reason.{Reason}
 use Rattle.cept_codes.specs.declared.item.Reason.TheVariants as reasons
+use Rattle.cept_codes.specs.declared.line_reason.LineReason.{LineReason}
+use Rattle.cept_codes.specs.declared.line_reason.LineReason.TheVariants as line_reasons
 use Rattle.cept_codes.specs.declared.look.Inks.{Inks}
 use Rattle.cept_codes.specs.declared.look.Look.{Look}
 use Rattle.cept_codes.specs.declared.look.Paint.{Paint}
@@ -149,4 +151,39 @@ refusal_line place size reason = join_with_byte (ascii " ")
 abbrev pub check_line : ℕ → ℕ → List ℕ
 check_line items refused =
     join_with_byte (ascii " ") (codes "items" ∷ decimal items ∷ codes "refused" ∷ decimal refused ∷ [])
+    ++ ascii "\n" ∷ []
+
+-- the line number of an undo before which no edit was kept
+abbrev pub nothing_line : ℕ → List ℕ
+nothing_line line = join_with_byte (ascii " ") (decimal line ∷ codes "nothing" ∷ []) ++ ascii "\n" ∷ []
+
+-- the number of a reason of a script's line
+unfoldable pub line_reason_number : LineReason → ℕ
+line_reason_number line_reasons.UnknownWord = 1
+line_reason_number line_reasons.WrongCount = 2
+line_reason_number line_reasons.BadNumber = 3
+line_reason_number line_reasons.BadText = 4
+line_reason_number line_reasons.BadHex = 5
+line_reason_number line_reasons.BadBytes = 6
+
+-- the name of a reason of a script's line
+unfoldable pub line_reason_name : LineReason → List ℕ
+line_reason_name line_reasons.UnknownWord = codes "UnknownWord"
+line_reason_name line_reasons.WrongCount = codes "WrongCount"
+line_reason_name line_reasons.BadNumber = codes "BadNumber"
+line_reason_name line_reasons.BadText = codes "BadText"
+line_reason_name line_reasons.BadHex = codes "BadHex"
+line_reason_name line_reasons.BadBytes = codes "BadBytes"
+
+-- the number of the script's line that is outside the grammar, a colon, and the reason's number and name
+abbrev pub script_fault_line : ℕ → LineReason → List ℕ
+script_fault_line line reason = join_with_byte (ascii " ")
+    (codes "script" ∷ codes "line" ∷ (decimal line ++ ascii ":" ∷ []) ∷ decimal (line_reason_number reason)
+    ∷ line_reason_name reason ∷ [])
+    ++ ascii "\n" ∷ []
+
+-- how many bytes a page has, how many items, and how many places its commands change, one command after the other
+abbrev pub load_line : ℕ → ℕ → ℕ → List ℕ
+load_line bytes items paints = join_with_byte (ascii " ")
+    (codes "bytes" ∷ decimal bytes ∷ codes "items" ∷ decimal items ∷ codes "paints" ∷ decimal paints ∷ [])
     ++ ascii "\n" ∷ []

@@ -12,4 +12,7 @@ mod signs;
 #[cfg(test)]
 mod tests;
 
-pub use put::{put_cells, put_changes, put_check, put_refusal, put_screen};
+pub use put::{
+    put_cells, put_changes, put_check, put_load, put_nothing, put_refusal, put_screen,
+    put_script_fault,
+};

@@ -4,11 +4,12 @@ ghost use Rattle.cept_codes.specs.Look.{IsValidLook};
 ghost use Rattle.cept_report.specs.Screen.{cell_line, cell_text};
 ghost use Rattle.cept_report.specs.Ascii.{ascii};
 ghost use Rattle.cept_report.specs.Text.{reason_number, reason_name, change_line, check_line};
-ghost use Rattle.cept_report.specs.Text.{refusal_line};
+ghost use Rattle.cept_report.specs.Text.{refusal_line, nothing_line, script_fault_line, load_line};
+ghost use Rattle.cept_report.specs.Text.{line_reason_number, line_reason_name};
 
 use crate::line::{Line, add_byte, add_number, add_small, add_text};
 use crate::look::add_look;
-use cept_codes::{Look, Pos, Reason};
+use cept_codes::{LineReason, Look, Pos, Reason};
 
 /// Adds the line of a changed place.
 pub fn add_change_line(line: &mut Line, label: u64, at: Pos, look: &Look)
@@ -118,6 +119,76 @@ pub fn refusal_line(place: u64, size: u8, reason: Reason) -> Line
     add_number(&mut line, u64::from(size));
     add_byte(&mut line, b' ');
     add_reason(&mut line, reason);
+    add_byte(&mut line, b'\n');
+    line
+}
+
+/// The line of an undo before which no edit was kept.
+pub fn nothing_line(number: u32) -> Line
+    ensures { result.items ≡ nothing_line number }
+{
+    let mut line = Line::new();
+    add_number(&mut line, u64::from(number));
+    add_text(&mut line, b" nothing\n");
+    line
+}
+
+#[tactic(auto, unfolding(crate::specs::Text::line_reason_number))]
+fn line_number_of(reason: LineReason) -> u8
+    ensures { result ≡ line_reason_number reason }
+{
+    match reason {
+        LineReason::UnknownWord => 1,
+        LineReason::WrongCount => 2,
+        LineReason::BadNumber => 3,
+        LineReason::BadText => 4,
+        LineReason::BadHex => 5,
+        LineReason::BadBytes => 6,
+    }
+}
+
+#[tactic(auto, unfolding(crate::specs::Text::line_reason_name))]
+fn add_line_name(line: &mut Line, reason: LineReason)
+    requires { array_vec_len line.old + 11 ≤ 256 }
+    ensures text { line.new.items ≡ line.old.items ++ line_reason_name reason }
+    ensures len { array_vec_len line.new ≤ array_vec_len line.old + 11 }
+{
+    match reason {
+        LineReason::UnknownWord => add_text(line, b"UnknownWord"),
+        LineReason::WrongCount => add_text(line, b"WrongCount"),
+        LineReason::BadNumber => add_text(line, b"BadNumber"),
+        LineReason::BadText => add_text(line, b"BadText"),
+        LineReason::BadHex => add_text(line, b"BadHex"),
+        LineReason::BadBytes => add_text(line, b"BadBytes"),
+    }
+}
+
+/// The line that names the first line of a script that is outside the grammar.
+pub fn script_fault_line(number: u32, reason: LineReason) -> Line
+    ensures { result.items ≡ script_fault_line number reason }
+{
+    let mut line = Line::new();
+    add_text(&mut line, b"script line ");
+    add_number(&mut line, u64::from(number));
+    add_text(&mut line, b": ");
+    add_number(&mut line, u64::from(line_number_of(reason)));
+    add_byte(&mut line, b' ');
+    add_line_name(&mut line, reason);
+    add_byte(&mut line, b'\n');
+    line
+}
+
+/// The line of a page that was loaded.
+pub fn load_line(bytes: u64, items: u64, paints: u64) -> Line
+    ensures { result.items ≡ load_line bytes items paints }
+{
+    let mut line = Line::new();
+    add_text(&mut line, b"bytes ");
+    add_number(&mut line, bytes);
+    add_text(&mut line, b" items ");
+    add_number(&mut line, items);
+    add_text(&mut line, b" paints ");
+    add_number(&mut line, paints);
     add_byte(&mut line, b'\n');
     line
 }

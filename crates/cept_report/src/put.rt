@@ -6,11 +6,15 @@ ghost use Rattle.cept_profile.specs.Look.{looks_of};
 ghost use Rattle.cept_profile.specs.State.{core_of};
 ghost use Rattle.cept_report.specs.Screen.{cells_text, screen_text};
 ghost use Rattle.cept_report.specs.Text.{change_line, change_lines, check_line, refusal_line};
+ghost use Rattle.cept_report.specs.Text.{nothing_line, script_fault_line, load_line};
 
 use crate::line::Line;
-use crate::lines::{add_change_line, cell_text, check_line, refusal_line};
+use crate::lines::{
+    add_change_line, cell_text, check_line, load_line, nothing_line, refusal_line,
+    script_fault_line,
+};
 use crate::signs::row_line;
-use cept_codes::{Pos, Reason};
+use cept_codes::{LineReason, Pos, Reason};
 use cept_outside::{Sink, WriteFault, put_all};
 use cept_repaint::{Glass, Marks, Screen};
 
@@ -96,4 +100,38 @@ pub fn put_cells<T: Sink, G: Glass>(sink: &mut T, glass: &G, rows: u8) -> Result
         put_all(sink, cell_text(at, &glass.shown(at)).as_slice())?;
     }
     Ok(())
+}
+
+/// Puts the line of an undo before which no edit was kept: its number, counted from 1. After
+/// `WriteFault` a part of it was put, from its front on, and not the whole.
+pub fn put_nothing<T: Sink>(sink: &mut T, line: u32) -> Result<(), WriteFault>
+    ensures { PutsText (T.state sink.old) (nothing_line line) result (T.state sink.new) }
+{
+    put_all(sink, nothing_line(line).as_slice())
+}
+
+/// Puts which line of a script is the first outside the grammar, counted from 1, and for which
+/// reason. After `WriteFault` a part of it was put, from its front on, and not the whole.
+pub fn put_script_fault<T: Sink>(
+    sink: &mut T,
+    line: u32,
+    reason: LineReason,
+) -> Result<(), WriteFault>
+    ensures { PutsText (T.state sink.old) (script_fault_line line reason) result (T.state sink.new) }
+{
+    put_all(sink, script_fault_line(line, reason).as_slice())
+}
+
+/// Puts how many bytes and items a page has, and how many places its commands changed, one command
+/// after the other. After `WriteFault` a part of the line was put, from its front on, and not the
+/// whole.
+pub fn put_load<T: Sink>(
+    sink: &mut T,
+    bytes: u64,
+    items: u64,
+    paints: u64,
+) -> Result<(), WriteFault>
+    ensures { PutsText (T.state sink.old) (load_line bytes items paints) result (T.state sink.new) }
+{
+    put_all(sink, load_line(bytes, items, paints).as_slice())
 }
