@@ -8,3 +8,9 @@ pub mod ValidOrders
 pub mod DigitsLeft
 pub mod Worked
 pub mod WorkedBytes
+mod MadeEvents
+mod EditsInTurn
+mod KeptStates
+mod AppliedInTurn
+mod LinesMade
+pub mod Laws

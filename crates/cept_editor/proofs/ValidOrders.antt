@@ -27,7 +27,7 @@ pub order_valid : (o : Order) → IsSoundOrder o → IsValidStep (order_step o)
 order_valid orders.TakeBack s = tt
 order_valid (orders.One c) s = (s, tt)
 order_valid (orders.Text text) s = (omega arith, signs_valid text.now s)
-order_valid (orders.Raw digits) s = s.valid
+order_valid (orders.Raw digits) s = s.0.valid
 
 pub kept_some : (m : Result (Option Step) LineReason) (o : Order) (p : EditPlace) (ps qs : List EditPlace)
     → m ≡ Ok (Some (order_step o)) → IsSoundOrder o → qs ≡ ps ++ p ∷ [] → HasKept m p ps qs

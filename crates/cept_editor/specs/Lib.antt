@@ -8,3 +8,8 @@ pub mod Places
 pub mod Fault
 pub mod Decoding
 pub mod Edit
+pub mod Events
+pub mod Made
+pub mod Kept
+pub mod Stepping
+pub mod Applying

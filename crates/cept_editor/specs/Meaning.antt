@@ -1,6 +1,6 @@
 -- What a line of a script means (this project's own): nothing, a step, or the reason for which it is outside the
 -- grammar.
-use Rattle.std.specs.Prelude.{ℕ, ◌+◌, ◌*◌, Bool, ◌&&◌, ◌==◌, List, [], ◌∷◌, map, length, drop, Option, Some, None}
+use Rattle.std.specs.Prelude.{ℕ, ◌+◌, ◌*◌, ◌<◌, Bool, ◌&&◌, ◌==◌, List, [], ◌∷◌, map, length, drop, Option, Some, None}
 use Rattle.std.specs.Prelude.{Result, Ok, Err, if◌then◌else◌}
 use Rattle.std.specs.List.{list_all, list_any, AllByRecursion}
 use Rattle.hex.specs.Hex.{hex_digit_value}
@@ -23,6 +23,16 @@ pub data Step : Type 0 where
 abbrev pub IsValidStep : Step → Type 0
 IsValidStep TakeBack = Unit {0}
 IsValidStep (Edit cs) = AllByRecursion IsValidCommand cs
+
+-- an edit has a command
+abbrev pub HasCommand : Step → Type 0
+HasCommand TakeBack = Unit {0}
+HasCommand (Edit cs) = 0 < length cs
+
+-- how many commands an edit has; an undo counts as one
+abbrev pub command_count : Step → ℕ
+command_count TakeBack = 1
+command_count (Edit cs) = length cs
 
 -- the number of a word: one or two digits
 abbrev pub number : List ℕ → Option ℕ

@@ -19,7 +19,7 @@ use Rattle.cept_editor.specs.declared.order.Order.TheVariants as orders
 use Rattle.cept_editor.specs.declared.word.Word.{Word}
 use Rattle.cept_editor.specs.declared.word.Word.TheVariants as named
 use Rattle.cept_editor.specs.Lines.{words}
-use Rattle.cept_editor.specs.Meaning.{Step, TakeBack, Edit, text_commands, is_sign, hex_bytes}
+use Rattle.cept_editor.specs.Meaning.{Step, TakeBack, Edit, HasCommand, text_commands, is_sign, hex_bytes}
 use Rattle.cept_editor.specs.Table.{Row, Alone, One, Two, Four, Text, Raw, Undo, is_place, is_c1, is_screen_c1, is_colour}
 use Rattle.cept_editor.specs.Table.{entry_command, is_area}
 
@@ -111,12 +111,12 @@ pub record AreSoundDigits (digits : List ℕ) : Type 0 where
   pub said : commands_of (items_from start_state (raw_bytes digits)) ≡ commands_of_bytes (raw_bytes digits)
   pub valid : AllByRecursion IsValidCommand (commands_of_bytes (raw_bytes digits))
 
--- an order whose commands are valid, and can be given one after the other
+-- an order whose commands are valid, and can be given one after the other; hexadecimal digits give one at least
 abbrev pub IsSoundOrder : Order → Type 0
 IsSoundOrder orders.TakeBack = Unit {0}
 IsSoundOrder (orders.One c) = IsValidCommand c
 IsSoundOrder (orders.Text text) = list_all is_sign text.now ≡ true
-IsSoundOrder (orders.Raw digits) = AreSoundDigits digits.now
+IsSoundOrder (orders.Raw digits) = AreSoundDigits digits.now × HasCommand (order_step (orders.Raw digits))
 
 -- what a value decides, or the reason for which there is none
 abbrev pub decided : {A : Type 0} → Result A LineReason → (A → Result Step LineReason) → Result Step LineReason

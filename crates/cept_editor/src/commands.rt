@@ -2,7 +2,7 @@ ghost use Rattle.std.specs.Prelude.{◌≡◌, ◌∷◌, [], true, MatchOption,
 ghost use Rattle.std.specs.List.{AllByRecursion, list_all};
 ghost use Rattle.cept_codes.specs.Command.{IsValidCommand};
 ghost use Rattle.cept_editor.specs.Edit.{edit_step};
-ghost use Rattle.cept_editor.specs.Meaning.{is_sign, IsValidStep};
+ghost use Rattle.cept_editor.specs.Meaning.{is_sign, IsValidStep, HasCommand};
 ghost use Rattle.cept_editor.specs.Order.{order_step, IsSoundOrder};
 
 use crate::decoding::Decoding;
@@ -70,6 +70,7 @@ impl<'a> Edit<'a> {
         requires { IsSoundOrder order }
         ensures step { edit_step result ≡ order_step order.entry }
         ensures valid { IsValidStep (edit_step result) }
+        ensures some { HasCommand (edit_step result) }
     {
         match order {
             Order::TakeBack => Edit::Undo,

@@ -1,10 +1,13 @@
-//! Editing scripts: their lines, and the commands of each. It knows no screen, no sink and no undo.
+//! Editing scripts, their lines and the commands of each; and the editor, which makes the edits on a
+//! screen and takes them back. It knows no files, and of a page its commands alone.
 #![tactic(auto)]
 
 mod commands;
 mod cut;
 mod decoding;
 mod digits;
+mod editor;
+mod law;
 mod line;
 mod number;
 mod numbered;
@@ -16,4 +19,10 @@ mod tests;
 mod word;
 
 pub use commands::{Commands, Edit};
+pub use editor::{Done, Editor};
+pub use law::{
+    changes_of_a_line_lead_to_its_end, each_event_is_shown, edit_lines_go_on,
+    events_are_made_in_turn, events_are_painted_in_turn, one_more_event_is_made,
+    one_more_text_is_put, texts_and_changes_in_order,
+};
 pub use script::{Script, ScriptFault};

@@ -1,6 +1,6 @@
 ghost use Rattle.std.specs.Prelude.{◌≡◌, ◌≤◌, ◌<◌, ◌^◌, [], length, IfOk, OnOk, IfErr, None, ◌==◌, slice_index_or};
 ghost use Rattle.cept_editor.specs.Fault.{SaysFault};
-ghost use Rattle.cept_editor.specs.Meaning.{line_meaning, IsValidStep};
+ghost use Rattle.cept_editor.specs.Meaning.{line_meaning, IsValidStep, HasCommand};
 ghost use Rattle.cept_editor.specs.Order.{bytes_after};
 ghost use Rattle.cept_editor.specs.Places.{HasKept, IsUnkept, HasPlaces};
 ghost use Rattle.cept_editor.specs.Edit.{edit_step};
@@ -181,6 +181,7 @@ impl Script {
         ensures step { (default : EditLine) → edit_step result
             ≡ (slice_index_or self.now k default).step }
         ensures valid { IsValidStep (edit_step result) }
+        ensures some { HasCommand (edit_step result) }
     {
         let start = self.places[k as usize].start as usize;
         let (line, _) = cut(&self.text.as_slice()[start..], LINE_END);

@@ -1,11 +1,16 @@
-//! Scripts as they are read: good ones edit for edit, bad ones with their line and reason.
+//! Scripts as they are read: good ones edit for edit, bad ones with their line and reason; and what
+//! edits and undos leave.
 
-ghost use Rattle.std.specs.Prelude.{◌<◌, ◌≤◌, ◌^◌, length};
+ghost use Rattle.std.specs.Prelude.{◌≡◌, ◌<◌, ◌≤◌, ◌^◌, length};
 
-use crate::{Edit, Script, ScriptFault};
-use cept_codes::{C1Set, Command, LineReason, Rgb};
+use crate::{Done, Edit, Editor, Script, ScriptFault};
+use cept_codes::{C1Set, Command, Glyph, LineReason, Look, Pos, Rgb, SetId, Shape};
+use cept_outside::{MemSink, Steps};
+use cept_repaint::{Glass, GridGlass, Marks};
 use std::alloc::Global;
+use std::marker::Brand;
 use std::process::Abort;
+use std::sync::ledger::{Blank, Ledger};
 use std::test::Fail;
 
 /// The commands of an edit, at most eight, with `None` after them.
@@ -135,5 +140,89 @@ fn reads_a_line_of_all_bytes(rt: HostRuntime) -> Result<(), Fail> {
             assert_eq!(rt; commands_of(&script, 0)[7], Some(Command::Graphic(0x41)));
         }
     }
+    Ok(())
+}
+
+/// The look of a sign of the primary set.
+fn sign(code: u8) -> Look {
+    Look {
+        shape: Shape::Char(Glyph {
+            set: SetId::P,
+            code,
+            accent: 0,
+        }),
+        ..Look::BLANK
+    }
+}
+
+/// What the edits of a script leave.
+#[derive(Drop)]
+struct Left {
+    editor: Editor,
+    glass: GridGlass,
+    sink: MemSink,
+    last: Done,
+}
+
+/// Makes the edits of a script after an empty page, and puts their change lines.
+fn make_edits<L: Ledger>(alloc: Global, blank: Blank, text: &[u8]) -> Result<Left, Fail>
+    requires name { blank.name ≡ L.name }
+    requires parts { blank.parts ≡ L.parts }
+    requires some { 0 < blank.parts }
+    requires few { length text.now ≤ 2 ^ 20 }
+{
+    let script = Script::read(alloc, text)?;
+    let mut editor = Editor::new(alloc)?;
+    let mut glass = GridGlass::new(alloc)?;
+    let mut sink = MemSink::new(alloc, 4096)?;
+    let mut marks = Marks::new();
+    let mut steps = Steps::<L>::new(blank);
+    let mut last = Done::Done;
+    for k in 0..script.len() {
+        last = editor.line(
+            &script, k, &mut glass, &mut marks, &mut sink, true, &mut steps,
+        )?;
+    }
+    Ok(Left {
+        editor,
+        glass,
+        sink,
+        last,
+    })
+}
+
+#[test]
+fn of_33_edits_the_first_stays(rt: HostRuntime) -> Result<(), Fail> {
+    let mut text = Vec::new(rt.alloc());
+    for line in 0..66u8 {
+        let word: &[u8] = if line < 33 { b"text A\n" } else { b"undo\n" };
+        text.extend_from_slice(word)?;
+    }
+    if text.len() <= 1 << 20 {
+        let left = make_edits::<Brand>(rt.alloc(), Blank::new(1), text.as_slice())?;
+        assert!(rt; left.last == Done::Nothing);
+        assert_eq!(rt; left.editor.kept(), 0);
+        let first = Pos::new(1, 1).ok_or("no place")?;
+        let second = Pos::new(1, 2).ok_or("no place")?;
+        let last = Pos::new(1, 33).ok_or("no place")?;
+        assert!(rt; left.editor.screen().look(first) == sign(0x41));
+        assert!(rt; left.glass.shown(first) == sign(0x41));
+        assert!(rt; left.glass.shown(second) == Look::BLANK);
+        assert!(rt; left.glass.shown(last) == Look::BLANK);
+        assert!(rt;
+            left.sink
+                .bytes()
+                .ends_with(b"\n65 1 2 - 11.00 FFF 000 S---\n")
+        );
+    }
+    Ok(())
+}
+
+#[test]
+fn an_undo_brings_back_the_pen(rt: HostRuntime) -> Result<(), Fail> {
+    let left = make_edits::<Brand>(rt.alloc(), Blank::new(1), b"c1 1\nundo\ntext A")?;
+    assert!(rt; left.last == Done::Done);
+    let want: &[u8] = b"3 1 1 P41 11.00 FFF 000 S---\n";
+    assert_eq!(rt; left.sink.bytes(), want);
     Ok(())
 }

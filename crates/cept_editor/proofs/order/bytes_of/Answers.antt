@@ -1,5 +1,5 @@
 use Rattle.std.proofs.Common.{◌∙◌, sym, false, true}
-use Rattle.cept_editor.proofs.RawWords.{unread_step, no_digits, raw_step, no_length, some_length}
+use Rattle.cept_editor.proofs.RawWords.{unread_step, no_digits, raw_step, raw_some, no_length, some_length}
 use Rattle.cept_editor.proofs.order.bytes_of.Goals as goal
 
 pub returns-then-not-are_digits-clause-meant : goal.returns-then-not-are_digits-clause-meant
@@ -18,3 +18,10 @@ pub returns-clause-meant : goal.returns-clause-meant
 returns-clause-meant c =
     sym (raw_step _ false (some_length _ (sym c.is_empty.ensures ∙ c.if-is_empty.false))
     (sym c.are_digits.ensures ∙ c.if-not-are_digits.false) (sym c.if-has_refusal.false ∙ c.has_refusal.ensures.refused))
+
+pub returns-clause-sound : goal.returns-clause-sound
+returns-clause-sound c = (
+  c.has_refusal.ensures.sound,
+  raw_some _ (some_length _ (sym c.is_empty.ensures ∙ c.if-is_empty.false))
+      (sym c.are_digits.ensures ∙ c.if-not-are_digits.false) (sym c.has_refusal.ensures.refused ∙ c.if-has_refusal.false),
+)

@@ -1,0 +1,280 @@
+-- Commands applied one after the other.
+use Rattle.std.proofs.Common.{◌≡◌, ◌≢◌, ℕ, ◌+◌, ◌*◌, ◌<◌, ◌≤◌, Bool, true, false, cond, List, [], ◌∷◌, ◌++◌, take, length}
+use Rattle.std.proofs.Common.{Result, Ok, Err, OnOk, refl, sym, ap, subst, ◌∙◌, append_assoc, append-nil, arith}
+use Rattle.std.proofs.lemmas.List.{length-append}
+use Rattle.std.proofs.Math.Seq.{take-append-add}
+use Rattle.cept_codes.specs.Command.{IsValidCommand}
+use Rattle.cept_codes.specs.declared.command.Command.{Command}
+use Rattle.cept_codes.specs.declared.look.Look.{Look}
+use Rattle.cept_codes.specs.Place.{Place}
+use Rattle.cept_outside.specs.Causes.{Rose}
+use Rattle.cept_outside.specs.SinkState.{SinkState, PutsText}
+use Rattle.cept_outside.proofs.Laws.{Gains-append}
+use Rattle.cept_profile.specs.Changes.{changes_between, marked_looks, differences, grid_with_paints}
+use Rattle.cept_profile.specs.Look.{looks_of, grid}
+use Rattle.cept_profile.specs.Reach.{rows_in_reach}
+use Rattle.cept_profile.specs.State.{State, state, state_after, core_of}
+use Rattle.cept_profile.specs.Valid.{AllValid}
+use Rattle.cept_repaint.specs.GlassState.{GlassState, Lists}
+use Rattle.cept_report.specs.Text.{change_lines}
+use Rattle.cept_editor.specs.Applying.{state_after_all, rows_in_reach_of_all, AppliesOne, HasApplied, HasStopped}
+use Rattle.cept_editor.specs.Applying.{AppliesAll, MarksLast}
+use Rattle.cept_editor.specs.Events.{Event, event_changes, report, paints}
+use Rattle.cept_editor.specs.Made.{Output, output_of, AreStill, ArePainted, IsMade, AreMade, AreCutOff}
+use Rattle.cept_editor.specs.Stepping.{event_from, edit_events}
+use Rattle.cept_editor.proofs.EditsInTurn.{edit_events-none, edit_events-first, edit_events-last}
+use Rattle.cept_editor.proofs.EditsInTurn.{edit_events-append, length-edit_events}
+use Rattle.cept_editor.proofs.KeptStates.{AllByRecursion-append}
+use Rattle.cept_editor.proofs.MadeEvents.{paints-one, ArePainted-more, AreMade-none, AreMade-more}
+
+-- ---- one event
+
+-- the changes of a screen painted and their lines put are the event from the commands before to other commands after
+pub made_from : {X E : Type 0} (reporting : Bool) (line : ℕ) (h h' : List Command) (s t : State) (marks : List Bool)
+    (result : Result X E) (a b : SinkState) (g g' : GlassState)
+    → s ≡ state h → t ≡ state h' → h' ≢ h → marks ≡ differences (looks_of (core_of s)) (looks_of (core_of t))
+    → Lists g.paints (changes_between (looks_of (core_of s)) (looks_of (core_of t))) g'.paints
+    → g'.grid ≡ grid_with_paints g.grid (changes_between (looks_of (core_of s)) (looks_of (core_of t)))
+    → PutsText a (cond reporting (change_lines line (marked_looks marks (looks_of (core_of t)))) []) result b
+    → IsMade (event_from reporting line h h') (output_of a g) result (output_of b g')
+made_from reporting line h h' s t marks result a b g g' old new other marked told shown put =
+    let e = event_from reporting line h h' in
+    let same : changes_between (looks_of (core_of s)) (looks_of (core_of t)) ≡ event_changes e =
+    λ i. changes_between (looks_of (core_of (old i))) (looks_of (core_of (new i))) in
+    let lines : marked_looks marks (looks_of (core_of t)) ≡ event_changes e =
+    ap (λ m. marked_looks m (looks_of (core_of t))) marked ∙ same in
+    record {
+      puts = subst (λ (l : List (Place × Look)). PutsText a (cond reporting (change_lines line l) []) result b) lines put;
+      painted = record {
+        listed = subst (λ (l : List (Place × Look)). Lists g.paints l g'.paints) (same ∙ sym (paints-one e)) told;
+        over = shown ∙ ap (grid_with_paints g.grid) (same ∙ sym (paints-one e));
+        untouched = λ still. absurd (other still.0);
+      };
+    }
+
+-- one command more makes other commands
+pub one_more_differs : (h : List Command) (c : Command) → h ++ c ∷ [] ≢ h
+one_more_differs h c same = omega (arith, ap length same, length-append h (c ∷ []))
+
+-- ---- sums over commands
+
+state_after_all-more : (s : State) (cs : List Command) (c : Command)
+    → state_after_all s (cs ++ c ∷ []) ≡ state_after (state_after_all s cs) c
+unfolding state_after_all
+state_after_all-more s [] c = refl
+state_after_all-more s (first ∷ cs) c = state_after_all-more (state_after s first) cs c
+
+rows-append : (s : State) (cs ds : List Command)
+    → rows_in_reach_of_all s (cs ++ ds) ≡ rows_in_reach_of_all s cs + rows_in_reach_of_all (state_after_all s cs) ds
+unfolding state_after_all rows_in_reach_of_all
+rows-append s [] ds = omega arith
+rows-append s (c ∷ cs) ds = let rest = rows-append (state_after s c) cs ds in omega (arith, rest)
+
+rows-one : (s : State) (c : Command) → rows_in_reach_of_all s (c ∷ []) ≡ rows_in_reach s c
+unfolding rows_in_reach_of_all
+rows-one s c = omega arith
+
+rows-first : (s : State) (c : Command) (cs : List Command)
+    → rows_in_reach_of_all s (c ∷ cs) ≡ rows_in_reach s c + rows_in_reach_of_all (state_after s c) cs
+unfolding rows_in_reach_of_all
+rows-first s c cs = refl
+
+-- ---- so far
+
+-- some of the commands were applied, and the others are left
+pub record HasGone (reporting : Bool) (line : ℕ) (whole left : List Command) (old : State) (before : Output)
+    (new : State) (after : Output) (marks : List Bool) (start ticks : ℕ) : Type 0 where
+  pub done : List Command
+  pub split : whole ≡ done ++ left
+  pub valid : AllValid done
+  pub stands : new ≡ state_after_all old done
+  pub applied : (history : List Command) → AllValid history → old ≡ state history
+      → HasApplied reporting line history done before new after
+  pub faults : after.sink.faults ≡ before.sink.faults
+  pub marked : 0 < length done → MarksLast {X = Unit {0}} {E = Unit {0}} done old (Ok tt) new marks
+  pub cost : ticks ≤ start + rows_in_reach_of_all old done
+  pub at_most : ticks ≤ start + 24 * length done
+
+pub gone_none : (reporting : Bool) (line : ℕ) (whole : List Command) (old : State) (before : Output) (marks : List Bool)
+    (start : ℕ) → HasGone reporting line whole whole old before old before marks start start
+unfolding state_after_all
+gone_none reporting line whole old before marks start = record {
+  done = [];
+  split = refl;
+  valid = tt;
+  stands = refl;
+  applied = λ history valid is. record {
+    is = is ∙ ap state (sym (append-nil history));
+    made = subst (λ (es : List Event). AreMade es before before) (sym (edit_events-none reporting line history))
+        (AreMade-none before);
+  };
+  faults = refl;
+  marked = λ some. absurd (omega (arith, some));
+  cost = omega arith;
+  at_most = omega arith;
+}
+
+pub gone_more : {X E : Type 0} {x : X} (reporting : Bool) (line : ℕ) (whole left : List Command) (c : Command)
+    (old : State) (before : Output) (mid : State) (now : Output) (new : State) (after : Output) (marks marks' : List Bool)
+    (start ticks ticks' : ℕ) → HasGone reporting line whole (c ∷ left) old before mid now marks start ticks
+    → IsValidCommand c → AppliesOne {X = X} {E = E} reporting line c mid now (Ok x) new after
+    → after.sink.faults ≡ now.sink.faults → marks' ≡ differences (looks_of (core_of mid)) (looks_of (core_of new))
+    → ticks' ≤ ticks + rows_in_reach mid c → ticks' ≤ ticks + 24
+    → HasGone reporting line whole left old before new after marks' start ticks'
+gone_more reporting line whole left c old before mid now new after marks marks' start ticks ticks' g valid one faults
+    marked cost at_most =
+    let further : new ≡ state_after_all old (g.done ++ c ∷ []) =
+    one.stands ∙ ap (λ s. state_after s c) g.stands ∙ sym (state_after_all-more old g.done c) in
+    record {
+      done = g.done ++ c ∷ [];
+      split = g.split ∙ sym (append_assoc g.done (c ∷ []) left);
+      valid = AllByRecursion-append IsValidCommand g.done (c ∷ []) g.valid (valid, tt);
+      stands = further;
+      applied = λ history earlier is.
+          let had = g.applied history earlier is in
+          let all = AllByRecursion-append IsValidCommand history g.done earlier g.valid in
+          record {
+            is = one.goes_on (history ++ g.done) all had.is ∙ ap state (append_assoc history g.done (c ∷ []));
+            made = subst (λ (es : List Event). AreMade es before after)
+                (sym (edit_events-last reporting line history g.done c))
+                (AreMade-more (edit_events reporting line history g.done)
+                (event_from reporting line (history ++ g.done) ((history ++ g.done) ++ c ∷ [])) before now after had.made
+                (one.made (history ++ g.done) all had.is));
+          };
+      faults = faults ∙ g.faults;
+      marked = λ some. record {
+        earlier = g.done;
+        last = c;
+        rest = [];
+        split = refl;
+        all = refl;
+        applied = further;
+        marked = marked ∙ ap (λ s. differences (looks_of (core_of s)) (looks_of (core_of new))) g.stands;
+      };
+      cost =
+          let reach = ap (λ s. rows_in_reach s c) g.stands in
+          omega (arith, g.cost, cost, reach, rows-append old g.done (c ∷ []), rows-one (state_after_all old g.done) c);
+      at_most = omega (arith, g.at_most, at_most, length-append g.done (c ∷ []));
+    }
+
+-- others are left
+pub gone_left : {reporting : Bool} {line : ℕ} {whole left left' : List Command} {old : State} {before : Output}
+    {new : State} {after : Output} {marks : List Bool} {start ticks : ℕ} → left ≡ left'
+    → HasGone reporting line whole left old before new after marks start ticks
+    → HasGone reporting line whole left' old before new after marks start ticks
+gone_left {reporting} {line} {whole} {left} {left'} {old} {before} {new} {after} {marks} {start} {ticks} is g =
+    subst (λ l. HasGone reporting line whole l old before new after marks start ticks) is g
+
+-- ---- all of them
+
+pub all_applied : {X E : Type 0} {x : X} (reporting : Bool) (line : ℕ) (whole : List Command) (old : State)
+    (before : Output) (new : State) (after : Output) (marks : List Bool) (start ticks : ℕ)
+    → HasGone reporting line whole [] old before new after marks start ticks
+    → AppliesAll {X = X} {E = E} reporting line whole old before (Ok x) new after
+all_applied reporting line whole old before new after marks start ticks g =
+    let same : g.done ≡ whole = sym (append-nil g.done) ∙ sym g.split in
+    record {
+      applied = λ history valid is. subst (λ cs. HasApplied reporting line history cs before new after) same
+          (g.applied history valid is);
+      stopped = tt;
+    }
+
+-- whatever is answered
+marks_ok : {X Y E F : Type 0} {x : X} {y : Y} (cs : List Command) (old new : State) (marks : List Bool)
+    → MarksLast {X = X} {E = E} cs old (Ok x) new marks → MarksLast {X = Y} {E = F} cs old (Ok y) new marks
+marks_ok cs old new marks m = record {
+  earlier = m.earlier;
+  last = m.last;
+  rest = m.rest;
+  split = m.split;
+  all = m.all;
+  applied = m.applied;
+  marked = m.marked;
+}
+
+pub all_marked : {X E : Type 0} {x : X} (reporting : Bool) (line : ℕ) (whole : List Command) (old : State)
+    (before : Output) (new : State) (after : Output) (marks : List Bool) (start ticks : ℕ)
+    → HasGone reporting line whole [] old before new after marks start ticks → 0 < length whole
+    → MarksLast {X = X} {E = E} whole old (Ok x) new marks
+all_marked reporting line whole old before new after marks start ticks g some =
+    let same : g.done ≡ whole = sym (append-nil g.done) ∙ sym g.split in
+    marks_ok whole old new marks (subst (λ cs. MarksLast {X = Unit {0}} {E = Unit {0}} cs old (Ok tt) new marks) same
+    (g.marked (subst (λ cs. 0 < length cs) (sym same) some)))
+
+pub all_cost : (reporting : Bool) (line : ℕ) (whole : List Command) (old : State)
+    (before : Output) (new : State) (after : Output) (marks : List Bool) (start ticks : ℕ)
+    → HasGone reporting line whole [] old before new after marks start ticks
+    → (ticks ≤ start + rows_in_reach_of_all old whole) × (ticks ≤ start + 24 * length whole)
+all_cost reporting line whole old before new after marks start ticks g =
+    let same : g.done ≡ whole = sym (append-nil g.done) ∙ sym g.split in (
+      subst (λ cs. ticks ≤ start + rows_in_reach_of_all old cs) same g.cost,
+      subst (λ cs. ticks ≤ start + 24 * length cs) same g.at_most,
+    )
+
+-- ---- the sink failed
+
+pub all_stopped : {X Y E F : Type 0} {f : E} {e : F} (reporting : Bool) (line : ℕ) (whole left : List Command)
+    (c : Command) (old : State) (before : Output) (mid : State) (now : Output) (new : State) (after : Output)
+    (marks : List Bool) (start ticks : ℕ) → HasGone reporting line whole (c ∷ left) old before mid now marks start ticks
+    → AppliesOne {X = X} {E = E} reporting line c mid now (Err f) new after
+    → AppliesAll {X = Y} {E = F} reporting line whole old before (Err e) new after
+all_stopped reporting line whole left c old before mid now new after marks start ticks g one = record {
+  applied = tt;
+  stopped = λ history earlier is.
+      let had = g.applied history earlier is in
+      let all = AllByRecursion-append IsValidCommand history g.done earlier g.valid in
+      let events = edit_events reporting line history g.done in
+      let event = event_from reporting line (history ++ g.done) ((history ++ g.done) ++ c ∷ []) in
+      let later = edit_events reporting line ((history ++ g.done) ++ c ∷ []) left in
+      let made = one.made (history ++ g.done) all had.is in
+      let part = made.puts.part in
+      let front : take (length events + 1) whole ≡ g.done ++ c ∷ [] =
+      ap (λ n. take (n + 1) whole) (length-edit_events reporting line history g.done)
+      ∙ ap (take (length g.done + 1)) g.split ∙ take-append-add g.done (c ∷ left) 1 in
+      record {
+        off = record {
+          done = events;
+          cut = event;
+          rest = later;
+          split = ap (edit_events reporting line history) g.split
+              ∙ edit_events-append reporting line history g.done (c ∷ left)
+              ∙ ap (λ es. events ++ es) (edit_events-first reporting line (history ++ g.done) c left);
+          size = part.size;
+          short = part.short;
+          put = Gains-append before.sink now.sink after.sink (report events) (take part.size event.text) had.made.put
+              part.gains;
+          painted = ArePainted-more events (event ∷ []) before.glass now.glass after.glass had.made.painted made.painted;
+          cause = subst (λ n. Rose n after.sink.faults) g.faults made.puts.cause.failed;
+          later = omega (arith, g.faults, made.puts.cause.later);
+        };
+        is = one.goes_on (history ++ g.done) all had.is
+            ∙ ap state (append_assoc history g.done (c ∷ []) ∙ ap (λ l. history ++ l) (sym front));
+      };
+}
+
+pub stopped_marked : {X E : Type 0} {f : E} (reporting : Bool) (line : ℕ) (whole left : List Command) (c : Command)
+    (old : State) (before : Output) (mid : State) (now : Output) (new : State) (marks marks' : List Bool)
+    (start ticks : ℕ) → HasGone reporting line whole (c ∷ left) old before mid now marks start ticks
+    → new ≡ state_after mid c → marks' ≡ differences (looks_of (core_of mid)) (looks_of (core_of new))
+    → MarksLast {X = X} {E = E} whole old (Err f) new marks'
+stopped_marked reporting line whole left c old before mid now new marks marks' start ticks g stands marked = record {
+  earlier = g.done;
+  last = c;
+  rest = left;
+  split = g.split;
+  all = tt;
+  applied = stands ∙ ap (λ s. state_after s c) g.stands ∙ sym (state_after_all-more old g.done c);
+  marked = marked ∙ ap (λ s. differences (looks_of (core_of s)) (looks_of (core_of new))) g.stands;
+}
+
+pub stopped_cost : (reporting : Bool) (line : ℕ) (whole left : List Command) (c : Command)
+    (old : State) (before : Output) (mid : State) (now : Output) (marks : List Bool) (start ticks ticks' : ℕ)
+    → HasGone reporting line whole (c ∷ left) old before mid now marks start ticks
+    → ticks' ≤ ticks + rows_in_reach mid c → ticks' ≤ ticks + 24
+    → (ticks' ≤ start + rows_in_reach_of_all old whole) × (ticks' ≤ start + 24 * length whole)
+stopped_cost reporting line whole left c old before mid now marks start ticks ticks' g cost at_most =
+    let reach = ap (λ s. rows_in_reach s c) g.stands in
+    let rows = ap (rows_in_reach_of_all old) g.split ∙ rows-append old g.done (c ∷ left) in
+    let first = rows-first (state_after_all old g.done) c left in
+    let size = ap length g.split ∙ length-append g.done (c ∷ left) in
+    (omega (arith, g.cost, cost, reach, rows, first), omega (arith, g.at_most, at_most, size))

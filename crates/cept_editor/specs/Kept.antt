@@ -1,0 +1,67 @@
+-- The edits that are kept after the edit lines of a script, and those of them that can be taken back (this project's own).
+use Rattle.std.specs.Prelude.{◌≡◌, ℕ, ◌+◌, ◌-◌, ◌<◌, ◌≤◌, ◌==◌, min, List, [], ◌∷◌, ◌++◌, length, map, take, if◌then◌else◌}
+use Rattle.std.specs.List.{flat_map, range_with_len, AllByRecursion}
+use Rattle.cept_codes.specs.declared.command.Command.{Command}
+use Rattle.cept_profile.specs.State.{State, state}
+use Rattle.cept_profile.specs.Valid.{AllValid}
+use Rattle.cept_editor.specs.Meaning.{Step, TakeBack, Edit}
+
+-- the commands of each kept edit, in order, and how many of the last edits can be taken back
+pub record KeptEdits : Type 0 where
+  pub edits : List (List Command)
+  pub count : ℕ
+
+-- before the first edit line
+abbrev pub none_kept : KeptEdits
+none_kept = record { edits = []; count = 0 }
+
+-- after one more edit line: an edit goes last, and at most 32 can be taken back; an undo takes the last edit away, where
+-- one can be taken back
+abbrev pub kept_after : KeptEdits → Step → KeptEdits
+kept_after k (Edit commands) = record { edits = k.edits ++ commands ∷ []; count = min (k.count + 1) 32 }
+kept_after k TakeBack =
+    if k.count == 0 then k else record { edits = take (length k.edits - 1) k.edits; count = k.count - 1 }
+
+-- after these and more edit lines, in order
+unfoldable pub kept_after_all : KeptEdits → List Step → KeptEdits
+kept_after_all k [] = k
+kept_after_all k (step ∷ more) = kept_after_all (kept_after k step) more
+
+-- after these edit lines
+abbrev pub kept : List Step → KeptEdits
+kept steps = kept_after_all none_kept steps
+
+-- the commands of edits, one after the other
+unfoldable pub commands_of_edits : List (List Command) → List Command
+commands_of_edits edits = flat_map (λ commands. commands) edits
+
+-- the commands that remain: those of a page, and then those of the kept edits
+abbrev pub remaining : List Command → KeptEdits → List Command
+remaining page k = page ++ commands_of_edits k.edits
+
+-- the state after the page and all kept edits but the last i + 1
+abbrev pub state_before_last : List Command → KeptEdits → ℕ → State
+state_before_last page k i = state (page ++ commands_of_edits (take (length k.edits - (i + 1)) k.edits))
+
+-- the states that can be brought back, that before the last edit first
+unfoldable pub states_before : List Command → KeptEdits → List State
+states_before page k = map (state_before_last page k) (range_with_len 0 k.count)
+
+-- ---- the editor
+
+-- a screen's state, and the states that can be brought back, the latest first
+pub record EditorState : Type 0 where
+  pub screen : State
+  pub past : List State
+
+-- an editor after a page's commands and these kept edits
+abbrev pub editor_after : List Command → KeptEdits → EditorState
+editor_after page k = record { screen = state (remaining page k); past = states_before page k }
+
+-- it stands after them
+pub record StandsAfter (editor : EditorState) (page : List Command) (k : KeptEdits) : Type 0 where
+  pub valid : AllValid (remaining page k)
+  -- each kept edit has a command, and there are as many as can be taken back
+  pub some : AllByRecursion (λ commands. 0 < length commands) k.edits
+  pub within : k.count ≤ length k.edits
+  pub is : editor ≡ editor_after page k

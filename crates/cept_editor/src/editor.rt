@@ -1,0 +1,318 @@
+//! A screen whose edits are made line by line, and can be taken back.
+
+ghost use Rattle.std.specs.Prelude.{◌≡◌, ◌+◌, ◌*◌, ◌<◌, ◌≤◌, List, [], ◌∷◌, ◌++◌, Bool, false, length};
+ghost use Rattle.std.specs.Prelude.{IfOk, IsOk, IsSome, slice_index_or, if◌then◌else◌};
+ghost use Rattle.std.specs.List.{AllByRecursion};
+ghost use Rattle.cept_codes.specs.declared.command.Command.{Command};
+ghost use Rattle.cept_codes.specs.Command.{IsValidCommand};
+ghost use Rattle.cept_outside.specs.Causes.{HasCause};
+ghost use Rattle.cept_outside.specs.SinkState.{PutsText};
+ghost use Rattle.cept_profile.specs.Changes.{changes_between, differences, grid_with_paints};
+ghost use Rattle.cept_profile.specs.Changes.{marked_looks};
+ghost use Rattle.cept_profile.specs.Look.{looks_of};
+ghost use Rattle.cept_profile.specs.Reach.{rows_in_reach};
+ghost use Rattle.cept_profile.specs.State.{core_of, state, state_after};
+ghost use Rattle.cept_profile.specs.Valid.{AllValid};
+ghost use Rattle.cept_repaint.specs.GlassState.{Lists};
+ghost use Rattle.cept_report.specs.Text.{change_lines};
+ghost use Rattle.cept_editor.specs.Applying.{AppliesOne, AppliesAll, MarksLast, MarksStep};
+ghost use Rattle.cept_editor.specs.Applying.{rows_in_reach_of_all, rows_of_step};
+ghost use Rattle.cept_editor.specs.Kept.{none_kept, StandsAfter};
+ghost use Rattle.cept_editor.specs.Made.{output_of};
+ghost use Rattle.cept_editor.specs.Meaning.{TakeBack, Edit as EditOf, command_count};
+ghost use Rattle.cept_editor.specs.Script.{EditLine};
+ghost use Rattle.cept_editor.specs.Stepping.{GoesOn};
+
+use crate::commands::{Commands, Edit};
+use crate::script::Script;
+use cept_codes::{Command, NoMemory};
+use cept_outside::{Sink, Steps, WriteFault};
+use cept_repaint::{Glass, Marks, Screen};
+use cept_report::put_changes;
+use cept_undo::{Undo, Undone};
+use std::alloc::Global;
+use std::marker::Model;
+use std::sync::ledger::Ledger;
+
+/// Whether an edit line was made.
+#[derive(Clone, Copy, PartialEq, Eq, Debug)]
+pub enum Done {
+    /// It was made.
+    Done,
+    /// It was an undo, and no edit was kept that it could take back.
+    Nothing,
+}
+
+/// Puts the lines of the marked places, where they are asked for.
+fn put_lines<T: Sink>(
+    report: bool,
+    line: u32,
+    marks: &Marks,
+    screen: &Screen,
+    sink: &mut T,
+) -> Result<(), WriteFault>
+    ensures puts { let changed = marked_looks marks.now (looks_of (core_of screen.now)) in
+        let text = if report then change_lines line changed else [] in
+        PutsText (T.state sink.old) text result (T.state sink.new) }
+    ensures quiet { report ≡ false → IsOk result × (T.state sink.new ≡ T.state sink.old) }
+{
+    if report {
+        put_changes(sink, u64::from(line), marks, screen)
+    } else {
+        Ok(())
+    }
+}
+
+/// Applies a command of the edit that is begun, paints what it changes, and then puts its lines
+/// where they are asked for.
+fn apply_command<G: Glass, T: Sink, L: Ledger>(
+    undo: &mut Undo,
+    screen: &mut Screen,
+    line: u32,
+    command: Command,
+    glass: &mut G,
+    marks: &mut Marks,
+    sink: &mut T,
+    report: bool,
+    steps: &mut Steps<L>,
+) -> Result<(), WriteFault>
+    requires begun { IsSome undo.old.begun }
+    requires valid { IsValidCommand command }
+    ensures edits { undo.new ≡ undo.old }
+    ensures applies { AppliesOne report line command screen.old
+        (output_of (T.state sink.old) (G.state glass.old)) result screen.new
+        (output_of (T.state sink.new) (G.state glass.new)) }
+    ensures cause { HasCause (T.state sink.old).faults (T.state sink.new).faults result }
+    ensures quiet { report ≡ false → IsOk result × (T.state sink.new ≡ T.state sink.old) }
+    ensures marks { marks.new
+        ≡ differences (looks_of (core_of screen.old)) (looks_of (core_of screen.new)) }
+    ensures cost { steps.new ≤ steps.old + rows_in_reach screen.old command }
+    ensures at_most_24 { steps.new ≤ steps.old + 24 }
+{
+    undo.apply(screen, command, glass, marks, steps);
+    put_lines(report, line, marks, screen, sink)
+}
+
+/// Applies the commands of the edit that is begun one after the other, up to the first one whose
+/// lines aren't all put.
+fn apply_commands<G: Glass, T: Sink, L: Ledger>(
+    undo: &mut Undo,
+    screen: &mut Screen,
+    line: u32,
+    mut commands: Commands<'_>,
+    glass: &mut G,
+    marks: &mut Marks,
+    sink: &mut T,
+    report: bool,
+    steps: &mut Steps<L>,
+) -> Result<(), WriteFault>
+    requires begun { IsSome undo.old.begun }
+    ensures edits { undo.new ≡ undo.old }
+    ensures applies { AppliesAll report line commands.entry screen.old
+        (output_of (T.state sink.old) (G.state glass.old)) result screen.new
+        (output_of (T.state sink.new) (G.state glass.new)) }
+    ensures cause { HasCause (T.state sink.old).faults (T.state sink.new).faults result }
+    ensures quiet { report ≡ false → IsOk result × (T.state sink.new ≡ T.state sink.old) }
+    ensures marks { 0 < length commands.entry
+        → MarksLast commands.entry screen.old result screen.new marks.new }
+    ensures cost { steps.new ≤ steps.old + rows_in_reach_of_all screen.old commands.entry }
+    ensures at_most_24 { steps.new ≤ steps.old + 24 * length commands.entry }
+{
+    while let Some(command) = commands.next() {
+        apply_command(
+            undo, screen, line, command, glass, marks, sink, report, steps,
+        )?;
+    }
+    Ok(())
+}
+
+/// A screen, and the last edits of it, of which up to 32 can be taken back. The commands of a page
+/// can't.
+#[derive(Drop)]
+pub struct Editor {
+    screen: Screen,
+    undo: Undo,
+}
+
+impl Model for Editor {
+    ghost use Rattle.std.specs.Prelude.{IsNone};
+    ghost use Rattle.cept_editor.specs.Kept.{EditorState};
+
+    ghost Value = { EditorState };
+
+    ghost view = { λ e. record { screen = e.screen; past = e.undo.past } };
+
+    // Between two calls no edit is begun.
+    ghost invariant = { λ e. IsNone e.undo.begun };
+}
+
+impl Editor {
+    /// The screen is at its start, and no edit is kept.
+    pub fn new(alloc: Global) -> Result<Editor, NoMemory>
+        ensures start { IfOk result (λ editor. editor ≡ record { screen = state []; past = [] }) }
+        ensures stands { IfOk result (λ editor. StandsAfter editor [] none_kept) }
+    {
+        Ok(Editor {
+            screen: Screen::new(alloc)?,
+            undo: Undo::new(alloc)?,
+        })
+    }
+
+    /// Applies a command of a page: marks exactly the places whose look changes, and paints each of
+    /// them once, in reading order, with its new look. It is no edit: before the first edit no undo
+    /// takes it back. Takes no memory.
+    pub fn page<G: Glass, L: Ledger>(
+        &mut self,
+        command: &Command,
+        glass: &mut G,
+        marks: &mut Marks,
+        steps: &mut Steps<L>,
+    )
+        requires { IsValidCommand command.now }
+        ensures past { self.new.past ≡ self.old.past }
+        ensures goes_on { (history : List Command) → AllValid history
+            → self.old.screen ≡ state history
+            → self.new.screen ≡ state (history ++ command.now ∷ []) }
+        ensures after { self.new.screen ≡ state_after self.old.screen command.now }
+        ensures marks { marks.new ≡ differences (looks_of (core_of self.old.screen))
+            (looks_of (core_of self.new.screen)) }
+        ensures shown { (G.state glass.new).grid ≡ grid_with_paints (G.state glass.old).grid
+            (changes_between (looks_of (core_of self.old.screen))
+            (looks_of (core_of self.new.screen))) }
+        ensures told { Lists (G.state glass.old).paints
+            (changes_between (looks_of (core_of self.old.screen))
+            (looks_of (core_of self.new.screen)))
+            (G.state glass.new).paints }
+        ensures cost { steps.new ≤ steps.old + rows_in_reach self.old.screen command.now }
+        ensures at_most_24 { steps.new ≤ steps.old + 24 }
+    {
+        self.screen.apply_from(command, glass, marks, steps);
+    }
+
+    /// Makes edit k of a script, counted from 0. The commands of an edit are applied one after the
+    /// other, each is painted, and then its change lines are put, where `report` holds. The edit is
+    /// kept, and where 32 are kept the oldest is dropped. An undo takes the last kept edit back in
+    /// one step, paints what changes, and then puts its change lines where `report` holds; where no
+    /// edit is kept nothing happens. Takes no memory.
+    ///
+    /// # Errors
+    ///
+    /// `WriteFault` where the sink fails. A part of the change lines was put. The commands up to the
+    /// first one whose lines weren't all put are applied, and kept as an edit; an undo was made.
+    pub fn line<G: Glass, T: Sink, L: Ledger>(
+        &mut self,
+        script: &Script,
+        k: u32,
+        glass: &mut G,
+        marks: &mut Marks,
+        sink: &mut T,
+        report: bool,
+        steps: &mut Steps<L>,
+    ) -> Result<Done, WriteFault>
+        requires { k < length script.now }
+        ensures goes_on { (default : EditLine) → let edit = slice_index_or script.now k default in
+            GoesOn report edit.line edit.step self.old
+            (output_of (T.state sink.old) (G.state glass.old)) result self.new
+            (output_of (T.state sink.new) (G.state glass.new)) }
+        ensures cause { HasCause (T.state sink.old).faults (T.state sink.new).faults result }
+        ensures quiet { report ≡ false → IsOk result × (T.state sink.new ≡ T.state sink.old) }
+        ensures marks { (default : EditLine) → let edit = slice_index_or script.now k default in
+            MarksStep edit.step self.old.screen result self.new.screen marks.new }
+        ensures cost { (default : EditLine) → let edit = slice_index_or script.now k default in
+            steps.new ≤ steps.old + rows_of_step self.old.screen edit.step }
+        ensures at_most_24 { (default : EditLine)
+            → let edit = slice_index_or script.now k default in
+            steps.new ≤ steps.old + 24 * command_count edit.step }
+    {
+        let line = script.line_of(k);
+        match script.edit(k) {
+            Edit::Undo => self.take_back(line, glass, marks, sink, report, steps),
+            Edit::Commands(commands) => {
+                self.edit(line, commands, glass, marks, sink, report, steps)
+            }
+        }
+    }
+
+    /// Makes an edit of these commands, and keeps as much of it as was applied.
+    fn edit<G: Glass, T: Sink, L: Ledger>(
+        &mut self,
+        line: u32,
+        commands: Commands<'_>,
+        glass: &mut G,
+        marks: &mut Marks,
+        sink: &mut T,
+        report: bool,
+        steps: &mut Steps<L>,
+    ) -> Result<Done, WriteFault>
+        requires some { 0 < length commands }
+        requires valid { AllByRecursion IsValidCommand commands }
+        ensures goes_on { GoesOn report line (EditOf commands.entry) self.old
+            (output_of (T.state sink.old) (G.state glass.old)) result self.new
+            (output_of (T.state sink.new) (G.state glass.new)) }
+        ensures cause { HasCause (T.state sink.old).faults (T.state sink.new).faults result }
+        ensures quiet { report ≡ false → IsOk result × (T.state sink.new ≡ T.state sink.old) }
+        ensures marks { MarksLast commands.entry self.old.screen result self.new.screen marks.new }
+        ensures cost { steps.new
+            ≤ steps.old + rows_in_reach_of_all self.old.screen commands.entry }
+        ensures at_most_24 { steps.new ≤ steps.old + 24 * length commands.entry }
+    {
+        self.undo.begin(&self.screen);
+        let applied = apply_commands(
+            &mut self.undo,
+            &mut self.screen,
+            line,
+            commands,
+            glass,
+            marks,
+            sink,
+            report,
+            steps,
+        );
+        self.undo.commit();
+        applied?;
+        Ok(Done::Done)
+    }
+
+    /// Takes the last kept edit back.
+    fn take_back<G: Glass, T: Sink, L: Ledger>(
+        &mut self,
+        line: u32,
+        glass: &mut G,
+        marks: &mut Marks,
+        sink: &mut T,
+        report: bool,
+        steps: &mut Steps<L>,
+    ) -> Result<Done, WriteFault>
+        ensures goes_on { GoesOn report line TakeBack self.old
+            (output_of (T.state sink.old) (G.state glass.old)) result self.new
+            (output_of (T.state sink.new) (G.state glass.new)) }
+        ensures cause { HasCause (T.state sink.old).faults (T.state sink.new).faults result }
+        ensures quiet { report ≡ false → IsOk result × (T.state sink.new ≡ T.state sink.old) }
+        ensures marks { marks.new ≡ differences (looks_of (core_of self.old.screen))
+            (looks_of (core_of self.new.screen)) }
+        ensures at_most_24 { steps.new ≤ steps.old + 24 }
+    {
+        match self.undo.undo(&mut self.screen, glass, marks, steps) {
+            Undone::Nothing => Ok(Done::Nothing),
+            Undone::Undone => {
+                put_lines(report, line, marks, &self.screen, sink)?;
+                Ok(Done::Done)
+            }
+        }
+    }
+
+    /// The screen.
+    pub fn screen(&self) -> &Screen
+        ensures { result.now ≡ self.now.screen }
+    {
+        &self.screen
+    }
+
+    /// How many edits can be taken back, at most 32.
+    pub fn kept(&self) -> u32
+        ensures edits { result ≡ length self.now.past }
+        ensures at_most_32 { result ≤ 32 }
+    {
+        self.undo.kept()
+    }
+}

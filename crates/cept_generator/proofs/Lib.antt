@@ -1,0 +1,5 @@
+mod BytesLeft
+pub mod Laws
+mod UnitsMeasured
+mod UnitsRead
+mod Worked
