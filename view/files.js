@@ -1,0 +1,72 @@
+// What is opened, pasted or dropped: texts of the program and stored pages.
+(function (tamligub) {
+  "use strict";
+
+  const text = (bytes) => new TextDecoder("utf-8").decode(bytes);
+
+  // Whether a reading takes a text.
+  function taken(read, bytes) {
+    try {
+      read(text(bytes));
+      return true;
+    } catch (fault) {
+      return false;
+    }
+  }
+
+  // Whether the first line of some bytes is a line of `changes`.
+  function beginsAsChanges(bytes) {
+    const end = bytes.indexOf(0x0a);
+    return taken(tamligub.readChanges, end < 0 ? bytes : bytes.subarray(0, end));
+  }
+
+  // Which of some dropped files is which: a text of check ends with its check line, a text of changes begins with one of its
+  // lines, and what is left is the stored page. A single file is the text of changes.
+  function sorted(files) {
+    const parts = { name: "", changes: null, page: null, check: null };
+    const left = files.filter((file) => {
+      const isCheck = files.length > 1 && !parts.check && taken(tamligub.readCheck, file.bytes);
+      if (isCheck) parts.check = text(file.bytes);
+      return !isCheck;
+    });
+    const changes = left.find((file) => beginsAsChanges(file.bytes)) || left[0];
+    const page = left.find((file) => file !== changes);
+    parts.name = changes ? changes.name : "";
+    parts.changes = changes ? text(changes.bytes) : null;
+    parts.page = page ? page.bytes : null;
+    return parts;
+  }
+
+  async function bytesOf(file) {
+    return { name: file.name, bytes: new Uint8Array(await file.arrayBuffer()) };
+  }
+
+  async function dropped(list) {
+    return sorted(await Promise.all([...list].map(bytesOf)));
+  }
+
+  // What the form holds: the pasted text is taken where no file of changes is chosen.
+  async function chosen(form) {
+    const file = (id) => form.querySelector(`#${id}`).files[0];
+    const read = async (id) => (file(id) ? bytesOf(file(id)) : null);
+    const [changes, page, check] = [await read("file-changes"), await read("file-page"), await read("file-check")];
+    return {
+      name: changes ? changes.name : "pasted text",
+      changes: changes ? text(changes.bytes) : form.querySelector("#paste").value,
+      page: page ? page.bytes : null,
+      check: check ? text(check.bytes) : null,
+    };
+  }
+
+  // The pages that page_to_html put into this file.
+  function embedded() {
+    return JSON.parse(tamligub.part("pages").textContent).map((page) => ({
+      name: page.name,
+      changes: page.changes,
+      check: page.check,
+      page: Uint8Array.from(atob(page.page), (sign) => sign.charCodeAt(0)),
+    }));
+  }
+
+  Object.assign(tamligub, { sorted, dropped, chosen, embedded });
+})((window.Tamligub = window.Tamligub || {}));

@@ -1,0 +1,108 @@
+// The course of a page: the looks of all cells after each of its moments, forwards and back.
+(function (tamligub) {
+  "use strict";
+
+  const BITS_OF_A_BYTE = 10;
+
+  class Film {
+    // `changes` as readChanges gives it; the bytes of the stored page where they are known.
+    constructor(changes, bytes) {
+      this.changes = changes;
+      this.bytes = bytes || null;
+      this.moments = changes.moments;
+      this.grid = new Uint32Array(tamligub.CELLS);
+      this.before = this.looksBefore();
+      this.moment = 0;
+      const last = this.moments.length ? this.moments[this.moments.length - 1].place + 1 : 0;
+      this.length = this.bytes ? Math.max(this.bytes.length, last) : last;
+    }
+
+    // For each change line the look that its cell had before.
+    looksBefore() {
+      const { cells, numbers, count } = this.changes;
+      const [grid, before] = [new Uint32Array(tamligub.CELLS), new Uint32Array(count)];
+      for (let line = 0; line < count; line++) {
+        before[line] = grid[cells[line]];
+        grid[cells[line]] = numbers[line];
+      }
+      return before;
+    }
+
+    // The number of change lines of the first so many moments.
+    linesUpTo(moment) {
+      return moment < this.moments.length ? this.moments[moment].first : this.changes.count;
+    }
+
+    // The first and the next line of the moment that was reached last.
+    lastLines() {
+      return this.moment ? [this.linesUpTo(this.moment - 1), this.linesUpTo(this.moment)] : [0, 0];
+    }
+
+    // Goes to the state after so many moments.
+    go(moment) {
+      const to = Math.max(0, Math.min(moment, this.moments.length));
+      const { cells, numbers } = this.changes;
+      const [from, goal] = [this.linesUpTo(this.moment), this.linesUpTo(to)];
+      for (let line = from; line < goal; line++) this.grid[cells[line]] = numbers[line];
+      for (let line = from - 1; line >= goal; line--) this.grid[cells[line]] = this.before[line];
+      this.moment = to;
+    }
+
+    // How many moments have come when so many bytes have: those with a lesser place.
+    momentsWithin(bytes) {
+      let [low, high] = [0, this.moments.length];
+      while (low < high) {
+        const middle = (low + high) >> 1;
+        if (this.moments[middle].place < bytes) low = middle + 1;
+        else high = middle;
+      }
+      return low;
+    }
+
+    // How many bytes had come when the moment that was reached last came.
+    bytesCome() {
+      return this.moment ? this.moments[this.moment - 1].place + 1 : 0;
+    }
+
+    // The number of the last change line up to now that changed a cell, or -1.
+    lineOf(cell) {
+      for (let line = this.linesUpTo(this.moment) - 1; line >= 0; line--) {
+        if (this.changes.cells[line] === cell) return line;
+      }
+      return -1;
+    }
+
+    // The moment that a change line belongs to.
+    momentOf(line) {
+      let [low, high] = [0, this.moments.length];
+      while (high - low > 1) {
+        const middle = (low + high) >> 1;
+        if (this.moments[middle].first <= line) low = middle;
+        else high = middle;
+      }
+      return low;
+    }
+
+    // The bytes from the place of a moment up to that of the next, or to the end; null where the page isn't known.
+    bytesOf(moment) {
+      if (!this.bytes) return null;
+      const next = moment + 1 < this.moments.length ? this.moments[moment + 1].place : this.bytes.length;
+      return this.bytes.subarray(this.moments[moment].place, next);
+    }
+
+    // The rows as `show` puts them: a space for a concealed sign and for each further cell of a large one.
+    text(revealed) {
+      const looks = this.changes.looks;
+      let text = "";
+      this.grid.forEach((number, cell) => {
+        const look = looks[number];
+        const empty = look.kind === "space" || (look.concealed && !revealed) || look.down || look.right;
+        text += empty ? " " : tamligub.unicodeOf(look);
+        if (cell % tamligub.COLUMNS === tamligub.COLUMNS - 1) text += "\n";
+      });
+      return text;
+    }
+  }
+
+  Object.assign(tamligub, { Film, BITS_OF_A_BYTE });
+})((window.Tamligub = window.Tamligub || {}));

@@ -1,0 +1,106 @@
+// The canvas: it keeps which look each cell shows, and paints a cell only where that differs from what it is to show.
+(function (tamligub) {
+  "use strict";
+
+  const NEVER = 0xffffffff;
+  const TALL = 1.25;
+
+  class Screen {
+    // The lower canvas has the page, the upper one the outlines.
+    constructor(page, outlines) {
+      this.page = page;
+      this.outlines = outlines;
+      this.shown = new Uint32Array(tamligub.CELLS).fill(NEVER);
+      this.looks = [];
+      this.phase = 0;
+      this.revealed = false;
+      this.painted = 0;
+    }
+
+    // Lays the canvases out with cells of so many pixels of the display, and forgets what was painted.
+    lay(cellWidth, ratio) {
+      const [width, height] = [cellWidth, Math.round(cellWidth * TALL)];
+      for (const canvas of [this.page, this.outlines]) {
+        canvas.width = width * tamligub.COLUMNS;
+        canvas.height = height * tamligub.ROWS;
+        canvas.style.width = `${canvas.width / ratio}px`;
+        canvas.style.height = `${canvas.height / ratio}px`;
+      }
+      [this.cellWidth, this.cellHeight] = [width, height];
+      this.painter = new tamligub.Painter(this.page, width, height);
+      this.forget();
+    }
+
+    forget() {
+      this.shown.fill(NEVER);
+    }
+
+    placeOf(cell) {
+      return [(cell % tamligub.COLUMNS) * this.cellWidth, Math.floor(cell / tamligub.COLUMNS) * this.cellHeight];
+    }
+
+    paint(cell, number) {
+      const [x, y] = this.placeOf(cell);
+      this.painter.cell(this.looks[number], x, y, this.phase, this.revealed);
+      this.shown[cell] = number;
+      this.painted++;
+    }
+
+    // Shows the looks of a grid, by their numbers; answers how many cells it painted.
+    show(grid) {
+      const before = this.painted;
+      for (let cell = 0; cell < grid.length; cell++) {
+        if (this.shown[cell] !== grid[cell]) this.paint(cell, grid[cell]);
+      }
+      return this.painted - before;
+    }
+
+    // Goes to a phase of the flash, or reveals; repaints the cells that look otherwise by it.
+    turn(phase, revealed) {
+      const { appearance } = tamligub;
+      const changed = [];
+      this.shown.forEach((number, cell) => {
+        if (number === NEVER) return;
+        const look = this.looks[number];
+        if (look.flash === "S" && !look.concealed) return;
+        if (appearance(look, phase, revealed) !== appearance(look, this.phase, this.revealed)) changed.push(cell);
+      });
+      [this.phase, this.revealed] = [phase, revealed];
+      changed.forEach((cell) => this.paint(cell, this.shown[cell]));
+      return changed.length;
+    }
+
+    flashes() {
+      return this.shown.some((number) => number !== NEVER && this.looks[number].flash !== "S");
+    }
+
+    // Outlines cells, and one more that is pointed at.
+    outline(cells, pointed) {
+      const brush = this.outlines.getContext("2d");
+      const width = Math.max(2, Math.round(this.cellWidth / 8));
+      brush.clearRect(0, 0, this.outlines.width, this.outlines.height);
+      brush.lineWidth = width;
+      for (const [list, colours] of [[cells, ["#000", "#ff3df0"]], [pointed < 0 ? [] : [pointed], ["#000", "#ffd23d"]]]) {
+        colours.forEach((colour, inner) => {
+          brush.strokeStyle = colour;
+          const inset = width / 2 + (inner ? 0 : width / 2);
+          for (const cell of list) {
+            const [x, y] = this.placeOf(cell);
+            brush.strokeRect(x + inset, y + inset, this.cellWidth - 2 * inset, this.cellHeight - 2 * inset);
+          }
+        });
+      }
+    }
+
+    // The cell under a point of the canvas, in pixels of the page, or -1.
+    cellAt(x, y) {
+      const bounds = this.page.getBoundingClientRect();
+      const column = Math.floor(((x - bounds.left) / bounds.width) * tamligub.COLUMNS);
+      const row = Math.floor(((y - bounds.top) / bounds.height) * tamligub.ROWS);
+      const inside = column >= 0 && column < tamligub.COLUMNS && row >= 0 && row < tamligub.ROWS;
+      return inside ? row * tamligub.COLUMNS + column : -1;
+    }
+  }
+
+  Object.assign(tamligub, { Screen, TALL });
+})((window.Tamligub = window.Tamligub || {}));

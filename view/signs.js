@@ -1,0 +1,129 @@
+// Signs in Unicode, and the shapes of mosaics. The shapes are this viewer's own: the profile knows a sign by its set and code.
+(function (tamligub) {
+  "use strict";
+
+  const MARKS = {
+    0x41: "\u0300", 0x42: "\u0301", 0x43: "\u0302", 0x44: "\u0303", 0x45: "\u0304", 0x46: "\u0306", 0x47: "\u0307",
+    0x48: "\u0308", 0x4a: "\u030a", 0x4b: "\u0327", 0x4d: "\u030b", 0x4e: "\u0328", 0x4f: "\u030c",
+  };
+  // Each text begins at a code of the supplementary set. A gap is a code without a sign.
+  const SUPPLEMENTARY = {
+    0x21: "¡¢£$¥#§¤‘“«←↑→↓°±²³×µ¶·÷’”»¼½¾¿",
+    0x50: "―¹®©™♪",
+    0x60: "ΩÆĐªĦ",
+    0x66: "ĲĿŁØŒºÞŦŊŉĸæđðħıĳŀłøœßþŧŋ",
+  };
+  const NO_SIGN = "\ufffd";
+  const MOSAIC = "\u2592";
+  const SQUARE = "\u25a1";
+
+  // The smoothed mosaics, by where their edge begins and ends and by the corner that they fill. An edge's end is a letter for
+  // the column (left, centre, right) and a digit for the row: 0 upper, 1 upper middle, 2 lower middle, 3 lower.
+  const LOW_LEFT = ["l2 c3", "l2 r3", "l1 c3", "l1 r3", "l0 c3", "l0 r3"];
+  const LOW_RIGHT = ["l1 c0", "l1 r0", "l2 c0", "l2 r0", "l3 c0", "l2 r1"];
+  const RIGHT_LOW = ["c3 r2", "l3 r2", "c3 r1", "l3 r1", "c3 r0", "l3 r0"];
+  const LEFT_LOW = ["c0 r1", "l0 r1", "c0 r2", "l0 r2", "c0 r3", "l1 r2"];
+  // The quarters that meet in the middle, as the corners of their outer edge.
+  const QUARTERS = { left: "l0 l3", upper: "l0 r0", right: "r0 r3", lower: "l3 r3" };
+  // Lines from the middle: u, d, l, r are thin, capitals thick.
+  const LINES = {
+    0x40: "uLR", 0x41: "dLR", 0x42: "udR", 0x43: "udL", 0x4c: "udLR", 0x50: "ud", 0x51: "lr", 0x52: "rd", 0x53: "ld",
+    0x54: "ru", 0x55: "lu", 0x56: "udr", 0x57: "udl", 0x58: "lrd", 0x59: "lru", 0x5a: "udlr",
+  };
+  // Thin lines over the middles of the sides.
+  const SLANTS = { 0x44: "uld", 0x45: "urd", 0x46: "ldr", 0x47: "lur", 0x48: "ul", 0x49: "ur", 0x4a: "ld", 0x4b: "rd" };
+  const ARROWS = { 0x5b: "→", 0x5c: "←", 0x5d: "↑", 0x5e: "↓" };
+
+  function supplementary(code) {
+    for (const [first, signs] of Object.entries(SUPPLEMENTARY)) {
+      const index = code - Number(first);
+      if (index >= 0 && index < signs.length) return signs[index];
+    }
+    return NO_SIGN;
+  }
+
+  // The sign of a look as `show` puts it.
+  function unicodeOf(look) {
+    if (look.kind === "pattern" || look.set === "D") return SQUARE;
+    if (look.set === "M" || look.set === "N") return MOSAIC;
+    if (look.set === "S") return supplementary(look.code);
+    if (look.code === 0x7f) return "\u25a0";
+    return String.fromCharCode(look.code) + (MARKS[look.accent] || "");
+  }
+
+  // The shape of a mosaic: { blocks }, a number whose bits are the six blocks by rows; or { edge, corner }; or { quarters };
+  // or { lines }, { slants }, { dot }, { sign }, { bar }, { checks }; or null where the code has no shape.
+  function mosaicOf(set, code) {
+    if (set === "M" && (code < 0x40 || code >= 0x60)) return { blocks: (code & 0x1f) | ((code & 0x40) >> 1) };
+    const smooth = set === "M" ? code - 0x20 : code;
+    if (smooth >= 0x40 && smooth < 0x60) return lineOf(smooth);
+    return slopeOf(smooth);
+  }
+
+  function lineOf(code) {
+    if (LINES[code]) return { lines: LINES[code] };
+    if (SLANTS[code]) return { slants: SLANTS[code] };
+    if (ARROWS[code]) return { sign: ARROWS[code] };
+    if (code === 0x4d) return { dot: 0.2 };
+    if (code === 0x4e) return { dot: 0.45 };
+    if (code === 0x4f) return { dot: 0.45, hollow: true };
+    return null;
+  }
+
+  function slopeOf(code) {
+    const upper = code >= 0x60;
+    const low = code & 0x1f;
+    const [row, index] = [low >> 4, low & 0x0f];
+    if (index < 6) {
+      return { edge: (row ? RIGHT_LOW : LOW_LEFT)[index], corner: upper ? (row ? "l0" : "r0") : row ? "r3" : "l3" };
+    }
+    if (index < 12) {
+      return { edge: (row ? LEFT_LOW : LOW_RIGHT)[index - 6], corner: upper ? (row ? "r0" : "l0") : row ? "l3" : "r3" };
+    }
+    if (index < 14) return quartersOf(row, index, upper);
+    if (upper) return null;
+    if (index === 14) return { bar: row ? 6 : 1 };
+    return row ? { blocks: 63 } : { checks: 4 };
+  }
+
+  function quartersOf(row, index, upper) {
+    const named = index === 12 ? (row ? "right" : "left") : row ? "lower" : "upper";
+    const names = upper ? [named] : Object.keys(QUARTERS).filter((name) => name !== named);
+    return { quarters: names.map((name) => QUARTERS[name]) };
+  }
+
+  // A point of the edges, in parts of the width and the height.
+  function pointOf(text) {
+    return [{ l: 0, c: 0.5, r: 1 }[text[0]], Number(text[1]) / 3];
+  }
+
+  // On which side of the line from a to b a point is: a number above 0, below 0, or 0 on the line.
+  function sideOf([ax, ay], [bx, by], [x, y]) {
+    return (bx - ax) * (y - ay) - (by - ay) * (x - ax);
+  }
+
+  // The part of the unit square on the side of an edge where a corner is, as a polygon.
+  function polygonOf(edge, corner) {
+    const [a, b] = edge.split(" ").map(pointOf);
+    const inside = Math.sign(sideOf(a, b, pointOf(corner)));
+    const square = [[0, 0], [1, 0], [1, 1], [0, 1]];
+    const polygon = [];
+    square.forEach((from, index) => {
+      const to = square[(index + 1) % 4];
+      const [here, there] = [inside * sideOf(a, b, from), inside * sideOf(a, b, to)];
+      if (here >= 0) polygon.push(from);
+      if (here * there < 0) {
+        const part = here / (here - there);
+        polygon.push([from[0] + part * (to[0] - from[0]), from[1] + part * (to[1] - from[1])]);
+      }
+    });
+    return polygon;
+  }
+
+  // The triangle from the middle to an outer edge.
+  function quarterOf(corners) {
+    return [[0.5, 0.5], ...corners.split(" ").map(pointOf)];
+  }
+
+  Object.assign(tamligub, { unicodeOf, mosaicOf, polygonOf, quarterOf });
+})((window.Tamligub = window.Tamligub || {}));

@@ -1,0 +1,620 @@
+"""The cases of view/test: each takes the browser's tab and the stand, and fails by an assertion."""
+import json
+import os
+import re
+import subprocess
+import sys
+import time
+import unicodedata
+
+from looks import want_of
+
+HERE = os.path.dirname(os.path.abspath(__file__))
+VIEW = os.path.dirname(HERE)
+PAGES = os.path.join(os.path.dirname(VIEW), "pages")
+BLANK = "- 11.00 FFF 000 S---"
+
+# Colours at points of the canvas, and how many pixels of some cells differ from the one in a corner of the cell.
+PROBES = """
+window.probe = {
+  data() {
+    const page = Tamligub.viewer.screen.page;
+    return page.getContext("2d").getImageData(0, 0, page.width, page.height);
+  },
+  colours(points) {
+    const image = probe.data();
+    const { cellWidth, cellHeight } = Tamligub.viewer.screen;
+    const hex = (byte) => byte.toString(16).toUpperCase().padStart(2, "0");
+    return points.map(([cell, x, y]) => {
+      const left = (cell % 40) * cellWidth + Math.min(cellWidth - 1, Math.floor(x * cellWidth));
+      const top = Math.floor(cell / 40) * cellHeight + Math.min(cellHeight - 1, Math.floor(y * cellHeight));
+      const at = 4 * (top * image.width + left);
+      return hex(image.data[at]) + hex(image.data[at + 1]) + hex(image.data[at + 2]);
+    });
+  },
+  inked(cells) {
+    const image = probe.data();
+    const { cellWidth, cellHeight } = Tamligub.viewer.screen;
+    return cells.map((cell) => {
+      const [left, top] = [(cell % 40) * cellWidth, Math.floor(cell / 40) * cellHeight];
+      const first = 4 * (top * image.width + left);
+      let count = 0;
+      for (let y = top; y < top + cellHeight; y++)
+        for (let x = left; x < left + cellWidth; x++) {
+          const at = 4 * (y * image.width + x);
+          if ([0, 1, 2].some((part) => image.data[at + part] !== image.data[first + part])) count++;
+        }
+      return count;
+    });
+  },
+  sum() {
+    const words = new Uint32Array(probe.data().data.buffer);
+    let sum = 2166136261;
+    for (const word of words) sum = Math.imul(sum ^ word, 16777619);
+    return sum >>> 0;
+  },
+};
+"""
+
+
+class Stand:
+    """The repository's pages, what the program puts for each, and the file that page_to_html writes of them."""
+
+    def __init__(self, program, place):
+        self.program = program
+        self.place = place
+        self.paths = [os.path.join(PAGES, file) for file in sorted(os.listdir(PAGES)) if file.endswith(".btx")]
+        self.names = [os.path.basename(path)[: -len(".btx")] for path in self.paths]
+        self.html = self.written("pages.html", self.paths)
+
+    def path(self, name):
+        return os.path.join(PAGES, name + ".btx")
+
+    def put(self, word, name):
+        done = subprocess.run([self.program, word, self.path(name)], stdout=subprocess.PIPE, timeout=60)
+        assert done.returncode in (0, 1), f"{word} {name}: status {done.returncode}"
+        return done.stdout.decode("utf-8")
+
+    def written(self, name, paths):
+        path = os.path.join(self.place, name)
+        with open(path, "wb") as file:
+            words = [os.path.join(VIEW, "page_to_html"), "--program", self.program, *paths]
+            subprocess.run(words, stdout=file, check=True, timeout=120)
+        return path
+
+    def kept(self, name, text):
+        path = os.path.join(self.place, name)
+        with open(path, "w", encoding="utf-8", newline="") as file:
+            file.write(text)
+        return path
+
+
+def opened(tab, stand):
+    """The file of all pages, with the flash's clock stopped."""
+    tab.size(1280, 1000)
+    tab.open(stand.html)
+    tab.value(PROBES)
+    tab.value("Tamligub.part('flash').checked && Tamligub.part('flash').click()")
+
+
+def go_to(tab, stand, name):
+    tab.value(f"Tamligub.viewer.open({stand.names.index(name)})")
+
+
+def moments_of(changes):
+    """Place, number of lines, and whether it is refused, of each command that changes cells and each refusal."""
+    moments = []
+    for line in changes.splitlines():
+        refused = line[0] == "!"
+        place = int(line.split(" ")[1 if refused else 0])
+        if not moments or moments[-1][0] != place:
+            moments.append([place, 0, refused])
+        moments[-1][1] += not refused
+    return moments
+
+
+def compare(tab, looks, phase, revealed, where):
+    """Compares the canvas with what 960 looks have to show."""
+    points, colours, inked = [], [], []
+    for cell, look in enumerate(looks):
+        want = want_of(look, phase, revealed)
+        for x, y, right in want.points:
+            points.append((cell, round(x, 4), round(y, 4)))
+            colours.append(right)
+        if want.inked:
+            inked.append(cell)
+    found = tab.value(f"probe.colours({json.dumps(points)})")
+    wrong = [(point, seen, right) for point, seen, right in zip(points, found, colours) if seen not in right]
+    told = [f"row {p[0] // 40 + 1}, column {p[0] % 40 + 1} ({looks[p[0]]}) at {p[1:]}: {s}, not {r}" for p, s, r in wrong[:3]]
+    assert not wrong, f"{where}: {len(wrong)} of {len(points)} points are wrong: {'; '.join(told)}"
+    empty = [cell for cell, count in zip(inked, tab.value(f"probe.inked({json.dumps(inked)})")) if count < 4]
+    assert not empty, f"{where}: no sign is seen in {[(cell // 40 + 1, cell % 40 + 1, looks[cell]) for cell in empty[:3]]}"
+    return len(points)
+
+
+def looks_at_end(stand, name):
+    looks = [BLANK] * 960
+    for line in stand.put("cells", name).splitlines():
+        row, column, look = line.split(" ", 2)
+        looks[(int(row) - 1) * 40 + int(column) - 1] = look
+    return looks
+
+
+def the_canvas_shows_the_cells(tab, stand):
+    opened(tab, stand)
+    for name in stand.names:
+        go_to(tab, stand, name)
+        compare(tab, looks_at_end(stand, name), 0, False, name)
+
+
+def flash_has_six_phases(tab, stand):
+    opened(tab, stand)
+    go_to(tab, stand, "flashing")
+    looks = looks_at_end(stand, "flashing")
+    for phase in (1, 2, 3, 4, 5, 0):
+        tab.value(f"Tamligub.viewer.turn({phase})")
+        compare(tab, looks, phase, False, f"phase {phase}")
+
+
+def the_flash_runs_only_where_something_flashes(tab, stand):
+    opened(tab, stand)
+    tab.value("Tamligub.part('flash').click()")
+    go_to(tab, stand, "title")
+    assert tab.value("Tamligub.viewer.flashing") == 0, "a clock runs on a steady page"
+    go_to(tab, stand, "flashing")
+    tab.until("Tamligub.viewer.screen.phase > 2")
+    go_to(tab, stand, "title")
+    tab.value("window.turns = 0; Tamligub.viewer.turn = () => { window.turns++; }")
+    time.sleep(0.5)
+    assert tab.value("window.turns") == 0, "the clock goes on"
+
+
+def concealed_cells_show_when_revealed(tab, stand):
+    opened(tab, stand)
+    go_to(tab, stand, "answers")
+    looks = looks_at_end(stand, "answers")
+    tab.value("Tamligub.part('reveal').click()")
+    compare(tab, looks, 0, True, "revealed")
+    tab.value("Tamligub.part('reveal').click()")
+    compare(tab, looks, 0, False, "concealed again")
+
+
+def double_density_is_sharp(tab, stand):
+    """With two pixels of the display to one of the page the points are right too, and every row of blocks has two colours."""
+    opened(tab, stand)
+    tab.size(1290, 1000, 2)
+    tab.until("Tamligub.viewer.screen.page.width > 1500")
+    for name in ("house", "patterns"):
+        go_to(tab, stand, name)
+        compare(tab, looks_at_end(stand, name), 0, False, f"{name}, double density")
+    go_to(tab, stand, "house")
+    points = [(15 * 40 + column, n / 90, 0.1) for column in range(40) for n in range(90)]
+    seen = set(tab.value(f"probe.colours({json.dumps(points)})"))
+    assert seen == {"000000", "00FF00"}, f"the edges of blocks are blurred: {seen}"
+    wide = tab.value("[Tamligub.viewer.screen.page.width, Tamligub.viewer.screen.page.getBoundingClientRect().width]")
+    assert abs(wide[0] - 2 * wide[1]) < 0.01, f"canvas and page differ: {wide}"
+    tab.size(1280, 1000)
+
+
+def each_command_repaints_its_cells_alone(tab, stand):
+    opened(tab, stand)
+    script = """(() => {
+      const { player, screen } = Tamligub.viewer;
+      const text = (id) => Tamligub.part(id).textContent;
+      const steps = [];
+      player.toStart();
+      while (player.film.moment < player.film.moments.length) {
+        const before = screen.painted;
+        player.step(1);
+        steps.push([player.come, screen.painted - before, text("count-last"), text("count-all"), text("count-whole")]);
+      }
+      return steps;
+    })()"""
+    for name in stand.names:
+        go_to(tab, stand, name)
+        found, total = tab.value(script), 0
+        moments = moments_of(stand.put("changes", name))
+        assert len(found) == len(moments), f"{name}: {len(found)} steps, {len(moments)} moments"
+        for count, (step, (place, lines, _)) in enumerate(zip(found, moments), 1):
+            total += lines
+            want = [place + 1, lines, f"{lines} of 960 cells", f"{total:,}", f"{960 * count:,}"]
+            assert step == want, f"{name}: step {count} is {step}, not {want}"
+
+
+def back_is_as_forward_and_as_a_whole_repaint(tab, stand):
+    opened(tab, stand)
+    script = """(() => {
+      const { player, screen } = Tamligub.viewer;
+      const forward = [];
+      const wrong = [];
+      player.toStart();
+      forward.push(probe.sum());
+      while (player.film.moment < player.film.moments.length) {
+        player.step(1);
+        forward.push(probe.sum());
+        if (player.film.moment % 9) continue;
+        screen.forget();
+        screen.show(player.film.grid);
+        if (probe.sum() !== forward[player.film.moment]) wrong.push(`whole ${player.film.moment}`);
+      }
+      while (player.film.moment) {
+        player.step(-1);
+        if (probe.sum() !== forward[player.film.moment]) wrong.push(`back ${player.film.moment}`);
+      }
+      return wrong;
+    })()"""
+    tab.size(640, 500)
+    for name in ("hold", "title"):
+        go_to(tab, stand, name)
+        wrong = tab.value(script)
+        assert not wrong, f"{name}: {wrong[:5]}"
+    tab.size(1280, 1000)
+
+
+def the_slider_shows_what_has_come(tab, stand):
+    """After so many bytes exactly the commands have come whose place is less."""
+    opened(tab, stand)
+    script = """(() => {
+      const { player } = Tamligub.viewer;
+      const bytes = [...Array(player.film.length + 1).keys()];
+      return bytes.map((come) => {
+        player.toBytes(come);
+        return player.film.moment;
+      });
+    })()"""
+    for name in ("title", "refused"):
+        go_to(tab, stand, name)
+        places = [moment[0] for moment in moments_of(stand.put("changes", name))]
+        want = [sum(place < come for place in places) for come in range(os.path.getsize(stand.path(name)) + 1)]
+        assert tab.value(script) == want, f"{name}: other moments have come"
+    tab.value("window.location.hash = '#title@7'")
+    tab.until("Tamligub.viewer.page.name === 'title' && Tamligub.viewer.player.come === 8")
+    tab.value("window.location.hash = '#refused@99999'")
+    length = os.path.getsize(stand.path("refused"))
+    tab.until(f"Tamligub.viewer.page.name === 'refused' && Tamligub.viewer.player.come === {length}")
+
+
+def the_text_is_that_of_show(tab, stand):
+    opened(tab, stand)
+    for name in stand.names:
+        go_to(tab, stand, name)
+        found = tab.value("Tamligub.viewer.film().text(false)").split("\n")
+        want = stand.put("show", name).split("\n")[:-1]
+        assert found[: len(want)] == want, f"{name}: {[(f, w) for f, w in zip(found, want) if f != w][:2]}"
+
+
+def pages_play_at_the_speed_of_the_line(tab, stand):
+    opened(tab, stand)
+    go_to(tab, stand, "title")
+    length = os.path.getsize(stand.path("title"))
+    tab.value("document.activeElement.blur(); window.moves = 0; const m = Tamligub.viewer.player.moved;"
+              "Tamligub.viewer.player.moved = () => { window.moves++; m(); }")
+    tab.key("9")
+    begun = time.monotonic()
+    tab.key("p")
+    assert tab.value("Tamligub.part('play-word').textContent") == "Pause", "the button doesn't say Pause"
+    tab.until("!Tamligub.viewer.player.playing()")
+    took = time.monotonic() - begun
+    assert took > length * 10 / 9600 - 0.05, f"{length} bytes took {took} s"
+    assert tab.value("Tamligub.viewer.player.come") == length, "it ended early"
+    moments = len(moments_of(stand.put("changes", "title")))
+    moves = tab.value("window.moves")
+    assert moves <= moments + 3, f"{moves} moves for {moments} moments"
+    tab.key("1")
+    come, took = tab.value("""(async () => {
+      const { player } = Tamligub.viewer;
+      Tamligub.part("play").click();
+      await new Promise((done) => setTimeout(done, 600));
+      Tamligub.part("play").click();
+      return [player.come, performance.now() - player.begun];
+    })()""")
+    assert took * 0.12 - 40 < come <= took * 0.12, f"{took} ms at 1,200 bit/s brought {come} bytes"
+    assert tab.value("Tamligub.viewer.player.playing()") is False, "it isn't paused"
+
+
+def nothing_runs_between_commands(tab, stand):
+    tab.open(stand.written("gap.html", [stand.kept("gap.btx", "A" + "\0" * 60 + "B")]))
+    tab.value("window.ticks = 0; const t = Tamligub.viewer.player.tick; Tamligub.viewer.player.tick = function () {"
+              "window.ticks++; t.call(this); }; Tamligub.part('play').click()")
+    tab.until("!Tamligub.viewer.player.playing()")
+    assert tab.value("window.ticks") <= 4, f"{tab.value('window.ticks')} ticks for two commands"
+
+
+def keys_do_what_buttons_do(tab, stand):
+    opened(tab, stand)
+    go_to(tab, stand, "title")
+    moments = len(moments_of(stand.put("changes", "title")))
+    tab.value("document.activeElement.blur()")
+    moment = lambda: tab.value("Tamligub.viewer.film().moment")
+    tab.key("Home", 36)
+    assert moment() == 0, "Home"
+    tab.key(".")
+    tab.key(".")
+    tab.key(".")
+    tab.key(",")
+    assert moment() == 2, "steps"
+    tab.key("End", 35)
+    assert moment() == moments, "End"
+    for key, box in (("o", "outline"), ("r", "reveal"), ("f", "flash")):
+        before = tab.value(f"Tamligub.part('{box}').checked")
+        tab.key(key)
+        assert tab.value(f"Tamligub.part('{box}').checked") is not before, f"{key} doesn't switch {box}"
+    tab.value("Tamligub.part('letters').click(); document.activeElement.blur()")
+    tab.key(",")
+    assert moment() == moments, "letter keys are off, and one acted"
+    tab.value("Tamligub.part('bytes').focus()")
+    tab.key("Home", 36)
+    assert moment() == 0, "the slider by keys"
+    tab.value("Tamligub.part('screen').focus()")
+    for key, code in (("ArrowDown", 40), ("ArrowDown", 40), ("ArrowRight", 39)):
+        tab.key(key, code)
+    assert tab.value("Tamligub.part('cell-line').textContent").startswith("Row 2, column 2: "), "arrow keys"
+
+
+def all_controls_have_names_and_are_reached(tab, stand):
+    opened(tab, stand)
+    tab.value("document.querySelectorAll('details').forEach((one) => { one.open = true; })")
+    kinds = {"button", "checkbox", "combobox", "slider", "textbox", "link", "application", "DisclosureTriangle"}
+    nodes = [node for node in tab.call("Accessibility.getFullAXTree")["nodes"] if node.get("role", {}).get("value") in kinds]
+    unnamed = [node["role"]["value"] for node in nodes if not node.get("name", {}).get("value")]
+    assert len(nodes) > 20 and not unnamed, f"{len(nodes)} controls, without a name: {unnamed}"
+    tab.value("document.activeElement.blur(); window.scrollTo(0, 0)")
+    reached = set()
+    for _ in range(60):
+        tab.key("Tab", 9)
+        reached.add(tab.value("document.activeElement.id"))
+    wanted = set("screen bytes first back play forward last speed outline reveal flash copy save".split())
+    wanted |= set("paste letters text file-changes file-page file-check".split())
+    assert wanted <= reached, f"Tab doesn't reach {wanted - reached}"
+
+
+def light_and_dark_have_contrast(tab, stand):
+    opened(tab, stand)
+    script = """(() => {
+      const light = (text) => {
+        const parts = text.match(/[\\d.]+/g).slice(0, 3).map((part) => part / 255);
+        const [r, g, b] = parts.map((part) => (part <= 0.03928 ? part / 12.92 : ((part + 0.055) / 1.055) ** 2.4));
+        return 0.2126 * r + 0.7152 * g + 0.0722 * b;
+      };
+      const ground = (element) => {
+        for (let one = element; one; one = one.parentElement) {
+          const colour = getComputedStyle(one).backgroundColor;
+          if (!/, 0\\)$/.test(colour)) return colour;
+        }
+      };
+      return ["h1", "#name", "dt", "dd", "#play", "summary", "#cell-line", "#refusals a", "#speed"].map((name) => {
+        const element = document.querySelector(name);
+        const [a, b] = [light(getComputedStyle(element).color), light(ground(element))];
+        return [name, (Math.max(a, b) + 0.05) / (Math.min(a, b) + 0.05), light(ground(element))];
+      });
+    })()"""
+    grounds = []
+    go_to(tab, stand, "refused")
+    for scheme in ("light", "dark"):
+        tab.call("Emulation.setEmulatedMedia", features=[{"name": "prefers-color-scheme", "value": scheme}])
+        found = tab.value(script)
+        low = [(name, round(contrast, 1)) for name, contrast, _ in found if contrast < 4.5]
+        assert not low, f"{scheme}: too little contrast: {low}"
+        grounds.append(found[0][2])
+    tab.call("Emulation.setEmulatedMedia", features=[])
+    assert grounds[0] > 0.5 > grounds[1], f"light and dark grounds: {grounds}"
+
+
+def refusals_are_listed_and_lead_to_their_moments(tab, stand):
+    opened(tab, stand)
+    go_to(tab, stand, "refused")
+    refusals = [line.split(" ") for line in stand.put("check", "refused").splitlines() if line[0] == "!"]
+    found = tab.value("[...document.querySelectorAll('#refusals a')].map((link) => link.textContent)")
+    assert found == [f"byte {r[1]}: {r[4]}, length {r[2]}" for r in refusals], found
+    items = stand.put("check", "refused").splitlines()[-1].split(" ")
+    assert tab.value("Tamligub.part('refusals-count').textContent") == f"{items[3]} refused of {items[1]} items.", "the count"
+    for index, refusal in enumerate(refusals):
+        tab.value(f"document.querySelectorAll('#refusals a')[{index}].click()")
+        tab.until(f"Tamligub.viewer.player.come === {int(refusal[1]) + 1}")
+        assert tab.value("Tamligub.viewer.film().moments[Tamligub.viewer.film().moment - 1].place") == int(refusal[1]), "the moment"
+
+
+def no_byte_of_a_page_is_markup(tab, stand):
+    opened(tab, stand)
+    tab.value("window.alerted = 0; window.alert = () => { window.alerted++; }")
+    go_to(tab, stand, "refused")
+    tab.value("Tamligub.part('text-part').open = true; Tamligub.viewer.text()")
+    assert "<script>alert(1)</script>" in tab.value("Tamligub.part('text').textContent"), "the text lacks the signs"
+    for cell in range(15 * 40, 17 * 40):
+        tab.value(f"Tamligub.viewer.point({cell})")
+    assert tab.value("document.querySelectorAll('b, aside script, #below script').length") == 0, "an element was made"
+    assert tab.value("window.alerted") == 0, "a script was run"
+    evil = [
+        stand.kept("evil.btx", "</script><script>window.evil = 1</script><!-- <script>"),
+        stand.kept("<!--<script>.btx", "A"),
+        stand.kept("<img src=x onerror=window.evil=1>.btx", "\x1b"),
+    ]
+    tab.open(stand.written("evil.html", evil))
+    assert tab.value("window.evil === undefined") and tab.value("Tamligub.viewer.pages.length") == 3, "a page broke out"
+    tab.value("Tamligub.viewer.open(2)")
+    assert tab.value("document.querySelectorAll('img').length") == 0, "a name became markup"
+
+
+def a_cell_tells_its_line_and_bytes(tab, stand):
+    opened(tab, stand)
+    for name in ("house", "title"):
+        go_to(tab, stand, name)
+        last = {}
+        lines = stand.put("changes", name).splitlines()
+        for line in lines:
+            place, row, column, look = line.split(" ", 3)
+            last[(int(row) - 1) * 40 + int(column) - 1] = (line, int(place))
+        places = sorted({int(line.split(" ")[0]) for line in lines})
+        with open(stand.path(name), "rb") as file:
+            page = file.read()
+        for cell in list(last)[::7]:
+            tab.value(f"Tamligub.viewer.point({cell})")
+            line, place = last[cell]
+            told = tab.value("[Tamligub.part('cell-line').textContent, Tamligub.part('cell-bytes').textContent]")
+            assert told[0].endswith(": " + line), f"{name}: {told[0]}, not {line}"
+            end = min([other for other in places if other > place], default=len(page))
+            assert page[place : min(end, place + 32)].hex(" ").upper() in told[1], f"{name}: {told[1]}"
+
+
+def a_pointer_over_the_screen_names_the_cell(tab, stand):
+    opened(tab, stand)
+    box = tab.value("(({x, y, width, height}) => [x, y, width, height])(Tamligub.part('page').getBoundingClientRect())")
+    x, y = box[0] + box[2] * 11.5 / 40, box[1] + box[3] * 2.5 / 24
+    tab.call("Input.dispatchMouseEvent", type="mouseMoved", x=x, y=y)
+    tab.until("Tamligub.part('cell-line').textContent.startsWith('Row 3, column 12: ')")
+
+
+def text_that_is_no_changes_names_its_line(tab, stand):
+    tab.open(os.path.join(VIEW, "index.html"))
+    good = "0 1 1 P41 11.00 FFF 000 S---\n"
+    for text, number in (
+        ("<b>hello</b>\n", 1),
+        (good + "1 1 2 P42 11.00 FFF 000 S--\n", 2),
+        (good + good.replace("0 1 1", "0 25 1"), 2),
+        (good + "3 1 1 %12x10x1/FF 11.00 FFF 000 S---\n", 2),
+        ("5 1 1 P41 11.00 FFF 000 S---\n" + good, 2),
+        (good + "! 4 2 6 Interrupted\n\n5 1 1 - 11.00 FFF 000 S---\n", 3),
+        ("items 3 refused 0\n", 1),
+    ):
+        tab.value(f"Tamligub.part('paste').value = {json.dumps(text)}; document.querySelector('#open button').click()")
+        tab.until(f"Tamligub.part('fault').textContent.includes('Line {number} is not understood')")
+        tab.value("Tamligub.part('fault').textContent = ''")
+    tab.value(f"Tamligub.part('paste').value = {json.dumps(good)}; document.querySelector('#open button').click()")
+    tab.until("Tamligub.viewer.film() !== null")
+    assert tab.value("Tamligub.part('fault').textContent") == "", "a good text is refused"
+    assert tab.value("document.querySelectorAll('b').length") == 0, "a text became markup"
+
+
+def files_are_opened_and_dropped(tab, stand):
+    tab.open(os.path.join(VIEW, "index.html"))
+    tab.value(PROBES)
+    paths = {
+        "file-changes": stand.kept("refused.changes", stand.put("changes", "refused")),
+        "file-page": stand.path("refused"),
+        "file-check": stand.kept("refused.check", stand.put("check", "refused")),
+    }
+    root = tab.call("DOM.getDocument")["root"]["nodeId"]
+    for name, path in paths.items():
+        node = tab.call("DOM.querySelector", nodeId=root, selector="#" + name)["nodeId"]
+        tab.call("DOM.setFileInputFiles", nodeId=node, files=[path])
+    tab.value("document.querySelector('#open button').click()")
+    tab.until("Tamligub.viewer.film() !== null")
+    compare(tab, looks_at_end(stand, "refused"), 0, False, "opened")
+    assert "refused of" in tab.value("Tamligub.part('refusals-count').textContent"), "check isn't taken"
+    script = """(async () => {
+      const data = new DataTransfer();
+      const names = ["file-check", "file-page", "file-changes"];
+      for (const name of names) data.items.add(Tamligub.part(name).files[0]);
+      Tamligub.viewer.player.film = null;
+      document.dispatchEvent(new DragEvent("drop", { dataTransfer: data, cancelable: true }));
+    })()"""
+    tab.value(script)
+    tab.until("Tamligub.viewer.film() !== null")
+    size = os.path.getsize(stand.path("refused"))
+    assert tab.value("Tamligub.viewer.film().bytes.length") == size, "the dropped page isn't told from the texts"
+    compare(tab, looks_at_end(stand, "refused"), 0, False, "dropped")
+    tab.value("""(() => {
+      const data = new DataTransfer();
+      data.items.add(Tamligub.part("file-page").files[0]);
+      document.dispatchEvent(new DragEvent("drop", { dataTransfer: data, cancelable: true }));
+    })()""")
+    tab.until("Tamligub.part('fault').textContent.startsWith('refused.btx: Line 1 is not understood')")
+
+
+def the_index_has_small_pictures(tab, stand):
+    opened(tab, stand)
+    assert tab.value("[...document.querySelectorAll('#index button')].map((one) => one.textContent)") == stand.names, "the names"
+    tab.until("document.querySelector('#index canvas').width === 240")
+    script = """[...document.querySelectorAll('#index canvas')].slice(0, 3).every((canvas) =>
+      canvas.getContext('2d').getImageData(0, 0, canvas.width, canvas.height).data.some((byte, at) => at % 4 < 3 && byte > 100))"""
+    tab.until(script)
+    tab.value("document.querySelectorAll('#index button')[3].click()")
+    assert tab.value("Tamligub.viewer.page.name") == stand.names[3], "a button opens another page"
+
+
+def the_picture_and_the_text_can_be_taken(tab, stand):
+    opened(tab, stand)
+    go_to(tab, stand, "title")
+    tab.call("Page.setDownloadBehavior", behavior="allow", downloadPath=stand.place)
+    tab.value("Tamligub.part('save').click()")
+    path = os.path.join(stand.place, "title.png")
+    deadline = time.monotonic() + 10
+    while not os.path.exists(path) and time.monotonic() < deadline:
+        time.sleep(0.05)
+    with open(path, "rb") as file:
+        picture = file.read()
+    width = tab.value("Tamligub.viewer.screen.page.width")
+    assert picture[:4] == b"\x89PNG" and int.from_bytes(picture[16:20], "big") == width, "the file is no such PNG"
+    tab.value("Tamligub.part('copy').click()")
+    tab.until("Tamligub.part('state').textContent.length > 0 && Tamligub.part('text').textContent.includes('B I L D')")
+
+
+def big_files_open_quickly(tab, stand):
+    """A page of 50,000 bytes, each of which changes a cell, in a file of page_to_html: its data are read and its end is shown."""
+    page = os.path.join(stand.place, "big.btx")
+    with open(page, "wb") as file:
+        file.write(bytes(0x21 + n % 94 for n in range(50000)))
+    path = stand.written("big.html", [page])
+    tab.open(path)
+    opened_in = tab.value("performance.getEntriesByType('navigation')[0].domContentLoadedEventEnd")
+    assert tab.value("Tamligub.viewer.film().changes.count") == 50000, "there are other change lines"
+    script = """[1, 2, 3].map(() => {
+      const begun = performance.now();
+      Tamligub.viewer.take(Tamligub.embedded());
+      return performance.now() - begun;
+    })"""
+    times = tab.value(script)
+    size = os.path.getsize(path) / 1e6
+    taken = f"its page taken in {min(times):.0f} ms"
+    print(f"     a file of {size:.1f} MB: opened in {opened_in:.0f} ms with all that the browser does, {taken}")
+    assert min(times) < 200, f"too slow: {times}"
+
+
+def big_pages_are_quick(tab, stand):
+    """A page of 50 KB with 50,000 change lines: reading it, painting its end at once, and a small step."""
+    tab.size(1280, 1000)
+    tab.open(os.path.join(VIEW, "index.html"))
+    script = """(async () => {
+      const inks = ["FFF", "F00", "0F0", "FF0", "00F", "F0F", "0FF"];
+      const lines = [];
+      for (let n = 0; n < 50000; n++) {
+        const code = (0x21 + (n * 7) % 0x5d).toString(16).toUpperCase();
+        lines.push(`${n} ${1 + Math.floor(n / 40) % 24} ${1 + n % 40} P${code} 11.00 ${inks[Math.floor(n / 960) % 7]} 000 S---`);
+      }
+      const text = lines.join("\\n") + "\\n";
+      const times = [];
+      for (let turn = 0; turn < 5; turn++) {
+        const begun = performance.now();
+        Tamligub.viewer.take([{ name: "big", changes: text, check: null, page: new Uint8Array(50000) }]);
+        const read = performance.now();
+        Tamligub.viewer.player.toStart();
+        const before = Tamligub.viewer.screen.painted;
+        const cleared = performance.now();
+        Tamligub.viewer.player.toEnd();
+        const ended = performance.now();
+        const painted = Tamligub.viewer.screen.painted - before;
+        Tamligub.viewer.player.step(-1);
+        const stepped = performance.now();
+        times.push([read - begun, ended - cleared, stepped - ended, painted]);
+        await new Promise((done) => setTimeout(done, 50));
+      }
+      return times;
+    })()"""
+    times = tab.value(script)
+    load, paint, step = (min(one[k] for one in times) for k in range(3))
+    print(f"     50,000 lines: loaded in {load:.0f} ms, the end painted at once in {paint:.0f} ms, a step in {step:.1f} ms")
+    assert load < 200 and paint < 100, f"too slow: {times}"
+    assert all(one[3] <= 960 for one in times), "more cells were painted than there are"
+
+
+CASES = (
+    the_canvas_shows_the_cells, flash_has_six_phases, the_flash_runs_only_where_something_flashes,
+    concealed_cells_show_when_revealed, double_density_is_sharp, each_command_repaints_its_cells_alone,
+    back_is_as_forward_and_as_a_whole_repaint, the_slider_shows_what_has_come, the_text_is_that_of_show,
+    nothing_runs_between_commands, pages_play_at_the_speed_of_the_line,
+    keys_do_what_buttons_do, all_controls_have_names_and_are_reached, light_and_dark_have_contrast,
+    refusals_are_listed_and_lead_to_their_moments, no_byte_of_a_page_is_markup, a_cell_tells_its_line_and_bytes,
+    a_pointer_over_the_screen_names_the_cell, text_that_is_no_changes_names_its_line, files_are_opened_and_dropped,
+    the_index_has_small_pictures, the_picture_and_the_text_can_be_taken, big_pages_are_quick,
+    big_files_open_quickly,
+)

@@ -1,0 +1,204 @@
+// Reads the texts that the program puts: change lines, refusal lines, the check line, and looks.
+// Their grammar stands in docs/PROFILE.md under "Texts".
+//
+// The viewer's files are plain scripts, each a function that adds to the one name Tamligub: a browser loads no JavaScript
+// modules from a file system, and page_to_html puts the same files into one page.
+(function (tamligub) {
+  "use strict";
+
+  const COLUMNS = 40;
+  const ROWS = 24;
+  const CELLS = ROWS * COLUMNS;
+  const BLANK = "- 11.00 FFF 000 S---";
+  const SIGN = "([PSMND])([2-7][0-9A-F])(?:\\+(4[0-9A-F]))?";
+  const PATTERN = "%(12|6)x(12|10|6|5)x([124])/([0-9A-F]+)(?:/([0-9A-F-]+))?";
+  const LOOK = new RegExp(
+    `^(?:-|${SIGN}|${PATTERN}) ([12])([12])\\.([01])([01]) ([0-9A-F]{3}|---) ([0-9A-F]{3}|---) ([SFIR123])([c-])([l-])([b-])$`
+  );
+  const REFUSAL = /^! (0|[1-9]\d*) ([1-9]\d*) ([1-7]) ([A-Za-z]+)$/;
+  const CHECK = /^items (0|[1-9]\d*) refused (0|[1-9]\d*)$/;
+  // The number of signs of the shortest change line, and what no number of a text goes beyond.
+  const SHORTEST = "0 1 1 - 11.00 FFF 000 S---".length;
+  const MOST = 1e9;
+
+  // A text that isn't what it was taken for: the number of the first line that isn't understood, and what it holds.
+  class LineFault extends Error {
+    constructor(number, line, kind) {
+      const shown = line.length > 80 ? line.slice(0, 80) + " …" : line;
+      super(`Line ${number} is not understood as ${kind}: “${shown}”`);
+      this.number = number;
+    }
+  }
+
+  // The pixels of a pattern, line after line, each the number of its ink.
+  function pixelsOf(width, height, planes, words) {
+    const pixels = new Uint8Array(width * height);
+    for (let bit = 0; bit < width * height * planes; bit++) {
+      const digit = parseInt(words[(bit >> 6) * 16 + 15 - ((bit & 63) >> 2)], 16);
+      const plane = Math.floor(bit / pixels.length);
+      pixels[bit % pixels.length] |= ((digit >> (bit & 3)) & 1) << plane;
+    }
+    return pixels;
+  }
+
+  function patternOf(found) {
+    const [width, height, planes] = [Number(found[4]), Number(found[5]), Number(found[6])];
+    const sizes = ["12x12", "12x10", "6x12", "6x10", "6x5", "6x6"];
+    const digits = 16 * Math.ceil((width * height * planes) / 64);
+    const inks = (found[8] || "").match(/[0-9A-F]{3}|---/g) || [];
+    const enough = inks.length === (planes === 1 ? 0 : 1 << planes) && inks.join("") === (found[8] || "");
+    if (!sizes.includes(`${width}x${height}`) || found[7].length !== digits || !enough) return null;
+    return { width, height, planes, words: found[7], inks };
+  }
+
+  // The look that a text names, or null where it names none.
+  function readLook(text) {
+    const found = LOOK.exec(text);
+    if (!found) return null;
+    const pattern = found[4] ? patternOf(found) : null;
+    if (found[4] && !pattern) return null;
+    return {
+      text,
+      kind: found[1] ? "sign" : pattern ? "pattern" : "space",
+      set: found[1] || "",
+      code: found[2] ? parseInt(found[2], 16) : 0,
+      accent: found[3] ? parseInt(found[3], 16) : 0,
+      pattern,
+      high: Number(found[9]),
+      wide: Number(found[10]),
+      down: Number(found[11]),
+      right: Number(found[12]),
+      fore: found[13],
+      back: found[14],
+      flash: found[15],
+      concealed: found[16] === "c",
+      lined: found[17] === "l",
+      boxed: found[18] === "b",
+    };
+  }
+
+  // Looks by their texts: each text is read once and has a number. Number 0 is the blank look.
+  class Looks {
+    constructor() {
+      this.list = [];
+      this.numbers = new Map();
+      this.number(BLANK);
+    }
+
+    number(text) {
+      const known = this.numbers.get(text);
+      if (known !== undefined) return known;
+      const look = readLook(text);
+      if (!look) return -1;
+      this.numbers.set(text, this.list.length);
+      this.list.push(look);
+      return this.list.length - 1;
+    }
+  }
+
+  // The lines of a text, without the line feeds; the last may lack its own.
+  function linesOf(text) {
+    const lines = text.split("\n");
+    if (lines[lines.length - 1] === "") lines.pop();
+    return lines;
+  }
+
+  function refusalOf(line) {
+    const found = REFUSAL.exec(line);
+    if (!found) return null;
+    return { place: Number(found[1]), length: Number(found[2]), number: Number(found[3]), name: found[4] };
+  }
+
+  // Reads numbers from a place of a text on.
+  class Reader {
+    constructor(text) {
+      this.text = text;
+      this.at = 0;
+    }
+
+    // The decimal number at the place, without leading zeros, and the space after it; -1 where there is none.
+    number() {
+      let value = -1;
+      let sign = this.text.charCodeAt(this.at);
+      while (sign >= 0x30 && sign <= 0x39 && value !== 0 && value < MOST) {
+        value = Math.max(value, 0) * 10 + sign - 0x30;
+        sign = this.text.charCodeAt(++this.at);
+      }
+      if (sign !== 0x20) return -1;
+      this.at++;
+      return value;
+    }
+  }
+
+  // The text of `changes` as it is read: cells and looks of all change lines, and the moments. A moment is a command that
+  // changes cells, or a refusal: its place, and how many change lines stand before it.
+  class Course {
+    constructor(text) {
+      const room = Math.floor(text.length / SHORTEST) + 1;
+      this.known = new Looks();
+      this.looks = this.known.list;
+      this.cells = new Uint16Array(room);
+      this.numbers = new Uint32Array(room);
+      this.moments = [];
+      this.count = 0;
+    }
+
+    // The moment at a place, the last one or a new one; null where the place can't come here.
+    momentAt(place, refusal) {
+      const last = this.moments[this.moments.length - 1];
+      if (last && last.place === place) return last.refusal || refusal ? null : last;
+      if (last && last.place > place) return null;
+      const moment = { place, first: this.count, refusal };
+      this.moments.push(moment);
+      return moment;
+    }
+
+    // Takes a change line, whose place the reader has reached; answers whether it is one.
+    change(reader, end) {
+      const [place, row, column] = [reader.number(), reader.number(), reader.number()];
+      if (place < 0 || row < 1 || row > ROWS || column < 1 || column > COLUMNS) return false;
+      const look = this.known.number(reader.text.slice(reader.at, end));
+      if (look < 0 || !this.momentAt(place, null)) return false;
+      this.cells[this.count] = (row - 1) * COLUMNS + column - 1;
+      this.numbers[this.count] = look;
+      this.count++;
+      return true;
+    }
+
+    refuse(line) {
+      const refusal = refusalOf(line);
+      return refusal !== null && this.momentAt(refusal.place, refusal) !== null;
+    }
+  }
+
+  function readChanges(text) {
+    const course = new Course(text);
+    const reader = new Reader(text);
+    for (let number = 1, start = 0; start < text.length; number++) {
+      const feed = text.indexOf("\n", start);
+      const end = feed < 0 ? text.length : feed;
+      reader.at = start;
+      const taken = text[start] === "!" ? course.refuse(text.slice(start, end)) : course.change(reader, end);
+      if (!taken) throw new LineFault(number, text.slice(start, end), "a change line or a refusal");
+      start = end + 1;
+    }
+    return course;
+  }
+
+  // The text of `check`: its refusals and the numbers of its last line.
+  function readCheck(text) {
+    const lines = linesOf(text);
+    const refusals = lines.slice(0, -1).map((line, index) => {
+      const refusal = refusalOf(line);
+      if (!refusal) throw new LineFault(index + 1, line, "a refusal");
+      return refusal;
+    });
+    const last = CHECK.exec(lines[lines.length - 1] || "");
+    if (!last) throw new LineFault(Math.max(lines.length, 1), lines[lines.length - 1] || "", "a check line");
+    return { refusals, items: Number(last[1]), refused: Number(last[2]) };
+  }
+
+  Object.assign(tamligub, {
+    COLUMNS, ROWS, CELLS, LineFault, readLook, readChanges, readCheck, pixelsOf,
+  });
+})((window.Tamligub = window.Tamligub || {}));

@@ -1,0 +1,282 @@
+// Joins the parts: pages, the player, the screen, the panels and the controls.
+(function (tamligub) {
+  "use strict";
+
+  const { part, say, COLUMNS, ROWS } = tamligub;
+  const PHASE_TIME = 1000 / 6;
+  const SMALL_CELL = 6;
+  const LEAST_CELL = 6;
+
+  class Viewer {
+    constructor() {
+      this.pages = [];
+      this.page = null;
+      this.pointed = -1;
+      this.screen = new tamligub.Screen(part("page"), part("outlines"));
+      this.player = new tamligub.Player(() => this.moved(), () => this.rested());
+      this.flashing = 0;
+    }
+
+    // The film of a page, made at its first use.
+    filmOf(page) {
+      if (!page.film) page.film = new tamligub.Film(tamligub.readChanges(page.changes), page.page);
+      return page.film;
+    }
+
+    // Takes pages and opens the first, or says what isn't understood.
+    take(pages) {
+      this.pages = pages;
+      tamligub.showIndex(pages, (number) => this.open(number), (page, canvas) => this.small(page, canvas));
+      if (pages.length) this.open(0);
+    }
+
+    open(number) {
+      const page = this.pages[number];
+      say("fault", "");
+      try {
+        this.show(page);
+        tamligub.markIndex(number);
+      } catch (fault) {
+        if (!(fault instanceof tamligub.LineFault)) throw fault;
+        say("fault", `${page.name}: ${fault.message}`);
+      }
+    }
+
+    show(page) {
+      const film = this.filmOf(page);
+      const check = page.check ? tamligub.readCheck(page.check) : null;
+      this.page = page;
+      this.pointed = -1;
+      this.screen.looks = film.changes.looks;
+      this.screen.forget();
+      say("name", page.name);
+      part("bytes").max = film.length;
+      tamligub.showRefusals(film, check, page.name);
+      this.player.open(film);
+      this.rested();
+    }
+
+    film() {
+      return this.player.film;
+    }
+
+    // After each move of the film: only cells that differ are painted.
+    moved() {
+      this.screen.show(this.film().grid);
+      this.outline();
+      tamligub.showCounts(this.film(), this.player.come);
+      part("bytes").value = this.player.come;
+      if (!this.player.playing()) this.rested();
+    }
+
+    // What is told only where nothing plays.
+    rested() {
+      if (!this.film()) return;
+      const state = tamligub.stateOf(this.film(), this.player.come);
+      say("play-word", this.player.playing() ? "Pause" : "Play");
+      say("state", state);
+      part("bytes").setAttribute("aria-valuetext", state);
+      if (this.pointed >= 0) tamligub.showCell(this.film(), this.pointed);
+      this.text();
+      this.flash();
+    }
+
+    outline() {
+      const [from, to] = this.film().lastLines();
+      const cells = part("outline").checked ? this.film().changes.cells.subarray(from, to) : [];
+      this.screen.outline(cells, this.pointed);
+    }
+
+    text() {
+      if (part("text-part").open && this.film()) say("text", this.film().text(part("reveal").checked));
+    }
+
+    point(cell) {
+      if (!this.film() || cell < 0 || cell === this.pointed) return;
+      this.pointed = cell;
+      tamligub.showCell(this.film(), cell);
+      this.outline();
+    }
+
+    // Starts the clock of the flash where something flashes, and ends it where nothing does.
+    flash() {
+      const wanted = part("flash").checked && this.film() !== null && this.screen.flashes();
+      if (wanted && !this.flashing) {
+        this.flashing = setInterval(() => this.turn((this.screen.phase + 1) % tamligub.PHASES), PHASE_TIME);
+      }
+      if (!wanted && this.flashing) {
+        clearInterval(this.flashing);
+        this.flashing = 0;
+        this.turn(0);
+      }
+    }
+
+    turn(phase) {
+      this.screen.turn(phase, part("reveal").checked);
+    }
+
+    // Lays the screen out for the room that there is, in whole pixels of the display.
+    lay() {
+      const ratio = window.devicePixelRatio || 1;
+      const room = Math.min(part("stage").clientWidth - 2, ((window.innerHeight * 0.8) / ROWS / tamligub.TALL) * COLUMNS);
+      const cell = Math.max(LEAST_CELL, Math.floor((room * ratio) / COLUMNS));
+      if (cell === this.screen.cellWidth && ratio === this.ratio) return;
+      this.ratio = ratio;
+      this.screen.lay(cell, ratio);
+      if (this.film()) this.moved();
+    }
+
+    // Paints the end of a page into a small canvas of the index.
+    small(page, canvas) {
+      try {
+        const film = new tamligub.Film(tamligub.readChanges(page.changes), page.page);
+        const screen = new tamligub.Screen(canvas, document.createElement("canvas"));
+        film.go(film.moments.length);
+        screen.looks = film.changes.looks;
+        screen.lay(SMALL_CELL, 2);
+        screen.show(film.grid);
+      } catch (fault) {
+        if (!(fault instanceof tamligub.LineFault)) throw fault;
+      }
+    }
+
+    async copy() {
+      const text = this.film() ? this.film().text(part("reveal").checked) : "";
+      part("text-part").open = true;
+      say("text", text);
+      window.getSelection().selectAllChildren(part("text"));
+      const copied = navigator.clipboard
+        ? await navigator.clipboard.writeText(text).then(() => true, () => document.execCommand("copy"))
+        : document.execCommand("copy");
+      say("state", copied ? "The text is copied." : "The text is selected below; copy it with your browser's keys.");
+    }
+
+    save() {
+      if (!this.page) return;
+      part("page").toBlob((blob) => {
+        const link = document.createElement("a");
+        link.href = URL.createObjectURL(blob);
+        link.download = `${this.page.name}.png`;
+        link.click();
+        setTimeout(() => URL.revokeObjectURL(link.href), 1000);
+        say("state", "The picture is saved.");
+      });
+    }
+
+    // Goes where the address points: #page@byte.
+    follow() {
+      const found = /^#(.*)@(\d+)$/.exec(window.location.hash);
+      const name = found ? decodeURIComponent(found[1]) : "";
+      const number = this.pages.findIndex((page) => page.name === name);
+      if (number < 0) return;
+      if (this.pages[number] !== this.page) this.open(number);
+      this.player.toBytes(Number(found[2]) + 1);
+    }
+  }
+
+  // Which keys do what; letters only where they are on.
+  function keysOf(viewer) {
+    const click = (id) => () => part(id).click();
+    const speed = (value) => () => {
+      part("speed").value = value;
+      part("speed").dispatchEvent(new Event("change"));
+    };
+    return {
+      p: click("play"), ".": click("forward"), ",": click("back"), o: click("outline"), r: click("reveal"), f: click("flash"),
+      c: click("copy"), s: click("save"), 1: speed("1200"), 2: speed("2400"), 9: speed("9600"), 0: speed("0"),
+      Home: click("first"), End: click("last"),
+    };
+  }
+
+  function onKey(keys, event) {
+    const typing = event.target.matches("textarea, select, input[type=range], input[type=file]");
+    const letter = event.key.length === 1;
+    if (typing || event.ctrlKey || event.altKey || event.metaKey || (letter && !part("letters").checked)) return;
+    if (!Object.hasOwn(keys, event.key)) return;
+    event.preventDefault();
+    keys[event.key]();
+  }
+
+  // The arrow keys on the screen point at the cell beside.
+  function onArrow(viewer, event) {
+    const [down, right] = { ArrowUp: [-1, 0], ArrowDown: [1, 0], ArrowLeft: [0, -1], ArrowRight: [0, 1] }[event.key] || [0, 0];
+    if (!down && !right) return;
+    event.preventDefault();
+    const cell = viewer.pointed < 0 ? 0 : viewer.pointed;
+    const row = Math.min(ROWS - 1, Math.max(0, Math.floor(cell / COLUMNS) + down));
+    const column = Math.min(COLUMNS - 1, Math.max(0, (cell % COLUMNS) + right));
+    viewer.point(viewer.pointed < 0 ? 0 : row * COLUMNS + column);
+    say("state", part("cell-line").textContent);
+  }
+
+  function joinControls(viewer) {
+    const { player } = viewer;
+    const on = (id, kind, act) => part(id).addEventListener(kind, act);
+    on("first", "click", () => player.toStart());
+    on("back", "click", () => player.step(-1));
+    on("forward", "click", () => player.step(1));
+    on("last", "click", () => player.toEnd());
+    on("play", "click", () => {
+      if (player.playing()) player.pause();
+      else player.play();
+      viewer.rested();
+    });
+    on("bytes", "input", () => player.toBytes(Number(part("bytes").value)));
+    on("speed", "change", () => player.setSpeed(Number(part("speed").value)));
+    on("outline", "change", () => viewer.film() && viewer.outline());
+    on("flash", "change", () => viewer.flash());
+    on("reveal", "change", () => {
+      viewer.turn(viewer.screen.phase);
+      viewer.text();
+    });
+    on("text-part", "toggle", () => viewer.text());
+    on("copy", "click", () => viewer.copy());
+    on("save", "click", () => viewer.save());
+    on("screen", "mousemove", (event) => viewer.point(viewer.screen.cellAt(event.clientX, event.clientY)));
+    on("screen", "click", (event) => viewer.point(viewer.screen.cellAt(event.clientX, event.clientY)));
+    on("screen", "keydown", (event) => onArrow(viewer, event));
+    const keys = keysOf(viewer);
+    document.addEventListener("keydown", (event) => onKey(keys, event));
+  }
+
+  function joinFiles(viewer) {
+    const take = (parts) => viewer.take(parts.changes === null ? [] : [parts]);
+    part("open").addEventListener("submit", async (event) => {
+      event.preventDefault();
+      take(await tamligub.chosen(part("open")));
+    });
+    document.addEventListener("dragover", (event) => {
+      event.preventDefault();
+      document.body.classList.add("dropping");
+    });
+    document.addEventListener("dragleave", () => document.body.classList.remove("dropping"));
+    document.addEventListener("drop", async (event) => {
+      event.preventDefault();
+      document.body.classList.remove("dropping");
+      if (event.dataTransfer.files.length) take(await tamligub.dropped(event.dataTransfer.files));
+    });
+  }
+
+  // Calls back whenever the display has another number of pixels to one of the page, as by zooming.
+  function onDensity(act) {
+    const now = window.matchMedia(`(resolution: ${window.devicePixelRatio}dppx)`);
+    now.addEventListener("change", () => { act(); onDensity(act); }, { once: true });
+  }
+
+  function begin() {
+    const viewer = new Viewer();
+    tamligub.viewer = viewer;
+    part("flash").checked = !window.matchMedia("(prefers-reduced-motion: reduce)").matches;
+    joinControls(viewer);
+    joinFiles(viewer);
+    viewer.lay();
+    window.addEventListener("resize", () => viewer.lay());
+    onDensity(() => viewer.lay());
+    window.addEventListener("hashchange", () => viewer.follow());
+    viewer.take(tamligub.embedded());
+    viewer.follow();
+    part("open-part").open = !viewer.pages.length;
+  }
+
+  begin();
+})((window.Tamligub = window.Tamligub || {}));
