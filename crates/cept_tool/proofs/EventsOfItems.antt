@@ -1,7 +1,6 @@
 -- The events of items: of one item more, and of items in two parts.
 use Rattle.std.specs.List.{sum_by, enumerate_from}
 use Rattle.std.proofs.lemmas.List.Sums.{sum_by-append}
-use Rattle.std.proofs.lemmas.Grind.{flat_map-append}
 use Rattle.std.proofs.Math.Seq.{take-append_seam}
 use Rattle.std.proofs.Common.{◌≡◌, ℕ, ◌+◌, zero-add, Bool, true, false, cond, List, [], ◌∷◌, ◌++◌, length, map, take}
 use Rattle.std.proofs.Common.{refl, sym, ap, ◌∙◌, append_assoc, append-nil, length-append}
@@ -12,35 +11,10 @@ use Rattle.cept_codes.specs.declared.item.Said.TheVariants as said
 use Rattle.cept_parser.specs.Items.{commands_of, command_said}
 use Rattle.cept_tool.specs.declared.words.Action.{Action}
 use Rattle.cept_tool.specs.declared.words.Action.TheVariants as actions
-use Rattle.cept_tool.specs.Events.{Event, event_changes, report, paints, history, item_event, item_events, refused_count}
+use Rattle.cept_editor.specs.Events.{Event}
+use Rattle.cept_tool.specs.Events.{history, item_event, item_events, refused_count}
 use Rattle.cept_tool.specs.Events.{is_refused}
 use Rattle.cept_tool.specs.Words.{asked_of}
-
--- ---- texts and changes in order
-
-pub report-append : (xs ys : List Event) → report (xs ++ ys) ≡ report xs ++ report ys
-unfolding report
-report-append xs ys = flat_map-append (λ (e : Event). e.text) xs ys
-
-pub report-one : (e : Event) → report (e ∷ []) ≡ e.text
-unfolding report
-report-one e = append-nil e.text
-
-pub report-none : report [] ≡ []
-unfolding report
-report-none = refl
-
-pub paints-append : (xs ys : List Event) → paints (xs ++ ys) ≡ paints xs ++ paints ys
-unfolding paints
-paints-append xs ys = flat_map-append event_changes xs ys
-
-pub paints-one : (e : Event) → paints (e ∷ []) ≡ event_changes e
-unfolding paints
-paints-one e = append-nil (event_changes e)
-
-pub paints-none : paints [] ≡ []
-unfolding paints
-paints-none = refl
 
 -- ---- items that come after others
 
@@ -121,6 +95,8 @@ history-none actions.Check = refl
 history-none actions.Show = refl
 history-none actions.Cells = refl
 history-none actions.Write = refl
+history-none actions.Trace = refl
+history-none actions.Edit = refl
 
 history-more : (action : Action) (items : List Item) (i : Item)
     → history action (items ++ i ∷ []) ≡ history action items ++ cond (asked_of action).painting (command_said i.what) []
@@ -129,6 +105,8 @@ history-more actions.Check items i = refl
 history-more actions.Show items i = commands_of-more items i
 history-more actions.Cells items i = commands_of-more items i
 history-more actions.Write items i = commands_of-more items i
+history-more actions.Trace items i = commands_of-more items i
+history-more actions.Edit items i = commands_of-more items i
 
 -- a command is applied
 pub history-command : (action : Action) (items : List Item) (i : Item) (command : Command)

@@ -1,6 +1,7 @@
 -- A page that is taken piece by piece.
 use Rattle.std.proofs.Common.{◌≡◌, ℕ, ◌+◌, ◌-◌, ◌≤◌, arith, length-take, length-drop, Option, Some, Result}
 use Rattle.std.proofs.Common.{List, [], ◌∷◌, ◌++◌, length, take, drop, refl, sym, ◌∙◌, ap, subst, take-take, append_assoc}
+use Rattle.std.proofs.Common.{length-append}
 use Rattle.std.specs.Io.KnownBytes.{prepend_known}
 use Rattle.std.proofs.lemmas.List.{length-take-le}
 use Rattle.std.proofs.Math.Seq.{take-add}
@@ -10,7 +11,7 @@ use Rattle.cept_outside.specs.Causes.{Rose}
 use Rattle.cept_outside.specs.ShelfState.{ShelfState, KeepsFiles, Takes}
 use Rattle.cept_outside.proofs.Laws.{left_after}
 use Rattle.cept_tool.specs.declared.words.Action.{Action}
-use Rattle.cept_tool.specs.Made.{Output}
+use Rattle.cept_editor.specs.Made.{Output}
 use Rattle.cept_tool.specs.Page.{KeepsShelf}
 use Rattle.cept_tool.specs.Reporting.{DecoderState, HasRead}
 
@@ -91,3 +92,32 @@ more_items front rest page others is law =
       others ++ closing,
       ap (λ l. l ++ closing) (ap items (sym is) ∙ law) ∙ append_assoc (items front) others closing,
     )
+
+-- ---- a script that is taken piece by piece
+
+-- these bytes were taken; they are those of a script that is told
+pub record HasTaken (first : ShelfState) (bytes : List ℕ) (shelf : ShelfState) : Type 0 where
+  pub known : (script : List ℕ) → first.left ≡ Some script
+      → (bytes ≡ take (length bytes) script) × (shelf.left ≡ Some (drop (length bytes) script))
+
+-- none
+pub HasTaken-none : (first : ShelfState) (bytes : List ℕ) → bytes ≡ [] → HasTaken first bytes first
+HasTaken-none first bytes none = subst (λ (b : List ℕ). HasTaken first b first) (sym none)
+    (record { known = λ script is. (refl, is) })
+
+-- a piece more
+pub HasTaken-more : (first now after : ShelfState) (bytes piece : List ℕ) (n : ℕ) → HasTaken first bytes now
+    → now.left ≡ prepend_known (take n piece) after.left → n ≤ length piece
+    → HasTaken first (bytes ++ take n piece) after
+HasTaken-more first now after bytes piece n has moved within =
+    let more : length (bytes ++ take n piece) ≡ length bytes + n =
+    omega (arith, length-append bytes (take n piece), length-take-le n piece within) in
+    record {
+      known = λ script is.
+          let known = has.known script is in
+          let come = sym known.1 ∙ moved in
+          subst (λ k. (bytes ++ take n piece ≡ take k script) × (after.left ≡ Some (drop k script))) (sym more) (
+            front_with script piece bytes (length bytes) n n after.left known.0 come within (omega arith),
+            left_more script piece (length bytes) n after.left come within,
+          );
+    }

@@ -1,5 +1,5 @@
 -- How a reporter stands after one item more.
-use Rattle.std.proofs.Common.{◌≡◌, ℕ, ◌+◌, ◌<◌, ◌≤◌, Bool, true, false, cond, Option, Some, None, Result, Ok, Err, List}
+use Rattle.std.proofs.Common.{◌≡◌, ℕ, ◌+◌, ◌<◌, ◌≤◌, Bool, true, false, cond, Some, Result, Ok, Err, List}
 use Rattle.std.proofs.Common.{[], ◌∷◌, ◌++◌, length, take, drop, get_or, refl, sym, ◌∙◌, ap, subst, arith, append_assoc}
 use Rattle.std.proofs.Common.{take-append-drop, length-append, add-zero, add-one, drop-cons, IsOk}
 use Rattle.std.proofs.lemmas.List.{take_more, take_all}
@@ -15,7 +15,7 @@ use Rattle.cept_codes.specs.declared.look.Look.{Look}
 use Rattle.cept_codes.specs.Place.{Place}
 use Rattle.cept_outside.specs.SinkState.{SinkState, Gains, PutsText}
 use Rattle.cept_outside.proofs.Laws.{Gains-nil}
-use Rattle.std.proofs.lemmas.Option.{same_Some, none-some}
+use Rattle.std.proofs.lemmas.Option.{same_Some}
 use Rattle.cept_profile.specs.Changes.{changes_between, changes, grid_with_paints}
 use Rattle.cept_profile.specs.Look.{grid, looks_of}
 use Rattle.cept_profile.specs.State.{State, state, core_of}
@@ -24,29 +24,33 @@ use Rattle.cept_repaint.specs.GlassState.{GlassState, Lists}
 use Rattle.cept_report.specs.Text.{change_lines}
 use Rattle.cept_tool.specs.declared.words.Action.{Action}
 use Rattle.cept_tool.specs.declared.words.Action.TheVariants as actions
-use Rattle.cept_tool.specs.Events.{Event, history, event_between, text_of_said, item_event, item_events, refused_count}
-use Rattle.cept_tool.specs.Events.{is_refused, paints, text_at_end}
-use Rattle.cept_tool.specs.Made.{Output, output_of, IsMade, AreMade, AreCutOff}
-use Rattle.cept_parser.specs.Items.{items, closed_items, commands_of, reading_within}
+use Rattle.cept_editor.specs.Events.{Event, paints}
+use Rattle.cept_editor.specs.Kept.{EditorState}
+use Rattle.cept_editor.specs.Made.{Output, output_of, IsMade, AreMade, AreCutOff}
+use Rattle.cept_editor.proofs.Laws.{paints-one, ArePainted-still, AreMade-none, AreMade-more, AreCutOff-here}
+use Rattle.cept_editor.proofs.Laws.{AreCutOff-longer}
+use Rattle.cept_tool.specs.declared.easel.Easel.{Easel}
+use Rattle.cept_tool.specs.declared.easel.Easel.TheVariants as easels
+use Rattle.cept_tool.specs.declared.words.Asked.{Asked}
+use Rattle.cept_tool.specs.Events.{history, event_between, text_of_said, item_event, item_events, refused_count}
+use Rattle.cept_tool.specs.Events.{is_refused, text_at_end}
+use Rattle.cept_parser.specs.Items.{items, closed_items, reading_within}
 use Rattle.cept_parser.specs.State.{Leads}
 use Rattle.cept_tool.specs.Reporting.{DecoderState, HasRead, ReadsOn, ReadsToEnd}
-use Rattle.cept_tool.specs.Reporting.{ReporterState, Stands, HasReported, Applies, ReportsOn, command_event, refusal_text}
+use Rattle.cept_tool.specs.Reporting.{ReporterState, easel_at, screen_of, Stands, StandsAtEnd, HasReported, Applies}
+use Rattle.cept_tool.specs.Reporting.{ReportsOn, command_event, refusal_text}
 use Rattle.cept_tool.specs.Words.{asked_of}
 use Rattle.cept_tool.proofs.EventsOfItems.{history-none, history-command, history-refused, history-idle, item_events-more}
 use Rattle.cept_tool.proofs.EventsOfItems.{item_events-none, item_events-append, events_after, refused_count-more}
-use Rattle.cept_tool.proofs.EventsOfItems.{paints-one}
-use Rattle.cept_tool.proofs.MadeEvents.{ArePainted-still, AreMade-none, AreMade-more, AreCutOff-here}
-use Rattle.cept_tool.proofs.MadeEvents.{AreCutOff-longer}
 
 -- ---- before the first item
 
-pub Stands-none : (action : Action) (screen : Option State)
-    → screen ≡ cond (asked_of action).painting (Some (state [])) None
-    → Stands action (record { action = action; screen = screen; items = 0; refused = 0 }) []
-Stands-none action screen is = record {
+pub Stands-none : (action : Action) (easel : Easel) → easel ≡ easel_at (asked_of action) []
+    → Stands action (record { action = action; easel = easel; items = 0; refused = 0 }) []
+Stands-none action easel is = record {
   action_is = refl;
   valid = subst AllValid (sym (history-none action)) tt;
-  screen = is ∙ ap (λ h. cond (asked_of action).painting (Some (state h)) None) (sym (history-none action));
+  easel = is ∙ ap (easel_at (asked_of action)) (sym (history-none action));
   items = refl;
   refused = refl;
 }
@@ -123,6 +127,19 @@ idle_text actions.Check i command xs p = refl
 idle_text actions.Show i command xs p = refl
 idle_text actions.Cells i command xs p = refl
 idle_text actions.Write i command xs p = refl
+idle_text actions.Trace i command xs p = refl
+idle_text actions.Edit i command xs p = refl
+
+-- without painting nothing is applied
+idle_easel : (action : Action) (h : List Command) → (asked_of action).painting ≡ false
+    → easel_at (asked_of action) h ≡ easels.Nothing
+idle_easel actions.Changes h p = cc
+idle_easel actions.Check h p = refl
+idle_easel actions.Show h p = cc
+idle_easel actions.Cells h p = cc
+idle_easel actions.Write h p = cc
+idle_easel actions.Trace h p = cc
+idle_easel actions.Edit h p = cc
 
 -- ---- a command more
 
@@ -136,7 +153,7 @@ length-more xs x = length-append xs (x ∷ [])
 
 -- the reporter when the item was counted
 abbrev pub counted_one : ReporterState → ReporterState
-counted_one r = record { action = r.action; screen = r.screen; items = r.items + 1; refused = r.refused }
+counted_one r = record { action = r.action; easel = r.easel; items = r.items + 1; refused = r.refused }
 
 refused_as : (items : List Item) (i : Item) (what : Said) → i.what ≡ what
     → refused_count (items ++ i ∷ []) ≡ refused_count items + cond (is_refused what) 1 0
@@ -146,30 +163,36 @@ refused_as items i what is =
 module _ {X E : Type 0} (old new : ReporterState) (i : Item) (command : Command) (before after : Output)
     (result : Result X E) (is : i.what ≡ said.Command command) (valid : IsValidCommand command)
     (applies : Applies (counted_one old) i.at command before result new after) where
+  painting_as : (action : Action) → (asked_of action).painting ≡ true → old.action ≡ action
+      → (asked_of old.action).painting ≡ true
+  painting_as action p same = ap (λ (a : Action). (asked_of a).painting) same ∙ p
+
+  easel_as : (action : Action) (h : List Command) → old.action ≡ action → old.easel ≡ easel_at (asked_of action) h
+      → old.easel ≡ easel_at (asked_of old.action) h
+  easel_as action h same at = at ∙ ap (λ (a : Action). easel_at (asked_of a) h) (sym same)
+
   command_stands : (action : Action) (earlier : List Item) (painting : Bool) → (asked_of action).painting ≡ painting
       → Stands action old earlier → Stands action new (earlier ++ i ∷ [])
   command_stands action earlier true p stands =
       let more = history-command action earlier i command p is in
-      let at : old.screen ≡ Some (state (history action earlier)) =
-      stands.screen ∙ ap (λ b. cond b (Some (state (history action earlier))) None) p in
+      let h = history action earlier in
       record {
         action_is = applies.action ∙ stands.action_is;
-        valid = subst AllValid (sym more) (AllValid-more (history action earlier) command stands.valid valid);
-        screen = applies.screen (history action earlier) stands.valid at
-            ∙ ap (λ h. Some (state h)) (sym more)
-            ∙ ap (λ b. cond b (Some (state (history action (earlier ++ i ∷ [])))) None) (sym p);
+        valid = subst AllValid (sym more) (AllValid-more h command stands.valid valid);
+        easel = applies.easel h stands.valid (painting_as action p stands.action_is)
+            (easel_as action h stands.action_is stands.easel)
+            ∙ ap (λ (a : Action). easel_at (asked_of a) (h ++ command ∷ [])) stands.action_is
+            ∙ ap (easel_at (asked_of action)) (sym more);
         items = applies.items ∙ ap (λ n. n + 1) stands.items ∙ sym (length-more earlier i);
         refused = applies.refused ∙ stands.refused
             ∙ sym (refused_as earlier i (said.Command command) is ∙ add-zero (refused_count earlier));
       }
   command_stands action earlier false p stands =
-      let none : old.screen ≡ None =
-      stands.screen ∙ ap (λ b. cond b (Some (state (history action earlier))) None) p in
+      let none : old.easel ≡ easels.Nothing = stands.easel ∙ idle_easel action (history action earlier) p in
       record {
         action_is = applies.action ∙ stands.action_is;
         valid = subst AllValid (sym (history-idle action (earlier ++ i ∷ []) p)) tt;
-        screen = (applies.idle none).0
-            ∙ ap (λ b. cond b (Some (state (history action (earlier ++ i ∷ [])))) None) (sym p);
+        easel = (applies.idle none).0 ∙ sym (idle_easel action (history action (earlier ++ i ∷ [])) p);
         items = applies.items ∙ ap (λ n. n + 1) stands.items ∙ sym (length-more earlier i);
         refused = applies.refused ∙ stands.refused
             ∙ sym (refused_as earlier i (said.Command command) is ∙ add-zero (refused_count earlier));
@@ -179,8 +202,6 @@ module _ {X E : Type 0} (old new : ReporterState) (i : Item) (command : Command)
       → Stands action old earlier → IsMade (item_event action earlier i) before result after
   command_made action earlier true p stands =
       let h = history action earlier in
-      let at : old.screen ≡ Some (state h) =
-      stands.screen ∙ ap (λ b. cond b (Some (state h)) None) p in
       let event : item_event action earlier i ≡ command_event action i.at h command =
       ap (λ hs. event_between (asked_of action) i h hs) (history-command action earlier i command p is)
       ∙ ap (λ (s : Said). record {
@@ -190,10 +211,10 @@ module _ {X E : Type 0} (old new : ReporterState) (i : Item) (command : Command)
       }) is in
       subst (λ (e : Event). IsMade e before result after) (sym event)
       (subst (λ (a : Action). IsMade (command_event a i.at h command) before result after) stands.action_is
-      (applies.made h stands.valid at))
+      (applies.made h stands.valid (painting_as action p stands.action_is)
+      (easel_as action h stands.action_is stands.easel)))
   command_made action earlier false p stands =
-      let none : old.screen ≡ None =
-      stands.screen ∙ ap (λ b. cond b (Some (state (history action earlier))) None) p in
+      let none : old.easel ≡ easels.Nothing = stands.easel ∙ idle_easel action (history action earlier) p in
       let h = history-idle action earlier p in
       let k = history-idle action (earlier ++ i ∷ []) p in
       subst (λ (o : Output). IsMade (item_event action earlier i) before result o) (sym (applies.idle none).2)
@@ -210,7 +231,7 @@ module _ {X E : Type 0} (old new : ReporterState) (i : Item) (command : Command)
 
 -- the reporter when the item and its refusal were counted
 abbrev pub counted_refusal : ReporterState → ReporterState
-counted_refusal r = record { action = r.action; screen = r.screen; items = r.items + 1; refused = r.refused + 1 }
+counted_refusal r = record { action = r.action; easel = r.easel; items = r.items + 1; refused = r.refused + 1 }
 
 module _ {X E : Type 0} (old : ReporterState) (i : Item) (reason : Reason) (sink now : SinkState) (glass : GlassState)
     (result : Result X E) (is : i.what ≡ said.Refused reason)
@@ -222,7 +243,7 @@ module _ {X E : Type 0} (old : ReporterState) (i : Item) (reason : Reason) (sink
       record {
         action_is = stands.action_is;
         valid = subst AllValid (sym same) stands.valid;
-        screen = stands.screen ∙ ap (λ h. cond (asked_of action).painting (Some (state h)) None) (sym same);
+        easel = stands.easel ∙ ap (easel_at (asked_of action)) (sym same);
         items = ap (λ n. n + 1) stands.items ∙ sym (length-more earlier i);
         refused = ap (λ n. n + 1) stands.refused ∙ sym (refused_as earlier i (said.Refused reason) is);
       }
@@ -248,9 +269,50 @@ module _ {X E : Type 0} (old : ReporterState) (i : Item) (reason : Reason) (sink
 append_other : (h : List Command) (c : Command) → h ++ c ∷ [] ≡ h → ⊥
 append_other h c e = absurd (omega (arith, ap length e, length-append h (c ∷ [])))
 
+-- what a screen is, where it is what is asked for
+screen_at_start : (editing painting : Bool) (screen : State) (h : List Command)
+    → easels.Screen screen ≡ cond editing (easels.Editor (record { screen = state h; past = [] }))
+    (cond painting (easels.Screen (state h)) easels.Nothing)
+    → (editing ≡ false) × (painting ≡ true) × (screen ≡ state h)
+screen_at_start true painting screen h e = cc
+screen_at_start false true screen h e = (refl, refl, same_Some screen (state h) (ap screen_of e))
+screen_at_start false false screen h e = cc
+
+screen_there : (asked : Asked) (h : List Command) → asked.editing ≡ false → asked.painting ≡ true
+    → easel_at asked h ≡ easels.Screen (state h)
+screen_there asked h editing painting =
+    ap (λ b. cond b (easels.Editor (record { screen = state h; past = [] }))
+    (cond asked.painting (easels.Screen (state h)) easels.Nothing)) editing
+    ∙ ap (λ b. cond b (easels.Screen (state h)) easels.Nothing) painting
+
+abbrev pub editor_in : EditorState → Easel → EditorState
+editor_in other easels.Nothing = other
+editor_in other (easels.Screen screen) = other
+editor_in other (easels.Editor editor) = editor
+
+-- and what an editor is
+editor_at_start : (editing painting : Bool) (editor : EditorState) (h : List Command)
+    → easels.Editor editor ≡ cond editing (easels.Editor (record { screen = state h; past = [] }))
+    (cond painting (easels.Screen (state h)) easels.Nothing)
+    → (editing ≡ true) × (editor ≡ record { screen = state h; past = [] })
+editor_at_start true painting editor h e = (refl, ap (editor_in editor) e)
+editor_at_start false true editor h e = cc
+editor_at_start false false editor h e = cc
+
+pub editor_there : (asked : Asked) (h : List Command) → asked.editing ≡ true
+    → easel_at asked h ≡ easels.Editor (record { screen = state h; past = [] })
+editor_there asked h editing =
+    ap (λ b. cond b (easels.Editor (record { screen = state h; past = [] }))
+    (cond asked.painting (easels.Screen (state h)) easels.Nothing)) editing
+
+pub editor_with : (editor : EditorState) (screen : State) (past : List State) → editor.screen ≡ screen → editor.past ≡ past
+    → editor ≡ record { screen = screen; past = past }
+editor_with editor screen past s p = λ i. record { screen = s i; past = p i }
+
+-- a command's event is made, where it leads a screen's state on
 module _ {X E : Type 0} (old : ReporterState) (screen new : State) (place : ℕ) (command : Command)
     (text : List ℕ) (sink now : SinkState) (glass shown : GlassState) (result : Result X E)
-    (at : old.screen ≡ Some screen)
+    (here : (h : List Command) → old.easel ≡ easel_at (asked_of old.action) h → screen ≡ state h)
     (goes_on : (h : List Command) → AllValid h → screen ≡ state h → new ≡ state (h ++ command ∷ []))
     (listed : Lists glass.paints (changes_between (looks_of (core_of screen)) (looks_of (core_of new))) shown.paints)
     (over : shown.grid ≡ grid_with_paints glass.grid
@@ -258,12 +320,10 @@ module _ {X E : Type 0} (old : ReporterState) (screen new : State) (place : ℕ)
     (is : text ≡ cond (asked_of old.action).changes
     (change_lines place (changes_between (looks_of (core_of screen)) (looks_of (core_of new)))) [])
     (puts : PutsText sink text result now) where
-  here : (h : List Command) → old.screen ≡ Some (state h) → screen ≡ state h
-  here h e = same_Some screen (state h) (sym at ∙ e)
-
-  event_made : (h : List Command) → AllValid h → old.screen ≡ Some (state h)
+  event_made : (h : List Command) → AllValid h → (asked_of old.action).painting ≡ true
+      → old.easel ≡ easel_at (asked_of old.action) h
       → IsMade (command_event old.action place h command) (output_of sink glass) result (output_of now shown)
-  event_made h valid e =
+  event_made h valid painting e =
       let before = here h e in
       let after = goes_on h valid before in
       let changed : changes_between (looks_of (core_of screen)) (looks_of (core_of new)) ≡ changes h command =
@@ -283,16 +343,108 @@ module _ {X E : Type 0} (old : ReporterState) (screen new : State) (place : ℕ)
         };
       }
 
-  pub applied : Applies old place command (output_of sink glass) result
-      (record { action = old.action; screen = Some new; items = old.items; refused = old.refused }) (output_of now shown)
-  applied = record {
+module _ {X E : Type 0} (old : ReporterState) (screen new : State) (place : ℕ) (command : Command)
+    (text : List ℕ) (sink now : SinkState) (glass shown : GlassState) (result : Result X E)
+    (at : old.easel ≡ easels.Screen screen)
+    (goes_on : (h : List Command) → AllValid h → screen ≡ state h → new ≡ state (h ++ command ∷ []))
+    (listed : Lists glass.paints (changes_between (looks_of (core_of screen)) (looks_of (core_of new))) shown.paints)
+    (over : shown.grid ≡ grid_with_paints glass.grid
+    (changes_between (looks_of (core_of screen)) (looks_of (core_of new))))
+    (is : text ≡ cond (asked_of old.action).changes
+    (change_lines place (changes_between (looks_of (core_of screen)) (looks_of (core_of new)))) [])
+    (puts : PutsText sink text result now) where
+  screen_here : (h : List Command) → old.easel ≡ easel_at (asked_of old.action) h
+      → ((asked_of old.action).editing ≡ false) × ((asked_of old.action).painting ≡ true) × (screen ≡ state h)
+  screen_here h e = screen_at_start (asked_of old.action).editing (asked_of old.action).painting screen h (sym at ∙ e)
+
+  -- on a screen
+  pub applied_on_screen : Applies old place command (output_of sink glass) result
+      (record { action = old.action; easel = easels.Screen new; items = old.items; refused = old.refused })
+      (output_of now shown)
+  applied_on_screen = record {
     action = refl;
     items = refl;
     refused = refl;
-    screen = λ h valid e. ap Some (goes_on h valid (here h e));
-    made = event_made;
-    idle = λ none. absurd (none-some screen (sym none ∙ at));
+    easel = λ h valid painting e.
+        let start = screen_here h e in
+        ap easels.Screen (goes_on h valid start.2)
+        ∙ sym (screen_there (asked_of old.action) (h ++ command ∷ []) start.0 painting);
+    made = event_made old screen new place command text sink now glass shown result (λ h e. (screen_here h e).2) goes_on
+        listed over is puts;
+    idle = λ none.
+        let e : easels.Nothing ≡ easels.Screen screen = sym none ∙ at in
+        cc;
   }
+
+-- an editor's events list no changes of a page
+untold_in_editor : (action : Action) (lines : List ℕ) → (asked_of action).editing ≡ true
+    → [] ≡ cond (asked_of action).changes lines []
+untold_in_editor actions.Changes lines e = cc
+untold_in_editor actions.Check lines e = cc
+untold_in_editor actions.Show lines e = cc
+untold_in_editor actions.Cells lines e = cc
+untold_in_editor actions.Write lines e = cc
+untold_in_editor actions.Trace lines e = refl
+untold_in_editor actions.Edit lines e = refl
+
+module _ {X E : Type 0} (old : ReporterState) (editor new : EditorState) (place : ℕ) (command : Command)
+    (sink : SinkState) (glass shown : GlassState) (result : Result X E)
+    (at : old.easel ≡ easels.Editor editor)
+    (goes_on : (h : List Command) → AllValid h → editor.screen ≡ state h → new.screen ≡ state (h ++ command ∷ []))
+    (past : new.past ≡ editor.past)
+    (listed : Lists glass.paints (changes_between (looks_of (core_of editor.screen)) (looks_of (core_of new.screen)))
+    shown.paints)
+    (over : shown.grid ≡ grid_with_paints glass.grid
+    (changes_between (looks_of (core_of editor.screen)) (looks_of (core_of new.screen))))
+    (puts : PutsText sink [] result sink) where
+  editor_here : (h : List Command) → old.easel ≡ easel_at (asked_of old.action) h
+      → ((asked_of old.action).editing ≡ true) × (editor ≡ record { screen = state h; past = [] })
+  editor_here h e = editor_at_start (asked_of old.action).editing (asked_of old.action).painting editor h (sym at ∙ e)
+
+  -- on a screen whose edits can be taken back
+  pub applied_in_editor : Applies old place command (output_of sink glass) result
+      (record { action = old.action; easel = easels.Editor new; items = old.items; refused = old.refused })
+      (output_of sink shown)
+  applied_in_editor = record {
+    action = refl;
+    items = refl;
+    refused = refl;
+    easel = λ h valid painting e.
+        let start = editor_here h e in
+        ap easels.Editor (editor_with new (state (h ++ command ∷ [])) []
+        (goes_on h valid (ap (λ (s : EditorState). s.screen) start.1))
+        (past ∙ ap (λ (s : EditorState). s.past) start.1))
+        ∙ sym (editor_there (asked_of old.action) (h ++ command ∷ []) start.0);
+    made = λ h valid painting e.
+        event_made old editor.screen new.screen place command [] sink sink glass shown result
+        (λ g f. ap (λ (s : EditorState). s.screen) (editor_here g f).1) goes_on listed over
+        (untold_in_editor old.action _ (editor_here h e).0) puts h valid painting e;
+    idle = λ none.
+        let e : easels.Nothing ≡ easels.Editor editor = sym none ∙ at in
+        cc;
+  }
+
+-- where commands aren't applied
+pub applied_nowhere : {X E : Type 0} (old : ReporterState) (place : ℕ) (command : Command) (o : Output)
+    (x : X) → old.easel ≡ easels.Nothing → Applies {E = E} old place command o (Ok x) old o
+applied_nowhere old place command o x at = record {
+  action = refl;
+  items = refl;
+  refused = refl;
+  easel = λ h valid painting e. absurd (unpainted_at old.action h painting (sym at ∙ e));
+  made = λ h valid painting e. absurd (unpainted_at old.action h painting (sym at ∙ e));
+  idle = λ none. (at, refl, refl);
+}
+  where
+    unpainted_at : (action : Action) (h : List Command) → (asked_of action).painting ≡ true
+        → easels.Nothing ≡ easel_at (asked_of action) h → ⊥
+    unpainted_at actions.Changes h p e = cc
+    unpainted_at actions.Check h p e = cc
+    unpainted_at actions.Show h p e = cc
+    unpainted_at actions.Cells h p e = cc
+    unpainted_at actions.Write h p e = cc
+    unpainted_at actions.Trace h p e = cc
+    unpainted_at actions.Edit h p e = cc
 
 -- nothing was put
 pub PutsText-nothing : {X E : Type 0} {x : X} (s : SinkState) → PutsText {E = E} s [] (Ok x) s
@@ -351,17 +503,36 @@ has_reported_same action reporter xs ys start now e has =
 -- ---- the end
 
 pub puts_at_end : {X E : Type 0} (other action : Action) (shown : List (List Look)) (reported : List Item)
-    (s t : SinkState) (result : Result X E) → other ≡ action → PutsText s (text_at_end other shown reported) result t
-    → PutsText s (text_at_end action shown reported) result t
-puts_at_end other action shown reported s t result is puts =
-    subst (λ (a : Action). PutsText s (text_at_end a shown reported) result t) is puts
+    (commands : List Command) (s t : SinkState) (result : Result X E) → other ≡ action
+    → PutsText s (text_at_end other shown reported commands) result t
+    → PutsText s (text_at_end action shown reported commands) result t
+puts_at_end other action shown reported commands s t result is puts =
+    subst (λ (a : Action). PutsText s (text_at_end a shown reported commands) result t) is puts
 
 -- there is a screen where commands are painted
-pub screen_at : (other action : Action) (reporter : ReporterState) (reported : List Item) → other ≡ action
-    → Stands action reporter reported
-    → reporter.screen ≡ cond (asked_of other).painting (Some (state (history other reported))) None
-screen_at other action reporter reported is stands = stands.screen
-    ∙ ap (λ (a : Action). cond (asked_of a).painting (Some (state (history a reported))) None) (sym is)
+pub screen_at : (other action : Action) (reporter : ReporterState) (reported : List Item) (commands : List Command)
+    → other ≡ action → (asked_of other).painting ≡ true → StandsAtEnd action reporter reported commands
+    → screen_of reporter.easel ≡ Some (state commands)
+screen_at other action reporter reported commands is painting stands =
+    stands.screen (ap (λ (a : Action). (asked_of a).painting) (sym is) ∙ painting)
+
+-- it stands at the end where it stands after all items, or after all edit lines
+screen_in : (editing painting : Bool) (easel : Easel) (h : List Command)
+    → easel ≡ cond editing (easels.Editor (record { screen = state h; past = [] }))
+    (cond painting (easels.Screen (state h)) easels.Nothing) → painting ≡ true → screen_of easel ≡ Some (state h)
+screen_in true painting easel h e p = ap screen_of e
+screen_in false true easel h e p = ap screen_of e
+screen_in false false easel h e p = cc
+
+pub stands_unedited : (action : Action) (reporter : ReporterState) (reported : List Item)
+    → Stands action reporter reported → StandsAtEnd action reporter reported (history action reported)
+stands_unedited action reporter reported stands = record {
+  action_is = stands.action_is;
+  screen = screen_in (asked_of action).editing (asked_of action).painting reporter.easel (history action reported)
+      stands.easel;
+  items = stands.items;
+  refused = stands.refused;
+}
 
 -- ---- a decoder that reads on
 

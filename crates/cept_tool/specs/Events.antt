@@ -1,6 +1,5 @@
--- The events of a run: one for each item of the page, and one at the end. Each has the commands that were applied before
--- it and after it, and a text. The texts are put, and the changes from the one to the other are painted. This project's
--- own.
+-- The events of a run: one for each item of the page, one for each command of each edit and for each undo, and one at the
+-- end. This project's own.
 use Rattle.std.specs.Prelude.{ℕ, Bool, true, false, List, [], ◌∷◌, ◌++◌, length, map, take, count_by, nat_lt}
 use Rattle.std.specs.Prelude.{if◌then◌else◌}
 use Rattle.std.specs.List.{enumerate_from, flat_map}
@@ -18,28 +17,14 @@ use Rattle.cept_report.specs.Screen.{screen_text, cells_text}
 use Rattle.cept_report.specs.Text.{change_lines, refusal_line, check_line}
 use Rattle.cept_profile.specs.State.{core}
 use Rattle.cept_writer.specs.PageCommands.{page_text}
+use Rattle.cept_editor.specs.Events.{Event}
+use Rattle.cept_editor.specs.Kept.{KeptEdits, kept, remaining}
+use Rattle.cept_editor.specs.Script.{EditLine}
+use Rattle.cept_editor.specs.Stepping.{line_events}
 use Rattle.cept_tool.specs.declared.words.Action.{Action}
 use Rattle.cept_tool.specs.declared.words.Action.TheVariants as actions
 use Rattle.cept_tool.specs.declared.words.Asked.{Asked}
 use Rattle.cept_tool.specs.Words.{asked_of}
-
--- the commands that remain before it and after it, and what is put
-pub record Event : Type 0 where
-  pub before : List Command
-  pub after : List Command
-  pub text : List ℕ
-
--- the places whose look it changes, in reading order, each with its look after it
-abbrev pub event_changes : Event → List (Place × Look)
-event_changes e = changes_between (grid e.before) (grid e.after)
-
--- all texts in order
-unfoldable pub report : List Event → List ℕ
-report events = flat_map (λ e. e.text) events
-
--- all changes in order
-unfoldable pub paints : List Event → List (Place × Look)
-paints events = flat_map event_changes events
 
 -- ---- items
 
@@ -90,22 +75,52 @@ has_refusal items = nat_lt 0 (refused_count items)
 abbrev pub rows_after : List Command → ℕ
 rows_after commands = (control commands).rows
 
--- what is put after these items, where the glass shows this grid
-abbrev pub text_at_end : Action → List (List Look) → List Item → List ℕ
-text_at_end actions.Changes shown items = []
-text_at_end actions.Check shown items = check_line (length items) (refused_count items)
-text_at_end actions.Show shown items = screen_text shown (rows_after (commands_of items))
-text_at_end actions.Cells shown items = cells_text shown (rows_after (commands_of items))
-text_at_end actions.Write shown items = page_text (core (commands_of items))
+-- what is put at the end, where these commands remain and the glass shows this grid
+abbrev pub text_at_end : Action → List (List Look) → List Item → List Command → List ℕ
+text_at_end actions.Changes shown items commands = []
+text_at_end actions.Check shown items commands = check_line (length items) (refused_count items)
+text_at_end actions.Show shown items commands = screen_text shown (rows_after commands)
+text_at_end actions.Cells shown items commands = cells_text shown (rows_after commands)
+text_at_end actions.Write shown items commands = page_text (core commands)
+text_at_end actions.Trace shown items commands = []
+text_at_end actions.Edit shown items commands = page_text (core commands)
 
--- the end, after these items: it changes nothing
-abbrev pub end_event : Action → List Item → Event
-end_event action items =
-    let commands = history action items in
-    record { before = commands; after = commands; text = text_at_end action (grid commands) items }
+-- the end, after these items, where these commands remain: it changes nothing
+abbrev pub end_event : Action → List Item → List Command → Event
+end_event action items commands = record {
+  before = commands;
+  after = commands;
+  text = text_at_end action (grid commands) items commands;
+}
 
--- all events of a page that is read to its end
-abbrev pub page_events : Action → List ℕ → List Event
-page_events action page =
-    let items = closed_items page in
-    item_events action items ++ end_event action items ∷ []
+-- ---- edit lines
+
+-- the edits that are kept after these edit lines
+abbrev pub kept_of : List EditLine → KeptEdits
+kept_of lines = kept (map (λ line. line.step) lines)
+
+-- the events of an edit line that comes after these, after a page's commands
+abbrev pub events_of_line : Action → List Command → List EditLine → EditLine → List Event
+events_of_line action page earlier line =
+    line_events (asked_of action).tracing line.line page (kept_of earlier) line.step
+
+-- the events of each of these edit lines, after those before it
+unfoldable pub script_events : Action → List Command → List EditLine → List Event
+script_events action page lines =
+    flat_map (λ numbered. events_of_line action page (take numbered.0 lines) numbered.1) (enumerate_from 0 lines)
+
+-- ---- a whole run
+
+-- the commands that remain after a page and edit lines: those of the page, and those of the edits that are kept
+abbrev pub remaining_of : Action → List ℕ → List EditLine → List Command
+remaining_of action page lines = remaining (history action (closed_items page)) (kept_of lines)
+
+-- the events of a page that is read to its end, and of edit lines
+abbrev pub edited_events : Action → List Item → List EditLine → List Event
+edited_events action items lines = item_events action items ++ script_events action (history action items) lines
+
+-- all events of a run over a page that is read to its end, and over edit lines
+abbrev pub run_events : Action → List ℕ → List EditLine → List Event
+run_events action page lines =
+    edited_events action (closed_items page) lines
+    ++ end_event action (closed_items page) (remaining_of action page lines) ∷ []

@@ -7,7 +7,7 @@ use Rattle.cept_profile.specs.Look.{grid}
 use Rattle.cept_repaint.specs.GlassState.{GlassState}
 use Rattle.cept_tool.specs.declared.words.Action.{Action}
 use Rattle.cept_tool.specs.Events.{history, item_events}
-use Rattle.cept_tool.specs.Made.{Output, output_of, AreMade}
+use Rattle.cept_editor.specs.Made.{Output, output_of, AreMade}
 
 -- a shelf, a sink and a glass
 pub record Outside : Type 0 where

@@ -12,7 +12,7 @@ use Rattle.cept_tool.specs.declared.page.Stop.{Stop}
 use Rattle.cept_tool.specs.declared.page.Stop.TheVariants as stops
 use Rattle.cept_tool.specs.declared.words.Action.{Action}
 use Rattle.cept_tool.specs.Events.{item_events}
-use Rattle.cept_tool.specs.Made.{AreMade, AreCutOff}
+use Rattle.cept_editor.specs.Made.{AreMade, AreCutOff}
 use Rattle.cept_tool.specs.Outside.{Outside, output}
 use Rattle.cept_tool.specs.Reporting.{ReporterState, HasReported}
 
@@ -58,6 +58,8 @@ abbrev pub PageStops : Action → Outside → Stop → Outside → Type 0
 PageStops action before stops.ReadFault after = PageUnread action before after
 PageStops action before stops.WriteFault after = PageUnput action before after
 PageStops action before stops.TooLong after = PageTooLong action before after
+PageStops action before stops.Script after = ⊥
+PageStops action before stops.NoMemory after = ⊥
 
 -- how its reading ends
 abbrev pub PageEnds : {X : Type 0} → Action → Outside → Result X Stop → ReporterState → Outside → Type 0

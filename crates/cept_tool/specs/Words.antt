@@ -1,22 +1,31 @@
 -- The words of the program: which of them are a request, and what a request asks for. This project's own.
-use Rattle.std.specs.Prelude.{◌≡◌, ℕ, Bool, true, false, List, [], ◌∷◌, Option, Some, None, codes, if◌then◌else◌}
+use Rattle.std.specs.Prelude.{◌≡◌, ◌≢◌, ◌⊎◌, ℕ, Bool, true, false, List, [], ◌∷◌, Option, Some, None, codes, is_some}
+use Rattle.std.specs.Prelude.{if◌then◌else◌, string_bytes}
 use Rattle.std.specs.Option.{option_map}
 use Rattle.std.specs.Str.{bytes_eq}
-use Rattle.cept_outside.specs.ShelfState.{ShelfState, Holds}
+use Rattle.cept_outside.specs.ShelfState.{ShelfState, Holds, Lacks}
+use Rattle.cept_editor.specs.Script.{EditLine, edits, first_fault}
 use Rattle.cept_tool.specs.declared.words.Action.{Action}
 use Rattle.cept_tool.specs.declared.words.Action.TheVariants as actions
 use Rattle.cept_tool.specs.declared.words.Asked.{Asked}
+use Rattle.cept_tool.specs.declared.words.Request.{Request as NamedRequest}
 
--- what the program is asked for, and the name of the page
+-- what the program is asked for, the name of the page, and that of the script, if there is one
 pub record Request : Type 0 where
   pub action : Action
   pub page : List ℕ
+  pub script : Option (List ℕ)
 
--- this action for this page
-abbrev pub request_with : Action → List ℕ → Request
-request_with action page = record { action = action; page = page }
+-- this action for this page, and this script
+abbrev pub request_with : Action → List ℕ → Option (List ℕ) → Request
+request_with action page script = record { action = action; page = page; script = script }
 
--- the action of a word, where it is one
+-- a request by its names' bytes
+abbrev pub request_by : NamedRequest → Request
+request_by named = request_with named.action (string_bytes named.page.now)
+    (option_map (λ script. string_bytes script.now) named.script)
+
+-- the action of a word that has a page after it
 abbrev pub action_of : List ℕ → Option Action
 action_of word =
     if bytes_eq word (codes "changes") then Some actions.Changes else
@@ -26,31 +35,57 @@ action_of word =
     if bytes_eq word (codes "write") then Some actions.Write else
     None
 
--- a word and the page's name, which isn't empty
+-- the action of a word that has a page and a script after it
+abbrev pub editing_action_of : List ℕ → Option Action
+editing_action_of word =
+    if bytes_eq word (codes "trace") then Some actions.Trace else
+    if bytes_eq word (codes "edit") then Some actions.Edit else
+    None
+
+-- a word and the page's name, or a word, the page's name and the script's; neither name is empty, and the two differ
 unfoldable pub request_of : List (List ℕ) → Option Request
-request_of (word ∷ (a ∷ name) ∷ []) = option_map (λ action. record {
-  action = action;
-  page =
-      a ∷ name;
-}) (action_of word)
+request_of (word ∷ (a ∷ name) ∷ []) = option_map (λ action. request_with action (a ∷ name) None) (action_of word)
+request_of (word ∷ (a ∷ name) ∷ (b ∷ script) ∷ []) =
+    if bytes_eq (a ∷ name) (b ∷ script) then None
+    else option_map (λ action. request_with action (a ∷ name) (Some (b ∷ script))) (editing_action_of word)
 request_of _ = None
 
--- the words are this request, and the shelf has this page under its name
-pub record Asks (words : List (List ℕ)) (shelf : ShelfState) (request : Request) (page : List ℕ) : Type 0 where
-  pub asked : request_of words ≡ Some request
-  pub held : Holds shelf request.page page
+-- ---- what each action asks for
 
--- whether commands are painted, whether their changes are listed, and whether refusals are named
-abbrev pub asking : Bool → Bool → Bool → Asked
-asking painting changes refusals = record { painting = painting; changes = changes; refusals = refusals }
+-- of a page: whether its commands are painted, their changes listed, and its refusals named
+abbrev pub of_page : Bool → Bool → Bool → Asked
+of_page painting changes refusals = record {
+  painting = painting;
+  changes = changes;
+  refusals = refusals;
+  editing = false;
+  tracing = false;
+}
+
+-- of a page and a script: whether the changes of the edits are listed, and the page's refusals named
+abbrev pub of_script : Bool → Asked
+of_script tracing = record {
+  painting = true;
+  changes = false;
+  refusals = tracing;
+  editing = true;
+  tracing = tracing;
+}
 
 -- what each action asks for
 abbrev pub asked_of : Action → Asked
-asked_of actions.Changes = asking true true true
-asked_of actions.Check = asking false false true
-asked_of actions.Show = asking true false false
-asked_of actions.Cells = asking true false false
-asked_of actions.Write = asking true false false
+asked_of actions.Changes = of_page true true true
+asked_of actions.Check = of_page false false true
+asked_of actions.Show = of_page true false false
+asked_of actions.Cells = of_page true false false
+asked_of actions.Write = of_page true false false
+asked_of actions.Trace = of_script true
+asked_of actions.Edit = of_script false
+
+-- a script is asked for exactly where edits are made, and its name isn't the page's
+pub record IsSoundRequest (request : Request) : Type 0 where
+  pub fits : (asked_of request.action).editing ≡ is_some request.script
+  pub differ : (name : List ℕ) → request.script ≡ Some name → name ≢ request.page
 
 -- the text at the end tells what the glass shows
 abbrev pub ReadsGlass : Action → Type 0
@@ -59,3 +94,39 @@ ReadsGlass actions.Check = ⊥
 ReadsGlass actions.Show = Unit {0}
 ReadsGlass actions.Cells = Unit {0}
 ReadsGlass actions.Write = ⊥
+ReadsGlass actions.Trace = ⊥
+ReadsGlass actions.Edit = ⊥
+
+-- the text at the end is the page
+abbrev pub WritesPage : Action → Type 0
+WritesPage actions.Changes = ⊥
+WritesPage actions.Check = ⊥
+WritesPage actions.Show = ⊥
+WritesPage actions.Cells = ⊥
+WritesPage actions.Write = Unit {0}
+WritesPage actions.Trace = ⊥
+WritesPage actions.Edit = Unit {0}
+
+-- ---- what is known of the page and the script
+
+-- the shelf tells its selection and these bytes under the name, or that it has nothing under it; then these are none
+abbrev pub Gives : ShelfState → List ℕ → List ℕ → Type 0
+Gives shelf name bytes =
+    Holds shelf name bytes ⊎ (Lacks shelf name × (is_some shelf.left ≡ true) × (bytes ≡ []))
+
+-- a script that the shelf gives under this name: it is within the grammar and has these edits
+pub record HasScript (shelf : ShelfState) (name : List ℕ) (lines : List EditLine) : Type 0 where
+  pub script : List ℕ
+  pub given : Gives shelf name script
+  pub good : first_fault script ≡ None
+  pub are : lines ≡ edits script
+
+-- the edits of the script, if one is asked for; else there are none
+abbrev pub HasEdits : ShelfState → Option (List ℕ) → List EditLine → Type 0
+HasEdits shelf None lines = lines ≡ []
+HasEdits shelf (Some name) lines = HasScript shelf name lines
+
+-- the words are this request, and the shelf has this page under its name
+pub record Asks (words : List (List ℕ)) (shelf : ShelfState) (request : Request) (page : List ℕ) : Type 0 where
+  pub asked : request_of words ≡ Some request
+  pub held : Holds shelf request.page page

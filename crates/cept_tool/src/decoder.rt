@@ -5,11 +5,12 @@ ghost use Rattle.std.specs.Prelude.{IfOk, IsOk, false, length, if◌then◌else�
 ghost use Rattle.cept_codes.specs.declared.item.Item.{Item};
 ghost use Rattle.cept_outside.specs.SinkState.{PutsText};
 ghost use Rattle.cept_tool.specs.Events.{text_at_end};
-ghost use Rattle.cept_tool.specs.Made.{Output, output_of};
+ghost use Rattle.cept_editor.specs.Made.{Output, output_of};
 
 use crate::reporter::Reporter;
 use crate::words::Action;
 use cept_codes::NoMemory;
+use cept_editor::Script;
 use cept_outside::{Sink, Steps, WriteFault};
 use cept_parser::laws::reading_goes_on;
 use cept_parser::{Closed, Parser};
@@ -40,7 +41,8 @@ impl Model for Decoder {
 
 impl Decoder {
     ghost use Rattle.cept_tool.specs.declared.words.Action.{Action};
-    ghost use Rattle.cept_tool.specs.Reporting.{Stands, HasRead, ReadsOn, ReadsToEnd};
+    ghost use Rattle.cept_codes.specs.declared.command.Command.{Command};
+    ghost use Rattle.cept_tool.specs.Reporting.{StandsAtEnd, HasRead, ReadsOn, ReadsToEnd, EditsOn};
 
     /// A decoder before the first byte.
     pub fn new(alloc: Global, action: Action) -> Result<Decoder, NoMemory>
@@ -115,11 +117,27 @@ impl Decoder {
             .report_items(items.as_slice(), sink, glass, steps)
     }
 
-    /// Puts the text at the end, after these items.
+    /// Makes the edits of a script.
+    pub fn make_edits<T: Sink, G: Glass, L: Ledger>(
+        &mut self,
+        script: &Script,
+        sink: &mut T,
+        glass: &mut G,
+        steps: &mut Steps<L>,
+    ) -> Result<(), WriteFault>
+        ensures { EditsOn self.old.reporter script.now
+            (output_of (T.state sink.old) (G.state glass.old)) result self.new.reporter
+            (output_of (T.state sink.new) (G.state glass.new)) }
+    {
+        self.reporter.make_edits(script, sink, glass, steps)
+    }
+
+    /// Puts the text at the end, after these items, where these commands remain.
     pub fn put_end<T: Sink, G: Glass>(&self, sink: &mut T, glass: &G) -> Result<(), WriteFault>
-        ensures { (action : Action) (items : List Item) → Stands action self.now.reporter items
-            → PutsText (T.state sink.old) (text_at_end action (G.state glass.now).grid items) result
-            (T.state sink.new) }
+        ensures { (action : Action) (items : List Item) (commands : List Command)
+            → StandsAtEnd action self.now.reporter items commands
+            → PutsText (T.state sink.old) (text_at_end action (G.state glass.now).grid items commands)
+            result (T.state sink.new) }
     {
         self.reporter.put_end(sink, glass)
     }

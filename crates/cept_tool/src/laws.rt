@@ -1,6 +1,6 @@
 //! Laws of the report. The functions do nothing: their contracts are the laws.
 
-ghost use Rattle.std.specs.Prelude.{◌≡◌, ◌^◌, ℕ, List, [], ◌∷◌, ◌++◌, Some, take, true, false};
+ghost use Rattle.std.specs.Prelude.{◌≡◌, ◌^◌, ℕ, List, [], ◌∷◌, ◌++◌, Some, None, take, true, false};
 ghost use Rattle.cept_codes.specs.declared.command.Command.{Command};
 ghost use Rattle.cept_codes.specs.declared.item.Item.{Item};
 ghost use Rattle.cept_codes.specs.declared.item.Reason.{Reason};
@@ -11,7 +11,8 @@ ghost use Rattle.cept_profile.specs.Changes.{changes, grid_with_paints};
 ghost use Rattle.cept_profile.specs.Look.{grid};
 ghost use Rattle.cept_tool.specs.declared.run.Status.TheVariants as statuses;
 ghost use Rattle.cept_tool.specs.declared.words.Action.{Action};
-ghost use Rattle.cept_tool.specs.Events.{event_changes, paints, history, item_event, item_events};
+ghost use Rattle.cept_editor.specs.Events.{event_changes, paints};
+ghost use Rattle.cept_tool.specs.Events.{history, item_event, item_events};
 ghost use Rattle.cept_tool.specs.Outside.{Outside, ReportsItems};
 ghost use Rattle.cept_tool.specs.Run.{Runs};
 ghost use Rattle.cept_tool.specs.Words.{Request, Asks, asked_of};
@@ -43,16 +44,16 @@ pub fn a_blank_glass_shows_the_meaning()
 {}
 
 /// A known page that can't be read on, or is too long, is reported as far as it was taken, whether
-/// it is selected at the end or not: where it isn't, nothing was taken.
+/// it is selected at the end or not: where it isn't, nothing was taken. No script is asked for.
 pub fn a_known_page_is_reported_as_far_as_taken()
     ensures read_fault { (words : List (List ℕ)) (request : Request) (page : List ℕ)
         (before after : Outside)
         → IsSound before.shelf → IsSound after.shelf → Runs words before after statuses.ReadFault
-        → Asks words before.shelf request page
+        → Asks words before.shelf request page → request.script ≡ None
         → ReportsItems request.action (items (take after.shelf.taken page)) before after }
     ensures too_long { (words : List (List ℕ)) (request : Request) (page : List ℕ)
         (before after : Outside)
         → IsSound before.shelf → IsSound after.shelf → Runs words before after statuses.TooLong
-        → Asks words before.shelf request page
+        → Asks words before.shelf request page → request.script ≡ None
         → ReportsItems request.action (items (take (2 ^ 24) page)) before after }
 {}

@@ -3,10 +3,13 @@
 #![tactic(auto)]
 
 mod decoder;
+mod easel;
+mod edits;
 mod laws;
 mod page;
 mod reporter;
 mod run;
+mod script;
 #[cfg(test)]
 mod tests;
 mod words;

@@ -1,7 +1,7 @@
 //! Takes a page from the shelf and has it read, to its end or as far as it goes.
 
 ghost use Rattle.std.specs.Prelude.{◌≡◌, ◌+◌, ◌-◌, ◌^◌, ◌<◌, ◌≤◌, []};
-ghost use Rattle.cept_tool.specs.Made.{Output};
+ghost use Rattle.cept_editor.specs.Made.{Output};
 ghost use Rattle.cept_tool.specs.Outside.{outside_of};
 ghost use Rattle.cept_tool.specs.Page.{PageEnds, KeepsShelf};
 ghost use Rattle.cept_tool.specs.Reporting.{HasRead};
@@ -18,15 +18,19 @@ const LIMIT: u64 = 1 << 24;
 /// The number of bytes that are taken at once at most.
 const PIECE: usize = 4096;
 
-/// Why a page isn't read to its end.
+/// Why a run stops before its end.
 #[derive(Clone, Copy, Debug, PartialEq, Eq)]
 pub enum Stop {
     /// The shelf failed.
     ReadFault,
     /// The sink failed.
     WriteFault,
-    /// The page has more than 2^24 bytes.
+    /// The page has more than 2^24 bytes, or the script more than 2^20.
     TooLong,
+    /// A line of the script is outside the grammar.
+    Script,
+    /// There is no memory for the script.
+    NoMemory,
 }
 
 impl From<WriteFault> for Stop {

@@ -2,21 +2,27 @@
 //! It knows no bytes of a page, no words and no files.
 
 ghost use Rattle.std.specs.Prelude.{◌≡◌, ◌+◌, ◌^◌, ◌<◌, ◌≤◌, ◌∷◌, [], ◌++◌, List};
-ghost use Rattle.std.specs.Prelude.{IfOk, IsOk, Some, None, length, nat_lt, if◌then◌else◌};
+ghost use Rattle.std.specs.Prelude.{IfOk, IsOk, Some, None, length, nat_lt, if◌then◌else◌, slice_index_or};
 ghost use Rattle.std.specs.List.{AllByRecursion};
 ghost use Rattle.cept_codes.specs.Command.{IsValidCommand, IsValidSaid};
 ghost use Rattle.cept_codes.specs.declared.command.Command.{Command};
 ghost use Rattle.cept_codes.specs.declared.item.Item.{Item};
 ghost use Rattle.cept_outside.specs.SinkState.{PutsText};
-ghost use Rattle.cept_profile.specs.State.{core, state};
+ghost use Rattle.cept_profile.specs.Changes.{marked_looks};
+ghost use Rattle.cept_profile.specs.Look.{looks_of};
+ghost use Rattle.cept_profile.specs.State.{core, core_of, state};
+ghost use Rattle.cept_report.specs.Text.{change_lines};
 ghost use Rattle.cept_profile.specs.Valid.{AllValid};
 ghost use Rattle.cept_tool.specs.Events.{rows_after, text_at_end};
-ghost use Rattle.cept_tool.specs.Made.{output_of};
+ghost use Rattle.cept_editor.specs.Made.{output_of};
 ghost use Rattle.cept_tool.specs.Words.{asked_of};
 ghost use Rattle.cept_writer.specs.PageCommands.{page_text};
 
+use crate::easel::Easel;
+use crate::edits::make_line;
 use crate::words::Action;
 use cept_codes::{Command, Item, NoMemory, Reason, Said};
+use cept_editor::Script;
 use cept_outside::{Sink, Steps, WriteFault};
 use cept_repaint::{Glass, Marks, Screen};
 use cept_report::{put_cells, put_changes, put_check, put_refusal, put_screen};
@@ -25,12 +31,12 @@ use std::alloc::Global;
 use std::marker::Model;
 use std::sync::ledger::Ledger;
 
-/// Reports items one after the other: what is asked for, the screen where commands are painted with
-/// the places that its last command changed, and how many items there were and were refused.
+/// Reports items one after the other, and then edits: what is asked for, what commands are applied
+/// to with the places that the last one changed, and how many items there were and were refused.
 #[derive(Drop)]
 pub struct Reporter {
     action: Action,
-    screen: Option<Screen>,
+    easel: Easel,
     marks: Marks,
     items: u64,
     refused: u64,
@@ -44,7 +50,7 @@ impl Model for Reporter {
 
     ghost view = { λ r. record {
       action = r.action;
-      screen = r.screen;
+      easel = r.easel;
       items = r.items;
       refused = r.refused;
     } };
@@ -52,22 +58,31 @@ impl Model for Reporter {
     ghost invariant = { λ r. r.refused ≤ r.items };
 }
 
-/// The screen, where commands are painted.
-fn screen_for(alloc: Global, action: Action) -> Result<Option<Screen>, NoMemory>
-    ensures screen { IfOk result (λ screen. screen
-        ≡ (if (asked_of action).painting then Some (state []) else None)) }
-    ensures memory { action ≡ Action.Check → IsOk result }
+/// Puts the lines of the marked places, where they are asked for.
+#[inline(always)]
+fn tell_changes<T: Sink>(
+    listed: bool,
+    place: u64,
+    marks: &Marks,
+    screen: &Screen,
+    sink: &mut T,
+) -> Result<(), WriteFault>
+    ensures { let changed = marked_looks marks.now (looks_of (core_of screen.now)) in
+        PutsText (T.state sink.old) (if listed then change_lines place changed else []) result
+        (T.state sink.new) }
 {
-    if action.asked().painting {
-        Ok(Some(Screen::new(alloc)?))
+    if listed {
+        put_changes(sink, place, marks, screen)
     } else {
-        Ok(None)
+        Ok(())
     }
 }
 
 impl Reporter {
     ghost use Rattle.cept_tool.specs.declared.words.Action.{Action};
-    ghost use Rattle.cept_tool.specs.Reporting.{Stands, Applies, ReportsOn, refusal_text};
+    ghost use Rattle.cept_editor.specs.Script.{EditLine};
+    ghost use Rattle.cept_tool.specs.Reporting.{Stands, StandsAtEnd, Applies, ReportsOn, EditsOn};
+    ghost use Rattle.cept_tool.specs.Reporting.{refusal_text, screen_of};
 
     /// A reporter before the first item. To check a page it takes no memory.
     pub fn new(alloc: Global, action: Action) -> Result<Reporter, NoMemory>
@@ -76,15 +91,15 @@ impl Reporter {
     {
         Ok(Reporter {
             action,
-            screen: screen_for(alloc, action)?,
+            easel: Easel::new(alloc, action)?,
             marks: Marks::new(),
             items: 0,
             refused: 0,
         })
     }
 
-    /// Applies a command, paints what it changes, and puts its lines where they are asked for.
-    /// Without a screen nothing happens.
+    /// Applies a command of the page, paints what it changes, and puts its lines where they are
+    /// asked for. Where commands aren't applied nothing happens.
     // In place, since most commands are attributes, which need little.
     #[inline(always)]
     fn apply<T: Sink, G: Glass, L: Ledger>(
@@ -100,14 +115,22 @@ impl Reporter {
             (output_of (T.state sink.old) (G.state glass.old)) result self.new
             (output_of (T.state sink.new) (G.state glass.new)) }
     {
-        let Some(screen) = &mut self.screen else {
-            return Ok(());
-        };
-        screen.apply_from(command, glass, &mut self.marks, steps);
-        if self.action.asked().changes {
-            put_changes(sink, place, &self.marks, screen)
-        } else {
-            Ok(())
+        match &mut self.easel {
+            Easel::Nothing => Ok(()),
+            Easel::Screen(screen) => {
+                screen.apply_from(command, glass, &mut self.marks, steps);
+                tell_changes(
+                    self.action.asked().changes,
+                    place,
+                    &self.marks,
+                    screen,
+                    sink,
+                )
+            }
+            Easel::Editor(editor) => {
+                editor.page(command, glass, &mut self.marks, steps);
+                Ok(())
+            }
         }
     }
 
@@ -176,13 +199,64 @@ impl Reporter {
         Ok(())
     }
 
+    /// Makes edit k of a script, and puts its lines where they are asked for.
+    fn make_edit<T: Sink, G: Glass, L: Ledger>(
+        &mut self,
+        script: &Script,
+        k: u32,
+        sink: &mut T,
+        glass: &mut G,
+        steps: &mut Steps<L>,
+    ) -> Result<(), WriteFault>
+        requires { k < length script.now }
+        ensures { (default : EditLine) → EditsOn self.old (slice_index_or script.now k default ∷ [])
+            (output_of (T.state sink.old) (G.state glass.old)) result self.new
+            (output_of (T.state sink.new) (G.state glass.new)) }
+    {
+        let tracing = self.action.asked().tracing;
+        match &mut self.easel {
+            Easel::Nothing => Ok(()),
+            Easel::Screen(_) => Ok(()),
+            Easel::Editor(editor) => {
+                make_line(
+                    editor,
+                    script,
+                    k,
+                    tracing,
+                    &mut self.marks,
+                    sink,
+                    glass,
+                    steps,
+                )
+            }
+        }
+    }
+
+    /// Makes the edits of a script one after the other.
+    pub fn make_edits<T: Sink, G: Glass, L: Ledger>(
+        &mut self,
+        script: &Script,
+        sink: &mut T,
+        glass: &mut G,
+        steps: &mut Steps<L>,
+    ) -> Result<(), WriteFault>
+        ensures { EditsOn self.old script.now
+            (output_of (T.state sink.old) (G.state glass.old)) result self.new
+            (output_of (T.state sink.new) (G.state glass.new)) }
+    {
+        for k in 0..script.len() {
+            self.make_edit(script, k, sink, glass, steps)?;
+        }
+        Ok(())
+    }
+
     /// How many rows the page has, at most 24.
     fn rows(&self) -> u8
         ensures few { result ≤ 24 }
-        ensures rows { (commands : List Command) → self.now.screen ≡ Some (state commands)
+        ensures rows { (commands : List Command) → screen_of self.now.easel ≡ Some (state commands)
             → result ≡ rows_after commands }
     {
-        match &self.screen {
+        match self.easel.screen() {
             None => 0,
             Some(screen) => screen.rows(),
         }
@@ -190,20 +264,21 @@ impl Reporter {
 
     /// Puts the page, where commands are painted.
     fn put_page<T: Sink>(&self, sink: &mut T) -> Result<(), WriteFault>
-        ensures { (commands : List Command) → self.now.screen ≡ Some (state commands)
+        ensures { (commands : List Command) → screen_of self.now.easel ≡ Some (state commands)
             → PutsText (T.state sink.old) (page_text (core commands)) result (T.state sink.new) }
     {
-        match &self.screen {
+        match self.easel.screen() {
             None => Ok(()),
             Some(screen) => write_page(screen, sink),
         }
     }
 
-    /// Puts the text at the end, after these items.
+    /// Puts the text at the end, after these items, where these commands remain.
     pub fn put_end<T: Sink, G: Glass>(&self, sink: &mut T, glass: &G) -> Result<(), WriteFault>
-        ensures { (action : Action) (items : List Item) → Stands action self.now items
-            → PutsText (T.state sink.old) (text_at_end action (G.state glass.now).grid items) result
-            (T.state sink.new) }
+        ensures { (action : Action) (items : List Item) (commands : List Command)
+            → StandsAtEnd action self.now items commands
+            → PutsText (T.state sink.old) (text_at_end action (G.state glass.now).grid items commands)
+            result (T.state sink.new) }
     {
         match self.action {
             Action::Changes => Ok(()),
@@ -211,6 +286,8 @@ impl Reporter {
             Action::Show => put_screen(sink, glass, self.rows()),
             Action::Cells => put_cells(sink, glass, self.rows()),
             Action::Write => self.put_page(sink),
+            Action::Trace => Ok(()),
+            Action::Edit => self.put_page(sink),
         }
     }
 

@@ -351,6 +351,128 @@ fn writes_pages_back(rt: HostRuntime) -> Result<(), Fail> {
     Ok(())
 }
 
+/// Runs `trace` or `edit` on a page with a script, with ample memory, and compares what was put and
+/// the status.
+fn compare_script(
+    rt: &impl Abort,
+    alloc: Global,
+    word: &str,
+    page: &[u8],
+    script: &[u8],
+    want: &[u8],
+    status: Status,
+) -> Result<(), Fail> {
+    let words = words(alloc, &[word, "page", "script"])?;
+    let mut shelf = MemShelf::new(alloc);
+    shelf.add("page", page)?;
+    shelf.add("script", script)?;
+    let mut sink = MemSink::new(alloc, 4096)?;
+    let mut glass = GridGlass::new(alloc)?;
+    let ended = run(alloc, &words, &mut shelf, &mut sink, &mut glass);
+    assert_eq!(rt; ended, status);
+    assert_eq!(rt; sink.bytes(), want);
+    Ok(())
+}
+
+#[test]
+fn makes_the_edits_of_scripts(rt: HostRuntime) -> Result<(), Fail> {
+    let a = b"A\x1C".as_slice();
+    let runs = [
+        (
+            "edit",
+            b"".as_slice(),
+            b"".as_slice(),
+            b"\x1F/B\x1F-Ap".as_slice(),
+            Status::Done,
+        ),
+        ("edit", WHOLE_PAGE, b"", WRITTEN_PAGE, Status::Done),
+        (
+            "trace",
+            b"",
+            b"c1 1\nundo\ntext A\n",
+            b"3 1 1 P41 11.00 FFF 000 S---\n",
+            Status::Done,
+        ),
+        (
+            "trace",
+            b"",
+            b"at 1 1\nat 25 1\n",
+            b"script line 2: 3 BadNumber\n",
+            Status::Script,
+        ),
+        (
+            "trace",
+            a,
+            b"undo",
+            b"! 1 1 1 UnassignedControl\n1 nothing\n",
+            Status::Refusals,
+        ),
+        (
+            "edit",
+            a,
+            b"clear\ntext A\n",
+            b"\x1F/B\x1F-Ap\x1FAA\x1B\x22AA",
+            Status::Refusals,
+        ),
+    ];
+    for (word, page, script, want, status) in runs {
+        compare_script(&rt, rt.alloc(), word, page, script, want, status)?;
+    }
+    Ok(())
+}
+
+#[test]
+fn takes_back_32_edits(rt: HostRuntime) -> Result<(), Fail> {
+    let alloc = rt.alloc();
+    let request = words(alloc, &["trace", "page", "script"])?;
+    let mut script = Vec::new(alloc);
+    let mut want = String::new(alloc);
+    for k in 1..34u8 {
+        script.extend_from_slice(b"text A\n")?;
+        want.push_str(&format!(in alloc; "{k} 1 {k} P41 11.00 FFF 000 S---\n")?)?;
+    }
+    for k in 34..66u8 {
+        let column = 67 - k;
+        want.push_str(&format!(in alloc; "{k} 1 {column} - 11.00 FFF 000 S---\n")?)?;
+    }
+    for _ in 0..33u8 {
+        script.extend_from_slice(b"undo\n")?;
+    }
+    want.push_str("66 nothing\n")?;
+    let mut shelf = MemShelf::new(alloc);
+    shelf.add("page", b"")?;
+    shelf.add("script", script.as_slice())?;
+    let mut sink = MemSink::new(alloc, 4096)?;
+    let mut glass = GridGlass::new(alloc)?;
+    let ended = run(alloc, &request, &mut shelf, &mut sink, &mut glass);
+    assert_eq!(rt; ended, Status::Done);
+    assert_eq!(rt; sink.bytes(), want.as_bytes());
+    let second = Pos::new(1, 2).ok_or("no place")?;
+    assert!(rt; glass.shown(second) == cept_codes::Look::BLANK);
+    Ok(())
+}
+
+#[test]
+fn stops_at_a_script_that_is_too_long(rt: HostRuntime) -> Result<(), Fail> {
+    let alloc = rt.alloc();
+    let request = words(alloc, &["trace", "page", "script"])?;
+    let mut shelf = MemShelf::new(alloc);
+    shelf.add("page", b"A\x1C")?;
+    for (length, status) in [
+        (1 << 20, Status::Refusals),
+        ((1 << 20) + 1, Status::TooLong),
+    ] {
+        let script = Vec::from_elem(alloc, b'\n', length)?;
+        shelf.add("script", script.as_slice())?;
+        let mut sink = MemSink::new(alloc, 64)?;
+        let mut glass = GridGlass::new(alloc)?;
+        let ended = run(alloc, &request, &mut shelf, &mut sink, &mut glass);
+        assert_eq!(rt; ended, status);
+        assert_eq!(rt; sink.bytes().is_empty(), status == Status::TooLong);
+    }
+    Ok(())
+}
+
 #[test]
 fn stops_at_a_page_that_is_too_long(rt: HostRuntime) -> Result<(), Fail> {
     let alloc = rt.alloc();
@@ -419,6 +541,11 @@ fn ends_at_faults_and_bad_words(rt: HostRuntime) -> Result<(), Fail> {
         words(alloc, &["changes"])?,
         words(alloc, &["frob", "page"])?,
         words(alloc, &["changes", ""])?,
+        words(alloc, &["trace", "page"])?,
+        words(alloc, &["trace", "page", "page"])?,
+        words(alloc, &["edit", "page", ""])?,
+        words(alloc, &["show", "page", "script"])?,
+        words(alloc, &[])?,
     ] {
         assert_eq!(rt;
             run(alloc, &bad, &mut shelf, &mut sink, &mut glass),

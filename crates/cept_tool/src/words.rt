@@ -1,6 +1,7 @@
-ghost use Rattle.std.specs.Prelude.{◌≡◌, ◌∷◌, [], map, codes, string_bytes};
+ghost use Rattle.std.specs.Prelude.{◌≡◌, ◌∷◌, [], map, codes, string_bytes, IfSome};
 ghost use Rattle.std.specs.Option.{option_map};
-ghost use Rattle.cept_tool.specs.Words.{Request, action_of, asking, asked_of, request_of};
+ghost use Rattle.cept_tool.specs.Words.{action_of, editing_action_of, of_page, of_script};
+ghost use Rattle.cept_tool.specs.Words.{IsSoundRequest, asked_of, request_by, request_of};
 
 /// What the program is asked for.
 #[derive(Clone, Copy, Debug, PartialEq, Eq)]
@@ -15,6 +16,10 @@ pub enum Action {
     Cells,
     /// `write PAGE`: the page at the end, as bytes that bring it back.
     Write,
+    /// `trace PAGE SCRIPT`: the refused items of the page, and the changed cells of each edit.
+    Trace,
+    /// `edit PAGE SCRIPT`: the page after the edits, as bytes that bring it back.
+    Edit,
 }
 
 /// What is asked for beside the text at the end.
@@ -26,17 +31,38 @@ pub struct Asked {
     pub changes: bool,
     /// The refused items are named.
     pub refusals: bool,
+    /// The edits of a script are made.
+    pub editing: bool,
+    /// The changes of each edit are listed.
+    pub tracing: bool,
 }
 
-/// These three.
+/// Of a page: whether its commands are painted, their changes listed, and its refusals named.
 #[inline(always)]
-fn asking(painting: bool, changes: bool, refusals: bool) -> Asked
-    ensures { result ≡ asking painting changes refusals }
+fn of_page(painting: bool, changes: bool, refusals: bool) -> Asked
+    ensures { result ≡ of_page painting changes refusals }
 {
     Asked {
         painting,
         changes,
         refusals,
+        editing: false,
+        tracing: false,
+    }
+}
+
+/// Of a page and a script: whether the changes of the edits are listed, and the page's refusals
+/// named.
+#[inline(always)]
+fn of_script(tracing: bool) -> Asked
+    ensures { result ≡ of_script tracing }
+{
+    Asked {
+        painting: true,
+        changes: false,
+        refusals: tracing,
+        editing: true,
+        tracing,
     }
 }
 
@@ -47,16 +73,18 @@ impl Action {
         ensures { result ≡ asked_of self }
     {
         match self {
-            Action::Changes => asking(true, true, true),
-            Action::Check => asking(false, false, true),
-            Action::Show => asking(true, false, false),
-            Action::Cells => asking(true, false, false),
-            Action::Write => asking(true, false, false),
+            Action::Changes => of_page(true, true, true),
+            Action::Check => of_page(false, false, true),
+            Action::Show => of_page(true, false, false),
+            Action::Cells => of_page(true, false, false),
+            Action::Write => of_page(true, false, false),
+            Action::Trace => of_script(true),
+            Action::Edit => of_script(false),
         }
     }
 }
 
-/// The action of a word.
+/// The action of a word that has a page after it.
 fn action_of(word: &str) -> Option<Action>
     ensures { result ≡ action_of word.now }
 {
@@ -75,20 +103,45 @@ fn action_of(word: &str) -> Option<Action>
     }
 }
 
-/// What the words ask for and the name of the page, where they are a request.
+/// The action of a word that has a page and a script after it.
+fn editing_action_of(word: &str) -> Option<Action>
+    ensures { result ≡ editing_action_of word.now }
+{
+    if word == "trace" {
+        Some(Action::Trace)
+    } else if word == "edit" {
+        Some(Action::Edit)
+    } else {
+        None
+    }
+}
+
+/// What the program is asked for, the name of the page, and that of the script, if there is one.
+#[derive(Clone, Copy, Debug)]
+pub struct Request<'a> {
+    pub action: Action,
+    pub page: &'a String,
+    pub script: Option<&'a String>,
+}
+
+/// What the words ask for, where they are a request.
 #[tactic(auto, unfolding(crate::specs::Words::request_of))]
-pub fn request_of(words: &[String]) -> Option<(Action, &String)>
-    ensures { option_map (λ request. record {
-      action = request.0;
-      page =
-          string_bytes request.1.now;
-    }) result
-        ≡ request_of (map string_bytes words.now) }
+pub fn request_of(words: &[String]) -> Option<Request<'_>>
+    ensures request { option_map request_by result ≡ request_of (map string_bytes words.now) }
+    ensures sound { IfSome result (λ request. IsSoundRequest (request_by request)) }
 {
     match words {
-        [word, page] if !page.is_empty() => {
-            let action = action_of(word.as_str())?;
-            Some((action, page))
+        [word, page] if !page.is_empty() => Some(Request {
+            action: action_of(word.as_str())?,
+            page,
+            script: None,
+        }),
+        [word, page, script] if !page.is_empty() && !script.is_empty() && page != script => {
+            Some(Request {
+                action: editing_action_of(word.as_str())?,
+                page,
+                script: Some(script),
+            })
         }
         _ => None,
     }

@@ -1,4 +1,4 @@
-use Rattle.cept_tool.proofs.EndsOfRuns.{unread_reported, too_long_reported}
+use Rattle.cept_tool.proofs.WholeRuns.{unread_reported, too_long_reported}
 use Rattle.cept_tool.proofs.laws.a_known_page_is_reported_as_far_as_taken.Goals as goal
 
 pub returns : goal.returns

@@ -4,7 +4,7 @@ use Rattle.std.proofs.lemmas.List.{length-take-le}
 use Rattle.std.proofs.lemmas.Result.{err_from_is_err_and}
 use Rattle.cept_parser.specs.Items.{items, closed_items}
 use Rattle.cept_outside.proofs.Laws.{all_taken}
-use Rattle.cept_tool.specs.Made.{output_of}
+use Rattle.cept_editor.specs.Made.{output_of}
 use Rattle.cept_tool.proofs.PagesInPieces.{KeepsShelf-none, keeps_shelf_more, Rose-since, front_with, left_more}
 use Rattle.cept_tool.proofs.PagesInPieces.{taken_there, nil_from_length, more_items}
 use Rattle.cept_tool.proofs.page.read_page.Goals as goal

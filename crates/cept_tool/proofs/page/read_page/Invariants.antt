@@ -1,5 +1,5 @@
 use Rattle.std.proofs.Common.{◌≡◌, ◌≤◌, ◌-◌, ◌^◌, false}
-use Rattle.cept_tool.specs.Made.{output_of}
+use Rattle.cept_editor.specs.Made.{output_of}
 use Rattle.cept_tool.specs.Page.{KeepsShelf}
 use Rattle.cept_tool.proofs.PagesInPieces.{HasCome}
 use Rattle.cept_tool.proofs.page.read_page.Given as goal

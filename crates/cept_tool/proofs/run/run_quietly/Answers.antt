@@ -1,6 +1,6 @@
 use Rattle.std.proofs.Common.{arith}
 use Rattle.cept_tool.specs.declared.run.Status.TheVariants as statuses
-use Rattle.cept_tool.proofs.EndsOfRuns.{ended}
+use Rattle.cept_tool.proofs.WholeRuns.{ended}
 use Rattle.cept_tool.proofs.run.run_quietly.Goals as goal
 
 pub returns-clause-read_fault : goal.returns-clause-read_fault

@@ -1,6 +1,6 @@
 use Rattle.std.proofs.Common.{◌≡◌, ◌+◌, ℕ, false, List, ◌++◌, take}
 use Rattle.cept_tool.specs.declared.words.Action.{Action}
-use Rattle.cept_tool.specs.Made.{Output, output_of}
+use Rattle.cept_editor.specs.Made.{Output, output_of}
 use Rattle.cept_tool.specs.Reporting.{HasRead}
 use Rattle.cept_tool.proofs.decoder.Decoder.read_piece.Given as goal
 

@@ -3,7 +3,7 @@ use Rattle.std.specs.List.{AllByRecursion}
 use Rattle.cept_codes.specs.Command.{IsValidSaid}
 use Rattle.cept_codes.specs.declared.item.Item.{Item}
 use Rattle.cept_tool.specs.declared.words.Action.{Action}
-use Rattle.cept_tool.specs.Made.{Output, output_of}
+use Rattle.cept_editor.specs.Made.{Output, output_of}
 use Rattle.cept_tool.specs.Reporting.{HasReported}
 use Rattle.cept_tool.proofs.reporter.Reporter.report_items.Given as goal
 
