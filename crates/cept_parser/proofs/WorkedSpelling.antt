@@ -15,7 +15,7 @@ pub last_place : spelling (command.Position 24 40) ≡ 0x1F ∷ 0x58 ∷ 0x68 �
 unfolding spelling
 last_place = refl
 
--- red in full: R3, R2 in the first byte, R1, R0 in the second
+-- red in full: bits 3 and 2 of red in the first byte, bits 1 and 0 in the second
 pub red_entry : spelling (command.Entry 8 (record { r = 15; g = 0; b = 0 })) ≡ 0x64 ∷ 0x64 ∷ []
 unfolding spelling
 red_entry = refl
@@ -24,7 +24,8 @@ pub green_entry : spelling (command.Entry 8 (record { r = 0; g = 15; b = 0 })) �
 unfolding spelling
 green_entry = refl
 
--- 1000 of red, 0100 of green and 0011 of blue: R3 and G2 in the first byte, B1 and B0 in the second
+-- 1000 of red, 0100 of green and 0011 of blue: bit 3 of red and bit 2 of green in the first byte,
+-- bits 1 and 0 of blue in the second
 pub mixed_entry : spelling (command.Entry 8 (record { r = 8; g = 4; b = 3 })) ≡ 0x62 ∷ 0x49 ∷ []
 unfolding spelling
 mixed_entry = refl
