@@ -2,6 +2,7 @@ pub mod Columns
 pub mod Drawings
 pub mod KeptLooks
 pub mod KeptRows
+pub mod UnshownPaints
 pub mod Pens
 pub mod RowsAlone
 pub mod RowsByPart

@@ -35,7 +35,7 @@ pub(crate) fn back_of(full: &Full, colours: &Colours) -> Tint
 
 /// A paint in little room.
 #[inline(always)]
-fn tint_of(paint: Paint) -> Tint
+pub(crate) fn tint_of(paint: Paint) -> Tint
     ensures { result ≡ tint_of paint }
 {
     match paint {

@@ -14,11 +14,13 @@ ghost use Rattle.cept_rows.specs.DrawnWith.{drawn_with};
 ghost use Rattle.cept_rows.specs.KeptRows.{HasNoPatterns};
 ghost use Rattle.cept_rows.specs.SmallLooks.{IsSmallLook, drawing_of, has_pattern, look_kept};
 ghost use Rattle.cept_rows.specs.SmallLooks.{no_drawing, small_of};
+ghost use Rattle.cept_rows.specs.Unshown.{AreWithout};
 
 use crate::cell_look::{is_downloaded, small_alone, small_of_any};
+use crate::colours::tint_of;
 use crate::drawing::{Drawing, drawing_of, same_drawing};
 use crate::small_look::{SmallLook, look_kept, same};
-use cept_codes::{Look, Pen, What};
+use cept_codes::{Look, Paint, Pen, What};
 use cept_colours::Colours;
 use cept_drcs::Patterns;
 use cept_outside::Steps;
@@ -93,6 +95,23 @@ impl RowLooks {
     {
         let part = self.small(column).part;
         part.dy == 0 && part.h == 2
+    }
+
+    /// Whether a look may show this paint: one is a pattern, or its sign or its background has the
+    /// paint.
+    pub fn may_show(&self, paint: Paint) -> bool
+        ensures { result ≡ false → AreWithout paint self.now }
+    {
+        if !self.is_plain() {
+            return true;
+        }
+        let tint = tint_of(paint);
+        for column in 1..41u8 {
+            if self.small(column).has_tint(&tint) {
+                return true;
+            }
+        }
+        false
     }
 
     /// The first column from `from` on in which two rows have different looks.

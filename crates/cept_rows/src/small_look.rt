@@ -1,4 +1,4 @@
-ghost use Rattle.std.specs.Prelude.{◌≡◌, ◌↔◌, IsTrue};
+ghost use Rattle.std.specs.Prelude.{◌≡◌, ◌≢◌, ◌↔◌, IsTrue, false};
 ghost use Rattle.cept_rows.specs.SmallLooks.{has_pattern, look_kept, paint_kept, shape_kept};
 
 use crate::drawing::Drawing;
@@ -104,6 +104,14 @@ impl SmallLook {
         ensures { result ≡ has_pattern self.now }
     {
         matches!(self.sign.kind, Kind::Drcs)
+    }
+
+    /// Whether the sign or the background has this tint.
+    #[inline(always)]
+    pub(crate) fn has_tint(&self, tint: &Tint) -> bool
+        ensures { result ≡ false → (self.now.fore ≢ tint.now) × (self.now.back ≢ tint.now) }
+    {
+        same_tint(&self.fore, tint) | same_tint(&self.back, tint)
     }
 }
 
