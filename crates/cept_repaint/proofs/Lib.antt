@@ -12,6 +12,7 @@ pub mod RestoredRows
 pub mod RowsOfLooks
 pub mod RowsTouched
 pub mod Unmarked
+pub mod UnshownPaints
 pub mod ValidGrids
 pub mod WalkedRows
 mod Unchanged

@@ -1,11 +1,15 @@
 -- What a screen keeps beside its state (this project's own): the look at each place, and when looks are refreshed.
 -- Private clauses alone cite this file.
-use Rattle.std.specs.Prelude.{ℕ, ◌≡◌, ◌<◌, ◌≤◌, ◌*◌, ◌-◌, ◌||◌, Bool, true, false, not, None, List, length}
+use Rattle.std.specs.Prelude.{ℕ, ◌≡◌, ◌<◌, ◌≤◌, ◌*◌, ◌-◌, ◌||◌, Bool, true, false, not, None, List, [], ◌∷◌, length}
 use Rattle.std.specs.List.{count_by, list_any, range_with_len}
 use Rattle.cept_codes.specs.declared.cell.Cell.{Cell}
 use Rattle.cept_codes.specs.declared.cell.What.{What}
 use Rattle.cept_codes.specs.declared.look.Look.{Look}
+use Rattle.cept_codes.specs.declared.look.Paint.{Paint}
+use Rattle.cept_codes.specs.declared.look.Paint.TheVariants.{Ink}
+use Rattle.cept_codes.specs.declared.look.Rgb.{Rgb}
 use Rattle.cept_codes.specs.declared.stroke.Stroke.{Stroke}
+use Rattle.cept_codes.specs.declared.stroke.Stroke.TheVariants.{Colour}
 use Rattle.cept_codes.specs.Cell.{blank_cell}
 use Rattle.cept_codes.specs.Look.{blank_look}
 use Rattle.cept_codes.specs.Place.{Place, OnScreen, number}
@@ -14,13 +18,14 @@ use Rattle.cept_codes.specs.Table.{value_at, IsTable}
 use Rattle.cept_profile.specs.Cells.{is_at}
 use Rattle.cept_profile.specs.Control.{ControlState}
 use Rattle.cept_profile.specs.Look.{look, look_in_row, look_of, looks_of, size_in_row}
-use Rattle.cept_profile.specs.PageParts.{row_pen_in}
+use Rattle.cept_profile.specs.PageParts.{paint_in, row_pen_in}
 use Rattle.cept_profile.specs.Reach.{is_row_touched}
 use Rattle.cept_profile.specs.RowsFromAbove.{covering_differs, is_other_covering, row_from_above}
 use Rattle.cept_profile.specs.State.{Core, Page, State, core_of, definitions_of}
 use Rattle.cept_profile.specs.Tiling.{column_entry}
 use Rattle.cept_profile.specs.Valid.{IsValidState}
 use Rattle.cept_repaint.specs.Marks.{is_marked}
+use Rattle.cept_rows.specs.Unshown.{IsWithout}
 
 -- the cell of a page at a place
 abbrev pub cell_at : Page → Place → Cell
@@ -82,6 +87,15 @@ abbrev pub UnreachedStay : List Stroke → ℕ → List (List Look) → Core →
 UnreachedStay strokes before was k =
     (r c : ℕ) → OnScreen r c → is_reached strokes before k.rows was (looks_of k) r ≡ false
     → value_at blank_look was r c ≡ look k r c
+
+-- the only stroke sets a colour entry, and no look that is kept shows the paint that it has
+pub record SetsUnshown (p : Page) (strokes : List Stroke) (kept : List (List Look)) : Type 0 where
+  pub entry : ℕ
+  pub paint : Paint
+  pub ink : Rgb
+  pub only : strokes ≡ Colour entry paint ∷ []
+  pub was : paint_in p.paints entry ≡ Ink ink
+  pub unshown : (r c : ℕ) → OnScreen r c → IsWithout (Ink ink) (value_at blank_look kept r c)
 
 -- the places of row r in which two lists of looks differ are marked besides, in columns below `end`, and no others
 pub record HasMarkedRow (was fresh : List Look) (r end : ℕ) (before marks : List Bool) : Type 0 where

@@ -7,6 +7,7 @@ ghost use Rattle.std.specs.Prelude.{
   ◌||◌,
   ℕ,
   false,
+  true,
   [],
   ◌∷◌,
   length,
@@ -30,6 +31,7 @@ ghost use Rattle.cept_profile.specs.Valid.{IsValidPage};
 ghost use Rattle.cept_repaint.specs.Kept.{core_on, is_other_above, look_alone, looks_differ};
 ghost use Rattle.cept_repaint.specs.Kept.{reached_rows, row_beneath};
 ghost use Rattle.cept_repaint.specs.Kept.{HasMarkedRow, IsRefreshedRow, OthersStay, UnreachedStay};
+ghost use Rattle.cept_repaint.specs.Kept.{SetsUnshown};
 ghost use Rattle.cept_repaint.specs.MarkedRows.{StandsAlone};
 ghost use Rattle.cept_repaint.specs.Marks.{no_marks};
 
@@ -37,7 +39,7 @@ use crate::kept_rows::KeptRows;
 use crate::marks::Marks;
 use crate::page::Page;
 use crate::reach::{is_last_row, is_last_under_one, only_put, rows_touched};
-use cept_codes::{Pos, Stroke};
+use cept_codes::{Paint, Pos, Stroke};
 use cept_outside::Steps;
 use cept_rows::RowLooks;
 use std::sync::ledger::Ledger;
@@ -83,9 +85,29 @@ pub(crate) fn redraw<L: Ledger>(
             }
         }
         None => {
+            let unshown = sets_unshown(page, strokes, kept);
             page.draw_all(strokes);
+            if unshown {
+                return;
+            }
             refresh_rows(page, strokes, before, after, kept, fresh, marks, steps);
         }
+    }
+}
+
+/// Whether the only stroke sets a colour entry whose paint no look is known to show: then it
+/// changes no look.
+// Most entries that a page defines are defined before any sign has their colour.
+fn sets_unshown(page: &Page, strokes: &[Stroke], kept: &KeptRows) -> bool
+    requires { AllByRecursion IsValidStroke strokes.now }
+    ensures { result ≡ true → SetsUnshown page.now strokes.now kept.now }
+{
+    let [Stroke::Colour(entry, _)] = strokes else {
+        return false;
+    };
+    match page.colours().paint(*entry) {
+        Paint::Ink(ink) => !kept.may_show(Paint::Ink(ink)),
+        Paint::Video => false,
     }
 }
 

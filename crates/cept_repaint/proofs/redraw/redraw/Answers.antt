@@ -9,6 +9,7 @@ use Rattle.cept_repaint.proofs.PageParts.{AreWhole-valid}
 use Rattle.cept_repaint.proofs.OnePlace.{IsPutAlone-drawn, page_after-none, page_after-put_alone}
 use Rattle.cept_repaint.proofs.Refreshed.{differences_none}
 use Rattle.cept_repaint.proofs.RowsTouched.{reach-put}
+use Rattle.cept_repaint.proofs.UnshownPaints.{looks_of-unshown}
 use Rattle.cept_repaint.proofs.WalkedRows.{UnreachedStay-drawn}
 use Rattle.cept_repaint.proofs.redraw.redraw.Goals as goal
 
@@ -80,3 +81,13 @@ returns-then-put-clause-cost g c =
       reach-put c.in-Some.put.place c.in-Some.put.cell.now c.args.strokes.now c.args.before c.args.after c.args.kept.now
           c.refresh_place.new.kept c.in-Some.ensures c.refresh_place.ensures.on_screen,
     )
+
+pub returns-then-unshown-clause-kept : goal.returns-then-unshown-clause-kept
+returns-then-unshown-clause-kept g c =
+    looks_of-unshown c.args.page.now c.args.strokes.now c.args.after c.args.kept.now c.requires.was_valid
+    (c.requires.kept ∙ ap (λ n. looks_of (core_on c.args.page.now n)) c.if-before-after.false)
+    (c.sets_unshown-unshown.ensures c.if-unshown.true)
+    ∙ ap (λ (p : Page). looks_of (core_on p c.args.after)) (sym c.draw_all-in-None.ensures)
+
+pub returns-then-unshown-clause-marks : goal.returns-then-unshown-clause-marks
+returns-then-unshown-clause-marks g c = differences_none c.args.kept.now _ c.clear.new.self c.clear.ensures refl

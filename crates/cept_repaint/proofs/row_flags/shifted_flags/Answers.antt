@@ -1,4 +1,4 @@
-use Rattle.std.proofs.Common.{◌-◌, ◌≤◌, ℕ, false, replicate, arith}
+use Rattle.std.proofs.Common.{◌-◌, false, arith}
 use Rattle.std.proofs.lemmas.List.{get_or-replicate, length-replicate}
 use Rattle.cept_codes.proofs.Laws.{HasMadeEntries-all}
 use Rattle.cept_repaint.proofs.row_flags.shifted_flags.Goals as goal

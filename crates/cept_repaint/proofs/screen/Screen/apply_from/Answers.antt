@@ -1,4 +1,4 @@
-use Rattle.std.proofs.Common.{◌≡◌, sym, ap, ◌∙◌}
+use Rattle.std.proofs.Common.{sym, ap, ◌∙◌}
 use Rattle.cept_profile.specs.Look.{looks_of}
 use Rattle.cept_profile.specs.State.{State, core_of, state_after}
 use Rattle.cept_profile.proofs.Laws.{state-one_more}
