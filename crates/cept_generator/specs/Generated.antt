@@ -62,13 +62,13 @@ unit_bytes s =
     if kind s == 6 then colour_bytes (16 + draw s 2 8) (draw s 3 64) (draw s 4 64) else
     0x18 ∷ []
 
--- the commands that these bytes are
+-- the commands of the bytes that define a colour entry: colours begin at it, it is defined, and G0 is locked to the left
 abbrev pub colour_commands : ℕ → ℕ → ℕ → List Command
 colour_commands e a b =
     command.ColourStart e ∷ command.Entry e (colour (0x40 + a) (0x40 + b)) ∷ command.LockLeft 0 ∷ []
 
--- what they say: a position, four letters, the colour of the signs, that of the mosaics, a size, a repetition, a
--- colour entry defined and the set G0 locked, or the rest of the row erased
+-- the commands of the unit that is drawn from this state on: a position, four letters, the colour of the signs, that of
+-- the mosaics, a size, a repetition, a colour entry defined and the set G0 locked, or the rest of the row erased
 unfoldable pub unit_commands : ℕ → List Command
 unit_commands s =
     if kind s == 0 then command.Position (1 + draw s 2 24) (1 + draw s 3 40) ∷ [] else

@@ -1,6 +1,6 @@
 -- Control sequences: CSI, at most seven bytes 2/0 to 3/15, and a byte 4/0 to 7/15. That CSI is 9/11, or ESC 5/11, is
--- after ISO 2022, and the shape of a sequence after ISO 6429. Own are the limit of seven bytes, which sequences there
--- are and what each says, and what is refused. The names beside the sequences are those that the field uses.
+-- after ISO 2022. Own are the shape of a sequence, the limit of seven bytes, which sequences there are and what each
+-- says, and what is refused. The names beside the sequences are those that the field uses.
 use Rattle.std.specs.Prelude.{ℕ, ◌-◌, Bool, true, false, not, ◌&&◌, List, [], ◌∷◌, if◌then◌else◌, ◌==◌, nat_le}
 use Rattle.cept_codes.specs.declared.command.Command.TheVariants as command
 use Rattle.cept_codes.specs.declared.item.Reason.TheVariants.{UnknownCsi, BadParameter}

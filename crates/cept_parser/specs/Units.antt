@@ -1,5 +1,5 @@
--- Units that begin with US (1F): the position, downloaded characters (DRCS), colours, the format and the service (ETS
--- 300 072 and T/CD 6-1; which forms there are is this profile's own).
+-- Units that begin with US (1F): the position, downloaded characters (DRCS), colours, the format and the service (the
+-- position is of ETS 300 072 and T/CD 6-1; the other units with their bytes, defaults and modes are this profile's own).
 use Rattle.std.specs.Prelude.{ℕ, ◌-◌, Bool, true, false, not, ◌&&◌, ◌||◌, List, [], ◌∷◌, if◌then◌else◌, ◌==◌, nat_le}
 use Rattle.std.specs.Prelude.{Option, None}
 use Rattle.cept_codes.specs.declared.command.C1Set.TheVariants.{Serial, Parallel}

@@ -1,5 +1,6 @@
--- The commands that set attributes one by one, by the C1 code that sets each (T/CD 6-1, the parallel supplementary
--- control functions; their order in a written page is this profile's own).
+-- The commands that set attributes one by one, by the C1 code that sets each (after the parallel supplementary control
+-- functions of T/CD 6-1; the table, what each code does, the flash modes and the order in a written page are this
+-- profile's own).
 use Rattle.std.specs.Prelude.{ℕ, ◌+◌, ◌/◌, ◌%◌, Option, Some, None, List, [], ◌∷◌, ◌++◌, if◌then◌else◌}
 use Rattle.cept_codes.specs.declared.attribute.Attr.{Attr}
 use Rattle.cept_codes.specs.declared.attribute.Attr.TheVariants as attrs

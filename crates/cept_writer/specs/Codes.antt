@@ -1,5 +1,5 @@
--- What an attribute is written for: signs, a row or the screen, each with codes of its own (T/CD 6-1, the C1 codes and
--- the full row and full screen attributes).
+-- What an attribute is written for: signs, a row or the screen, each with codes of its own (the C1 codes of signs are after
+-- T/CD 6-1; the forms for a row and for the screen are this profile's own).
 use Rattle.std.specs.Prelude.{ℕ, List, [], ◌∷◌}
 use Rattle.cept_codes.specs.declared.command.Command.{Command}
 use Rattle.cept_codes.specs.declared.command.Command.TheVariants as commands
