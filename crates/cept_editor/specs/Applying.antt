@@ -21,7 +21,7 @@ unfoldable pub rows_in_reach_of_all : State → List Command → ℕ
 rows_in_reach_of_all s [] = 0
 rows_in_reach_of_all s (c ∷ cs) = rows_in_reach s c + rows_in_reach_of_all (state_after s c) cs
 
--- how many rows an edit line may resolve: those in reach of its commands, and all of the page at an undo
+-- how many rows an edit line may resolve: those in reach of its commands, and all 24 at an undo
 abbrev pub rows_of_step : State → Step → ℕ
 rows_of_step s TakeBack = 24
 rows_of_step s (Edit commands) = rows_in_reach_of_all s commands

@@ -1,4 +1,4 @@
--- What an edit does (this project's own), and what is left of its commands.
+-- The step of an edit (this project's own).
 use Rattle.cept_editor.specs.declared.commands.Edit.{Edit}
 use Rattle.cept_editor.specs.declared.commands.Edit.TheVariants as edits
 use Rattle.cept_editor.specs.Meaning.{Step, TakeBack, Edit as EditOf}

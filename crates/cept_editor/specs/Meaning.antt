@@ -107,15 +107,15 @@ hex_bytes (high ∷ []) = None
 hex_bytes (high ∷ low ∷ more) = with_byte (byte_of (hex_digit_value high) (hex_digit_value low)) (hex_bytes more)
 
 -- an item of the bytes is refused
-abbrev pub has_refusal : List ℕ → Bool
-has_refusal bytes = list_any (λ i. is_refusal i.what) (closed_items bytes)
+abbrev pub bytes_have_refusal : List ℕ → Bool
+bytes_have_refusal bytes = list_any (λ i. is_refusal i.what) (closed_items bytes)
 
 -- the edit of at least one byte, read by a parser from its start to its end
 abbrev pub bytes_step : Option (List ℕ) → Result Step LineReason
 bytes_step None = Err reasons.BadHex
 bytes_step (Some []) = Err reasons.BadHex
 bytes_step (Some (a ∷ more)) =
-    if has_refusal (a ∷ more) then Err reasons.BadBytes else Ok (Edit (commands (a ∷ more)))
+    if bytes_have_refusal (a ∷ more) then Err reasons.BadBytes else Ok (Edit (commands (a ∷ more)))
 
 -- the edit of one word of hexadecimal digits
 abbrev pub raw : List (List ℕ) → Result Step LineReason

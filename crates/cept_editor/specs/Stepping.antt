@@ -27,7 +27,7 @@ edit_events reporting line earlier commands =
     map (λ numbered. event_from reporting line (earlier ++ take numbered.0 commands)
     (earlier ++ take (numbered.0 + 1) commands)) (enumerate_from 0 commands)
 
--- an undo before which no edit is kept: it changes nothing
+-- an undo before which no edit can be taken back: it changes nothing
 abbrev pub nothing_event : Bool → ℕ → List Command → Event
 nothing_event reporting line commands = record {
   before = commands;

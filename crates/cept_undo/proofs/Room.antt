@@ -5,7 +5,7 @@ use Rattle.std.proofs.lemmas.Bool.{true≢false}
 use Rattle.std.proofs.lemmas.List.{length-drop, length-take}
 use Rattle.cept_profile.specs.State.{State}
 use Rattle.circular_buffer.specs.Buffer.{Buffer, buffer}
-use Rattle.cept_undo.specs.Edits.{HasRoom, how_many}
+use Rattle.cept_undo.specs.Edits.{HasRoom, count_begun}
 
 -- what is first of some states
 first_of_some : (xs : List State) → 1 ≤ length xs → IsSome (slice_get xs 0)
@@ -16,7 +16,7 @@ some_by_first : (xs : List State) (s : State) → Some s ≡ slice_get xs 0 → 
 some_by_first [] s first = absurd (true≢false (ap is_some first))
 some_by_first (x ∷ xs) s first = omega arith
 
-none_begun : (begun : Option State) → IsNone begun → how_many begun ≡ 0
+none_begun : (begun : Option State) → IsNone begun → count_begun begun ≡ 0
 none_begun None none = refl
 none_begun (Some s) none = absurd (true≢false none)
 

@@ -13,9 +13,9 @@ state_before_latest [] now = now
 state_before_latest (before ∷ _) now = before
 
 -- how many there are, 0 or 1
-abbrev pub how_many : Option State → ℕ
-how_many None = 0
-how_many (Some _) = 1
+abbrev pub count_begun : Option State → ℕ
+count_begun None = 0
+count_begun (Some _) = 1
 
 -- places for 32 edits, and as many states as make 33 with those that are kept and begun, for which there are places
 pub record HasRoom (past : List State) (places : ℕ) (begun : Option State) (spare : List State)
@@ -23,4 +23,4 @@ pub record HasRoom (past : List State) (places : ℕ) (begun : Option State) (sp
   pub edits : places ≡ 32
   pub states : spare_places ≡ 33
   pub kept : length past ≤ 32
-  pub all : length past + how_many begun + length spare ≡ 33
+  pub all : length past + count_begun begun + length spare ≡ 33
