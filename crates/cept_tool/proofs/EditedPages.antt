@@ -18,7 +18,8 @@ use Rattle.cept_tool.specs.declared.words.Action.TheVariants as actions
 use Rattle.cept_tool.specs.Events.{history, edited_events}
 use Rattle.cept_tool.specs.Events.{kept_of}
 use Rattle.cept_tool.specs.Reporting.{ReporterState, StandsAtEnd, HasReported, HasEdited, EditsIfAny}
-use Rattle.cept_tool.specs.ScriptReading.{lines_of, ScriptEndsIfAny}
+use Rattle.cept_tool.specs.ScriptReading.{ScriptEndsIfAny}
+use Rattle.cept_tool.proofs.StoppedScripts.{lines_of}
 use Rattle.cept_tool.specs.Words.{Request, IsSoundRequest, asked_of}
 use Rattle.cept_tool.proofs.EditedLines.{edited_events-none, kept_of-none}
 use Rattle.cept_tool.proofs.MadeEdits.{edits_begin, stands_edited}
@@ -35,7 +36,7 @@ pub record Edited (action : Action) (reporter : ReporterState) (reported : List 
   pub stays : now.sink.faults ≡ start.sink.faults
 
 -- without edit lines
-unedited : (action : Action) (reporter : ReporterState) (reported : List Item) (start now : Output)
+pub unedited : (action : Action) (reporter : ReporterState) (reported : List Item) (start now : Output)
     → HasReported action reporter reported start now → Edited action reporter reported [] start now
 unedited action reporter reported start now has =
     let h = history action reported in

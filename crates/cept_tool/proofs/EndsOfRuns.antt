@@ -3,22 +3,19 @@ use Rattle.std.proofs.Common.{◌≡◌, ◌⊎◌, inl, inr, ℕ, ◌^◌, ◌�
 use Rattle.std.proofs.Common.{Option, Some, None, IsSome, Result, Ok, Err, refl, sym, ◌∙◌, ap, subst, arith}
 use Rattle.std.proofs.Common.{append_assoc}
 use Rattle.std.proofs.lemmas.Option.{none-some, same_Some}
-use Rattle.std.specs.Io.KnownBytes.{append_known}
 use Rattle.cept_codes.specs.declared.command.Command.{Command}
 use Rattle.cept_codes.specs.declared.item.Item.{Item}
-use Rattle.cept_codes.specs.declared.look.Look.{Look}
-use Rattle.cept_editor.specs.Events.{Event, report, paints}
+use Rattle.cept_editor.specs.Events.{Event, paints}
 use Rattle.cept_editor.specs.Made.{Output, output_of, AreMade, AreCutOff}
 use Rattle.cept_editor.specs.Script.{EditLine}
-use Rattle.cept_editor.proofs.Laws.{report-append, report-one, report-none, AreMade-none, AreMade-end, AreCutOff-end}
-use Rattle.cept_editor.proofs.Laws.{AreCutOff-longer, ArePainted-more, ArePainted-still, cut_untouched}
+use Rattle.cept_editor.proofs.Laws.{report-none, AreMade-none}
+use Rattle.cept_editor.proofs.Laws.{AreCutOff-longer, cut_untouched}
 use Rattle.cept_outside.specs.Causes.{Rose, HasCause}
 use Rattle.cept_outside.specs.ShelfState.{ShelfState, Holds, Selects, IsSound}
-use Rattle.cept_outside.specs.SinkState.{SinkState, HasPut, Gains, GainsPart}
-use Rattle.cept_outside.proofs.Laws.{HasPut-nothing, HasPut-more, append_known-append_known, append_known-nil}
+use Rattle.cept_outside.specs.SinkState.{SinkState, HasPut, Gains}
+use Rattle.cept_outside.proofs.Laws.{HasPut-nothing, append_known-nil}
 use Rattle.cept_parser.specs.Items.{items, closed_items, reading_within}
 use Rattle.cept_profile.specs.Changes.{grid_with_paints}
-use Rattle.cept_profile.specs.Look.{grid}
 use Rattle.cept_profile.specs.State.{core}
 use Rattle.cept_profile.specs.Valid.{AllValid}
 use Rattle.cept_writer.specs.PageCommands.{page_text}
@@ -30,23 +27,21 @@ use Rattle.cept_tool.specs.declared.words.Action.{Action}
 use Rattle.cept_tool.specs.declared.words.Action.TheVariants as actions
 use Rattle.cept_tool.specs.Events.{history, item_events, text_at_end, end_event, edited_events, run_events, remaining_of, script_events}
 use Rattle.cept_tool.specs.Events.{has_refusal}
-use Rattle.cept_tool.specs.Outside.{Outside, outside_of, output, ReportsItems}
-use Rattle.cept_tool.specs.Page.{PageStops, PutsEnd, PutsWhole, PutsUnflushed, KeepsShelf}
-use Rattle.cept_tool.specs.Run.{IsFlushed, StartsFit, Restores, ReportsPage, EndsWhole}
+use Rattle.cept_tool.specs.Outside.{Outside, outside_of, output, PutsWhole, ReportsItems}
+use Rattle.cept_tool.specs.Page.{PageStops, PutsEnd, KeepsShelf}
+use Rattle.cept_tool.specs.Run.{IsFlushed, Restores, ReportsPage, EndsWhole}
 use Rattle.cept_tool.specs.Run.{Ends, RunsRequest, status_of, status_at_end}
-use Rattle.cept_tool.specs.Words.{Request, Gives, IsSoundRequest, ReadsGlass, WritesPage}
+use Rattle.cept_tool.specs.Words.{Request, Gives, IsSoundRequest}
 use Rattle.cept_tool.proofs.EventsOfItems.{item_events-none, item_events-append, events_after}
 use Rattle.cept_tool.proofs.PagesInPieces.{KeepsFiles-more}
-use Rattle.cept_tool.proofs.PaintedItems.{AreChained, chained-append, chained-one, chained_shown, each_shown}
+use Rattle.cept_tool.proofs.ReportedRuns.{put_made, put_cut, all, edited, the_end, the_run, whole_report}
+use Rattle.cept_tool.proofs.ReportedRuns.{cut_at_end, put_to_end}
 use Rattle.cept_tool.proofs.PaintedItems.{blank_painted, still_checked}
-use Rattle.cept_tool.proofs.EditedLines.{edited_events-chained}
-use Rattle.cept_tool.proofs.SilentEvents.{silent_edits}
 use Rattle.cept_tool.proofs.Selections.{nothing_selected, selected_is, given_left, under_same, holds_still}
 use Rattle.cept_tool.proofs.Selections.{gives_still}
 use Rattle.cept_editor.specs.Made.{AreStill}
 use Rattle.cept_tool.proofs.EditedLines.{edited_events-none}
-use Rattle.cept_tool.proofs.StoppedScripts.{ScriptKnown}
-use Rattle.cept_tool.proofs.Selections.{put_either}
+use Rattle.cept_tool.proofs.StoppedScripts.{ScriptKnown, selected_so_long}
 
 -- ---- what was reported
 
@@ -69,13 +64,6 @@ reports_untaken action page taken before after none same =
     (subst (λ (es : List Event). AreMade es (output before) (output before)) (sym (item_events-none action))
     (AreMade-none (output before)))))
 
--- some bytes were put
-put_made : (events : List Event) (before after : Output) → AreMade events before after → HasPut before.sink after.sink
-put_made events before after made = record { part = report events; gains = made.put }
-
-put_cut : (events : List Event) (before after : Output) → AreCutOff events before after → HasPut before.sink after.sink
-put_cut events before after off = record { part = report off.done ++ take off.size off.cut.text; gains = off.put }
-
 same_sink : (s t : SinkState) → Gains s [] t → t.faults ≡ s.faults → t ≡ s
 same_sink s t gains stays =
     same_parts s t (gains.bytes ∙ sym (append_known-nil s.bytes)) (gains.unflushed_stays refl) stays
@@ -96,29 +84,6 @@ made_nothing action bytes before after none made stays =
       same_sink before.sink after.sink gains stays,
       nothing.painted.untouched tt,
     )
-
--- the text at the end, where what it tells of the glass is what the commands mean
-text_by : (action : Action) (shown : List (List Look)) (reported : List Item) (commands : List Command)
-    → (ReadsGlass action → shown ≡ grid commands)
-    → text_at_end action shown reported commands ≡ (end_event action reported commands).text
-text_by actions.Changes shown reported commands is = refl
-text_by actions.Check shown reported commands is = refl
-text_by actions.Show shown reported commands is = ap (λ g. text_at_end actions.Show g reported commands) (is tt)
-text_by actions.Cells shown reported commands is = ap (λ g. text_at_end actions.Cells g reported commands) (is tt)
-text_by actions.Write shown reported commands is = refl
-text_by actions.Trace shown reported commands is = refl
-text_by actions.Edit shown reported commands is = refl
-
--- a page that is written is the text at the end
-written_text : (action : Action) (shown : List (List Look)) (reported : List Item) (commands : List Command)
-    → WritesPage action → text_at_end action shown reported commands ≡ page_text (core commands)
-written_text actions.Changes shown reported commands w = elim w [ ]
-written_text actions.Check shown reported commands w = elim w [ ]
-written_text actions.Show shown reported commands w = elim w [ ]
-written_text actions.Cells shown reported commands w = elim w [ ]
-written_text actions.Write shown reported commands w = refl
-written_text actions.Trace shown reported commands w = elim w [ ]
-written_text actions.Edit shown reported commands w = refl
 
 -- to check a page nothing is changed
 still_edited : (action : Action) (reported : List Item) (lines : List EditLine) → action ≡ actions.Check → lines ≡ []
@@ -144,6 +109,8 @@ ends_unselected request before mid shelf f lines script selects cause = record {
   };
   bad_script = λ name told fault named given found. absurd (none-some fault
       (sym (script.good name told named given) ∙ found));
+  script_first = λ name told fault named holds found. absurd (none-some fault
+      (sym (script.good name told named (inl holds)) ∙ found));
   check = λ is. refl;
   missed = λ there scripts. selects.missed_stays (subst IsSome (sym (under_same before.shelf mid request.page
       script.files)) there) ∙ script.missed scripts;
@@ -195,6 +162,8 @@ module _ {X E : Type 0} (request : Request) (before after : Outside) (ready mid 
     ends = ends;
     bad_script = λ name told fault named given found. absurd (none-some fault
         (sym (script.good name told named given) ∙ found));
+    script_first = λ name told fault named holds found. absurd (none-some fault
+        (sym (script.good name told named (inl holds)) ∙ found));
     check = check;
     missed = λ there scripts. keeps.missed ∙ selects.missed_stays (subst IsSome (sym (under_same before.shelf ready
         request.page script.files)) there) ∙ script.missed scripts;
@@ -221,7 +190,7 @@ module _ {X E : Type 0} (request : Request) (before after : Outside) (ready mid 
       → AreCutOff (run_events request.action page lines) (output before) (output after)
   cut_in_run page front others is off =
       let action = request.action in
-      let end = end_event action (closed_items page) (remaining_of action page lines) ∷ [] in
+      let end = end_event action page (remaining_of action page lines) ∷ [] in
       let script_part = script_events action (history action (closed_items page)) lines in
       AreCutOff-longer (item_events action front) (events_after action front others ++ (script_part ++ end))
       (run_events action page lines) (output before) (output after)
@@ -248,8 +217,8 @@ module _ {X E : Type 0} (request : Request) (before after : Outside) (ready mid 
   })
   ends_stopped stops.WriteFault sound_after ends = runs_request statuses.WriteFault (record {
     write_fault = ends.cut.cause;
-    write_fault_reported = λ page told holds has fit.
-        let others = ends.known page (left_of_held page holds) in
+    write_fault_reported = λ page told given has fit.
+        let others = ends.known page (left_of_given page given) in
         inl (subst (λ (l : List EditLine). AreCutOff (run_events request.action page l) (output before) (output after))
         (script.known told has) (cut_in_run page ends.items others.0 others.1 ends.cut));
   }) (λ is. cut_untouched (item_events request.action ends.items) (output before) (output after)
@@ -258,7 +227,9 @@ module _ {X E : Type 0} (request : Request) (before after : Outside) (ready mid 
   ends_stopped stops.TooLong sound_after ends = runs_made statuses.TooLong ends.bytes ends.made ends.sink_stays (record {
     which = inl (record {
       too_long = ends.cause;
-      longer = λ page holds. (ends.known page (left_of_held page holds)).0;
+      selected = λ chosen is. selected_so_long request.page after.shelf sound_after (omega (arith, ends.cause)) chosen is
+          (page_or_none chosen is);
+      longer = λ page given. (ends.known page (left_of_given page given)).0;
       too_long_reported = λ page holds is. reports_items request.action (items (take (2 ^ 24) page)) before after
           (subst (λ (b : List ℕ). AreMade (item_events request.action (items b)) (output before) (output after))
           (ends.known page (left_of_held page holds)).1 ends.made);
@@ -280,115 +251,61 @@ module _ {X E : Type 0} (request : Request) (before after : Outside) (ready mid 
     abbrev page_items : List Item
     page_items = closed_items bytes
 
-    abbrev all : List Command
-    all = remaining_of action bytes lines
+    abbrev all_edited : List Event
+    all_edited = edited action bytes lines
 
-    abbrev edited : List Event
-    edited = edited_events action page_items lines
-
-    abbrev the_end : Event
-    the_end = end_event action page_items all
-
-    abbrev the_run : List Event
-    the_run = run_events action bytes lines
-
-    to_all : AreChained [] edited all
-    to_all = edited_events-chained action page_items lines
-
-    run_chained : AreChained [] the_run all
-    run_chained = chained-append [] all all edited (the_end ∷ []) to_all (chained-one the_end)
+    abbrev whole_run : List Event
+    whole_run = the_run action bytes lines
 
     -- the sink failed at an edit line
-    unedited_run : AreCutOff edited (output before) (output after) → RunsRequest request before after statuses.WriteFault
+    unedited_run : AreCutOff all_edited (output before) (output after)
+        → RunsRequest request before after statuses.WriteFault
     unedited_run off = runs_request statuses.WriteFault (record {
       write_fault = off.cause;
-      write_fault_reported = λ page told holds has fit.
+      write_fault_reported = λ page told given has fit.
           inl (subst (λ (l : List EditLine). AreCutOff (run_events action page l) (output before) (output after))
           (script.known told has)
           (subst (λ (b : List ℕ). AreCutOff (run_events action b lines) (output before) (output after))
-          (known page (left_of_held page holds))
-          (AreCutOff-longer edited (the_end ∷ []) the_run (output before) (output after) refl off)));
-    }) (λ is. cut_untouched edited (output before) (output after) (still_edited action page_items lines is
+          (known page (left_of_given page given))
+          (AreCutOff-longer all_edited (the_end action bytes lines ∷ []) whole_run (output before) (output after) refl
+          off)));
+    }) (λ is. cut_untouched all_edited (output before) (output after) (still_edited action page_items lines is
         (unedited_check is)) off)
-        (λ early. put_cut edited (output before) (output after) off) off.later
+        (λ early. put_cut all_edited (output before) (output after) off) off.later
 
-    pub ends_unedited : (stop : Stop) → stop ≡ stops.WriteFault → AreCutOff edited (output before) (output after)
+    pub ends_unedited : (stop : Stop) → stop ≡ stops.WriteFault → AreCutOff all_edited (output before) (output after)
         → RunsRequest request before after (status_of stop)
     ends_unedited stop is off = subst (λ (s : Stop). RunsRequest request before after (status_of s)) (sym is)
         (unedited_run off)
 
-    module _ (sink : SinkState) (made : AreMade edited (output before) (output_of sink after.glass))
-        (sink_stays : sink.faults ≡ before.sink.faults) (valid : AllValid all)
+    module _ (sink : SinkState) (made : AreMade all_edited (output before) (output_of sink after.glass))
+        (sink_stays : sink.faults ≡ before.sink.faults) (valid : AllValid (all action bytes lines))
         (restores : (h : List Command) → AllValid h → Restores (page_text (core h)) h) where
-      abbrev middle : Output
-      middle = output_of sink after.glass
-
-      abbrev the_text : List ℕ
-      the_text = text_at_end action after.glass.grid page_items all
+      abbrev end_put : List ℕ
+      end_put = text_at_end action after.glass.grid bytes (all action bytes lines)
 
       untouched_by_check : request.action ≡ actions.Check → after.glass ≡ before.glass
       untouched_by_check is = made.painted.untouched (still_edited action page_items lines is (unedited_check is))
 
-      -- the glass shows what remains of the page and the edits, where it was blank
-      meaning_at_end : before.glass.grid ≡ grid [] → after.glass.grid ≡ grid all
-      meaning_at_end blank = made.painted.over ∙ ap (λ g. grid_with_paints g (paints edited)) blank
-          ∙ chained_shown [] all edited to_all
-
-      -- so the text at the end is that of the end
-      end_text : StartsFit action before.glass → the_text ≡ the_end.text
-      end_text fit = text_by action after.glass.grid page_items all (λ reads. meaning_at_end (fit reads))
-
-      whole_text : WritesPage action → report the_run ≡ page_text (core all)
-      whole_text writes =
-          report-append edited (the_end ∷ [])
-          ∙ ap (λ t. t ++ report (the_end ∷ [])) (silent_edits action page_items lines writes)
-          ∙ report-one the_end ∙ written_text action (grid all) page_items all writes
-
-      whole_report : PutsWhole the_text sink after.sink → ReportsPage action bytes lines before after
-      whole_report puts = record {
-        put = λ fit. puts.put ∙ ap (λ known. append_known known the_text) made.put.bytes
-            ∙ append_known-append_known before.sink.bytes (report edited) the_text
-            ∙ ap (λ t. append_known before.sink.bytes (report edited ++ t)) (end_text fit ∙ sym (report-one the_end))
-            ∙ ap (append_known before.sink.bytes) (sym (report-append edited (the_end ∷ [])));
-        painted = ArePainted-more edited (the_end ∷ []) before.glass after.glass after.glass made.painted
-            (ArePainted-still the_end after.glass refl);
-        each = λ blank done event rest split. ap (λ g. grid_with_paints g (paints (done ++ event ∷ []))) blank
-            ∙ each_shown [] all the_run done event rest run_chained split;
-        meaning = meaning_at_end;
-        written = λ writes. subst (λ (t : List ℕ). Restores t all) (sym (whole_text writes)) (restores all valid);
-      }
-
-      whole_end : (refused : Bool) → refused ≡ has_refusal page_items → PutsWhole the_text sink after.sink
+      whole_end : (refused : Bool) → refused ≡ has_refusal page_items → PutsWhole end_put sink after.sink
           → EndsWhole request before after refused
       whole_end refused is puts = record {
         reports = λ page told given has.
             subst (λ (l : List EditLine). ReportsPage action page l before after) (script.known told has)
             (subst (λ (b : List ℕ). ReportsPage action b lines before after) (known page (left_of_given page given))
-            (whole_report puts));
+            (whole_report action bytes lines before after sink made sink_stays
+            (λ writes. restores (all action bytes lines) valid) puts));
         refusals = λ page given. is ∙ ap (λ b. has_refusal (closed_items b)) (known page (left_of_given page given));
         good = script.good;
         flushed = puts.flushed;
         not_too_long = short;
+        selected = page_or_none;
+        script_not_too_long = script.few;
         shelf_stays = stays ∙ same_faults;
         sink_stays = puts.stays ∙ sink_stays;
       }
 
-      cut_at_end : PutsUnflushed the_text sink after.sink → StartsFit action before.glass
-          → AreCutOff the_run (output before) (output after) ⊎ AreMade the_run (output before) (output after)
-      cut_at_end puts fit = by_text puts.put
-        where
-          by_text : GainsPart sink the_text after.sink ⊎ Gains sink the_text after.sink
-              → AreCutOff the_run (output before) (output after) ⊎ AreMade the_run (output before) (output after)
-          by_text (inl part) = inl (AreCutOff-end edited the_end (output before) middle (output after) made sink_stays
-              refl (subst (λ (t : List ℕ). GainsPart sink t after.sink) (end_text fit) part) puts.cause puts.later refl)
-          by_text (inr whole) = inr (AreMade-end edited the_end (output before) middle (output after) made refl
-              (subst (λ (t : List ℕ). Gains sink t after.sink) (end_text fit) whole) refl)
-
-      put_to_end : PutsUnflushed the_text sink after.sink → HasPut before.sink after.sink
-      put_to_end puts = HasPut-more before.sink sink after.sink (put_made edited (output before) middle made)
-          (put_either the_text sink after.sink puts.put)
-
-      pub ends_read : (result : Result Bool Stop) → PutsEnd the_text (has_refusal page_items) sink result after.sink
+      pub ends_read : (result : Result Bool Stop) → PutsEnd end_put (has_refusal page_items) sink result after.sink
           → RunsRequest request before after (status_at_end result)
       ends_read (Ok false) puts = runs_request statuses.Done (whole_end false puts.1 puts.0) untouched_by_check
           (λ early. absurd (early tt)) (omega (arith, puts.0.stays, sink_stays))
@@ -398,10 +315,13 @@ module _ {X E : Type 0} (request : Request) (before after : Outside) (ready mid 
           subst (λ (s : Stop). RunsRequest request before after (status_of s)) (sym puts.1)
           (runs_request statuses.WriteFault (record {
             write_fault = subst (λ n. Rose n after.sink.faults) sink_stays puts.0.cause;
-            write_fault_reported = λ page told holds has fit.
+            write_fault_reported = λ page told given has fit.
                 subst (λ (l : List EditLine). AreCutOff (run_events action page l) (output before) (output after)
                 ⊎ AreMade (run_events action page l) (output before) (output after)) (script.known told has)
                 (subst (λ (b : List ℕ). AreCutOff (run_events action b lines) (output before) (output after)
                 ⊎ AreMade (run_events action b lines) (output before) (output after))
-                (known page (left_of_held page holds)) (cut_at_end puts.0 fit));
-          }) untouched_by_check (λ early. put_to_end puts.0) (omega (arith, puts.0.later, sink_stays)))
+                (known page (left_of_given page given))
+                (cut_at_end action bytes lines before after sink made sink_stays puts.0 fit));
+          }) untouched_by_check
+          (λ early. put_to_end action bytes lines before after sink made sink_stays puts.0)
+          (omega (arith, puts.0.later, sink_stays)))

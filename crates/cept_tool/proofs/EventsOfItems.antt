@@ -8,12 +8,11 @@ use Rattle.cept_codes.specs.declared.command.Command.{Command}
 use Rattle.cept_codes.specs.declared.item.Item.{Item}
 use Rattle.cept_codes.specs.declared.item.Reason.{Reason}
 use Rattle.cept_codes.specs.declared.item.Said.TheVariants as said
-use Rattle.cept_parser.specs.Items.{commands_of, command_said}
+use Rattle.cept_parser.specs.Items.{commands_of, command_said, is_refusal}
 use Rattle.cept_tool.specs.declared.words.Action.{Action}
 use Rattle.cept_tool.specs.declared.words.Action.TheVariants as actions
 use Rattle.cept_editor.specs.Events.{Event}
 use Rattle.cept_tool.specs.Events.{history, item_event, item_events, refused_count}
-use Rattle.cept_tool.specs.Events.{is_refused}
 use Rattle.cept_tool.specs.Words.{asked_of}
 
 -- ---- items that come after others
@@ -77,10 +76,10 @@ item_events-none action = refl
 -- ---- the commands and the refusals of one item more
 
 pub refused_count-more : (items : List Item) (i : Item)
-    → refused_count (items ++ i ∷ []) ≡ refused_count items + cond (is_refused i.what) 1 0
+    → refused_count (items ++ i ∷ []) ≡ refused_count items + cond (is_refusal i.what) 1 0
 refused_count-more items i =
-    sum_by-append (λ (j : Item). cond (is_refused j.what) 1 0) items (i ∷ [])
-    ∙ ap (λ n. sum_by (λ (j : Item). cond (is_refused j.what) 1 0) items + n) (zero-add _)
+    sum_by-append (λ (j : Item). cond (is_refusal j.what) 1 0) items (i ∷ [])
+    ∙ ap (λ n. sum_by (λ (j : Item). cond (is_refusal j.what) 1 0) items + n) (zero-add _)
 
 commands_of-more : (items : List Item) (i : Item)
     → commands_of (items ++ i ∷ []) ≡ commands_of items ++ command_said i.what
@@ -97,6 +96,7 @@ history-none actions.Cells = refl
 history-none actions.Write = refl
 history-none actions.Trace = refl
 history-none actions.Edit = refl
+history-none actions.Load = refl
 
 history-more : (action : Action) (items : List Item) (i : Item)
     → history action (items ++ i ∷ []) ≡ history action items ++ cond (asked_of action).painting (command_said i.what) []
@@ -107,6 +107,7 @@ history-more actions.Cells items i = commands_of-more items i
 history-more actions.Write items i = commands_of-more items i
 history-more actions.Trace items i = commands_of-more items i
 history-more actions.Edit items i = commands_of-more items i
+history-more actions.Load items i = commands_of-more items i
 
 -- a command is applied
 pub history-command : (action : Action) (items : List Item) (i : Item) (command : Command)

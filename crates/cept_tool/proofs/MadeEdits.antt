@@ -158,7 +158,13 @@ module _ (old : ReporterState) (editor new : EditorState) (edit : EditLine) (bef
 
   pub edit_more : {X E : Type 0} (result : Result X E) → MakesLine (asked_of old.action).tracing edit editor before result new after
       → EditsOn old (edit ∷ []) before result
-      (record { action = old.action; easel = easels.Editor new; items = old.items; refused = old.refused }) after
+      (record {
+        action = old.action;
+        easel = easels.Editor new;
+        items = old.items;
+        refused = old.refused;
+        painted = old.painted;
+      }) after
   edit_more (Ok x) makes = record {
     counted = refl;
     edited = λ action reported earlier start has.
@@ -168,6 +174,7 @@ module _ (old : ReporterState) (editor new : EditorState) (edit : EditLine) (bef
           action_is = has.action_is;
           items = has.items;
           refused = has.refused;
+          painted = has.painted;
           editor = new;
           easel = refl;
           stands = subst (λ (k : KeptEdits). StandsAfter new h k) (sym (kept_of-more earlier edit))
@@ -246,6 +253,7 @@ edits_begin action reporter reported start now editing has =
       action_is = has.stands.action_is;
       items = has.stands.items;
       refused = has.stands.refused;
+      painted = has.stands.painted;
       editor = record { screen = state h; past = [] };
       easel = has.stands.easel ∙ editor_there (asked_of action) h editing;
       stands = subst (λ (k : KeptEdits). StandsAfter (record { screen = state h; past = [] }) h k) (sym kept_of-none)
@@ -270,4 +278,5 @@ stands_edited action reporter reported lines start now has = record {
   screen = λ painting. ap screen_of has.easel ∙ ap (λ (e : EditorState). Some e.screen) has.stands.is;
   items = has.items;
   refused = has.refused;
+  painted = has.painted;
 }

@@ -2,7 +2,7 @@
 use Rattle.std.proofs.Common.{inl, inr, List, ℕ, Ok, Err, ◌∙◌, subst, arith}
 use Rattle.cept_outside.specs.Causes.{Rose, HasCause}
 use Rattle.cept_outside.specs.SinkState.{SinkState, PutsText, Flushes}
-use Rattle.cept_tool.specs.Page.{PutsWhole, PutsUnflushed}
+use Rattle.cept_tool.specs.Outside.{PutsWhole, PutsUnflushed}
 
 -- it wasn't put whole
 pub put_cut_off : {X E : Type 0} {f : E} (text : List ℕ) (before after : SinkState)

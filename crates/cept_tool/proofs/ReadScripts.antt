@@ -67,7 +67,14 @@ module _ {X E : Type 0} (name : List ℕ) (before mid after : ShelfState) (x : X
     pub script_good : (lines : List EditLine) (old : SinkState) → first_fault bytes ≡ None → lines ≡ edits bytes
         → ScriptEnds name before old (Ok lines) after old
     script_good lines old good are = (
-      record { bytes = bytes; known = known_bytes; good = good; are = are; stays = taken.stays ∙ selected },
+      record {
+        bytes = bytes;
+        known = known_bytes;
+        few = taken.few;
+        good = good;
+        are = are;
+        stays = taken.stays ∙ selected;
+      },
       refl,
     )
 
@@ -77,6 +84,7 @@ module _ {X E : Type 0} (name : List ℕ) (before mid after : ShelfState) (x : X
       known = known_bytes;
       fault = fault;
       found = found;
+      short = taken.short;
       stays = taken.stays ∙ selected;
     }
 

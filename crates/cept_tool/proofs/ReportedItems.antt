@@ -33,26 +33,29 @@ use Rattle.cept_tool.specs.declared.easel.Easel.{Easel}
 use Rattle.cept_tool.specs.declared.easel.Easel.TheVariants as easels
 use Rattle.cept_tool.specs.declared.words.Asked.{Asked}
 use Rattle.cept_tool.specs.Events.{history, event_between, text_of_said, item_event, item_events, refused_count}
-use Rattle.cept_tool.specs.Events.{is_refused, text_at_end}
-use Rattle.cept_parser.specs.Items.{items, closed_items, reading_within}
+use Rattle.cept_tool.specs.Events.{painted_at, text_at_end}
+use Rattle.cept_parser.specs.Items.{items, closed_items, reading_within, is_refusal}
 use Rattle.cept_parser.specs.State.{Leads}
 use Rattle.cept_tool.specs.Reporting.{DecoderState, HasRead, ReadsOn, ReadsToEnd}
 use Rattle.cept_tool.specs.Reporting.{ReporterState, easel_at, screen_of, Stands, StandsAtEnd, HasReported, Applies}
-use Rattle.cept_tool.specs.Reporting.{ReportsOn, command_event, refusal_text}
+use Rattle.cept_tool.specs.Reporting.{ReportsOn, command_event, refusal_text, counted_of}
 use Rattle.cept_tool.specs.Words.{asked_of}
 use Rattle.cept_tool.proofs.EventsOfItems.{history-none, history-command, history-refused, history-idle, item_events-more}
+use Rattle.cept_tool.proofs.CountedPlaces.{counted-none, counted-command, counted-refused, counted-idle}
+use Rattle.cept_tool.proofs.CountedPlaces.{counted-editing}
 use Rattle.cept_tool.proofs.EventsOfItems.{item_events-none, item_events-append, events_after, refused_count-more}
 
 -- ---- before the first item
 
 pub Stands-none : (action : Action) (easel : Easel) → easel ≡ easel_at (asked_of action) []
-    → Stands action (record { action = action; easel = easel; items = 0; refused = 0 }) []
+    → Stands action (record { action = action; easel = easel; items = 0; refused = 0; painted = 0 }) []
 Stands-none action easel is = record {
   action_is = refl;
   valid = subst AllValid (sym (history-none action)) tt;
   easel = is ∙ ap (easel_at (asked_of action)) (sym (history-none action));
   items = refl;
   refused = refl;
+  painted = sym (counted-none action);
 }
 
 pub HasReported-none : (action : Action) (reporter : ReporterState) (start : Output) → Stands action reporter []
@@ -129,6 +132,7 @@ idle_text actions.Cells i command xs p = refl
 idle_text actions.Write i command xs p = refl
 idle_text actions.Trace i command xs p = refl
 idle_text actions.Edit i command xs p = refl
+idle_text actions.Load i command xs p = refl
 
 -- without painting nothing is applied
 idle_easel : (action : Action) (h : List Command) → (asked_of action).painting ≡ false
@@ -140,6 +144,7 @@ idle_easel actions.Cells h p = cc
 idle_easel actions.Write h p = cc
 idle_easel actions.Trace h p = cc
 idle_easel actions.Edit h p = cc
+idle_easel actions.Load h p = cc
 
 -- ---- a command more
 
@@ -153,12 +158,13 @@ length-more xs x = length-append xs (x ∷ [])
 
 -- the reporter when the item was counted
 abbrev pub counted_one : ReporterState → ReporterState
-counted_one r = record { action = r.action; easel = r.easel; items = r.items + 1; refused = r.refused }
+counted_one r =
+    record { action = r.action; easel = r.easel; items = r.items + 1; refused = r.refused; painted = r.painted }
 
 refused_as : (items : List Item) (i : Item) (what : Said) → i.what ≡ what
-    → refused_count (items ++ i ∷ []) ≡ refused_count items + cond (is_refused what) 1 0
+    → refused_count (items ++ i ∷ []) ≡ refused_count items + cond (is_refusal what) 1 0
 refused_as items i what is =
-    refused_count-more items i ∙ ap (λ s. refused_count items + cond (is_refused s) 1 0) is
+    refused_count-more items i ∙ ap (λ s. refused_count items + cond (is_refusal s) 1 0) is
 
 module _ {X E : Type 0} (old new : ReporterState) (i : Item) (command : Command) (before after : Output)
     (result : Result X E) (is : i.what ≡ said.Command command) (valid : IsValidCommand command)
@@ -186,6 +192,12 @@ module _ {X E : Type 0} (old new : ReporterState) (i : Item) (command : Command)
         items = applies.items ∙ ap (λ n. n + 1) stands.items ∙ sym (length-more earlier i);
         refused = applies.refused ∙ stands.refused
             ∙ sym (refused_as earlier i (said.Command command) is ∙ add-zero (refused_count earlier));
+        painted = applies.painted h stands.valid (painting_as action p stands.action_is)
+            (easel_as action h stands.action_is stands.easel)
+            ∙ ap (λ n. n + counted_of old.action (length (changes h command))) stands.painted
+            ∙ ap (λ (a : Action). counted_of action (painted_at action earlier)
+            + counted_of a (length (changes h command))) stands.action_is
+            ∙ sym (counted-command action earlier i command p is);
       }
   command_stands action earlier false p stands =
       let none : old.easel ≡ easels.Nothing = stands.easel ∙ idle_easel action (history action earlier) p in
@@ -196,6 +208,7 @@ module _ {X E : Type 0} (old new : ReporterState) (i : Item) (command : Command)
         items = applies.items ∙ ap (λ n. n + 1) stands.items ∙ sym (length-more earlier i);
         refused = applies.refused ∙ stands.refused
             ∙ sym (refused_as earlier i (said.Command command) is ∙ add-zero (refused_count earlier));
+        painted = (applies.idle none).3 ∙ stands.painted ∙ sym (counted-idle action earlier i p);
       }
 
   command_made : (action : Action) (earlier : List Item) (painting : Bool) → (asked_of action).painting ≡ painting
@@ -231,7 +244,8 @@ module _ {X E : Type 0} (old new : ReporterState) (i : Item) (command : Command)
 
 -- the reporter when the item and its refusal were counted
 abbrev pub counted_refusal : ReporterState → ReporterState
-counted_refusal r = record { action = r.action; easel = r.easel; items = r.items + 1; refused = r.refused + 1 }
+counted_refusal r =
+    record { action = r.action; easel = r.easel; items = r.items + 1; refused = r.refused + 1; painted = r.painted }
 
 module _ {X E : Type 0} (old : ReporterState) (i : Item) (reason : Reason) (sink now : SinkState) (glass : GlassState)
     (result : Result X E) (is : i.what ≡ said.Refused reason)
@@ -246,6 +260,7 @@ module _ {X E : Type 0} (old : ReporterState) (i : Item) (reason : Reason) (sink
         easel = stands.easel ∙ ap (easel_at (asked_of action)) (sym same);
         items = ap (λ n. n + 1) stands.items ∙ sym (length-more earlier i);
         refused = ap (λ n. n + 1) stands.refused ∙ sym (refused_as earlier i (said.Refused reason) is);
+        painted = stands.painted ∙ sym (counted-refused action earlier i reason is);
       }
 
   refusal_made : (action : Action) (earlier : List Item) → Stands action old earlier
@@ -309,7 +324,15 @@ pub editor_with : (editor : EditorState) (screen : State) (past : List State) �
     → editor ≡ record { screen = screen; past = past }
 editor_with editor screen past s p = λ i. record { screen = s i; past = p i }
 
--- a command's event is made, where it leads a screen's state on
+-- what a command changes, where it leads a screen's state on
+changed_by : (screen new : State) (h : List Command) (command : Command) → screen ≡ state h
+    → new ≡ state (h ++ command ∷ [])
+    → changes_between (looks_of (core_of screen)) (looks_of (core_of new)) ≡ changes h command
+changed_by screen new h command before after =
+    ap (λ (s : State). changes_between (looks_of (core_of s)) (looks_of (core_of new))) before
+    ∙ ap (λ (s : State). changes_between (grid h) (looks_of (core_of s))) after
+
+-- a command's event is made then
 module _ {X E : Type 0} (old : ReporterState) (screen new : State) (place : ℕ) (command : Command)
     (text : List ℕ) (sink now : SinkState) (glass shown : GlassState) (result : Result X E)
     (here : (h : List Command) → old.easel ≡ easel_at (asked_of old.action) h → screen ≡ state h)
@@ -325,10 +348,7 @@ module _ {X E : Type 0} (old : ReporterState) (screen new : State) (place : ℕ)
       → IsMade (command_event old.action place h command) (output_of sink glass) result (output_of now shown)
   event_made h valid painting e =
       let before = here h e in
-      let after = goes_on h valid before in
-      let changed : changes_between (looks_of (core_of screen)) (looks_of (core_of new)) ≡ changes h command =
-      ap (λ (s : State). changes_between (looks_of (core_of s)) (looks_of (core_of new))) before
-      ∙ ap (λ (s : State). changes_between (grid h) (looks_of (core_of s))) after in
+      let changed = changed_by screen new h command before (goes_on h valid before) in
       let painted : changes_between (looks_of (core_of screen)) (looks_of (core_of new))
       ≡ paints (command_event old.action place h command ∷ []) =
       changed ∙ sym (paints-one (command_event old.action place h command)) in
@@ -352,15 +372,23 @@ module _ {X E : Type 0} (old : ReporterState) (screen new : State) (place : ℕ)
     (changes_between (looks_of (core_of screen)) (looks_of (core_of new))))
     (is : text ≡ cond (asked_of old.action).changes
     (change_lines place (changes_between (looks_of (core_of screen)) (looks_of (core_of new)))) [])
-    (puts : PutsText sink text result now) where
+    (puts : PutsText sink text result now) (count : ℕ)
+    (count_is : count ≡ counted_of old.action
+    (length (changes_between (looks_of (core_of screen)) (looks_of (core_of new)))))
+    (few : count ≤ 960) where
   screen_here : (h : List Command) → old.easel ≡ easel_at (asked_of old.action) h
       → ((asked_of old.action).editing ≡ false) × ((asked_of old.action).painting ≡ true) × (screen ≡ state h)
   screen_here h e = screen_at_start (asked_of old.action).editing (asked_of old.action).painting screen h (sym at ∙ e)
 
   -- on a screen
   pub applied_on_screen : Applies old place command (output_of sink glass) result
-      (record { action = old.action; easel = easels.Screen new; items = old.items; refused = old.refused })
-      (output_of now shown)
+      (record {
+        action = old.action;
+        easel = easels.Screen new;
+        items = old.items;
+        refused = old.refused;
+        painted = old.painted + count;
+      }) (output_of now shown)
   applied_on_screen = record {
     action = refl;
     items = refl;
@@ -371,6 +399,11 @@ module _ {X E : Type 0} (old : ReporterState) (screen new : State) (place : ℕ)
         ∙ sym (screen_there (asked_of old.action) (h ++ command ∷ []) start.0 painting);
     made = event_made old screen new place command text sink now glass shown result (λ h e. (screen_here h e).2) goes_on
         listed over is puts;
+    painted = λ h valid painting e.
+        let before = (screen_here h e).2 in
+        ap (λ n. old.painted + n) (count_is ∙ ap (λ (xs : List (Place × Look)). counted_of old.action (length xs))
+        (changed_by screen new h command before (goes_on h valid before)));
+    few = omega (arith, few);
     idle = λ none.
         let e : easels.Nothing ≡ easels.Screen screen = sym none ∙ at in
         cc;
@@ -386,6 +419,7 @@ untold_in_editor actions.Cells lines e = cc
 untold_in_editor actions.Write lines e = cc
 untold_in_editor actions.Trace lines e = refl
 untold_in_editor actions.Edit lines e = refl
+untold_in_editor actions.Load lines e = cc
 
 module _ {X E : Type 0} (old : ReporterState) (editor new : EditorState) (place : ℕ) (command : Command)
     (sink : SinkState) (glass shown : GlassState) (result : Result X E)
@@ -403,8 +437,13 @@ module _ {X E : Type 0} (old : ReporterState) (editor new : EditorState) (place 
 
   -- on a screen whose edits can be taken back
   pub applied_in_editor : Applies old place command (output_of sink glass) result
-      (record { action = old.action; easel = easels.Editor new; items = old.items; refused = old.refused })
-      (output_of sink shown)
+      (record {
+        action = old.action;
+        easel = easels.Editor new;
+        items = old.items;
+        refused = old.refused;
+        painted = old.painted;
+      }) (output_of sink shown)
   applied_in_editor = record {
     action = refl;
     items = refl;
@@ -419,6 +458,10 @@ module _ {X E : Type 0} (old : ReporterState) (editor new : EditorState) (place 
         event_made old editor.screen new.screen place command [] sink sink glass shown result
         (λ g f. ap (λ (s : EditorState). s.screen) (editor_here g f).1) goes_on listed over
         (untold_in_editor old.action _ (editor_here h e).0) puts h valid painting e;
+    painted = λ h valid painting e.
+        sym (ap (λ n. old.painted + n) (counted-editing old.action (length (changes h command)) (editor_here h e).0)
+        ∙ add-zero old.painted);
+    few = omega arith;
     idle = λ none.
         let e : easels.Nothing ≡ easels.Editor editor = sym none ∙ at in
         cc;
@@ -433,7 +476,9 @@ applied_nowhere old place command o x at = record {
   refused = refl;
   easel = λ h valid painting e. absurd (unpainted_at old.action h painting (sym at ∙ e));
   made = λ h valid painting e. absurd (unpainted_at old.action h painting (sym at ∙ e));
-  idle = λ none. (at, refl, refl);
+  painted = λ h valid painting e. absurd (unpainted_at old.action h painting (sym at ∙ e));
+  few = omega arith;
+  idle = λ none. (at, refl, refl, refl);
 }
   where
     unpainted_at : (action : Action) (h : List Command) → (asked_of action).painting ≡ true
@@ -445,6 +490,7 @@ applied_nowhere old place command o x at = record {
     unpainted_at actions.Write h p e = cc
     unpainted_at actions.Trace h p e = cc
     unpainted_at actions.Edit h p e = cc
+    unpainted_at actions.Load h p e = cc
 
 -- nothing was put
 pub PutsText-nothing : {X E : Type 0} {x : X} (s : SinkState) → PutsText {E = E} s [] (Ok x) s
@@ -502,12 +548,12 @@ has_reported_same action reporter xs ys start now e has =
 
 -- ---- the end
 
-pub puts_at_end : {X E : Type 0} (other action : Action) (shown : List (List Look)) (reported : List Item)
+pub puts_at_end : {X E : Type 0} (other action : Action) (shown : List (List Look)) (page : List ℕ)
     (commands : List Command) (s t : SinkState) (result : Result X E) → other ≡ action
-    → PutsText s (text_at_end other shown reported commands) result t
-    → PutsText s (text_at_end action shown reported commands) result t
-puts_at_end other action shown reported commands s t result is puts =
-    subst (λ (a : Action). PutsText s (text_at_end a shown reported commands) result t) is puts
+    → PutsText s (text_at_end other shown page commands) result t
+    → PutsText s (text_at_end action shown page commands) result t
+puts_at_end other action shown page commands s t result is puts =
+    subst (λ (a : Action). PutsText s (text_at_end a shown page commands) result t) is puts
 
 -- there is a screen where commands are painted
 pub screen_at : (other action : Action) (reporter : ReporterState) (reported : List Item) (commands : List Command)
@@ -532,6 +578,7 @@ stands_unedited action reporter reported stands = record {
       stands.easel;
   items = stands.items;
   refused = stands.refused;
+  painted = stands.painted;
 }
 
 -- ---- a decoder that reads on

@@ -97,3 +97,4 @@ silent_edits actions.Cells items lines w = elim w [ ]
 silent_edits actions.Write items lines w = silent_by actions.Write items lines refl refl refl
 silent_edits actions.Trace items lines w = elim w [ ]
 silent_edits actions.Edit items lines w = silent_by actions.Edit items lines refl refl refl
+silent_edits actions.Load items lines w = elim w [ ]

@@ -1,11 +1,11 @@
 -- How a run of a request ends by its script.
-use Rattle.std.proofs.Common.{◌≡◌, ◌≢◌, ◌⊎◌, inl, inr, ℕ, ◌≤◌, true, false, List}
+use Rattle.std.proofs.Common.{◌≡◌, ◌≢◌, ◌⊎◌, inl, inr, ℕ, ◌^◌, ◌<◌, ◌≤◌, true, false, List, []}
 use Rattle.std.proofs.Common.{Option, Some, None, is_some, IsSome, Ok, Err, refl, sym, ◌∙◌, ap, subst, arith}
 use Rattle.std.proofs.Common.{length}
 use Rattle.std.proofs.lemmas.Option.{none-some, same_Some}
 use Rattle.std.specs.Io.KnownBytes.{append_known}
 use Rattle.cept_editor.specs.Script.{EditLine, Fault, edits, first_fault}
-use Rattle.cept_outside.specs.ShelfState.{ShelfState, KeepsFiles}
+use Rattle.cept_outside.specs.ShelfState.{ShelfState, KeepsFiles, IsSound}
 use Rattle.cept_outside.specs.ShelfState.{bytes_under}
 use Rattle.cept_outside.specs.SinkState.{SinkState, HasPut, Gains, GainsPart}
 use Rattle.cept_outside.proofs.Laws.{HasPut-nothing, append_known-nil}
@@ -19,11 +19,16 @@ use Rattle.cept_tool.specs.Outside.{Outside, outside_of}
 use Rattle.cept_tool.specs.Run.{IsFlushed}
 use Rattle.cept_tool.specs.Run.{PutsAtMost, Ends, RunsRequest, status_of}
 use Rattle.cept_tool.specs.ScriptReading.{HasBadLine, ScriptEnds, ScriptEndsIfAny, SelectsScript, SelectsScriptIfAny}
-use Rattle.cept_tool.specs.ScriptReading.{lines_of, fault_text}
+use Rattle.cept_tool.specs.ScriptReading.{fault_text}
 use Rattle.cept_tool.specs.Words.{Request, Gives, HasScript, HasEdits, IsSoundRequest}
 use Rattle.cept_tool.specs.Words.{asked_of}
 use Rattle.std.proofs.lemmas.List.{take_all}
 use Rattle.cept_tool.proofs.Selections.{put_either}
+
+-- the lines of a script, if there is one
+abbrev pub lines_of : Option (List EditLine) → List EditLine
+lines_of None = []
+lines_of (Some lines) = lines
 
 -- ---- the script was read, or none was asked for
 
@@ -36,6 +41,7 @@ pub record ScriptKnown (request : Request) (before mid : ShelfState) (lines : Li
   pub known : (told : List EditLine) → HasEdits before request.script told → lines ≡ told
   pub good : (name script : List ℕ) → request.script ≡ Some name → Gives before name script
       → first_fault script ≡ None
+  pub few : (name script : List ℕ) → request.script ≡ Some name → Gives before name script → length script ≤ 2 ^ 20
 
 script_known_by : (request : Request) (script : Option (List ℕ)) (read : Option (List EditLine)) (before mid : ShelfState)
     (old new : SinkState) → request.script ≡ script → SelectsScriptIfAny script before mid
@@ -50,6 +56,7 @@ script_known_by request None None before mid old new is selects ends = record {
   stays = ap (λ (s : ShelfState). s.faults) selects;
   known = λ told has. sym (subst (λ (o : Option (List ℕ)). HasEdits before o told) is has);
   good = λ name script named given. absurd (none-some name (sym is ∙ named));
+  few = λ name script named given. absurd (none-some name (sym is ∙ named));
 }
 script_known_by request None (Some lines) before mid old new is selects ends = elim ends [ ]
 script_known_by request (Some name) None before mid old new is selects ends = elim ends [ ]
@@ -63,6 +70,13 @@ script_known_by request (Some name) (Some lines) before mid old new is selects e
   good = λ other script named given.
       let same : name ≡ other = same_Some name other (sym is ∙ named) in
       ap first_fault (sym (ends.0.known script (subst (λ n. Gives before n script) (sym same) given))) ∙ ends.0.good;
+  few = λ other script named given.
+      let same : name ≡ other = same_Some name other (sym is ∙ named) in
+      omega (
+        arith,
+        ends.0.few,
+        ap length (ends.0.known script (subst (λ n. Gives before n script) (sym same) given)),
+      );
 }
 
 pub script_known : (request : Request) (read : Option (List EditLine)) (before mid : ShelfState) (old new : SinkState)
@@ -84,6 +98,14 @@ pub script_unput : (request : Request) (read : Option (List EditLine)) (before m
 script_unput request read before mid old new ends = script_unput_by request.script read before mid old new ends
 
 -- ---- the reading of the script stopped
+
+-- a name is selected of which bytes were taken
+pub selected_so_long : (name : List ℕ) (shelf : ShelfState) → IsSound shelf → 2 ^ 20 < shelf.taken
+    → (chosen : Option (List ℕ)) → shelf.selected ≡ Some chosen → (chosen ≡ None) ⊎ (chosen ≡ Some name)
+    → chosen ≡ Some name
+selected_so_long name shelf sound long chosen is (inl none) =
+    absurd (omega (arith, long, (sound.nothing (is ∙ ap Some none)).1))
+selected_so_long name shelf sound long chosen is (inr some) = some
 
 -- where edits are made, not only a check is asked for
 not_checked : (action : Action) → (asked_of action).editing ≡ true → action ≢ actions.Check
@@ -138,6 +160,11 @@ module _ (request : Request) (name : List ℕ) (before : Outside) (shelf : Shelf
   runs_script status ends bad puts later = record {
     ends = ends;
     bad_script = bad;
+    script_first = λ other script fault is holds found. (
+      selects.missed (subst (λ n. IsSome (bytes_under before.shelf n)) (sym (same_name other is))
+          (ap is_some holds.under)),
+      λ touched. page_unselected,
+    );
     check = λ is. refl;
     missed = λ there scripts. selects.missed (scripts name named);
     selects = λ touched chosen is. among chosen (selects.selects chosen is);
@@ -201,26 +228,26 @@ module _ (request : Request) (name : List ℕ) (before : Outside) (shelf : Shelf
       subst (λ (o : Option (List ℕ)). HasEdits before.shelf o lines) named has in
       no_fault name name h.script before.shelf shelf bad refl h.given h.good
 
-  pub ends_at_script : (stop : Stop) → ScriptEnds name before.shelf before.sink (Err stop) shelf sink
+  pub ends_at_script : (stop : Stop) → IsSound shelf → ScriptEnds name before.shelf before.sink (Err stop) shelf sink
       → RunsRequest request before now (status_of stop)
-  ends_at_script stops.ReadFault ends = runs_unput statuses.ReadFault (record {
+  ends_at_script stops.ReadFault sound ends = runs_unput statuses.ReadFault (record {
     read_fault = ends.0.cause;
     read_fault_reported = λ page holds is. absurd (page_unselected is);
     read_fault_early = λ chosen is other. (ends.1, refl);
     not_too_long = omega (arith, ends.0.short);
     script_not_too_long = λ other is chosen. ends.0.short;
   }) ends.1
-  ends_at_script stops.WriteFault ends = runs_script statuses.WriteFault (record {
+  ends_at_script stops.WriteFault sound ends = runs_script statuses.WriteFault (record {
     write_fault = ends.put.cause;
     write_fault_reported = λ page lines holds has fit. absurd (no_edits ends.bad lines has);
   }) (at_most_as ends.bad (at_most_part ends.bad ends.put.put))
       (λ early. put_either (fault_text ends.bad.fault) before.sink sink ends.put.put) ends.put.later
-  ends_at_script stops.TooLong ends = runs_unput statuses.TooLong (record {
+  ends_at_script stops.TooLong sound ends = runs_unput statuses.TooLong (record {
     which = inr (record {
       name = name;
       named = named;
       too_long = ends.0.cause;
-      selected = selects.selects;
+      selected = λ chosen is. selected_so_long name shelf sound ends.0.cause chosen is (selects.selects chosen is);
       longer = ends.0.longer;
       unput = ends.1;
       unpainted = refl;
@@ -228,13 +255,14 @@ module _ (request : Request) (name : List ℕ) (before : Outside) (shelf : Shelf
     shelf_stays = ends.0.stays;
     sink_stays = ap (λ (s : SinkState). s.faults) ends.1;
   }) ends.1
-  ends_at_script stops.Script ends = runs_script statuses.Script (record {
+  ends_at_script stops.Script sound ends = runs_script statuses.Script (record {
     name = name;
     named = named;
     script = ends.bad.bytes;
     known = ends.bad.known;
     fault = ends.bad.fault;
     found = ends.bad.found;
+    not_too_long = ends.bad.short;
     put = ends.put.put;
     unpainted = refl;
     flushed = ends.put.flushed;
@@ -242,7 +270,7 @@ module _ (request : Request) (name : List ℕ) (before : Outside) (shelf : Shelf
     sink_stays = ends.put.stays;
   }) (at_most_as ends.bad (at_most_all ends.bad ends.put.put)) (λ early. absurd (early tt))
       (omega (arith, ends.put.stays))
-  ends_at_script stops.NoMemory ends = runs_unput statuses.NoMemory (record {
+  ends_at_script stops.NoMemory sound ends = runs_unput statuses.NoMemory (record {
     memory = not_checked request.action editing;
     unput = ends;
     unpainted = refl;
@@ -256,17 +284,17 @@ module _ (request : Request) (name : List ℕ) (before : Outside) (shelf : Shelf
       by_name chosen (inr is) = inr (is ∙ sym named)
 
 script_stopped_by : (request : Request) (script : Option (List ℕ)) (before : Outside) (shelf : ShelfState)
-    (sink : SinkState) (stop : Stop) → request.script ≡ script → IsSoundRequest request
+    (sink : SinkState) (stop : Stop) → request.script ≡ script → IsSoundRequest request → IsSound shelf
     → SelectsScriptIfAny script before.shelf shelf
     → ScriptEndsIfAny script before.shelf before.sink (Err stop) shelf sink
     → RunsRequest request before (outside_of shelf sink before.glass) (status_of stop)
-script_stopped_by request None before shelf sink stop is sound selects ends = elim ends [ ]
-script_stopped_by request (Some name) before shelf sink stop is sound selects ends =
-    ends_at_script request name before shelf sink is sound selects stop ends
+script_stopped_by request None before shelf sink stop is sound told selects ends = elim ends [ ]
+script_stopped_by request (Some name) before shelf sink stop is sound told selects ends =
+    ends_at_script request name before shelf sink is sound selects stop told ends
 
 pub script_stopped : (request : Request) (before : Outside) (shelf : ShelfState) (sink : SinkState) (stop : Stop)
-    → IsSoundRequest request → SelectsScriptIfAny request.script before.shelf shelf
+    → IsSoundRequest request → IsSound shelf → SelectsScriptIfAny request.script before.shelf shelf
     → ScriptEndsIfAny request.script before.shelf before.sink (Err stop) shelf sink
     → RunsRequest request before (outside_of shelf sink before.glass) (status_of stop)
-script_stopped request before shelf sink stop sound selects ends =
-    script_stopped_by request request.script before shelf sink stop refl sound selects ends
+script_stopped request before shelf sink stop sound told selects ends =
+    script_stopped_by request request.script before shelf sink stop refl sound told selects ends

@@ -1,6 +1,6 @@
 -- The events of a run: one for each item of the page, one for each command of each edit and for each undo, and one at the
 -- end. This project's own.
-use Rattle.std.specs.Prelude.{ℕ, Bool, true, false, List, [], ◌∷◌, ◌++◌, length, map, take, count_by, nat_lt}
+use Rattle.std.specs.Prelude.{ℕ, Bool, List, [], ◌∷◌, ◌++◌, length, map, take, count_by, nat_lt}
 use Rattle.std.specs.Prelude.{if◌then◌else◌}
 use Rattle.std.specs.List.{enumerate_from, flat_map}
 use Rattle.cept_codes.specs.declared.command.Command.{Command}
@@ -9,15 +9,15 @@ use Rattle.cept_codes.specs.declared.item.Said.{Said}
 use Rattle.cept_codes.specs.declared.item.Said.TheVariants as said
 use Rattle.cept_codes.specs.declared.look.Look.{Look}
 use Rattle.cept_codes.specs.Place.{Place}
-use Rattle.cept_parser.specs.Items.{closed_items, commands_of}
+use Rattle.cept_parser.specs.Items.{closed_items, commands_of, is_refusal}
 use Rattle.cept_profile.specs.Changes.{changes_between}
 use Rattle.cept_profile.specs.Control.{control}
 use Rattle.cept_profile.specs.Look.{grid}
 use Rattle.cept_report.specs.Screen.{screen_text, cells_text}
-use Rattle.cept_report.specs.Text.{change_lines, refusal_line, check_line}
+use Rattle.cept_report.specs.Text.{change_lines, refusal_line, check_line, load_line}
 use Rattle.cept_profile.specs.State.{core}
 use Rattle.cept_writer.specs.PageCommands.{page_text}
-use Rattle.cept_editor.specs.Events.{Event}
+use Rattle.cept_editor.specs.Events.{Event, paints}
 use Rattle.cept_editor.specs.Kept.{KeptEdits, kept, remaining}
 use Rattle.cept_editor.specs.Script.{EditLine}
 use Rattle.cept_editor.specs.Stepping.{line_events}
@@ -58,14 +58,9 @@ item_events action items =
 
 -- ---- refusals, and the end
 
--- it says that bytes are refused
-abbrev pub is_refused : Said → Bool
-is_refused (said.Command command) = false
-is_refused (said.Refused reason) = true
-
 -- how many items are refused
 abbrev pub refused_count : List Item → ℕ
-refused_count items = count_by (λ i. is_refused i.what) items
+refused_count items = count_by (λ i. is_refusal i.what) items
 
 -- an item is refused
 abbrev pub has_refusal : List Item → Bool
@@ -75,22 +70,28 @@ has_refusal items = nat_lt 0 (refused_count items)
 abbrev pub rows_after : List Command → ℕ
 rows_after commands = (control commands).rows
 
--- what is put at the end, where these commands remain and the glass shows this grid
-abbrev pub text_at_end : Action → List (List Look) → List Item → List Command → List ℕ
-text_at_end actions.Changes shown items commands = []
-text_at_end actions.Check shown items commands = check_line (length items) (refused_count items)
-text_at_end actions.Show shown items commands = screen_text shown (rows_after commands)
-text_at_end actions.Cells shown items commands = cells_text shown (rows_after commands)
-text_at_end actions.Write shown items commands = page_text (core commands)
-text_at_end actions.Trace shown items commands = []
-text_at_end actions.Edit shown items commands = page_text (core commands)
+-- how many places are painted at these items
+abbrev pub painted_at : Action → List Item → ℕ
+painted_at action items = length (paints (item_events action items))
 
--- the end, after these items, where these commands remain: it changes nothing
-abbrev pub end_event : Action → List Item → List Command → Event
-end_event action items commands = record {
+-- what is put at the end of a page, where these commands remain and the glass shows this grid
+abbrev pub text_at_end : Action → List (List Look) → List ℕ → List Command → List ℕ
+text_at_end actions.Changes shown page commands = []
+text_at_end actions.Check shown page commands = check_line (length (closed_items page)) (refused_count (closed_items page))
+text_at_end actions.Show shown page commands = screen_text shown (rows_after commands)
+text_at_end actions.Cells shown page commands = cells_text shown (rows_after commands)
+text_at_end actions.Write shown page commands = page_text (core commands)
+text_at_end actions.Trace shown page commands = []
+text_at_end actions.Edit shown page commands = page_text (core commands)
+text_at_end actions.Load shown page commands =
+    load_line (length page) (length (closed_items page)) (painted_at actions.Load (closed_items page))
+
+-- the end of a page, where these commands remain: it changes nothing
+abbrev pub end_event : Action → List ℕ → List Command → Event
+end_event action page commands = record {
   before = commands;
   after = commands;
-  text = text_at_end action (grid commands) items commands;
+  text = text_at_end action (grid commands) page commands;
 }
 
 -- ---- edit lines
@@ -123,4 +124,4 @@ edited_events action items lines = item_events action items ++ script_events act
 abbrev pub run_events : Action → List ℕ → List EditLine → List Event
 run_events action page lines =
     edited_events action (closed_items page) lines
-    ++ end_event action (closed_items page) (remaining_of action page lines) ∷ []
+    ++ end_event action page (remaining_of action page lines) ∷ []

@@ -1,24 +1,24 @@
--- How the reading of a selected page ends. The bytes that were read are those of the page, where the shelf tells it. This
--- project's own. Private clauses alone cite this file.
-use Rattle.std.specs.Prelude.{◌≡◌, ◌⊎◌, ℕ, ◌^◌, ◌<◌, ◌≤◌, Bool, false, List, [], ◌++◌, length, take, Some, Result, Ok}
-use Rattle.std.specs.Prelude.{Err}
-use Rattle.std.specs.Io.KnownBytes.{append_known}
+-- How the reading of a selected page ends, and that of a generated one. The bytes that were read are those of the page,
+-- where the shelf tells it. This project's own. Private clauses alone cite this file.
+use Rattle.std.specs.Prelude.{◌≡◌, ℕ, ◌^◌, ◌<◌, ◌≤◌, Bool, List, [], ◌++◌, length, take, Some, Result, Ok, Err}
 use Rattle.cept_codes.specs.declared.item.Item.{Item}
 use Rattle.cept_outside.specs.Causes.{Rose}
 use Rattle.cept_outside.specs.ShelfState.{ShelfState, KeepsFiles}
-use Rattle.cept_outside.specs.SinkState.{SinkState, Gains, GainsPart}
+use Rattle.cept_outside.specs.SinkState.{SinkState}
 use Rattle.cept_parser.specs.Items.{items, closed_items}
 use Rattle.cept_tool.specs.declared.page.Stop.{Stop}
 use Rattle.cept_tool.specs.declared.page.Stop.TheVariants as stops
 use Rattle.cept_tool.specs.declared.words.Action.{Action}
 use Rattle.cept_tool.specs.Events.{item_events}
-use Rattle.cept_editor.specs.Made.{AreMade, AreCutOff}
-use Rattle.cept_tool.specs.Outside.{Outside, output}
+use Rattle.cept_editor.specs.Made.{Output, AreMade, AreCutOff}
+use Rattle.cept_generator.specs.Generated.{generated}
+use Rattle.cept_tool.specs.Outside.{Outside, output, PutsWhole, PutsUnflushed}
 use Rattle.cept_tool.specs.Reporting.{ReporterState, HasReported}
 
--- it was read to its end
-pub record PageWhole (action : Action) (reporter : ReporterState) (before after : Outside) : Type 0 where
+-- it was read to its end, and has so many bytes
+pub record PageWhole (action : Action) (count : ℕ) (reporter : ReporterState) (before after : Outside) : Type 0 where
   pub bytes : List ℕ
+  pub count_is : count ≡ length bytes
   pub known : (page : List ℕ) → before.shelf.left ≡ Some page → bytes ≡ page
   pub reported : HasReported action reporter (closed_items bytes) (output before) (output after)
   -- at most 2^24 bytes were taken, and no fault was counted
@@ -62,9 +62,16 @@ PageStops action before stops.Script after = ⊥
 PageStops action before stops.NoMemory after = ⊥
 
 -- how its reading ends
-abbrev pub PageEnds : {X : Type 0} → Action → Outside → Result X Stop → ReporterState → Outside → Type 0
-PageEnds action before (Ok _) reporter after = PageWhole action reporter before after
+abbrev pub PageEnds : Action → Outside → Result ℕ Stop → ReporterState → Outside → Type 0
+PageEnds action before (Ok count) reporter after = PageWhole action count reporter before after
 PageEnds action before (Err stop) reporter after = PageStops action before stop after
+
+-- a generated page was read to its end, and has so many bytes; or the sink failed at an item
+abbrev pub ReadsGenerated : {E : Type 0} → Action → ℕ → Output → Result ℕ E → ReporterState → Output → Type 0
+ReadsGenerated action number before (Ok count) reporter after =
+    (count ≡ length (generated number)) × HasReported action reporter (closed_items (generated number)) before after
+ReadsGenerated action number before (Err _) reporter after =
+    AreCutOff (item_events action (closed_items (generated number))) before after
 
 -- however it ends, the files and the selection stay, and no count of faults falls
 pub record KeepsShelf (before after : ShelfState) : Type 0 where
@@ -72,18 +79,6 @@ pub record KeepsShelf (before after : ShelfState) : Type 0 where
   pub selected : after.selected ≡ before.selected
   pub missed : after.missed ≡ before.missed
   pub faults : before.faults ≤ after.faults
-
--- a text was put whole and flushed
-pub record PutsWhole (text : List ℕ) (before after : SinkState) : Type 0 where
-  pub put : after.bytes ≡ append_known before.bytes text
-  pub flushed : after.unflushed ≡ false
-  pub stays : after.faults ≡ before.faults
-
--- a text was put, whole or a part of it, and the sink failed
-pub record PutsUnflushed (text : List ℕ) (before after : SinkState) : Type 0 where
-  pub cause : Rose before.faults after.faults
-  pub later : before.faults ≤ after.faults
-  pub put : GainsPart before text after ⊎ Gains before text after
 
 -- the text at the end was put whole and flushed, and this says whether an item was refused; or the sink failed
 abbrev pub PutsEnd : List ℕ → Bool → SinkState → Result Bool Stop → SinkState → Type 0

@@ -22,17 +22,19 @@ use Rattle.cept_tool.specs.declared.easel.Easel.TheVariants as easels
 use Rattle.cept_tool.specs.declared.page.Stop.{Stop}
 use Rattle.cept_tool.specs.declared.page.Stop.TheVariants as stops
 use Rattle.cept_tool.specs.declared.words.Asked.{Asked}
-use Rattle.cept_tool.specs.Events.{history, item_events, refused_count, kept_of, edited_events}
+use Rattle.cept_tool.specs.Events.{history, item_events, refused_count, painted_at, kept_of, edited_events}
 use Rattle.cept_tool.specs.Words.{asked_of}
 
 -- ---- the reporter of items
 
--- what is asked for, what commands are applied to, and how many items there were and were refused
+-- what is asked for, what commands are applied to, how many items there were and were refused, and how many places were
+-- painted, where these are counted
 pub record ReporterState : Type 0 where
   pub action : Action
   pub easel : Easel
   pub items : ℕ
   pub refused : ℕ
+  pub painted : ℕ
 
 -- what commands are applied to, after these
 abbrev pub easel_at : Asked → List Command → Easel
@@ -46,6 +48,10 @@ screen_of easels.Nothing = None
 screen_of (easels.Screen screen) = Some screen
 screen_of (easels.Editor editor) = Some editor.screen
 
+-- what is counted of so many painted places
+abbrev pub counted_of : Action → ℕ → ℕ
+counted_of action places = if (asked_of action).counting then places else 0
+
 -- it stands after these items, of which this is asked
 pub record Stands (action : Action) (reporter : ReporterState) (reported : List Item) : Type 0 where
   pub action_is : reporter.action ≡ action
@@ -53,6 +59,7 @@ pub record Stands (action : Action) (reporter : ReporterState) (reported : List 
   pub easel : reporter.easel ≡ easel_at (asked_of action) (history action reported)
   pub items : reporter.items ≡ length reported
   pub refused : reporter.refused ≡ refused_count reported
+  pub painted : reporter.painted ≡ counted_of action (painted_at action reported)
 
 -- from a start to now it has reported these items, and no fault was counted
 pub record HasReported (action : Action) (reporter : ReporterState) (reported : List Item) (start now : Output) : Type
@@ -86,7 +93,12 @@ pub record Applies {X E : Type 0} (old : ReporterState) (place : ℕ) (command :
   pub made : (earlier : List Command) → AllValid earlier → (asked_of old.action).painting ≡ true
       → old.easel ≡ easel_at (asked_of old.action) earlier
       → IsMade (command_event old.action place earlier command) before result after
-  pub idle : old.easel ≡ easels.Nothing → (new.easel ≡ easels.Nothing) × IsOk result × (after ≡ before)
+  pub painted : (earlier : List Command) → AllValid earlier → (asked_of old.action).painting ≡ true
+      → old.easel ≡ easel_at (asked_of old.action) earlier
+      → new.painted ≡ old.painted + counted_of old.action (length (changes earlier command))
+  pub few : new.painted ≤ old.painted + 960
+  pub idle : old.easel ≡ easels.Nothing
+      → (new.easel ≡ easels.Nothing) × IsOk result × (after ≡ before) × (new.painted ≡ old.painted)
 
 -- it goes on by these items: all are reported, or the sink failed at one
 pub record ReportsOn {X E : Type 0} (old : ReporterState) (more : List Item) (before : Output) (result : Result X E)
@@ -105,6 +117,7 @@ pub record HasEdited (action : Action) (reporter : ReporterState) (reported : Li
   pub action_is : reporter.action ≡ action
   pub items : reporter.items ≡ length reported
   pub refused : reporter.refused ≡ refused_count reported
+  pub painted : reporter.painted ≡ counted_of action (painted_at action reported)
   pub editor : EditorState
   pub easel : reporter.easel ≡ easels.Editor editor
   pub stands : StandsAfter editor (history action reported) (kept_of lines)
@@ -147,6 +160,7 @@ pub record StandsAtEnd (action : Action) (reporter : ReporterState) (reported : 
   pub screen : (asked_of action).painting ≡ true → screen_of reporter.easel ≡ Some (state commands)
   pub items : reporter.items ≡ length reported
   pub refused : reporter.refused ≡ refused_count reported
+  pub painted : reporter.painted ≡ counted_of action (painted_at action reported)
 
 -- ---- the decoder of bytes
 

@@ -10,6 +10,7 @@ use Rattle.cept_outside.specs.Causes.{Rose}
 use Rattle.cept_outside.specs.ShelfState.{ShelfState, Holds, KeepsFiles, bytes_under}
 use Rattle.cept_outside.specs.SinkState.{HasPut}
 use Rattle.cept_codes.specs.declared.command.Command.{Command}
+use Rattle.cept_generator.specs.Generated.{generated}
 use Rattle.cept_parser.specs.Items.{items, closed_items, commands, is_refusal}
 use Rattle.cept_profile.specs.Changes.{grid_with_paints}
 use Rattle.cept_profile.specs.Look.{grid}
@@ -23,8 +24,11 @@ use Rattle.cept_tool.specs.declared.run.Status.TheVariants as statuses
 use Rattle.cept_tool.specs.declared.words.Action.{Action}
 use Rattle.cept_tool.specs.declared.words.Action.TheVariants as actions
 use Rattle.cept_tool.specs.Events.{run_events, remaining_of, has_refusal}
-use Rattle.cept_tool.specs.Outside.{Outside, output, ReportsItems}
-use Rattle.cept_tool.specs.Words.{Request, Asks, Gives, HasEdits, ReadsGlass, WritesPage, request_of}
+use Rattle.cept_tool.specs.declared.words.NumberRequest.{NumberRequest}
+use Rattle.cept_tool.specs.declared.words.Task.{Task}
+use Rattle.cept_tool.specs.declared.words.Task.TheVariants as tasks
+use Rattle.cept_tool.specs.Outside.{Outside, output, PutsWhole, PutsUnflushed, ReportsItems}
+use Rattle.cept_tool.specs.Words.{Request, Asks, Gives, HasEdits, ReadsGlass, WritesPage, request_of, number_request_of}
 
 -- the page was read to its end
 abbrev pub IsWhole : Status → Type 0
@@ -97,7 +101,12 @@ pub record EndsWhole (request : Request) (before after : Outside) (refused : Boo
   pub good : (name script : List ℕ) → request.script ≡ Some name → Gives before.shelf name script
       → first_fault script ≡ None
   pub flushed : after.sink.unflushed ≡ false
+  -- at most 2^24 bytes were taken, of the page, which alone is selected at the end; and the script has at most 2^20
   pub not_too_long : after.shelf.taken ≤ 2 ^ 24
+  pub selected : (chosen : Option (List ℕ)) → after.shelf.selected ≡ Some chosen
+      → (chosen ≡ None) ⊎ (chosen ≡ Some request.page)
+  pub script_not_too_long : (name script : List ℕ) → request.script ≡ Some name → Gives before.shelf name script
+      → length script ≤ 2 ^ 20
   -- no fault was counted on the way
   pub shelf_stays : after.shelf.faults ≡ before.shelf.faults
   pub sink_stays : after.sink.faults ≡ before.sink.faults
@@ -111,6 +120,7 @@ pub record EndsAtBadLine (request : Request) (before after : Outside) : Type 0 w
   pub known : (told : List ℕ) → Gives before.shelf name told → script ≡ told
   pub fault : Fault
   pub found : first_fault script ≡ Some fault
+  pub not_too_long : after.shelf.taken ≤ 2 ^ 20
   -- the line that says so was put, and nothing else
   pub put : after.sink.bytes ≡ append_known before.sink.bytes (script_fault_line fault.line fault.reason)
   pub unpainted : after.glass ≡ before.glass
@@ -139,7 +149,7 @@ pub record EndsAtWriteFault (request : Request) (before after : Outside) : Type 
   -- the sink counted a fault
   pub write_fault : Rose before.sink.faults after.sink.faults
   -- at one event, which was painted and no later one; or the report was put, and not flushed
-  pub write_fault_reported : (page : List ℕ) (lines : List EditLine) → Holds before.shelf request.page page
+  pub write_fault_reported : (page : List ℕ) (lines : List EditLine) → Gives before.shelf request.page page
       → HasEdits before.shelf request.script lines → StartsFit request.action before.glass
       → AreCutOff (run_events request.action page lines) (output before) (output after)
       ⊎ AreMade (run_events request.action page lines) (output before) (output after)
@@ -160,8 +170,10 @@ pub record EndsWithoutMemory (request : Request) (before after : Outside) : Type
 pub record IsPageTooLong (request : Request) (before after : Outside) : Type 0 where
   -- more were taken
   pub too_long : 2 ^ 24 < after.shelf.taken
+  -- of the page
+  pub selected : (chosen : Option (List ℕ)) → after.shelf.selected ≡ Some chosen → chosen ≡ Some request.page
   -- so a page within the limit, that is told, never ends so
-  pub longer : (page : List ℕ) → Holds before.shelf request.page page → 2 ^ 24 < length page
+  pub longer : (page : List ℕ) → Gives before.shelf request.page page → 2 ^ 24 < length page
   -- exactly the first 2^24 bytes of the selected page are reported
   pub too_long_reported : (page : List ℕ) → Holds before.shelf request.page page
       → after.shelf.selected ≡ Some (Some request.page)
@@ -173,7 +185,7 @@ pub record IsScriptTooLong (request : Request) (before after : Outside) : Type 0
   pub named : request.script ≡ Some name
   -- more were taken, of the script
   pub too_long : 2 ^ 20 < after.shelf.taken
-  pub selected : (chosen : Option (List ℕ)) → after.shelf.selected ≡ Some chosen → (chosen ≡ None) ⊎ (chosen ≡ Some name)
+  pub selected : (chosen : Option (List ℕ)) → after.shelf.selected ≡ Some chosen → chosen ≡ Some name
   pub longer : (script : List ℕ) → Gives before.shelf name script → 2 ^ 20 < length script
   -- nothing was put and nothing painted
   pub unput : after.sink ≡ before.sink
@@ -210,13 +222,19 @@ pub record RunsRequest (request : Request) (before after : Outside) (status : St
   -- where a line of the script is outside the grammar, nothing is painted, and only the line that says so is put
   pub bad_script : (name script : List ℕ) (fault : Fault) → request.script ≡ Some name → Gives before.shelf name script
       → first_fault script ≡ Some fault → PutsAtMost (script_fault_line fault.line fault.reason) before after
+  -- the script comes first: where a line of a known one is outside the grammar, no file is missed, and the page isn't
+  -- selected
+  pub script_first : (name script : List ℕ) (fault : Fault) → request.script ≡ Some name
+      → Holds before.shelf name script → first_fault script ≡ Some fault
+      → (after.shelf.missed ≡ before.shelf.missed)
+      × ((IsEarly status → ⊥) → after.shelf.selected ≡ Some (Some request.page) → ⊥)
   -- to check a page the glass isn't touched
   pub check : request.action ≡ actions.Check → after.glass ≡ before.glass
   -- where the shelf has the page and the script no file is missed
   pub missed : IsSome (bytes_under before.shelf request.page)
       → ((name : List ℕ) → request.script ≡ Some name → IsSome (bytes_under before.shelf name))
       → after.shelf.missed ≡ before.shelf.missed
-  -- no other name than the page's and the script's is selected
+  -- at the end no other name than the page's and the script's is selected
   pub selects : (IsEarly status → ⊥) → (chosen : Option (List ℕ)) → after.shelf.selected ≡ Some chosen
       → (chosen ≡ None) ⊎ (chosen ≡ Some request.page) ⊎ (chosen ≡ request.script)
   -- no early end flushes, but that at a script's bad line
@@ -226,6 +244,69 @@ pub record RunsRequest (request : Request) (before after : Outside) (status : St
   pub shelf_faults : before.shelf.faults ≤ after.shelf.faults
   pub sink_faults : before.sink.faults ≤ after.sink.faults
 
+-- ---- generated pages
+
+-- `gen`, by its status: the page was put whole and flushed; or the sink failed, and it was put whole or in part, from its
+-- front on
+abbrev pub GenerateEnds : ℕ → Outside → Outside → Status → Type 0
+GenerateEnds number before after statuses.Done = PutsWhole (generated number) before.sink after.sink
+GenerateEnds number before after statuses.Refusals = ⊥
+GenerateEnds number before after statuses.Usage = ⊥
+GenerateEnds number before after statuses.Script = ⊥
+GenerateEnds number before after statuses.ReadFault = ⊥
+GenerateEnds number before after statuses.WriteFault = PutsUnflushed (generated number) before.sink after.sink
+GenerateEnds number before after statuses.NoMemory = ⊥
+GenerateEnds number before after statuses.TooLong = ⊥
+
+-- `gen`: nothing is painted; it never answers that there is no memory
+pub record Generates (number : ℕ) (before after : Outside) (status : Status) : Type 0 where
+  pub ends : GenerateEnds number before after status
+  pub unpainted : after.glass ≡ before.glass
+
+-- `load`, status 0: the page was read, painted and reported to its end, and no item of it is refused
+pub record EndsLoaded (number : ℕ) (before after : Outside) : Type 0 where
+  pub reports : ReportsPage actions.Load (generated number) [] before after
+  pub unrefused : has_refusal (closed_items (generated number)) ≡ false
+  pub flushed : after.sink.unflushed ≡ false
+  pub sink_stays : after.sink.faults ≡ before.sink.faults
+
+-- `load`, status 5: the sink failed
+pub record EndsLoadCutOff (number : ℕ) (before after : Outside) : Type 0 where
+  -- the sink counted a fault
+  pub write_fault : Rose before.sink.faults after.sink.faults
+  -- at one event, which was painted and no later one; or the report was put, and not flushed
+  pub reported : AreCutOff (run_events actions.Load (generated number) []) (output before) (output after)
+      ⊎ AreMade (run_events actions.Load (generated number) []) (output before) (output after)
+
+-- `load`, by its status; status 6: there is no memory, and nothing was touched
+abbrev pub LoadEnds : ℕ → Outside → Outside → Status → Type 0
+LoadEnds number before after statuses.Done = EndsLoaded number before after
+LoadEnds number before after statuses.Refusals = ⊥
+LoadEnds number before after statuses.Usage = ⊥
+LoadEnds number before after statuses.Script = ⊥
+LoadEnds number before after statuses.ReadFault = ⊥
+LoadEnds number before after statuses.WriteFault = EndsLoadCutOff number before after
+LoadEnds number before after statuses.NoMemory = after ≡ before
+LoadEnds number before after statuses.TooLong = ⊥
+
+-- `load`
+pub record Loads (number : ℕ) (before after : Outside) (status : Status) : Type 0 where
+  pub ends : LoadEnds number before after status
+  -- no early end flushes
+  pub unflushed : (IsFlushed status → ⊥) → HasPut before.sink after.sink
+  pub sink_faults : before.sink.faults ≤ after.sink.faults
+
+-- what is done with a generated page
+abbrev pub DoesTask : Task → ℕ → Outside → Outside → Status → Type 0
+DoesTask tasks.Generate number before after status = Generates number before after status
+DoesTask tasks.Load number before after status = Loads number before after status
+
+-- a run of a request for a generated page
+pub record RunsNumber (request : NumberRequest) (before after : Outside) (status : Status) : Type 0 where
+  pub does : DoesTask request.task request.number before after status
+  -- the shelf isn't touched
+  pub shelf : after.shelf ≡ before.shelf
+
 -- the shelf gives at most 2^20 bytes under the script's name, if a script is asked for
 abbrev pub IsShortScript : ShelfState → Option (List ℕ) → Type 0
 IsShortScript shelf None = Unit {0}
@@ -234,10 +315,13 @@ IsShortScript shelf (Some name) = (script : List ℕ) × Gives shelf name script
 -- a run over these words
 pub record Runs (words : List (List ℕ)) (before after : Outside) (status : Status) : Type 0 where
   -- status 2 comes exactly where the words are no request; then nothing was touched
-  pub usage : (status ≡ statuses.Usage) ↔ (request_of words ≡ None)
+  pub usage : (status ≡ statuses.Usage) ↔ ((request_of words ≡ None) × (number_request_of words ≡ None))
   pub untouched : status ≡ statuses.Usage → after ≡ before
   -- what a request asks for is done, or the status says why not
   pub request : (request : Request) → request_of words ≡ Some request → RunsRequest request before after status
+  -- so is what is asked for of a generated page
+  pub number : (request : NumberRequest) → number_request_of words ≡ Some request
+      → RunsNumber request before after status
   -- a known page of at most 2^24 bytes is read to its end, after a known script of at most 2^20 bytes, unless a line of
   -- that is outside the grammar, a fault is counted or there is no memory
   pub completes : (request : Request) (page : List ℕ) → Asks words before.shelf request page → length page ≤ 2 ^ 24

@@ -1,6 +1,6 @@
 -- How the reading of a script ends, before the page is selected. The bytes that were read are those of the script, where
 -- the shelf tells it. This project's own. Private clauses alone cite this file.
-use Rattle.std.specs.Prelude.{◌≡◌, ◌⊎◌, ℕ, ◌^◌, ◌<◌, ◌≤◌, List, [], length, Option, Some, None, IsSome}
+use Rattle.std.specs.Prelude.{◌≡◌, ◌⊎◌, ℕ, ◌^◌, ◌<◌, ◌≤◌, List, length, Option, Some, None, IsSome}
 use Rattle.std.specs.Prelude.{Result, Ok, Err}
 use Rattle.cept_editor.specs.declared.script.ScriptFault.{ScriptFault}
 use Rattle.cept_editor.specs.declared.script.ScriptFault.TheVariants as faults
@@ -11,7 +11,7 @@ use Rattle.cept_outside.specs.SinkState.{SinkState}
 use Rattle.cept_report.specs.Text.{script_fault_line}
 use Rattle.cept_tool.specs.declared.page.Stop.{Stop}
 use Rattle.cept_tool.specs.declared.page.Stop.TheVariants as stops
-use Rattle.cept_tool.specs.Page.{PutsWhole, PutsUnflushed}
+use Rattle.cept_tool.specs.Outside.{PutsWhole, PutsUnflushed}
 use Rattle.cept_tool.specs.Words.{Gives}
 
 -- ---- the bytes that are selected are taken
@@ -48,6 +48,7 @@ TakingStops before stops.NoMemory after = Unit {0}
 pub record ScriptWhole (name : List ℕ) (lines : List EditLine) (before after : ShelfState) : Type 0 where
   pub bytes : List ℕ
   pub known : (script : List ℕ) → Gives before name script → bytes ≡ script
+  pub few : length bytes ≤ 2 ^ 20
   pub good : first_fault bytes ≡ None
   pub are : lines ≡ edits bytes
   pub stays : after.faults ≡ before.faults
@@ -69,6 +70,8 @@ pub record HasBadLine (name : List ℕ) (before after : ShelfState) : Type 0 whe
   pub known : (script : List ℕ) → Gives before name script → bytes ≡ script
   pub fault : Fault
   pub found : first_fault bytes ≡ Some fault
+  -- at most 2^20 bytes were taken
+  pub short : after.taken ≤ 2 ^ 20
   pub stays : after.faults ≡ before.faults
 
 -- the line of a fault
@@ -121,11 +124,6 @@ pub record SelectsScript (name : List ℕ) (before after : ShelfState) : Type 0 
 abbrev pub SelectsScriptIfAny : Option (List ℕ) → ShelfState → ShelfState → Type 0
 SelectsScriptIfAny None before after = after ≡ before
 SelectsScriptIfAny (Some name) before after = SelectsScript name before after
-
--- the lines of a script, if there is one
-abbrev pub lines_of : Option (List EditLine) → List EditLine
-lines_of None = []
-lines_of (Some lines) = lines
 
 -- how it ends: it answers as many scripts as are asked for
 abbrev pub ScriptEndsIfAny : Option (List ℕ) → ShelfState → SinkState → Result (Option (List EditLine)) Stop

@@ -1,14 +1,20 @@
 -- The words of the program: which of them are a request, and what a request asks for. This project's own.
-use Rattle.std.specs.Prelude.{◌≡◌, ◌≢◌, ◌⊎◌, ℕ, Bool, true, false, List, [], ◌∷◌, Option, Some, None, codes, is_some}
-use Rattle.std.specs.Prelude.{if◌then◌else◌, string_bytes}
-use Rattle.std.specs.Option.{option_map}
+use Rattle.std.specs.Prelude.{◌≡◌, ◌≢◌, ◌⊎◌, ℕ, ◌^◌, Bool, true, false, ◌&&◌, List, [], ◌∷◌, Option, Some, None, codes, is_some}
+use Rattle.std.specs.Prelude.{if◌then◌else◌, string_bytes, length, nat_lt, nat_le}
+use Rattle.std.specs.Char.{is_ascii_digit}
+use Rattle.std.specs.List.{list_all}
+use Rattle.std.specs.Option.{option_map, option_and_then}
 use Rattle.std.specs.Str.{bytes_eq}
+use Rattle.std.specs.Str.Parse.{digits_value}
 use Rattle.cept_outside.specs.ShelfState.{ShelfState, Holds, Lacks}
 use Rattle.cept_editor.specs.Script.{EditLine, edits, first_fault}
 use Rattle.cept_tool.specs.declared.words.Action.{Action}
 use Rattle.cept_tool.specs.declared.words.Action.TheVariants as actions
 use Rattle.cept_tool.specs.declared.words.Asked.{Asked}
 use Rattle.cept_tool.specs.declared.words.Request.{Request as NamedRequest}
+use Rattle.cept_tool.specs.declared.words.NumberRequest.{NumberRequest}
+use Rattle.cept_tool.specs.declared.words.Task.{Task}
+use Rattle.cept_tool.specs.declared.words.Task.TheVariants as tasks
 
 -- what the program is asked for, the name of the page, and that of the script, if there is one
 pub record Request : Type 0 where
@@ -50,6 +56,30 @@ request_of (word ∷ (a ∷ name) ∷ (b ∷ script) ∷ []) =
     else option_map (λ action. request_with action (a ∷ name) (Some (b ∷ script))) (editing_action_of word)
 request_of _ = None
 
+-- the value in decimal of a word of one to ten digits, where it is at most 2^32 - 1
+abbrev pub number_of : List ℕ → Option ℕ
+number_of word =
+    if nat_lt 0 (length word) && nat_le (length word) 10 && list_all is_ascii_digit word
+    && nat_lt (digits_value 10 word) (2 ^ 32)
+    then Some (digits_value 10 word) else None
+
+-- what is done with a generated page, by the word that has its number after it
+abbrev pub task_of : List ℕ → Option Task
+task_of word =
+    if bytes_eq word (codes "gen") then Some tasks.Generate else
+    if bytes_eq word (codes "load") then Some tasks.Load else
+    None
+
+-- this task for the page of this number
+abbrev pub number_request : Task → ℕ → NumberRequest
+number_request task number = record { task = task; number = number }
+
+-- a word, and a number
+unfoldable pub number_request_of : List (List ℕ) → Option NumberRequest
+number_request_of (word ∷ number ∷ []) =
+    option_and_then (λ task. option_map (number_request task) (number_of number)) (task_of word)
+number_request_of _ = None
+
 -- ---- what each action asks for
 
 -- of a page: whether its commands are painted, their changes listed, and its refusals named
@@ -60,6 +90,7 @@ of_page painting changes refusals = record {
   refusals = refusals;
   editing = false;
   tracing = false;
+  counting = false;
 }
 
 -- of a page and a script: whether the changes of the edits are listed, and the page's refusals named
@@ -70,6 +101,18 @@ of_script tracing = record {
   refusals = tracing;
   editing = true;
   tracing = tracing;
+  counting = false;
+}
+
+-- of a generated page: its commands are painted, and the painted places counted
+abbrev pub of_load : Asked
+of_load = record {
+  painting = true;
+  changes = false;
+  refusals = false;
+  editing = false;
+  tracing = false;
+  counting = true;
 }
 
 -- what each action asks for
@@ -81,6 +124,7 @@ asked_of actions.Cells = of_page true false false
 asked_of actions.Write = of_page true false false
 asked_of actions.Trace = of_script true
 asked_of actions.Edit = of_script false
+asked_of actions.Load = of_load
 
 -- a script is asked for exactly where edits are made, and its name isn't the page's
 pub record IsSoundRequest (request : Request) : Type 0 where
@@ -96,6 +140,7 @@ ReadsGlass actions.Cells = Unit {0}
 ReadsGlass actions.Write = ⊥
 ReadsGlass actions.Trace = ⊥
 ReadsGlass actions.Edit = ⊥
+ReadsGlass actions.Load = ⊥
 
 -- the text at the end is the page
 abbrev pub WritesPage : Action → Type 0
@@ -106,6 +151,7 @@ WritesPage actions.Cells = ⊥
 WritesPage actions.Write = Unit {0}
 WritesPage actions.Trace = ⊥
 WritesPage actions.Edit = Unit {0}
+WritesPage actions.Load = ⊥
 
 -- ---- what is known of the page and the script
 
@@ -126,7 +172,7 @@ abbrev pub HasEdits : ShelfState → Option (List ℕ) → List EditLine → Typ
 HasEdits shelf None lines = lines ≡ []
 HasEdits shelf (Some name) lines = HasScript shelf name lines
 
--- the words are this request, and the shelf has this page under its name
+-- the words are this request, and the shelf gives this page under its name
 pub record Asks (words : List (List ℕ)) (shelf : ShelfState) (request : Request) (page : List ℕ) : Type 0 where
   pub asked : request_of words ≡ Some request
-  pub held : Holds shelf request.page page
+  pub given : Gives shelf request.page page

@@ -1,8 +1,8 @@
 //! Reads a page of bytes, and has its items reported. It knows no words and no files.
 
-ghost use Rattle.std.specs.Prelude.{◌≡◌, ◌+◌, ◌*◌, ◌^◌, ◌<◌, ◌≤◌, ◌∷◌, [], List};
+ghost use Rattle.std.specs.Prelude.{◌≡◌, ℕ, ◌+◌, ◌*◌, ◌^◌, ◌<◌, ◌≤◌, ◌∷◌, [], List};
 ghost use Rattle.std.specs.Prelude.{IfOk, IsOk, false, length, if◌then◌else◌, nat_lt};
-ghost use Rattle.cept_codes.specs.declared.item.Item.{Item};
+ghost use Rattle.cept_parser.specs.Items.{closed_items};
 ghost use Rattle.cept_outside.specs.SinkState.{PutsText};
 ghost use Rattle.cept_tool.specs.Events.{text_at_end};
 ghost use Rattle.cept_editor.specs.Made.{Output, output_of};
@@ -132,14 +132,20 @@ impl Decoder {
         self.reporter.make_edits(script, sink, glass, steps)
     }
 
-    /// Puts the text at the end, after these items, where these commands remain.
-    pub fn put_end<T: Sink, G: Glass>(&self, sink: &mut T, glass: &G) -> Result<(), WriteFault>
-        ensures { (action : Action) (items : List Item) (commands : List Command)
-            → StandsAtEnd action self.now.reporter items commands
-            → PutsText (T.state sink.old) (text_at_end action (G.state glass.now).grid items commands)
+    /// Puts the text at the end of a page of so many bytes, where these commands remain.
+    pub fn put_end<T: Sink, G: Glass>(
+        &self,
+        bytes: u64,
+        sink: &mut T,
+        glass: &G,
+    ) -> Result<(), WriteFault>
+        ensures { (action : Action) (page : List ℕ) (commands : List Command)
+            → StandsAtEnd action self.now.reporter (closed_items page) commands
+            → bytes ≡ length page
+            → PutsText (T.state sink.old) (text_at_end action (G.state glass.now).grid page commands)
             result (T.state sink.new) }
     {
-        self.reporter.put_end(sink, glass)
+        self.reporter.put_end(bytes, sink, glass)
     }
 
     /// Whether an item was refused.

@@ -5,7 +5,7 @@ ghost use Rattle.cept_codes.specs.declared.command.Command.{Command};
 ghost use Rattle.cept_codes.specs.declared.item.Item.{Item};
 ghost use Rattle.cept_codes.specs.declared.item.Reason.{Reason};
 ghost use Rattle.cept_codes.specs.declared.item.Said.TheVariants as said;
-ghost use Rattle.cept_outside.specs.ShelfState.{IsSound};
+ghost use Rattle.cept_outside.specs.ShelfState.{Holds, IsSound};
 ghost use Rattle.cept_parser.specs.Items.{items};
 ghost use Rattle.cept_profile.specs.Changes.{changes, grid_with_paints};
 ghost use Rattle.cept_profile.specs.Look.{grid};
@@ -15,7 +15,7 @@ ghost use Rattle.cept_editor.specs.Events.{event_changes, paints};
 ghost use Rattle.cept_tool.specs.Events.{history, item_event, item_events};
 ghost use Rattle.cept_tool.specs.Outside.{Outside, ReportsItems};
 ghost use Rattle.cept_tool.specs.Run.{Runs};
-ghost use Rattle.cept_tool.specs.Words.{Request, Asks, asked_of};
+ghost use Rattle.cept_tool.specs.Words.{Request, asked_of, request_of};
 
 /// The events of some items and one more are those of the items and then that of the one, as it is
 /// after them. A command that is applied comes after the commands before it, and changes what it
@@ -49,11 +49,13 @@ pub fn a_known_page_is_reported_as_far_as_taken()
     ensures read_fault { (words : List (List ℕ)) (request : Request) (page : List ℕ)
         (before after : Outside)
         → IsSound before.shelf → IsSound after.shelf → Runs words before after statuses.ReadFault
-        → Asks words before.shelf request page → request.script ≡ None
+        → request_of words ≡ Some request → Holds before.shelf request.page page
+        → request.script ≡ None
         → ReportsItems request.action (items (take after.shelf.taken page)) before after }
     ensures too_long { (words : List (List ℕ)) (request : Request) (page : List ℕ)
         (before after : Outside)
         → IsSound before.shelf → IsSound after.shelf → Runs words before after statuses.TooLong
-        → Asks words before.shelf request page → request.script ≡ None
+        → request_of words ≡ Some request → Holds before.shelf request.page page
+        → request.script ≡ None
         → ReportsItems request.action (items (take (2 ^ 24) page)) before after }
 {}

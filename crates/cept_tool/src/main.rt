@@ -5,6 +5,7 @@
 mod decoder;
 mod easel;
 mod edits;
+mod generated;
 mod laws;
 mod page;
 mod reporter;

@@ -44,6 +44,7 @@ impl From<WriteFault> for Stop {
 }
 
 /// Takes the selected page piece by piece and reports its items, and at the end what is left.
+/// Answers how many bytes it has.
 #[tactic(auto, using(crate::proofs::PagesInPieces::keeps_shelf_more))]
 pub fn read_page<F: Shelf, T: Sink, G: Glass, L: Ledger>(
     decoder: &mut Decoder,
@@ -51,7 +52,7 @@ pub fn read_page<F: Shelf, T: Sink, G: Glass, L: Ledger>(
     sink: &mut T,
     glass: &mut G,
     steps: &mut Steps<L>,
-) -> Result<(), Stop>
+) -> Result<u64, Stop>
     requires fresh { (start : Output)
         → HasRead decoder.old.reporter.action decoder.old [] start start }
     requires selected { (F.state shelf.old).taken ≡ 0 }
@@ -71,7 +72,7 @@ pub fn read_page<F: Shelf, T: Sink, G: Glass, L: Ledger>(
         };
         if count == 0 {
             decoder.finish(sink, glass, steps)?;
-            return Ok(());
+            return Ok(place);
         }
         let fitting = (count as u64).min(LIMIT - place);
         decoder.read_piece(&piece[..fitting as usize], sink, glass, steps)?;

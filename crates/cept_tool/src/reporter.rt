@@ -1,12 +1,13 @@
 //! Reports items: applies and paints their commands where that is asked for, and puts their texts.
 //! It knows no bytes of a page, no words and no files.
 
-ghost use Rattle.std.specs.Prelude.{◌≡◌, ◌+◌, ◌^◌, ◌<◌, ◌≤◌, ◌∷◌, [], ◌++◌, List};
+ghost use Rattle.std.specs.Prelude.{◌≡◌, ℕ, ◌+◌, ◌*◌, ◌^◌, ◌<◌, ◌≤◌, ◌∷◌, [], ◌++◌, List, count_by};
 ghost use Rattle.std.specs.Prelude.{IfOk, IsOk, Some, None, length, nat_lt, if◌then◌else◌, slice_index_or};
 ghost use Rattle.std.specs.List.{AllByRecursion};
 ghost use Rattle.cept_codes.specs.Command.{IsValidCommand, IsValidSaid};
 ghost use Rattle.cept_codes.specs.declared.command.Command.{Command};
 ghost use Rattle.cept_codes.specs.declared.item.Item.{Item};
+ghost use Rattle.cept_parser.specs.Items.{closed_items};
 ghost use Rattle.cept_outside.specs.SinkState.{PutsText};
 ghost use Rattle.cept_profile.specs.Changes.{marked_looks};
 ghost use Rattle.cept_profile.specs.Look.{looks_of};
@@ -25,14 +26,15 @@ use cept_codes::{Command, Item, NoMemory, Reason, Said};
 use cept_editor::Script;
 use cept_outside::{Sink, Steps, WriteFault};
 use cept_repaint::{Glass, Marks, Screen};
-use cept_report::{put_cells, put_changes, put_check, put_refusal, put_screen};
+use cept_report::{put_cells, put_changes, put_check, put_load, put_refusal, put_screen};
 use cept_writer::write_page;
 use std::alloc::Global;
 use std::marker::Model;
 use std::sync::ledger::Ledger;
 
 /// Reports items one after the other, and then edits: what is asked for, what commands are applied
-/// to with the places that the last one changed, and how many items there were and were refused.
+/// to with the places that the last one changed, how many items there were and were refused, and
+/// how many places were painted, where these are counted.
 #[derive(Drop)]
 pub struct Reporter {
     action: Action,
@@ -40,10 +42,11 @@ pub struct Reporter {
     marks: Marks,
     items: u64,
     refused: u64,
+    painted: u64,
 }
 
 impl Model for Reporter {
-    ghost use Rattle.std.specs.Prelude.{◌≤◌};
+    ghost use Rattle.std.specs.Prelude.{◌≤◌, ◌*◌};
     ghost use Rattle.cept_tool.specs.Reporting.{ReporterState};
 
     ghost Value = { ReporterState };
@@ -53,9 +56,11 @@ impl Model for Reporter {
       easel = r.easel;
       items = r.items;
       refused = r.refused;
+      painted = r.painted;
     } };
 
-    ghost invariant = { λ r. r.refused ≤ r.items };
+    // A command paints each place once at most.
+    ghost invariant = { λ r. (r.refused ≤ r.items) × (r.painted ≤ 960 * r.items) };
 }
 
 /// Puts the lines of the marked places, where they are asked for.
@@ -78,6 +83,15 @@ fn tell_changes<T: Sink>(
     }
 }
 
+/// How many places are marked, where they are counted.
+#[inline(always)]
+fn count_marked(counting: bool, marks: &Marks) -> u64
+    ensures count { result ≡ (if counting then count_by (λ marked. marked) marks.now else 0) }
+    ensures few { result ≤ 960 }
+{
+    if counting { u64::from(marks.len()) } else { 0 }
+}
+
 impl Reporter {
     ghost use Rattle.cept_tool.specs.declared.words.Action.{Action};
     ghost use Rattle.cept_editor.specs.Script.{EditLine};
@@ -95,11 +109,12 @@ impl Reporter {
             marks: Marks::new(),
             items: 0,
             refused: 0,
+            painted: 0,
         })
     }
 
-    /// Applies a command of the page, paints what it changes, and puts its lines where they are
-    /// asked for. Where commands aren't applied nothing happens.
+    /// Applies a command of the page, paints what it changes, counts the painted places and puts
+    /// their lines, where that is asked for. Where commands aren't applied nothing happens.
     // In place, since most commands are attributes, which need little.
     #[inline(always)]
     fn apply<T: Sink, G: Glass, L: Ledger>(
@@ -110,7 +125,9 @@ impl Reporter {
         glass: &mut G,
         steps: &mut Steps<L>,
     ) -> Result<(), WriteFault>
-        requires { IsValidCommand command.now }
+        requires valid { IsValidCommand command.now }
+        requires few { self.old.items < 2 ^ 54 }
+        requires counted { self.old.painted + 960 ≤ 960 * self.old.items }
         ensures { Applies self.old place command.now
             (output_of (T.state sink.old) (G.state glass.old)) result self.new
             (output_of (T.state sink.new) (G.state glass.new)) }
@@ -119,13 +136,9 @@ impl Reporter {
             Easel::Nothing => Ok(()),
             Easel::Screen(screen) => {
                 screen.apply_from(command, glass, &mut self.marks, steps);
-                tell_changes(
-                    self.action.asked().changes,
-                    place,
-                    &self.marks,
-                    screen,
-                    sink,
-                )
+                let asked = self.action.asked();
+                self.painted += count_marked(asked.counting, &self.marks);
+                tell_changes(asked.changes, place, &self.marks, screen, sink)
             }
             Easel::Editor(editor) => {
                 editor.page(command, glass, &mut self.marks, steps);
@@ -162,7 +175,7 @@ impl Reporter {
         steps: &mut Steps<L>,
     ) -> Result<(), WriteFault>
         requires valid { IsValidSaid item.now.what }
-        requires few { self.old.items + 1 < 2 ^ 64 }
+        requires few { self.old.items + 1 < 2 ^ 54 }
         ensures { ReportsOn self.old (item.now ∷ [])
             (output_of (T.state sink.old) (G.state glass.old)) result self.new
             (output_of (T.state sink.new) (G.state glass.new)) }
@@ -188,7 +201,7 @@ impl Reporter {
         steps: &mut Steps<L>,
     ) -> Result<(), WriteFault>
         requires valid { AllByRecursion (λ i. IsValidSaid i.what) items.now }
-        requires few { self.old.items + length items.now < 2 ^ 64 }
+        requires few { self.old.items + length items.now < 2 ^ 54 }
         ensures { ReportsOn self.old items.now
             (output_of (T.state sink.old) (G.state glass.old)) result self.new
             (output_of (T.state sink.new) (G.state glass.new)) }
@@ -273,11 +286,16 @@ impl Reporter {
         }
     }
 
-    /// Puts the text at the end, after these items, where these commands remain.
-    pub fn put_end<T: Sink, G: Glass>(&self, sink: &mut T, glass: &G) -> Result<(), WriteFault>
-        ensures { (action : Action) (items : List Item) (commands : List Command)
-            → StandsAtEnd action self.now items commands
-            → PutsText (T.state sink.old) (text_at_end action (G.state glass.now).grid items commands)
+    /// Puts the text at the end of a page of so many bytes, where these commands remain.
+    pub fn put_end<T: Sink, G: Glass>(
+        &self,
+        bytes: u64,
+        sink: &mut T,
+        glass: &G,
+    ) -> Result<(), WriteFault>
+        ensures { (action : Action) (page : List ℕ) (commands : List Command)
+            → StandsAtEnd action self.now (closed_items page) commands → bytes ≡ length page
+            → PutsText (T.state sink.old) (text_at_end action (G.state glass.now).grid page commands)
             result (T.state sink.new) }
     {
         match self.action {
@@ -288,6 +306,7 @@ impl Reporter {
             Action::Write => self.put_page(sink),
             Action::Trace => Ok(()),
             Action::Edit => self.put_page(sink),
+            Action::Load => put_load(sink, bytes, self.items, self.painted),
         }
     }
 

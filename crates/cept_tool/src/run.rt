@@ -1,24 +1,28 @@
 ghost use Rattle.std.specs.Prelude.{◌≡◌, ◌≢◌, ◌^◌, ◌<◌, ◌≤◌, [], List, ℕ};
 ghost use Rattle.std.specs.Prelude.{map, string_bytes, length};
 ghost use Rattle.cept_codes.specs.declared.command.Command.{Command};
-ghost use Rattle.cept_codes.specs.declared.item.Item.{Item};
 ghost use Rattle.cept_editor.specs.Made.{Output, output_of};
 ghost use Rattle.cept_outside.specs.QuietShelf.{quiet_shelf_state};
 ghost use Rattle.cept_outside.specs.QuietSink.{quiet_sink_state};
+ghost use Rattle.cept_outside.specs.ShelfState.{ShelfState};
+ghost use Rattle.cept_parser.specs.Items.{closed_items};
 ghost use Rattle.cept_tool.specs.declared.words.Action.{Action};
+ghost use Rattle.cept_tool.specs.declared.words.Action.TheVariants.{Load};
 ghost use Rattle.cept_tool.specs.Events.{text_at_end, has_refusal};
 ghost use Rattle.cept_tool.specs.Outside.{outside_of};
 ghost use Rattle.cept_tool.specs.Page.{PutsEnd};
 ghost use Rattle.cept_tool.specs.Reporting.{StandsAtEnd, HasRead, EditsIfAny};
-ghost use Rattle.cept_tool.specs.Run.{Runs, RunsRequest, IsShortScript};
+ghost use Rattle.cept_tool.specs.Run.{Runs, RunsRequest, RunsNumber, Loads, IsShortScript};
 ghost use Rattle.cept_tool.specs.Run.{status_number, status_of, status_at_end};
 ghost use Rattle.cept_tool.specs.Words.{Request as Asked, Asks, IsSoundRequest, request_by};
 
 use crate::decoder::Decoder;
+use crate::generated::{put_generated, read_generated};
 use crate::page::{Stop, read_page};
 use crate::script::read_script_if_any;
-use crate::words::{Request, request_of};
+use crate::words::{Action, NumberRequest, Request, Task, number_request_of, request_of};
 use cept_editor::Script;
+use cept_generator::generated_pages_are_read;
 use cept_outside::{QuietShelf, QuietSink, Shelf, Sink, Steps};
 use cept_profile::validity_is_kept;
 use cept_repaint::Glass;
@@ -100,14 +104,21 @@ impl Status {
     }
 }
 
-/// Puts the text at the end and flushes. Answers whether an item was refused.
-fn end_report<T: Sink, G: Glass>(decoder: &Decoder, sink: &mut T, glass: &G) -> Result<bool, Stop>
-    ensures { (action : Action) (items : List Item) (commands : List Command)
-        → StandsAtEnd action decoder.now.reporter items commands
-        → PutsEnd (text_at_end action (G.state glass.now).grid items commands) (has_refusal items)
-        (T.state sink.old) result (T.state sink.new) }
+/// Puts the text at the end of a page of so many bytes and flushes. Answers whether an item was
+/// refused.
+fn end_report<T: Sink, G: Glass>(
+    decoder: &Decoder,
+    bytes: u64,
+    sink: &mut T,
+    glass: &G,
+) -> Result<bool, Stop>
+    ensures { (action : Action) (page : List ℕ) (commands : List Command)
+        → StandsAtEnd action decoder.now.reporter (closed_items page) commands
+        → bytes ≡ length page
+        → PutsEnd (text_at_end action (G.state glass.now).grid page commands)
+        (has_refusal (closed_items page)) (T.state sink.old) result (T.state sink.new) }
 {
-    decoder.put_end(sink, glass)?;
+    decoder.put_end(bytes, sink, glass)?;
     let Ok(()) = sink.flush() else {
         return Err(Stop::WriteFault);
     };
@@ -162,9 +173,64 @@ fn report_request<F: Shelf, T: Sink, G: Glass, L: Ledger>(
         return Err(Stop::ReadFault);
     };
     let mut steps = Steps::<L>::new(blank);
-    read_page(decoder, shelf, sink, glass, &mut steps)?;
+    let bytes = read_page(decoder, shelf, sink, glass, &mut steps)?;
     make_edits(decoder, &script, sink, glass, &mut steps)?;
-    end_report(decoder, sink, glass)
+    end_report(decoder, bytes, sink, glass)
+}
+
+/// Reads a generated page to its end, puts the text at the end and flushes. Answers whether an item
+/// of the page was refused.
+fn report_generated<T: Sink, G: Glass, L: Ledger>(
+    decoder: &mut Decoder,
+    number: u32,
+    sink: &mut T,
+    glass: &mut G,
+    blank: Blank,
+) -> Result<bool, Stop>
+    requires fresh { (start : Output) → HasRead Load decoder.old [] start start }
+    requires name { blank.name ≡ L.name }
+    requires parts { blank.parts ≡ L.parts }
+    requires some { 0 < blank.parts }
+    ensures { (shelf : ShelfState)
+        → Loads number (outside_of shelf (T.state sink.old) (G.state glass.old))
+        (outside_of shelf (T.state sink.new) (G.state glass.new)) (status_at_end result) }
+{
+    // A law: a generated page has no refused item.
+    generated_pages_are_read();
+    let mut steps = Steps::<L>::new(blank);
+    let bytes = read_generated(decoder, number, sink, glass, &mut steps)?;
+    end_report(decoder, bytes, sink, glass)
+}
+
+/// Reads and paints a generated page.
+fn load<T: Sink, G: Glass>(alloc: Global, number: u32, sink: &mut T, glass: &mut G) -> Status
+    ensures { (shelf : ShelfState)
+        → Loads number (outside_of shelf (T.state sink.old) (G.state glass.old))
+        (outside_of shelf (T.state sink.new) (G.state glass.new)) result }
+{
+    let Ok(mut decoder) = Decoder::new(alloc, Action::Load) else {
+        return Status::NoMemory;
+    };
+    // No step is counted: the ledger is a blank one.
+    let blank = Blank::new(1);
+    Status::at_end(report_generated::<T, G, Brand>(&mut decoder, number, sink, glass, blank))
+}
+
+/// Does what is asked for with a generated page.
+fn run_number<T: Sink, G: Glass>(
+    alloc: Global,
+    request: NumberRequest,
+    sink: &mut T,
+    glass: &mut G,
+) -> Status
+    ensures { (shelf : ShelfState)
+        → RunsNumber request (outside_of shelf (T.state sink.old) (G.state glass.old))
+        (outside_of shelf (T.state sink.new) (G.state glass.new)) result }
+{
+    match request.task {
+        Task::Generate => Status::at_end(put_generated(request.number, sink)),
+        Task::Load => load(alloc, request.number, sink, glass),
+    }
 }
 
 /// Runs the program on its words, those after the program's name, over a shelf, a sink and a glass.
@@ -180,6 +246,10 @@ fn report_request<F: Shelf, T: Sink, G: Glass, L: Ledger>(
 /// likewise, and then the edits of the script, an undo by bringing back the state before the last
 /// edit that is kept. `trace` puts the lines of the page's refused items, and the lines of the
 /// changes of each edit; `edit` the bytes that bring the edited page back.
+///
+/// `gen NUMBER` puts the generated page of the number, and paints nothing. `load NUMBER` reads and
+/// paints it as `show` does a stored page, and puts how many bytes and items it has, and how many
+/// cells were painted. Both take the page piece by piece, and leave the shelf.
 pub fn run<F: Shelf, T: Sink, G: Glass>(
     alloc: Global,
     words: &Vec<String>,
@@ -191,6 +261,9 @@ pub fn run<F: Shelf, T: Sink, G: Glass>(
         (outside_of (F.state shelf.old) (T.state sink.old) (G.state glass.old))
         (outside_of (F.state shelf.new) (T.state sink.new) (G.state glass.new)) result }
 {
+    if let Some(request) = number_request_of(words.as_slice()) {
+        return run_number(alloc, request, sink, glass);
+    }
     let Some(request) = request_of(words.as_slice()) else {
         return Status::Usage;
     };

@@ -1,7 +1,7 @@
 use crate::run::{Status, run, run_quietly};
-use cept_codes::Pos;
+use cept_codes::{Look, Pos, Shape};
 use cept_outside::{MemShelf, MemSink, QuietShelf, QuietSink};
-use cept_repaint::{Glass, GridGlass};
+use cept_repaint::{Glass, GridGlass, Screen};
 use std::alloc::{AllocError, Global};
 use std::process::Abort;
 use std::test::Fail;
@@ -525,6 +525,33 @@ fn reports_what_came_before_a_fault(rt: HostRuntime) -> Result<(), Fail> {
     Ok(())
 }
 
+/// The figures are of another program that draws the table: how many bytes and items the page has.
+#[test]
+fn puts_and_loads_generated_pages(rt: HostRuntime) -> Result<(), Fail> {
+    let alloc = rt.alloc();
+    let mut shelf = MemShelf::new(alloc);
+    let mut glass = GridGlass::new(alloc)?;
+    let first = b"\x1F/B\x1F&16Ly\x0F\x86\x1F&17}p\x0F";
+    for (number, front, length) in [
+        ("0", first.as_slice(), 49_888),
+        ("0000000000", first, 49_888),
+        ("4294967295", b"\x1F/B\x12W\x97\x12D\x12P\x83", 50_128),
+    ] {
+        let request = words(alloc, &["gen", number])?;
+        let mut sink = MemSink::new(alloc, 65_536)?;
+        let ended = run(alloc, &request, &mut shelf, &mut sink, &mut glass);
+        assert_eq!(rt; ended, Status::Done, "page {number}");
+        assert!(rt; sink.bytes().starts_with(front), "page {number}");
+        assert_eq!(rt; sink.bytes().len(), length, "page {number}");
+    }
+    let request = words(alloc, &["load", "0"])?;
+    let mut sink = MemSink::new(alloc, 256)?;
+    let ended = run(alloc, &request, &mut shelf, &mut sink, &mut glass);
+    assert_eq!(rt; ended, Status::Done);
+    assert!(rt; sink.bytes().starts_with(b"bytes 49888 items 32535 paints "));
+    Ok(())
+}
+
 #[test]
 fn ends_at_faults_and_bad_words(rt: HostRuntime) -> Result<(), Fail> {
     let alloc = rt.alloc();
@@ -545,6 +572,14 @@ fn ends_at_faults_and_bad_words(rt: HostRuntime) -> Result<(), Fail> {
         words(alloc, &["trace", "page", "page"])?,
         words(alloc, &["edit", "page", ""])?,
         words(alloc, &["show", "page", "script"])?,
+        words(alloc, &["gen"])?,
+        words(alloc, &["gen", ""])?,
+        words(alloc, &["gen", "page"])?,
+        words(alloc, &["gen", "+1"])?,
+        words(alloc, &["gen", "1", "2"])?,
+        words(alloc, &["gen", "00000000000"])?,
+        words(alloc, &["gen", "4294967296"])?,
+        words(alloc, &["load", "9999999999"])?,
         words(alloc, &[])?,
     ] {
         assert_eq!(rt;
@@ -581,12 +616,62 @@ fn runs_quietly(rt: HostRuntime) -> Result<(), Fail> {
         (words(alloc, &["check", "page"])?, Status::Refusals, 44),
         (words(alloc, &["check", "other"])?, Status::Done, 18),
         (words(alloc, &["changes", "other"])?, Status::Done, 0),
+        (words(alloc, &["gen", "1"])?, Status::Done, 49_903),
         (words(alloc, &["changes"])?, Status::Usage, 0),
     ] {
         let mut sink = QuietSink::new();
         let ended = run_quietly(alloc, &request, &mut shelf, &mut sink, &mut glass);
         assert_eq!(rt; ended, want);
         assert_eq!(rt; sink.count(), count);
+    }
+    Ok(())
+}
+
+/// A display of one's own: it draws each cell where it is painted, here as one byte. A glass beside
+/// it keeps what is shown.
+#[derive(Drop)]
+struct Terminal<G> {
+    kept: G,
+    drawn: [u8; 960],
+}
+
+impl<G: Glass> Glass for Terminal<G> {
+    ghost state = { λ terminal. G.state terminal.kept };
+
+    fn paint(&mut self, at: Pos, screen: &Screen) {
+        self.kept.paint(at, screen);
+        self.drawn[usize::from(at.number())] = match screen.look(at).shape {
+            Shape::Space => b' ',
+            Shape::Char(glyph) => glyph.code,
+            Shape::Drcs(_, _) => b'#',
+        };
+    }
+
+    fn shown(&self, at: Pos) -> Look {
+        self.kept.shown(at)
+    }
+
+    ghost valid = { λ terminal. G.valid terminal.kept };
+}
+
+/// An A at the first place, and a B in row 2, column 3, which has the number 42.
+#[test]
+fn paints_a_display_of_ones_own(rt: HostRuntime) -> Result<(), Fail> {
+    let alloc = rt.alloc();
+    let request = words(alloc, &["write", "page"])?;
+    let mut shelf = MemShelf::new(alloc);
+    shelf.add("page", b"A\x1FBCB")?;
+    let mut sink = MemSink::new(alloc, 4096)?;
+    let mut terminal = Terminal {
+        kept: GridGlass::new(alloc)?,
+        drawn: [b'.'; 960],
+    };
+    assert_eq!(rt;
+        run(alloc, &request, &mut shelf, &mut sink, &mut terminal),
+        Status::Done
+    );
+    for (number, drawn) in [(0, b'A'), (1, b'.'), (42, b'B')] {
+        assert_eq!(rt; terminal.drawn[number], drawn);
     }
     Ok(())
 }

@@ -1,7 +1,10 @@
 ghost use Rattle.std.specs.Prelude.{◌≡◌, ◌∷◌, [], map, codes, string_bytes, IfSome};
+ghost use Rattle.std.specs.Char.{is_ascii_digit};
+ghost use Rattle.std.specs.List.{list_all};
 ghost use Rattle.std.specs.Option.{option_map};
-ghost use Rattle.cept_tool.specs.Words.{action_of, editing_action_of, of_page, of_script};
+ghost use Rattle.cept_tool.specs.Words.{action_of, editing_action_of, of_page, of_script, of_load};
 ghost use Rattle.cept_tool.specs.Words.{IsSoundRequest, asked_of, request_by, request_of};
+ghost use Rattle.cept_tool.specs.Words.{number_of, task_of, number_request_of};
 
 /// What the program is asked for.
 #[derive(Clone, Copy, Debug, PartialEq, Eq)]
@@ -20,6 +23,9 @@ pub enum Action {
     Trace,
     /// `edit PAGE SCRIPT`: the page after the edits, as bytes that bring it back.
     Edit,
+    /// `load NUMBER`: how many bytes and items the generated page has, and how many cells were
+    /// painted.
+    Load,
 }
 
 /// What is asked for beside the text at the end.
@@ -35,6 +41,8 @@ pub struct Asked {
     pub editing: bool,
     /// The changes of each edit are listed.
     pub tracing: bool,
+    /// The painted cells are counted.
+    pub counting: bool,
 }
 
 /// Of a page: whether its commands are painted, their changes listed, and its refusals named.
@@ -48,6 +56,7 @@ fn of_page(painting: bool, changes: bool, refusals: bool) -> Asked
         refusals,
         editing: false,
         tracing: false,
+        counting: false,
     }
 }
 
@@ -63,6 +72,22 @@ fn of_script(tracing: bool) -> Asked
         refusals: tracing,
         editing: true,
         tracing,
+        counting: false,
+    }
+}
+
+/// Of a generated page: its commands are painted, and the painted cells counted.
+#[inline(always)]
+fn of_load() -> Asked
+    ensures { result ≡ of_load }
+{
+    Asked {
+        painting: true,
+        changes: false,
+        refusals: false,
+        editing: false,
+        tracing: false,
+        counting: true,
     }
 }
 
@@ -80,6 +105,7 @@ impl Action {
             Action::Write => of_page(true, false, false),
             Action::Trace => of_script(true),
             Action::Edit => of_script(false),
+            Action::Load => of_load(),
         }
     }
 }
@@ -143,6 +169,66 @@ pub fn request_of(words: &[String]) -> Option<Request<'_>>
                 script: Some(script),
             })
         }
+        _ => None,
+    }
+}
+
+/// What is done with a generated page.
+#[derive(Clone, Copy, Debug, PartialEq, Eq)]
+pub enum Task {
+    /// `gen NUMBER`: it is put.
+    Generate,
+    /// `load NUMBER`: it is read and painted.
+    Load,
+}
+
+/// What is done with a generated page, and the page's number.
+#[derive(Clone, Copy, Debug)]
+pub struct NumberRequest {
+    pub task: Task,
+    pub number: u32,
+}
+
+/// The task of a word that has a number after it.
+fn task_of(word: &str) -> Option<Task>
+    ensures { result ≡ task_of word.now }
+{
+    if word == "gen" {
+        Some(Task::Generate)
+    } else if word == "load" {
+        Some(Task::Load)
+    } else {
+        None
+    }
+}
+
+/// Whether each byte is a digit.
+fn are_digits(text: &[u8]) -> bool
+    ensures { result ≡ list_all is_ascii_digit text.now }
+{
+    text.iter().all(|byte| byte.is_ascii_digit())
+}
+
+/// The number of a word of one to ten digits, at most 4,294,967,295.
+fn number_of(word: &str) -> Option<u32>
+    ensures { result ≡ number_of word.now }
+{
+    if word.len() > 10 || !are_digits(word.as_bytes()) {
+        return None;
+    }
+    word.parse::<u32>().ok()
+}
+
+/// What the words ask for, where they are a request for a generated page.
+#[tactic(auto, unfolding(crate::specs::Words::number_request_of))]
+pub fn number_request_of(words: &[String]) -> Option<NumberRequest>
+    ensures { result ≡ number_request_of (map string_bytes words.now) }
+{
+    match words {
+        [word, number] => Some(NumberRequest {
+            task: task_of(word.as_str())?,
+            number: number_of(number.as_str())?,
+        }),
         _ => None,
     }
 }

@@ -100,6 +100,7 @@ returns-then-count-eq0-clause-ends g c =
     let come = c.loop-count.invariant.come in
     record {
       bytes = come.bytes;
+      count_is = sym come.count;
       known = λ page is.
           let known = come.known page is in
           known.0 ∙ all_taken page c.loop-count.place (c.in-Ok.ensures.takes.end c.if-count-eq0.true _ known.1);

@@ -20,7 +20,8 @@ use Rattle.cept_tool.proofs.run.report_request.Goals as goal
 pub returns-in_err-script : goal.returns-in_err-script
 returns-in_err-script g c =
     let p = err_from_is_err_and c.from_residual.result c.from_residual.ensures.1 in
-    rw (p.1, p.2) (script_stopped (request_by c.args.request) _ _ _ _ c.requires.sound c.read_script_if_any.ensures.shelf
+    rw (p.1, p.2) (script_stopped (request_by c.args.request) _ _ _ _ c.requires.sound
+    (g.met.F.Shelf.sound c.read_script_if_any.new.shelf) c.read_script_if_any.ensures.shelf
     c.in_err-script.ensures.ends)
 
 -- the page couldn't be selected
@@ -33,17 +34,17 @@ returns-in_default g c =
     (rw c.as_str.ensures.value at c.in_default.ensures.selects) c.in_default.ensures.cause)
 
 -- the reading of the page stopped
-pub returns-in_err-read_page : goal.returns-in_err-read_page
-returns-in_err-read_page g c =
+pub returns-in_err-bytes : goal.returns-in_err-bytes
+returns-in_err-bytes g c =
     let r = request_by c.args.request in
     let ends = c.in_ok-script.ensures.ends in
     let is = (c.requires.fresh (output_of (g.T.Sink.state c.args.sink.now) (g.G.Glass.state c.args.glass.now))).reported.stands.action_is in
-    let p = err_from_is_err_and c.from_residual-in_err-read_page.result c.from_residual-in_err-read_page.ensures.1 in
+    let p = err_from_is_err_and c.from_residual-in_err-bytes.result c.from_residual-in_err-bytes.ensures.1 in
     rw (p.1, p.2) (ends_stopped r _ _ _ (g.F.Shelf.state c.select.new.self) _ _
     (script_known r _ _ _ _ _ c.read_script_if_any.ensures.shelf ends) c.requires.sound
     (g.met.F.Shelf.sound c.read_script_if_any.new.shelf) (rw c.as_str.ensures.value at c.in-Ok.ensures.selects)
     c.in-Ok.ensures.cause.stays c.read_page.ensures.shelf _ (g.met.F.Shelf.sound c.read_page.new.shelf)
-    (rw (is, script_unput r _ _ _ _ _ ends) at c.in_err-read_page.ensures.ends))
+    (rw (is, script_unput r _ _ _ _ _ ends) at c.in_err-bytes.ensures.ends))
 
 -- the sink failed at an edit
 pub returns-in_err-make_edits : goal.returns-in_err-make_edits
@@ -52,7 +53,7 @@ returns-in_err-make_edits g c =
     let ends = c.in_ok-script.ensures.ends in
     let is = (c.requires.fresh (output_of (g.T.Sink.state c.args.sink.now) (g.G.Glass.state c.args.glass.now))).reported.stands.action_is in
     let p = err_from_is_err_and c.from_residual-in_err-make_edits.result c.from_residual-in_err-make_edits.ensures.1 in
-    let read = rw (is, script_unput r _ _ _ _ _ ends) at c.in_ok-read_page.ensures.ends in
+    let read = rw (is, script_unput r _ _ _ _ _ ends) at c.in_ok-bytes.ensures.ends in
     let fits = script_fits r _ _ _ _ _ c.requires.sound ends in
     let off = cut_if_any _ _ _ _ (closed_items read.bytes) _ _ _ _ _ fits read.reported c.in_err-make_edits.ensures in
     rw (p.1, p.2) (ends_unedited r _ _ _ (g.F.Shelf.state c.select.new.self) _ _
@@ -67,7 +68,7 @@ returns g c =
     let r = request_by c.args.request in
     let ends = c.in_ok-script.ensures.ends in
     let is = (c.requires.fresh (output_of (g.T.Sink.state c.args.sink.now) (g.G.Glass.state c.args.glass.now))).reported.stands.action_is in
-    let read = rw (is, script_unput r _ _ _ _ _ ends) at c.in_ok-read_page.ensures.ends in
+    let read = rw (is, script_unput r _ _ _ _ _ ends) at c.in_ok-bytes.ensures.ends in
     let fits = script_fits r _ _ _ _ _ c.requires.sound ends in
     let edited = edited_if_any _ _ _ (closed_items read.bytes) _ _ _ _ _ fits read.reported c.in_ok-make_edits.ensures in
     let restores : (h : List Command) → AllValid h → Restores (page_text (core h)) h = λ h valid. record {
@@ -81,7 +82,7 @@ returns g c =
     (g.met.F.Shelf.sound c.read_script_if_any.new.shelf) (rw c.as_str.ensures.value at c.in-Ok.ensures.selects)
     c.in-Ok.ensures.cause.stays c.read_page.ensures.shelf read.bytes read.known read.short read.stays
     (unedited_check r _ fits) _ edited.made edited.stays edited.valid restores c.end_report.result
-    (c.end_report.ensures _ (closed_items read.bytes) _ edited.stands)
+    (c.end_report.ensures _ read.bytes _ edited.stands read.count_is)
 
 pub read_page-requires-clause-fresh : goal.read_page-requires-clause-fresh
 read_page-requires-clause-fresh g c = λ start.
