@@ -1,6 +1,6 @@
 -- Commands applied one after the other.
 use Rattle.std.proofs.Common.{◌≡◌, ◌≢◌, ℕ, ◌+◌, ◌*◌, ◌<◌, ◌≤◌, Bool, true, false, cond, List, [], ◌∷◌, ◌++◌, take, length}
-use Rattle.std.proofs.Common.{Result, Ok, Err, OnOk, refl, sym, ap, subst, ◌∙◌, append_assoc, append-nil, arith}
+use Rattle.std.proofs.Common.{Result, Ok, Err, OnErr, refl, sym, ap, subst, ◌∙◌, append_assoc, append-nil, arith}
 use Rattle.std.proofs.lemmas.List.{length-append}
 use Rattle.std.proofs.Math.Seq.{take-append-add}
 use Rattle.cept_codes.specs.Command.{IsValidCommand}
@@ -11,16 +11,16 @@ use Rattle.cept_outside.specs.Causes.{Rose}
 use Rattle.cept_outside.specs.SinkState.{SinkState, PutsText}
 use Rattle.cept_outside.proofs.Laws.{Gains-append}
 use Rattle.cept_profile.specs.Changes.{changes_between, marked_looks, differences, grid_with_paints}
-use Rattle.cept_profile.specs.Look.{looks_of, grid}
+use Rattle.cept_profile.specs.Look.{looks_of}
 use Rattle.cept_profile.specs.Reach.{rows_in_reach}
 use Rattle.cept_profile.specs.State.{State, state, state_after, core_of}
 use Rattle.cept_profile.specs.Valid.{AllValid}
 use Rattle.cept_repaint.specs.GlassState.{GlassState, Lists}
 use Rattle.cept_report.specs.Text.{change_lines}
-use Rattle.cept_editor.specs.Applying.{state_after_all, rows_in_reach_of_all, AppliesOne, HasApplied, HasStopped}
+use Rattle.cept_editor.specs.Applying.{state_after_all, rows_in_reach_of_all, AppliesOne, HasApplied}
 use Rattle.cept_editor.specs.Applying.{AppliesAll, MarksLast}
-use Rattle.cept_editor.specs.Events.{Event, event_changes, report, paints}
-use Rattle.cept_editor.specs.Made.{Output, output_of, AreStill, ArePainted, IsMade, AreMade, AreCutOff}
+use Rattle.cept_editor.specs.Events.{Event, event_changes, report}
+use Rattle.cept_editor.specs.Made.{Output, output_of, IsMade, AreMade}
 use Rattle.cept_editor.specs.Stepping.{event_from, edit_events}
 use Rattle.cept_editor.proofs.EditsInTurn.{edit_events-none, edit_events-first, edit_events-last}
 use Rattle.cept_editor.proofs.EditsInTurn.{edit_events-append, length-edit_events}
@@ -51,6 +51,19 @@ made_from reporting line h h' s t marks result a b g g' old new other marked tol
         untouched = λ still. absurd (other still.0);
       };
     }
+
+-- where the sink failed at lines there are some
+pub lines_there : {X E : Type 0} (reporting : Bool) (line : ℕ) (xs : List (Place × Look)) (result : Result X E)
+    (a b : SinkState) → PutsText a (cond reporting (change_lines line xs) []) result b → OnErr result (xs ≢ [])
+unfolding change_lines
+lines_there reporting line xs (Ok x) a b puts = tt
+lines_there reporting line xs (Err f) a b puts = λ none.
+    let text = ap (λ (l : List (Place × Look)). length (cond reporting (change_lines line l) [])) none in
+    absurd (omega (arith, puts.part.short, text, empty reporting))
+  where
+    empty : (r : Bool) → length (cond r (change_lines line []) []) ≡ 0
+    empty true = refl
+    empty false = refl
 
 -- one command more makes other commands
 pub one_more_differs : (h : List Command) (c : Command) → h ++ c ∷ [] ≢ h
@@ -150,6 +163,7 @@ gone_more reporting line whole left c old before mid now new after marks marks' 
         all = refl;
         applied = further;
         marked = marked ∙ ap (λ s. differences (looks_of (core_of s)) (looks_of (core_of new))) g.stands;
+        shown = tt;
       };
       cost =
           let reach = ap (λ s. rows_in_reach s c) g.stands in
@@ -190,6 +204,7 @@ marks_ok cs old new marks m = record {
   all = m.all;
   applied = m.applied;
   marked = m.marked;
+  shown = tt;
 }
 
 pub all_marked : {X E : Type 0} {x : X} (reporting : Bool) (line : ℕ) (whole : List Command) (old : State)
@@ -256,8 +271,9 @@ pub stopped_marked : {X E : Type 0} {f : E} (reporting : Bool) (line : ℕ) (who
     (old : State) (before : Output) (mid : State) (now : Output) (new : State) (marks marks' : List Bool)
     (start ticks : ℕ) → HasGone reporting line whole (c ∷ left) old before mid now marks start ticks
     → new ≡ state_after mid c → marks' ≡ differences (looks_of (core_of mid)) (looks_of (core_of new))
+    → changes_between (looks_of (core_of mid)) (looks_of (core_of new)) ≢ []
     → MarksLast {X = X} {E = E} whole old (Err f) new marks'
-stopped_marked reporting line whole left c old before mid now new marks marks' start ticks g stands marked = record {
+stopped_marked reporting line whole left c old before mid now new marks marks' start ticks g stands marked shown = record {
   earlier = g.done;
   last = c;
   rest = left;
@@ -265,6 +281,7 @@ stopped_marked reporting line whole left c old before mid now new marks marks' s
   all = tt;
   applied = stands ∙ ap (λ s. state_after s c) g.stands ∙ sym (state_after_all-more old g.done c);
   marked = marked ∙ ap (λ s. differences (looks_of (core_of s)) (looks_of (core_of new))) g.stands;
+  shown = subst (λ (s : State). changes_between (looks_of (core_of s)) (looks_of (core_of new)) ≢ []) g.stands shown;
 }
 
 pub stopped_cost : (reporting : Bool) (line : ℕ) (whole left : List Command) (c : Command)

@@ -8,7 +8,7 @@ use Rattle.cept_codes.specs.declared.look.Look.{Look}
 use Rattle.cept_profile.specs.Changes.{grid_with_paints}
 use Rattle.cept_profile.specs.Look.{grid}
 use Rattle.cept_profile.proofs.Laws.{grid_with_paints-append}
-use Rattle.cept_editor.specs.Events.{Event, event_changes, report, paints}
+use Rattle.cept_editor.specs.Events.{Event, event_changes, paints}
 use Rattle.cept_editor.specs.Kept.{KeptEdits, none_kept, kept_after, kept_after_all, kept, remaining, states_before}
 use Rattle.cept_editor.specs.Kept.{commands_of_edits}
 use Rattle.cept_editor.specs.Meaning.{Step, TakeBack, Edit}

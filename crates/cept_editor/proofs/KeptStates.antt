@@ -1,6 +1,6 @@
 -- An editor after one more edit line: where it stands, and the states that it can bring back.
-use Rattle.std.proofs.Common.{◌≡◌, ◌≢◌, ℕ, zero, suc, ◌+◌, ◌-◌, ◌<◌, ◌≤◌, ◌==◌, Bool, true, false, cond, min, List, [], ◌∷◌, ◌++◌}
-use Rattle.std.proofs.Common.{map, take, drop, length, refl, sym, ap, subst, ◌∙◌, append_assoc, append-nil, arith}
+use Rattle.std.proofs.Common.{◌≡◌, ◌≢◌, ℕ, zero, suc, ◌+◌, ◌-◌, ◌<◌, ◌==◌, Bool, true, false, cond, min, List, [], ◌∷◌, ◌++◌}
+use Rattle.std.proofs.Common.{map, take, drop, length, refl, sym, ap, subst, ◌∙◌, append_assoc, arith}
 use Rattle.std.proofs.lemmas.List.{take-take, take_all, take-append-le, take-append-drop, length-take, length-append}
 use Rattle.std.proofs.lemmas.List.FromFn.{length-map-range_with_len}
 use Rattle.std.proofs.lemmas.Grind.{flat_map-append}
@@ -12,7 +12,7 @@ use Rattle.cept_profile.specs.State.{State, state}
 use Rattle.cept_profile.specs.Valid.{AllValid}
 use Rattle.cept_undo.specs.Edits.{state_before_latest}
 use Rattle.cept_editor.specs.Kept.{KeptEdits, none_kept, kept_after, remaining, commands_of_edits, state_before_last}
-use Rattle.cept_editor.specs.Kept.{states_before, EditorState, editor_after, StandsAfter}
+use Rattle.cept_editor.specs.Kept.{states_before, EditorState, StandsAfter}
 use Rattle.cept_editor.specs.Meaning.{TakeBack, Edit}
 use Rattle.cept_editor.proofs.EditsInTurn.{remaining-edit, remaining-none, states_before-none}
 

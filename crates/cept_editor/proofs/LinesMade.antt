@@ -1,25 +1,24 @@
 -- An edit line was made: an edit of commands, or an undo.
-use Rattle.std.proofs.Common.{◌≡◌, ◌≢◌, ℕ, zero, suc, ◌+◌, ◌-◌, ◌<◌, ◌==◌, Bool, true, false, cond, List, [], ◌∷◌, ◌++◌, take, drop}
+use Rattle.std.proofs.Common.{◌≡◌, ◌≢◌, ℕ, ◌+◌, ◌<◌, ◌==◌, Bool, false, cond, List, [], ◌∷◌, take, drop}
 use Rattle.std.proofs.Common.{length, Result, Ok, Err, refl, sym, ap, subst, ◌∙◌, arith}
 use Rattle.std.proofs.lemmas.List.{length-take}
 use Rattle.cept_codes.specs.Command.{IsValidCommand}
 use Rattle.cept_codes.specs.declared.command.Command.{Command}
-use Rattle.cept_outside.specs.SinkState.{SinkState, PutsText}
+use Rattle.cept_outside.specs.SinkState.{PutsText}
 use Rattle.cept_profile.specs.Changes.{changes_between, marked_looks, differences, grid_with_paints}
 use Rattle.cept_profile.specs.Look.{looks_of}
-use Rattle.cept_profile.specs.State.{State, state, core_of}
+use Rattle.cept_profile.specs.State.{state, core_of}
 use Rattle.cept_profile.specs.Valid.{AllValid}
-use Rattle.cept_repaint.specs.GlassState.{GlassState, Lists}
+use Rattle.cept_repaint.specs.GlassState.{Lists}
 use Rattle.cept_report.specs.Text.{change_lines}
 use Rattle.cept_undo.specs.Edits.{state_before_latest}
-use Rattle.cept_editor.specs.declared.editor.Done.{Done}
 use Rattle.cept_editor.specs.declared.editor.Done.TheVariants as answers
 use Rattle.cept_editor.specs.Applying.{AppliesAll}
 use Rattle.cept_editor.specs.Events.{Event}
 use Rattle.cept_editor.specs.Kept.{KeptEdits, kept_after, remaining, states_before, EditorState, StandsAfter}
-use Rattle.cept_editor.specs.Made.{Output, output_of, IsMade, AreMade, AreCutOff}
-use Rattle.cept_editor.specs.Meaning.{Step, TakeBack, Edit}
-use Rattle.cept_editor.specs.Stepping.{event_from, nothing_event, line_events, IsCutOff, GoesOn}
+use Rattle.cept_editor.specs.Made.{Output, IsMade, AreMade, AreCutOff}
+use Rattle.cept_editor.specs.Meaning.{TakeBack, Edit}
+use Rattle.cept_editor.specs.Stepping.{event_from, nothing_event, line_events, GoesOn}
 use Rattle.cept_editor.proofs.AppliedInTurn.{made_from}
 use Rattle.cept_editor.proofs.KeptStates.{AllByRecursion-take, StandsAfter-edit, StandsAfter-undo, undo_differs}
 use Rattle.cept_editor.proofs.KeptStates.{none_kept_by, some_kept_by, kept_after-none, screen_left}

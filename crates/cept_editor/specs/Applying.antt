@@ -1,8 +1,8 @@
 -- Commands that are applied to a screen one after the other, what they cost, and which marks they leave (this project's
 -- own).
-use Rattle.std.specs.Prelude.{◌≡◌, ℕ, ◌+◌, Bool, List, [], ◌∷◌, ◌++◌, length, take, Result, OnOk, OnErr}
+use Rattle.std.specs.Prelude.{◌≡◌, ◌≢◌, ℕ, ◌+◌, Bool, List, [], ◌∷◌, ◌++◌, length, take, Result, OnOk, OnErr}
 use Rattle.cept_codes.specs.declared.command.Command.{Command}
-use Rattle.cept_profile.specs.Changes.{differences}
+use Rattle.cept_profile.specs.Changes.{changes_between, differences}
 use Rattle.cept_profile.specs.Look.{looks_of}
 use Rattle.cept_profile.specs.Reach.{rows_in_reach}
 use Rattle.cept_profile.specs.State.{State, state, state_after, core_of}
@@ -72,6 +72,9 @@ pub record MarksLast {X E : Type 0} (commands : List Command) (old : State) (res
   pub all : OnOk result (rest ≡ [])
   pub applied : new ≡ state_after_all old (earlier ++ last ∷ [])
   pub marked : marks ≡ differences (looks_of (core_of (state_after_all old earlier))) (looks_of (core_of new))
+  -- the sink failed at its lines, so that it changed a look
+  pub shown : OnErr result
+      (changes_between (looks_of (core_of (state_after_all old earlier))) (looks_of (core_of new)) ≢ [])
 
 -- the marks are those of the last command of an edit that was applied, or of an undo
 abbrev pub MarksStep : {X E : Type 0} → Step → State → Result X E → State → List Bool → Type 0

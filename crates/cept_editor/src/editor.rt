@@ -1,7 +1,7 @@
 //! A screen whose edits are made line by line, and can be taken back.
 
-ghost use Rattle.std.specs.Prelude.{◌≡◌, ◌+◌, ◌*◌, ◌<◌, ◌≤◌, List, [], ◌∷◌, ◌++◌, Bool, false, length};
-ghost use Rattle.std.specs.Prelude.{IfOk, IsOk, IsSome, slice_index_or, if◌then◌else◌};
+ghost use Rattle.std.specs.Prelude.{◌≡◌, ◌≢◌, ◌+◌, ◌*◌, ◌<◌, ◌≤◌, List, [], ◌∷◌, ◌++◌, Bool, false, length};
+ghost use Rattle.std.specs.Prelude.{Ok, OnErr, IfOk, IsOk, IsSome, slice_index_or, if◌then◌else◌};
 ghost use Rattle.std.specs.List.{AllByRecursion};
 ghost use Rattle.cept_codes.specs.declared.command.Command.{Command};
 ghost use Rattle.cept_codes.specs.Command.{IsValidCommand};
@@ -86,6 +86,8 @@ fn apply_command<G: Glass, T: Sink, L: Ledger>(
     ensures quiet { report ≡ false → IsOk result × (T.state sink.new ≡ T.state sink.old) }
     ensures marks { marks.new
         ≡ differences (looks_of (core_of screen.old)) (looks_of (core_of screen.new)) }
+    ensures shown { OnErr result
+        (changes_between (looks_of (core_of screen.old)) (looks_of (core_of screen.new)) ≢ []) }
     ensures cost { steps.new ≤ steps.old + rows_in_reach screen.old command }
     ensures at_most_24 { steps.new ≤ steps.old + 24 }
 {
@@ -223,6 +225,7 @@ impl Editor {
         ensures at_most_24 { (default : EditLine)
             → let edit = slice_index_or script.now k default in
             steps.new ≤ steps.old + 24 * command_count edit.step }
+        ensures unticked { result ≡ Ok Done.Nothing → steps.new ≡ steps.old }
     {
         let line = script.line_of(k);
         match script.edit(k) {
@@ -255,6 +258,7 @@ impl Editor {
         ensures cost { steps.new
             ≤ steps.old + rows_in_reach_of_all self.old.screen commands.entry }
         ensures at_most_24 { steps.new ≤ steps.old + 24 * length commands.entry }
+        ensures made { result ≢ Ok Done.Nothing }
     {
         self.undo.begin(&self.screen);
         let applied = apply_commands(
@@ -291,6 +295,7 @@ impl Editor {
         ensures marks { marks.new ≡ differences (looks_of (core_of self.old.screen))
             (looks_of (core_of self.new.screen)) }
         ensures at_most_24 { steps.new ≤ steps.old + 24 }
+        ensures unticked { result ≡ Ok Done.Nothing → steps.new ≡ steps.old }
     {
         match self.undo.undo(&mut self.screen, glass, marks, steps) {
             Undone::Nothing => Ok(Done::Nothing),

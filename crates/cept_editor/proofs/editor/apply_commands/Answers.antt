@@ -31,7 +31,7 @@ pub returns-in_err-apply_command-clause-marks : goal.returns-in_err-apply_comman
 returns-in_err-apply_command-clause-marks g c =
     rw (err_from_is_err_and c.from_residual.result c.from_residual.ensures.1).1 (λ _. stopped_marked c.args.report
     c.args.line _ _ c.in-Some.command _ _ _ _ _ _ _ _ _ (gone_left c.in-Some.ensures.next c.loop-command.invariant.gone)
-    c.apply_command.ensures.applies.stands c.apply_command.ensures.marks)
+    c.apply_command.ensures.applies.stands c.apply_command.ensures.marks c.in_err-apply_command.ensures.shown)
 
 pub returns-in_err-apply_command-clause-cost : goal.returns-in_err-apply_command-clause-cost
 returns-in_err-apply_command-clause-cost g c =

@@ -1,7 +1,6 @@
 use Rattle.std.proofs.Common.{ap, refl}
 use Rattle.std.proofs.lemmas.Result.{err_from_is_err_and}
 use Rattle.cept_undo.specs.Edits.{Edits}
-use Rattle.cept_editor.specs.Kept.{EditorState}
 use Rattle.cept_editor.specs.Made.{output_of}
 use Rattle.cept_editor.proofs.LinesMade.{nothing_left, nothing_undone, undo_made, undo_cut}
 use Rattle.cept_editor.proofs.editor.Editor.take_back.Goals as goal
