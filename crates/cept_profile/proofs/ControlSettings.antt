@@ -1,5 +1,5 @@
 -- Settings of control: a command sets what looking back says that it sets, and nothing else.
-use Rattle.std.proofs.Common.{◌≡◌, ℕ, ◌+◌, ◌-◌, ◌≤◌, zero, suc, Bool, true, false, not, cond, eqb, leb, Option, Some}
+use Rattle.std.proofs.Common.{◌≡◌, ℕ, ◌+◌, ◌-◌, ◌≤◌, zero, suc, Bool, true, false, cond, eqb, leb, Option, Some}
 use Rattle.std.proofs.Common.{None, unwrap_or, List, [], ◌∷◌, reverse, refl, sym, ◌∙◌, ap, arith, ◌⊎◌, inl, inr, subst}
 use Rattle.std.proofs.Common.{◌&&◌}
 use Rattle.std.proofs.lemmas.Bool.{cond_both, cond-false, cond-true, false≢true}

@@ -17,7 +17,7 @@ use Rattle.cept_codes.specs.Table.{list_by_index, table, value_at}
 use Rattle.cept_codes.proofs.Laws.{entry-list_by_index, list_by_index-entry, value_at-table, same_table}
 use Rattle.cept_profile.specs.Attributes.{cascade}
 use Rattle.cept_profile.specs.Cells.{cell_back, cells_after_all}
-use Rattle.cept_profile.specs.Colours.{back_paint, default_paint, default_paints, fore_paint, paint_over}
+use Rattle.cept_profile.specs.Colours.{back_paint, default_paints, fore_paint, paint_over}
 use Rattle.cept_profile.specs.Control.{initial_control}
 use Rattle.cept_profile.specs.Look.{contents_of_row, grid, is_double_set, look, look_of, look_with, looks_of}
 use Rattle.cept_profile.specs.Definitions.{Definitions}

@@ -12,7 +12,7 @@ pub use Rattle.cept_profile.proofs.ValidState.{IsValidState-start, IsValidState-
 pub use Rattle.cept_profile.proofs.OneMoreState.{IsValidStroke-strokes_of}
 pub use Rattle.cept_profile.proofs.ValidPage.{length-strokes_of}
 -- ---- looks_are_valid
-pub use Rattle.cept_profile.proofs.ValidLook.{IsValidLook-look_of, IsValidLook-look_in_row, IsValidGrid-looks_of}
+pub use Rattle.cept_profile.proofs.ValidLook.{IsValidFull-cascade, IsValidLook-look_of, IsValidLook-look_in_row, IsValidGrid-looks_of}
 pub use Rattle.cept_profile.proofs.ValidLook.{AreValidDefinitions-page, IsValidLook-row_from_above}
 -- ---- painting_the_changes, each_command_is_shown
 pub use Rattle.cept_profile.proofs.PaintedPlaces.{grid_with_paints-append}

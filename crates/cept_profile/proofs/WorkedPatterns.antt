@@ -1,19 +1,17 @@
 -- Worked cases: which pattern a code has, and what is drawn of a sign of the downloaded set, by computing.
-use Rattle.std.proofs.Common.{◌≡◌, ℕ, Option, Some, None, List, [], ◌∷◌, map, true, refl}
+use Rattle.std.proofs.Common.{◌≡◌, ℕ, Some, None, [], ◌∷◌, map, true, refl}
 use Rattle.cept_codes.specs.declared.attribute.Pen.{Pen}
 use Rattle.cept_codes.specs.declared.cell.What.{What}
 use Rattle.cept_codes.specs.declared.cell.What.TheVariants as whats
-use Rattle.cept_codes.specs.declared.glyph.Glyph.{Glyph}
 use Rattle.cept_codes.specs.declared.glyph.SetId.TheVariants.{D, M}
 use Rattle.cept_codes.specs.declared.look.Look.{Look}
 use Rattle.cept_codes.specs.declared.look.Paint.{Paint}
 use Rattle.cept_codes.specs.declared.look.Paint.TheVariants.{Video}
 use Rattle.cept_codes.specs.declared.look.Pattern.{Pattern}
 use Rattle.cept_codes.specs.declared.look.Shape.{Shape}
-use Rattle.cept_codes.specs.declared.look.Shape.TheVariants.{Char, Drcs, Space}
+use Rattle.cept_codes.specs.declared.look.Shape.TheVariants.{Char, Drcs}
 use Rattle.cept_codes.specs.declared.stroke.Stroke.TheVariants as strokes
 use Rattle.cept_codes.specs.Attribute.{unset_pen}
-use Rattle.cept_codes.specs.Look.{black_paint}
 use Rattle.cept_codes.specs.Table.{list_by_index}
 use Rattle.cept_profile.specs.Colours.{default_paint, default_paints, ink}
 use Rattle.cept_profile.specs.Definitions.{Definitions, inks_of, inks_with}

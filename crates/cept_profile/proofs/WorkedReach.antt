@@ -1,6 +1,6 @@
 -- Worked cases: rows in reach of a sign among signs of double height, by computing.
 use Rattle.std.proofs.Common.{rules, ◌≡◌, ℕ, ◌+◌, ◌≤◌, ◌==◌, ◌&&◌, cond, not, Bool, List, [], ◌∷◌, ◌++◌, false, refl, sym, ap}
-use Rattle.std.proofs.Common.{◌∙◌, inl, inr, length, reverse, arith}
+use Rattle.std.proofs.Common.{◌∙◌, inl, inr, reverse, arith}
 use Rattle.std.specs.List.{count_by, list_any, range_with_len}
 use Rattle.std.proofs.lemmas.Bool.{and_cases, cases_eq, cases_lt, not_from_false, or_parts, true≢false}
 use Rattle.std.proofs.lemmas.Bool.Decides.{nat_tests}

@@ -39,7 +39,8 @@ pub record IsValidWorking (w : Working) : Type 0 where
   pub step : (w.step ≡ 1) ⊎ (w.step ≡ 2)
   pub table : w.table ≤ 3
 
--- the same of what is in force and of what a service keeps, in one of the two formats
+-- valid working state in force, and in what a service keeps; 24 or 20 rows, with the row in force among them; an area of
+-- valid rows, or none
 pub record IsValidControl (s : ControlState) : Type 0 where
   pub working : IsValidWorking s.working
   pub rows : (s.rows ≡ 24) ⊎ (s.rows ≡ 20)
@@ -52,8 +53,8 @@ pub record AreValidDefinitions (defined : Definitions) : Type 0 where
   pub paints : (i : ℕ) → IsValidPaint (paint_in defined.paints i)
   pub patterns : (code : ℕ) → 0x21 ≤ code → IfSome (pattern_in defined.patterns code) IsValidPattern
 
--- 24 rows of 40 valid cells, the blank ones unprotected, and valid attributes of rows and screen, paints, DCLUT and
--- patterns
+-- 24 rows of 40 valid cells, the blank ones unprotected, with valid attributes; those of the screen, 32 paints, four
+-- entries of the DCLUT and 94 patterns or none, each valid
 pub record IsValidPage (p : Page) : Type 0 where
   pub rows : length p.row_pens ≡ 24
   pub row_pens : (r : ℕ) → 1 ≤ r → r ≤ 24 → IsRowPen (row_pen_in p.row_pens r)
@@ -76,7 +77,7 @@ pub record IsValidState (s : State) : Type 0 where
   pub past : (r c : ℕ) → OnScreen r c → s.control.rows < r → value_at blank_cell s.page.cells r c ≡ blank_cell
   pub unset : (r : ℕ) → 1 ≤ r → r ≤ 24 → s.control.rows < r → row_pen_in s.page.row_pens r ≡ unset_pen
 
--- a valid page, and nothing past the format
+-- a valid page of 24 or 20 rows with an area of valid rows, or none, and nothing past the format
 pub record IsValidCore (k : Core) : Type 0 where
   pub page : IsValidPage k.page
   pub rows : (k.rows ≡ 24) ⊎ (k.rows ≡ 20)
