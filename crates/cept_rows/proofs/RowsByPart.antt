@@ -11,11 +11,12 @@ use Rattle.cept_codes.specs.declared.attribute.Full.{Full}
 use Rattle.cept_codes.specs.declared.attribute.Size.TheVariants as sizes
 use Rattle.cept_codes.specs.declared.cell.Cell.{Cell}
 use Rattle.cept_codes.specs.declared.cell.What.{What}
+use Rattle.cept_codes.specs.declared.cell.What.TheVariants as whats
 use Rattle.cept_codes.specs.declared.glyph.Glyph.{Glyph}
 use Rattle.cept_codes.specs.declared.look.Look.{Look}
 use Rattle.cept_codes.specs.declared.look.Part.{Part}
 use Rattle.cept_codes.specs.Attribute.{IsValidFull, IsValidPen}
-use Rattle.cept_codes.specs.Cell.{IsValidWhat, blank_cell}
+use Rattle.cept_codes.specs.Cell.{IsValidWhat}
 use Rattle.cept_codes.specs.Table.{HasMadeEntries, row_of}
 use Rattle.cept_codes.specs.declared.look.Pattern.{Pattern}
 use Rattle.cept_codes.specs.Look.{IsValidLook, IsValidPaint, IsValidPattern, blank_look}
@@ -29,7 +30,8 @@ use Rattle.cept_profile.specs.Serial.{held_sign, own_attributes, own_attributes_
 use Rattle.cept_profile.specs.Tiling.{covers_below, is_covered_from_left, is_high, is_wide, origin_part, part_below}
 use Rattle.cept_profile.specs.Tiling.{part_by, part_from}
 use Rattle.cept_profile.specs.Tiling.{column_entry, part_to_the_right, single_part, tiled_row}
-use Rattle.cept_profile.proofs.Laws.{IsValidLook-look_in_row, IsValidLook-row_from_above, serial_attributes-valid}
+use Rattle.cept_profile.proofs.Laws.{IsValidFull-cascade, IsValidLook-look_in_row, IsValidLook-row_from_above}
+use Rattle.cept_profile.proofs.Laws.{serial_attributes-valid}
 use Rattle.cept_rows.specs.RowsByCell.{look_by_part, shape_by_part}
 use Rattle.cept_rows.proofs.Columns.{column_entry-at, column_entry-past, column_entry-row_of, column_entry-row_of_all}
 use Rattle.cept_rows.proofs.Columns.{get_or-row_of}
@@ -158,15 +160,13 @@ IsValidLook-look_from above own wanted last is_above is_own c low high =
 
 -- ---- the next place of a row
 
--- the attributes of a cell, by those that were found in force there
-pub own_made : (cells : List Cell) (fulls : List Full) (row screen : Pen) (i : ℕ) (d made : Full) → i < 40
-    → ((c : ℕ) (d : Full) → 1 ≤ c → c ≤ 40 → get_or fulls (c - 1) d ≡ serial_attributes (row_in cells) row screen c)
-    → made ≡ own_attributes_of (get_or cells i blank_cell).what row screen (get_or fulls i d)
-    → made ≡ own_attributes (row_in cells) row screen (i + 1)
-own_made cells fulls row screen i d made below serial e =
+-- the attributes of a cell, by its place in their list
+pub own_made : (cells : List Cell) (fulls : List Full) (row screen : Pen) (i : ℕ) (d : Full) → i < 40
+    → ((c : ℕ) (d : Full) → 1 ≤ c → c ≤ 40 → get_or fulls (c - 1) d ≡ own_attributes (row_in cells) row screen c)
+    → get_or fulls i d ≡ own_attributes (row_in cells) row screen (i + 1)
+own_made cells fulls row screen i d below own =
     let index : i ≡ i + 1 - 1 = omega arith in
-    e ∙ ap (λ k. own_attributes_of (get_or cells k blank_cell).what row screen (get_or fulls k d)) index
-    ∙ ap (λ f. own_attributes_of (row_in cells (i + 1)) row screen f) (serial (i + 1) d (omega arith) (omega arith))
+    ap (λ k. get_or fulls k d) index ∙ own (i + 1) d (omega arith) (omega arith)
 
 -- what was tiled, and what was found of the cells
 pub record IsTiledBeneath (above : List Look) (cells : List Cell) (row screen : Pen) (last : Bool)
@@ -177,25 +177,26 @@ pub record IsTiledBeneath (above : List Look) (cells : List Cell) (row screen : 
   pub wanted : sizes_wanted ≡ row_of (size_in_row (row_in cells) row screen)
   pub parts : parts_made ≡ tiled_row above_it (column_entry sizes.Normal sizes_wanted) last
 
--- the look of what stands in a cell, by the attributes and the held signs that were found
-pub own_look_made : (defined : Definitions) (cells : List Cell) (row screen : Pen) (fulls : List Full)
-    (helds : List (Option Glyph)) (c : ℕ) (df : Full) (dh : Option Glyph) → 1 ≤ c → c ≤ 40
+-- the attributes of a cell, by those that were found in force there
+pub own_at : (cells : List Cell) (row screen : Pen) (fulls : List Full) (c : ℕ) (d made : Full) → 1 ≤ c → c ≤ 40
     → ((c : ℕ) (d : Full) → 1 ≤ c → c ≤ 40 → get_or fulls (c - 1) d ≡ serial_attributes (row_in cells) row screen c)
+    → made ≡ own_attributes_of (row_in cells c) row screen (get_or fulls (c - 1) d)
+    → made ≡ own_attributes (row_in cells) row screen c
+own_at cells row screen fulls c d made low high serial e =
+    e ∙ ap (λ f. own_attributes_of (row_in cells c) row screen f) (serial c d low high)
+
+-- the look of what stands in a cell, by its attributes and the held signs that were found
+pub own_look_made : (defined : Definitions) (cells : List Cell) (row screen : Pen) (f : Full)
+    (helds : List (Option Glyph)) (c : ℕ) (d : Option Glyph) → 1 ≤ c → c ≤ 40
+    → f ≡ own_attributes (row_in cells) row screen c
     → ((c : ℕ) (d : Option Glyph) → 1 ≤ c → c ≤ 40 → get_or helds (c - 1) d ≡ held_sign (row_in cells) c)
-    → look_with (paint_in defined.paints) (shape_in defined (row_in cells c) (get_or helds (c - 1) dh))
-    (own_attributes_of (row_in cells c) row screen (get_or fulls (c - 1) df))
+    → look_with (paint_in defined.paints) (shape_in defined (row_in cells c) (get_or helds (c - 1) d)) f
     ≡ look_in_row defined (row_in cells) row screen c
 unfolding look_in_row
-own_look_made defined cells row screen fulls helds c df dh low high ef eh =
-    ap (λ o. look_with (paint_in defined.paints) (shape_in defined (row_in cells c) o) (own_attributes_of
-    (row_in cells c) row screen
-    (get_or fulls
-    (c - 1) df)))
-    (eh c dh low high)
-    ∙ ap (λ f. look_with (paint_in defined.paints) (shape_in defined (row_in cells c) (held_sign (row_in cells) c))
-    (own_attributes_of
-    (row_in cells c) row screen f))
-    (ef c df low high)
+own_look_made defined cells row screen f helds c d low high own held =
+    ap (λ o. look_with (paint_in defined.paints) (shape_in defined (row_in cells c) o) f) (held c d low high)
+    ∙ ap (λ f. look_with (paint_in defined.paints) (shape_in defined (row_in cells c) (held_sign (row_in cells) c)) f)
+    own
 
 -- a part that was tiled
 part_made : (parts_above : List Part) (wanted : List Size) (parts : List Part) (last : Bool) (c : ℕ) (d : Part) → 1 ≤ c
@@ -252,14 +253,24 @@ pub IsValidLook-cell : (defined : Definitions) (row : ℕ → What) (pen screen 
 IsValidLook-cell defined row pen screen are valid c low high =
     IsValidLook-look_in_row defined row pen screen c low are (λ d from to. valid d from (omega arith))
 
--- the attributes that were found in force in a cell are valid
-pub IsValidFull-found : (cells : List Cell) (fulls : List Full) (row screen : Pen) (c : ℕ) (d : Full) → 1 ≤ c → c ≤ 40
-    → ((c : ℕ) (d : Full) → 1 ≤ c → c ≤ 40 → get_or fulls (c - 1) d ≡ serial_attributes (row_in cells) row screen c)
+-- valid attributes of what stands in a cell
+IsValidFull-own : (w : What) (row screen : Pen) (f : Full) → IsValidWhat w → IsValidPen row → IsValidPen screen
+    → IsValidFull f → IsValidFull (own_attributes_of w row screen f)
+IsValidFull-own whats.Blank row screen f is is_row is_screen valid = valid
+IsValidFull-own (whats.Serial g) row screen f is is_row is_screen valid = valid
+IsValidFull-own (whats.Parallel g p) row screen f is is_row is_screen valid =
+    IsValidFull-cascade p row screen is.1 is_row is_screen
+IsValidFull-own (whats.Marker m) row screen f is is_row is_screen valid = valid
+
+-- the attributes of a cell are valid
+pub IsValidFull-at : (cells : List Cell) (row screen : Pen) (c : ℕ) (f : Full) → 1 ≤ c → c ≤ 40
+    → f ≡ own_attributes (row_in cells) row screen c
     → ((c : ℕ) → 1 ≤ c → c ≤ 40 → IsValidWhat (row_in cells c)) → IsValidPen row → IsValidPen screen
-    → IsValidFull (get_or fulls (c - 1) d)
-IsValidFull-found cells fulls row screen c d low high found valid is_row is_screen =
-    subst IsValidFull (sym (found c d low high))
-    (serial_attributes-valid (row_in cells) row screen c low is_row is_screen (λ e from to. valid e from (omega arith)))
+    → IsValidFull f
+IsValidFull-at cells row screen c f low high is valid is_row is_screen =
+    subst IsValidFull (sym is)
+    (IsValidFull-own (row_in cells c) row screen _ (valid c low high) is_row is_screen
+    (serial_attributes-valid (row_in cells) row screen c low is_row is_screen (λ e from to. valid e from (omega arith))))
 
 -- ---- shapes
 

@@ -125,23 +125,26 @@ pub(crate) fn is_plain(what: &What) -> bool
     }
 }
 
-/// The look of what stands in a cell and is shown by itself, in a row in which a blank cell looks
-/// so and all that has no pen has these attributes.
+/// The look of what stands in a cell and is shown by itself, in a row without markers in which a
+/// blank cell looks so.
 #[inline(always)]
 pub(crate) fn small_among(
     what: &What,
     blank: &SmallLook,
-    full: &Full,
+    row: &Pen,
+    screen: &Pen,
     colours: &Colours,
 ) -> SmallLook
     requires valid { IsValidWhat what.now }
-    requires full { IsValidFull full.now }
+    requires row { IsValidPen row.now }
+    requires screen { IsValidPen screen.now }
     requires set { is_downloaded what.now ≡ false }
     requires blank { blank.now
-        ≡ small_of (look_with (paint_in colours.now.paints) Space full.now) }
-    ensures { (defined : Definitions) (row screen : Pen) → full.now ≡ cascade unset_pen row screen
-        → result ≡ small_of (look_with (paint_in colours.now.paints) (shape_of defined what.now)
-        (own_attributes_of what.now row screen full.now)) }
+        ≡ small_of (look_with (paint_in colours.now.paints) Space
+        (cascade unset_pen row.now screen.now)) }
+    ensures { (defined : Definitions) → result
+        ≡ small_of (look_with (paint_in colours.now.paints) (shape_of defined what.now)
+        (own_attributes_of what.now row.now screen.now (cascade unset_pen row.now screen.now))) }
 {
     match what {
         What::Blank | What::Marker(_) => *blank,
@@ -149,26 +152,9 @@ pub(crate) fn small_among(
             sign: sign_of_set(glyph),
             ..*blank
         },
-        What::Parallel(glyph, pen) => small_with(sign_of_set(glyph), &over(pen, full), colours),
-    }
-}
-
-/// The attributes of a pen, over those of all that has none.
-#[inline(always)]
-fn over(pen: &Pen, under: &Full) -> Full
-    ensures attributes { (row screen : Pen) → under.now ≡ cascade unset_pen row screen
-        → result ≡ cascade pen.now row screen }
-    ensures valid { IsValidPen pen.now → IsValidFull under.now → IsValidFull result }
-{
-    Full {
-        fore: pen.fore.unwrap_or(under.fore),
-        back: pen.back.unwrap_or(under.back),
-        flash: pen.flash.unwrap_or(under.flash),
-        conceal: pen.conceal.unwrap_or(under.conceal),
-        lined: pen.lined.unwrap_or(under.lined),
-        boxed: pen.boxed.unwrap_or(under.boxed),
-        size: pen.size.unwrap_or(under.size),
-        invert: pen.invert.unwrap_or(under.invert),
+        What::Parallel(glyph, pen) => {
+            small_with(sign_of_set(glyph), &cascade(pen, row, screen), colours)
+        }
     }
 }
 
@@ -206,34 +192,6 @@ pub(crate) fn small_by_part(
     SmallLook { part, ..look }
 }
 
-/// The look of what stands in a cell under serial attributes, where it holds a sign or none.
-#[inline(always)]
-pub(crate) fn small_under(
-    what: &What,
-    full: &Full,
-    held: Option<Glyph>,
-    row: &Pen,
-    screen: &Pen,
-    colours: &Colours,
-    patterns: &Patterns,
-) -> SmallLook
-    requires valid { IsValidWhat what.now }
-    requires full { IsValidFull full.now }
-    requires held { IfSome held (λ g. is_set_d g.set ≡ false) }
-    requires row { IsValidPen row.now }
-    requires screen { IsValidPen screen.now }
-    ensures { result
-        ≡ small_of (look_with (paint_in colours.now.paints)
-        (shape_in (drawn_with colours.now patterns.now) what.now held)
-        (own_attributes_of what.now row.now screen.now full.now)) }
-{
-    small_with(
-        sign_in(what, held, patterns),
-        &own_attributes(what, full, row, screen),
-        colours,
-    )
-}
-
 /// A sign written in parallel has its own attributes, every other cell the serial ones.
 #[inline(always)]
 pub(crate) fn own_attributes(what: &What, full: &Full, row: &Pen, screen: &Pen) -> Full
@@ -245,6 +203,25 @@ pub(crate) fn own_attributes(what: &What, full: &Full, row: &Pen, screen: &Pen) 
         What::Parallel(_, pen) => cascade(pen, row, screen),
         What::Blank | What::Serial(_) | What::Marker(_) => *full,
     }
+}
+
+/// The look of what stands in a cell with its attributes, where it holds a sign or none.
+#[inline(always)]
+pub(crate) fn small_under(
+    what: &What,
+    full: &Full,
+    held: Option<Glyph>,
+    colours: &Colours,
+    patterns: &Patterns,
+) -> SmallLook
+    requires valid { IsValidWhat what.now }
+    requires full { IsValidFull full.now }
+    requires held { IfSome held (λ g. is_set_d g.set ≡ false) }
+    ensures { result
+        ≡ small_of (look_with (paint_in colours.now.paints)
+        (shape_in (drawn_with colours.now patterns.now) what.now held) full.now) }
+{
+    small_with(sign_in(what, held, patterns), full, colours)
 }
 
 /// The sign of a cell: a marker shows the one that it holds, which is none of the downloaded set.

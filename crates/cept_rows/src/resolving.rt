@@ -1,8 +1,10 @@
-ghost use Rattle.std.specs.Prelude.{◌≡◌, ℕ, ◌+◌, ◌-◌, ◌≤◌, false, true, slice_index_or, slice_set};
+ghost use Rattle.std.specs.Prelude.{◌≡◌, ℕ, ◌+◌, ◌-◌, ◌≤◌, List, false, true, slice_index_or, slice_set};
 ghost use Rattle.std.specs.Prelude.{IfSome, []};
 ghost use Rattle.cept_codes.specs.declared.attribute.Full.{Full};
+ghost use Rattle.cept_codes.specs.declared.attribute.Pen.{Pen};
 ghost use Rattle.cept_codes.specs.declared.attribute.Size.TheVariants.{Normal};
 ghost use Rattle.cept_codes.specs.Attribute.{IsValidPen, unset_pen};
+ghost use Rattle.cept_codes.specs.declared.cell.Cell.{Cell};
 ghost use Rattle.cept_codes.specs.Cell.{IsValidWhat};
 ghost use Rattle.cept_codes.specs.Look.{blank_look};
 ghost use Rattle.cept_codes.specs.Table.{row_of};
@@ -17,7 +19,7 @@ ghost use Rattle.cept_profile.specs.Look.{
 ghost use Rattle.cept_profile.specs.Look.{shape_in, shape_of, size_in_row};
 ghost use Rattle.cept_profile.specs.PageParts.{row_pen_in};
 ghost use Rattle.cept_profile.specs.RowsFromAbove.{looks_in, row_from_above};
-ghost use Rattle.cept_profile.specs.Serial.{row_in, serial_attributes};
+ghost use Rattle.cept_profile.specs.Serial.{own_attributes, row_in, serial_attributes};
 ghost use Rattle.cept_profile.specs.State.{Core, definitions_of};
 ghost use Rattle.cept_profile.specs.Tiling.{column_entry, covers_below};
 ghost use Rattle.cept_rows.specs.DrawnWith.{drawn_with};
@@ -176,7 +178,7 @@ fn each_plain(
         if !is_plain(what) {
             return false;
         }
-        looks.put_single(column, small_among(what, &blank, full, colours));
+        looks.put_single(column, small_among(what, &blank, row, screen, colours));
     }
     true
 }
@@ -204,7 +206,8 @@ fn each_under_markers(
     for column in 1..41u8 {
         let k = column as usize - 1;
         let what = &cells[k].what;
-        let look = small_under(what, &full[k], held[k], row, screen, colours, patterns);
+        let own = own_attributes(what, &full[k], row, screen);
+        let look = small_under(what, &own, held[k], colours, patterns);
         keep(looks, column, look, what, colours, patterns);
     }
 }
@@ -232,14 +235,15 @@ fn each_by_part(
     looks.tell_columns();
     colours.tell_valid();
     patterns.tell_valid();
-    let RowSerial { full, held } = serial_cells(cells, row, screen);
-    let wants = sizes_in_row(cells, &full, row, screen);
+    let RowSerial { mut full, held } = serial_cells(cells, row, screen);
+    lay_pens(cells, &mut full, row, screen);
+    let wants = sizes_in_row(&full);
     let tiled = tile_row(&above.parts(), &wants, last);
     let mut left = SmallLook::BLANK;
     for column in 1..41u8 {
         let k = column as usize - 1;
         let what = &cells[k].what;
-        let own = small_under(what, &full[k], held[k], row, screen, colours, patterns);
+        let own = small_under(what, &full[k], held[k], colours, patterns);
         let part = tiled.parts[k];
         let look = small_by_part(part, above.small(column), left, own);
         keep_part(
@@ -377,15 +381,28 @@ fn keep_part_of_pattern(
     }
 }
 
-/// The sizes that are wanted in a row, by the serial attributes of its cells.
-fn sizes_in_row(cells: &[Cell; 40], full: &[Full; 40], row: &Pen, screen: &Pen) -> Wants
-    requires full { (c : ℕ) (d : Full) → 1 ≤ c → c ≤ 40 → slice_index_or full.now (c - 1) d
+/// Makes the attributes of each cell of a row of those that are in force there.
+fn lay_pens(cells: &[Cell; 40], full: &mut [Full; 40], row: &Pen, screen: &Pen)
+    requires { (c : ℕ) (d : Full) → 1 ≤ c → c ≤ 40 → slice_index_or full.old (c - 1) d
         ≡ serial_attributes (row_in cells.now) row.now screen.now c }
-    ensures { result.sizes ≡ row_of (size_in_row (row_in cells.now) row.now screen.now) }
+    ensures { (c : ℕ) (d : Full) → 1 ≤ c → c ≤ 40 → slice_index_or full.new (c - 1) d
+        ≡ own_attributes (row_in cells.now) row.now screen.now c }
+{
+    for i in 0..40usize {
+        full[i] = own_attributes(&cells[i].what, &full[i], row, screen);
+    }
+}
+
+/// The sizes that are wanted in a row, by the attributes of its cells.
+fn sizes_in_row(full: &[Full; 40]) -> Wants
+    ensures { (cells : List Cell) (row screen : Pen)
+        → ((c : ℕ) (d : Full) → 1 ≤ c → c ≤ 40 → slice_index_or full.now (c - 1) d
+        ≡ own_attributes (row_in cells) row screen c)
+        → result.sizes ≡ row_of (size_in_row (row_in cells) row screen) }
 {
     let mut sizes = [Size::Normal; 40];
     for i in 0..40usize {
-        sizes[i] = own_attributes(&cells[i].what, &full[i], row, screen).size;
+        sizes[i] = full[i].size;
     }
     Wants { sizes }
 }

@@ -13,17 +13,16 @@ use Rattle.cept_rows.specs.SmallLooks.{drawing_of, look_kept, sign_of, small_of}
 use Rattle.cept_rows.proofs.Columns.{made_all, made_next}
 use Rattle.cept_rows.proofs.KeptLooks.{kept_is, small_is}
 use Rattle.cept_rows.proofs.RowsByPart.{AreValidDefinitions-kept, IsValidLook-cell, IsValidLook-look_from, look_from-0}
-use Rattle.cept_rows.proofs.RowsByPart.{IsTiledBeneath, IsValidFull-found, look_made, own_look_made, shape_made}
+use Rattle.cept_rows.proofs.RowsByPart.{IsTiledBeneath, IsValidFull-at, look_made, own_look_made, shape_made}
 use Rattle.cept_rows.proofs.Signs.{held_found}
 use Rattle.cept_rows.proofs.resolving.each_by_part.Goals as goal
 use Rattle.cept_rows.proofs.resolving.each_by_part.Goals.{After-small_by_part-look}
 
 pub small_under-own-requires-clause-full : goal.small_under-own-requires-clause-full
 small_under-own-requires-clause-full c =
-    IsValidFull-found c.args.cells.now c.serial_cells.result.full c.args.row.now c.args.screen.now
-    c.loop-column.column _
-    c.loop-column.auto.column (omega arith) c.serial_cells.ensures.full c.requires.cells c.requires.row
-    c.requires.screen
+    IsValidFull-at c.args.cells.now c.args.row.now c.args.screen.now c.loop-column.column _ c.loop-column.auto.column
+    (omega arith) (c.lay_pens.ensures c.loop-column.column _ c.loop-column.auto.column (omega arith)) c.requires.cells
+    c.requires.row c.requires.screen
 
 pub small_under-own-requires-clause-held : goal.small_under-own-requires-clause-held
 small_under-own-requires-clause-held c =
@@ -62,7 +61,7 @@ tiled : (c : After-small_by_part-look)
 tiled c = record {
   columns = c.tell_columns.ensures.columns;
   parts_above = c.parts.ensures.parts;
-  wanted = c.sizes_in_row-wants.ensures;
+  wanted = c.sizes_in_row-wants.ensures c.args.cells.now c.args.row.now c.args.screen.now c.lay_pens.ensures;
   parts = c.tile_row-tiled.ensures.row;
 }
 
@@ -72,11 +71,9 @@ here c =
     (wanted c (c.loop-column.column - 1)) (own c c.loop-column.column)
     c.small.ensures.look c.loop-column.invariant.left
     (c.small_under-own.ensures
-    ∙ ap small_of (own_look_made
-    (drawn_with c.args.colours.now c.args.patterns.now) c.args.cells.now c.args.row.now c.args.screen.now
-    c.serial_cells.result.full
-    c.serial_cells.result.held c.loop-column.column _ _ c.loop-column.auto.column (omega arith)
-    c.serial_cells.ensures.full c.serial_cells.ensures.held))
+    ∙ ap small_of (own_look_made (drawn_with c.args.colours.now c.args.patterns.now) c.args.cells.now c.args.row.now
+    c.args.screen.now _ c.serial_cells.result.held c.loop-column.column _ c.loop-column.auto.column (omega arith)
+    (c.lay_pens.ensures c.loop-column.column _ c.loop-column.auto.column (omega arith)) c.serial_cells.ensures.held))
     ∙ ap small_of (look_made
     (drawn_with c.args.colours.now c.args.patterns.now) c.args.above.now c.args.cells.now c.args.row.now
     c.args.screen.now c.args.last

@@ -1,8 +1,10 @@
 use Rattle.std.proofs.Common.{◌≡◌, ℕ, ◌≤◌, false, refl, ap, ◌∙◌, arith}
 use Rattle.cept_codes.specs.declared.look.Look.{Look}
 use Rattle.cept_codes.specs.declared.look.Shape.TheVariants as shapes
+use Rattle.cept_codes.specs.Attribute.{unset_pen}
 use Rattle.cept_codes.specs.Look.{IsValidLook, blank_look}
-use Rattle.cept_profile.specs.Look.{look_in_row, look_with, sets_double_size, shape_of}
+use Rattle.cept_profile.specs.Attributes.{cascade}
+use Rattle.cept_profile.specs.Look.{look_in_row, look_with, sets_double_size}
 use Rattle.cept_profile.specs.PageParts.{paint_in}
 use Rattle.cept_profile.specs.Serial.{is_marker, own_attributes_of, row_in}
 use Rattle.cept_profile.specs.Tiling.{covers_below}
@@ -17,7 +19,9 @@ use Rattle.cept_rows.proofs.resolving.each_plain.Goals as goal
 use Rattle.cept_rows.proofs.resolving.each_plain.Goals.{After-small_among}
 
 pub small_among-requires-clause-blank : goal.small_among-requires-clause-blank
-small_among-requires-clause-blank c = c.small_with-blank.ensures shapes.Space refl
+small_among-requires-clause-blank c =
+    c.small_with-blank.ensures shapes.Space refl
+    ∙ ap (λ f. small_of (look_with (paint_in c.args.colours.now.paints) shapes.Space f)) c.requires.full
 
 -- the look that is wanted
 abbrev wanted : After-small_among → Look
@@ -35,11 +39,7 @@ markers c d low high =
 here : (c : After-small_among) → c.small_among.result ≡ small_of (wanted c)
 here c =
     let defined = drawn_with c.args.colours.now c.args.patterns.now in
-    c.small_among.ensures defined c.args.row.now c.args.screen.now c.requires.full
-    ∙ ap (λ f. small_of (look_with (paint_in c.args.colours.now.paints)
-    (shape_of defined (row_in c.args.cells.now c.loop-column.column))
-    (own_attributes_of (row_in c.args.cells.now c.loop-column.column) c.args.row.now c.args.screen.now f)))
-    c.requires.full
+    c.small_among.ensures defined
     ∙ ap small_of (look_alone defined (row_in c.args.cells.now) c.args.row.now c.args.screen.now c.loop-column.column
     c.loop-column.auto.column (markers c))
 
@@ -54,14 +54,13 @@ pub put_single-requires-clause-plain : goal.put_single-requires-clause-plain
 put_single-requires-clause-plain c =
     look_is_plain c.small_among.result (drawn_with c.args.colours.now c.args.patterns.now)
     (paint_in c.args.colours.now.paints) (row_in c.args.cells.now c.loop-column.column)
-    (own_attributes_of (row_in c.args.cells.now c.loop-column.column) c.args.row.now c.args.screen.now c.args.full.now)
-    (c.small_among.ensures (drawn_with c.args.colours.now c.args.patterns.now) c.args.row.now c.args.screen.now
-    c.requires.full) (c.if-not-is_plain.ensures.set refl)
+    (own_attributes_of (row_in c.args.cells.now c.loop-column.column) c.args.row.now c.args.screen.now
+    (cascade unset_pen c.args.row.now c.args.screen.now))
+    (c.small_among.ensures (drawn_with c.args.colours.now c.args.patterns.now)) (c.if-not-is_plain.ensures.set refl)
 
 pub put_single-requires-clause-low : goal.put_single-requires-clause-low
 put_single-requires-clause-low c =
-    ap (λ s. covers_below s.part) (c.small_among.ensures (drawn_with c.args.colours.now c.args.patterns.now)
-    c.args.row.now c.args.screen.now c.requires.full)
+    ap (λ s. covers_below s.part) (c.small_among.ensures (drawn_with c.args.colours.now c.args.patterns.now))
 
 pub put_single-requires-clause-small : goal.put_single-requires-clause-small
 put_single-requires-clause-small c =
