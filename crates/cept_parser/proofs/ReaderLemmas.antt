@@ -12,10 +12,9 @@ use Rattle.cept_drcs.specs.Unit.{is_pattern, pattern, pattern_grows as unit_grow
 use Rattle.cept_drcs.proofs.Laws.{unit_loads, some_plane}
 use Rattle.cept_parser.specs.declared.context.Context.{Context}
 use Rattle.cept_parser.specs.declared.context.Outcome.{Outcome}
-use Rattle.cept_parser.specs.declared.fit.Fit.{Fit}
 use Rattle.cept_parser.specs.declared.reader.Reader.{Reader}
 use Rattle.cept_parser.specs.declared.fit.Fit.TheVariants.{Misfit, Open, Whole, Longer}
-use Rattle.cept_parser.specs.Grammar.{unit, fits, grows}
+use Rattle.cept_parser.specs.Grammar.{unit, fits}
 use Rattle.cept_parser.specs.Items.{Reading, reading_at, reading_with_items, said_at_end}
 use Rattle.cept_parser.specs.Fit.{fit, fit_by}
 use Rattle.cept_parser.specs.declared.context.Mode.TheVariants.{DrcsRun}

@@ -229,7 +229,7 @@ fn first_and_rest(context: &mut Context, byte: u8, rest: &[u8], ended: bool, sai
 {
     match byte {
         0x1F => us(context, rest, ended, said),
-        0x20..=0x7F => run(context, byte, rest, ended, said),
+        0x20..=0x7F => run(context, byte, rest, said),
         0x12 => rpt(context, rest, said),
         0x1B => escape_sequence(context, rest, said),
         0x9B => control_sequence(context, rest, said),

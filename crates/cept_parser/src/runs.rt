@@ -1,4 +1,4 @@
-ghost use Rattle.std.specs.Prelude.{◌≡◌, ◌≢◌, ◌≤◌, ◌<◌, ◌+◌, [], length, true, false};
+ghost use Rattle.std.specs.Prelude.{◌≡◌, ◌≢◌, ◌≤◌, ◌<◌, ◌+◌, [], length, Bool, true, false};
 ghost use Rattle.cept_codes.specs.Command.{IsValidForm};
 ghost use Rattle.cept_parser.specs.Fit.{fit_by, said_by, context_by, is_closed};
 ghost use Rattle.cept_parser.specs.Runs.{misplacement, has_six_bits, bit, colour_part, colour};
@@ -217,54 +217,26 @@ fn table_run(context: &mut Context, place: u8, byte: u8, rest: &[u8], said: &mut
     }
 }
 
-/// How a plain byte and those after it stand to a run of patterns, where it begins none.
-#[tactic(auto, unfolding(crate::specs::Runs::pattern_unit, crate::specs::Runs::begins_pattern, crate::specs::Runs::pattern_grows))]
-fn pattern_run(
-    context: &mut Context,
-    code: u8,
-    byte: u8,
-    rest: &[u8],
-    ended: bool,
-    said: &mut Said,
-) -> Fit
-    requires rest { 1 ≤ length rest.now }
-    requires other { starts_pattern context.old code byte ≡ false }
-    ensures fit { result
-        ≡ fit_by (begins_pattern context.old code byte rest.now)
-        (pattern_grows context.old code byte rest.now)
-        (pattern_unit context.old code byte rest.now) }
-    ensures said { said.new
-        ≡ said_by (pattern_unit context.old code byte rest.now)
-        (is_closed (pattern_grows context.old code byte rest.now) ended) said.old }
-    ensures context { context.new
-        ≡ context_by (pattern_unit context.old code byte rest.now)
-        (is_closed (pattern_grows context.old code byte rest.now) ended) context.old }
-{
-    Fit::Misfit
-}
-
-/// How a plain byte and those after it stand to the mode.
-#[tactic(auto, unfolding(crate::specs::Runs::begins_run))]
+/// How a plain byte and those after it stand to the mode. A pattern begins with none of them, and no
+/// other run can grow, so that what is said is the same whether more bytes may come or not.
+#[tactic(auto, unfolding(crate::specs::Runs::begins_run, crate::specs::Runs::pattern_unit, crate::specs::Runs::begins_pattern, crate::specs::Runs::pattern_grows))]
 #[inline(never)]
-pub fn run(context: &mut Context, byte: u8, rest: &[u8], ended: bool, said: &mut Said) -> Fit
+pub fn run(context: &mut Context, byte: u8, rest: &[u8], said: &mut Said) -> Fit
     requires rest { 1 ≤ length rest.now }
     requires other { begins_in context.old.mode context.old byte ≡ false }
     ensures fit { result
         ≡ fit_by (begins_run context.old.mode context.old byte rest.now)
         (run_grows context.old.mode context.old byte rest.now)
         (run_unit context.old.mode context.old byte rest.now) }
-    ensures said { said.new
+    ensures said { (ended : Bool) → said.new
         ≡ said_by (run_unit context.old.mode context.old byte rest.now)
         (is_closed (run_grows context.old.mode context.old byte rest.now) ended) said.old }
-    ensures context { context.new
+    ensures context { (ended : Bool) → context.new
         ≡ context_by (run_unit context.old.mode context.old byte rest.now)
         (is_closed (run_grows context.old.mode context.old byte rest.now) ended) context.old }
 {
     match context.mode {
-        Mode::Text => Fit::Misfit,
-        Mode::Skip => Fit::Misfit,
         Mode::TableRun(place) => table_run(context, place, byte, rest, said),
-        Mode::DclutRun(_) => Fit::Misfit,
-        Mode::DrcsRun(code) => pattern_run(context, code, byte, rest, ended, said),
+        Mode::Text | Mode::Skip | Mode::DclutRun(_) | Mode::DrcsRun(_) => Fit::Misfit,
     }
 }

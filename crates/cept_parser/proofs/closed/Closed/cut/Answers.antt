@@ -1,4 +1,4 @@
-use Rattle.std.proofs.Common.{List, [], ◌∷◌, ◌++◌, ap, ◌∙◌}
+use Rattle.std.proofs.Common.{[], ◌∷◌, ◌++◌, ap, ◌∙◌}
 use Rattle.cept_codes.specs.declared.item.Item.{Item}
 use Rattle.cept_parser.proofs.ClosedLemmas.{one_more}
 use Rattle.cept_parser.proofs.closed.Closed.cut.Goals as goal

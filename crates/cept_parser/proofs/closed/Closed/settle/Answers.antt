@@ -1,7 +1,6 @@
-use Rattle.std.proofs.Common.{◌≡◌, ◌+◌, false, [], ◌∷◌, ◌++◌, length, refl, ap, sym, ◌∙◌}
+use Rattle.std.proofs.Common.{◌≡◌, false, ◌++◌, refl, ap, sym, ◌∙◌}
 use Rattle.std.proofs.lemmas.List.{append-nil}
 use Rattle.cept_parser.specs.Items.{Reading, reading_at, waiting_reading}
-use Rattle.cept_parser.specs.Fit.{fit}
 use Rattle.cept_parser.proofs.OneByteMoreLemmas.{read_item, read_as_longer, read_as_open}
 use Rattle.cept_parser.proofs.OneByteMoreLemmas.{longer_keeps, open_keeps, misfit_keeps}
 use Rattle.cept_parser.proofs.ClosedLemmas.{one_more, no_more}

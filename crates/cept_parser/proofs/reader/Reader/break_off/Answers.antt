@@ -1,20 +1,13 @@
-use Rattle.std.proofs.Common.{◌≡◌, ◌+◌, ℕ, List, [], ◌∷◌, ◌++◌, length, true, false, not, refl, sym, ap, subst, arith, ◌∙◌}
+use Rattle.std.proofs.Common.{◌+◌, List, [], ◌∷◌, ◌++◌, refl, sym, ap, subst, ◌∙◌}
 use Rattle.cept_codes.specs.declared.item.Item.{Item}
 use Rattle.cept_codes.specs.Command.{IsValidForm}
-use Rattle.cept_drcs.specs.Loading.{Leads}
-use Rattle.cept_drcs.specs.Unit.{is_pattern, pattern_grows}
 use Rattle.cept_parser.specs.declared.context.Context.{Context}
-use Rattle.cept_parser.specs.declared.fit.Fit.TheVariants.{Whole, Longer}
-use Rattle.cept_parser.specs.Grammar.{unit, fits}
-use Rattle.cept_parser.specs.Items.{Reading, reading_at, reading_with_items}
-use Rattle.cept_parser.specs.Fit.{fit}
-use Rattle.cept_parser.specs.Waits.{IsBeside, HasLeft, outcome_at_misfit, cut_item}
+use Rattle.cept_parser.specs.Items.{Reading, reading_at}
+use Rattle.cept_parser.specs.Waits.{HasLeft, cut_item}
 use Rattle.cept_parser.proofs.LongestBeginningLemmas.{waits_fits}
-use Rattle.cept_parser.proofs.OneByteMoreLemmas.{read_closed, read_as_longer, read_cut_by, longer_left}
-use Rattle.cept_parser.proofs.ReaderLemmas.{nothing_beside, loaded_beside, some_loaded, full_says, full_fit, grow_fit}
-use Rattle.cept_parser.proofs.ReaderLemmas.{none_taken, left_after}
+use Rattle.cept_parser.proofs.OneByteMoreLemmas.{read_cut_by}
+use Rattle.cept_parser.proofs.ReaderLemmas.{left_after}
 use Rattle.cept_parser.proofs.ValidItemLemmas.{cut_sound}
-use Rattle.cept_parser.proofs.WaitingLemmas.{waits_small}
 use Rattle.cept_parser.proofs.reader.Reader.break_off.Goals as goal
 
 pub close-requires-clause-fits : goal.close-requires-clause-fits

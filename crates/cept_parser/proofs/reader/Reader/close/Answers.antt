@@ -1,6 +1,3 @@
-use Rattle.std.proofs.Common.{◌≡◌, List, [], ◌∷◌, ◌++◌, sym, ap, ◌∙◌}
-use Rattle.cept_parser.specs.Grammar.{unit}
-use Rattle.cept_parser.specs.Waits.{outcome_at_misfit, cut_item}
 use Rattle.cept_parser.proofs.ReaderLemmas.{beside_free, beside_loading}
 use Rattle.cept_parser.proofs.reader.Reader.close.Goals as goal
 

@@ -1,8 +1,6 @@
-use Rattle.std.proofs.Common.{◌≡◌, ◌+◌, List, [], ◌∷◌, ◌++◌, length, sym, ap, ◌∙◌, arith}
+use Rattle.std.proofs.Common.{[], ◌∷◌, ◌++◌, sym, ap, ◌∙◌}
 use Rattle.cept_codes.specs.declared.item.Item.{Item}
-use Rattle.cept_parser.specs.declared.context.Mode.TheVariants.{DrcsRun}
-use Rattle.cept_parser.specs.Context.{with_mode}
-use Rattle.cept_parser.proofs.ReaderLemmas.{IsLoaded, loaded, loaded_item, loaded_next}
+use Rattle.cept_parser.proofs.ReaderLemmas.{loaded, loaded_item, loaded_next}
 use Rattle.cept_parser.proofs.reader.Reader.close_pattern.Goals as goal
 
 pub returns-clause-items : goal.returns-clause-items

@@ -1,6 +1,3 @@
-use Rattle.std.proofs.Common.{◌≡◌, ℕ, ◌-◌, List, [], ◌∷◌, ◌++◌, length, sym, ap, ◌∙◌, arith, subst}
-use Rattle.cept_parser.specs.Items.{Reading, reading_at}
-use Rattle.cept_parser.specs.Waits.{HasLeft}
 use Rattle.cept_parser.proofs.ReaderLemmas.{waiting_from}
 use Rattle.cept_parser.proofs.reader.Reader.read.Goals as goal
 

@@ -1,4 +1,4 @@
-use Rattle.std.proofs.Common.{ℕ, List, false, sym, ap, ◌∙◌}
+use Rattle.std.proofs.Common.{ℕ, List, ap, ◌∙◌}
 use Rattle.std.proofs.lemmas.Bool.{both_ways}
 use Rattle.cept_parser.specs.Grammar.{unit}
 use Rattle.cept_parser.specs.Items.{said_at_end}
