@@ -13,4 +13,5 @@ mod EditsInTurn
 mod KeptStates
 mod AppliedInTurn
 mod LinesMade
+mod ScriptsByLines
 pub mod Laws

@@ -1,7 +1,8 @@
 -- A script (this project's own): its edits, and the first line that is outside the grammar. Lines are counted from 1.
-use Rattle.std.specs.Prelude.{ℕ, ◌+◌, List, [], ◌∷◌, ◌++◌, Option, Some, None, Result, Ok, Err}
+use Rattle.std.specs.Prelude.{◌≡◌, ℕ, ◌+◌, ◌≤◌, ◌<◌, List, [], ◌∷◌, ◌++◌, length, Option, Some, None, Result, Ok, Err, IsOk}
 use Rattle.std.specs.List.{AllByRecursion}
 use Rattle.cept_codes.specs.declared.line_reason.LineReason.{LineReason}
+use Rattle.cept_codes.specs.Table.{entry}
 use Rattle.cept_editor.specs.Lines.{lines}
 use Rattle.cept_editor.specs.Meaning.{Step, IsValidStep, line_meaning}
 
@@ -47,3 +48,14 @@ first_fault bytes = fault_from 1 (lines bytes)
 -- each command of each edit is valid
 abbrev pub AreValidEdits : List EditLine → Type 0
 AreValidEdits edits = AllByRecursion (λ e. IsValidStep e.step) edits
+
+-- this line of lines, counted from 1
+abbrev pub numbered_line : List (List ℕ) → ℕ → List ℕ
+numbered_line ls n = entry [] 1 ls n
+
+-- this is the first fault of lines: its line is outside the grammar for its reason, and none before it is outside
+pub record IsFirstFault (ls : List (List ℕ)) (fault : Fault) : Type 0 where
+  pub from : 1 ≤ fault.line
+  pub to : fault.line ≤ length ls
+  pub reason : line_meaning (numbered_line ls fault.line) ≡ Err fault.reason
+  pub first : (n : ℕ) → 1 ≤ n → n < fault.line → IsOk (line_meaning (numbered_line ls n))

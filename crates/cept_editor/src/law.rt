@@ -1,7 +1,7 @@
 //! Laws of events and of kept edits. The functions do nothing: their contracts are the laws.
 
-ghost use Rattle.std.specs.Prelude.{◌≡◌, ◌≤◌, ◌+◌, ℕ, Bool, List, [], ◌∷◌, ◌++◌, Result, OnOk};
-ghost use Rattle.std.specs.Prelude.{OnErr};
+ghost use Rattle.std.specs.Prelude.{◌≡◌, ◌≤◌, ◌<◌, ◌+◌, ◌==◌, ℕ, Bool, List, [], ◌∷◌, ◌++◌, Result, OnOk};
+ghost use Rattle.std.specs.Prelude.{OnErr, All, AllPairs, filter, length, None, IfSome, IsOk};
 ghost use Rattle.cept_codes.specs.declared.command.Command.{Command};
 ghost use Rattle.cept_codes.specs.declared.look.Look.{Look};
 ghost use Rattle.cept_outside.specs.Causes.{Rose};
@@ -15,7 +15,9 @@ ghost use Rattle.cept_editor.specs.Events.{Event, event_changes, report, paints}
 ghost use Rattle.cept_editor.specs.Kept.{KeptEdits, none_kept, kept_after, kept, remaining};
 ghost use Rattle.cept_editor.specs.Kept.{states_before, EditorState, StandsAfter};
 ghost use Rattle.cept_editor.specs.Made.{Output, AreStill, ArePainted, IsMade, AreMade, AreCutOff};
-ghost use Rattle.cept_editor.specs.Meaning.{Step};
+ghost use Rattle.cept_editor.specs.Lines.{lines};
+ghost use Rattle.cept_editor.specs.Meaning.{Step, line_meaning};
+ghost use Rattle.cept_editor.specs.Script.{IsFirstFault, edit_of, edits, first_fault, numbered_line};
 ghost use Rattle.cept_editor.specs.Stepping.{line_events};
 
 /// The texts of events stand in their order, and so do their changes.
@@ -26,6 +28,20 @@ pub fn texts_and_changes_in_order()
     ensures no_change { paints [] ≡ [] }
     ensures change { (e : Event) → paints (e ∷ []) ≡ event_changes e }
     ensures changes { (xs ys : List Event) → paints (xs ++ ys) ≡ paints xs ++ paints ys }
+{}
+
+/// A script is told by its lines: the edits of a line are what it means, they stand in the order of
+/// the lines, and the first fault is that of the first line outside the grammar.
+pub fn scripts_are_told_by_their_lines()
+    ensures edits { (bytes : List ℕ) (n : ℕ) → 1 ≤ n → n ≤ length (lines bytes)
+        → filter (λ e. e.line == n) (edits bytes)
+        ≡ edit_of n (line_meaning (numbered_line (lines bytes) n)) }
+    ensures within { (bytes : List ℕ) → All (λ e. (1 ≤ e.line) × (e.line ≤ length (lines bytes)))
+        (edits bytes) }
+    ensures order { (bytes : List ℕ) → AllPairs (λ e f. e.line < f.line) (edits bytes) }
+    ensures fault { (bytes : List ℕ) → IfSome (first_fault bytes) (IsFirstFault (lines bytes)) }
+    ensures none { (bytes : List ℕ) → first_fault bytes ≡ None → (n : ℕ) → 1 ≤ n
+        → n ≤ length (lines bytes) → IsOk (line_meaning (numbered_line (lines bytes) n)) }
 {}
 
 /// What an event changes, painted over the grid before it, gives the grid after it.
