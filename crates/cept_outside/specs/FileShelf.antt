@@ -2,7 +2,7 @@
 use Rattle.std.specs.Prelude.{ℕ, None}
 use Rattle.cept_outside.specs.ShelfState.{ShelfState}
 
--- a shelf that tells no bytes and misses no file, with these counts
+-- a shelf that tells no bytes and counts no file missed, with these counts
 abbrev pub untold_shelf : ℕ → ℕ → ShelfState
 untold_shelf taken faults = record {
   files = None;

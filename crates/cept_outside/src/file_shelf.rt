@@ -1,4 +1,5 @@
-ghost use Rattle.std.specs.Prelude.{◌≡◌, ◌<◌, ◌↔◌, length, is_some, IsSome, IsOk, None};
+ghost use Rattle.std.specs.Prelude.{◌≡◌, ◌+◌, ◌-◌, ◌^◌, ◌<◌, ◌↔◌, min, length, is_some, IsSome, IsOk};
+ghost use Rattle.std.specs.Prelude.{None, OnErr};
 ghost use Rattle.std.specs.Io.KnownBytes.{ReadConsumes};
 ghost use Rattle.cept_outside.specs.Causes.{HasCause};
 ghost use Rattle.cept_outside.specs.FileShelf.{untold_shelf};
@@ -9,15 +10,13 @@ ghost use Rattle.cept_outside.specs.Untold.{untold_shelf_is_sound};
 use crate::fault::Failed;
 use crate::machine::Reader;
 use crate::shelf::Shelf;
-use std::fs;
 use std::rt::Files;
 
 /// The files of the machine, under their paths. It tells nothing of bytes, and each error of the
-/// machine is a fault.
+/// machine is a fault. It reaches the machine through its reader alone.
 #[derive(Drop)]
 pub struct FileShelf<'a, R: Files> {
-    files: &'a R,
-    reader: Reader<R::File>,
+    reader: Reader<'a, R>,
     taken: u64,
 }
 
@@ -28,8 +27,7 @@ impl<'a, R: Files> FileShelf<'a, R> {
         ensures closed { result.reader.file ≡ None }
     {
         FileShelf {
-            files,
-            reader: Reader::new(),
+            reader: Reader::new(files),
             taken: 0,
         }
     }
@@ -50,9 +48,13 @@ impl<R: Files> Shelf for FileShelf<'_, R> {
 
         // A file is open after a success alone.
         ensures opened { IsOk result ↔ IsSome self.new.reader.file }
+
+        // A failure counts exactly one fault.
+        ensures once { OnErr result (self.new.reader.faults.count
+            ≡ min (self.old.reader.faults.count + 1) (2 ^ 64 - 1)) }
     {
         self.taken = 0;
-        self.reader.open(fs::open(self.files, name))
+        self.reader.open(name)
     }
 
     fn take(&mut self, into: &mut [u8]) -> Result<usize, Failed>

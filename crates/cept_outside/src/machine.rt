@@ -1,14 +1,16 @@
-//! Readers and writers of the machine, whose errors are counted as faults. A count of faults rises
-//! nowhere else.
-ghost use Rattle.std.specs.Prelude.{◌≡◌, ℕ, ◌+◌, ◌-◌, ◌^◌, ◌<◌, ◌≤◌, min, length, Some, None, Ok};
+//! Readers and writers of the machine. A count of faults rises at an error that the machine
+//! answers, or at a write of which the machine takes nothing, and nowhere else.
+ghost use Rattle.std.specs.Prelude.{◌≡◌, ℕ, ◌+◌, ◌-◌, ◌^◌, ◌<◌, ◌≤◌, ◌↔◌, min, length, None, Ok};
 ghost use Rattle.std.specs.Prelude.{false, true};
-ghost use Rattle.std.specs.Prelude.{is_some, IsOk, IsErr, IfOk, OnOk, OnErr};
+ghost use Rattle.std.specs.Prelude.{is_some, IsSome, IsOk, IsErr, IfOk, OnOk, OnErr};
 ghost use Rattle.std.specs.Io.KnownBytes.{Keeps, ReadConsumes, WriteAppends};
 ghost use Rattle.cept_outside.specs.Causes.{HasCause};
 ghost use Rattle.cept_outside.specs.Machine.{bytes_ahead};
 
 use crate::fault::Failed;
+use std::fs;
 use std::io::{self, Read, Write};
+use std::rt::Files;
 
 /// A count of faults, up to the greatest u64.
 #[derive(Drop)]
@@ -37,6 +39,7 @@ impl Faults {
         ensures value { IfOk answer (λ x. result ≡ Ok x) }
         ensures failed { OnErr answer (IsErr result) }
         ensures cause { HasCause self.old.count self.new.count result }
+        ensures once { OnErr result (self.new.count ≡ min (self.old.count + 1) (2 ^ 64 - 1)) }
     {
         match answer {
             Ok(value) => Ok(value),
@@ -45,32 +48,38 @@ impl Faults {
     }
 }
 
-/// A file of the machine, where one is open.
+/// The files of the machine, and the one of them that is open, if one is. Who holds a reader reaches
+/// the files through it alone.
 #[derive(Drop)]
-pub struct Reader<F> {
-    file: Option<F>,
+pub struct Reader<'a, R: Files> {
+    files: &'a R,
+    file: Option<R::File>,
     faults: Faults,
 }
 
-impl<F: Read + Drop> Reader<F> {
+impl<'a, R: Files> Reader<'a, R> {
     /// No file is open.
-    pub fn new() -> Reader<F>
+    pub fn new(files: &'a R) -> Reader<'a, R>
         ensures closed { result.file ≡ None }
         ensures faults { result.faults.count ≡ 0 }
     {
         Reader {
+            files,
             file: None,
             faults: Faults::new(),
         }
     }
 
-    /// Closes the file that was open, for the one that the machine answered.
-    pub fn open(&mut self, answer: io::Result<F>) -> Result<(), Failed>
-        ensures opened { IfOk answer (λ file. IsOk result × (self.new.file ≡ Some file)) }
-        ensures failed { OnErr answer (IsErr result × (self.new.file ≡ None)) }
+    /// Closes the file that was open, and opens the one of this name. A failure counts exactly one
+    /// fault, and leaves none open.
+    pub fn open(&mut self, name: &str) -> Result<(), Failed>
+        ensures opened { IsOk result ↔ IsSome self.new.file }
         ensures cause { HasCause self.old.faults.count self.new.faults.count result }
+        ensures once { OnErr result (self.new.faults.count
+            ≡ min (self.old.faults.count + 1) (2 ^ 64 - 1)) }
     {
         self.file = None;
+        let answer = fs::open(self.files, name);
         self.file = Some(self.faults.judge(answer)?);
         Ok(())
     }
@@ -78,8 +87,8 @@ impl<F: Read + Drop> Reader<F> {
     /// Reads the next bytes of the open file to the front of the slice, none where no file is open.
     pub fn read(&mut self, into: &mut [u8]) -> Result<usize, Failed>
         ensures within { IfOk result (λ n. n ≤ length into.new) }
-        ensures bytes { ReadConsumes (bytes_ahead F.remaining self.old.file)
-            (bytes_ahead F.remaining self.new.file)
+        ensures bytes { ReadConsumes (bytes_ahead R.File.remaining self.old.file)
+            (bytes_ahead R.File.remaining self.new.file)
             result into.new }
         ensures open { is_some self.new.file ≡ is_some self.old.file }
         ensures closed { self.old.file ≡ None → IsOk result }
@@ -115,8 +124,9 @@ impl<W: Write> Writer<W> {
         }
     }
 
-    /// Writes the front of the bytes, at least one. To write nothing is a fault.
+    /// Writes the front of the bytes, at least one. That the writer takes none of them is a fault.
     pub fn write(&mut self, bytes: &[u8]) -> Result<usize, Failed>
+        requires { 0 < length bytes.now }
         ensures some { IfOk result (λ n. 1 ≤ n) }
         ensures within { IfOk result (λ n. n ≤ length bytes.now) }
         ensures appends { WriteAppends (W.contents self.old.out) (W.contents self.new.out) result

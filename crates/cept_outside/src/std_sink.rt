@@ -16,7 +16,7 @@ use std::io::Write;
 /// is a fault.
 ///
 /// It holds up to 4096 bytes back until more are put or it is flushed. So who ends without a flush
-/// calls `hand_on`, and no byte that was put is lost.
+/// calls `hand_on`: no byte that was put is lost where that succeeds.
 #[derive(Drop)]
 pub struct StdSink<W> {
     writer: Writer<W>,

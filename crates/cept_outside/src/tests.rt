@@ -1,7 +1,10 @@
-use crate::machine::Reader;
+mod disk;
+
 use crate::{Failed, FileShelf, MemShelf, MemSink, QuietShelf, Shelf, Sink, StdSink, WriteFault};
 use arrayvec::ArrayVec;
-use std::io::{self, Read, Write};
+use disk::Disk;
+use std::cell::Cell;
+use std::io::{self, Write};
 use std::test::Fail;
 use std::{fs, process};
 
@@ -53,41 +56,24 @@ fn faults_are_named(rt: HostRuntime) -> Result<(), Fail> {
     Ok(())
 }
 
-/// A reader that gives two bytes a call, and fails at the second.
-#[derive(Drop)]
-struct Failing {
-    calls: u8,
-}
-
-impl Read for Failing {
-    fn read(&mut self, buf: &mut [u8]) -> io::Result<usize> {
-        self.calls = self.calls.saturating_add(1);
-        if self.calls == 2 {
-            return Err(io::Error::from(io::ErrorKind::Other));
-        }
-        let count = buf.len().min(2);
-        buf[..count].fill(b'0' + self.calls % 10);
-        Ok(count)
-    }
-}
-
 #[test]
-fn a_read_error_is_no_end(rt: HostRuntime) {
-    let mut reader = Reader::new();
+fn an_error_of_the_machine_is_no_end(rt: HostRuntime) {
+    let disk = Disk {
+        opens: Cell::new(0),
+    };
+    let mut shelf = FileShelf::new(&disk);
     let mut into = [0; 3];
-    assert_eq!(rt; reader.read(&mut into), Ok(0));
-    assert!(rt; reader.open(Ok(Failing { calls: 0 })).is_ok());
-    assert_eq!(rt; reader.read(&mut into), Ok(2));
+    assert_eq!(rt; shelf.take(&mut into), Ok(0));
+    assert!(rt; shelf.select("page").is_err());
+    assert_eq!(rt; disk.opens.get(), 1);
+    assert_eq!(rt; shelf.take(&mut into), Ok(0));
+    assert!(rt; shelf.select("page").is_ok());
+    assert_eq!(rt; disk.opens.get(), 2);
+    assert_eq!(rt; shelf.take(&mut into), Ok(2));
     assert_eq!(rt; into, *b"11\0");
-    assert!(rt; reader.read(&mut into).is_err());
-    assert_eq!(rt; reader.read(&mut into), Ok(2));
+    assert!(rt; shelf.take(&mut into).is_err());
+    assert_eq!(rt; shelf.take(&mut into), Ok(2));
     assert_eq!(rt; into, *b"33\0");
-    assert!(rt;
-        reader
-            .open(Err(io::Error::from(io::ErrorKind::NotFound)))
-            .is_err()
-    );
-    assert_eq!(rt; reader.read(&mut into), Ok(0));
 }
 
 /// A writer that takes three bytes a call at most, and fails at some calls, counted over writes and
