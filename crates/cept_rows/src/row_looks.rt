@@ -100,14 +100,13 @@ impl RowLooks {
     /// Whether a look may show this paint: one is a pattern, or its sign or its background has the
     /// paint.
     pub fn may_show(&self, paint: Paint) -> bool
-        ensures { result ≡ false → AreWithout paint self.now }
+        ensures lacks { result ≡ false → AreWithout paint self.now }
+        ensures shows { AreWithout paint self.now → result ≡ false }
     {
-        if !self.is_plain() {
-            return true;
-        }
         let tint = tint_of(paint);
         for column in 1..41u8 {
-            if self.small(column).has_tint(&tint) {
+            let look = self.small(column);
+            if look.has_pattern() | look.has_tint(&tint) {
                 return true;
             }
         }

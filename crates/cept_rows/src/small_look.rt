@@ -1,4 +1,4 @@
-ghost use Rattle.std.specs.Prelude.{◌≡◌, ◌≢◌, ◌↔◌, IsTrue, false};
+ghost use Rattle.std.specs.Prelude.{◌≡◌, ◌≢◌, ◌↔◌, ◌⊎◌, IsTrue, true, false};
 ghost use Rattle.cept_rows.specs.SmallLooks.{has_pattern, look_kept, paint_kept, shape_kept};
 
 use crate::drawing::Drawing;
@@ -109,7 +109,8 @@ impl SmallLook {
     /// Whether the sign or the background has this tint.
     #[inline(always)]
     pub(crate) fn has_tint(&self, tint: &Tint) -> bool
-        ensures { result ≡ false → (self.now.fore ≢ tint.now) × (self.now.back ≢ tint.now) }
+        ensures lacks { result ≡ false → (self.now.fore ≢ tint.now) × (self.now.back ≢ tint.now) }
+        ensures has { result ≡ true → (self.now.fore ≡ tint.now) ⊎ (self.now.back ≡ tint.now) }
     {
         same_tint(&self.fore, tint) | same_tint(&self.back, tint)
     }
