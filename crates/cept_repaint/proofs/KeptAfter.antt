@@ -1,9 +1,14 @@
 -- States by their parts, and what is kept of them at the start and after a command.
-use Rattle.std.proofs.Common.{◌≡◌, ℕ, Bool, true, false, List, [], refl, sym, ap, subst, ◌∙◌, inl, inr}
+use Rattle.std.proofs.Common.{◌≡◌, ℕ, Bool, true, false, List, [], ◌∷◌, refl, sym, ap, subst, ◌∙◌, inl, inr}
 use Rattle.std.proofs.lemmas.Bool.{cases_Bool}
 use Rattle.cept_codes.specs.declared.command.Command.{Command}
+use Rattle.cept_codes.specs.declared.command.Command.TheVariants as commands
 use Rattle.cept_codes.specs.declared.look.Look.{Look}
+use Rattle.cept_codes.specs.declared.look.Paint.{Paint}
+use Rattle.cept_codes.specs.declared.look.Paint.TheVariants as paints
+use Rattle.cept_codes.specs.declared.look.Rgb.{Rgb}
 use Rattle.cept_codes.specs.declared.stroke.Stroke.{Stroke}
+use Rattle.cept_codes.specs.declared.stroke.Stroke.TheVariants as strokes
 use Rattle.cept_codes.specs.Command.{IsValidCommand}
 use Rattle.cept_profile.specs.Changes.{differences}
 use Rattle.cept_profile.specs.Control.{ControlState, control_after}
@@ -13,7 +18,9 @@ use Rattle.cept_profile.specs.State.{Page, State, core_of, page_after, state_aft
 use Rattle.cept_profile.specs.Strokes.{strokes_of}
 use Rattle.cept_profile.specs.Valid.{IsValidState}
 use Rattle.cept_profile.proofs.Laws.{IsValidState-state_after}
-use Rattle.cept_repaint.specs.Kept.{IsKept, core_on, reached_rows}
+use Rattle.cept_profile.specs.PageParts.{paint_in}
+use Rattle.cept_repaint.specs.Kept.{IsKept, SetsUnshown, core_on, reached_rows}
+use Rattle.cept_repaint.specs.Unshown.{IsUnshown}
 use Rattle.cept_repaint.proofs.OnePlace.{page_after-none}
 use Rattle.cept_repaint.proofs.RowsTouched.{reached-in_reach}
 use Rattle.cept_profile.proofs.Laws.{looks_of-alike}
@@ -101,3 +108,32 @@ IsKept-still {p} {c} {kept} is command valid d taken after none left rows =
           (is.looks ∙ sym (looks_of-still p c d rows))
       | inr f ↦ subst (λ (e : ControlState). IsKept (record { page = p; control = e }) kept) (sym (left f)) is
     ]
+
+-- a command that sets a colour entry leaves the number of rows
+pub rows-entry : (c : ControlState) (command : Command) (i : ℕ) (colour : Rgb) → command ≡ commands.Entry i colour
+    → (control_after c command).rows ≡ c.rows
+rows-entry c command i colour is = ap (λ (x : Command). (control_after c x).rows) is
+
+sets_paint : (p : Page) (xs : List Stroke) (kept : List (List Look)) (i : ℕ) (colour : Rgb)
+    → xs ≡ strokes.Colour i (paints.Ink colour) ∷ [] → (paint : Paint) → paint_in p.paints i ≡ paint
+    → IsUnshown paint kept → SetsUnshown p xs kept
+sets_paint p xs kept i colour only (paints.Ink ink) was unshown = record {
+  entry = i;
+  paint = paints.Ink colour;
+  ink = ink;
+  only = only;
+  was = was;
+  unshown = unshown.each;
+}
+sets_paint p xs kept i colour only paints.Video was unshown = absurd (unshown.colour refl)
+
+-- where no look shows the paint that the entry has, its stroke sets one that is unshown
+pub SetsUnshown-entry : {p : Page} {c : ControlState} {kept : List (List Look)}
+    → IsKept (record { page = p; control = c }) kept → (command : Command) (xs : List Stroke)
+    → xs ≡ strokes_of c command → (i : ℕ) (colour : Rgb) → command ≡ commands.Entry i colour → (s : State)
+    → (let was : State = record { page = p; control = c } in was) ≡ s
+    → IsUnshown (paint_in s.page.paints i) (looks_of (core_of s)) → SetsUnshown p xs kept
+SetsUnshown-entry {p} {c} {kept} is command xs strokes i colour entry s e unshown =
+    sets_paint p xs kept i colour (strokes ∙ ap (λ (x : Command). strokes_of c x) entry) (paint_in p.paints i) refl
+    (subst (λ (g : List (List Look)). IsUnshown (paint_in p.paints i) g) (sym is.looks)
+    (subst (λ (t : State). IsUnshown (paint_in t.page.paints i) (looks_of (core_of t))) (sym e) unshown))

@@ -1,5 +1,5 @@
 -- What a screen keeps beside its state (this project's own): the look at each place, and when looks are refreshed.
--- Private clauses alone cite this file.
+-- Private clauses alone cite this file, but for the cell of a page.
 use Rattle.std.specs.Prelude.{ℕ, ◌≡◌, ◌<◌, ◌≤◌, ◌*◌, ◌-◌, ◌||◌, Bool, true, false, not, None, List, [], ◌∷◌, length}
 use Rattle.std.specs.List.{count_by, list_any, range_with_len}
 use Rattle.cept_codes.specs.declared.cell.Cell.{Cell}
@@ -88,7 +88,7 @@ UnreachedStay strokes before was k =
     (r c : ℕ) → OnScreen r c → is_reached strokes before k.rows was (looks_of k) r ≡ false
     → value_at blank_look was r c ≡ look k r c
 
--- the only stroke sets a colour entry, and no look that is kept shows the paint that it has
+-- the only stroke sets a colour entry, no look that is kept has the paint that the entry has, and none is a pattern
 pub record SetsUnshown (p : Page) (strokes : List Stroke) (kept : List (List Look)) : Type 0 where
   pub entry : ℕ
   pub paint : Paint

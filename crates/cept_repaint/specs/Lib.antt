@@ -8,3 +8,4 @@ pub mod Marks
 pub mod Tape
 pub mod TapeGlass
 pub mod ValidGrid
+pub mod Unshown

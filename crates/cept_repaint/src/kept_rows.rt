@@ -81,8 +81,10 @@ impl KeptRows {
     /// Whether a look may show this paint: one is a pattern, or its sign or its background has the
     /// paint.
     pub(crate) fn may_show(&self, paint: Paint) -> bool
-        ensures { result ≡ false → (r c : ℕ) → OnScreen r c
+        ensures lacks { result ≡ false → (r c : ℕ) → OnScreen r c
             → IsWithout paint (value_at blank_look self.now r c) }
+        ensures shows { ((r c : ℕ) → OnScreen r c
+            → IsWithout paint (value_at blank_look self.now r c)) → result ≡ false }
     {
         self.tell_whole();
         for row in 1..25u8 {

@@ -66,6 +66,8 @@ pub(crate) fn redraw<L: Ledger>(
     ensures marks { marks.new ≡ differences kept.old kept.new }
     ensures cost { steps.new
         ≤ steps.old + reached_rows strokes.now before after kept.old kept.new }
+    ensures unshown { before ≡ after → SetsUnshown page.old strokes.now kept.old
+        → steps.new ≡ steps.old }
 {
     marks.clear();
     if before != after {
@@ -95,12 +97,12 @@ pub(crate) fn redraw<L: Ledger>(
     }
 }
 
-/// Whether the only stroke sets a colour entry whose paint no look is known to show: then it
-/// changes no look.
+/// Whether the only stroke sets a colour entry whose paint no look shows: then it changes no look.
 // Most entries that a page defines are defined before any sign has their colour.
 fn sets_unshown(page: &Page, strokes: &[Stroke], kept: &KeptRows) -> bool
     requires { AllByRecursion IsValidStroke strokes.now }
-    ensures { result ≡ true → SetsUnshown page.now strokes.now kept.now }
+    ensures sets { result ≡ true → SetsUnshown page.now strokes.now kept.now }
+    ensures told { SetsUnshown page.now strokes.now kept.now → result ≡ true }
 {
     let [Stroke::Colour(entry, _)] = strokes else {
         return false;

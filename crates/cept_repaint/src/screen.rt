@@ -1,6 +1,8 @@
-ghost use Rattle.std.specs.Prelude.{◌≡◌, ◌≤◌, ◌<◌, ◌+◌, List, [], ◌∷◌, ◌++◌, true, false};
+ghost use Rattle.std.specs.Prelude.{◌≡◌, ◌≤◌, ◌<◌, ◌+◌, ℕ, List, [], ◌∷◌, ◌++◌, true, false};
 ghost use Rattle.std.specs.Prelude.{IfOk, IfSome};
 ghost use Rattle.cept_codes.specs.declared.command.Command.{Command};
+ghost use Rattle.cept_codes.specs.declared.command.Command.TheVariants.{Entry};
+ghost use Rattle.cept_codes.specs.declared.look.Rgb.{Rgb};
 ghost use Rattle.cept_codes.specs.Attribute.{IsEntry, IsRowPen, IsScreenPen};
 ghost use Rattle.cept_codes.specs.Cell.{IsValidCell};
 ghost use Rattle.cept_codes.specs.Command.{IsValidCommand};
@@ -17,6 +19,7 @@ ghost use Rattle.cept_profile.specs.Valid.{AllValid, IsValidState};
 ghost use Rattle.cept_repaint.specs.GlassState.{Lists};
 ghost use Rattle.cept_repaint.specs.Kept.{cell_at};
 ghost use Rattle.cept_repaint.specs.Marks.{no_marks};
+ghost use Rattle.cept_repaint.specs.Unshown.{IsUnshown};
 
 use crate::glass::Glass;
 use crate::kept_rows::KeptRows;
@@ -95,6 +98,9 @@ impl Screen {
             (G.state glass.new).paints }
         ensures cost { steps.new ≤ steps.old + rows_in_reach self.old command }
         ensures at_most_24 { steps.new ≤ steps.old + 24 }
+        ensures unshown { (i : ℕ) (colour : Rgb) → command ≡ Entry i colour
+            → IsUnshown (paint_in self.old.page.paints i) (looks_of (core_of self.old))
+            → steps.new ≡ steps.old }
     {
         self.apply_from(&command, glass, marks, steps);
     }
@@ -121,6 +127,9 @@ impl Screen {
             (G.state glass.new).paints }
         ensures cost { steps.new ≤ steps.old + rows_in_reach self.old command.now }
         ensures at_most_24 { steps.new ≤ steps.old + 24 }
+        ensures unshown { (i : ℕ) (colour : Rgb) → command.now ≡ Entry i colour
+            → IsUnshown (paint_in self.old.page.paints i) (looks_of (core_of self.old))
+            → steps.new ≡ steps.old }
     {
         if self.write_attribute(command, marks) {
             return;
@@ -166,6 +175,9 @@ impl Screen {
             (G.state glass.new).paints }
         ensures cost { steps.new ≤ steps.old + rows_in_reach self.old command.now }
         ensures at_most_24 { steps.new ≤ steps.old + 24 }
+        ensures unshown { (i : ℕ) (colour : Rgb) → command.now ≡ Entry i colour
+            → IsUnshown (paint_in self.old.page.paints i) (looks_of (core_of self.old))
+            → steps.new ≡ steps.old }
     {
         self.write(command, marks, steps);
         paint_marked(self, glass, marks);
@@ -179,6 +191,9 @@ impl Screen {
             ≡ differences (looks_of (core_of self.old)) (looks_of (core_of self.new)) }
         ensures cost { steps.new ≤ steps.old + rows_in_reach self.old command.now }
         ensures at_most_24 { steps.new ≤ steps.old + 24 }
+        ensures unshown { (i : ℕ) (colour : Rgb) → command.now ≡ Entry i colour
+            → IsUnshown (paint_in self.old.page.paints i) (looks_of (core_of self.old))
+            → steps.new ≡ steps.old }
     {
         let before = self.control.rows();
         self.control.step_into(command, &mut self.strokes);

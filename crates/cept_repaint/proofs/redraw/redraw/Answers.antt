@@ -86,7 +86,7 @@ pub returns-then-unshown-clause-kept : goal.returns-then-unshown-clause-kept
 returns-then-unshown-clause-kept g c =
     looks_of-unshown c.args.page.now c.args.strokes.now c.args.after c.args.kept.now c.requires.was_valid
     (c.requires.kept ∙ ap (λ n. looks_of (core_on c.args.page.now n)) c.if-before-after.false)
-    (c.sets_unshown-unshown.ensures c.if-unshown.true)
+    (c.sets_unshown-unshown.ensures.sets c.if-unshown.true)
     ∙ ap (λ (p : Page). looks_of (core_on p c.args.after)) (sym c.draw_all-in-None.ensures)
 
 pub returns-then-unshown-clause-marks : goal.returns-then-unshown-clause-marks

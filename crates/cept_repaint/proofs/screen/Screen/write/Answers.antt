@@ -1,12 +1,13 @@
 use Rattle.std.proofs.Common.{List, sym, ap, subst, ◌∙◌, arith}
 use Rattle.cept_codes.specs.declared.stroke.Stroke.{Stroke}
+use Rattle.cept_profile.specs.Control.{ControlState}
 use Rattle.cept_profile.specs.Look.{looks_of}
 use Rattle.cept_profile.specs.State.{State, page_after, state_after}
 use Rattle.cept_profile.specs.Valid.{IsValidPage}
 use Rattle.cept_profile.proofs.Laws.{IsValidState-state_after}
 use Rattle.cept_repaint.specs.Kept.{core_on}
 use Rattle.cept_repaint.proofs.KeptAfter.{IsKept-state_after, looks_of-drawn, looks_of-state, marks-kept}
-use Rattle.cept_repaint.proofs.KeptAfter.{reached-in_reach_of, state_after-drawn}
+use Rattle.cept_repaint.proofs.KeptAfter.{SetsUnshown-entry, reached-in_reach_of, rows-entry, state_after-drawn}
 use Rattle.cept_profile.proofs.Laws.{rows_in_reach-le}
 use Rattle.cept_repaint.proofs.screen.Screen.write.Goals as goal
 
@@ -70,6 +71,15 @@ returns-clause-at_most_24 g c =
           c.rows-before.ensures.rows c.rows-after.ensures.rows whole looks c.args.self.now c.self.view_is,
       rows_in_reach-le c.args.self.now c.args.command.now,
     )
+
+pub returns-clause-unshown : goal.returns-clause-unshown
+returns-clause-unshown g c i colour entry unshown =
+    c.redraw.ensures.unshown
+    (c.rows-before.ensures.rows ∙ sym (c.rows-after.ensures.rows
+    ∙ ap (λ (s : ControlState). s.rows) c.step_into.ensures.state
+    ∙ rows-entry c.self.inside.control c.args.command.now i colour entry))
+    (SetsUnshown-entry c.self.invariant c.args.command.now c.as_slice-strokes.result.now
+    (c.as_slice-strokes.ensures.value ∙ c.step_into.ensures.strokes) i colour entry c.args.self.now c.self.view_is unshown)
 
 pub invariant_of-self : goal.invariant_of-self
 invariant_of-self g c =
