@@ -1,7 +1,7 @@
 -- How a run of a request ends by its page.
 use Rattle.std.proofs.Common.{◌≡◌, ◌⊎◌, inl, inr, ℕ, ◌^◌, ◌≤◌, Bool, true, false, List, [], ◌∷◌, ◌++◌, take}
 use Rattle.std.proofs.Common.{Option, Some, None, IsSome, Result, Ok, Err, refl, sym, ◌∙◌, ap, subst, arith}
-use Rattle.std.proofs.Common.{append_assoc}
+use Rattle.std.proofs.Common.{append_assoc, length}
 use Rattle.std.proofs.lemmas.Option.{none-some, same_Some}
 use Rattle.cept_codes.specs.declared.command.Command.{Command}
 use Rattle.cept_codes.specs.declared.item.Item.{Item}
@@ -106,6 +106,7 @@ ends_unselected request before mid shelf f lines script selects cause = record {
     read_fault_early = λ chosen is other. (refl, refl);
     not_too_long = omega (arith, selects.taken);
     script_not_too_long = λ name named is. omega (arith, selects.taken);
+    sink_stays = refl;
   };
   bad_script = λ name told fault named given found. absurd (none-some fault
       (sym (script.good name told named given) ∙ found));
@@ -214,6 +215,7 @@ module _ {X E : Type 0} (request : Request) (before after : Outside) (ready mid 
         (ends.untaken (sound_after.nothing (is ∙ ap Some none)).1) ends.made ends.stays;
     not_too_long = ends.short;
     script_not_too_long = λ name named is. absurd (script_unselected name named is);
+    sink_stays = ends.stays;
   })
   ends_stopped stops.WriteFault sound_after ends = runs_request statuses.WriteFault (record {
     write_fault = ends.cut.cause;
@@ -221,6 +223,7 @@ module _ {X E : Type 0} (request : Request) (before after : Outside) (ready mid 
         let others = ends.known page (left_of_given page given) in
         inl (subst (λ (l : List EditLine). AreCutOff (run_events request.action page l) (output before) (output after))
         (script.known told has) (cut_in_run page ends.items others.0 others.1 ends.cut));
+    shelf_stays = ends.stays ∙ same_faults;
   }) (λ is. cut_untouched (item_events request.action ends.items) (output before) (output after)
       (still_checked request.action ends.items is) ends.cut)
       (λ early. put_cut (item_events request.action ends.items) (output before) (output after) ends.cut) ends.cut.later
@@ -243,7 +246,7 @@ module _ {X E : Type 0} (request : Request) (before after : Outside) (ready mid 
   -- ---- the page was read to its end, and the edit lines made
 
   module _ (bytes : List ℕ) (known : (page : List ℕ) → mid.left ≡ Some page → bytes ≡ page)
-      (short : after.shelf.taken ≤ 2 ^ 24) (stays : after.shelf.faults ≡ mid.faults)
+      (short : after.shelf.taken ≤ 2 ^ 24) (stays : after.shelf.faults ≡ mid.faults) (few : length bytes ≤ 2 ^ 24)
       (unedited_check : request.action ≡ actions.Check → lines ≡ []) where
     abbrev action : Action
     action = request.action
@@ -269,6 +272,7 @@ module _ {X E : Type 0} (request : Request) (before after : Outside) (ready mid 
           (known page (left_of_given page given))
           (AreCutOff-longer all_edited (the_end action bytes lines ∷ []) whole_run (output before) (output after) refl
           off)));
+      shelf_stays = stays ∙ same_faults;
     }) (λ is. cut_untouched all_edited (output before) (output after) (still_edited action page_items lines is
         (unedited_check is)) off)
         (λ early. put_cut all_edited (output before) (output after) off) off.later
@@ -300,6 +304,7 @@ module _ {X E : Type 0} (request : Request) (before after : Outside) (ready mid 
         flushed = puts.flushed;
         not_too_long = short;
         selected = page_or_none;
+        page_not_too_long = λ page given. omega (arith, few, ap length (known page (left_of_given page given)));
         script_not_too_long = script.few;
         shelf_stays = stays ∙ same_faults;
         sink_stays = puts.stays ∙ sink_stays;
@@ -322,6 +327,7 @@ module _ {X E : Type 0} (request : Request) (before after : Outside) (ready mid 
                 ⊎ AreMade (run_events action b lines) (output before) (output after))
                 (known page (left_of_given page given))
                 (cut_at_end action bytes lines before after sink made sink_stays puts.0 fit));
+            shelf_stays = stays ∙ same_faults;
           }) untouched_by_check
           (λ early. put_to_end action bytes lines before after sink made sink_stays puts.0)
           (omega (arith, puts.0.later, sink_stays)))

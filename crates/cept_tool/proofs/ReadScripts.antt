@@ -57,7 +57,7 @@ module _ {X E : Type 0} (name : List ℕ) (before mid after : ShelfState) (x : X
     refl,
   )
   script_untaken stops.Script old ends = elim ends [ ]
-  script_untaken stops.NoMemory old ends = refl
+  script_untaken stops.NoMemory old ends = (refl, ends ∙ selected)
 
   module _ (bytes : List ℕ) (taken : TakenWhole bytes mid after) where
     known_bytes : (script : List ℕ) → Gives before name script → bytes ≡ script
@@ -84,6 +84,7 @@ module _ {X E : Type 0} (name : List ℕ) (before mid after : ShelfState) (x : X
       known = known_bytes;
       fault = fault;
       found = found;
+      few = taken.few;
       short = taken.short;
       stays = taken.stays ∙ selected;
     }
@@ -103,4 +104,5 @@ module _ {X E : Type 0} (name : List ℕ) (before mid after : ShelfState) (x : X
     script_faulty (faults.BadLine line reason) stop old new says refuses =
         script_bad (record { line = line; reason = reason }) stop old new says refuses
     script_faulty faults.NoMemory stop old new says refuses =
-        subst (λ (s : Stop). ScriptEnds name before old (Err s) after new) (sym refuses.0) refuses.1
+        subst (λ (s : Stop). ScriptEnds name before old (Err s) after new) (sym refuses.0)
+        (refuses.1, taken.stays ∙ selected)

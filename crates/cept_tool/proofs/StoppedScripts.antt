@@ -236,10 +236,12 @@ module _ (request : Request) (name : List ℕ) (before : Outside) (shelf : Shelf
     read_fault_early = λ chosen is other. (ends.1, refl);
     not_too_long = omega (arith, ends.0.short);
     script_not_too_long = λ other is chosen. ends.0.short;
+    sink_stays = ap (λ (s : SinkState). s.faults) ends.1;
   }) ends.1
   ends_at_script stops.WriteFault sound ends = runs_script statuses.WriteFault (record {
     write_fault = ends.put.cause;
     write_fault_reported = λ page lines holds has fit. absurd (no_edits ends.bad lines has);
+    shelf_stays = ends.bad.stays;
   }) (at_most_as ends.bad (at_most_part ends.bad ends.put.put))
       (λ early. put_either (fault_text ends.bad.fault) before.sink sink ends.put.put) ends.put.later
   ends_at_script stops.TooLong sound ends = runs_unput statuses.TooLong (record {
@@ -262,6 +264,7 @@ module _ (request : Request) (name : List ℕ) (before : Outside) (shelf : Shelf
     known = ends.bad.known;
     fault = ends.bad.fault;
     found = ends.bad.found;
+    few = ends.bad.few;
     not_too_long = ends.bad.short;
     put = ends.put.put;
     unpainted = refl;
@@ -272,11 +275,12 @@ module _ (request : Request) (name : List ℕ) (before : Outside) (shelf : Shelf
       (omega (arith, ends.put.stays))
   ends_at_script stops.NoMemory sound ends = runs_unput statuses.NoMemory (record {
     memory = not_checked request.action editing;
-    unput = ends;
+    unput = ends.0;
     unpainted = refl;
     untouched = λ none. absurd (none-some name (sym none ∙ named));
     early = inr (λ chosen is. by_name chosen (selects.selects chosen is));
-  }) ends
+    shelf_stays = ends.1;
+  }) ends.0
     where
       by_name : (chosen : Option (List ℕ)) → (chosen ≡ None) ⊎ (chosen ≡ Some name)
           → (chosen ≡ None) ⊎ (chosen ≡ request.script)

@@ -221,6 +221,7 @@ runs_without_memory words request before is memory = runs_by words request befor
         unpainted = refl;
         untouched = λ none. refl;
         early = inl refl;
+        shelf_stays = refl;
       };
       bad_script = λ name script fault named given found. record {
         unpainted = refl;

@@ -24,6 +24,8 @@ pub record PageWhole (action : Action) (count : ℕ) (reporter : ReporterState) 
   -- at most 2^24 bytes were taken, and no fault was counted
   pub short : after.shelf.taken ≤ 2 ^ 24
   pub stays : after.shelf.faults ≡ before.shelf.faults
+  -- it has no more
+  pub few : length bytes ≤ 2 ^ 24
 
 -- the shelf failed
 pub record PageUnread (action : Action) (before after : Outside) : Type 0 where
@@ -42,6 +44,7 @@ pub record PageUnput (action : Action) (before after : Outside) : Type 0 where
   pub known : (page : List ℕ) → before.shelf.left ≡ Some page → (others : List Item)
       × (closed_items page ≡ items ++ others)
   pub cut : AreCutOff (item_events action items) (output before) (output after)
+  pub stays : after.shelf.faults ≡ before.shelf.faults
 
 -- it has more than 2^24 bytes
 pub record PageTooLong (action : Action) (before after : Outside) : Type 0 where

@@ -101,10 +101,12 @@ pub record EndsWhole (request : Request) (before after : Outside) (refused : Boo
   pub good : (name script : List ℕ) → request.script ≡ Some name → Gives before.shelf name script
       → first_fault script ≡ None
   pub flushed : after.sink.unflushed ≡ false
-  -- at most 2^24 bytes were taken, of the page, which alone is selected at the end; and the script has at most 2^20
+  -- at most 2^24 bytes were taken, of the page, which alone is selected at the end; it has at most so many, and the
+  -- script at most 2^20
   pub not_too_long : after.shelf.taken ≤ 2 ^ 24
   pub selected : (chosen : Option (List ℕ)) → after.shelf.selected ≡ Some chosen
       → (chosen ≡ None) ⊎ (chosen ≡ Some request.page)
+  pub page_not_too_long : (page : List ℕ) → Gives before.shelf request.page page → length page ≤ 2 ^ 24
   pub script_not_too_long : (name script : List ℕ) → request.script ≡ Some name → Gives before.shelf name script
       → length script ≤ 2 ^ 20
   -- no fault was counted on the way
@@ -120,6 +122,8 @@ pub record EndsAtBadLine (request : Request) (before after : Outside) : Type 0 w
   pub known : (told : List ℕ) → Gives before.shelf name told → script ≡ told
   pub fault : Fault
   pub found : first_fault script ≡ Some fault
+  -- it has at most 2^20 bytes, and no more were taken
+  pub few : length script ≤ 2 ^ 20
   pub not_too_long : after.shelf.taken ≤ 2 ^ 20
   -- the line that says so was put, and nothing else
   pub put : after.sink.bytes ≡ append_known before.sink.bytes (script_fault_line fault.line fault.reason)
@@ -143,6 +147,8 @@ pub record EndsAtReadFault (request : Request) (before after : Outside) : Type 0
   pub not_too_long : after.shelf.taken ≤ 2 ^ 24
   pub script_not_too_long : (name : List ℕ) → request.script ≡ Some name → after.shelf.selected ≡ Some (Some name)
       → after.shelf.taken ≤ 2 ^ 20
+  -- the sink counted none
+  pub sink_stays : after.sink.faults ≡ before.sink.faults
 
 -- status 5: the sink failed
 pub record EndsAtWriteFault (request : Request) (before after : Outside) : Type 0 where
@@ -153,6 +159,8 @@ pub record EndsAtWriteFault (request : Request) (before after : Outside) : Type 
       → HasEdits before.shelf request.script lines → StartsFit request.action before.glass
       → AreCutOff (run_events request.action page lines) (output before) (output after)
       ⊎ AreMade (run_events request.action page lines) (output before) (output after)
+  -- the shelf counted none
+  pub shelf_stays : after.shelf.faults ≡ before.shelf.faults
 
 -- status 6: there is no memory
 pub record EndsWithoutMemory (request : Request) (before after : Outside) : Type 0 where
@@ -165,6 +173,8 @@ pub record EndsWithoutMemory (request : Request) (before after : Outside) : Type
   -- the page wasn't selected
   pub early : (after.shelf ≡ before.shelf) ⊎ ((chosen : Option (List ℕ)) → after.shelf.selected ≡ Some chosen
       → (chosen ≡ None) ⊎ (chosen ≡ request.script))
+  -- no fault was counted on the way
+  pub shelf_stays : after.shelf.faults ≡ before.shelf.faults
 
 -- status 7, at the page: it has more than 2^24 bytes
 pub record IsPageTooLong (request : Request) (before after : Outside) : Type 0 where

@@ -40,7 +40,7 @@ TakingStops before stops.ReadFault after = Untaken before after
 TakingStops before stops.WriteFault after = ⊥
 TakingStops before stops.TooLong after = TakenTooLong before after
 TakingStops before stops.Script after = ⊥
-TakingStops before stops.NoMemory after = Unit {0}
+TakingStops before stops.NoMemory after = after.faults ≡ before.faults
 
 -- ---- a script of this name is read
 
@@ -70,7 +70,8 @@ pub record HasBadLine (name : List ℕ) (before after : ShelfState) : Type 0 whe
   pub known : (script : List ℕ) → Gives before name script → bytes ≡ script
   pub fault : Fault
   pub found : first_fault bytes ≡ Some fault
-  -- at most 2^20 bytes were taken
+  -- it has at most 2^20 bytes, and no more were taken
+  pub few : length bytes ≤ 2 ^ 20
   pub short : after.taken ≤ 2 ^ 20
   pub stays : after.faults ≡ before.faults
 
@@ -108,7 +109,7 @@ ScriptEnds name before old (Err stops.ReadFault) after new = ScriptUnread before
 ScriptEnds name before old (Err stops.WriteFault) after new = ScriptUnput name before after old new
 ScriptEnds name before old (Err stops.TooLong) after new = ScriptTooLong name before after × (new ≡ old)
 ScriptEnds name before old (Err stops.Script) after new = ScriptRefused name before after old new
-ScriptEnds name before old (Err stops.NoMemory) after new = new ≡ old
+ScriptEnds name before old (Err stops.NoMemory) after new = (new ≡ old) × (after.faults ≡ before.faults)
 
 -- however it ends, no other name is selected, the files stay, no count of faults falls, and where the shelf has the
 -- script no file is missed

@@ -93,6 +93,7 @@ returns-in_err-finish-clause-ends g c =
           let all = all_taken page c.loop-count.place (c.in-Ok.ensures.takes.end c.if-count-eq0.true _ known.1) in
           ([], ap closed_items (sym (known.0 ∙ all)) ∙ sym (append-nil (closed_items come.bytes)));
       cut = c.in_err-finish.ensures.cut _ come.bytes _ come.read;
+      stays = c.in-Ok.ensures.cause.stays ∙ c.loop-count.invariant.stays;
     })
 
 pub returns-then-count-eq0-clause-ends : goal.returns-then-count-eq0-clause-ends
@@ -107,6 +108,7 @@ returns-then-count-eq0-clause-ends g c =
       reported = c.in_ok-finish.ensures.reported _ come.bytes _ come.read;
       short = omega (arith, c.in-Ok.ensures.takes.taken);
       stays = c.in-Ok.ensures.cause.stays ∙ c.loop-count.invariant.stays;
+      few = omega (arith, come.count, c.loop-count.invariant.few);
     }
 
 pub returns-in_err-read_piece-clause-ends : goal.returns-in_err-read_piece-clause-ends
@@ -125,6 +127,7 @@ returns-in_err-read_piece-clause-ends g c =
           more_items front (drop k page) page _ (ap (λ b. b ++ drop k page) part ∙ take-append-drop k page)
           (c.reading_goes_on.ensures.bytes front (drop k page));
       cut = c.in_err-read_piece.ensures.cut _ come.bytes _ come.read;
+      stays = c.in-Ok.ensures.cause.stays ∙ c.loop-count.invariant.stays;
     })
 
 pub returns-then-fitting-count-clause-ends : goal.returns-then-fitting-count-clause-ends

@@ -59,7 +59,7 @@ returns-in_err-make_edits g c =
     rw (p.1, p.2) (ends_unedited r _ _ _ (g.F.Shelf.state c.select.new.self) _ _
     (script_known r _ _ _ _ _ c.read_script_if_any.ensures.shelf ends) c.requires.sound
     (g.met.F.Shelf.sound c.read_script_if_any.new.shelf) (rw c.as_str.ensures.value at c.in-Ok.ensures.selects)
-    c.in-Ok.ensures.cause.stays c.read_page.ensures.shelf read.bytes read.known read.short read.stays
+    c.in-Ok.ensures.cause.stays c.read_page.ensures.shelf read.bytes read.known read.short read.stays read.few
     (unedited_check r _ fits) _ off.1 off.0)
 
 -- it was reported to its end
@@ -80,7 +80,7 @@ returns g c =
     ends_read r _ _ _ (g.F.Shelf.state c.select.new.self) _ _
     (script_known r _ _ _ _ _ c.read_script_if_any.ensures.shelf ends) c.requires.sound
     (g.met.F.Shelf.sound c.read_script_if_any.new.shelf) (rw c.as_str.ensures.value at c.in-Ok.ensures.selects)
-    c.in-Ok.ensures.cause.stays c.read_page.ensures.shelf read.bytes read.known read.short read.stays
+    c.in-Ok.ensures.cause.stays c.read_page.ensures.shelf read.bytes read.known read.short read.stays read.few
     (unedited_check r _ fits) _ edited.made edited.stays edited.valid restores c.end_report.result
     (c.end_report.ensures _ read.bytes _ edited.stands read.count_is)
 

@@ -81,3 +81,7 @@ returns-then-count-len-clause-stopped g c =
           );
       stays = c.in-Ok.ensures.cause.stays ∙ so_far.stays;
     }
+
+pub returns-in_default-extend_from_slice-clause-stopped : goal.returns-in_default-extend_from_slice-clause-stopped
+returns-in_default-extend_from_slice-clause-stopped g c =
+    c.in-Ok.ensures.cause.stays ∙ c.loop-count.invariant.stays
