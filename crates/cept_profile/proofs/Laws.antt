@@ -33,6 +33,19 @@ pub use Rattle.cept_profile.proofs.RowsInReach.{rows_in_reach-counted}
 -- ---- untouched_rows_stay
 pub use Rattle.cept_profile.proofs.RowsInReach.{cell-untouched, row_pen-untouched, screen_pen-untouched}
 pub use Rattle.cept_profile.proofs.RowsInReach.{paint-untouched, dclut-untouched, definitions-untouched, look-untouched}
+-- ---- rows_that_are_not_reached_keep_their_looks
+pub use Rattle.cept_profile.proofs.RowsReached.{look-not_reached, row_before-not_reached, reaches-by}
+pub use Rattle.cept_profile.proofs.RowsReached.{rows_reached-counted, rows_reached-le}
+-- ---- rows_that_strokes_do_not_reach_keep_their_looks
+pub use Rattle.cept_profile.proofs.RowsReached.{LeadsTo-state_after, look-unreached, row_before-unreached, is_reached-by}
+-- ---- rows_come_with_their_cells
+pub use Rattle.cept_profile.proofs.RowsReached.{cell-from}
+pub use Rattle.cept_profile.proofs.RowsMoved.{row_before-on}
+-- ---- rows_come_with_their_parts_and_names
+pub use Rattle.cept_profile.proofs.RowsReached.{part_at-unreached, names_at-unreached}
+pub use Rattle.cept_profile.proofs.NamesOfRows.{is_redefined-unreached}
+-- ---- rows_that_do_not_move
+pub use Rattle.cept_profile.proofs.RowsMoved.{row_before-still, is_written-still}
 -- ---- exactly_one_row_is_tiled, exactly_one_table_is_tiled, parts_are_valid
 pub use Rattle.cept_profile.proofs.TiledTables.{
   IsTiledRow-tiled_row,

@@ -53,3 +53,12 @@ mod PlainPages
 mod WorkedReach
 mod WorkedTiling
 mod WorkedPaints
+mod WorkedMoves
+mod RowsMoved
+mod RowsRedefined
+mod NamedDefinitions
+mod RowsAlike
+mod SamePens
+mod RowsReached
+mod WorkedReachedRows
+mod NamesOfRows

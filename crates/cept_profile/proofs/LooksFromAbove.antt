@@ -99,7 +99,7 @@ look-left k r c on free covered =
     (look_seen (looks_of k) (r - 1) (c + 1)) (look_seen (looks_of k) r (c - 1)) (own_look k r c) (own_size k r c)
     (is_last_row k.rows r) c free covered
 
-part_of-look : (k : Core) (r c : ℕ) → part_of (look k r c) ≡ part_at (parts_of k) r c
+pub part_of-look : (k : Core) (r c : ℕ) → part_of (look k r c) ≡ part_at (parts_of k) r c
 unfolding look
 part_of-look k r c = refl
 
@@ -135,7 +135,7 @@ looks_in-same k m r q low high low_next high_next covers here sizes last =
 
 -- ---- what covers a row from above
 
-covering-alike : (a b : Look) → is_other_covering a b ≡ false → covering a ≡ covering b
+pub covering-alike : (a b : Look) → is_other_covering a b ≡ false → covering a ≡ covering b
 covering-alike a b alike =
     elim (and_cases (covers_below (part_of a) || covers_below (part_of b)) (not (same_look a b)) alike) [
       | inl neither ↦

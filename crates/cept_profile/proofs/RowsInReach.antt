@@ -352,7 +352,7 @@ is_near s command r =
     is_row_touched (strokes_of s.control command) s.control.rows (state_after s command).control.rows r
     || (sets_a_size (core_of s) (r - 1) || sets_a_size (core_of (state_after s command)) (r - 1))
 
-without_sizes : (k : Core) (r : ℕ) → 1 ≤ r → r ≤ 24 → sets_a_size k r ≡ false → (c : ℕ)
+pub without_sizes : (k : Core) (r : ℕ) → 1 ≤ r → r ≤ 24 → sets_a_size k r ≡ false → (c : ℕ)
     → covers_below (part_of (look_seen (looks_of k) r c)) ≡ false
 without_sizes k r low high none =
     let in_row : Pen = row_pen_in k.page.row_pens r in

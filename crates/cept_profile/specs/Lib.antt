@@ -21,3 +21,7 @@ pub mod Tiling
 pub mod RowsFromAbove
 pub mod PageParts
 pub mod Definitions
+pub mod Edges
+pub mod MovedRows
+pub mod Names
+pub mod ReachedRows

@@ -1,0 +1,52 @@
+-- Moved rows (own): which rows a stroke moves, and the row before strokes of which a row after them came.
+use Rattle.std.specs.Prelude.{ℕ, ◌+◌, ◌-◌, ◌&&◌, ◌==◌, Option, Some, None, List, [], ◌∷◌, nat_le, option_and_then}
+use Rattle.std.specs.Prelude.{if◌then◌else◌, Bool, is_some}
+use Rattle.std.specs.List.{list_any}
+use Rattle.cept_codes.specs.declared.command.Up.{Up}
+use Rattle.cept_codes.specs.declared.command.Up.TheVariants as ways
+use Rattle.cept_codes.specs.declared.stroke.Stroke.{Stroke}
+use Rattle.cept_codes.specs.declared.stroke.Stroke.TheVariants as strokes
+
+-- rows that move: all from the first to the last, one row up or one row down
+pub record MovedRows : Type 0 where
+  pub first : ℕ
+  pub last : ℕ
+  pub way : Up
+
+-- the rows that a stroke moves, where it moves any
+abbrev pub moved_rows : Stroke → Option MovedRows
+moved_rows (strokes.Shift first last way) = Some (record { first = first; last = last; way = way })
+-- these move none
+moved_rows (strokes.Put p cell) = None
+moved_rows (strokes.Erase row from) = None
+moved_rows strokes.Wipe = None
+moved_rows (strokes.RowAttr row attr) = None
+moved_rows (strokes.ScreenAttr attr) = None
+moved_rows strokes.ScreenClear = None
+moved_rows (strokes.Colour i paint) = None
+moved_rows (strokes.Dclut i entry) = None
+moved_rows strokes.ColourDefaults = None
+moved_rows strokes.DrcsClear = None
+moved_rows (strokes.Drcs code pattern) = None
+moved_rows (strokes.Format rows) = None
+
+-- of which row what is in row r of moved rows came: of the one below where they go up, of the one above where they go
+-- down; the last comes free where they go up, the first where they go down
+abbrev pub row_within : Up → ℕ → ℕ → ℕ → Option ℕ
+row_within ways.Up first last r = if r == last then None else Some (r + 1)
+row_within ways.Down first last r = if r == first then None else Some (r - 1)
+
+-- of which row what is in row r came, or none where it came free; rows that don't move stay
+abbrev pub row_before_move : Option MovedRows → ℕ → Option ℕ
+row_before_move None r = Some r
+row_before_move (Some moved) r =
+    if nat_le moved.first r && nat_le r moved.last then row_within moved.way moved.first moved.last r else Some r
+
+-- the row before the strokes, in order, of which row r after them came, or none where it was freed
+unfoldable pub row_before : List Stroke → ℕ → Option ℕ
+row_before [] r = Some r
+row_before (stroke ∷ more) r = option_and_then (row_before_move (moved_rows stroke)) (row_before more r)
+
+-- one of the strokes moves rows
+unfoldable pub one_moves : List Stroke → Bool
+one_moves strokes = list_any (λ stroke. is_some (moved_rows stroke)) strokes
