@@ -14,43 +14,43 @@ use Rattle.cept_codes.specs.Attribute.{unset_pen}
 use Rattle.cept_profile.specs.Attributes.{cascade}
 use Rattle.cept_profile.specs.Serial.{row_in, is_marker}
 use Rattle.cept_profile.specs.Serial.{serial_attributes, held_sign}
-use Rattle.cept_profile.specs.Carry.{Carry, carry, carry_after}
-use Rattle.cept_profile.specs.Carry.{carry_in, held_sign_in}
-use Rattle.cept_attrs.specs.Walk.{carry_with_sign, carry_with_sign_at}
-use Rattle.cept_profile.proofs.Laws.{carry-suc, serial_attributes-suc, held_sign-suc, in_plain, unmarked}
+use Rattle.cept_profile.specs.Influence.{Influence, influence, influence_after}
+use Rattle.cept_profile.specs.Influence.{influence_in, held_sign_in}
+use Rattle.cept_attrs.specs.Walk.{influence_with_sign, influence_with_sign_at}
+use Rattle.cept_profile.proofs.Laws.{influence-suc, serial_attributes-suc, held_sign-suc, in_plain, unmarked}
 
 -- ---- in the code's numbers, from 0
 
 cell_at : (cells : List Cell) (k : ℕ) → row_in cells (suc k) ≡ (slice_index_or cells k blank_cell).what
 cell_at cells k = let e : suc k - 1 ≡ k = omega arith in ap (λ n. (slice_index_or cells n blank_cell).what) e
 
-pub carry-next : (cells : List Cell) (pen screen : Pen) (k : ℕ)
-    → carry (row_in cells) pen screen (k + 1)
-    ≡ carry_after (slice_index_or cells k blank_cell).what (carry (row_in cells) pen screen k)
-carry-next cells pen screen k =
+pub influence-next : (cells : List Cell) (pen screen : Pen) (k : ℕ)
+    → influence (row_in cells) pen screen (k + 1)
+    ≡ influence_after (slice_index_or cells k blank_cell).what (influence (row_in cells) pen screen k)
+influence-next cells pen screen k =
     rw (
       add-one k,
-      carry-suc (row_in cells) pen screen k,
+      influence-suc (row_in cells) pen screen k,
     )
-    (ap (λ w. carry_after w (carry (row_in cells) pen screen k)) (cell_at cells k))
+    (ap (λ w. influence_after w (influence (row_in cells) pen screen k)) (cell_at cells k))
 
 pub serial_attributes-next : (cells : List Cell) (pen screen : Pen) (k : ℕ)
     → serial_attributes (row_in cells) pen screen (k + 1)
-    ≡ (carry_in (slice_index_or cells k blank_cell).what (carry (row_in cells) pen screen k)).full
+    ≡ (influence_in (slice_index_or cells k blank_cell).what (influence (row_in cells) pen screen k)).full
 serial_attributes-next cells pen screen k =
     rw (
       add-one k,
       serial_attributes-suc (row_in cells) pen screen k,
     )
-    (ap (λ w. (carry_in w (carry (row_in cells) pen screen k)).full) (cell_at cells k))
+    (ap (λ w. (influence_in w (influence (row_in cells) pen screen k)).full) (cell_at cells k))
 
 pub held_sign-next : (cells : List Cell) (pen screen : Pen) (k : ℕ)
     → held_sign (row_in cells) (k + 1)
-    ≡ held_sign_in (slice_index_or cells k blank_cell).what (carry (row_in cells) pen screen k)
+    ≡ held_sign_in (slice_index_or cells k blank_cell).what (influence (row_in cells) pen screen k)
 held_sign-next cells pen screen k =
     let e : k + 1 ≡ suc k = add-one k in
     ap (λ n. held_sign (row_in cells) n) e ∙ held_sign-suc (row_in cells) pen screen k
-    ∙ ap (λ w. held_sign_in w (carry (row_in cells) pen screen k)) (cell_at cells k)
+    ∙ ap (λ w. held_sign_in w (influence (row_in cells) pen screen k)) (cell_at cells k)
 
 -- a list that is done up to an index, and one more
 pub one_done : {X : Type 0} (xs : List X) (i : ℕ) (x : X) (f : ℕ → X) → i < length xs
@@ -65,27 +65,27 @@ one_done {X = X} xs i x f long done here k d h =
 -- ---- a sign that is taken up only at a marker
 
 -- at a marker the cell to the left is the one before it, or in the first column the marker itself
-pub settled_here : (cells : List Cell) (k : ℕ) (s : Carry) → is_marker (slice_index_or cells k blank_cell).what ≡ true
-    → carry_with_sign (row_in cells k) s ≡ carry_with_sign_at (row_in cells) k s
+pub settled_here : (cells : List Cell) (k : ℕ) (s : Influence) → is_marker (slice_index_or cells k blank_cell).what ≡ true
+    → influence_with_sign (row_in cells k) s ≡ influence_with_sign_at (row_in cells) k s
 settled_here cells zero s marked = rw marked refl
 settled_here cells (suc k) s marked = refl
 
 -- after a cell without a marker its sign waits
-settled_by : (w : What) (s t : Carry) → is_marker w ≡ false → t.full ≡ s.full → t.hold ≡ s.hold
-    → carry_with_sign w s ≡ carry_after w t
+settled_by : (w : What) (s t : Influence) → is_marker w ≡ false → t.full ≡ s.full → t.hold ≡ s.hold
+    → influence_with_sign w s ≡ influence_after w t
 settled_by (whats.Marker m) s t plain f h = cc
 settled_by w s t plain f h = rw (f, h) refl
 
 -- to take up a sign changes no attribute and no hold
-settled_full : (row : ℕ → What) (k : ℕ) (s : Carry) → (carry_with_sign_at row k s).full ≡ s.full
+settled_full : (row : ℕ → What) (k : ℕ) (s : Influence) → (influence_with_sign_at row k s).full ≡ s.full
 settled_full row zero s = refl
 settled_full row (suc k) s = refl
 
-settled_hold : (row : ℕ → What) (k : ℕ) (s : Carry) → (carry_with_sign_at row k s).hold ≡ s.hold
+settled_hold : (row : ℕ → What) (k : ℕ) (s : Influence) → (influence_with_sign_at row k s).hold ≡ s.hold
 settled_hold row zero s = refl
 settled_hold row (suc k) s = refl
 
-pub plain_held : (w : What) (s : Carry) → is_marker w ≡ false → held_sign_in w s ≡ None
+pub plain_held : (w : What) (s : Influence) → is_marker w ≡ false → held_sign_in w s ≡ None
 plain_held w s plain = rw plain refl
 
 -- in a row without markers the attributes are those of the row and the screen everywhere, and no sign is held
@@ -94,7 +94,7 @@ pub unmarked_full : (row : ℕ → What) (pen screen : Pen) (c : ℕ) → ((d : 
 unmarked_full row pen screen zero plain low high = absurd (omega arith)
 unmarked_full row pen screen (suc c) plain low high =
     rw (serial_attributes-suc row pen screen c)
-    (in_plain (row (suc c)) (carry row pen screen c) (plain (suc c) low high)
+    (in_plain (row (suc c)) (influence row pen screen c) (plain (suc c) low high)
     ∙ unmarked row pen screen c (λ d from to. plain d from (omega arith)))
 
 pub unmarked_held : (row : ℕ → What) (c : ℕ) → ((d : ℕ) → 1 ≤ d → d ≤ 40 → is_marker (row d) ≡ false)
@@ -109,59 +109,59 @@ plain_from w h = refl
 -- ---- a marker, in plain values: what stands there, what was carried with the sign to the left taken up, and what
 -- the marker makes of it
 
-pub record IsMarked (cells : List Cell) (pen screen : Pen) (k : ℕ) (m : Marker) (s : Carry) : Type 0 where
+pub record IsMarked (cells : List Cell) (pen screen : Pen) (k : ℕ) (m : Marker) (s : Influence) : Type 0 where
   pub there : (slice_index_or cells k blank_cell).what ≡ whats.Marker m
-  pub carry : carry (row_in cells) pen screen k ≡ s
+  pub influence : influence (row_in cells) pen screen k ≡ s
 
 -- the sign of a cell waits for the next one
-waits : (cells : List Cell) (k : ℕ) (s : Carry)
-    → carry_with_sign_at (row_in cells) (k + 1) s ≡ carry_with_sign (slice_index_or cells k blank_cell).what s
-waits cells k s = rw (add-one k) (ap (λ w. carry_with_sign w s) (cell_at cells k))
+waits : (cells : List Cell) (k : ℕ) (s : Influence)
+    → influence_with_sign_at (row_in cells) (k + 1) s ≡ influence_with_sign (slice_index_or cells k blank_cell).what s
+waits cells k s = rw (add-one k) (ap (λ w. influence_with_sign w s) (cell_at cells k))
 
-pub is_marked : (cells : List Cell) (pen screen : Pen) (k left : ℕ) (m : Marker) (s t : Carry)
+pub is_marked : (cells : List Cell) (pen screen : Pen) (k left : ℕ) (m : Marker) (s t : Influence)
     → (slice_index_or cells k blank_cell).what ≡ whats.Marker m
-    → left ≡ k - 1 → carry (row_in cells) pen screen k ≡ carry_with_sign_at (row_in cells) k s
-    → t ≡ carry_with_sign (slice_index_or cells left blank_cell).what s
+    → left ≡ k - 1 → influence (row_in cells) pen screen k ≡ influence_with_sign_at (row_in cells) k s
+    → t ≡ influence_with_sign (slice_index_or cells left blank_cell).what s
     → IsMarked cells pen screen k m t
 is_marked cells pen screen k left m s t there l c e = record {
   there = there;
-  carry = c ∙ sym (settled_here cells k s (ap is_marker there))
-      ∙ sym (e ∙ ap (λ n. carry_with_sign (slice_index_or cells n blank_cell).what s) l);
+  influence = c ∙ sym (settled_here cells k s (ap is_marker there))
+      ∙ sym (e ∙ ap (λ n. influence_with_sign (slice_index_or cells n blank_cell).what s) l);
 }
 
-pub marked_carried : (cells : List Cell) (pen screen : Pen) (k : ℕ) (m : Marker) (s t : Carry)
+pub marked_carried : (cells : List Cell) (pen screen : Pen) (k : ℕ) (m : Marker) (s t : Influence)
     → IsMarked cells pen screen k m s
-    → t ≡ carry_after (whats.Marker m) s → carry (row_in cells) pen screen (k + 1)
-    ≡ carry_with_sign_at (row_in cells) (k + 1) t
+    → t ≡ influence_after (whats.Marker m) s → influence (row_in cells) pen screen (k + 1)
+    ≡ influence_with_sign_at (row_in cells) (k + 1) t
 marked_carried cells pen screen k m s t h e =
-    rw (waits cells k t, carry-next cells pen screen k, h.there, h.carry) (sym e)
+    rw (waits cells k t, influence-next cells pen screen k, h.there, h.influence) (sym e)
 
-pub marked_full : (cells : List Cell) (pen screen : Pen) (k : ℕ) (m : Marker) (s : Carry) (full : Full)
+pub marked_full : (cells : List Cell) (pen screen : Pen) (k : ℕ) (m : Marker) (s : Influence) (full : Full)
     → IsMarked cells pen screen k m s
-    → full ≡ (carry_in (whats.Marker m) s).full → full ≡ serial_attributes (row_in cells) pen screen (k + 1)
-marked_full cells pen screen k m s full h e = rw (serial_attributes-next cells pen screen k, h.there, h.carry) e
+    → full ≡ (influence_in (whats.Marker m) s).full → full ≡ serial_attributes (row_in cells) pen screen (k + 1)
+marked_full cells pen screen k m s full h e = rw (serial_attributes-next cells pen screen k, h.there, h.influence) e
 
-pub marked_held : (cells : List Cell) (pen screen : Pen) (k : ℕ) (m : Marker) (s : Carry) (sign : Option Glyph)
+pub marked_held : (cells : List Cell) (pen screen : Pen) (k : ℕ) (m : Marker) (s : Influence) (sign : Option Glyph)
     → IsMarked cells pen screen k m s
     → sign ≡ held_sign_in (whats.Marker m) s → sign ≡ held_sign (row_in cells) (k + 1)
-marked_held cells pen screen k m s sign h e = rw (held_sign-next cells pen screen k, h.there, h.carry) e
+marked_held cells pen screen k m s sign h e = rw (held_sign-next cells pen screen k, h.there, h.influence) e
 
 -- ---- another cell, in plain values
 
-pub record IsPlain (cells : List Cell) (pen screen : Pen) (k : ℕ) (s : Carry) : Type 0 where
+pub record IsPlain (cells : List Cell) (pen screen : Pen) (k : ℕ) (s : Influence) : Type 0 where
   pub there : is_marker (slice_index_or cells k blank_cell).what ≡ false
-  pub carry : carry (row_in cells) pen screen k ≡ carry_with_sign_at (row_in cells) k s
+  pub influence : influence (row_in cells) pen screen k ≡ influence_with_sign_at (row_in cells) k s
 
-pub plain_carried : (cells : List Cell) (pen screen : Pen) (k : ℕ) (s : Carry) → IsPlain cells pen screen k s
-    → carry (row_in cells) pen screen (k + 1) ≡ carry_with_sign_at (row_in cells) (k + 1) s
+pub plain_carried : (cells : List Cell) (pen screen : Pen) (k : ℕ) (s : Influence) → IsPlain cells pen screen k s
+    → influence (row_in cells) pen screen (k + 1) ≡ influence_with_sign_at (row_in cells) (k + 1) s
 plain_carried cells pen screen k s h =
-    rw (waits cells k s, carry-next cells pen screen k, h.carry)
-    (sym (settled_by (slice_index_or cells k blank_cell).what s (carry_with_sign_at (row_in cells) k s) h.there
+    rw (waits cells k s, influence-next cells pen screen k, h.influence)
+    (sym (settled_by (slice_index_or cells k blank_cell).what s (influence_with_sign_at (row_in cells) k s) h.there
     (settled_full (row_in cells) k s) (settled_hold (row_in cells) k s)))
 
-pub plain_full : (cells : List Cell) (pen screen : Pen) (k : ℕ) (s : Carry) → IsPlain cells pen screen k s
+pub plain_full : (cells : List Cell) (pen screen : Pen) (k : ℕ) (s : Influence) → IsPlain cells pen screen k s
     → s.full ≡ serial_attributes (row_in cells) pen screen (k + 1)
 plain_full cells pen screen k s h =
-    rw (serial_attributes-next cells pen screen k, h.carry)
-    (sym (in_plain (slice_index_or cells k blank_cell).what (carry_with_sign_at (row_in cells) k s) h.there
+    rw (serial_attributes-next cells pen screen k, h.influence)
+    (sym (in_plain (slice_index_or cells k blank_cell).what (influence_with_sign_at (row_in cells) k s) h.there
     ∙ settled_full (row_in cells) k s))

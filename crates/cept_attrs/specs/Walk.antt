@@ -2,14 +2,14 @@
 -- marker after it.
 use Rattle.std.specs.Prelude.{ℕ, zero, suc, if◌then◌else◌}
 use Rattle.cept_codes.specs.declared.cell.What.{What}
-use Rattle.cept_profile.specs.Carry.{Carry}
+use Rattle.cept_profile.specs.Influence.{Influence}
 use Rattle.cept_profile.specs.Serial.{is_marker, mosaic_of}
 
 -- what is carried after a cell whose own sign wasn't taken up yet
-abbrev pub carry_with_sign : What → Carry → Carry
-carry_with_sign left s = record s { kept_sign = if is_marker left then s.kept_sign else mosaic_of left }
+abbrev pub influence_with_sign : What → Influence → Influence
+influence_with_sign left s = record s { kept_sign = if is_marker left then s.kept_sign else mosaic_of left }
 
 -- the same at a column of a row; before the first column nothing waits to be taken up
-abbrev pub carry_with_sign_at : (ℕ → What) → ℕ → Carry → Carry
-carry_with_sign_at row zero s = s
-carry_with_sign_at row (suc c) s = carry_with_sign (row (suc c)) s
+abbrev pub influence_with_sign_at : (ℕ → What) → ℕ → Influence → Influence
+influence_with_sign_at row zero s = s
+influence_with_sign_at row (suc c) s = influence_with_sign (row (suc c)) s

@@ -1,9 +1,9 @@
 ghost use Rattle.std.specs.Prelude.{◌≡◌, ℕ, ◌-◌, ◌≤◌, false, Option, slice_index_or};
-ghost use Rattle.cept_attrs.specs.Walk.{carry_with_sign};
+ghost use Rattle.cept_attrs.specs.Walk.{influence_with_sign};
 ghost use Rattle.cept_codes.specs.declared.attribute.Full.{Full};
 ghost use Rattle.cept_codes.specs.declared.cell.What.TheVariants.{Marker as stands};
 ghost use Rattle.cept_codes.specs.declared.glyph.Glyph.{Glyph};
-ghost use Rattle.cept_profile.specs.Carry.{carry_after, carry_in, held_sign_in};
+ghost use Rattle.cept_profile.specs.Influence.{influence_after, influence_in, held_sign_in};
 ghost use Rattle.cept_profile.specs.Serial.{held_sign, is_marker, mosaic_of, row_in};
 ghost use Rattle.cept_profile.specs.Serial.{serial_attributes};
 
@@ -20,16 +20,16 @@ pub struct RowSerial {
 
 /// What the cells up to one leave for those after it.
 #[derive(Clone, Copy)]
-struct Carry {
+struct Influence {
     full: Full,
     hold: bool,
     kept: Option<Glyph>,
 }
 
-impl Model for Carry {
-    ghost use Rattle.cept_profile.specs.Carry.{Carry as RowCarry};
+impl Model for Influence {
+    ghost use Rattle.cept_profile.specs.Influence.{Influence as RowInfluence};
 
-    ghost Value = { RowCarry };
+    ghost Value = { RowInfluence };
 
     ghost view = { λ s. record { full = s.full; hold = s.hold; kept_sign = s.kept } };
 
@@ -55,12 +55,12 @@ pub fn serial_cells(cells: &[Cell; 40], row: &Pen, screen: &Pen) -> RowSerial
     ensures held { (c : ℕ) (d : Option Glyph) → 1 ≤ c → c ≤ 40
         → slice_index_or result.held (c - 1) d ≡ held_sign (row_in cells.now) c }
 {
-    let mut carry = Carry {
+    let mut influence = Influence {
         full: cascade(&Pen::UNSET, row, screen),
         hold: false,
         kept: None,
     };
-    let mut full = [carry.full; 40];
+    let mut full = [influence.full; 40];
     let mut held = [None; 40];
     if !has_marker(cells) {
         return RowSerial { full, held };
@@ -69,10 +69,10 @@ pub fn serial_cells(cells: &[Cell; 40], row: &Pen, screen: &Pen) -> RowSerial
         let what = &cells[i].what;
         match what {
             What::Marker(m) => {
-                settle(&mut carry, &cells[i.saturating_sub(1)].what);
-                mark(&mut carry, *m, &mut full[i], &mut held[i]);
+                settle(&mut influence, &cells[i.saturating_sub(1)].what);
+                mark(&mut influence, *m, &mut full[i], &mut held[i]);
             }
-            _ => full[i] = carry.full,
+            _ => full[i] = influence.full,
         }
     }
     RowSerial { full, held }
@@ -92,11 +92,11 @@ fn has_marker(cells: &[Cell; 40]) -> bool
 
 /// Takes up the sign of the cell to the left, where it has no marker.
 #[inline(always)]
-fn settle(carry: &mut Carry, left: &What)
-    ensures { carry.new ≡ carry_with_sign left.now carry.old }
+fn settle(influence: &mut Influence, left: &What)
+    ensures { influence.new ≡ influence_with_sign left.now influence.old }
 {
     if !is_marker(left) {
-        carry.kept = mosaic_of(left);
+        influence.kept = mosaic_of(left);
     }
 }
 
@@ -113,51 +113,51 @@ fn is_marker(what: &What) -> bool
 
 /// A marker: what is in force in its cell, the sign that it shows, and what is carried after it.
 #[inline(never)]
-fn mark(carry: &mut Carry, m: Marker, full: &mut Full, held: &mut Option<Glyph>)
-    ensures carry { carry.new ≡ carry_after (stands m) carry.old }
-    ensures full { full.new ≡ (carry_in (stands m) carry.old).full }
-    ensures held { held.new ≡ held_sign_in (stands m) carry.old }
+fn mark(influence: &mut Influence, m: Marker, full: &mut Full, held: &mut Option<Glyph>)
+    ensures influence { influence.new ≡ influence_after (stands m) influence.old }
+    ensures full { full.new ≡ (influence_in (stands m) influence.old).full }
+    ensures held { held.new ≡ held_sign_in (stands m) influence.old }
 {
-    *full = carry.full;
-    let mut hold = carry.hold;
+    *full = influence.full;
+    let mut hold = influence.hold;
     match m {
-        Marker::Alpha(e) | Marker::Mosaic(e) => carry.full.fore = e,
+        Marker::Alpha(e) | Marker::Mosaic(e) => influence.full.fore = e,
         Marker::BlackBack => {
-            carry.full.back = 0;
+            influence.full.back = 0;
             full.back = 0;
         }
         Marker::NewBack => {
-            carry.full.back = carry.full.fore;
-            full.back = carry.full.fore;
+            influence.full.back = influence.full.fore;
+            full.back = influence.full.fore;
         }
         Marker::Hold => {
-            carry.hold = true;
+            influence.hold = true;
             hold = true;
         }
-        Marker::Release => carry.hold = false,
+        Marker::Release => influence.hold = false,
         Marker::Flash(flash) => {
-            carry.full.flash = flash;
+            influence.full.flash = flash;
             if let Flash::Steady = flash {
                 full.flash = flash;
             }
         }
         Marker::Conceal(conceal) => {
-            carry.full.conceal = conceal;
+            influence.full.conceal = conceal;
             if conceal {
                 full.conceal = true;
             }
         }
-        Marker::Lined(lined) => carry.full.lined = lined,
-        Marker::Boxed(boxed) => carry.full.boxed = boxed,
+        Marker::Lined(lined) => influence.full.lined = lined,
+        Marker::Boxed(boxed) => influence.full.boxed = boxed,
         Marker::Size(size) => {
-            carry.full.size = size;
-            carry.kept = None;
+            influence.full.size = size;
+            influence.kept = None;
             if let Size::Normal = size {
                 full.size = size;
             }
         }
     }
-    *held = if hold { carry.kept } else { None };
+    *held = if hold { influence.kept } else { None };
 }
 
 /// The sign that markers after a cell may hold: one written serially from a mosaic set.

@@ -12,6 +12,7 @@ use Rattle.cept_codes.specs.Place.{Place, OnScreen}
 use Rattle.cept_codes.specs.Table.{row_of, value_at, entry, list_by_index, IsTable}
 use Rattle.cept_codes.proofs.Laws.{table-value_at, same_table, set_is, rows_are, set_row_is, entry-list_by_index}
 use Rattle.cept_codes.proofs.Laws.{length-list_by_index}
+use Rattle.cept_codes.proofs.Laws.{entry_from}
 use Rattle.cept_cells.specs.Erased.{cell_after_erasing}
 use Rattle.cept_cells.specs.declared.grid.TheConstants.{BLANK_ROW}
 use Rattle.cept_profile.specs.Cells.{is_at, cell_after, cells_after, cells_after_all}
@@ -108,7 +109,8 @@ cells_after-erase {g} {now} is same row from i old new e top bottom er read made
           let too : (q == row) ≡ true = grind (arith, nat_tests) in
           let index : i ≡ q - 1 = omega arith in
           let cell : entry blank_cell 1 old c ≡ value_at blank_cell g q c =
-          ap (λ (l : List Cell). get_or l (c - 1) blank_cell) (old_in ∙ ap (λ k. get_or g k []) index) in
+          entry_from blank_cell 1 old c on.from_left
+          ∙ ap (λ (l : List Cell). get_or l (c - 1) blank_cell) (old_in ∙ ap (λ k. get_or g k []) index) in
           ap (λ b. cond b (entry blank_cell 1 new c) (value_at blank_cell g q c)) yes
           ∙ ap (λ (l : List Cell). entry blank_cell 1 l c) made
           ∙ entry-list_by_index blank_cell 1 40 (cell_after_erasing from (entry blank_cell 1 old)) c on.from_left

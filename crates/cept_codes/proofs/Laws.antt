@@ -1,6 +1,7 @@
 -- The laws of this crate in proofs above it: each is a clause of a public function of src/law, and nothing else of
 -- these proofs is seen outside.
-pub use Rattle.cept_codes.proofs.Lists.{length-list_by_index, entry-list_by_index, entry_past, same_lists}
+pub use Rattle.cept_codes.proofs.Lists.{length-list_by_index, entry-list_by_index, entry_from, entry_below}
+pub use Rattle.cept_codes.proofs.Lists.{entry_past, same_lists}
 pub use Rattle.cept_codes.proofs.Lists.{list_by_index-entry, same_indexed, set-entry}
 pub use Rattle.cept_codes.proofs.Lists.{indexed_none, indexed_more, HasMadeEntries-none, HasMadeEntries-more}
 pub use Rattle.cept_codes.proofs.Lists.{HasMadeEntries-all}

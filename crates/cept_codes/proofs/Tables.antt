@@ -7,7 +7,7 @@ use Rattle.std.proofs.lemmas.List.{ext_get_or, get_or_default, length-set, get_o
 use Rattle.std.proofs.lemmas.List.FromFn.{length-map-range_with_len, get_or-map-range_with_len}
 use Rattle.cept_codes.specs.Place.{OnScreen}
 use Rattle.cept_codes.specs.Table.{list_by_index, entry, table, row_of, value_at, IsTable, HasMadeRows}
-use Rattle.cept_codes.proofs.Lists.{by_eq}
+use Rattle.cept_codes.proofs.Lists.{by_eq, entry_from}
 
 -- ---- a row
 
@@ -187,6 +187,7 @@ set_row_is {X} t d i r row is below er long =
     (λ (same : r ≡ q).
     let yes : (r == q) ≡ true = grind (arith, nat_tests) in
     value_at-set_row t i row d q c (omega (arith, is.rows)) (omega arith)
+    ∙ sym (entry_from d 1 row c on.from_left)
     ∙ sym (ap (λ b. cond b (entry d 1 row c) (value_at d t q c)) yes))
     (λ (other : r ≢ q).
     let no : (r == q) ≡ false = grind (arith, nat_tests) in

@@ -11,6 +11,10 @@ rows_end : entry 7 1 (list_by_index 1 24 (λ r. 10 * r)) 25 ≡ 7
 unfolding list_by_index
 rows_end = refl
 
+rows_above : entry 7 1 (list_by_index 1 24 (λ r. 10 * r)) 0 ≡ 7
+unfolding list_by_index
+rows_above = refl
+
 -- 32 colour entries from 0
 colours : entry 99 0 (list_by_index 0 32 (λ k. k + 100)) 31 ≡ 131
 unfolding list_by_index
@@ -33,6 +37,10 @@ patterns = refl
 patterns_last : entry 0 0x21 (list_by_index 0x21 94 (λ k. k)) 0x7E ≡ 0x7E
 unfolding list_by_index
 patterns_last = refl
+
+patterns_before : entry 0 0x21 (list_by_index 0x21 94 (λ k. k)) 0x20 ≡ 0
+unfolding list_by_index
+patterns_before = refl
 
 patterns_end : entry 0 0x21 (list_by_index 0x21 94 (λ k. k)) 0x7F ≡ 0
 unfolding list_by_index

@@ -4,6 +4,7 @@ pub mod Command
 pub mod Glyph
 pub mod Look
 pub mod Memory
+pub mod PatternTable
 pub mod Place
 pub mod Same
 pub mod Stroke

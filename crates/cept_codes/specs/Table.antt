@@ -1,6 +1,7 @@
 -- Tables (own): lists that are made of a function of an index and read by that index, which starts at any number, and
 -- tables of the screen, 24 rows of 40, that are made of a function of row and column and read by both, each from 1.
-use Rattle.std.specs.Prelude.{ℕ, ◌≡◌, ◌+◌, ◌-◌, ◌<◌, ◌≤◌, List, [], length, map, slice_index_or}
+use Rattle.std.specs.Prelude.{ℕ, ◌≡◌, ◌+◌, ◌-◌, ◌<◌, ◌≤◌, List, [], length, map, slice_index_or, nat_lt}
+use Rattle.std.specs.Prelude.{if◌then◌else◌}
 use Rattle.std.specs.List.{range_with_len}
 use Rattle.cept_codes.specs.Place.{OnScreen}
 
@@ -8,10 +9,9 @@ use Rattle.cept_codes.specs.Place.{OnScreen}
 unfoldable pub list_by_index : {X : Type 0} → ℕ → ℕ → (ℕ → X) → List X
 list_by_index from count f = map f (range_with_len from count)
 
--- what stands at this index of a list whose index starts at `from`, and the default past the last; it isn't asked of an
--- index below the first
+-- what stands at this index of a list whose index starts at `from`, and the default below the first and past the last
 abbrev pub entry : {X : Type 0} → X → ℕ → List X → ℕ → X
-entry default from list k = slice_index_or list (k - from) default
+entry default from list k = if nat_lt k from then default else slice_index_or list (k - from) default
 
 -- a row of a table, by its column
 unfoldable pub row_of : {X : Type 0} → (ℕ → X) → List X

@@ -27,6 +27,7 @@ use Rattle.cept_codes.specs.Look.{IsValidPaint, black_paint}
 use Rattle.cept_codes.specs.Attribute.{IsEntry}
 use Rattle.cept_codes.specs.Table.{HasMadeEntries, entry, list_by_index}
 use Rattle.cept_codes.proofs.Laws.{set-entry, length-list_by_index, entry-list_by_index, HasMadeEntries-all}
+use Rattle.cept_codes.proofs.Laws.{entry_from}
 use Rattle.cept_profile.specs.Colours.{default_paint, default_paints}
 use Rattle.cept_profile.specs.PageParts.{dclut_list_after, paints_after}
 use Rattle.cept_colours.specs.Colours.{ColourTables, HasValidColours, default_colours}
@@ -51,7 +52,8 @@ pub paints_black : HasMadeEntries black_paint 0 32 default_paint (λ _. black_pa
 paints_black = record {
   long = length-replicate 32 black_paint;
   made = λ k low high none. absurd (omega arith);
-  left = λ k low high more. get_or-replicate 32 (k - 0) black_paint black_paint (omega arith);
+  left = λ k low high more. entry_from black_paint 0 (replicate 32 black_paint) k low
+      ∙ get_or-replicate 32 (k - 0) black_paint black_paint (omega arith);
 }
 
 -- ---- the defaults are valid

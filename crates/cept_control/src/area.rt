@@ -2,7 +2,7 @@ ghost use Rattle.std.specs.Prelude.{◌≡◌, ◌<◌, ◌++◌, length};
 ghost use Rattle.cept_codes.specs.Command.{IsArea};
 ghost use Rattle.cept_profile.specs.Control.{area_without, control_effect};
 ghost use Rattle.cept_profile.specs.Motions.{area_in_force, is_first_of, is_last_of};
-ghost use Rattle.cept_profile.specs.Motions.{scrolling_area, strokes_of_shift};
+ghost use Rattle.cept_profile.specs.Motions.{scrolling_area, strokes_of_scroll};
 
 use crate::control::Control;
 use arrayvec::ArrayVec;
@@ -37,9 +37,24 @@ impl Control {
     pub(crate) fn scroll(&self, way: Up, strokes: &mut ArrayVec<Stroke, 128>)
         requires { length strokes.old.items < 128 }
         ensures { strokes.new.items
-            ≡ strokes.old.items ++ strokes_of_shift way (area_in_force self.now) }
+            ≡ strokes.old.items ++ strokes_of_scroll self.now way (area_in_force self.now) }
     {
-        push_shift(way, self.area_in_force(), strokes);
+        self.scroll_area(way, self.area_in_force(), strokes);
+    }
+
+    /// The rows of the area, if there is one, go one row up or down.
+    pub(crate) fn scroll_area(
+        &self,
+        way: Up,
+        area: Option<(u8, u8)>,
+        strokes: &mut ArrayVec<Stroke, 128>,
+    )
+        requires { length strokes.old.items < 128 }
+        ensures { strokes.new.items ≡ strokes.old.items ++ strokes_of_scroll self.now way area }
+    {
+        if let Some((first, last)) = area {
+            strokes.push(Stroke::Shift(first, last, way));
+        }
     }
 
     /// The area in force: it is there, and within the format.
@@ -91,15 +106,5 @@ pub(crate) fn is_last_of(area: Option<(u8, u8)>, row: u8) -> bool
     match area {
         Some((_, last)) => last == row,
         None => false,
-    }
-}
-
-/// The rows of the area, if there is one, go one row up or down.
-pub(crate) fn push_shift(way: Up, area: Option<(u8, u8)>, strokes: &mut ArrayVec<Stroke, 128>)
-    requires { length strokes.old.items < 128 }
-    ensures { strokes.new.items ≡ strokes.old.items ++ strokes_of_shift way area }
-{
-    if let Some((first, last)) = area {
-        strokes.push(Stroke::Shift(first, last, way));
     }
 }

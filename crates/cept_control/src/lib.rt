@@ -5,6 +5,7 @@
 mod area;
 mod colour;
 mod control;
+mod edges;
 mod graphic;
 mod marker;
 mod motion;
@@ -17,3 +18,4 @@ mod working;
 
 pub use cept_codes::Stroke;
 pub use control::Control;
+pub use edges::Edges;

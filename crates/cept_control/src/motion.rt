@@ -6,7 +6,7 @@ ghost use Rattle.cept_profile.specs.Motions.{working_back, working_ahead, row_ab
 ghost use Rattle.cept_profile.specs.Motions.{above_strokes, back_strokes, below_strokes, on_strokes};
 ghost use Rattle.cept_profile.specs.Strokes.{strokes_when};
 
-use crate::area::{is_first_of, is_last_of, push_shift};
+use crate::area::{is_first_of, is_last_of};
 use crate::control::Control;
 use arrayvec::ArrayVec;
 use cept_codes::{Command, Pen, Stroke, Up};
@@ -123,7 +123,7 @@ impl Control {
     {
         let area = self.scrolling_area();
         if is_last_of(area, self.working.row) {
-            push_shift(Up::Up, area, strokes);
+            self.scroll_area(Up::Up, area, strokes);
         }
         self.move_to(self.row_below(), column);
     }
@@ -140,7 +140,7 @@ impl Control {
     {
         let area = self.scrolling_area();
         if is_first_of(area, self.working.row) {
-            push_shift(Up::Down, area, strokes);
+            self.scroll_area(Up::Down, area, strokes);
         }
         self.move_to(self.row_above(), column);
     }

@@ -1,7 +1,9 @@
 ghost use Rattle.std.specs.Prelude.{◌≡◌, ◌≤◌, [], true, false, IfSome};
 ghost use Rattle.cept_codes.specs.Attribute.{IsValidAttr, IsValidPen};
 ghost use Rattle.cept_codes.specs.Command.{IsC1, IsValidCommand};
+ghost use Rattle.cept_control.specs.AttributeCode.{is_attribute_code};
 ghost use Rattle.cept_profile.specs.Control.{control_after, control_effect};
+ghost use Rattle.cept_profile.specs.Edges.{edges_of};
 ghost use Rattle.cept_profile.specs.Strokes.{strokes_of, strokes_when};
 ghost use Rattle.cept_profile.specs.Pens.{attribute_of, fast_after, fast_after_code, fast_before};
 ghost use Rattle.cept_profile.specs.Pens.{fast_flash, flash_of, next_fast, pen_with_any, pen_with};
@@ -14,14 +16,15 @@ use cept_codes::{Attr, C1Set, Command, Flash, Marker, Pen, Size, Stroke};
 /// What sets attributes: under the parallel set those of the pen, under the serial set markers.
 impl Control {
     /// Takes a C1 code under the parallel set, which makes no stroke, and answers whether the
-    /// command is one. Any other command is left to `step`.
+    /// command is one under this set. Any other command is left to `step`.
     #[inline(always)]
     pub fn step_attribute(&mut self, command: &Command) -> bool
         requires { IsValidCommand command.now }
         ensures state { result ≡ true → self.new ≡ control_after self.old command.now }
         ensures strokes { result ≡ true → strokes_of self.old command.now ≡ [] }
-        ensures rows { self.new.rows ≡ self.old.rows }
+        ensures edges { edges_of self.new ≡ edges_of self.old }
         ensures left { result ≡ false → self.new ≡ self.old }
+        ensures answer { result ≡ is_attribute_code self.old.working.c1 command.now }
     {
         match (command, self.working.c1) {
             (Command::C1(n), C1Set::Parallel) => {

@@ -8,7 +8,7 @@ use Rattle.std.proofs.lemmas.Nat.{mul-le}
 use Rattle.cept_codes.specs.declared.command.Form.{Form}
 use Rattle.cept_codes.specs.Command.{IsValidForm}
 use Rattle.cept_codes.specs.Look.{is_pattern_size}
-use Rattle.cept_drcs.specs.Block.{Drawn, blank, adds, may_come, draw, drawn, last_line}
+use Rattle.cept_drcs.specs.Block.{BlockPart, blank, adds, may_come, part_after_byte, part_after_bytes, last_line}
 use Rattle.cept_drcs.specs.Cut.{Block, is_opener, plane_of}
 use Rattle.cept_drcs.proofs.BlockLemmas.{halves}
 use Rattle.cept_drcs.specs.Unit.{is_pattern}
@@ -23,7 +23,7 @@ use Rattle.cept_drcs.proofs.Growing.{four_planes}
 abbrev weight : Loading → ℕ
 weight l = l.plane + (2 * length l.lines + halves l.half)
 
-opener_weighs : (f : Form) (p q : ℕ) (up : List ℕ) (d : Drawn) → length up ≡ p * f.h → IsWithin f d → p < q
+opener_weighs : (f : Form) (p q : ℕ) (up : List ℕ) (d : BlockPart) → length up ≡ p * f.h → IsWithin f d → p < q
     → weight (stand f p up d) < weight (stand f q (above_next f q up d) blank)
 opener_weighs f p q up d e w l =
     let n = length-above_next f p q up d e w l in
@@ -33,8 +33,8 @@ opener_weighs f p q up d e w l =
     let b = length-append (above_next f q up d) [] in
     omega arith
 
-other_weighs : (f : Form) (p : ℕ) (up : List ℕ) (d : Drawn) (a : ℕ) → may_come (f.h - length d.lines) a ≡ true
-    → weight (stand f p up d) < weight (stand f p up (draw f d a))
+other_weighs : (f : Form) (p : ℕ) (up : List ℕ) (d : BlockPart) (a : ℕ) → may_come (f.h - length d.lines) a ≡ true
+    → weight (stand f p up d) < weight (stand f p up (part_after_byte f d a))
 other_weighs f p up d a h =
     let m = (draw_measured f d a h).more in
     let more = adds f.w (f.h - length d.lines) (last_line d.lines) d.half a in
@@ -44,7 +44,7 @@ other_weighs f p up d a h =
     omega arith
 
 -- each byte weighs something
-bytes_weigh : (f : Form) (p : ℕ) (up : List ℕ) (d : Drawn) (u : List ℕ) → length up ≡ p * f.h → IsWithin f d
+bytes_weigh : (f : Form) (p : ℕ) (up : List ℕ) (d : BlockPart) (u : List ℕ) → length up ≡ p * f.h → IsWithin f d
     → loads (stand f p up d) u ≡ true → length u + weight (stand f p up d) ≤ weight (load (stand f p up d) u)
 unfolding load
 bytes_weigh f p up d [] e w h = omega arith
@@ -62,7 +62,7 @@ bytes_weigh f p up d (a ∷ u) e w h =
     let other : is_opener a ≡ false → Goal =
     λ t.
     let g = and_parts _ _ (sym (loads_other f p up d a u t e) ∙ h) in
-    let i = bytes_weigh f p up (draw f d a) u e (draw_within f d a w g.0) g.1 in
+    let i = bytes_weigh f p up (part_after_byte f d a) u e (draw_within f d a w g.0) g.1 in
     let s = other_weighs f p up d a g.0 in
     let z = ap weight (load_other f p up d a u t e) in
     omega arith in
@@ -70,7 +70,7 @@ bytes_weigh f p up d (a ∷ u) e w h =
 
 ends_weigh : (f : Form) (l : Loading) (b : Block) → Ends f l b → weight l < f.planes + 2 * (f.planes * f.h)
 ends_weigh f l b k =
-    let d = drawn f blank b.bytes in
+    let d = part_after_bytes f blank b.bytes in
     let z = ap weight k.state in
     let n = length-append k.above d.lines in
     let m = next_plane b.plane f.planes f.h k.plane in

@@ -8,10 +8,10 @@ use Rattle.cept_codes.specs.declared.command.Form.{Form}
 use Rattle.std.proofs.lemmas.Bool.{eq-eqb, cond-false, cond-true, true≢false}
 use Rattle.std.proofs.lemmas.List.{length-append, length-replicate, length-drop}
 use Rattle.std.proofs.lemmas.List.{get_or-map, get_or-drop, drop_all}
-use Rattle.cept_drcs.specs.Loading.{Loading, all_lines, room, completed, opened, added, above, before}
-use Rattle.cept_drcs.specs.Strips.{strip_of, joined, left_over, pairs, strip_line, whole_lines}
+use Rattle.cept_drcs.specs.Loading.{Loading, all_lines, room, completed_loading, loading_at_plane, loading_with, above, before}
+use Rattle.cept_drcs.specs.Strips.{strip_of, line_of_strips, left_over, pairs, strip_line, whole_lines}
 use Rattle.cept_drcs.specs.Strips.{half_of, strips_in}
-use Rattle.cept_drcs.specs.Kept.{IsKept, plane_end}
+use Rattle.cept_drcs.specs.Kept.{IsKeptDrawing, plane_end}
 use Rattle.cept_drcs.specs.Block.{whole, last_line}
 use Rattle.cept_drcs.proofs.StripLemmas.{map-added, in_pairs-same, left_over-same, in_pairs-pairs}
 use Rattle.cept_drcs.proofs.StripLemmas.{left_over-pairs, length-pairs, in_pairs-at}
@@ -25,13 +25,13 @@ use Rattle.cept_drcs.proofs.KeptDrawings.{form_width, not_six, shown_is, end_mos
 -- ---- whole lines drawn
 
 same_b : (b : Bool) (ss : List ℕ) (n a : ℕ) → half_b b ss ≡ None
-    → (lines_b b (ss ++ replicate (strips_b b n) a) ≡ lines_b b ss ++ replicate n (cond b (strip_of a) (joined a a)))
+    → (lines_b b (ss ++ replicate (strips_b b n) a) ≡ lines_b b ss ++ replicate n (cond b (strip_of a) (line_of_strips a a)))
     × (half_b b (ss ++ replicate (strips_b b n) a) ≡ None)
 same_b true ss n a w = (map-added ss n a, refl)
 same_b false ss n a w = (in_pairs-same ss n a w, left_over-same ss n a w)
 
 pairs_b : (b : Bool) (ss : List ℕ) (n x y : ℕ) → half_b b ss ≡ None → b ≡ false
-    → (lines_b b (ss ++ pairs n x y) ≡ lines_b b ss ++ replicate n (cond b (strip_of y) (joined x y)))
+    → (lines_b b (ss ++ pairs n x y) ≡ lines_b b ss ++ replicate n (cond b (strip_of y) (line_of_strips x y)))
     × (half_b b (ss ++ pairs n x y) ≡ None)
 pairs_b true ss n x y w e = absurd (true≢false e)
 pairs_b false ss n x y w e = (in_pairs-pairs ss n x y w, left_over-pairs ss n x y w)
@@ -43,66 +43,66 @@ no_half f begun plane ss l view whole = ap (λ (l : Loading). l.half) view ∙ w
 -- the same strip so often that it makes n lines
 same_shown : (f : Form) (begun : Bool) (plane : ℕ) (ss more : List ℕ) (l : Loading) (n a line : ℕ)
     → shown f begun plane ss ≡ l → l.half ≡ None → more ≡ ss ++ replicate (strips_in f.w n) a
-    → cond (f.w == 6) (strip_of a) (joined a a) ≡ line
-    → shown f begun plane more ≡ added l (whole (replicate n line))
+    → cond (f.w == 6) (strip_of a) (line_of_strips a a) ≡ line
+    → shown f begun plane more ≡ loading_with l (whole (replicate n line))
 same_shown f begun plane ss more l n a line view none em el =
     let both = same_b (f.w == 6) ss n a (no_half f begun plane ss l view none) in
     ap (shown f begun plane) em
     ∙ shown_is f begun plane (ss ++ replicate (strips_in f.w n) a) (whole_lines f.w ss ++ replicate n line) None
     (both.0 ∙ ap (λ (x : ℕ). whole_lines f.w ss ++ replicate n x) el) both.1
-    ∙ ap (λ (l : Loading). added l (whole (replicate n line))) view
+    ∙ ap (λ (l : Loading). loading_with l (whole (replicate n line))) view
 
-zero_line : (b : Bool) → cond b (strip_of 0) (joined 0 0) ≡ 0
+zero_line : (b : Bool) → cond b (strip_of 0) (line_of_strips 0 0) ≡ 0
 zero_line true = strip_none
 zero_line false = joined_none
 
-full_line : (w : ℕ) → (w ≡ 6) ⊎ (w ≡ 12) → cond (w == 6) (strip_of 0x3F) (joined 0x3F 0x3F) ≡ 2 ^ w - 1
+full_line : (w : ℕ) → (w ≡ 6) ⊎ (w ≡ 12) → cond (w == 6) (strip_of 0x3F) (line_of_strips 0x3F 0x3F) ≡ 2 ^ w - 1
 full_line w width =
     elim width [
-      | inl six ↦ ap (λ v. cond (v == 6) (strip_of 0x3F) (joined 0x3F 0x3F)) six ∙ strip_full
+      | inl six ↦ ap (λ v. cond (v == 6) (strip_of 0x3F) (line_of_strips 0x3F 0x3F)) six ∙ strip_full
           ∙ ap (λ v. 2 ^ v - 1) (sym six)
-      | inr twelve ↦ ap (λ v. cond (v == 6) (strip_of 0x3F) (joined 0x3F 0x3F)) twelve ∙ joined_full
+      | inr twelve ↦ ap (λ v. cond (v == 6) (strip_of 0x3F) (line_of_strips 0x3F 0x3F)) twelve ∙ joined_full
           ∙ ap (λ v. 2 ^ v - 1) (sym twelve)
     ]
 
 pub skipped_shown : (f : Form) (begun : Bool) (plane len strips : ℕ) (ss more : List ℕ) (l : Loading) (n : ℕ)
     → shown f begun plane ss ≡ l → l.half ≡ None → len ≡ length ss → strips ≡ strips_in f.w n
-    → more ≡ ss ++ replicate (len + strips - length ss) 0 → shown f begun plane more ≡ added l (whole (replicate n 0))
+    → more ≡ ss ++ replicate (len + strips - length ss) 0 → shown f begun plane more ≡ loading_with l (whole (replicate n 0))
 skipped_shown f begun plane len strips ss more l n view none el es em =
     let many : len + strips - length ss ≡ strips_in f.w n = omega (arith, el, es) in
     same_shown f begun plane ss more l n 0 0 view none (em ∙ ap (λ k. ss ++ replicate k 0) many) (zero_line (f.w == 6))
 
 pub filled_shown : (f : Form) (begun : Bool) (plane stop strips : ℕ) (ss more : List ℕ) (l : Loading) (n : ℕ)
-    → IsKept f begun plane stop ss → shown f begun plane ss ≡ l → l.half ≡ None → strips ≡ strips_in f.w n
-    → more ≡ ss ++ replicate strips 0x3F → shown f begun plane more ≡ added l (whole (replicate n (2 ^ l.form.w - 1)))
+    → IsKeptDrawing f begun plane stop ss → shown f begun plane ss ≡ l → l.half ≡ None → strips ≡ strips_in f.w n
+    → more ≡ ss ++ replicate strips 0x3F → shown f begun plane more ≡ loading_with l (whole (replicate n (2 ^ l.form.w - 1)))
 filled_shown f begun plane stop strips ss more l n k view none es em =
     same_shown f begun plane ss more l n 0x3F (2 ^ f.w - 1) view none (em ∙ ap (λ k. ss ++ replicate k 0x3F) es)
     (full_line f.w (form_width f k.form))
-    ∙ ap (λ (w : ℕ). added l (whole (replicate n (2 ^ w - 1)))) (ap (λ (l : Loading). l.form.w) view)
+    ∙ ap (λ (w : ℕ). loading_with l (whole (replicate n (2 ^ w - 1)))) (ap (λ (l : Loading). l.form.w) view)
 
 -- the line before, again
 pub repeated_six : (f : Form) (begun : Bool) (plane : ℕ) (ss more : List ℕ) (l : Loading) (n x y line : ℕ)
     → shown f begun plane ss ≡ l → l.half ≡ None → f.w ≡ 6 → more ≡ ss ++ replicate n y
-    → strip_line l.form.w x y ≡ line → shown f begun plane more ≡ added l (whole (replicate n line))
+    → strip_line l.form.w x y ≡ line → shown f begun plane more ≡ loading_with l (whole (replicate n line))
 repeated_six f begun plane ss more l n x y line view none six em el =
     let narrow : (f.w == 6) ≡ true = eq-eqb f.w 6 six in
     let strips : n ≡ strips_in f.w n = sym (cond-true (f.w == 6) n (2 * n) narrow) in
-    let alone : cond (f.w == 6) (strip_of y) (joined y y) ≡ strip_line f.w x y =
-    ap (λ (b : Bool). cond b (strip_of y) (joined y y)) narrow
-    ∙ sym (ap (λ (b : Bool). cond b (strip_of y) (joined x y)) narrow) in
+    let alone : cond (f.w == 6) (strip_of y) (line_of_strips y y) ≡ strip_line f.w x y =
+    ap (λ (b : Bool). cond b (strip_of y) (line_of_strips y y)) narrow
+    ∙ sym (ap (λ (b : Bool). cond b (strip_of y) (line_of_strips x y)) narrow) in
     same_shown f begun plane ss more l n y line view none (em ∙ ap (λ k. ss ++ replicate k y) strips)
     (alone ∙ ap (λ (l : Loading). strip_line l.form.w x y) view ∙ el)
 
 pub repeated_pairs : (f : Form) (begun : Bool) (plane : ℕ) (ss more : List ℕ) (l : Loading) (n x y line : ℕ)
     → shown f begun plane ss ≡ l → l.half ≡ None → (f.w ≡ 6 → ⊥) → more ≡ ss ++ pairs n x y
-    → strip_line l.form.w x y ≡ line → shown f begun plane more ≡ added l (whole (replicate n line))
+    → strip_line l.form.w x y ≡ line → shown f begun plane more ≡ loading_with l (whole (replicate n line))
 repeated_pairs f begun plane ss more l n x y line view none ne em el =
     let both = pairs_b (f.w == 6) ss n x y (no_half f begun plane ss l view none) (not_six f.w ne) in
     ap (shown f begun plane) em
     ∙ shown_is f begun plane (ss ++ pairs n x y) (whole_lines f.w ss ++ replicate n line) None
     (both.0 ∙ ap (λ (z : ℕ). whole_lines f.w ss ++ replicate n z) (ap (λ (l : Loading). strip_line l.form.w x y) view
     ∙ el)) both.1
-    ∙ ap (λ (l : Loading). added l (whole (replicate n line))) view
+    ∙ ap (λ (l : Loading). loading_with l (whole (replicate n line))) view
 
 -- ---- room for them
 
@@ -112,7 +112,7 @@ fit_b true n m len count e h k = omega arith
 fit_b false n m len count e h k = omega arith
 
 pub lines_fit_in : (f : Form) (begun : Bool) (plane stop : ℕ) (ss : List ℕ) (l : Loading) (n : ℕ)
-    → IsKept f begun plane stop ss → shown f begun plane ss ≡ l → l.half ≡ None → n ≤ room l
+    → IsKeptDrawing f begun plane stop ss → shown f begun plane ss ≡ l → l.half ≡ None → n ≤ room l
     → length ss + strips_in f.w n ≤ plane_end f plane
 lines_fit_in f begun plane stop ss l n k view none h =
     let counted : strips_b (f.w == 6) (length (whole_lines f.w ss)) + 0 ≡ length ss =
@@ -122,15 +122,15 @@ lines_fit_in f begun plane stop ss l n k view none h =
     fit_b (f.w == 6) n (plane * f.h + f.h) (length (whole_lines f.w ss)) (length ss) counted k.room left
 
 pub pairs_fit_in : (f : Form) (begun : Bool) (plane stop : ℕ) (ss : List ℕ) (l : Loading) (n : ℕ)
-    → IsKept f begun plane stop ss → shown f begun plane ss ≡ l → l.half ≡ None → n ≤ room l → (f.w ≡ 6 → ⊥)
+    → IsKeptDrawing f begun plane stop ss → shown f begun plane ss ≡ l → l.half ≡ None → n ≤ room l → (f.w ≡ 6 → ⊥)
     → length ss + 2 * n ≤ 96
 pairs_fit_in f begun plane stop ss l n k view none h ne =
     let strips : strips_in f.w n ≡ 2 * n = cond-false (f.w == 6) n (2 * n) (not_six f.w ne) in
     omega (arith, lines_fit_in f begun plane stop ss l n k view none h, end_most f begun plane stop ss k)
 
 pub kept_lines : (f : Form) (begun : Bool) (plane stop : ℕ) (ss more : List ℕ) (l : Loading) (n : ℕ)
-    → IsKept f begun plane stop ss → shown f begun plane ss ≡ l → l.half ≡ None → n ≤ room l
-    → length more ≡ length ss + strips_in f.w n → IsKept f begun plane stop more
+    → IsKeptDrawing f begun plane stop ss → shown f begun plane ss ≡ l → l.half ≡ None → n ≤ room l
+    → length more ≡ length ss + strips_in f.w n → IsKeptDrawing f begun plane stop more
 kept_lines f begun plane stop ss more l n k view none h long =
     kept_more f begun plane stop ss more k (omega arith)
     (omega (arith, lines_fit_in f begun plane stop ss l n k view none h))
@@ -173,20 +173,20 @@ fits_b true ss m w h = omega (arith, count_b true ss)
 fits_b false ss m w h = omega (arith, count_b false ss, none_half (left_over ss) w)
 
 pub opened_fits : (f : Form) (begun : Bool) (plane : ℕ) (ss : List ℕ) (l done : Loading) (p first : ℕ)
-    → shown f begun plane ss ≡ done → done ≡ completed l → length (all_lines l) ≤ p * l.form.h
+    → shown f begun plane ss ≡ done → done ≡ completed_loading l → length (all_lines l) ≤ p * l.form.h
     → first ≡ strips_in f.w (p * f.h) → length ss ≤ first
 opened_fits f begun plane ss l done p first view full h e =
-    let all : shown f begun plane ss ≡ completed l = view ∙ full in
+    let all : shown f begun plane ss ≡ completed_loading l = view ∙ full in
     let none : half_of f.w ss ≡ None = ap (λ (l : Loading). l.half) all in
     let lines : length (whole_lines f.w ss) ≡ length (all_lines l) = ap (λ (l : Loading). length l.lines) all in
     let high : p * l.form.h ≡ p * f.h = ap (λ (l : Loading). p * l.form.h) (sym all) in
     omega (arith, fits_b (f.w == 6) ss (p * f.h) none (omega arith))
 
 pub opened_shown : (f : Form) (begun : Bool) (plane : ℕ) (ss more : List ℕ) (l done : Loading) (p first : ℕ)
-    → shown f begun plane ss ≡ done → done ≡ completed l → first ≡ strips_in f.w (p * f.h)
-    → more ≡ ss ++ replicate (first - length ss) 0 → shown f begun p more ≡ opened l p
+    → shown f begun plane ss ≡ done → done ≡ completed_loading l → first ≡ strips_in f.w (p * f.h)
+    → more ≡ ss ++ replicate (first - length ss) 0 → shown f begun p more ≡ loading_at_plane l p
 opened_shown f begun plane ss more l done p first view full e em =
-    let all : shown f begun plane ss ≡ completed l = view ∙ full in
+    let all : shown f begun plane ss ≡ completed_loading l = view ∙ full in
     let none : half_of f.w ss ≡ None = ap (λ (l : Loading). l.half) all in
     let n : ℕ = p * f.h - length (whole_lines f.w ss) in
     let many : first - length ss ≡ strips_in f.w n = zeros_b (f.w == 6) ss (p * f.h) first none e in
@@ -195,9 +195,9 @@ opened_shown f begun plane ss more l done p first view full e em =
     ∙ ap (λ (m : Loading). loading m.form m.begun p (m.lines ++ replicate (p * m.form.h - length m.lines) 0) None) all
 
 pub opened_kept : (f : Form) (begun : Bool) (plane stop : ℕ) (ss more : List ℕ) (l done : Loading) (p first last : ℕ)
-    → IsKept f begun plane stop ss → shown f begun plane ss ≡ done → done ≡ completed l → l.begun ≡ true
+    → IsKeptDrawing f begun plane stop ss → shown f begun plane ss ≡ done → done ≡ completed_loading l → l.begun ≡ true
     → length (all_lines l) ≤ p * l.form.h → p < l.form.planes → first ≡ strips_in f.w (p * f.h)
-    → last ≡ plane_end f p → more ≡ ss ++ replicate (first - length ss) 0 → IsKept f begun p last more
+    → last ≡ plane_end f p → more ≡ ss ++ replicate (first - length ss) 0 → IsKeptDrawing f begun p last more
 opened_kept f begun plane stop ss more l done p first last k view full b h below e el em =
     let long : length more ≡ length ss + (first - length ss) =
     ap length em ∙ length-append ss (replicate (first - length ss) 0)
@@ -208,7 +208,7 @@ opened_kept f begun plane stop ss more l done p first last k view full b h below
     record {
       form = k.form;
       open_plane = subst (λ (m : Loading). p < m.form.planes) (sym (view ∙ full)) below;
-      behind = omega arith;
+      earlier = omega arith;
       room = omega arith;
       stop_is = el ∙ sym (ap (λ (c : Bool). cond c (plane_end f p) 0) open_now);
     }
@@ -218,15 +218,15 @@ opened_kept f begun plane stop ss more l done p first last k view full b h below
 last_b : (b : Bool) (ss : List ℕ) (n count : ℕ) → half_b b ss ≡ None → count ≡ length ss
     → length (lines_b b ss) ≡ n + 1
     → get_or (lines_b b ss) n 0 ≡ cond b (strip_of (get_or ss (count - 1) 0))
-    (joined (get_or ss (count - 2) 0) (get_or ss (count - 1) 0))
+    (line_of_strips (get_or ss (count - 2) 0) (get_or ss (count - 1) 0))
 last_b true ss n count w e h =
     let last : count - 1 ≡ n = omega (arith, count_b true ss) in
     get_or-map strip_of ss n 0 0 (omega (arith, count_b true ss)) ∙ ap (λ k. strip_of (get_or ss k 0)) (sym last)
 last_b false ss n count w e h =
     let left : 2 * n ≡ count - 2 = omega (arith, count_b false ss, none_half (left_over ss) w) in
     let right : 2 * n + 1 ≡ count - 1 = omega (arith, count_b false ss, none_half (left_over ss) w) in
-    in_pairs-at ss n (omega arith) ∙ ap (λ k. joined (get_or ss k 0) (get_or ss (2 * n + 1) 0)) left
-    ∙ ap (λ k. joined (get_or ss (count - 2) 0) (get_or ss k 0)) right
+    in_pairs-at ss n (omega arith) ∙ ap (λ k. line_of_strips (get_or ss k 0) (get_or ss (2 * n + 1) 0)) left
+    ∙ ap (λ k. line_of_strips (get_or ss (count - 2) 0) (get_or ss k 0)) right
 
 -- as many strips as so many lines have are so many lines
 start_b : (b : Bool) (ss : List ℕ) (m : ℕ) → half_b b ss ≡ None → length ss ≡ strips_b b m
@@ -259,14 +259,14 @@ nothing_before f begun plane stop count first ss l view none e ef same =
     ∙ sym (no_last (whole_lines f.w ss) (plane * f.h) lines) ∙ ap before view
 
 pub line_before : (f : Form) (begun : Bool) (plane stop count first left x y : ℕ) (ss : List ℕ) (l : Loading)
-    → IsKept f begun plane stop ss → shown f begun plane ss ≡ l → l.half ≡ None → count ≡ length ss
+    → IsKeptDrawing f begun plane stop ss → shown f begun plane ss ≡ l → l.half ≡ None → count ≡ length ss
     → first ≡ strips_in f.w (plane * f.h) → (count ≡ first → ⊥) → left ≡ count - 2 → x ≡ get_or ss left 0
     → y ≡ get_or ss (count - 1) 0 → strip_line l.form.w x y ≡ before l
 line_before f begun plane stop count first left x y ss l k view none e ef apart eleft ex ey =
     let half = no_half f begun plane ss l view none in
     let n : ℕ = length (whole_lines f.w ss) - 1 in
     let more : plane * f.h < length (whole_lines f.w ss) =
-    past_b (f.w == 6) ss (plane * f.h) half k.behind (λ same. apart (e ∙ same ∙ sym ef)) in
+    past_b (f.w == 6) ss (plane * f.h) half k.earlier (λ same. apart (e ∙ same ∙ sym ef)) in
     let long : length (whole_lines f.w ss) ≡ n + 1 = omega arith in
     ap (λ (l : Loading). strip_line l.form.w x y) (sym view)
     ∙ ap (λ (z : ℕ). strip_line f.w z y) (ex ∙ ap (λ k. get_or ss k 0) eleft)
@@ -274,16 +274,16 @@ line_before f begun plane stop count first left x y ss l k view none e ef apart 
     ∙ sym (last_from (whole_lines f.w ss) (plane * f.h) n long (omega arith)
     ∙ last_b (f.w == 6) ss n count half e long) ∙ ap before view
 
--- ---- a plane behind the open one
+-- ---- a plane after the open one
 
 behind_b : (b : Bool) (ss : List ℕ) (m : ℕ) → strips_b b m ≤ length ss → m ≤ length (lines_b b ss)
 behind_b true ss m h = omega (arith, count_b true ss)
 behind_b false ss m h = omega (arith, count_b false ss, halves_b false (left_over ss))
 
-pub lines_behind : (f : Form) (begun : Bool) (plane stop : ℕ) (ss : List ℕ) (l : Loading)
-    → IsKept f begun plane stop ss → shown f begun plane ss ≡ l → above l ≤ length l.lines
-lines_behind f begun plane stop ss l k view =
-    subst (λ (l : Loading). above l ≤ length l.lines) view (behind_b (f.w == 6) ss (plane * f.h) k.behind)
+pub earlier_lines : (f : Form) (begun : Bool) (plane stop : ℕ) (ss : List ℕ) (l : Loading)
+    → IsKeptDrawing f begun plane stop ss → shown f begun plane ss ≡ l → above l ≤ length l.lines
+earlier_lines f begun plane stop ss l k view =
+    subst (λ (l : Loading). above l ≤ length l.lines) view (behind_b (f.w == 6) ss (plane * f.h) k.earlier)
 
 within_b : (b : Bool) (ss : List ℕ) (m : ℕ) → length ss ≤ strips_b b m
     → length (lines_b b ss) + halves (half_b b ss) ≤ m
@@ -291,7 +291,7 @@ within_b true ss m h = omega (arith, count_b true ss)
 within_b false ss m h = omega (arith, count_b false ss, halves_b false (left_over ss))
 
 pub later_plane : (f : Form) (begun : Bool) (plane stop : ℕ) (ss : List ℕ) (l : Loading) (q : ℕ)
-    → IsKept f begun plane stop ss → shown f begun plane ss ≡ l → l.plane < q → length (all_lines l) ≤ q * l.form.h
+    → IsKeptDrawing f begun plane stop ss → shown f begun plane ss ≡ l → l.plane < q → length (all_lines l) ≤ q * l.form.h
 later_plane f begun plane stop ss l q k view h =
     let far : plane < q = subst (λ (l : Loading). l.plane < q) (sym view) h in
     let most : length (whole_lines f.w ss) + halves (half_of f.w ss) ≤ plane * f.h + f.h =

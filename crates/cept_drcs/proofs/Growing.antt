@@ -1,4 +1,4 @@
--- Where a byte fits behind a pattern, and where none does.
+-- Where a byte fits after a pattern, and where none does.
 use Rattle.std.proofs.Common.{◌≡◌, ◌↔◌, ℕ, ◌+◌, ◌-◌, ◌<◌, ◌≤◌, true, false, not, ◌&&◌, ◌||◌, List, [], ◌∷◌, ◌++◌}
 use Rattle.std.proofs.Common.{inl, inr, length, ◌==◌, nat_lt, IsTrue, refl, sym, ap, ◌∙◌, arith}
 use Rattle.std.proofs.lemmas.Bool.{cases_Bool, and_parts, or_parts, ltb-true}
@@ -7,10 +7,10 @@ use Rattle.std.proofs.lemmas.Bool.Decides.{nat_tests}
 use Rattle.cept_codes.specs.declared.command.Form.{Form}
 use Rattle.cept_codes.specs.Command.{IsValidForm}
 use Rattle.cept_codes.specs.Look.{is_plane_count}
-use Rattle.cept_drcs.specs.Block.{blank, may_come, drawn}
+use Rattle.cept_drcs.specs.Block.{blank, may_come, part_after_bytes}
 use Rattle.cept_drcs.specs.Cut.{Block, is_opener, plane_of}
 use Rattle.cept_drcs.specs.Unit.{is_pattern, block_grows, pattern_grows, IsLonger}
-use Rattle.cept_drcs.specs.Loading.{Loading, fresh, takes, taken, load, loads, is_full, Leads}
+use Rattle.cept_drcs.specs.Loading.{Loading, fresh, takes, loading_after, load, loads, is_full, Leads}
 use Rattle.cept_drcs.proofs.Bridge.{stand, takes_opener, takes_other, unit_loads}
 use Rattle.cept_drcs.proofs.Bridge.{room_is}
 use Rattle.cept_drcs.proofs.Reading.{loads_more, some_plane, pattern_planes, pattern_loads, pattern_of_leads}
@@ -25,10 +25,10 @@ opener_ends p a n t h = grind (arith, nat_tests)
 byte_ends : (n h a : ℕ) → nat_lt n h ≡ false → may_come (h - n) a ≡ false
 byte_ends n h a e = let z : nat_lt 0 (h - n) ≡ false = grind (arith, nat_tests) in rw z refl
 
--- no byte is taken behind it
+-- no byte is taken after it
 takes_none : (f : Form) (l : Loading) (b : Block) (a : ℕ) → Ends f l b → block_grows f b ≡ false → takes l a ≡ false
 takes_none f l b a k h =
-    let d = drawn f blank b.bytes in
+    let d = part_after_bytes f blank b.bytes in
     let g = or_parts (nat_lt (length d.lines) f.h) (nat_lt b.plane 3 && nat_lt (b.plane + 1) f.planes) h in
     ap (λ m. takes m a) k.state
     ∙ elim (cases_Bool (is_opener a)) as (λ z. takes (stand f b.plane k.above d) a ≡ false) [
@@ -55,11 +55,11 @@ opener_is : (p : ℕ) → nat_lt p 3 ≡ true → is_opener (p + 0x31) ≡ true
 opener_is p t = grind (arith, nat_tests)
 
 line_taken : (f : Form) (l : Loading) (b : Block) → Ends f l b
-    → nat_lt (length (drawn f blank b.bytes).lines) f.h ≡ true → IsTaken l
+    → nat_lt (length (part_after_bytes f blank b.bytes).lines) f.h ≡ true → IsTaken l
 line_taken f l b k h = record {
   byte = 0x20;
   small = omega arith;
-  taken = ap (λ m. takes m 0x20) k.state ∙ takes_other f b.plane k.above (drawn f blank b.bytes) 0x20 refl k.long
+  taken = ap (λ m. takes m 0x20) k.state ∙ takes_other f b.plane k.above (part_after_bytes f blank b.bytes) 0x20 refl k.long
       ∙ line_fits _ f.h h;
 }
 
@@ -72,13 +72,13 @@ opener_taken f l b k h =
       byte = b.plane + 0x31;
       small = omega arith;
       taken = ap (λ m. takes m (b.plane + 0x31)) k.state
-          ∙ takes_opener f b.plane k.above (drawn f blank b.bytes) (b.plane + 0x31) (opener_is b.plane g.0)
+          ∙ takes_opener f b.plane k.above (part_after_bytes f blank b.bytes) (b.plane + 0x31) (opener_is b.plane g.0)
           ∙ opener_fits b.plane f.planes g.0 g.1;
     }
 
 takes_one : (f : Form) (l : Loading) (b : Block) → Ends f l b → block_grows f b ≡ true → IsTaken l
 takes_one f l b k h =
-    elim (cases_Bool (nat_lt (length (drawn f blank b.bytes).lines) f.h)) [
+    elim (cases_Bool (nat_lt (length (part_after_bytes f blank b.bytes).lines) f.h)) [
       | inl t ↦ line_taken f l b k t
       | inr t ↦ opener_taken f l b k (rw t at h)
     ]
@@ -91,14 +91,14 @@ more_is f a u c h =
     unit_loads f a (u ++ c ∷ []) (pattern_planes f a u h) ∙ loads_more (fresh f) (a ∷ u) c
     ∙ rw (pattern_loads f a u h) refl
 
--- behind a pattern that doesn't grow no byte makes a longer one
+-- after a pattern that doesn't grow no byte makes a longer one
 pub no_longer : (f : Form) (a : ℕ) (u : List ℕ) (c : ℕ) → is_pattern f (a ∷ u) ≡ true → pattern_grows f (a ∷ u) ≡ false
     → is_pattern f (a ∷ u ++ c ∷ []) ≡ false
 no_longer f a u c h g =
     let e = ended f a u h in
     more_is f a u c h ∙ takes_none f _ e.last c e.ends (sym e.grows ∙ g)
 
--- behind one that grows some byte does
+-- after one that grows some byte does
 pub longer : (f : Form) (a : ℕ) (u : List ℕ) → is_pattern f (a ∷ u) ≡ true → pattern_grows f (a ∷ u) ≡ true
     → IsLonger f (a ∷ u)
 longer f a u h g =
@@ -115,7 +115,7 @@ full_test n h p planes r e l m = grind (arith, nat_tests)
 
 full_ends : (f : Form) (l : Loading) (b : Block) → IsValidForm f → Ends f l b → is_full l ≡ not (block_grows f b)
 full_ends f l b v k =
-    let d = drawn f blank b.bytes in
+    let d = part_after_bytes f blank b.bytes in
     ap is_full k.state
     ∙ full_test (length d.lines) f.h b.plane f.planes _ (room_is f b.plane k.above d k.long) k.plane
     (four_planes f.planes v.planes)
@@ -145,7 +145,7 @@ fresh_full : (f : Form) → is_full (fresh f) ≡ false
 fresh_full f = refl
 
 begins : (f : Form) → nat_lt 0 f.planes ≡ true → is_pattern f (0x30 ∷ []) ≡ true
-unfolding loads takes taken
+unfolding loads takes loading_after
 begins f h = unit_loads f 0x30 [] h
 
 pub full_units : (f : Form) (u : List ℕ) (l : Loading) → Leads f u l

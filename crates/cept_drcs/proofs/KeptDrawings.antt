@@ -11,12 +11,12 @@ use Rattle.std.specs.Option.{option_to_list}
 use Rattle.std.proofs.lemmas.Bool.{ne_eqb, cond-false, ltb-true, lt-ltb}
 use Rattle.std.proofs.lemmas.Bool.Decides.{nat_tests}
 use Rattle.std.proofs.lemmas.List.{length-map, length_push}
-use Rattle.cept_drcs.specs.Loading.{Loading, all_lines, room, takes, fresh, completed, added, before}
+use Rattle.cept_drcs.specs.Loading.{Loading, all_lines, room, takes, fresh, completed_loading, loading_with, before}
 use Rattle.cept_drcs.specs.Unit.{lines_from, pattern_of, words}
 use Rattle.cept_drcs.specs.Strips.{strip_of, in_pairs, left_over, whole_lines}
 use Rattle.cept_drcs.specs.Strips.{half_of, strips_in, number_of}
-use Rattle.cept_drcs.specs.Kept.{IsKept, plane_end}
-use Rattle.cept_drcs.specs.Block.{Drawn, has_pixels, is_sign, adds, whole}
+use Rattle.cept_drcs.specs.Kept.{IsKeptDrawing, plane_end}
+use Rattle.cept_drcs.specs.Block.{BlockPart, has_pixels, is_sign, adds, whole}
 use Rattle.cept_drcs.specs.Cut.{is_opener}
 use Rattle.cept_drcs.proofs.StripLemmas.{pairs_length, in_pairs-completed, left_over-completed}
 use Rattle.cept_drcs.proofs.StripLemmas.{drawn_strip, adds_pixels, lines_pushed, half_pushed}
@@ -54,7 +54,7 @@ lines_fit f p v h = search rules
 pub strips_most : (w n : ℕ) → strips_in w n ≤ 2 * n
 strips_most w n = search rules
 
-pub kept_few : (f : Form) (begun : Bool) (plane stop : ℕ) (ss : List ℕ) → IsKept f begun plane stop ss
+pub kept_few : (f : Form) (begun : Bool) (plane stop : ℕ) (ss : List ℕ) → IsKeptDrawing f begun plane stop ss
     → length ss ≤ 96
 kept_few f begun plane stop ss k =
     omega (arith, k.room, strips_most f.w (plane * f.h + f.h), lines_fit f plane k.form k.open_plane)
@@ -95,7 +95,7 @@ begun_b true n count stop more e h = ap (nat_lt count) e ∙ h
 begun_b false n count stop more e h = ap (nat_lt count) e ∙ grind (arith, nat_tests)
 
 pub has_room : (f : Form) (begun : Bool) (plane stop count : ℕ) (ss : List ℕ) (l : Loading)
-    → IsKept f begun plane stop ss → shown f begun plane ss ≡ l → count ≡ length ss
+    → IsKeptDrawing f begun plane stop ss → shown f begun plane ss ≡ l → count ≡ length ss
     → nat_lt count stop ≡ (l.begun && nat_lt 0 (room l))
 has_room f begun plane stop count ss l k view e =
     begun_b begun (plane_end f plane) count stop (nat_lt 0 (room (shown f begun plane ss))) k.stop_is
@@ -159,7 +159,7 @@ left_b true n m count e = omega arith
 left_b false n m count e = omega arith
 
 pub room_is : (f : Form) (begun : Bool) (plane stop count : ℕ) (ss : List ℕ) (l : Loading)
-    → IsKept f begun plane stop ss → shown f begun plane ss ≡ l → l.begun ≡ true → l.half ≡ None → count ≡ length ss
+    → IsKeptDrawing f begun plane stop ss → shown f begun plane ss ≡ l → l.begun ≡ true → l.half ≡ None → count ≡ length ss
     → cond (f.w == 6) (stop - count) ((stop - count) / 2) ≡ room l
 room_is f begun plane stop count ss l k view b whole e =
     let open_now : begun ≡ true = ap (λ (l : Loading). l.begun) view ∙ b in
@@ -178,7 +178,7 @@ pub not_six : (w : ℕ) → (w ≡ 6 → ⊥) → (w == 6) ≡ false
 not_six w h = ne_eqb w 6 h
 
 pub room_in_pairs : (f : Form) (begun : Bool) (plane stop count : ℕ) (ss : List ℕ) (l : Loading)
-    → IsKept f begun plane stop ss → shown f begun plane ss ≡ l → l.begun ≡ true → l.half ≡ None → count ≡ length ss
+    → IsKeptDrawing f begun plane stop ss → shown f begun plane ss ≡ l → l.begun ≡ true → l.half ≡ None → count ≡ length ss
     → (f.w ≡ 6 → ⊥) → (stop - count) / 2 ≡ room l
 room_in_pairs f begun plane stop count ss l k view b whole e h =
     sym (cond-false (f.w == 6) (stop - count) ((stop - count) / 2) (not_six f.w h))
@@ -195,7 +195,7 @@ shown_is f begun plane ss ls half el eh =
 
 pub completed_shown : (f : Form) (begun : Bool) (plane count : ℕ) (ss more : List ℕ) (l : Loading)
     → shown f begun plane ss ≡ l → count ≡ length ss → (f.w ≡ 6 → ⊥)
-    → more ≡ ss ++ replicate (count + count % 2 - length ss) 0 → shown f begun plane more ≡ completed l
+    → more ≡ ss ++ replicate (count + count % 2 - length ss) 0 → shown f begun plane more ≡ completed_loading l
 completed_shown f begun plane count ss more l view e h em =
     let wide : (f.w == 6) ≡ false = not_six f.w h in
     let odd : count + count % 2 - length ss ≡ length ss % 2 = omega arith in
@@ -206,21 +206,21 @@ completed_shown f begun plane count ss more l view e h em =
     let half : half_of f.w more ≡ None =
     ap (λ (b : Bool). half_b b more) wide ∙ ap left_over same ∙ left_over-completed ss in
     shown_is f begun plane more (whole_lines f.w ss ++ option_to_list (half_of f.w ss)) None lines half
-    ∙ ap completed view
+    ∙ ap completed_loading view
 
 -- ---- six pixels drawn
 
 pub pixels_shown : (f : Form) (begun : Bool) (plane : ℕ) (ss more : List ℕ) (l : Loading) (a : ℕ)
     → shown f begun plane ss ≡ l → has_pixels a ≡ true → more ≡ ss ++ a ∷ []
-    → shown f begun plane more ≡ added l (adds l.form.w (room l) (before l) l.half a)
+    → shown f begun plane more ≡ loading_with l (adds l.form.w (room l) (before l) l.half a)
 pixels_shown f begun plane ss more l a view t em =
-    let d : Drawn = drawn_strip (f.w == 6) (half_of f.w ss) (strip_of a) in
+    let d : BlockPart = drawn_strip (f.w == 6) (half_of f.w ss) (strip_of a) in
     ap (shown f begun plane) em
     ∙ shown_is f begun plane (ss ++ a ∷ []) (whole_lines f.w ss ++ d.lines) d.half
     (lines_pushed (f.w == 6) ss a) (half_pushed (f.w == 6) ss a)
-    ∙ ap (λ (d : Drawn). added (shown f begun plane ss) d)
+    ∙ ap (λ (d : BlockPart). loading_with (shown f begun plane ss) d)
     (sym (adds_pixels f.w (room (shown f begun plane ss)) (before (shown f begun plane ss)) (half_of f.w ss) a t))
-    ∙ ap (λ (l : Loading). added l (adds l.form.w (room l) (before l) l.half a)) view
+    ∙ ap (λ (l : Loading). loading_with l (adds l.form.w (room l) (before l) l.half a)) view
 
 pub pixels_fit : (f : Form) (begun : Bool) (plane : ℕ) (ss : List ℕ) (l : Loading)
     → shown f begun plane ss ≡ l → 0 < room l → length ss < plane_end f plane
@@ -228,25 +228,25 @@ pixels_fit f begun plane ss l view h =
     ltb-true (length ss) (plane_end f plane) (room_left f begun plane ss
     ∙ ap (λ (l : Loading). nat_lt 0 (room l)) view ∙ lt-ltb 0 (room l) h)
 
-pub end_most : (f : Form) (begun : Bool) (plane stop : ℕ) (ss : List ℕ) → IsKept f begun plane stop ss
+pub end_most : (f : Form) (begun : Bool) (plane stop : ℕ) (ss : List ℕ) → IsKeptDrawing f begun plane stop ss
     → plane_end f plane ≤ 96
 end_most f begun plane stop ss k =
     omega (arith, strips_most f.w (plane * f.h + f.h), lines_fit f plane k.form k.open_plane)
 
 -- more strips in the same plane
-pub kept_more : (f : Form) (begun : Bool) (plane stop : ℕ) (ss more : List ℕ) → IsKept f begun plane stop ss
-    → length ss ≤ length more → length more ≤ plane_end f plane → IsKept f begun plane stop more
+pub kept_more : (f : Form) (begun : Bool) (plane stop : ℕ) (ss more : List ℕ) → IsKeptDrawing f begun plane stop ss
+    → length ss ≤ length more → length more ≤ plane_end f plane → IsKeptDrawing f begun plane stop more
 kept_more f begun plane stop ss more k low high = record {
   form = k.form;
   open_plane = k.open_plane;
-  behind = omega (arith, k.behind, low);
+  earlier = omega (arith, k.earlier, low);
   room = high;
   stop_is = k.stop_is;
 }
 
 pub kept_pixels : (f : Form) (begun : Bool) (plane stop : ℕ) (ss more : List ℕ) (l : Loading) (a : ℕ)
-    → IsKept f begun plane stop ss → shown f begun plane ss ≡ l → 0 < room l → more ≡ ss ++ a ∷ []
-    → IsKept f begun plane stop more
+    → IsKeptDrawing f begun plane stop ss → shown f begun plane ss ≡ l → 0 < room l → more ≡ ss ++ a ∷ []
+    → IsKeptDrawing f begun plane stop more
 kept_pixels f begun plane stop ss more l a k view h em =
     let long : length more ≡ length ss + 1 = ap length em ∙ length_push ss a in
     kept_more f begun plane stop ss more k (omega arith) (omega (arith, pixels_fit f begun plane ss l view h))
@@ -254,7 +254,7 @@ kept_pixels f begun plane stop ss more l a k view h em =
 -- ---- the pattern
 
 pub drawn_pattern : (f : Form) (begun : Bool) (plane stop : ℕ) (ss bits : List ℕ) (l : Loading)
-    → IsKept f begun plane stop ss → shown f begun plane ss ≡ l → bits ≡ words 9 (number_of 96 0 ss)
+    → IsKeptDrawing f begun plane stop ss → shown f begun plane ss ≡ l → bits ≡ words 9 (number_of 96 0 ss)
     → (let p : Pattern = record { w = f.w; h = f.h; planes = f.planes; bits = bits } in p)
     ≡ pattern_of l.form (lines_from l.form.w 0 (all_lines l))
 drawn_pattern f begun plane stop ss bits l k view e =

@@ -5,9 +5,9 @@ use Rattle.cept_codes.specs.Command.{IsValidForm}
 use Rattle.cept_codes.specs.Look.{IsValidPattern}
 use Rattle.cept_codes.specs.declared.command.Form.{Form}
 use Rattle.cept_codes.specs.declared.look.Pattern.{Pattern}
-use Rattle.cept_drcs.specs.Loading.{Loading, Leads, IsLed, fresh, takes, taken, all_lines}
+use Rattle.cept_drcs.specs.Loading.{Loading, Leads, IsLed, fresh, takes, loading_after, all_lines}
 use Rattle.cept_drcs.specs.Unit.{pattern_of, lines_from}
-use Rattle.cept_drcs.proofs.Numbers.{taken_form}
+use Rattle.cept_drcs.proofs.Numbers.{loading_after-form}
 use Rattle.cept_drcs.proofs.Laws.{leads_none, leads_more, pattern_led, led_valid}
 
 pub leads_begin : (f : Form) (l : Loading) → IsValidForm f → l ≡ fresh f → Leads f [] l
@@ -20,23 +20,23 @@ led_begin f l v e =
 
 -- a byte that is taken leads on
 pub leads_on : (f : Form) (u : List ℕ) (l new : Loading) (a : ℕ) → Leads f u l → takes l a ≡ true
-    → new ≡ cond (takes l a) (taken l a) l → Leads f (u ++ a ∷ []) new
+    → new ≡ cond (takes l a) (loading_after l a) l → Leads f (u ++ a ∷ []) new
 leads_on f u l new a k t e =
-    subst (λ (m : Loading). Leads f (u ++ a ∷ []) m) (sym (e ∙ cond-true (takes l a) (taken l a) l t))
+    subst (λ (m : Loading). Leads f (u ++ a ∷ []) m) (sym (e ∙ cond-true (takes l a) (loading_after l a) l t))
     (leads_more f u l a k t)
 
-taken_led : (l : Loading) (a : ℕ) → IsLed l → takes l a ≡ true → IsLed (taken l a)
-taken_led l a k t = record {
+loading_after-led : (l : Loading) (a : ℕ) → IsLed l → takes l a ≡ true → IsLed (loading_after l a)
+loading_after-led l a k t = record {
   bytes = k.bytes ++ a ∷ [];
-  leads = subst (λ (f : Form). Leads f (k.bytes ++ a ∷ []) (taken l a)) (sym (taken_form l a))
+  leads = subst (λ (f : Form). Leads f (k.bytes ++ a ∷ []) (loading_after l a)) (sym (loading_after-form l a))
       (leads_more l.form k.bytes l a k.leads t);
 }
 
-pub led_on : (l new : Loading) (a : ℕ) → IsLed l → new ≡ cond (takes l a) (taken l a) l → IsLed new
+pub led_on : (l new : Loading) (a : ℕ) → IsLed l → new ≡ cond (takes l a) (loading_after l a) l → IsLed new
 led_on l new a k e =
     elim (cases_Bool (takes l a)) [
-      | inl t ↦ subst (λ (m : Loading). IsLed m) (sym (e ∙ cond-true (takes l a) (taken l a) l t)) (taken_led l a k t)
-      | inr n ↦ subst (λ (m : Loading). IsLed m) (sym (e ∙ cond-false (takes l a) (taken l a) l n)) k
+      | inl t ↦ subst (λ (m : Loading). IsLed m) (sym (e ∙ cond-true (takes l a) (loading_after l a) l t)) (loading_after-led l a k t)
+      | inr n ↦ subst (λ (m : Loading). IsLed m) (sym (e ∙ cond-false (takes l a) (loading_after l a) l n)) k
     ]
 
 pub pattern_valid : (l : Loading) (p : Pattern) → IsLed l

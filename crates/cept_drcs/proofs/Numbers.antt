@@ -5,10 +5,10 @@ use Rattle.std.proofs.Common.{zero-mul, add-zero, pow-add, add-mul, one-mul, mul
 use Rattle.std.proofs.lemmas.Bool.{cases_Bool, and_parts, ltb-true, eqb-true}
 use Rattle.std.proofs.lemmas.List.{append_assoc}
 use Rattle.cept_codes.specs.declared.command.Form.{Form}
-use Rattle.cept_drcs.specs.Block.{Drawn, blank, draw, drawn, closed_lines}
+use Rattle.cept_drcs.specs.Block.{BlockPart, blank, part_after_byte, part_after_bytes, closed_lines}
 use Rattle.cept_drcs.specs.Cut.{is_opener, plane_of, cut}
 use Rattle.cept_drcs.specs.Unit.{lines_from, blocks_number, pattern_of, pattern}
-use Rattle.cept_drcs.specs.Loading.{Loading, fresh, load, loads, all_lines, taken, Leads}
+use Rattle.cept_drcs.specs.Loading.{Loading, fresh, load, loads, all_lines, loading_after, Leads}
 use Rattle.cept_drcs.proofs.BlockLemmas.{IsWithin, blank_within, draw_within}
 use Rattle.cept_drcs.proofs.Bridge.{stand, above_next, length-above_next, loads_opener, loads_other, loads_first}
 use Rattle.cept_drcs.proofs.Bridge.{cut_opener, cut_other}
@@ -53,8 +53,8 @@ line_more w l ls =
     let j : lines_from w (0 + 1) ls ≡ lines_from w 1 ls = refl in
     omega arith
 
--- lines of a plane behind those above it
-stand_number : (f : Form) (p : ℕ) (up : List ℕ) (d : Drawn) → length up ≡ p * f.h
+-- lines of a plane after those above it
+stand_number : (f : Form) (p : ℕ) (up : List ℕ) (d : BlockPart) → length up ≡ p * f.h
     → lines_from f.w 0 (closed_lines (up ++ d.lines) d.half)
     ≡ lines_from f.w 0 up + lines_from f.w (p * f.h) (closed_lines d.lines d.half)
 stand_number f p up d e =
@@ -64,8 +64,8 @@ stand_number f p up d e =
     ap (λ k. lines_from f.w k (closed_lines d.lines d.half)) (omega (arith, e)) in
     ap (lines_from f.w 0) (append_assoc up d.lines (option_to_list d.half)) ∙ omega arith
 
--- lines of 0 behind them count for nothing
-above_number : (f : Form) (p q : ℕ) (up : List ℕ) (d : Drawn) → length up ≡ p * f.h
+-- lines of 0 after them count for nothing
+above_number : (f : Form) (p q : ℕ) (up : List ℕ) (d : BlockPart) → length up ≡ p * f.h
     → lines_from f.w 0 (above_next f q up d)
     ≡ lines_from f.w 0 up + lines_from f.w (p * f.h) (closed_lines d.lines d.half)
 above_number f p q up d e =
@@ -82,31 +82,31 @@ unfolding load
 load_none l = refl
 
 -- the number of a block of this plane
-abbrev block_number : Form → ℕ → Drawn → ℕ
+abbrev block_number : Form → ℕ → BlockPart → ℕ
 block_number f p d = lines_from f.w (p * f.h) (closed_lines d.lines d.half)
 
 -- the number of cut bytes, where this block is drawn so far
-abbrev cut_number : Form → ℕ → Drawn → List ℕ → ℕ
-cut_number f p d u = block_number f p (drawn f d (cut u).front) + blocks_number f (cut u).blocks
+abbrev cut_number : Form → ℕ → BlockPart → List ℕ → ℕ
+cut_number f p d u = block_number f p (part_after_bytes f d (cut u).front) + blocks_number f (cut u).blocks
 
-cut_number_none : (f : Form) (p : ℕ) (d : Drawn) → cut_number f p d [] ≡ block_number f p d
-unfolding cut drawn blocks_number
+cut_number_none : (f : Form) (p : ℕ) (d : BlockPart) → cut_number f p d [] ≡ block_number f p d
+unfolding cut part_after_bytes blocks_number
 cut_number_none f p d = omega arith
 
-cut_number_opener : (f : Form) (p : ℕ) (d : Drawn) (a : ℕ) (u : List ℕ) → is_opener a ≡ true
+cut_number_opener : (f : Form) (p : ℕ) (d : BlockPart) (a : ℕ) (u : List ℕ) → is_opener a ≡ true
     → cut_number f p d (a ∷ u) ≡ block_number f p d + cut_number f (plane_of a) blank u
-unfolding drawn blocks_number
+unfolding part_after_bytes blocks_number
 cut_number_opener f p d a u t = rw (cut_opener a u t) refl
 
-cut_number_other : (f : Form) (p : ℕ) (d : Drawn) (a : ℕ) (u : List ℕ) → is_opener a ≡ false
-    → cut_number f p d (a ∷ u) ≡ cut_number f p (draw f d a) u
-unfolding drawn
+cut_number_other : (f : Form) (p : ℕ) (d : BlockPart) (a : ℕ) (u : List ℕ) → is_opener a ≡ false
+    → cut_number f p d (a ∷ u) ≡ cut_number f p (part_after_byte f d a) u
+unfolding part_after_bytes
 cut_number_other f p d a u t = rw (cut_other a u t) refl
 
 abbrev pub number : Form → Loading → ℕ
 number f l = lines_from f.w 0 (all_lines l)
 
-number_is : (f : Form) (p : ℕ) (up : List ℕ) (d : Drawn) (u : List ℕ) → length up ≡ p * f.h → IsWithin f d
+number_is : (f : Form) (p : ℕ) (up : List ℕ) (d : BlockPart) (u : List ℕ) → length up ≡ p * f.h → IsWithin f d
     → loads (stand f p up d) u ≡ true
     → number f (load (stand f p up d) u) ≡ lines_from f.w 0 up + cut_number f p d u
 number_is f p up d [] e w h =
@@ -130,7 +130,7 @@ number_is f p up d (a ∷ u) e w h =
     let other : is_opener a ≡ false → Goal =
     λ t.
     let g = and_parts _ _ (sym (loads_other f p up d a u t e) ∙ h) in
-    let i = number_is f p up (draw f d a) u e (draw_within f d a w g.0) g.1 in
+    let i = number_is f p up (part_after_byte f d a) u e (draw_within f d a w g.0) g.1 in
     let z = cut_number_other f p d a u t in
     let n = ap (number f) (load_other f p up d a u t e) in
     omega arith in
@@ -166,9 +166,9 @@ pub led : (f : Form) (u : List ℕ) → loads (fresh f) u ≡ true
 led f [] h = none_led f
 led f (a ∷ u) h = number_led f a u h
 
-pub taken_form : (l : Loading) (a : ℕ) → (taken l a).form ≡ l.form
-unfolding taken
-taken_form l a =
+pub loading_after-form : (l : Loading) (a : ℕ) → (loading_after l a).form ≡ l.form
+unfolding loading_after
+loading_after-form l a =
     let opener = cases_Bool (is_opener a) in
     elim (cases_Bool l.begun) [
       | inl t ↦ elim opener [ inl o ↦ rw (t, o) refl | inr o ↦ rw (t, o) refl ]
@@ -179,7 +179,7 @@ taken_form l a =
 pub load_form : (l : Loading) (u : List ℕ) → (load l u).form ≡ l.form
 unfolding load
 load_form l [] = refl
-load_form l (a ∷ u) = load_form (taken l a) u ∙ taken_form l a
+load_form l (a ∷ u) = load_form (loading_after l a) u ∙ loading_after-form l a
 
 -- the pattern of the lines read is that of the bytes
 pub pattern_led : (f : Form) (u : List ℕ) (l : Loading) → Leads f u l

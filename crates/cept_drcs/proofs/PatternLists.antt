@@ -8,32 +8,33 @@ use Rattle.cept_codes.specs.declared.look.Pattern.{Pattern}
 use Rattle.cept_codes.specs.Look.{IsValidPattern}
 use Rattle.cept_codes.specs.Table.{list_by_index}
 use Rattle.cept_codes.proofs.Laws.{set-entry, length-list_by_index, entry-list_by_index, entry_past, indexed_more}
-use Rattle.cept_drcs.specs.Patterns.{IsPatternCode, pattern_in, list_of_patterns, HasValidPatterns}
+use Rattle.cept_codes.proofs.Laws.{entry_below}
+use Rattle.cept_drcs.specs.Patterns.{IsPatternCode, pattern_in, list_of_codes, HasValidPatterns}
 
 -- one written
 pub pattern_written : (ps now : List (Option Pattern)) (i code : ℕ) (p : Pattern) → length ps ≡ 94 → ps ≡ now
     → IsPatternCode code → i ≡ code → set ps (i - 0x21) (Some p)
-    ≡ list_of_patterns (λ d. cond (code == d) (Some p) (pattern_in now d))
+    ≡ list_of_codes (λ d. cond (code == d) (Some p) (pattern_in now d))
 pattern_written ps now i code p long same is e =
     set-entry None (Some p) 0x21 94 (i - 0x21) code ps long (omega (arith, is.0, is.1)) (omega (arith, is.0))
-    ∙ ap (λ (l : List (Option Pattern)). list_of_patterns (λ d. cond (code == d) (Some p) (pattern_in l d))) same
+    ∙ ap (λ (l : List (Option Pattern)). list_of_codes (λ d. cond (code == d) (Some p) (pattern_in l d))) same
 
 -- where no code has a pattern, none is found, whatever the code
-none_in : (code : ℕ) → pattern_in (list_of_patterns (λ _. None)) code ≡ None
+none_in : (code : ℕ) → pattern_in (list_of_codes (λ _. None)) code ≡ None
 none_in code =
-    let none : List (Option Pattern) = list_of_patterns (λ _. None) in
-    let k : ℕ = 0x21 + (code - 0x21) in
-    let same : code - 0x21 ≡ k - 0x21 = omega arith in
-    ap (λ i. get_or none i None) same
-    ∙ elim (cases_lt (code - 0x21) 94) [
-      | inl within ↦ entry-list_by_index None 0x21 94 (λ _. None) k (omega arith) (omega arith)
-      | inr past ↦ entry_past None 0x21 none k (omega (
-        arith,
-        length-list_by_index {X = Option Pattern} 0x21 94 (λ _. None),
-      ))
+    let none : List (Option Pattern) = list_of_codes (λ _. None) in
+    elim (cases_lt code 0x21) [
+      | inl below ↦ entry_below None 0x21 none code below
+      | inr from ↦ elim (cases_lt code 0x7F) [
+        | inl within ↦ entry-list_by_index None 0x21 94 (λ _. None) code from (omega arith)
+        | inr past ↦ entry_past None 0x21 none code (omega (
+          arith,
+          length-list_by_index {X = Option Pattern} 0x21 94 (λ _. None),
+        ))
+      ]
     ]
 
-pub HasValidPatterns-none : (ps : List (Option Pattern)) → ps ≡ list_of_patterns (λ _. None) → HasValidPatterns ps
+pub HasValidPatterns-none : (ps : List (Option Pattern)) → ps ≡ list_of_codes (λ _. None) → HasValidPatterns ps
 HasValidPatterns-none ps e = subst (λ (l : List (Option Pattern)). HasValidPatterns l) (sym e) (record {
   codes = length-list_by_index 0x21 94 (λ _. None);
   valid = λ code. subst (λ (o : Option Pattern). IfSome o IsValidPattern) (sym (none_in code)) tt;
@@ -41,7 +42,7 @@ HasValidPatterns-none ps e = subst (λ (l : List (Option Pattern)). HasValidPatt
 
 -- all of a vector replaced by no pattern
 pub cleared : (items none : List (Option Pattern)) (n : ℕ) → length items ≡ 94 → n ≡ 94
-    → none ≡ list_of_patterns (λ _. None) → HasValidPatterns (take n (none ++ drop (length none) items))
+    → none ≡ list_of_codes (λ _. None) → HasValidPatterns (take n (none ++ drop (length none) items))
 cleared items none n long en e =
     let count : length none ≡ 94 = ap length e ∙ length-list_by_index 0x21 94 (λ _. None) in
     let rest : drop (length none) items ≡ [] = drop_all (length none) items (omega arith) in

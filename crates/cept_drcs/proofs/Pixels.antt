@@ -17,7 +17,7 @@ use Rattle.std.specs.Int.{bit_at}
 use Rattle.cept_codes.specs.declared.command.Form.{Form}
 use Rattle.cept_codes.specs.Command.{IsValidForm}
 use Rattle.cept_codes.specs.Look.{pixel, is_pattern_size}
-use Rattle.cept_drcs.specs.Block.{Drawn, blank, draw, drawn, closed_lines, block_lines}
+use Rattle.cept_drcs.specs.Block.{BlockPart, blank, part_after_byte, part_after_bytes, closed_lines, block_lines}
 use Rattle.cept_drcs.specs.Cut.{Block, Cut, is_opener, plane_of, cut}
 use Rattle.cept_drcs.specs.Unit.{is_pattern, are_blocks, lines_from, blocks_number, pattern, plane_lines, drawn_pixel}
 use Rattle.cept_drcs.specs.Loading.{Loading, fresh, load, loads, all_lines}
@@ -55,7 +55,7 @@ slice_of_zeros zero y = refl
 slice_of_zeros (suc n) zero = refl
 slice_of_zeros (suc n) (suc y) = slice_of_zeros n y
 
--- lines of 0 behind lines are as none
+-- lines of 0 after lines are as none
 slice_zeros : (ls : List ℕ) (n y : ℕ) → slice_index (ls ++ replicate n 0) y ≡ slice_index ls y
 slice_zeros ls n y =
     elim (cases_lt y (length ls)) [
@@ -79,52 +79,52 @@ none_below f n q (b ∷ bs) h l =
     rw (below_none b.plane q n m l) (none_below f (b.plane + 1) q bs k.1 o)
 
 -- the lines of an open plane
-abbrev closed : Drawn → List ℕ
+abbrev closed : BlockPart → List ℕ
 closed d = closed_lines d.lines d.half
 
--- the lines read, in their planes: those above the open plane, its own, and those behind it
-record Shows (f : Form) (p : ℕ) (up : List ℕ) (d : Drawn) (u : List ℕ) (y : ℕ) : Type 0 where
+-- the lines read, in their planes: those above the open plane, its own, and those after it
+record Shows (f : Form) (p : ℕ) (up : List ℕ) (d : BlockPart) (u : List ℕ) (y : ℕ) : Type 0 where
   pub above : (q : ℕ) → q < p
       → slice_index (all_lines (load (stand f p up d) u)) (q * f.h + y) ≡ slice_index up (q * f.h + y)
   pub here : slice_index (all_lines (load (stand f p up d) u)) (p * f.h + y)
-      ≡ slice_index (closed (drawn f d (cut u).front)) y
-  pub behind : (q : ℕ) → p < q → slice_index (all_lines (load (stand f p up d) u)) (q * f.h + y)
+      ≡ slice_index (closed (part_after_bytes f d (cut u).front)) y
+  pub later : (q : ℕ) → p < q → slice_index (all_lines (load (stand f p up d) u)) (q * f.h + y)
       ≡ slice_index (plane_lines f q (cut u).blocks) y
 
 -- the lines of an open plane, and those above it
-line_above : (f : Form) (p q y : ℕ) (up : List ℕ) (d : Drawn) → length up ≡ p * f.h → y < f.h → q < p
+line_above : (f : Form) (p q y : ℕ) (up : List ℕ) (d : BlockPart) → length up ≡ p * f.h → y < f.h → q < p
     → slice_index (up ++ closed d) (q * f.h + y) ≡ slice_index up (q * f.h + y)
 line_above f p q y up d e l m =
     let n = next_plane q p f.h m in
     get_or_append_left up (closed d) 0 (q * f.h + y) (omega arith)
 
-line_here : (f : Form) (p y : ℕ) (up : List ℕ) (d : Drawn) → length up ≡ p * f.h
+line_here : (f : Form) (p y : ℕ) (up : List ℕ) (d : BlockPart) → length up ≡ p * f.h
     → slice_index (up ++ closed d) (p * f.h + y) ≡ slice_index (closed d) y
 line_here f p y up d e =
     ap (λ n. slice_index (up ++ closed d) (n + y)) (sym e) ∙ get_or-append-add up (closed d) y 0
 
-line_behind : (f : Form) (p q y : ℕ) (up : List ℕ) (d : Drawn) → length up ≡ p * f.h → IsWithin f d → p < q
+later_line : (f : Form) (p q y : ℕ) (up : List ℕ) (d : BlockPart) → length up ≡ p * f.h → IsWithin f d → p < q
     → slice_index (up ++ closed d) (q * f.h + y) ≡ 0
-line_behind f p q y up d e w m =
+later_line f p q y up d e w m =
     let n = next_plane p q f.h m in
     let c = length-closed_lines d.lines d.half in
     let r = w.room in
     get_or_past (up ++ closed d) (q * f.h + y) 0 (omega (arith, length-append up (closed d)))
 
-stand_shows : (f : Form) (p : ℕ) (up : List ℕ) (d : Drawn) (y : ℕ) → length up ≡ p * f.h → IsWithin f d → y < f.h
+stand_shows : (f : Form) (p : ℕ) (up : List ℕ) (d : BlockPart) (y : ℕ) → length up ≡ p * f.h → IsWithin f d → y < f.h
     → Shows f p up d [] y
-unfolding load cut drawn plane_lines
+unfolding load cut part_after_bytes plane_lines
 stand_shows f p up d y e w l =
     let s : (n : ℕ) → slice_index (closed_lines (up ++ d.lines) d.half) n ≡ slice_index (up ++ closed d) n =
     λ n. ap (λ ls. slice_index ls n) (append_assoc up d.lines (option_to_list d.half)) in
     record {
       above = λ q m. s (q * f.h + y) ∙ line_above f p q y up d e l m;
       here = s (p * f.h + y) ∙ line_here f p y up d e;
-      behind = λ q m. s (q * f.h + y) ∙ line_behind f p q y up d e w m;
+      later = λ q m. s (q * f.h + y) ∙ later_line f p q y up d e w m;
     }
 
 -- the lines above a plane that is opened
-above_next_line : (f : Form) (q n : ℕ) (up : List ℕ) (d : Drawn)
+above_next_line : (f : Form) (q n : ℕ) (up : List ℕ) (d : BlockPart)
     → slice_index (above_next f q up d) n ≡ slice_index (up ++ closed d) n
 above_next_line f q n up d =
     slice_zeros (closed_lines (up ++ d.lines) d.half) _ n
@@ -136,17 +136,17 @@ opener_lines : (f : Form) (a q : ℕ) (u : List ℕ) → is_opener a ≡ true
 unfolding plane_lines
 opener_lines f a q u t = rw (cut_opener a u t) refl
 
-opener_front : (f : Form) (d : Drawn) (a : ℕ) (u : List ℕ) → is_opener a ≡ true → drawn f d (cut (a ∷ u)).front ≡ d
-unfolding drawn
+opener_front : (f : Form) (d : BlockPart) (a : ℕ) (u : List ℕ) → is_opener a ≡ true → part_after_bytes f d (cut (a ∷ u)).front ≡ d
+unfolding part_after_bytes
 opener_front f d a u t = rw (cut_opener a u t) refl
 
--- lines of a plane behind the open one, where an opener comes
-opener_behind : (f : Form) (p : ℕ) (up : List ℕ) (d : Drawn) (a : ℕ) (u : List ℕ) (y q : ℕ) → length up ≡ p * f.h
+-- lines of a plane after the open one, where an opener comes
+later_opener : (f : Form) (p : ℕ) (up : List ℕ) (d : BlockPart) (a : ℕ) (u : List ℕ) (y q : ℕ) → length up ≡ p * f.h
     → IsWithin f d → is_opener a ≡ true → p < q → are_blocks f (plane_of a + 1) (cut u).blocks ≡ true
     → Shows f (plane_of a) (above_next f (plane_of a) up d) blank u y
     → slice_index (all_lines (load (stand f (plane_of a) (above_next f (plane_of a) up d) blank) u)) (q * f.h + y)
     ≡ slice_index (plane_lines f q (cut (a ∷ u)).blocks) y
-opener_behind f p up d a u y q e w t m b s =
+later_opener f p up d a u y q e w t m b s =
     let r = plane_of a in
     let Goal : Type 0 = slice_index (all_lines (load (stand f r (above_next f r up d) blank) u)) (q * f.h + y)
     ≡ slice_index (plane_lines f q (cut (a ∷ u)).blocks) y in
@@ -155,16 +155,16 @@ opener_behind f p up d a u y q e w t m b s =
     → slice_index (plane_lines f q (cut u).blocks) y ≡ slice_index (plane_lines f q (cut (a ∷ u)).blocks) y =
     λ n. sym (now ∙ rw n refl) in
     let below : q < r → Goal =
-    λ l. s.above q l ∙ above_next_line f r (q * f.h + y) up d ∙ line_behind f p q y up d e w m
+    λ l. s.above q l ∙ above_next_line f r (q * f.h + y) up d ∙ later_line f p q y up d e w m
     ∙ sym (ap (λ ls. slice_index ls y) (none_below f (r + 1) q (cut u).blocks b (omega arith)))
     ∙ other (ne_eqb r q (λ n. omega arith)) in
     let same : q ≡ r → Goal =
     λ n. ap (λ k. slice_index (all_lines (load (stand f r (above_next f r up d) blank) u)) (k * f.h + y)) n
     ∙ s.here ∙ sym (now ∙ rw (eq-eqb r q (sym n)) refl) in
-    let further : r < q → Goal = λ l. s.behind q l ∙ other (ne_eqb r q (λ n. omega arith)) in
+    let further : r < q → Goal = λ l. s.later q l ∙ other (ne_eqb r q (λ n. omega arith)) in
     elim (cases_order q r) [ inl n ↦ same n | inr o ↦ elim o [ inl l ↦ below l | inr l ↦ further l ] ]
 
-opener_shows : (f : Form) (p : ℕ) (up : List ℕ) (d : Drawn) (a : ℕ) (u : List ℕ) (y : ℕ) → length up ≡ p * f.h
+opener_shows : (f : Form) (p : ℕ) (up : List ℕ) (d : BlockPart) (a : ℕ) (u : List ℕ) (y : ℕ) → length up ≡ p * f.h
     → IsWithin f d → y < f.h → is_opener a ≡ true → p < plane_of a
     → are_blocks f (plane_of a + 1) (cut u).blocks ≡ true
     → Shows f (plane_of a) (above_next f (plane_of a) up d) blank u y → Shows f p up d (a ∷ u) y
@@ -177,29 +177,29 @@ opener_shows f p up d a u y e w l t m b s =
       above = λ q k. now (q * f.h + y) ∙ s.above q (omega arith) ∙ above_next_line f r (q * f.h + y) up d
           ∙ line_above f p q y up d e l k;
       here = now (p * f.h + y) ∙ s.above p m ∙ above_next_line f r (p * f.h + y) up d ∙ line_here f p y up d e
-          ∙ sym (ap (λ (x : Drawn). slice_index (closed x) y) (opener_front f d a u t));
-      behind = λ q k. now (q * f.h + y) ∙ opener_behind f p up d a u y q e w t k b s;
+          ∙ sym (ap (λ (x : BlockPart). slice_index (closed x) y) (opener_front f d a u t));
+      later = λ q k. now (q * f.h + y) ∙ later_opener f p up d a u y q e w t k b s;
     }
 
-other_front : (f : Form) (d : Drawn) (a : ℕ) (u : List ℕ) → is_opener a ≡ false
-    → drawn f d (cut (a ∷ u)).front ≡ drawn f (draw f d a) (cut u).front
-unfolding drawn
+other_front : (f : Form) (d : BlockPart) (a : ℕ) (u : List ℕ) → is_opener a ≡ false
+    → part_after_bytes f d (cut (a ∷ u)).front ≡ part_after_bytes f (part_after_byte f d a) (cut u).front
+unfolding part_after_bytes
 other_front f d a u t = rw (cut_other a u t) refl
 
-other_shows : (f : Form) (p : ℕ) (up : List ℕ) (d : Drawn) (a : ℕ) (u : List ℕ) (y : ℕ) → length up ≡ p * f.h
-    → is_opener a ≡ false → Shows f p up (draw f d a) u y → Shows f p up d (a ∷ u) y
+other_shows : (f : Form) (p : ℕ) (up : List ℕ) (d : BlockPart) (a : ℕ) (u : List ℕ) (y : ℕ) → length up ≡ p * f.h
+    → is_opener a ≡ false → Shows f p up (part_after_byte f d a) u y → Shows f p up d (a ∷ u) y
 other_shows f p up d a u y e t s =
     let now : (n : ℕ) → slice_index (all_lines (load (stand f p up d) (a ∷ u))) n
-    ≡ slice_index (all_lines (load (stand f p up (draw f d a)) u)) n =
+    ≡ slice_index (all_lines (load (stand f p up (part_after_byte f d a)) u)) n =
     λ n. ap (λ (x : Loading). slice_index (all_lines x) n) (load_other f p up d a u t e) in
     record {
       above = λ q k. now (q * f.h + y) ∙ s.above q k;
-      here = now (p * f.h + y) ∙ s.here ∙ sym (ap (λ (x : Drawn). slice_index (closed x) y) (other_front f d a u t));
-      behind = λ q k. now (q * f.h + y) ∙ s.behind q k
+      here = now (p * f.h + y) ∙ s.here ∙ sym (ap (λ (x : BlockPart). slice_index (closed x) y) (other_front f d a u t));
+      later = λ q k. now (q * f.h + y) ∙ s.later q k
           ∙ sym (ap (λ (c : Cut). slice_index (plane_lines f q c.blocks) y) (cut_other a u t));
     }
 
-shows : (f : Form) (p : ℕ) (up : List ℕ) (d : Drawn) (u : List ℕ) (y : ℕ) → length up ≡ p * f.h → IsWithin f d
+shows : (f : Form) (p : ℕ) (up : List ℕ) (d : BlockPart) (u : List ℕ) (y : ℕ) → length up ≡ p * f.h → IsWithin f d
     → y < f.h → loads (stand f p up d) u ≡ true → Shows f p up d u y
 shows f p up d [] y e w l h = stand_shows f p up d y e w l
 shows f p up d (a ∷ u) y e w l h =
@@ -215,7 +215,7 @@ shows f p up d (a ∷ u) y e w l h =
     let other : is_opener a ≡ false → Shows f p up d (a ∷ u) y =
     λ t.
     let g = and_parts _ _ (sym (loads_other f p up d a u t e) ∙ h) in
-    other_shows f p up d a u y e t (shows f p up (draw f d a) u y e (draw_within f d a w g.0) l g.1) in
+    other_shows f p up d a u y e t (shows f p up (part_after_byte f d a) u y e (draw_within f d a w g.0) l g.1) in
     elim (cases_Bool (is_opener a)) [ inl t ↦ opener t | inr t ↦ other t ]
 
 -- ---- the pixels
@@ -234,7 +234,7 @@ first_line f u p y l h =
     λ e. now ∙ ap (λ k. slice_index (all_lines (load (first f) u)) (k * f.h + y)) e ∙ s.here
     ∙ sym (then ∙ rw (eq-eqb 0 p (sym e)) refl) in
     let further : 0 < p → HasLine f (0x30 ∷ u) p y =
-    λ m. now ∙ s.behind p m ∙ sym (then ∙ rw (ne_eqb 0 p (λ e. omega arith)) refl) in
+    λ m. now ∙ s.later p m ∙ sym (then ∙ rw (ne_eqb 0 p (λ e. omega arith)) refl) in
     elim (eq-zero-or-pos p) [ inl e ↦ same e | inr m ↦ further m ]
 
 has_line : (f : Form) (a : ℕ) (u : List ℕ) (p y : ℕ) → y < f.h → is_pattern f (a ∷ u) ≡ true → HasLine f (a ∷ u) p y

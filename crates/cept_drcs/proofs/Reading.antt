@@ -8,11 +8,11 @@ use Rattle.std.proofs.Math.Bool.{and_assoc}
 use Rattle.cept_codes.specs.declared.command.Form.{Form}
 use Rattle.cept_codes.specs.Command.{IsValidForm}
 use Rattle.cept_codes.specs.Look.{is_plane_count}
-use Rattle.cept_drcs.specs.Block.{Drawn, blank, draw, drawn}
+use Rattle.cept_drcs.specs.Block.{BlockPart, blank, part_after_byte, part_after_bytes}
 use Rattle.cept_drcs.specs.Cut.{Block, is_opener, plane_of, cut}
 use Rattle.cept_drcs.specs.Unit.{is_pattern, are_blocks, last_block, block_grows, pattern_grows}
-use Rattle.cept_drcs.specs.Loading.{Loading, fresh, takes, taken, load, loads, Leads}
-use Rattle.cept_drcs.proofs.BlockLemmas.{IsWithin, blank_within, draw_within, drawn_more}
+use Rattle.cept_drcs.specs.Loading.{Loading, fresh, takes, loading_after, load, loads, Leads}
+use Rattle.cept_drcs.proofs.BlockLemmas.{IsWithin, blank_within, draw_within, part_after_bytes-more}
 use Rattle.cept_drcs.proofs.Bridge.{stand, above_next, length-above_next, taken_opener}
 use Rattle.cept_drcs.proofs.Bridge.{taken_other, first, loads_first, pattern_other, unit_loads, loads_opener}
 use Rattle.cept_drcs.proofs.Bridge.{loads_other}
@@ -23,19 +23,19 @@ pub loads-append : (l : Loading) (u v : List ℕ) → loads l (u ++ v) ≡ (load
 unfolding loads load
 loads-append l [] v = refl
 loads-append l (a ∷ u) v =
-    ap (λ b. takes l a && b) (loads-append (taken l a) u v)
-    ∙ sym (and_assoc (takes l a) (loads (taken l a) u) (loads (load (taken l a) u) v))
+    ap (λ b. takes l a && b) (loads-append (loading_after l a) u v)
+    ∙ sym (and_assoc (takes l a) (loads (loading_after l a) u) (loads (load (loading_after l a) u) v))
 
 pub load-append : (l : Loading) (u v : List ℕ) → load l (u ++ v) ≡ load (load l u) v
 unfolding load
 load-append l [] v = refl
-load-append l (a ∷ u) v = load-append (taken l a) u v
+load-append l (a ∷ u) v = load-append (loading_after l a) u v
 
 pub loads_one : (l : Loading) (a : ℕ) → loads l (a ∷ []) ≡ takes l a
 unfolding loads
 loads_one l a = grind arith
 
-load_one_more : (l : Loading) (a : ℕ) → load l (a ∷ []) ≡ taken l a
+load_one_more : (l : Loading) (a : ℕ) → load l (a ∷ []) ≡ loading_after l a
 unfolding load
 load_one_more l a = refl
 
@@ -43,7 +43,7 @@ load_one_more l a = refl
 pub loads_more : (l : Loading) (u : List ℕ) (a : ℕ) → loads l (u ++ a ∷ []) ≡ (loads l u && takes (load l u) a)
 loads_more l u a = loads-append l u (a ∷ []) ∙ ap (λ b. loads l u && b) (loads_one (load l u) a)
 
-pub load_more : (l : Loading) (u : List ℕ) (a : ℕ) → load l (u ++ a ∷ []) ≡ taken (load l u) a
+pub load_more : (l : Loading) (u : List ℕ) (a : ℕ) → load l (u ++ a ∷ []) ≡ loading_after (load l u) a
 load_more l u a = load-append l u (a ∷ []) ∙ load_one_more (load l u) a
 
 -- ---- forms with a plane
@@ -102,11 +102,11 @@ takes_is f u l a k =
     ∙ rw k.continue (ap (λ m. takes m a) (sym k.state)))
 
 pub leads_more : (f : Form) (u : List ℕ) (l : Loading) (a : ℕ) → Leads f u l → takes l a ≡ true
-    → Leads f (u ++ a ∷ []) (taken l a)
+    → Leads f (u ++ a ∷ []) (loading_after l a)
 leads_more f u l a k t = record {
   form = k.form;
   continue = loads_more (fresh f) u a ∙ and_from _ _ k.continue (ap (λ m. takes m a) (sym k.state) ∙ t);
-  state = ap (λ m. taken m a) k.state ∙ sym (load_more (fresh f) u a);
+  state = ap (λ m. loading_after m a) k.state ∙ sym (load_more (fresh f) u a);
 }
 
 pub leads_none : (f : Form) → IsValidForm f → Leads f [] (fresh f)
@@ -124,38 +124,38 @@ pattern_of_leads f a u l k = unit_loads f a u (some_plane f k.form) ∙ k.contin
 
 -- ---- where bytes end
 
-pub load_opener : (f : Form) (p : ℕ) (up : List ℕ) (d : Drawn) (a : ℕ) (u : List ℕ) → is_opener a ≡ true
+pub load_opener : (f : Form) (p : ℕ) (up : List ℕ) (d : BlockPart) (a : ℕ) (u : List ℕ) → is_opener a ≡ true
     → load (stand f p up d) (a ∷ u) ≡ load (stand f (plane_of a) (above_next f (plane_of a) up d) blank) u
 unfolding load
 load_opener f p up d a u t = ap (λ m. load m u) (taken_opener f p up d a t)
 
-pub load_other : (f : Form) (p : ℕ) (up : List ℕ) (d : Drawn) (a : ℕ) (u : List ℕ) → is_opener a ≡ false
-    → length up ≡ p * f.h → load (stand f p up d) (a ∷ u) ≡ load (stand f p up (draw f d a)) u
+pub load_other : (f : Form) (p : ℕ) (up : List ℕ) (d : BlockPart) (a : ℕ) (u : List ℕ) → is_opener a ≡ false
+    → length up ≡ p * f.h → load (stand f p up d) (a ∷ u) ≡ load (stand f p up (part_after_byte f d a)) u
 unfolding load
 load_other f p up d a u t e = ap (λ m. load m u) (taken_other f p up d a t e)
 
 pub load_first : (f : Form) (a : ℕ) (u : List ℕ) → load (fresh f) (a ∷ u) ≡ load (first f) u
-unfolding load taken
+unfolding load loading_after
 load_first f a u = refl
 
 -- a state with this block open, drawn as far as its bytes say
 pub record Ends (f : Form) (l : Loading) (b : Block) : Type 0 where
   pub above : List ℕ
   pub long : length above ≡ b.plane * f.h
-  pub state : l ≡ stand f b.plane above (drawn f blank b.bytes)
-  pub within : IsWithin f (drawn f blank b.bytes)
+  pub state : l ≡ stand f b.plane above (part_after_bytes f blank b.bytes)
+  pub within : IsWithin f (part_after_bytes f blank b.bytes)
   pub plane : b.plane < f.planes
 
 -- a block of this plane, of these bytes
 abbrev pub block : ℕ → List ℕ → Block
 block p u = record { plane = p; bytes = u }
 
-pub ends_behind : (f : Form) (p : ℕ) (up w u : List ℕ) → length up ≡ p * f.h → IsWithin f (drawn f blank w)
-    → p < f.planes → loads (stand f p up (drawn f blank w)) u ≡ true
-    → Ends f (load (stand f p up (drawn f blank w)) u) (last_block (block p (w ++ (cut u).front)) (cut u).blocks)
-unfolding load cut last_block drawn
+pub ends_behind : (f : Form) (p : ℕ) (up w u : List ℕ) → length up ≡ p * f.h → IsWithin f (part_after_bytes f blank w)
+    → p < f.planes → loads (stand f p up (part_after_bytes f blank w)) u ≡ true
+    → Ends f (load (stand f p up (part_after_bytes f blank w)) u) (last_block (block p (w ++ (cut u).front)) (cut u).blocks)
+unfolding load cut last_block part_after_bytes
 ends_behind f p up w [] e n l h =
-    subst (λ (v : List ℕ). Ends f (stand f p up (drawn f blank w)) (block p v)) (sym (append-nil w)) (record {
+    subst (λ (v : List ℕ). Ends f (stand f p up (part_after_bytes f blank w)) (block p v)) (sym (append-nil w)) (record {
       above = up;
       long = e;
       state = refl;
@@ -163,7 +163,7 @@ ends_behind f p up w [] e n l h =
       plane = l;
     })
 ends_behind f p up w (a ∷ u) e n l h =
-    let d = drawn f blank w in
+    let d = part_after_bytes f blank w in
     let c = cut (a ∷ u) in
     let Goal : Type 0 = Ends f (load (stand f p up d) (a ∷ u)) (last_block (block p (w ++ c.front)) c.blocks) in
     let opener : is_opener a ≡ true → Goal =
@@ -178,9 +178,9 @@ ends_behind f p up w (a ∷ u) e n l h =
     let other : is_opener a ≡ false → Goal =
     λ t.
     let g = and_parts _ _ (sym (loads_other f p up d a u t e) ∙ h) in
-    let m = drawn_more f blank w a in
-    let i : IsWithin f (drawn f blank (w ++ a ∷ [])) = subst (IsWithin f) (sym m) (draw_within f d a n g.0) in
-    let k : loads (stand f p up (drawn f blank (w ++ a ∷ []))) u ≡ true = ap (λ x. loads (stand f p up x) u) m ∙ g.1 in
+    let m = part_after_bytes-more f blank w a in
+    let i : IsWithin f (part_after_bytes f blank (w ++ a ∷ [])) = subst (IsWithin f) (sym m) (draw_within f d a n g.0) in
+    let k : loads (stand f p up (part_after_bytes f blank (w ++ a ∷ []))) u ≡ true = ap (λ x. loads (stand f p up x) u) m ∙ g.1 in
     let z = ends_behind f p up (w ++ a ∷ []) u e i l k in
     rw (taken_other f p up d a t e, t) (rw (m, append_assoc) at z) in
     elim (cases_Bool (is_opener a)) [ inl t ↦ opener t | inr t ↦ other t ]
@@ -193,7 +193,7 @@ pub record IsEnded (f : Form) (u : List ℕ) (l : Loading) : Type 0 where
 
 first_ended : (f : Form) (u : List ℕ) → is_pattern f (0x30 ∷ u) ≡ true
     → IsEnded f (0x30 ∷ u) (load (fresh f) (0x30 ∷ u))
-unfolding pattern_grows cut drawn load taken
+unfolding pattern_grows cut part_after_bytes load loading_after
 first_ended f u h =
     let some : 0 < f.planes = ltb-true 0 f.planes (pattern_planes f 0x30 u h) in
     let loaded : loads (first f) u ≡ true = sym (loads_first f 0x30 u) ∙ pattern_loads f 0x30 u h in

@@ -4,7 +4,7 @@ use Rattle.std.proofs.Common.{get_or, refl, sym, ap}
 use Rattle.std.proofs.Common.{◌∙◌, arith, append-nil, Option, None, Some}
 use Rattle.std.proofs.lemmas.List.{append_assoc, length_push, length-drop, get_or-drop, get_or_push}
 use Rattle.cept_drcs.specs.Block.{has_pixels, adds, whole, sign_lines, last_line}
-use Rattle.cept_drcs.specs.Loading.{Loading, above, room, before, completed, added}
+use Rattle.cept_drcs.specs.Loading.{Loading, above, room, before, completed_loading, loading_with}
 use Rattle.cept_drcs.proofs.KeptDrawings.{loading}
 
 adds_none : (w r b a : ℕ) → has_pixels a ≡ false → adds w r b None a ≡ whole (sign_lines w r b a)
@@ -26,25 +26,25 @@ last_completed ls m x h =
 -- a sign where no half line stands, and where one does
 sign_by : (l : Loading) (ls : List ℕ) (half : Option ℕ) (a : ℕ) → has_pixels a ≡ false → above l ≤ length ls
     → (let m : Loading = loading l.form l.begun l.plane ls half in
-    added (completed m) (whole (sign_lines m.form.w (room (completed m)) (before (completed m)) a))
-    ≡ added m (adds m.form.w (room m) (before m) m.half a))
+    loading_with (completed_loading m) (whole (sign_lines m.form.w (room (completed_loading m)) (before (completed_loading m)) a))
+    ≡ loading_with m (adds m.form.w (room m) (before m) m.half a))
 sign_by l ls None a p h =
     let m : Loading = loading l.form l.begun l.plane ls None in
     ap (λ (x : List ℕ). let n : Loading = loading l.form l.begun l.plane x None in
-    added n (whole (sign_lines n.form.w (room n) (before n) a))) (append-nil ls)
-    ∙ ap (added m) (sym (adds_none l.form.w (room m) (before m) a p))
+    loading_with n (whole (sign_lines n.form.w (room n) (before n) a))) (append-nil ls)
+    ∙ ap (loading_with m) (sym (adds_none l.form.w (room m) (before m) a p))
 sign_by l ls (Some x) a p h =
     let m : Loading = loading l.form l.begun l.plane ls (Some x) in
-    let less : room (completed m) ≡ room m - 1 = omega (arith, length_push ls x) in
-    let drawn : List ℕ = sign_lines l.form.w (room m - 1) x a in
-    ap (λ r. added (completed m) (whole (sign_lines l.form.w r (before (completed m)) a))) less
-    ∙ ap (λ b. added (completed m) (whole (sign_lines l.form.w (room m - 1) b a))) (last_completed ls (above l) x h)
-    ∙ ap (λ (y : List ℕ). loading l.form l.begun l.plane y None) (append_assoc ls (x ∷ []) drawn)
-    ∙ ap (added m) (sym (adds_some l.form.w (room m) (before m) x a p))
+    let less : room (completed_loading m) ≡ room m - 1 = omega (arith, length_push ls x) in
+    let drawn_now : List ℕ = sign_lines l.form.w (room m - 1) x a in
+    ap (λ r. loading_with (completed_loading m) (whole (sign_lines l.form.w r (before (completed_loading m)) a))) less
+    ∙ ap (λ b. loading_with (completed_loading m) (whole (sign_lines l.form.w (room m - 1) b a))) (last_completed ls (above l) x h)
+    ∙ ap (λ (y : List ℕ). loading l.form l.begun l.plane y None) (append_assoc ls (x ∷ []) drawn_now)
+    ∙ ap (loading_with m) (sym (adds_some l.form.w (room m) (before m) x a p))
 
-pub sign_is : (l done new : Loading) (a : ℕ) → has_pixels a ≡ false → above l ≤ length l.lines → done ≡ completed l
-    → new ≡ added done (whole (sign_lines done.form.w (room done) (before done) a))
-    → new ≡ added l (adds l.form.w (room l) (before l) l.half a)
+pub sign_is : (l done new : Loading) (a : ℕ) → has_pixels a ≡ false → above l ≤ length l.lines → done ≡ completed_loading l
+    → new ≡ loading_with done (whole (sign_lines done.form.w (room done) (before done) a))
+    → new ≡ loading_with l (adds l.form.w (room l) (before l) l.half a)
 sign_is l done new a p h ed en =
-    en ∙ ap (λ (m : Loading). added m (whole (sign_lines m.form.w (room m) (before m) a))) ed
+    en ∙ ap (λ (m : Loading). loading_with m (whole (sign_lines m.form.w (room m) (before m) a))) ed
     ∙ sign_by l l.lines l.half a p h

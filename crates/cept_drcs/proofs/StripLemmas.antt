@@ -7,8 +7,8 @@ use Rattle.std.proofs.lemmas.List.{map-append, append_assoc, take_more_set, leng
 use Rattle.std.proofs.lemmas.List.{get_or-set_other}
 use Rattle.std.specs.Option.{option_to_list}
 use Rattle.cept_drcs.proofs.BlockLemmas.{halves}
-use Rattle.cept_drcs.specs.Block.{Drawn, whole, half_line, six, has_pixels, adds}
-use Rattle.cept_drcs.specs.Strips.{strip_of, joined, in_pairs, left_over, pairs, AreKeptStrips}
+use Rattle.cept_drcs.specs.Block.{BlockPart, whole, half_line, six, has_pixels, adds}
+use Rattle.cept_drcs.specs.Strips.{strip_of, line_of_strips, in_pairs, left_over, pairs, AreKeptStrips}
 
 pub strip_is : (a : ℕ) → strip_of a ≡ six a
 unfolding strip_of
@@ -31,7 +31,7 @@ none_kept = record { few = omega arith; clear = λ k h. get_or-zeros 96 k }
 -- ---- one strip more
 
 -- what it adds, where lines are of six pixels or of 12
-abbrev pub drawn_strip : Bool → Option ℕ → ℕ → Drawn
+abbrev pub drawn_strip : Bool → Option ℕ → ℕ → BlockPart
 drawn_strip b None s = cond b (whole (s ∷ [])) (half_line s)
 drawn_strip b (Some l) s = whole ((l + 64 * s) ∷ [])
 
@@ -43,7 +43,7 @@ adds_pixels w room before (Some l) a t = simp (t, strip_is)
 
 in_pairs-push : (ss : List ℕ) (a : ℕ)
     → in_pairs (ss ++ a ∷ []) ≡ in_pairs ss ++ (drawn_strip false (left_over ss) (strip_of a)).lines
-unfolding in_pairs left_over joined
+unfolding in_pairs left_over line_of_strips
 in_pairs-push [] a = refl
 in_pairs-push (x ∷ []) a = refl
 in_pairs-push (x ∷ y ∷ ss) a = ap (λ l. (strip_of x + 64 * strip_of y) ∷ l) (in_pairs-push ss a)
@@ -81,7 +81,7 @@ two_more n = omega arith
 
 pub in_pairs-completed : (ss : List ℕ)
     → in_pairs (ss ++ replicate (length ss % 2) 0) ≡ in_pairs ss ++ option_to_list (left_over ss)
-unfolding in_pairs left_over joined
+unfolding in_pairs left_over line_of_strips
 in_pairs-completed [] = refl
 in_pairs-completed (x ∷ []) =
     ap (λ z. (strip_of x + 64 * z) ∷ []) strip_none ∙ ap (λ n. n ∷ []) (omega arith)
@@ -96,12 +96,12 @@ left_over-completed (x ∷ []) = refl
 left_over-completed (x ∷ y ∷ ss) =
     ap (λ n. left_over (x ∷ y ∷ ss ++ replicate n 0)) (two_more (length ss)) ∙ left_over-completed ss
 
--- ---- whole lines put behind whole lines
+-- ---- whole lines put after whole lines
 
-pairs_alone : (k a b : ℕ) → in_pairs (pairs k a b) ≡ replicate k (joined a b)
+pairs_alone : (k a b : ℕ) → in_pairs (pairs k a b) ≡ replicate k (line_of_strips a b)
 unfolding in_pairs pairs
 pairs_alone zero a b = refl
-pairs_alone (suc k) a b = ap (λ l. joined a b ∷ l) (pairs_alone k a b)
+pairs_alone (suc k) a b = ap (λ l. line_of_strips a b ∷ l) (pairs_alone k a b)
 
 none_left : (k a b : ℕ) → left_over (pairs k a b) ≡ None
 unfolding left_over pairs
@@ -109,11 +109,11 @@ none_left zero a b = refl
 none_left (suc k) a b = none_left k a b
 
 pub in_pairs-pairs : (ss : List ℕ) (k a b : ℕ) → left_over ss ≡ None
-    → in_pairs (ss ++ pairs k a b) ≡ in_pairs ss ++ replicate k (joined a b)
+    → in_pairs (ss ++ pairs k a b) ≡ in_pairs ss ++ replicate k (line_of_strips a b)
 unfolding in_pairs left_over
 in_pairs-pairs [] k a b w = pairs_alone k a b
 in_pairs-pairs (x ∷ []) k a b w = cc
-in_pairs-pairs (x ∷ y ∷ ss) k a b w = ap (λ l. joined x y ∷ l) (in_pairs-pairs ss k a b w)
+in_pairs-pairs (x ∷ y ∷ ss) k a b w = ap (λ l. line_of_strips x y ∷ l) (in_pairs-pairs ss k a b w)
 
 pub left_over-pairs : (ss : List ℕ) (k a b : ℕ) → left_over ss ≡ None → left_over (ss ++ pairs k a b) ≡ None
 unfolding left_over
@@ -143,38 +143,38 @@ same_pairs zero a = refl
 same_pairs (suc k) a = ap (λ n. replicate n a) (twice k) ∙ ap (λ l. a ∷ a ∷ l) (same_pairs k a)
 
 pub in_pairs-same : (ss : List ℕ) (k a : ℕ) → left_over ss ≡ None
-    → in_pairs (ss ++ replicate (2 * k) a) ≡ in_pairs ss ++ replicate k (joined a a)
+    → in_pairs (ss ++ replicate (2 * k) a) ≡ in_pairs ss ++ replicate k (line_of_strips a a)
 in_pairs-same ss k a w = ap (λ l. in_pairs (ss ++ l)) (same_pairs k a) ∙ in_pairs-pairs ss k a a w
 
 pub left_over-same : (ss : List ℕ) (k a : ℕ) → left_over ss ≡ None → left_over (ss ++ replicate (2 * k) a) ≡ None
 left_over-same ss k a w = ap (λ l. left_over (ss ++ l)) (same_pairs k a) ∙ left_over-pairs ss k a a w
 
-pub joined_none : joined 0 0 ≡ 0
-unfolding joined strip_of
+pub joined_none : line_of_strips 0 0 ≡ 0
+unfolding line_of_strips strip_of
 joined_none = refl
 
 pub strip_full : strip_of 0x3F ≡ 0x3F
 unfolding strip_of
 strip_full = refl
 
-pub joined_full : joined 0x3F 0x3F ≡ 0xFFF
-unfolding joined strip_of
+pub joined_full : line_of_strips 0x3F 0x3F ≡ 0xFFF
+unfolding line_of_strips strip_of
 joined_full = refl
 
 -- ---- one line of them
 
 pub in_pairs-at : (ss : List ℕ) (k : ℕ) → k < length (in_pairs ss)
-    → get_or (in_pairs ss) k 0 ≡ joined (get_or ss (2 * k) 0) (get_or ss (2 * k + 1) 0)
+    → get_or (in_pairs ss) k 0 ≡ line_of_strips (get_or ss (2 * k) 0) (get_or ss (2 * k + 1) 0)
 unfolding in_pairs
 in_pairs-at [] k h = absurd (omega arith)
 in_pairs-at (x ∷ []) k h = absurd (omega arith)
 in_pairs-at (x ∷ y ∷ ss) zero h = refl
 in_pairs-at (x ∷ y ∷ ss) (suc k) h =
     in_pairs-at ss k (omega arith)
-    ∙ ap (λ i. joined (get_or (x ∷ y ∷ ss) i 0) (get_or ss (2 * k + 1) 0)) (sym (twice k))
-    ∙ ap (λ i. joined (get_or (x ∷ y ∷ ss) (2 * suc k) 0) (get_or (x ∷ y ∷ ss) i 0)) (twice_and_one k)
+    ∙ ap (λ i. line_of_strips (get_or (x ∷ y ∷ ss) i 0) (get_or ss (2 * k + 1) 0)) (sym (twice k))
+    ∙ ap (λ i. line_of_strips (get_or (x ∷ y ∷ ss) (2 * suc k) 0) (get_or (x ∷ y ∷ ss) i 0)) (twice_and_one k)
 
--- two more of the same behind them
+-- two more of the same after them
 pub pairs_more : (k a b : ℕ) → pairs k a b ++ a ∷ b ∷ [] ≡ pairs (k + 1) a b
 unfolding pairs
 pairs_more zero a b = refl
@@ -193,7 +193,7 @@ length-pairs (suc k) a b = omega (arith, length-pairs k a b)
 
 -- ---- pairs written into a room
 
--- k pairs stand behind the first strips of a room
+-- k pairs stand after the first strips of a room
 pub record HasPairs (before room : List ℕ) (count k a b : ℕ) : Type 0 where
   pub long : length room ≡ length before
   pub front : take (count + 2 * k) room ≡ take count before ++ pairs k a b

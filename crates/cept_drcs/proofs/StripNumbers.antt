@@ -5,7 +5,7 @@ use Rattle.std.proofs.Common.{length, map, get_or, refl, sym, ap, ◌∙◌, inl
 use Rattle.std.specs.Option.{option_to_list}
 use Rattle.cept_drcs.specs.Block.{closed_lines}
 use Rattle.cept_drcs.specs.Unit.{lines_from}
-use Rattle.cept_drcs.specs.Strips.{strip_of, joined, in_pairs, left_over, number_of, whole_lines, half_of}
+use Rattle.cept_drcs.specs.Strips.{strip_of, line_of_strips, in_pairs, left_over, number_of, whole_lines, half_of}
 use Rattle.cept_drcs.proofs.Numbers.{line_more}
 use Rattle.cept_drcs.proofs.StripWords.{number_more, number_clear}
 
@@ -45,7 +45,7 @@ six_wide (suc n) (x ∷ ss) h =
 
 twelve_wide : (n : ℕ) (ss : List ℕ) → length ss ≤ n
     → lines_from 12 0 (in_pairs ss ++ option_to_list (left_over ss)) ≡ number_of n 0 ss
-unfolding in_pairs left_over joined
+unfolding in_pairs left_over line_of_strips
 twelve_wide n [] h = lines_none 12 0 ∙ sym (number_of-nothing n 0)
 twelve_wide zero (x ∷ ss) h = absurd (omega arith)
 twelve_wide (suc n) (x ∷ []) h =

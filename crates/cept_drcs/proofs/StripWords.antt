@@ -113,7 +113,7 @@ words_of_three n a b c ha hb hc e =
     ap (words 3) e ∙ words_more 2 a (c * 2 ^ 64 + b) ha ∙ ap (λ l. a ∷ l) (words_more 1 b c hb)
     ∙ ap (λ l. a ∷ b ∷ l) last
 
--- and more behind them
+-- and more after them
 pub words_behind_three : (k n rest : ℕ) → n < 2 ^ 192
     → words (suc (suc (suc k))) (rest * 2 ^ 192 + n) ≡ words 3 n ++ words k rest
 words_behind_three k n rest h =
@@ -204,7 +204,7 @@ pub nine_at : (a b c : List ℕ) (x y z : ℕ) → a ≡ words 3 x → b ≡ wor
 unfolding words
 nine_at a b c x y z ea eb ec = simp (ea, eb, ec)
 
--- ---- the room behind the strips
+-- ---- the room after the strips
 
 pub number_same : (n i : ℕ) (ss others : List ℕ) → ((k : ℕ) → get_or ss k 0 ≡ get_or others k 0)
     → number_of n i ss ≡ number_of n i others

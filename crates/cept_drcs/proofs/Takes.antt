@@ -6,7 +6,7 @@ use Rattle.std.proofs.lemmas.Bool.{and_parts, ltb-true, cond-true, cond-false}
 use Rattle.std.proofs.Math.Bool.{and-true}
 use Rattle.cept_drcs.specs.Block.{has_pixels, is_sign, may_come, adds}
 use Rattle.cept_drcs.specs.Cut.{is_opener, plane_of}
-use Rattle.cept_drcs.specs.Loading.{Loading, takes, taken, room, before, added}
+use Rattle.cept_drcs.specs.Loading.{Loading, takes, loading_after, room, before, loading_with}
 use Rattle.cept_drcs.specs.Kept.{IsFed}
 
 pub pixels_open : (a : ℕ) → has_pixels a ≡ true → is_opener a ≡ false
@@ -61,19 +61,19 @@ opener_is_plane l a b t h =
 -- ---- bytes with pixels fed
 
 pub fed_pixels : (l new : Loading) (a : ℕ) (more : Bool) → has_pixels a ≡ true → more ≡ (l.begun && nat_lt 0 (room l))
-    → more ≡ true → new ≡ added l (adds l.form.w (room l) (before l) l.half a) → IsFed l a true new
-unfolding taken
+    → more ≡ true → new ≡ loading_with l (adds l.form.w (room l) (before l) l.half a) → IsFed l a true new
+unfolding loading_after
 fed_pixels l new a more p em m en =
     let takes_it : takes l a ≡ true = takes_pixels l a p ∙ sym em ∙ m in
     let begun : l.begun ≡ true = (and_parts l.begun (nat_lt 0 (room l)) (sym em ∙ m)).0 in
-    let drawn : taken l a ≡ added l (adds l.form.w (room l) (before l) l.half a) = simp (begun, pixels_open a p) in
+    let drawn_now : loading_after l a ≡ loading_with l (adds l.form.w (room l) (before l) l.half a) = simp (begun, pixels_open a p) in
     record {
       taken_is = sym takes_it;
-      state = en ∙ sym (cond-true (takes l a) (taken l a) l takes_it ∙ drawn);
+      state = en ∙ sym (cond-true (takes l a) (loading_after l a) l takes_it ∙ drawn_now);
     }
 
 pub unfed_pixels : (l : Loading) (a : ℕ) (more : Bool) → has_pixels a ≡ true → more ≡ (l.begun && nat_lt 0 (room l))
     → more ≡ false → IsFed l a false l
 unfed_pixels l a more p em m =
     let refused : takes l a ≡ false = takes_pixels l a p ∙ sym em ∙ m in
-    record { taken_is = sym refused; state = sym (cond-false (takes l a) (taken l a) l refused) }
+    record { taken_is = sym refused; state = sym (cond-false (takes l a) (loading_after l a) l refused) }

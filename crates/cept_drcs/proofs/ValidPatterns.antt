@@ -11,13 +11,13 @@ use Rattle.cept_codes.specs.declared.command.Form.{Form}
 use Rattle.cept_codes.specs.Command.{IsValidForm}
 use Rattle.cept_codes.specs.Look.{IsValidPattern, is_pattern_size}
 use Rattle.cept_drcs.specs.Bytes.{is_between}
-use Rattle.cept_drcs.specs.Block.{blank, adds, asked, drawn, has_pixels, sign_line, sign_lines, six, whole, half_line}
+use Rattle.cept_drcs.specs.Block.{blank, adds, lines_asked, part_after_bytes, has_pixels, sign_line, sign_lines, six, whole, half_line}
 use Rattle.cept_drcs.specs.Cut.{Block, is_opener, plane_of}
 use Rattle.cept_drcs.specs.Unit.{is_pattern, lines_from, pattern_of, pattern}
-use Rattle.cept_drcs.specs.Loading.{Loading, fresh, taken, load, all_lines, above, room, before, opened, added, Leads}
+use Rattle.cept_drcs.specs.Loading.{Loading, fresh, loading_after, load, all_lines, above, room, before, loading_at_plane, loading_with, Leads}
 use Rattle.cept_drcs.proofs.Bridge.{next_plane, length-closed_lines}
 use Rattle.cept_drcs.proofs.Reading.{Ends, ended, leads_pattern, pattern_of_leads, no_pattern}
-use Rattle.cept_drcs.proofs.Numbers.{load_form, taken_form, led}
+use Rattle.cept_drcs.proofs.Numbers.{load_form, loading_after-form, led}
 use Rattle.cept_drcs.proofs.WordBits.{length-words, word_below, clear_behind}
 
 -- ---- lines of a width
@@ -96,7 +96,7 @@ sign_below w before a h =
     (λ _. cond_both (a == 0x20 || a == 0x2C) 0 (2 ^ w - 1) (λ v. v < 2 ^ w) (λ _. z) (λ _. omega arith))
 
 sign_drawn : (w room before a : ℕ) → before < 2 ^ w → AreLines w (sign_lines w room before a)
-sign_drawn w room before a h = lines_replicate w (min (asked room a) room) _ (sign_below w before a h)
+sign_drawn w room before a h = lines_replicate w (min (lines_asked room a) room) _ (sign_below w before a h)
 
 -- a pattern is of a width
 abbrev IsWide : ℕ → Type 0
@@ -135,7 +135,7 @@ adds_drawn w room before (Some l) a v b h =
 abbrev IsDrawnState : Loading → Type 0
 IsDrawnState l = IsDrawn l.form.w l.lines l.half
 
-opened_drawn : (l : Loading) (p : ℕ) → IsDrawnState l → IsDrawnState (opened l p)
+opened_drawn : (l : Loading) (p : ℕ) → IsDrawnState l → IsDrawnState (loading_at_plane l p)
 opened_drawn l p d =
     let w = l.form.w in
     let all = lines_append w l.lines (option_to_list l.half) d.whole (half_lines w l.half d.part) in
@@ -145,15 +145,15 @@ opened_drawn l p d =
     }
 
 added_drawn : (l : Loading) (a : ℕ) → IsWide l.form.w → IsDrawnState l
-    → IsDrawnState (added l (adds l.form.w (room l) (before l) l.half a))
+    → IsDrawnState (loading_with l (adds l.form.w (room l) (before l) l.half a))
 added_drawn l a v d =
     let w = l.form.w in
     let b : before l < 2 ^ w = line_of w _ (drop (above l) l.lines) (lines_drop w (above l) l.lines d.whole) in
     let more = adds_drawn w (room l) (before l) l.half a v b d.part in
     record { whole = lines_append w l.lines _ d.whole more.whole; part = more.part }
 
-taken_drawn : (l : Loading) (a : ℕ) → IsWide l.form.w → IsDrawnState l → IsDrawnState (taken l a)
-unfolding taken
+taken_drawn : (l : Loading) (a : ℕ) → IsWide l.form.w → IsDrawnState l → IsDrawnState (loading_after l a)
+unfolding loading_after
 taken_drawn l a v d =
     let opener = cases_Bool (is_opener a) in
     elim (cases_Bool l.begun) [
@@ -168,15 +168,15 @@ load_drawn : (l : Loading) (u : List ℕ) → IsWide l.form.w → IsDrawnState l
 unfolding load
 load_drawn l [] v d = d
 load_drawn l (a ∷ u) v d =
-    let w = subst (λ (f : Form). IsWide f.w) (sym (taken_form l a)) v in
-    load_drawn (taken l a) u w (taken_drawn l a v d)
+    let w = subst (λ (f : Form). IsWide f.w) (sym (loading_after-form l a)) v in
+    load_drawn (loading_after l a) u w (taken_drawn l a v d)
 
 -- ---- the number of a pattern
 
 -- all lines are lines of the form's planes
 ends_lines : (f : Form) (l : Loading) (b : Block) → Ends f l b → length (all_lines l) ≤ f.planes * f.h
 ends_lines f l b k =
-    let d = drawn f blank b.bytes in
+    let d = part_after_bytes f blank b.bytes in
     let z = ap (λ (m : Loading). length (all_lines m)) k.state in
     let c = length-closed_lines (k.above ++ d.lines) d.half in
     let n = length-append k.above d.lines in

@@ -19,8 +19,8 @@ abbrev pub six : ℕ → ℕ
 six a = a / 32 % 2 + 2 * (a / 16 % 2) + 4 * (a / 8 % 2) + 8 * (a / 4 % 2) + 16 * (a / 2 % 2) + 32 * (a % 2)
 
 -- how many lines a sign asks for, where this many are left
-abbrev pub asked : ℕ → ℕ → ℕ
-asked room a =
+abbrev pub lines_asked : ℕ → ℕ → ℕ
+lines_asked room a =
     if is_between 0x21 0x2A a then a - 0x20 else  -- one to ten
     if is_between 0x2C 0x2D a then 1 else
     room  -- 20, 2E, 2F: to the end of the block
@@ -34,27 +34,27 @@ sign_line w before a =
 
 -- the lines of a sign; those that the block has no room for are dropped
 abbrev pub sign_lines : ℕ → ℕ → ℕ → ℕ → List ℕ
-sign_lines w room before a = replicate (min (asked room a) room) (sign_line w before a)
+sign_lines w room before a = replicate (min (lines_asked room a) room) (sign_line w before a)
 
--- lines, and the first six pixels of a line whose other six aren't read: a half line
-pub record Drawn : Type 0 where
+-- a part of a block: lines, and the first six pixels of a line whose other six aren't read, a half line
+pub record BlockPart : Type 0 where
   pub lines : List ℕ
   pub half : Option ℕ
 
 -- nothing yet
-abbrev pub blank : Drawn
+abbrev pub blank : BlockPart
 blank = record { lines = []; half = None }
 
 -- whole lines, and a half line alone
-abbrev pub whole : List ℕ → Drawn
+abbrev pub whole : List ℕ → BlockPart
 whole ls = record { lines = ls; half = None }
 
-abbrev pub half_line : ℕ → Drawn
+abbrev pub half_line : ℕ → BlockPart
 half_line l = record { lines = []; half = Some l }
 
 -- what a byte adds, where this many lines are left, this is the line before and this is the half line: a byte with
 -- pixels is a line of 6, begins one of 12 or completes it; a sign first completes a half line with pixels of 0
-unfoldable pub adds : ℕ → ℕ → ℕ → Option ℕ → ℕ → Drawn
+unfoldable pub adds : ℕ → ℕ → ℕ → Option ℕ → ℕ → BlockPart
 adds w room before None a =
     if has_pixels a then (if w == 6 then whole (six a ∷ []) else half_line (six a)) else
     whole (sign_lines w room before a)
@@ -71,23 +71,23 @@ may_come room a = nat_lt 0 room && (has_pixels a || is_sign a)
 abbrev pub last_line : List ℕ → ℕ
 last_line ls = slice_index ls (length ls - 1)
 
--- what was drawn, and more behind it
-abbrev pub behind : Drawn → Drawn → Drawn
-behind d more = record { lines = d.lines ++ more.lines; half = more.half }
+-- a part of a block, and more after it
+abbrev pub part_with : BlockPart → BlockPart → BlockPart
+part_with d more = record { lines = d.lines ++ more.lines; half = more.half }
 
 -- a block, with one byte more
-abbrev pub draw : Form → Drawn → ℕ → Drawn
-draw f d a = behind d (adds f.w (f.h - length d.lines) (last_line d.lines) d.half a)
+abbrev pub part_after_byte : Form → BlockPart → ℕ → BlockPart
+part_after_byte f d a = part_with d (adds f.w (f.h - length d.lines) (last_line d.lines) d.half a)
 
 -- with these bytes more
-unfoldable pub drawn : Form → Drawn → List ℕ → Drawn
-drawn f d [] = d
-drawn f d (a ∷ u) = drawn f (draw f d a) u
+unfoldable pub part_after_bytes : Form → BlockPart → List ℕ → BlockPart
+part_after_bytes f d [] = d
+part_after_bytes f d (a ∷ u) = part_after_bytes f (part_after_byte f d a) u
 
 -- each of them may come
-unfoldable pub are_drawn : Form → Drawn → List ℕ → Bool
-are_drawn f d [] = true
-are_drawn f d (a ∷ u) = may_come (f.h - length d.lines) a && are_drawn f (draw f d a) u
+unfoldable pub all_may_come : Form → BlockPart → List ℕ → Bool
+all_may_come f d [] = true
+all_may_come f d (a ∷ u) = may_come (f.h - length d.lines) a && all_may_come f (part_after_byte f d a) u
 
 -- the lines at the end of a block: a half line is completed with pixels of 0
 abbrev pub closed_lines : List ℕ → Option ℕ → List ℕ
@@ -95,8 +95,8 @@ closed_lines ls half = ls ++ option_to_list half
 
 -- these bytes are a block
 abbrev pub is_block : Form → List ℕ → Bool
-is_block f u = are_drawn f blank u
+is_block f u = all_may_come f blank u
 
 -- its lines from the top. Those that are missing are 0
 abbrev pub block_lines : Form → List ℕ → List ℕ
-block_lines f u = let d = drawn f blank u in closed_lines d.lines d.half
+block_lines f u = let d = part_after_bytes f blank u in closed_lines d.lines d.half

@@ -10,7 +10,7 @@ is_opener a = is_between 0x30 0x33 a
 abbrev pub plane_of : ℕ → ℕ
 plane_of a = a - 0x30
 
--- a plane, and the bytes behind its opener
+-- a plane, and the bytes after its opener
 pub record Block : Type 0 where
   pub plane : ℕ
   pub bytes : List ℕ

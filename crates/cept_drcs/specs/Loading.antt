@@ -3,7 +3,7 @@ use Rattle.std.specs.Prelude.{◌≡◌, ℕ, ◌+◌, ◌-◌, ◌*◌, Bool, t
 use Rattle.std.specs.Prelude.{replicate, if◌then◌else◌, ◌==◌, nat_lt, Option, None}
 use Rattle.cept_codes.specs.declared.command.Form.{Form}
 use Rattle.cept_codes.specs.Command.{IsValidForm}
-use Rattle.cept_drcs.specs.Block.{Drawn, adds, may_come, last_line, closed_lines}
+use Rattle.cept_drcs.specs.Block.{BlockPart, adds, may_come, last_line, closed_lines}
 use Rattle.cept_drcs.specs.Cut.{is_opener, plane_of}
 
 -- the form, whether a plane is open and which, all whole lines of the planes up to it, and its half line
@@ -35,26 +35,26 @@ abbrev pub all_lines : Loading → List ℕ
 all_lines l = closed_lines l.lines l.half
 
 -- the same, with no half line
-abbrev pub completed : Loading → Loading
-completed l = record l { lines = all_lines l; half = None }
+abbrev pub completed_loading : Loading → Loading
+completed_loading l = record l { lines = all_lines l; half = None }
 
--- lines of 0 behind these, so that there are n
-abbrev pub filled : ℕ → List ℕ → List ℕ
-filled n ls = ls ++ replicate (n - length ls) 0
+-- lines of 0 after these, so that there are n
+abbrev pub filled_lines : ℕ → List ℕ → List ℕ
+filled_lines n ls = ls ++ replicate (n - length ls) 0
 
 -- with this plane open
-abbrev pub opened : Loading → ℕ → Loading
-opened l p = record l { plane = p; lines = filled (p * l.form.h) (all_lines l); half = None }
+abbrev pub loading_at_plane : Loading → ℕ → Loading
+loading_at_plane l p = record l { plane = p; lines = filled_lines (p * l.form.h) (all_lines l); half = None }
 
 -- with what a byte adds
-abbrev pub added : Loading → Drawn → Loading
-added l d = record l { lines = l.lines ++ d.lines; half = d.half }
+abbrev pub loading_with : Loading → BlockPart → Loading
+loading_with l d = record l { lines = l.lines ++ d.lines; half = d.half }
 
 -- one byte more. The first one opens plane 0
-unfoldable pub taken : Loading → ℕ → Loading
-taken l a =
+unfoldable pub loading_after : Loading → ℕ → Loading
+loading_after l a =
     if l.begun then
-    (if is_opener a then opened l (plane_of a) else added l (adds l.form.w (room l) (before l) l.half a)) else
+    (if is_opener a then loading_at_plane l (plane_of a) else loading_with l (adds l.form.w (room l) (before l) l.half a)) else
     record l { begun = true }
 
 -- it continues the pattern
@@ -72,12 +72,12 @@ is_full l = l.begun && (room l == 0 && l.plane + 1 == l.form.planes)
 -- these bytes more
 unfoldable pub load : Loading → List ℕ → Loading
 load l [] = l
-load l (a ∷ u) = load (taken l a) u
+load l (a ∷ u) = load (loading_after l a) u
 
 -- each of them continues it
 unfoldable pub loads : Loading → List ℕ → Bool
 loads l [] = true
-loads l (a ∷ u) = takes l a && loads (taken l a) u
+loads l (a ∷ u) = takes l a && loads (loading_after l a) u
 
 -- these bytes of a pattern of this form lead to this state
 pub record Leads (f : Form) (u : List ℕ) (l : Loading) : Type 0 where

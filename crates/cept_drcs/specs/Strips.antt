@@ -9,14 +9,14 @@ unfoldable pub strip_of : ℕ → ℕ
 strip_of a = six a
 
 -- a line of 12 pixels, of the bytes of its strips
-unfoldable pub joined : ℕ → ℕ → ℕ
-joined a b = strip_of a + 64 * strip_of b
+unfoldable pub line_of_strips : ℕ → ℕ → ℕ
+line_of_strips a b = strip_of a + 64 * strip_of b
 
 -- lines of 12 pixels, two strips each
 unfoldable pub in_pairs : List ℕ → List ℕ
 in_pairs [] = []
 in_pairs (a ∷ []) = []
-in_pairs (a ∷ b ∷ ss) = joined a b ∷ in_pairs ss
+in_pairs (a ∷ b ∷ ss) = line_of_strips a b ∷ in_pairs ss
 
 -- the strip that is left over
 unfoldable pub left_over : List ℕ → Option ℕ
@@ -28,7 +28,7 @@ left_over (a ∷ b ∷ ss) = left_over ss
 abbrev pub whole_lines : ℕ → List ℕ → List ℕ
 whole_lines w ss = if w == 6 then map strip_of ss else in_pairs ss
 
--- the half line behind them
+-- the half line after them
 abbrev pub half_of : ℕ → List ℕ → Option ℕ
 half_of w ss = if w == 6 then None else left_over ss
 
@@ -38,7 +38,7 @@ strips_in w n = if w == 6 then n else 2 * n
 
 -- the line of these two strips; a line of six pixels is the second alone
 abbrev pub strip_line : ℕ → ℕ → ℕ → ℕ
-strip_line w a b = if w == 6 then strip_of b else joined a b
+strip_line w a b = if w == 6 then strip_of b else line_of_strips a b
 
 -- the same two so many times
 unfoldable pub pairs : ℕ → ℕ → ℕ → List ℕ
@@ -50,7 +50,7 @@ unfoldable pub number_of : ℕ → ℕ → List ℕ → ℕ
 number_of zero i ss = 0
 number_of (suc n) i ss = strip_of (slice_index ss i) + 64 * number_of n (i + 1) ss
 
--- what stands in the room behind the strips is 0
+-- what stands in the room after the strips is 0
 pub record AreKeptStrips (room : List ℕ) (count : ℕ) : Type 0 where
   pub few : count ≤ 96
   pub clear : (k : ℕ) → count ≤ k → slice_index room k ≡ 0

@@ -5,7 +5,7 @@ use Rattle.std.specs.Prelude.{ℕ, zero, suc, ◌+◌, ◌*◌, ◌/◌, ◌%◌
 use Rattle.std.specs.Prelude.{◌∷◌, ◌==◌, nat_lt, nat_le}
 use Rattle.cept_codes.specs.declared.command.Form.{Form}
 use Rattle.cept_codes.specs.declared.look.Pattern.{Pattern}
-use Rattle.cept_drcs.specs.Block.{blank, drawn, is_block, block_lines}
+use Rattle.cept_drcs.specs.Block.{blank, part_after_bytes, is_block, block_lines}
 use Rattle.cept_drcs.specs.Cut.{Block, cut}
 
 -- blocks of planes that ascend strictly, from this one on, and are planes of the form
@@ -33,12 +33,12 @@ unfoldable pub last_block : Block → List Block → Block
 last_block b [] = b
 last_block b (c ∷ bs) = last_block c bs
 
--- a byte fits behind this last block of a unit: it hasn't all its lines, or there is a further plane with an opener
+-- a byte fits after this last block of a unit: it hasn't all its lines, or there is a further plane with an opener
 abbrev pub block_grows : Form → Block → Bool
 block_grows f b =
-    nat_lt (length (drawn f blank b.bytes).lines) f.h || (nat_lt b.plane 3 && nat_lt (b.plane + 1) f.planes)
+    nat_lt (length (part_after_bytes f blank b.bytes).lines) f.h || (nat_lt b.plane 3 && nat_lt (b.plane + 1) f.planes)
 
--- behind a unit
+-- after a unit
 abbrev pub blocks_grow : Form → List Block → Bool
 blocks_grow f [] = false
 blocks_grow f (b ∷ bs) = block_grows f (last_block b bs)

@@ -4,7 +4,7 @@ ghost use Rattle.cept_codes.specs.Command.{IsValidForm};
 ghost use Rattle.cept_drcs.specs.Kept.{plane_end, IsFed};
 ghost use Rattle.cept_drcs.specs.Strips.{strips_in, strip_line};
 
-use crate::lines::{asked, first_line, has_pixels, is_opener, is_sign};
+use crate::lines::{lines_asked, first_line, has_pixels, is_opener, is_sign};
 use crate::strips::Strips;
 use cept_codes::{Form, Pattern};
 use std::marker::Model;
@@ -34,7 +34,7 @@ impl Model for Drawing {
 
     ghost Value = { Loading };
 
-    ghost use Rattle.cept_drcs.specs.Kept.{IsKept};
+    ghost use Rattle.cept_drcs.specs.Kept.{IsKeptDrawing};
 
     ghost view = { λ l. record {
       form = l.form;
@@ -44,12 +44,12 @@ impl Model for Drawing {
       half = half_of l.form.w l.strips;
     } };
 
-    ghost invariant = { λ l. IsKept l.form l.begun l.plane l.end l.strips };
+    ghost invariant = { λ l. IsKeptDrawing l.form l.begun l.plane l.end l.strips };
 }
 
 impl Drawing {
-    ghost use Rattle.cept_drcs.specs.Loading.{fresh, above, room, before, takes, taken};
-    ghost use Rattle.cept_drcs.specs.Loading.{all_lines, completed, opened, added};
+    ghost use Rattle.cept_drcs.specs.Loading.{fresh, above, room, before, takes, loading_after};
+    ghost use Rattle.cept_drcs.specs.Loading.{all_lines, completed_loading, loading_at_plane, loading_with};
     ghost use Rattle.cept_drcs.specs.Loading.{is_full};
     ghost use Rattle.cept_drcs.specs.Unit.{pattern_of, lines_from};
     ghost use Rattle.cept_drcs.specs.Block.{adds, sign_lines, whole, has_pixels, is_sign};
@@ -112,8 +112,8 @@ impl Drawing {
 
     /// Completes a half line with pixels of 0.
     fn complete(&mut self)
-        ensures completed { self.new ≡ completed self.old }
-        ensures behind { above self.old ≤ length self.old.lines }
+        ensures completed { self.new ≡ completed_loading self.old }
+        ensures earlier { above self.old ≤ length self.old.lines }
     {
         if self.form.w != 6 {
             let count = self.strips.len();
@@ -125,8 +125,8 @@ impl Drawing {
     fn open(&mut self, plane: u8)
         requires begun { self.old.begun ≡ true }
         requires plane { plane < self.old.form.planes }
-        requires behind { length (all_lines self.old) ≤ plane * self.old.form.h }
-        ensures { self.new ≡ opened self.old plane }
+        requires earlier { length (all_lines self.old) ≤ plane * self.old.form.h }
+        ensures { self.new ≡ loading_at_plane self.old plane }
     {
         self.complete();
         self.strips.pad(plane_start(&self.form, plane));
@@ -165,7 +165,7 @@ impl Drawing {
     fn repeat(&mut self, lines: u8)
         requires whole { self.old.half ≡ None }
         requires room { lines ≤ room self.old }
-        ensures { self.new ≡ added self.old (whole (replicate lines (before self.old))) }
+        ensures { self.new ≡ loading_with self.old (whole (replicate lines (before self.old))) }
     {
         let line = self.before();
         if self.form.w == 6 {
@@ -179,7 +179,7 @@ impl Drawing {
     fn skip(&mut self, lines: u8)
         requires whole { self.old.half ≡ None }
         requires room { lines ≤ room self.old }
-        ensures { self.new ≡ added self.old (whole (replicate lines 0)) }
+        ensures { self.new ≡ loading_with self.old (whole (replicate lines 0)) }
     {
         let strips = strips_in(&self.form, lines);
         self.strips.pad(self.strips.len() + strips);
@@ -189,7 +189,7 @@ impl Drawing {
     fn fill(&mut self, lines: u8)
         requires whole { self.old.half ≡ None }
         requires room { lines ≤ room self.old }
-        ensures { self.new ≡ added self.old (whole (replicate lines (2 ^ self.old.form.w - 1))) }
+        ensures { self.new ≡ loading_with self.old (whole (replicate lines (2 ^ self.old.form.w - 1))) }
     {
         let strips = strips_in(&self.form, lines);
         self.strips.add(strips, 0x3F);
@@ -199,11 +199,11 @@ impl Drawing {
     fn whole_sign(&mut self, byte: u8)
         requires begun { self.old.begun ≡ true }
         requires whole { self.old.half ≡ None }
-        ensures { self.new ≡ added self.old
+        ensures { self.new ≡ loading_with self.old
             (whole (sign_lines self.old.form.w (room self.old) (before self.old) byte)) }
     {
         let room = self.room();
-        let lines = asked(room, byte).min(room);
+        let lines = lines_asked(room, byte).min(room);
         if (0x21 <= byte && byte <= 0x2A) || byte == 0x2E {
             self.repeat(lines);
         } else if byte == 0x20 || byte == 0x2C {
@@ -217,7 +217,7 @@ impl Drawing {
     fn sign(&mut self, byte: u8)
         requires begun { self.old.begun ≡ true }
         requires sign { has_pixels byte ≡ false }
-        ensures { self.new ≡ added self.old
+        ensures { self.new ≡ loading_with self.old
             (adds self.old.form.w (room self.old) (before self.old) self.old.half byte) }
     {
         self.complete();
@@ -228,18 +228,18 @@ impl Drawing {
     fn pixels(&mut self, byte: u8)
         requires room { 0 < room self.old }
         requires pixels { has_pixels byte ≡ true }
-        ensures { self.new ≡ added self.old
+        ensures { self.new ≡ loading_with self.old
             (adds self.old.form.w (room self.old) (before self.old) self.old.half byte) }
     {
         self.strips.push(byte);
     }
 
     /// Takes a byte without pixels that continues the pattern.
-    #[tactic(auto, unfolding(crate::specs::Loading::taken))]
+    #[tactic(auto, unfolding(crate::specs::Loading::loading_after))]
     fn take_other(&mut self, byte: u8)
         requires pixels { has_pixels byte ≡ false }
         requires taken { takes self.old byte ≡ true }
-        ensures { self.new ≡ taken self.old byte }
+        ensures { self.new ≡ loading_after self.old byte }
     {
         if !self.begun {
             self.begin();
@@ -301,7 +301,7 @@ impl Drawing {
     }
 
     /// The pattern of the lines drawn.
-    pub fn drawn(&self) -> Pattern
+    pub fn pattern(&self) -> Pattern
         ensures { result
             ≡ pattern_of self.now.form (lines_from self.now.form.w 0 (all_lines self.now)) }
     {

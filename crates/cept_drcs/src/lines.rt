@@ -1,6 +1,6 @@
 ghost use Rattle.std.specs.Prelude.{◌≡◌, ◌≤◌, ◌<◌, ◌+◌, ◌*◌};
 ghost use Rattle.cept_codes.specs.Command.{IsValidForm};
-ghost use Rattle.cept_drcs.specs.Block.{has_pixels, is_sign, asked};
+ghost use Rattle.cept_drcs.specs.Block.{has_pixels, is_sign, lines_asked};
 ghost use Rattle.cept_drcs.specs.Cut.{is_opener};
 
 use cept_codes::Form;
@@ -27,8 +27,8 @@ pub fn is_opener(byte: u8) -> bool
 }
 
 /// How many lines a sign asks for, where this many are left.
-pub fn asked(room: u8, byte: u8) -> u8
-    ensures { result ≡ asked room byte }
+pub fn lines_asked(room: u8, byte: u8) -> u8
+    ensures { result ≡ lines_asked room byte }
 {
     if 0x21 <= byte && byte <= 0x2A {
         byte - 0x20

@@ -27,7 +27,7 @@ impl Model for Loader {
 }
 
 impl Loader {
-    ghost use Rattle.cept_drcs.specs.Loading.{Loading, fresh, takes, taken, is_full, Leads};
+    ghost use Rattle.cept_drcs.specs.Loading.{Loading, fresh, takes, loading_after, is_full, Leads};
     ghost use Rattle.cept_drcs.specs.Unit.{is_pattern, pattern_grows, pattern};
 
     /// A pattern before its first byte.
@@ -53,7 +53,7 @@ impl Loader {
     /// Takes one byte more, unless it doesn't continue the pattern: then nothing changes.
     pub fn feed(&mut self, byte: u8) -> bool
         ensures state { self.new
-            ≡ (if takes self.old byte then taken self.old byte else self.old) }
+            ≡ (if takes self.old byte then loading_after self.old byte else self.old) }
 
         // Whatever bytes led here, this one is taken exactly where they and it are a pattern's.
         // Then these lead on.
@@ -81,6 +81,6 @@ impl Loader {
         ensures unit { (f : Form) (u : List ℕ) → Leads f u self.now → result ≡ pattern f u }
         ensures valid { IsValidPattern result }
     {
-        self.drawing.drawn()
+        self.drawing.pattern()
     }
 }

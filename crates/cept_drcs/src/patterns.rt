@@ -1,7 +1,7 @@
 ghost use Rattle.std.specs.Prelude.{ℕ, ◌≤◌, ◌≡◌, ◌-◌, ◌==◌, if◌then◌else◌, length, slice_set};
 ghost use Rattle.std.specs.Prelude.{option_copied, IfOk, IfSome, Some, None};
 ghost use Rattle.cept_codes.specs.Look.{IsValidPattern};
-ghost use Rattle.cept_drcs.specs.Patterns.{IsPatternCode, list_of_patterns, pattern_in};
+ghost use Rattle.cept_drcs.specs.Patterns.{IsPatternCode, list_of_codes, pattern_in};
 
 use cept_codes::{NoMemory, Pattern};
 use std::alloc::Global;
@@ -29,7 +29,7 @@ impl Model for Patterns {
 impl Patterns {
     /// No code has a pattern.
     pub fn new(alloc: Global) -> Result<Patterns, NoMemory>
-        ensures { IfOk result (λ patterns. patterns ≡ list_of_patterns (λ _. None)) }
+        ensures { IfOk result (λ patterns. patterns ≡ list_of_codes (λ _. None)) }
     {
         let mut patterns = Vec::with_capacity(alloc, 94)?;
         for _code in 0..94usize {
@@ -43,20 +43,23 @@ impl Patterns {
         requires code { IsPatternCode code }
         requires valid { IsValidPattern pattern }
         ensures patterns { self.new
-            ≡ list_of_patterns (λ d. if code == d then Some pattern else pattern_in self.old d) }
+            ≡ list_of_codes (λ d. if code == d then Some pattern else pattern_in self.old d) }
         ensures set { self.new ≡ slice_set self.old (code - 0x21) (Some pattern) }
     {
         self.patterns[usize::from(code) - 0x21] = Some(pattern);
     }
 
-    /// The pattern of a code from 0x21 on, where it stands; `None` where the code has none, as each
+    /// The pattern of a code, where it stands; `None` where the code has none, as each below 0x21 and
     /// past 0x7E.
     #[inline(always)]
     pub fn at(&self, code: u8) -> Option<&Pattern>
         ensures pattern { option_copied result ≡ pattern_in self.now code }
         ensures valid { IfSome result (λ pattern. IsValidPattern pattern.now) }
     {
-        let index = usize::from(code).saturating_sub(0x21);
+        if code < 0x21 {
+            return None;
+        }
+        let index = usize::from(code) - 0x21;
         if index < self.patterns.len() {
             self.patterns[index].as_ref()
         } else {
@@ -92,7 +95,7 @@ impl Patterns {
 
     /// Takes all patterns away.
     pub fn clear(&mut self)
-        ensures { self.new ≡ list_of_patterns (λ _. None) }
+        ensures { self.new ≡ list_of_codes (λ _. None) }
     {
         take_away(&mut self.patterns);
     }
@@ -101,7 +104,7 @@ impl Patterns {
 /// Takes the patterns of all codes away.
 fn take_away(patterns: &mut [Option<Pattern>])
     requires { length patterns.old ≡ 94 }
-    ensures { patterns.new ≡ list_of_patterns (λ _. None) }
+    ensures { patterns.new ≡ list_of_codes (λ _. None) }
 {
     for pattern in patterns.iter_mut() {
         *pattern = None;

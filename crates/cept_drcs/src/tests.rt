@@ -20,7 +20,7 @@ const SIX_LINES: Form = Form {
 };
 
 /// The pattern of these bytes, if each of them is taken.
-fn drawn(form: Form, bytes: &[u8]) -> Option<Pattern>
+fn pattern_of_bytes(form: Form, bytes: &[u8]) -> Option<Pattern>
     requires { IsValidForm form }
 {
     let mut loader = Loader::new(form);
@@ -39,19 +39,19 @@ fn assert_words(rt: &impl Abort, pattern: Option<Pattern>, low: u64, high: u64) 
 
 #[test]
 fn a_line_of_two_bytes_is_repeated(rt: HostRuntime) {
-    let pattern = drawn(TEN_LINES, b"\x30\x7F\x7F\x29");
+    let pattern = pattern_of_bytes(TEN_LINES, b"\x30\x7F\x7F\x29");
     assert_words(&rt, pattern, 0xFFFFFFFFFFFFFFFF, 0x00FFFFFFFFFFFFFF);
 }
 
 #[test]
 fn a_half_line_is_completed_and_repeated(rt: HostRuntime) {
-    assert_words(&rt, drawn(TEN_LINES, b"\x30\x60\x21"), 0x1001, 0);
+    assert_words(&rt, pattern_of_bytes(TEN_LINES, b"\x30\x60\x21"), 0x1001, 0);
 }
 
 #[test]
 fn a_first_byte_alone_is_a_pattern(rt: HostRuntime) {
-    assert_words(&rt, drawn(TEN_LINES, b"\x30"), 0, 0);
-    assert_words(&rt, drawn(TEN_LINES, b""), 0, 0);
+    assert_words(&rt, pattern_of_bytes(TEN_LINES, b"\x30"), 0, 0);
+    assert_words(&rt, pattern_of_bytes(TEN_LINES, b""), 0, 0);
 }
 
 #[test]
@@ -60,14 +60,14 @@ fn each_plane_has_a_block(rt: HostRuntime) {
         planes: 2,
         ..SIX_LINES
     };
-    assert_words(&rt, drawn(two_planes, b"\x30\x2F\x31\x20"), 0xFFFFFFFFF, 0);
+    assert_words(&rt, pattern_of_bytes(two_planes, b"\x30\x2F\x31\x20"), 0xFFFFFFFFF, 0);
 }
 
 #[test]
 fn a_whole_block_takes_no_line_more(rt: HostRuntime) {
-    assert!(rt; drawn(SIX_LINES, b"\x30\x2F").is_some());
-    assert!(rt; drawn(SIX_LINES, b"\x30\x2F\x40").is_none());
-    assert!(rt; drawn(SIX_LINES, b"\x30\x2F\x31").is_none());
+    assert!(rt; pattern_of_bytes(SIX_LINES, b"\x30\x2F").is_some());
+    assert!(rt; pattern_of_bytes(SIX_LINES, b"\x30\x2F\x40").is_none());
+    assert!(rt; pattern_of_bytes(SIX_LINES, b"\x30\x2F\x31").is_none());
 }
 
 #[test]
@@ -105,6 +105,7 @@ fn a_code_has_the_pattern_that_was_defined_last(rt: HostRuntime) -> Result<(), F
     patterns.define(0x7E, full);
     assert!(rt; patterns.get(0x21) == Some(empty));
     assert!(rt; patterns.get(0x22).is_none());
+    assert!(rt; patterns.at(0x20).is_none() && patterns.at(0x7F).is_none());
     assert!(rt; patterns.at(0x7E).copied() == Some(full));
     patterns.clear();
     assert!(rt; patterns.get(0x21).is_none() && patterns.get(0x7E).is_none());

@@ -12,6 +12,7 @@ use Rattle.cept_editor.specs.Lines.{lines}
 use Rattle.cept_editor.specs.Meaning.{Step, line_meaning}
 use Rattle.cept_editor.specs.Script.{EditLine, Fault, edit_of, edits, edits_from, fault_from, fault_or, first_fault, numbered_line}
 use Rattle.cept_editor.specs.Script.{IsFirstFault}
+use Rattle.cept_codes.proofs.Laws.{entry_from}
 
 -- ---- the numbers of edits
 
@@ -91,13 +92,17 @@ there n s (Err reason) es less = refl
 -- a line after the first of some lines
 later_line : (s n : ℕ) (l : List ℕ) (ls : List (List ℕ)) → s < n → entry [] s (l ∷ ls) n ≡ entry [] (s + 1) ls n
 later_line s n l ls less =
-    let e : n - s ≡ n - (s + 1) + 1 = omega (arith, less) in ap (λ i. get_or (l ∷ ls) i []) e ∙ next (n - (s + 1))
+    let e : n - s ≡ n - (s + 1) + 1 = omega (arith, less) in
+    entry_from [] s (l ∷ ls) n (omega (arith, less)) ∙ ap (λ i. get_or (l ∷ ls) i []) e ∙ next (n - (s + 1))
+    ∙ sym (entry_from [] (s + 1) ls n (omega (arith, less)))
   where
     next : (i : ℕ) → get_or (l ∷ ls) (i + 1) [] ≡ get_or ls i []
     next i = rw add-one refl
 
 first_line : (s : ℕ) (l : List ℕ) (ls : List (List ℕ)) → entry [] s (l ∷ ls) s ≡ l
-first_line s l ls = let e : s - s ≡ 0 = omega arith in ap (λ i. get_or (l ∷ ls) i []) e
+first_line s l ls =
+    let e : s - s ≡ 0 = omega arith in
+    entry_from [] s (l ∷ ls) s (omega arith) ∙ ap (λ i. get_or (l ∷ ls) i []) e
 
 of_line : (s n : ℕ) (ls : List (List ℕ)) → s ≤ n → n < s + length ls
     → filter (is_of n) (edits_from s ls) ≡ edit_of n (line_meaning (entry [] s ls n))

@@ -6,7 +6,7 @@ use Rattle.std.proofs.lemmas.Bool.Decides.{nat_tests}
 use Rattle.cept_codes.specs.declared.command.Form.{Form}
 use Rattle.cept_drcs.specs.Block.{may_come}
 use Rattle.cept_drcs.specs.Cut.{is_opener, cut}
-use Rattle.cept_drcs.specs.Loading.{Loading, fresh, takes, taken, loads, room}
+use Rattle.cept_drcs.specs.Loading.{Loading, fresh, takes, loading_after, loads, room}
 use Rattle.cept_drcs.specs.Unit.{is_pattern, are_blocks}
 use Rattle.cept_drcs.proofs.Laws.{unit_loads}
 use Rattle.cept_parser.specs.declared.context.Mode.{Mode}
@@ -97,7 +97,7 @@ takes_breaks l c h =
 loads_breaks : (l : Loading) (u : List ℕ) (c : ℕ) → is_plain c ≡ false → No (loads l (u ++ c ∷ []))
 unfolding loads
 loads_breaks l [] c h = rw (takes_breaks l c h) refl
-loads_breaks l (a ∷ u) c h = both_go (takes l a) (loads_breaks (taken l a) u c h)
+loads_breaks l (a ∷ u) c h = both_go (takes l a) (loads_breaks (loading_after l a) u c h)
   where
     both_go : (b : Bool) {f : Bool} → No f → No (b && f)
     both_go true e = e

@@ -7,7 +7,7 @@ use Rattle.cept_codes.specs.Command.{IsValidForm}
 use Rattle.cept_codes.specs.declared.item.Said.{Said}
 use Rattle.cept_codes.specs.Look.{is_pattern_size}
 use Rattle.cept_drcs.specs.Cut.{cut}
-use Rattle.cept_drcs.specs.Block.{drawn}
+use Rattle.cept_drcs.specs.Block.{part_after_bytes}
 use Rattle.cept_drcs.specs.Unit.{is_pattern, last_block, pattern_grows as unit_grows}
 use Rattle.cept_drcs.proofs.Laws.{starts}
 use Rattle.cept_parser.specs.declared.context.Mode.{Mode}
@@ -29,7 +29,7 @@ some_line : (w h : ℕ) → is_pattern_size w h ≡ true → ltb 0 h ≡ true
 some_line w h s = search rules
 
 first_grows : (f : Form) → IsValidForm f → unit_grows f (0x30 ∷ []) ≡ true
-unfolding unit_grows cut last_block drawn
+unfolding unit_grows cut last_block part_after_bytes
 first_grows f v = rw (some_line f.w f.h v.size) refl
 
 -- and more bytes fit after it

@@ -11,8 +11,8 @@ use Rattle.cept_codes.specs.declared.command.Form.{Form}
 use Rattle.cept_codes.specs.declared.look.Pattern.{Pattern}
 use Rattle.cept_codes.specs.Command.{IsValidForm}
 use Rattle.cept_codes.specs.Look.{pixel, is_pattern_size, is_plane_count, IsValidPattern}
-use Rattle.cept_drcs.specs.Block.{has_pixels, six, Drawn, blank, whole, adds, may_come, draw, drawn}
-use Rattle.cept_drcs.specs.Block.{are_drawn, is_block, block_lines}
+use Rattle.cept_drcs.specs.Block.{has_pixels, six, BlockPart, blank, whole, adds, may_come, part_after_byte, part_after_bytes}
+use Rattle.cept_drcs.specs.Block.{all_may_come, is_block, block_lines}
 use Rattle.cept_drcs.specs.Cut.{Block, Cut, is_opener, plane_of, cut}
 use Rattle.cept_drcs.specs.Unit.{is_pattern, are_blocks, last_block, block_grows, pattern_grows, pattern, plane_lines}
 use Rattle.cept_drcs.proofs.Laws.{pixel_drawn, unit_valid}
@@ -29,19 +29,19 @@ half_carries t p y x = carries (half_line_byte t p y x) (half_within t p y x)
 
 -- a byte with pixels that is a line of six
 narrow_draw : (f : Form) (ls : List ℕ) (a : ℕ) → eqb f.w 6 ≡ true → has_pixels a ≡ true
-    → draw f (whole ls) a ≡ whole (ls ++ six a ∷ [])
+    → part_after_byte f (whole ls) a ≡ whole (ls ++ six a ∷ [])
 unfolding adds
 narrow_draw f ls a n h = rw (h, n) refl
 
 -- two that are a line of twelve
 wide_draw : (f : Form) (ls : List ℕ) (a b : ℕ) → eqb f.w 6 ≡ false → has_pixels a ≡ true → has_pixels b ≡ true
-    → draw f (draw f (whole ls) a) b ≡ whole (ls ++ (six a + 64 * six b) ∷ [])
+    → part_after_byte f (part_after_byte f (whole ls) a) b ≡ whole (ls ++ (six a + 64 * six b) ∷ [])
 unfolding adds
 wide_draw f ls a b n h k = rw (h, n, k, append-nil) refl
 
 -- and between them no line is added
 half_draw : (f : Form) (ls : List ℕ) (a : ℕ) → eqb f.w 6 ≡ false → has_pixels a ≡ true
-    → (draw f (whole ls) a).lines ≡ ls
+    → (part_after_byte f (whole ls) a).lines ≡ ls
 unfolding adds
 half_draw f ls a n h = rw (h, n) (append-nil ls)
 
@@ -50,8 +50,8 @@ comes n h a l p = let z : ltb 0 (h - n) ≡ true = grind (arith, nat_tests) in r
 
 -- bytes of a block are drawn, and lead from these lines to those
 record Draws (f : Form) (ls u ms : List ℕ) : Type 0 where
-  may : (v : List ℕ) → are_drawn f (whole ls) (u ++ v) ≡ are_drawn f (whole ms) v
-  lead : (v : List ℕ) → drawn f (whole ls) (u ++ v) ≡ drawn f (whole ms) v
+  may : (v : List ℕ) → all_may_come f (whole ls) (u ++ v) ≡ all_may_come f (whole ms) v
+  lead : (v : List ℕ) → part_after_bytes f (whole ls) (u ++ v) ≡ part_after_bytes f (whole ms) v
 
 one_size : (w h : ℕ) → IsTrue (is_pattern_size w h) → eqb w 12 ≡ not (eqb w 6)
 one_size w h t = grind (arith, nat_tests)
@@ -77,23 +77,23 @@ wide_number t p y n = rw n refl
 
 narrow_draws : (f : Form) (ls : List ℕ) (a : ℕ) → eqb f.w 6 ≡ true → length ls < f.h → has_pixels a ≡ true
     → Draws f ls (a ∷ []) (ls ++ six a ∷ [])
-unfolding drawn are_drawn
+unfolding part_after_bytes all_may_come
 narrow_draws f ls a n l h =
     record {
-      may = λ v. rw (comes (length ls) f.h a l h) (ap (λ (d : Drawn). are_drawn f d v) (narrow_draw f ls a n h));
-      lead = λ v. ap (λ (d : Drawn). drawn f d v) (narrow_draw f ls a n h);
+      may = λ v. rw (comes (length ls) f.h a l h) (ap (λ (d : BlockPart). all_may_come f d v) (narrow_draw f ls a n h));
+      lead = λ v. ap (λ (d : BlockPart). part_after_bytes f d v) (narrow_draw f ls a n h);
     }
 
 wide_draws : (f : Form) (ls : List ℕ) (a b : ℕ) → eqb f.w 6 ≡ false → length ls < f.h → has_pixels a ≡ true
     → has_pixels b ≡ true → Draws f ls (a ∷ b ∷ []) (ls ++ (six a + 64 * six b) ∷ [])
-unfolding drawn are_drawn
+unfolding part_after_bytes all_may_come
 wide_draws f ls a b n l h k =
-    let again : may_come (f.h - length (draw f (whole ls) a).lines) b ≡ true =
+    let again : may_come (f.h - length (part_after_byte f (whole ls) a).lines) b ≡ true =
     ap (λ (m : List ℕ). may_come (f.h - length m) b) (half_draw f ls a n h) ∙ comes (length ls) f.h b l k in
     record {
       may = λ v.
-          rw (comes (length ls) f.h a l h, again) (ap (λ (d : Drawn). are_drawn f d v) (wide_draw f ls a b n h k));
-      lead = λ v. ap (λ (d : Drawn). drawn f d v) (wide_draw f ls a b n h k);
+          rw (comes (length ls) f.h a l h, again) (ap (λ (d : BlockPart). all_may_come f d v) (wide_draw f ls a b n h k));
+      lead = λ v. ap (λ (d : BlockPart). part_after_bytes f d v) (wide_draw f ls a b n h k);
     }
 
 -- a written line is drawn as its pixels
@@ -114,8 +114,8 @@ draws_none f ls = record { may = λ v. refl; lead = λ v. refl }
 draws_joined : (f : Form) (ls ms ns u v : List ℕ) → Draws f ls u ms → Draws f ms v ns → Draws f ls (u ++ v) ns
 draws_joined f ls ms ns u v d e =
     record {
-      may = λ w. ap (are_drawn f (whole ls)) (append_assoc u v w) ∙ d.may (v ++ w) ∙ e.may w;
-      lead = λ w. ap (drawn f (whole ls)) (append_assoc u v w) ∙ d.lead (v ++ w) ∙ e.lead w;
+      may = λ w. ap (all_may_come f (whole ls)) (append_assoc u v w) ∙ d.may (v ++ w) ∙ e.may w;
+      lead = λ w. ap (part_after_bytes f (whole ls)) (append_assoc u v w) ∙ d.lead (v ++ w) ∙ e.lead w;
     }
 
 -- the bytes and the numbers of lines, n of them from line k on
@@ -146,15 +146,15 @@ block_draws : (t : Pattern) (p : ℕ) → IsTrue (is_pattern_size t.w t.h)
 block_draws t p s = lines_draw t p t.h 0 [] s refl (omega arith)
 
 block_is : (t : Pattern) (p : ℕ) → IsTrue (is_pattern_size t.w t.h) → is_block (form_of t) (block_of t p).bytes ≡ true
-unfolding are_drawn
+unfolding all_may_come
 block_is t p s =
-    ap (are_drawn (form_of t) blank) (sym (append-nil (lines_bytes t p 0 t.h))) ∙ (block_draws t p s).may []
+    ap (all_may_come (form_of t) blank) (sym (append-nil (lines_bytes t p 0 t.h))) ∙ (block_draws t p s).may []
 
 block_drawn : (t : Pattern) (p : ℕ) → IsTrue (is_pattern_size t.w t.h)
-    → drawn (form_of t) blank (block_of t p).bytes ≡ whole (line_numbers t p 0 t.h)
-unfolding drawn
+    → part_after_bytes (form_of t) blank (block_of t p).bytes ≡ whole (line_numbers t p 0 t.h)
+unfolding part_after_bytes
 block_drawn t p s =
-    ap (drawn (form_of t) blank) (sym (append-nil (lines_bytes t p 0 t.h))) ∙ (block_draws t p s).lead []
+    ap (part_after_bytes (form_of t) blank) (sym (append-nil (lines_bytes t p 0 t.h))) ∙ (block_draws t p s).lead []
 
 block_lines_are : (t : Pattern) (p : ℕ) → IsTrue (is_pattern_size t.w t.h)
     → block_lines (form_of t) (block_of t p).bytes ≡ line_numbers t p 0 t.h
@@ -295,7 +295,7 @@ written_ends t v =
     let n = t.planes - 1 in
     let last : block_grows (form_of t) (block_of t (0 + n)) ≡ false =
     no_line_left _ t.h (0 + n) t.planes
-    (ap (λ (d : Drawn). length d.lines) (block_drawn t (0 + n) v.size)
+    (ap (λ (d : BlockPart). length d.lines) (block_drawn t (0 + n) v.size)
     ∙ length-map-range_with_len (line_number t (0 + n)) 0 t.h)
     (sum_of (some_plane t.planes v.planes)) in
     rw (pattern_cut t v) (rw (first_blocks t v) (ap (block_grows (form_of t)) (last_is t n 0) ∙ last))

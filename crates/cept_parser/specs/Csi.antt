@@ -40,7 +40,7 @@ area n m f =
 abbrev pub is_area_final : ℕ → Bool
 is_area_final f = is_between 0x55 0x56 f
 
--- m f behind n 3/11, m of one digit or two
+-- m f after n 3/11, m of one digit or two
 unfoldable pub area_to : ℕ → List ℕ → Said
 area_to n (m ∷ f ∷ []) =
     if is_digit m && is_area_final f then area n (digit m) f else

@@ -101,7 +101,7 @@ impl Closed {
         self.count = 0;
     }
 
-    /// Puts an item behind the others. There is room for one more.
+    /// Puts an item after the others. There is room for one more.
     #[inline]
     pub(crate) fn push(&mut self, item: Item)
         requires { length self.old < 2 }

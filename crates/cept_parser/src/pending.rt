@@ -57,7 +57,7 @@ impl Pending {
         &self.bytes[..self.count as usize]
     }
 
-    /// Puts a byte behind the others.
+    /// Puts a byte after the others.
     #[inline]
     pub fn push(&mut self, byte: u8)
         requires { length self.old < 100 }

@@ -14,14 +14,18 @@ use Rattle.cept_codes.specs.Place.{OnScreen}
 use Rattle.cept_codes.specs.Table.{IsTable, entry, row_of, table}
 use Rattle.cept_codes.proofs.Laws.{entry-list_by_index, entry_past, length-list_by_index, row_of-list_by_index}
 use Rattle.cept_codes.proofs.Laws.{same_indexed, same_lists, table-list_by_index}
+use Rattle.cept_codes.proofs.Laws.{entry_from}
 use Rattle.cept_profile.specs.Tiling.{column_entry}
 
 -- ---- one row
 
-column_entry-at : {X : Type 0} (d : X) (row : List X) (c : ℕ) → 1 ≤ c → column_entry d row c ≡ entry d 1 row c
-column_entry-at d row c low =
+column_entry-index : {X : Type 0} (d : X) (row : List X) (c : ℕ) → 1 ≤ c → column_entry d row c ≡ get_or row (c - 1) d
+column_entry-index d row c low =
     let other : (c == 0) ≡ false = grind (arith, nat_tests) in
     cond-false (c == 0) d (get_or row (c - 1) d) other
+
+pub column_entry-at : {X : Type 0} (d : X) (row : List X) (c : ℕ) → 1 ≤ c → column_entry d row c ≡ entry d 1 row c
+column_entry-at d row c low = column_entry-index d row c low ∙ sym (entry_from d 1 row c low)
 
 pub length-row_of : {X : Type 0} (f : ℕ → X) → length (row_of f) ≡ 40
 length-row_of f = ap length (row_of-list_by_index f) ∙ length-list_by_index 1 40 f
@@ -55,8 +59,8 @@ pub column_entry-map : {X Y : Type 0} (f : X → Y) (d : X) (xs : List X) (c : �
     → column_entry (f d) (map f xs) c ≡ f (column_entry d xs c)
 column_entry-map f d xs zero = refl
 column_entry-map f d xs (suc c) =
-    column_entry-at (f d) (map f xs) (suc c) (omega arith) ∙ get_or-map f xs (suc c - 1) d
-    ∙ sym (ap f (column_entry-at d xs (suc c) (omega arith)))
+    column_entry-index (f d) (map f xs) (suc c) (omega arith) ∙ get_or-map f xs (suc c - 1) d
+    ∙ sym (ap f (column_entry-index d xs (suc c) (omega arith)))
 
 -- two rows that agree in each column are the same
 pub same_columns : {X : Type 0} (d : X) (xs ys : List X) → length xs ≡ 40 → length ys ≡ 40
@@ -107,7 +111,7 @@ pub length-row_in : {X : Type 0} (f : ℕ → X) (t : List (List X)) (r : ℕ) �
     → length (column_entry (row_of f) t r) ≡ 40
 length-row_in f t zero is high = length-row_of f
 length-row_in f t (suc r) is high =
-    ap length (column_entry-at (row_of f) t (suc r) (omega arith))
+    ap length (column_entry-index (row_of f) t (suc r) (omega arith))
     ∙ is.columns (suc r - 1) (row_of f) (omega arith)
 
 -- ---- places off the screen

@@ -12,6 +12,7 @@ mod CircleOfPlaces
 mod OneMoreCommand
 mod ControlSettings
 mod CopiesOfSigns
+mod MovesOfCommands
 mod RowsInReach
 pub mod Laws
 mod MarkedPlaces

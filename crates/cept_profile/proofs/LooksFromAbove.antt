@@ -13,7 +13,7 @@ use Rattle.cept_codes.specs.Place.{OnScreen}
 use Rattle.cept_codes.specs.Same.{same_look}
 use Rattle.cept_codes.specs.Table.{IsTable}
 use Rattle.cept_codes.proofs.Laws.{look_decides}
-use Rattle.cept_profile.specs.Look.{is_last_row, look, look_in_row, look_with_part, looks_of, own_look, own_size}
+use Rattle.cept_profile.specs.Look.{look, look_in_row, look_with_part, looks_of, own_look, own_size}
 use Rattle.cept_profile.specs.Look.{look_of_origin, part_of, parts_of}
 use Rattle.cept_profile.specs.RowsFromAbove.{covering, covering_differs, is_other_covering, look_by, look_seen}
 use Rattle.cept_profile.specs.RowsFromAbove.{looks_in}
@@ -28,27 +28,28 @@ use Rattle.cept_profile.proofs.LookByNeighbours.{look_by-above, look_by-itself, 
 use Rattle.cept_profile.proofs.LooksOfOrigins.{look_seen-by, look_seen-on, looks_in-by, looks_through}
 use Rattle.cept_profile.proofs.LooksOfOrigins.{row_from_above-alike, single_covers_nothing, single_shows_itself}
 use Rattle.cept_profile.proofs.TiledTables.{IsTiled-only, IsTiled-tiled_table, OnScreen-origin}
+use Rattle.cept_profile.specs.Edges.{edges_of_core, is_last}
 
 -- ---- a core's looks are those through the origins of its parts
 
-pub tiled_parts : (k : Core) → IsTiled (own_size k) (is_last_row k.rows) (parts_of k)
-tiled_parts k = IsTiled-tiled_table (own_size k) (is_last_row k.rows)
+pub tiled_parts : (k : Core) → IsTiled (own_size k) (is_last (edges_of_core k)) (parts_of k)
+tiled_parts k = IsTiled-tiled_table (own_size k) (is_last (edges_of_core k))
 
 -- no other parts are tiled by the sizes of a core
-pub tiled_parts-only : (k : Core) (t : List (List Part)) → IsTiled (own_size k) (is_last_row k.rows) t → t ≡ parts_of k
-tiled_parts-only k t is = IsTiled-only (own_size k) (is_last_row k.rows) t is
+pub tiled_parts-only : (k : Core) (t : List (List Part)) → IsTiled (own_size k) (is_last (edges_of_core k)) t → t ≡ parts_of k
+tiled_parts-only k t is = IsTiled-only (own_size k) (is_last (edges_of_core k)) t is
 
 -- so a look is told by any parts that are tiled so, and each origin is on the screen
-pub look-by_origin : (k : Core) (t : List (List Part)) (r c : ℕ) → IsTiled (own_size k) (is_last_row k.rows) t
+pub look-by_origin : (k : Core) (t : List (List Part)) (r c : ℕ) → IsTiled (own_size k) (is_last (edges_of_core k)) t
     → look k r c ≡ look_of_origin (own_look k) r c (part_at t r c)
 unfolding look
 look-by_origin k t r c is =
     ap (λ (parts : List (List Part)). look_of_origin (own_look k) r c (part_at parts r c))
     (sym (tiled_parts-only k t is))
 
-pub origin-on_screen : (k : Core) (t : List (List Part)) (r c : ℕ) → IsTiled (own_size k) (is_last_row k.rows) t
+pub origin-on_screen : (k : Core) (t : List (List Part)) (r c : ℕ) → IsTiled (own_size k) (is_last (edges_of_core k)) t
     → OnScreen r c → OnScreen (r - (part_at t r c).dy) (c - (part_at t r c).dx)
-origin-on_screen k t r c is on = OnScreen-origin (own_size k) (is_last_row k.rows) t r c is on
+origin-on_screen k t r c is on = OnScreen-origin (own_size k) (is_last (edges_of_core k)) t r c is on
 
 looks-through : (k : Core) → looks_of k ≡ looks_through (own_look k) (parts_of k)
 unfolding look
@@ -61,9 +62,9 @@ look-seen k r c on = look_seen-on (own_look k) (parts_of k) r c on
 
 pub looks_in-from_above : (k : Core) (r : ℕ) → 1 ≤ r → r ≤ 24
     → looks_in (looks_of k) r
-    ≡ row_from_above (looks_in (looks_of k) (r - 1)) (own_look k r) (own_size k r) (is_last_row k.rows r)
+    ≡ row_from_above (looks_in (looks_of k) (r - 1)) (own_look k r) (own_size k r) (is_last (edges_of_core k) r)
 looks_in-from_above k r low high =
-    subst (λ g. looks_in g r ≡ row_from_above (looks_in g (r - 1)) (own_look k r) (own_size k r) (is_last_row k.rows r))
+    subst (λ g. looks_in g r ≡ row_from_above (looks_in g (r - 1)) (own_look k r) (own_size k r) (is_last (edges_of_core k) r))
     (sym (looks-through k)) (looks_in-by (tiled_parts k) (own_look k) r low high)
 
 -- the look of a place by the looks seen around it
@@ -71,7 +72,7 @@ look-by : (k : Core) (r c : ℕ) → OnScreen r c
     → look k r c
     ≡ look_by (look_seen (looks_of k) (r - 1) c) (look_seen (looks_of k) (r - 1) (c - 1))
     (look_seen (looks_of k) (r - 1) (c + 1)) (look_seen (looks_of k) r (c - 1)) (own_look k r c) (own_size k r c)
-    (is_last_row k.rows r) c
+    (is_last (edges_of_core k) r) c
 unfolding look
 look-by k r c on =
     sym (look-seen k r c on) ∙ look_seen-by (tiled_parts k) (own_look k) r c on
@@ -84,7 +85,7 @@ look-above k r c on covered =
     look-by k r c on
     ∙ look_by-above (look_seen (looks_of k) (r - 1) c) (look_seen (looks_of k) (r - 1) (c - 1))
     (look_seen (looks_of k) (r - 1) (c + 1)) (look_seen (looks_of k) r (c - 1)) (own_look k r c) (own_size k r c)
-    (is_last_row k.rows r) c covered
+    (is_last (edges_of_core k) r) c covered
 
 pub look-left : (k : Core) (r c : ℕ) → OnScreen r c
     → IsFalse (covers_below (part_of (look_seen (looks_of k) (r - 1) c)))
@@ -97,7 +98,7 @@ look-left k r c on free covered =
     look-by k r c on
     ∙ look_by-left (look_seen (looks_of k) (r - 1) c) (look_seen (looks_of k) (r - 1) (c - 1))
     (look_seen (looks_of k) (r - 1) (c + 1)) (look_seen (looks_of k) r (c - 1)) (own_look k r c) (own_size k r c)
-    (is_last_row k.rows r) c free covered
+    (is_last (edges_of_core k) r) c free covered
 
 pub part_of-look : (k : Core) (r c : ℕ) → part_of (look k r c) ≡ part_at (parts_of k) r c
 unfolding look
@@ -111,7 +112,7 @@ pub look-itself : (k : Core) (r c : ℕ) → OnScreen r c
 look-itself k r c on free whole =
     look_by-itself (look_seen (looks_of k) (r - 1) c) (look_seen (looks_of k) (r - 1) (c - 1))
     (look_seen (looks_of k) (r - 1) (c + 1)) (look_seen (looks_of k) r (c - 1)) (own_look k r c) (look k r c)
-    (part_at (parts_of k) r c) (own_size k r c) (is_last_row k.rows r) c (look-by k r c on) (part_of-look k r c) free
+    (part_at (parts_of k) r c) (own_size k r c) (is_last (edges_of_core k) r) c (look-by k r c on) (part_of-look k r c) free
     whole
 
 -- a row keeps its looks under what covers it
@@ -125,11 +126,11 @@ pub looks_in-same : (k m : Core) (r q : ℕ) → 1 ≤ r → r ≤ 24 → 1 ≤ 
     → map covering (looks_in (looks_of k) (r - 1)) ≡ map covering (looks_in (looks_of m) (q - 1))
     → ((c : ℕ) → 1 ≤ c → c ≤ 40 → own_look k r c ≡ own_look m q c)
     → ((c : ℕ) → 1 ≤ c → c ≤ 40 → own_size k r c ≡ own_size m q c)
-    → is_last_row k.rows r ≡ is_last_row m.rows q → looks_in (looks_of k) r ≡ looks_in (looks_of m) q
+    → is_last (edges_of_core k) r ≡ is_last (edges_of_core m) q → looks_in (looks_of k) r ≡ looks_in (looks_of m) q
 looks_in-same k m r q low high low_next high_next covers here sizes last =
     looks_in-from_above k r low high
     ∙ row_from_above-same (looks_in (looks_of k) (r - 1)) (looks_in (looks_of m) (q - 1)) (own_look k r)
-    (own_look m q) (own_size k r) (own_size m q) (is_last_row k.rows r) covers here sizes
+    (own_look m q) (own_size k r) (own_size m q) (is_last (edges_of_core k) r) covers here sizes
     ∙ ap (λ (b : Bool). row_from_above (looks_in (looks_of m) (q - 1)) (own_look m q) (own_size m q) b) last
     ∙ sym (looks_in-from_above m q low_next high_next)
 

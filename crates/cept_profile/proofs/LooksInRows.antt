@@ -18,6 +18,7 @@ use Rattle.cept_profile.specs.Serial.{own_attributes_of, serial_attributes, size
 use Rattle.cept_profile.specs.State.{Core}
 use Rattle.cept_profile.proofs.MarkersInForce.{IsGreatest, column_in_force-greatest, held_sign-alike}
 use Rattle.cept_profile.proofs.MarkersInForce.{serial_attributes-alike, serial_attributes-unmarked}
+use Rattle.cept_profile.specs.Edges.{edges_of_core}
 
 -- rows that agree up to a column have the same look there
 pub look_in_row-alike : (defined : Definitions) (f g : ℕ → What) (pen screen : Pen) (c : ℕ) → 1 ≤ c
@@ -126,7 +127,7 @@ size_in_row-single row pen screen c low plain in_row on_screen =
 
 -- ---- cores
 
--- of a core the page and the number of its rows are seen
-pub looks_of-alike : (k m : Core) → k.page ≡ m.page → k.rows ≡ m.rows → looks_of k ≡ looks_of m
+-- of a core the page and its edges are seen
+pub looks_of-alike : (k m : Core) → k.page ≡ m.page → edges_of_core k ≡ edges_of_core m → looks_of k ≡ looks_of m
 unfolding look
-looks_of-alike k m page rows = λ i. looks_of (record k { page = page i; rows = rows i })
+looks_of-alike k m page edges = λ i. looks_of (record k { page = page i; rows = (edges i).rows })

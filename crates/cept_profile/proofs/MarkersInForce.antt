@@ -1,7 +1,8 @@
 -- Laws of serial attributes.
 use Rattle.std.proofs.Common.{◌≡◌, ℕ, ◌≤◌, ◌<◌, zero, suc, Bool, true, false, ◌&&◌, Option, Some, None, MatchOption}
-use Rattle.std.proofs.Common.{IfSome, sym, ◌∙◌, ap, subst, inl, inr, arith}
-use Rattle.std.proofs.lemmas.Bool.{cases_eq, cond_both}
+use Rattle.std.proofs.Common.{IfSome, eqb, ltb, refl, sym, ◌∙◌, ap, subst, inl, inr, arith}
+use Rattle.std.proofs.lemmas.Bool.{cases_eq, cases_lt, cond_both}
+use Rattle.std.proofs.lemmas.Bool.Decides.{nat_tests}
 use Rattle.cept_profile.specs.Serial.{Class}
 use Rattle.cept_codes.specs.declared.attribute.Full.{Full}
 use Rattle.cept_codes.specs.declared.attribute.Pen.{Pen}
@@ -14,10 +15,10 @@ use Rattle.cept_codes.specs.Attribute.{IsValidFull, IsValidPen, IsEntry, unset_p
 use Rattle.cept_codes.specs.Cell.{IsValidMarker, IsValidWhat}
 use Rattle.cept_codes.specs.Glyph.{IsValidGlyph}
 use Rattle.cept_profile.specs.Attributes.{cascade, first_value}
-use Rattle.cept_profile.specs.Serial.{acts, acts_there, held_sign, column_in_force, is_marker, is_mosaic, mosaic_of}
+use Rattle.cept_profile.specs.Serial.{acts, acts_there, held_sign, column_in_force, is_marker, is_of, is_mosaic, mosaic_of}
 use Rattle.cept_profile.specs.Serial.{nearest_column, serial_attributes}
-use Rattle.cept_profile.specs.Carry.{Carry, carry_after, carry, held_sign_in, carry_in, kept_sign_after, full_after}
-use Rattle.cept_profile.proofs.OneMoreCell.{carry-start, carry-suc, serial_attributes-suc, held_sign-suc, unmarked}
+use Rattle.cept_profile.specs.Influence.{Influence, influence_after, influence, held_sign_in, influence_in, kept_sign_after, full_after}
+use Rattle.cept_profile.proofs.OneMoreCell.{influence-start, influence-suc, serial_attributes-suc, held_sign-suc, unmarked}
 use Rattle.cept_profile.proofs.OneMoreCell.{in_plain}
 
 -- ---- the greatest column
@@ -49,16 +50,46 @@ pub column_in_force-greatest : (row : ℕ → What) (class : Class) (c : ℕ)
 unfolding column_in_force
 column_in_force-greatest row class c = nearest_column-greatest (acts row class c) c
 
+and-false : (b : Bool) → (b && false) ≡ false
+and-false true = refl
+and-false false = refl
+
+-- to the right of a column no marker acts at it
+none_beyond : (row : ℕ → What) (class : Class) (c d : ℕ) → c < d → acts row class c d ≡ false
+none_beyond row class c d past =
+    let right : ltb d c ≡ false = grind (arith, nat_tests) in
+    let other : eqb d c ≡ false = grind (arith, nat_tests) in
+    rw (right, other) (and-false (is_of class (row d)))
+
+none_anywhere : (row : ℕ → What) (class : Class) (c d : ℕ) → (d ≤ c → acts row class c d ≡ false)
+    → acts row class c d ≡ false
+none_anywhere row class c d within =
+    elim (cases_lt c d) [ inl past ↦ none_beyond row class c d past | inr up_to ↦ within (omega arith) ]
+
+-- the column found is the greatest of all
+greatest_of_all : (row : ℕ → What) (class : Class) (c : ℕ) (found : Option ℕ) → IsGreatest (acts row class c) c found
+    → MatchOption found ((d : ℕ) → 1 ≤ d → acts row class c d ≡ false)
+    (λ d. (1 ≤ d) × (d ≤ c) × (acts row class c d ≡ true) × ((e : ℕ) → d < e → acts row class c e ≡ false))
+greatest_of_all row class c None none = λ d low. none_anywhere row class c d (none d low)
+greatest_of_all row class c (Some d) is =
+    (is.0, is.1, is.2, λ e past. none_anywhere row class c e (is.3 e past))
+
+pub marker_in_force : (row : ℕ → What) (class : Class) (c : ℕ)
+    → MatchOption (column_in_force row class c) ((d : ℕ) → 1 ≤ d → acts row class c d ≡ false)
+    (λ d. (1 ≤ d) × (d ≤ c) × (acts row class c d ≡ true) × ((e : ℕ) → d < e → acts row class c e ≡ false))
+marker_in_force row class c =
+    greatest_of_all row class c (column_in_force row class c) (column_in_force-greatest row class c)
+
 -- ---- cells to the right
 
-carry-alike : (f g : ℕ → What) (pen screen : Pen) (c : ℕ) → ((d : ℕ) → 1 ≤ d → d ≤ c → f d ≡ g d)
-    → carry f pen screen c ≡ carry g pen screen c
-carry-alike f g pen screen zero same = sym (carry-start f pen screen) ∙ carry-start g pen screen
-carry-alike f g pen screen (suc c) same =
-    carry-suc f pen screen c
-    ∙ ap (λ w. carry_after w (carry f pen screen c)) (same (suc c) (omega arith) (omega arith))
-    ∙ ap (λ s. carry_after (g (suc c)) s) (carry-alike f g pen screen c (λ d low high. same d low (omega arith)))
-    ∙ sym (carry-suc g pen screen c)
+influence-alike : (f g : ℕ → What) (pen screen : Pen) (c : ℕ) → ((d : ℕ) → 1 ≤ d → d ≤ c → f d ≡ g d)
+    → influence f pen screen c ≡ influence g pen screen c
+influence-alike f g pen screen zero same = sym (influence-start f pen screen) ∙ influence-start g pen screen
+influence-alike f g pen screen (suc c) same =
+    influence-suc f pen screen c
+    ∙ ap (λ w. influence_after w (influence f pen screen c)) (same (suc c) (omega arith) (omega arith))
+    ∙ ap (λ s. influence_after (g (suc c)) s) (influence-alike f g pen screen c (λ d low high. same d low (omega arith)))
+    ∙ sym (influence-suc g pen screen c)
 
 pub serial_attributes-alike : (f g : ℕ → What) (pen screen : Pen) (c : ℕ) → 1 ≤ c
     → ((d : ℕ) → 1 ≤ d → d ≤ c → f d ≡ g d)
@@ -66,8 +97,8 @@ pub serial_attributes-alike : (f g : ℕ → What) (pen screen : Pen) (c : ℕ) 
 serial_attributes-alike f g pen screen zero low same = absurd (omega arith)
 serial_attributes-alike f g pen screen (suc c) low same =
     serial_attributes-suc f pen screen c
-    ∙ ap (λ w. (carry_in w (carry f pen screen c)).full) (same (suc c) (omega arith) (omega arith))
-    ∙ ap (λ s. (carry_in (g (suc c)) s).full) (carry-alike f g pen screen c (λ d low high. same d low (omega arith)))
+    ∙ ap (λ w. (influence_in w (influence f pen screen c)).full) (same (suc c) (omega arith) (omega arith))
+    ∙ ap (λ s. (influence_in (g (suc c)) s).full) (influence-alike f g pen screen c (λ d low high. same d low (omega arith)))
     ∙ sym (serial_attributes-suc g pen screen c)
 
 pub held_sign-alike : (f g : ℕ → What) (c : ℕ) → 1 ≤ c → ((d : ℕ) → 1 ≤ d → d ≤ c → f d ≡ g d)
@@ -75,9 +106,9 @@ pub held_sign-alike : (f g : ℕ → What) (c : ℕ) → 1 ≤ c → ((d : ℕ) 
 held_sign-alike f g zero low same = absurd (omega arith)
 held_sign-alike f g (suc c) low same =
     held_sign-suc f unset_pen unset_pen c
-    ∙ ap (λ w. held_sign_in w (carry f unset_pen unset_pen c)) (same (suc c) (omega arith) (omega arith))
+    ∙ ap (λ w. held_sign_in w (influence f unset_pen unset_pen c)) (same (suc c) (omega arith) (omega arith))
     ∙ ap (λ s. held_sign_in (g (suc c)) s)
-    (carry-alike f g unset_pen unset_pen c (λ d low high. same d low (omega arith)))
+    (influence-alike f g unset_pen unset_pen c (λ d low high. same d low (omega arith)))
     ∙ sym (held_sign-suc g unset_pen unset_pen c)
 
 -- ---- rows without markers
@@ -88,12 +119,12 @@ pub serial_attributes-unmarked : (row : ℕ → What) (pen screen : Pen) (c : �
 serial_attributes-unmarked row pen screen zero low plain = absurd (omega arith)
 serial_attributes-unmarked row pen screen (suc c) low plain =
     serial_attributes-suc row pen screen c
-    ∙ in_plain (row (suc c)) (carry row pen screen c) (plain (suc c) low (omega arith))
+    ∙ in_plain (row (suc c)) (influence row pen screen c) (plain (suc c) low (omega arith))
     ∙ unmarked row pen screen c (λ d from to. plain d from (omega arith))
 
 -- ---- validity
 
-record IsValidCarried (s : Carry) : Type 0 where
+record IsValidCarried (s : Influence) : Type 0 where
   pub full : IsValidFull s.full
   pub kept_sign : IfSome s.kept_sign IsValidGlyph
 
@@ -120,19 +151,19 @@ kept_sign_after-valid : (m : Marker) (g : Option Glyph) → IfSome g IsValidGlyp
 kept_sign_after-valid (markers.Size s) g v = tt
 kept_sign_after-valid m g v = v
 
-carry_after-valid : (w : What) (s : Carry) → IsValidWhat w → IsValidCarried s → IsValidCarried (carry_after w s)
-carry_after-valid (whats.Marker m) s v h =
+influence_after-valid : (w : What) (s : Influence) → IsValidWhat w → IsValidCarried s → IsValidCarried (influence_after w s)
+influence_after-valid (whats.Marker m) s v h =
     record { full = full_after-valid m s.full v h.full; kept_sign = kept_sign_after-valid m s.kept_sign h.kept_sign }
-carry_after-valid w s v h = record {
+influence_after-valid w s v h = record {
   full = record { fore = h.full.fore; back = h.full.back };
   kept_sign =
       mosaic_of-valid w v;
 }
 
-carry-valid : (row : ℕ → What) (pen screen : Pen) (c : ℕ) → IsValidPen pen → IsValidPen screen
-    → ((d : ℕ) → 1 ≤ d → d ≤ c → IsValidWhat (row d)) → IsValidCarried (carry row pen screen c)
-carry-valid row pen screen zero p s v =
-    subst IsValidCarried (carry-start row pen screen)
+influence-valid : (row : ℕ → What) (pen screen : Pen) (c : ℕ) → IsValidPen pen → IsValidPen screen
+    → ((d : ℕ) → 1 ≤ d → d ≤ c → IsValidWhat (row d)) → IsValidCarried (influence row pen screen c)
+influence-valid row pen screen zero p s v =
+    subst IsValidCarried (influence-start row pen screen)
     (record {
       full = record {
         fore = first_value-entry pen.fore screen.fore 7 p.fore s.fore (omega arith);
@@ -140,22 +171,22 @@ carry-valid row pen screen zero p s v =
       };
       kept_sign = tt;
     })
-carry-valid row pen screen (suc c) p s v =
-    subst IsValidCarried (sym (carry-suc row pen screen c))
-    (carry_after-valid (row (suc c)) (carry row pen screen c) (v (suc c) (omega arith) (omega arith))
-    (carry-valid row pen screen c p s (λ d low high. v d low (omega arith))))
+influence-valid row pen screen (suc c) p s v =
+    subst IsValidCarried (sym (influence-suc row pen screen c))
+    (influence_after-valid (row (suc c)) (influence row pen screen c) (v (suc c) (omega arith) (omega arith))
+    (influence-valid row pen screen c p s (λ d low high. v d low (omega arith))))
 
-carry_in-valid : (w : What) (s : Carry) → IsValidWhat w → IsValidCarried s → IsValidCarried (carry_in w s)
-carry_in-valid w s v h =
-    cond_both (acts_there w) (carry_after w s) s IsValidCarried (λ e. carry_after-valid w s v h) (λ e. h)
+influence_in-valid : (w : What) (s : Influence) → IsValidWhat w → IsValidCarried s → IsValidCarried (influence_in w s)
+influence_in-valid w s v h =
+    cond_both (acts_there w) (influence_after w s) s IsValidCarried (λ e. influence_after-valid w s v h) (λ e. h)
 
 pub serial_attributes-valid : (row : ℕ → What) (pen screen : Pen) (c : ℕ) → 1 ≤ c → IsValidPen pen → IsValidPen screen
     → ((d : ℕ) → 1 ≤ d → d ≤ c → IsValidWhat (row d)) → IsValidFull (serial_attributes row pen screen c)
 serial_attributes-valid row pen screen zero low p s v = absurd (omega arith)
 serial_attributes-valid row pen screen (suc c) low p s v =
     subst IsValidFull (sym (serial_attributes-suc row pen screen c))
-    (carry_in-valid (row (suc c)) (carry row pen screen c) (v (suc c) low (omega arith))
-    (carry-valid row pen screen c p s (λ d from to. v d from (omega arith)))).full
+    (influence_in-valid (row (suc c)) (influence row pen screen c) (v (suc c) low (omega arith))
+    (influence-valid row pen screen c p s (λ d from to. v d from (omega arith)))).full
 
 unset_pen-valid : IsValidPen unset_pen
 unset_pen-valid = record { fore = tt; back = tt }
@@ -165,9 +196,9 @@ pub held_sign-valid : (row : ℕ → What) (c : ℕ) → 1 ≤ c → ((d : ℕ) 
 held_sign-valid row zero low v = absurd (omega arith)
 held_sign-valid row (suc c) low v =
     subst (λ g. IfSome g IsValidGlyph) (sym (held_sign-suc row unset_pen unset_pen c))
-    (cond_both (is_marker (row (suc c)) && (carry_in (row (suc c)) (carry row unset_pen unset_pen c)).hold)
-    (carry_after (row (suc c)) (carry row unset_pen unset_pen c)).kept_sign None (λ g. IfSome g IsValidGlyph)
-    (λ e. (carry_after-valid (row (suc c)) (carry row unset_pen unset_pen c) (v (suc c) low (omega arith))
-    (carry-valid row unset_pen unset_pen c unset_pen-valid unset_pen-valid
+    (cond_both (is_marker (row (suc c)) && (influence_in (row (suc c)) (influence row unset_pen unset_pen c)).hold)
+    (influence_after (row (suc c)) (influence row unset_pen unset_pen c)).kept_sign None (λ g. IfSome g IsValidGlyph)
+    (λ e. (influence_after-valid (row (suc c)) (influence row unset_pen unset_pen c) (v (suc c) low (omega arith))
+    (influence-valid row unset_pen unset_pen c unset_pen-valid unset_pen-valid
     (λ d from to. v d from (omega arith)))).kept_sign)
     (λ e. tt))

@@ -1,7 +1,8 @@
--- One more cell by looking back: what is carried after it follows from what is carried to it.
-use Rattle.std.proofs.Common.{◌≡◌, ℕ, ◌≤◌, ◌<◌, zero, suc, Bool, true, false, not, ◌&&◌, ◌||◌}
+-- One more cell by looking back: what counts after it follows from what counts before it.
+use Rattle.std.proofs.Common.{◌≡◌, ◌==◌, eqb, ℕ, ◌≤◌, ◌<◌, zero, suc, Bool, true, false, not, ◌&&◌, ◌||◌}
 use Rattle.std.proofs.Common.{cond, nat_lt, Option, Some, None, refl, sym, ◌∙◌, ap, arith}
 use Rattle.std.proofs.lemmas.Bool.{lt-ltb, le-ltb, cond_both}
+use Rattle.std.proofs.lemmas.Bool.Decides.{nat_tests}
 use Rattle.cept_profile.specs.Serial.{Class, Fore, Back, Hold, Flashing, Concealing, Lining, Boxing, Sizing}
 use Rattle.cept_codes.specs.declared.attribute.Flash.TheVariants as flashes
 use Rattle.cept_codes.specs.declared.attribute.Pen.{Pen}
@@ -14,8 +15,8 @@ use Rattle.cept_profile.specs.Attributes.{cascade, first_value}
 use Rattle.cept_profile.specs.Serial.{is_of, is_marker, acts_there, nearest_column, column_in_force, fore_at}
 use Rattle.cept_profile.specs.Serial.{pen_of, value_found, serial_attributes, is_holding, kept_sign, held_sign}
 use Rattle.cept_profile.specs.Serial.{lies_after, mosaic_of, fore_said}
-use Rattle.cept_profile.specs.Carry.{Carry, nearest_marker, carry, carry_after}
-use Rattle.cept_profile.specs.Carry.{carry_in, held_sign_in}
+use Rattle.cept_profile.specs.Influence.{Influence, nearest_marker, influence, influence_after}
+use Rattle.cept_profile.specs.Influence.{influence_in, held_sign_in}
 
 -- ---- the nearest column
 
@@ -36,10 +37,11 @@ column_in_force-suc : (row : ℕ → What) (class : Class) (c : ℕ)
     && acts_there (row (suc c))) (Some (suc c)) (nearest_marker row c class)
 unfolding column_in_force
 column_in_force-suc row class c =
-    rw (le-ltb (suc c) (suc c) (omega arith))
+    let here : eqb (suc c) (suc c) ≡ true = grind (arith, nat_tests) in
+    rw (le-ltb (suc c) (suc c) (omega arith), here)
     (ap (λ o. cond (is_of class (row (suc c)) && acts_there (row (suc c))) (Some (suc c)) o)
     (nearest_column-alike
-    (λ d. is_of class (row d) && (nat_lt d (suc c) || acts_there (row d)))
+    (λ d. is_of class (row d) && (nat_lt d (suc c) || (d == suc c && acts_there (row d))))
     (λ d. is_of class (row d))
     c
     (λ d h. let below : d < suc c = omega arith in rw (lt-ltb d (suc c) below) (and-true (is_of class (row d))))))
@@ -60,13 +62,13 @@ fore_here row pen screen c w e = rw e refl
 
 -- no foreground acts from its own cell
 fore_at-suc : (row : ℕ → What) (pen screen : Pen) (c : ℕ)
-    → fore_at row pen screen (suc c) ≡ (carry row pen screen c).full.fore
-unfolding carry
+    → fore_at row pen screen (suc c) ≡ (influence row pen screen c).full.fore
+unfolding influence
 fore_at-suc row pen screen c = rw (column_in_force-suc row Fore c) (fore_here row pen screen c (row (suc c)) refl)
 
 full_by : (row : ℕ → What) (pen screen : Pen) (c : ℕ) (w : What) → row (suc c) ≡ w
-    → (carry row pen screen (suc c)).full ≡ (carry_after w (carry row pen screen c)).full
-unfolding carry
+    → (influence row pen screen (suc c)).full ≡ (influence_after w (influence row pen screen c)).full
+unfolding influence
 full_by row pen screen c (whats.Marker (markers.Alpha x)) e = simp e
 full_by row pen screen c (whats.Marker (markers.Mosaic x)) e = simp e
 full_by row pen screen c (whats.Marker markers.BlackBack) e = simp e
@@ -82,8 +84,8 @@ full_by row pen screen c w e = simp e
 -- where the marker counts, the columns found are those passed
 serial_by : (row : ℕ → What) (pen screen : Pen) (c : ℕ) (w : What) → row (suc c) ≡ w
     → cascade (pen_of row (fore_at row pen screen) (found row (acts_there w) c)) pen screen
-    ≡ (cond (acts_there w) (carry row pen screen (suc c)) (carry row pen screen c)).full
-unfolding carry
+    ≡ (cond (acts_there w) (influence row pen screen (suc c)) (influence row pen screen c)).full
+unfolding influence
 serial_by row pen screen c (whats.Marker (markers.Flash flashes.Steady)) e = simp e
 serial_by row pen screen c (whats.Marker (markers.Size sizes.Normal)) e = simp e
 serial_by row pen screen c (whats.Marker (markers.Conceal true)) e = simp e
@@ -96,16 +98,16 @@ serial_by row pen screen c w e = simp e
 -- ---- hold
 
 hold_by : (row : ℕ → What) (pen screen : Pen) (c : ℕ) (w : What) → row (suc c) ≡ w
-    → (carry row pen screen (suc c)).hold ≡ (carry_after w (carry row pen screen c)).hold
-unfolding carry
+    → (influence row pen screen (suc c)).hold ≡ (influence_after w (influence row pen screen c)).hold
+unfolding influence
 hold_by row pen screen c (whats.Marker markers.Hold) e = simp e
 hold_by row pen screen c (whats.Marker markers.Release) e = simp e
 hold_by row pen screen c (whats.Marker m) e = simp e
 hold_by row pen screen c w e = simp e
 
 holding_by : (row : ℕ → What) (pen screen : Pen) (c : ℕ) (w : What) → row (suc c) ≡ w
-    → is_holding row (suc c) ≡ (carry_in w (carry row pen screen c)).hold
-unfolding is_holding carry
+    → is_holding row (suc c) ≡ (influence_in w (influence row pen screen c)).hold
+unfolding is_holding influence
 holding_by row pen screen c (whats.Marker (markers.Flash flashes.Steady)) e =
     rw (column_in_force-suc row Hold c) (simp e)
 holding_by row pen screen c (whats.Marker (markers.Size sizes.Normal)) e = rw (column_in_force-suc row Hold c) (simp e)
@@ -132,8 +134,8 @@ nothing_said p says (suc c) h =
     (λ e. h (suc c) (omega arith))
     (λ e. nothing_said p says c (λ d below. h d (omega arith)))
 
-kept_by : (row : ℕ → What) (c : ℕ) (w : What) (s : Carry) → row (suc c) ≡ w → s.kept_sign ≡ kept_sign row c
-    → kept_sign row (suc c) ≡ (carry_after w s).kept_sign
+kept_by : (row : ℕ → What) (c : ℕ) (w : What) (s : Influence) → row (suc c) ≡ w → s.kept_sign ≡ kept_sign row c
+    → kept_sign row (suc c) ≡ (influence_after w s).kept_sign
 unfolding kept_sign
 kept_by row c (whats.Marker (markers.Size x)) s e k =
     simp e (nothing_said (λ d. not (is_marker (row d))) (λ d. cond (nat_lt d (suc c)) None (mosaic_of (row d))) c
@@ -142,25 +144,25 @@ kept_by row c (whats.Marker m) s e k = rw k (simp e)
 kept_by row c w s e k = simp e (rw (nothing_past (λ d. is_of Sizing (row d)) c (suc c) (omega arith)) refl)
 
 kept_sign-suc : (row : ℕ → What) (pen screen : Pen) (c : ℕ)
-    → (carry row pen screen (suc c)).kept_sign ≡ (carry_after (row (suc c)) (carry row pen screen c)).kept_sign
-unfolding carry
-kept_sign-suc row pen screen c = kept_by row c (row (suc c)) (carry row pen screen c) refl refl
+    → (influence row pen screen (suc c)).kept_sign ≡ (influence_after (row (suc c)) (influence row pen screen c)).kept_sign
+unfolding influence
+kept_sign-suc row pen screen c = kept_by row c (row (suc c)) (influence row pen screen c) refl refl
 
 -- ---- one more cell
 
-same_parts : (a b : Carry) → a.full ≡ b.full → a.hold ≡ b.hold → a.kept_sign ≡ b.kept_sign → a ≡ b
+same_parts : (a b : Influence) → a.full ≡ b.full → a.hold ≡ b.hold → a.kept_sign ≡ b.kept_sign → a ≡ b
 same_parts a b f h k = λ i. record { full = f i; hold = h i; kept_sign = k i }
 
-pub carry-suc : (row : ℕ → What) (pen screen : Pen) (c : ℕ)
-    → carry row pen screen (suc c) ≡ carry_after (row (suc c)) (carry row pen screen c)
-carry-suc row pen screen c =
+pub influence-suc : (row : ℕ → What) (pen screen : Pen) (c : ℕ)
+    → influence row pen screen (suc c) ≡ influence_after (row (suc c)) (influence row pen screen c)
+influence-suc row pen screen c =
     same_parts _ _
     (full_by row pen screen c (row (suc c)) refl)
     (hold_by row pen screen c (row (suc c)) refl)
     (kept_sign-suc row pen screen c)
 
 pub serial_attributes-suc : (row : ℕ → What) (pen screen : Pen) (c : ℕ)
-    → serial_attributes row pen screen (suc c) ≡ (carry_in (row (suc c)) (carry row pen screen c)).full
+    → serial_attributes row pen screen (suc c) ≡ (influence_in (row (suc c)) (influence row pen screen c)).full
 unfolding serial_attributes
 serial_attributes-suc row pen screen c =
     rw (
@@ -172,37 +174,37 @@ serial_attributes-suc row pen screen c =
       column_in_force-suc row Boxing c,
       column_in_force-suc row Sizing c,
     )
-    (rw (← carry-suc row pen screen c) (serial_by row pen screen c (row (suc c)) refl))
+    (rw (← influence-suc row pen screen c) (serial_by row pen screen c (row (suc c)) refl))
 
-kept_there : (row : ℕ → What) (pen screen : Pen) (c : ℕ) → kept_sign row c ≡ (carry row pen screen c).kept_sign
-unfolding carry
+kept_there : (row : ℕ → What) (pen screen : Pen) (c : ℕ) → kept_sign row c ≡ (influence row pen screen c).kept_sign
+unfolding influence
 kept_there row pen screen c = refl
 
 pub held_sign-suc : (row : ℕ → What) (pen screen : Pen) (c : ℕ)
-    → held_sign row (suc c) ≡ held_sign_in (row (suc c)) (carry row pen screen c)
+    → held_sign row (suc c) ≡ held_sign_in (row (suc c)) (influence row pen screen c)
 held_sign-suc row pen screen c =
-    rw (holding_by row pen screen c (row (suc c)) refl, ← carry-suc row pen screen c)
+    rw (holding_by row pen screen c (row (suc c)) refl, ← influence-suc row pen screen c)
     (rw (← kept_there row pen screen (suc c)) refl)
 
 -- ---- rows without markers
 
-pub carry-start : (row : ℕ → What) (pen screen : Pen)
-    → record { full = cascade unset_pen pen screen; hold = false; kept_sign = None } ≡ carry row pen screen 0
-unfolding carry kept_sign
-carry-start row pen screen = refl
+pub influence-start : (row : ℕ → What) (pen screen : Pen)
+    → record { full = cascade unset_pen pen screen; hold = false; kept_sign = None } ≡ influence row pen screen 0
+unfolding influence kept_sign
+influence-start row pen screen = refl
 
-plain_after : (w : What) (s : Carry) → is_marker w ≡ false → (carry_after w s).full ≡ s.full
+plain_after : (w : What) (s : Influence) → is_marker w ≡ false → (influence_after w s).full ≡ s.full
 plain_after (whats.Marker m) s plain = cc
 plain_after w s plain = refl
 
-pub in_plain : (w : What) (s : Carry) → is_marker w ≡ false → (carry_in w s).full ≡ s.full
+pub in_plain : (w : What) (s : Influence) → is_marker w ≡ false → (influence_in w s).full ≡ s.full
 in_plain (whats.Marker m) s plain = cc
 in_plain w s plain = refl
 
 pub unmarked : (row : ℕ → What) (pen screen : Pen) (c : ℕ) → ((d : ℕ) → 1 ≤ d → d ≤ c → is_marker (row d) ≡ false)
-    → (carry row pen screen c).full ≡ cascade unset_pen pen screen
-unmarked row pen screen zero plain = ap (λ (s : Carry). s.full) (sym (carry-start row pen screen))
+    → (influence row pen screen c).full ≡ cascade unset_pen pen screen
+unmarked row pen screen zero plain = ap (λ (s : Influence). s.full) (sym (influence-start row pen screen))
 unmarked row pen screen (suc c) plain =
-    rw (carry-suc row pen screen c)
-    (plain_after (row (suc c)) (carry row pen screen c) (plain (suc c) (omega arith) (omega arith))
+    rw (influence-suc row pen screen c)
+    (plain_after (row (suc c)) (influence row pen screen c) (plain (suc c) (omega arith) (omega arith))
     ∙ unmarked row pen screen c (λ d low high. plain d low (omega arith)))

@@ -1,6 +1,8 @@
 -- Protected cells, and wiped ones.
 use Rattle.std.proofs.Common.{◌≡◌, ◌≢◌, ℕ, ◌+◌, ◌-◌, ◌≤◌, ◌<◌, ◌⊎◌, Bool, cond, false, not, ◌&&◌, eqb, leb, List, [], ◌∷◌, ◌++◌, refl}
 use Rattle.std.proofs.Common.{sym, ◌∙◌, subst, inl, inr, arith}
+use Rattle.std.proofs.Common.{Option, Some}
+use Rattle.std.proofs.Common.{ap}
 use Rattle.std.specs.List.{Contains, list_any}
 use Rattle.cept_codes.specs.declared.command.Up.TheVariants as ways
 use Rattle.std.specs.Prelude.{IsTrue}
@@ -15,7 +17,9 @@ use Rattle.cept_codes.specs.Place.{Place, OnScreen}
 use Rattle.cept_codes.specs.Table.{value_at}
 use Rattle.cept_codes.proofs.Laws.{value_at-table}
 use Rattle.cept_profile.specs.Cells.{is_at, cell_after, cells_after, cells_after_all, moves}
+use Rattle.cept_profile.specs.Cells.{shifted, value_after_move}
 use Rattle.cept_profile.proofs.PaintedPlaces.{place-is_at}
+use Rattle.cept_profile.specs.MovedRows.{MovedRows, moved_rows}
 
 pub cell_after-elsewhere : (p q : Place) (cell : Cell) (was : ℕ → ℕ → Cell) → p ≢ q
     → cell_after (strokes.Put p cell) was q.row q.column ≡ was q.row q.column
@@ -93,35 +97,57 @@ cells_after_all-protected cells (x ∷ xs) r c on protected out =
 
 -- ---- shifts
 
+-- what a stroke that moves rows leaves at a place is told by the rows that it moves
+cell_after-moved : (stroke : Stroke) (moved : MovedRows) (was : ℕ → ℕ → Cell) (r c : ℕ) → moved_rows stroke ≡ Some moved
+    → cell_after stroke was r c ≡ shifted moved.way moved.first moved.last blank_cell (λ q. was q c) r
+cell_after-moved (strokes.Shift a b way) moved was r c e =
+    ap (λ (rows : Option MovedRows). value_after_move rows blank_cell (λ q. was q c) r) e
+cell_after-moved (strokes.Put p cell) moved was r c e = cc
+cell_after-moved strokes.Wipe moved was r c e = cc
+cell_after-moved (strokes.Erase row from) moved was r c e = cc
+cell_after-moved (strokes.RowAttr row attr) moved was r c e = cc
+cell_after-moved (strokes.ScreenAttr attr) moved was r c e = cc
+cell_after-moved strokes.ScreenClear moved was r c e = cc
+cell_after-moved (strokes.Colour i paint) moved was r c e = cc
+cell_after-moved (strokes.Dclut i v) moved was r c e = cc
+cell_after-moved strokes.ColourDefaults moved was r c e = cc
+cell_after-moved strokes.DrcsClear moved was r c e = cc
+cell_after-moved (strokes.Drcs code pattern) moved was r c e = cc
+cell_after-moved (strokes.Format rows) moved was r c e = cc
+
 -- up: a row takes the place of the one above it, and the last is blank
-pub cell_after-up : (a b : ℕ) (was : ℕ → ℕ → Cell) (r c : ℕ) → a ≤ r → r < b
-    → cell_after (strokes.Shift a b ways.Up) was r c ≡ was (r + 1) c
-cell_after-up a b was r c low high =
-    cond-true (leb a r && leb r b) (cond (eqb r b) blank_cell (was (r + 1) c)) (was r c)
+pub cell_after-up : (stroke : Stroke) (a b : ℕ) (was : ℕ → ℕ → Cell) (r c : ℕ)
+    → moved_rows stroke ≡ Some (record { first = a; last = b; way = ways.Up }) → a ≤ r → r < b
+    → cell_after stroke was r c ≡ was (r + 1) c
+cell_after-up stroke a b was r c moved low high =
+    cell_after-moved stroke _ was r c moved ∙ cond-true (leb a r && leb r b) (cond (eqb r b) blank_cell (was (r + 1) c)) (was r c)
     (and_from (leb a r) (leb r b) (le-leb a r low) (le-leb r b (omega (arith, high))))
     ∙ cond-false (eqb r b) blank_cell (was (r + 1) c) (false_from_ne_true (eqb r b) (λ e. let same = eqb-true r b e in
     omega (arith, high, same)))
 
-pub cell_after-up_last : (a b : ℕ) (was : ℕ → ℕ → Cell) (c : ℕ) → a ≤ b
-    → cell_after (strokes.Shift a b ways.Up) was b c ≡ blank_cell
-cell_after-up_last a b was c low =
-    cond-true (leb a b && leb b b) (cond (eqb b b) blank_cell (was (b + 1) c)) (was b c)
+pub cell_after-up_last : (stroke : Stroke) (a b : ℕ) (was : ℕ → ℕ → Cell) (c : ℕ)
+    → moved_rows stroke ≡ Some (record { first = a; last = b; way = ways.Up }) → a ≤ b
+    → cell_after stroke was b c ≡ blank_cell
+cell_after-up_last stroke a b was c moved low =
+    cell_after-moved stroke _ was b c moved ∙ cond-true (leb a b && leb b b) (cond (eqb b b) blank_cell (was (b + 1) c)) (was b c)
     (and_from (leb a b) (leb b b) (le-leb a b low) (le-leb b b (omega arith)))
     ∙ cond-true (eqb b b) blank_cell (was (b + 1) c) (eq-eqb b b refl)
 
 -- down: a row takes the place of the one below it, and the first is blank
-pub cell_after-down : (a b : ℕ) (was : ℕ → ℕ → Cell) (r c : ℕ) → a < r → r ≤ b
-    → cell_after (strokes.Shift a b ways.Down) was r c ≡ was (r - 1) c
-cell_after-down a b was r c low high =
-    cond-true (leb a r && leb r b) (cond (eqb r a) blank_cell (was (r - 1) c)) (was r c)
+pub cell_after-down : (stroke : Stroke) (a b : ℕ) (was : ℕ → ℕ → Cell) (r c : ℕ)
+    → moved_rows stroke ≡ Some (record { first = a; last = b; way = ways.Down }) → a < r → r ≤ b
+    → cell_after stroke was r c ≡ was (r - 1) c
+cell_after-down stroke a b was r c moved low high =
+    cell_after-moved stroke _ was r c moved ∙ cond-true (leb a r && leb r b) (cond (eqb r a) blank_cell (was (r - 1) c)) (was r c)
     (and_from (leb a r) (leb r b) (le-leb a r (omega (arith, low))) (le-leb r b high))
     ∙ cond-false (eqb r a) blank_cell (was (r - 1) c) (false_from_ne_true (eqb r a) (λ e. let same = eqb-true r a e in
     omega (arith, low, same)))
 
-pub cell_after-down_first : (a b : ℕ) (was : ℕ → ℕ → Cell) (c : ℕ) → a ≤ b
-    → cell_after (strokes.Shift a b ways.Down) was a c ≡ blank_cell
-cell_after-down_first a b was c low =
-    cond-true (leb a a && leb a b) (cond (eqb a a) blank_cell (was (a - 1) c)) (was a c)
+pub cell_after-down_first : (stroke : Stroke) (a b : ℕ) (was : ℕ → ℕ → Cell) (c : ℕ)
+    → moved_rows stroke ≡ Some (record { first = a; last = b; way = ways.Down }) → a ≤ b
+    → cell_after stroke was a c ≡ blank_cell
+cell_after-down_first stroke a b was c moved low =
+    cell_after-moved stroke _ was a c moved ∙ cond-true (leb a a && leb a b) (cond (eqb a a) blank_cell (was (a - 1) c)) (was a c)
     (and_from (leb a a) (leb a b) (le-leb a a (omega arith)) (le-leb a b low))
     ∙ cond-true (eqb a a) blank_cell (was (a - 1) c) (eq-eqb a a refl)
 

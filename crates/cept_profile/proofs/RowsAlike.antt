@@ -14,7 +14,7 @@ use Rattle.cept_codes.specs.Look.{blank_look}
 use Rattle.cept_codes.specs.Place.{OnScreen}
 use Rattle.cept_codes.proofs.Laws.{IsTable-table}
 use Rattle.cept_profile.specs.Edges.{edges_of_core, is_last}
-use Rattle.cept_profile.specs.Look.{contents_of_row, is_last_row, look, looks_of, own_size, part_of}
+use Rattle.cept_profile.specs.Look.{contents_of_row, look, looks_of, own_size, part_of}
 use Rattle.cept_profile.specs.Look.{parts_of, size_in_row}
 use Rattle.cept_profile.specs.Names.{at_origin, contents_at_origin, full_attributes, names_at, own_attributes_in}
 use Rattle.cept_profile.specs.Names.{names_with}
@@ -138,7 +138,7 @@ part_at-made before after q r made from to low high (suc c) right =
     (part_at (parts_of after) (r - 1) (suc c + 1)) (part_at (parts_of after) r (suc c - 1))
     (part_at (parts_of before) (q - 1) (suc c)) (part_at (parts_of before) (q - 1) (suc c - 1))
     (part_at (parts_of before) (q - 1) (suc c + 1)) (part_at (parts_of before) q (suc c - 1))
-    (own_size after r (suc c)) (own_size before q (suc c)) (is_last_row after.rows r) (is_last_row before.rows q) (suc c)
+    (own_size after r (suc c)) (own_size before q (suc c)) (is_last (edges_of_core after) r) (is_last (edges_of_core before) q) (suc c)
     (cover-made before after q r made to high (suc c)) (cover-made before after q r made to high (suc c - 1))
     (cover-made before after q r made to high (suc c + 1)) earlier
     (own_size-made before after q r made (suc c) (omega arith) right) made.last

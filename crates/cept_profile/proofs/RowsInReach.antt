@@ -22,7 +22,7 @@ use Rattle.cept_codes.specs.Table.{value_at}
 use Rattle.cept_codes.proofs.Laws.{IsTable-table, entry-list_by_index, list_by_index-entry, same_indexed}
 use Rattle.cept_codes.proofs.Laws.{value_at-table}
 use Rattle.cept_profile.specs.Cells.{is_at, cell_after, cells_after, cells_after_all}
-use Rattle.cept_profile.specs.Look.{contents_of_row, is_last_row, look, look_in_row, looks_of, own_look, own_size}
+use Rattle.cept_profile.specs.Look.{contents_of_row, look, look_in_row, looks_of, own_look, own_size}
 use Rattle.cept_profile.specs.Look.{is_double_set, part_of, sets_double_size, size_in_row}
 use Rattle.cept_profile.specs.Definitions.{AreWhole}
 use Rattle.cept_profile.specs.PageParts.{pattern_after, pattern_in, patterns_after}
@@ -37,6 +37,8 @@ use Rattle.cept_profile.specs.Tiling.{column_entry, covers_below}
 use Rattle.cept_profile.proofs.ColumnEntries.{no_index}
 use Rattle.cept_profile.proofs.LooksFromAbove.{covering-none, covering-same, covers_nothing, look-seen, looks_in-same}
 use Rattle.cept_profile.proofs.LooksInRows.{look_in_row-alike, size_in_row-alike, size_in_row-single}
+use Rattle.cept_profile.specs.Edges.{edges_of_core}
+use Rattle.cept_profile.specs.Edges.{edges_of, is_last, Edges}
 
 -- ---- cells
 
@@ -295,10 +297,10 @@ made_alike-untouched k m strokes r low high whole page out = record {
 }
 
 pub look-untouched : (k m : Core) (strokes : List Stroke) (r c : ℕ) → OnScreen r c → AreWhole (definitions_of k.page)
-    → m.page ≡ page_after k.page strokes → is_row_touched strokes k.rows m.rows r ≡ false
+    → m.page ≡ page_after k.page strokes → is_row_touched strokes (edges_of_core k) (edges_of_core m) r ≡ false
     → covering_differs (looks_of k) (looks_of m) r ≡ false → look m r c ≡ look k r c
 look-untouched k m strokes r c on whole page untouched none =
-    let both = or_parts (one_touches strokes r) (is_last_under_one k.rows m.rows r) untouched in
+    let both = or_parts (one_touches strokes r) (is_last_under_one (edges_of_core k) (edges_of_core m) r) untouched in
     let made : IsMadeAlike k m r =
     made_alike-untouched k m strokes r on.from_top on.to_bottom whole page both.0 in
     let same : looks_in (looks_of k) r ≡ looks_in (looks_of m) r =
@@ -306,14 +308,14 @@ look-untouched k m strokes r c on whole page untouched none =
     (covering-same (looks_of k) (looks_of m) r (IsTable-table (look k)) (IsTable-table (look m)) on.from_top
     on.to_bottom none)
     (own_look-alike k m r made) (own_size-alike k m r made)
-    (stays_last (is_last_row k.rows r) (is_last_row m.rows r) both.1) in
+    (stays_last (is_last (edges_of_core k) r) (is_last (edges_of_core m) r) both.1) in
     sym (look-seen m r c on) ∙ ap (λ row. column_entry blank_look row c) (sym same) ∙ look-seen k r c on
 
 -- ---- reach
 
 pub in_reach-by : (s : State) (command : Command) (r : ℕ)
     → in_reach s command r
-    ≡ (is_row_touched (strokes_of s.control command) s.control.rows (state_after s command).control.rows r
+    ≡ (is_row_touched (strokes_of s.control command) (edges_of s.control) (edges_of (state_after s command).control) r
     || covering_differs (looks_of (core_of s)) (looks_of (core_of (state_after s command))) r)
 unfolding in_reach
 in_reach-by s command r = refl
@@ -327,7 +329,7 @@ pub look-out_of_reach : (s : State) (command : Command) (r c : ℕ) → OnScreen
     → in_reach s command r ≡ false → look (core_of (state_after s command)) r c ≡ look (core_of s) r c
 look-out_of_reach s command r c on whole out =
     let both = or_parts
-    (is_row_touched (strokes_of s.control command) s.control.rows (state_after s command).control.rows r)
+    (is_row_touched (strokes_of s.control command) (edges_of s.control) (edges_of (state_after s command).control) r)
     (covering_differs (looks_of (core_of s)) (looks_of (core_of (state_after s command))) r)
     (sym (in_reach-by s command r) ∙ out) in
     look-untouched (core_of s) (core_of (state_after s command)) (strokes_of s.control command) r c on whole refl
@@ -349,7 +351,7 @@ sets_a_size k r =
 -- a command touches the row, or something in the row above sets a size before or after it
 abbrev pub is_near : State → Command → ℕ → Bool
 is_near s command r =
-    is_row_touched (strokes_of s.control command) s.control.rows (state_after s command).control.rows r
+    is_row_touched (strokes_of s.control command) (edges_of s.control) (edges_of (state_after s command).control) r
     || (sets_a_size (core_of s) (r - 1) || sets_a_size (core_of (state_after s command)) (r - 1))
 
 pub without_sizes : (k : Core) (r : ℕ) → 1 ≤ r → r ≤ 24 → sets_a_size k r ≡ false → (c : ℕ)
@@ -368,7 +370,7 @@ pub out_of_reach-far : (s : State) (command : Command) (r : ℕ) → 2 ≤ r →
     → in_reach s command r ≡ false
 out_of_reach-far s command r low high far =
     let touched : Bool =
-    is_row_touched (strokes_of s.control command) s.control.rows (state_after s command).control.rows r in
+    is_row_touched (strokes_of s.control command) (edges_of s.control) (edges_of (state_after s command).control) r in
     let before : Core = core_of s in
     let after : Core = core_of (state_after s command) in
     let parts = or_parts touched (sets_a_size before (r - 1) || sets_a_size after (r - 1)) far in

@@ -14,6 +14,7 @@ use Rattle.cept_profile.specs.Tiling.{is_covered_from_left, origin_part, part_by
 use Rattle.cept_profile.specs.Tiling.{parts_in}
 use Rattle.cept_profile.specs.Tiling.{single_part, tiled_row, tiled_rows, tiled_table}
 use Rattle.cept_profile.proofs.ColumnEntries.{column_entry-default, column_entry-table, length-row_in}
+use Rattle.cept_profile.proofs.ColumnEntries.{column_entry-at}
 use Rattle.cept_profile.proofs.TiledRows.{IsTiledAt-only, IsTiledRow-by_columns, IsTiledRow-made, row_of-same}
 
 -- ---- rows
@@ -34,10 +35,8 @@ rows_by_column : (t : List (List Part)) (f : ℕ → ℕ → Part) → IsTable t
 rows_by_column t f is same =
     same_lists flat_parts 1 t (table f) (is.rows ∙ sym (IsTable-table f).rows) (λ r low high.
     let within : r ≤ 24 = omega (arith, high, is.rows) in
-    let inside : (r == 0) ≡ false = grind (arith, nat_tests) in
-    sym (cond-false (r == 0) flat_parts (entry flat_parts 1 t r) inside) ∙ same r low within
-    ∙ sym (column_entry-table flat_parts f r low within)
-    ∙ cond-false (r == 0) flat_parts (entry flat_parts 1 (table f) r) inside)
+    sym (column_entry-at flat_parts t r low) ∙ same r low within
+    ∙ sym (column_entry-table flat_parts f r low within) ∙ column_entry-at flat_parts (table f) r low)
 
 tiled_row-same : (above : List Part) (wanted other : ℕ → Size) (last : Bool)
     → ((c : ℕ) → 1 ≤ c → c ≤ 40 → wanted c ≡ other c) → tiled_row above wanted last ≡ tiled_row above other last

@@ -33,7 +33,7 @@ use Rattle.cept_codes.proofs.Laws.{entry_past, indexed_more, indexed_none, lengt
 use Rattle.cept_profile.specs.Attributes.{first_value, cascade}
 use Rattle.cept_profile.specs.Colours.{ink, default_paints, default_paint, fore_paint, back_paint, paint_over}
 use Rattle.cept_profile.specs.Look.{shape_of, shape_of_sign, attributes_of, look_of, look, looks_of, grid}
-use Rattle.cept_profile.specs.Look.{contents_of_row, is_last_row, look_in_row, look_with_part, own_look, own_size}
+use Rattle.cept_profile.specs.Look.{contents_of_row, look_in_row, look_with_part, own_look, own_size}
 use Rattle.cept_profile.specs.Look.{part_of, shape_by_pattern, shape_in, shape_in_set}
 use Rattle.cept_profile.specs.Definitions.{Definitions, inks_of, inks_with}
 use Rattle.cept_profile.specs.PageParts.{dclut_in, paint_in, pattern_in, row_pen_in}
@@ -47,6 +47,7 @@ use Rattle.cept_profile.proofs.MarkersInForce.{held_sign-valid}
 use Rattle.cept_profile.specs.State.{Core, Page, core, definitions_of}
 use Rattle.cept_profile.specs.Valid.{AllValid, AreValidDefinitions, IsValidPage, IsValidGrid}
 use Rattle.cept_profile.proofs.ValidState.{IsValidState-state}
+use Rattle.cept_profile.specs.Edges.{edges_of_core, is_last}
 
 -- ---- attributes and paints
 
@@ -354,7 +355,7 @@ IsValidLook-look_seen k is (suc r) high c from to =
     subst (λ (row : List Look). IsValidLook (column_entry blank_look row c))
     (sym (looks_in-from_above k (suc r) (omega arith) high))
     (IsValidLook-row_from_above (looks_in (looks_of k) (suc r - 1)) (own_look k (suc r)) (own_size k (suc r))
-    (is_last_row k.rows (suc r))
+    (is_last (edges_of_core k) (suc r))
     (λ d low left. subst (λ (q : ℕ). IsValidLook (look_seen (looks_of k) q d)) (sym back)
     (IsValidLook-look_seen k is r (omega arith) d low left))
     (λ d low left. IsValidLook-own_look k is (suc r) d (record {

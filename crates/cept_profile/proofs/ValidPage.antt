@@ -34,7 +34,7 @@ use Rattle.cept_profile.specs.Control.{ControlState, state_for_effect}
 use Rattle.cept_profile.specs.Markers.{marker_of, strokes_of_any_marker, strokes_of_marker}
 use Rattle.cept_profile.specs.Control.{Working, control_after, control_after_service, control_effect}
 use Rattle.cept_profile.specs.Motions.{area_in_force, area_within, back_strokes, on_strokes, scrolling_area}
-use Rattle.cept_profile.specs.Motions.{strokes_of_shift}
+use Rattle.cept_profile.specs.Motions.{strokes_of_scroll}
 use Rattle.cept_profile.specs.Pens.{attribute_of, flash_of, strokes_of_attribute, strokes_of_code}
 use Rattle.cept_profile.specs.Pens.{strokes_of_flash, strokes_of_reveal, strokes_of_row_attribute}
 use Rattle.cept_profile.specs.Sets.{IsValidRead}
@@ -46,7 +46,7 @@ use Rattle.cept_profile.specs.Writing.{strokes_of_sign}
 use Rattle.cept_profile.proofs.CopiesOfSigns.{length-strokes_of_copies}
 use Rattle.cept_profile.proofs.MotionStrokes.{by_above, by_back_strokes, by_below, by_on_strokes, length-above_strokes}
 use Rattle.cept_profile.proofs.MotionStrokes.{length-back_strokes, length-below_strokes, length-on_strokes}
-use Rattle.cept_profile.proofs.MotionStrokes.{length-strokes_of_shift}
+use Rattle.cept_profile.proofs.MotionStrokes.{length-strokes_of_scroll}
 use Rattle.cept_profile.proofs.ValidAttributes.{IsRowAttr-attribute_of, IsScreenAttr-attribute_of}
 use Rattle.cept_profile.proofs.ValidControl.{IsValidControl-control_after_copies, IsValidControl-state_for_effect}
 use Rattle.cept_profile.proofs.ValidControl.{IsValidGlyph-sign_with_accent, IsValidRead-graphic_result}
@@ -240,23 +240,23 @@ content_is_not_blank c1sets.Parallel g pen e = parallel_is_not_blank g pen e
 content_is_not_blank c1sets.Serial g pen e = serial_is_not_blank g e
 
 -- the strokes of motions
-IsSafe-area_within : (way : Up) (rows : ℕ) (area : Option (ℕ × ℕ)) → IfSome area (λ a. IsArea a.0 a.1)
-    → AllByRecursion (IsSafe rows) (strokes_of_shift way (area_within rows area))
-IsSafe-area_within way rows None is = tt
-IsSafe-area_within way rows (Some area) is =
+IsSafe-area_within : (s : ControlState) (way : Up) (rows : ℕ) (area : Option (ℕ × ℕ)) → IfSome area (λ a. IsArea a.0 a.1)
+    → AllByRecursion (IsSafe rows) (strokes_of_scroll s way (area_within rows area))
+IsSafe-area_within s way rows None is = tt
+IsSafe-area_within s way rows (Some area) is =
     cond_both (leb area.1 rows) (Some area) None
-    (λ (there : Option (ℕ × ℕ)). AllByRecursion (IsSafe rows) (strokes_of_shift way there))
+    (λ (there : Option (ℕ × ℕ)). AllByRecursion (IsSafe rows) (strokes_of_scroll s way there))
     (λ e. ((is, leb-true area.1 rows e), tt)) (λ e. tt)
 
 IsSafe-shift : (way : Up) (s : ControlState) → IsValidControl s
-    → AllByRecursion (IsSafe s.rows) (strokes_of_shift way (area_in_force s))
-IsSafe-shift way s is = IsSafe-area_within way s.rows s.area is.area
+    → AllByRecursion (IsSafe s.rows) (strokes_of_scroll s way (area_in_force s))
+IsSafe-shift way s is = IsSafe-area_within s way s.rows s.area is.area
 
 IsSafe-scroll : (way : Up) (s : ControlState) → IsValidControl s
-    → AllByRecursion (IsSafe s.rows) (strokes_of_shift way (scrolling_area s))
+    → AllByRecursion (IsSafe s.rows) (strokes_of_scroll s way (scrolling_area s))
 IsSafe-scroll way s is =
     cond_both s.implicit (area_in_force s) None
-    (λ (there : Option (ℕ × ℕ)). AllByRecursion (IsSafe s.rows) (strokes_of_shift way there))
+    (λ (there : Option (ℕ × ℕ)). AllByRecursion (IsSafe s.rows) (strokes_of_scroll s way there))
     (λ e. IsSafe-shift way s is) (λ e. tt)
 
 IsSafe-on_strokes : (s : ControlState) (n : ℕ) → IsValidControl s → AllByRecursion (IsSafe s.rows) (on_strokes s n)
@@ -496,8 +496,8 @@ length-strokes_when s commands.Back valid = omega (arith, length-back_strokes s)
 length-strokes_when s commands.Forward valid = omega (arith, length-on_strokes s 1)
 length-strokes_when s commands.Down valid = omega (arith, length-below_strokes s s.working.row)
 length-strokes_when s commands.Up valid = omega (arith, length-above_strokes s s.working.row)
-length-strokes_when s commands.ScrollUp valid = omega (arith, length-strokes_of_shift ways.Up (area_in_force s))
-length-strokes_when s commands.ScrollDown valid = omega (arith, length-strokes_of_shift ways.Down (area_in_force s))
+length-strokes_when s commands.ScrollUp valid = omega (arith, length-strokes_of_scroll s ways.Up (area_in_force s))
+length-strokes_when s commands.ScrollDown valid = omega (arith, length-strokes_of_scroll s ways.Down (area_in_force s))
 length-strokes_when s commands.Clear valid = omega arith
 length-strokes_when s (commands.Graphic byte) valid = length-strokes_of_read s (graphic_result s byte).read
 length-strokes_when s (commands.Repeat n) valid = length-strokes_of_repeat n s s.working.last valid

@@ -1,5 +1,6 @@
 -- Valid states: the initial state is valid, and every valid command keeps it valid.
 use Rattle.std.proofs.Common.{◌≡◌, ℕ, inl, inr, None, List, [], ◌∷◌, reverse, refl, sym, ◌∙◌, ap, subst, arith}
+use Rattle.std.proofs.Common.{◌⊎◌, ◌≤◌}
 use Rattle.std.specs.List.{AllByRecursion}
 use Rattle.std.proofs.lemmas.List.{reverse-append, reverse-reverse}
 use Rattle.cept_codes.specs.declared.command.Command.{Command}
@@ -10,15 +11,18 @@ use Rattle.cept_codes.specs.Cell.{blank_cell}
 use Rattle.cept_codes.specs.Command.{IsValidCommand}
 use Rattle.cept_profile.specs.Cells.{cell_back, cells_after_all}
 use Rattle.cept_profile.specs.Control.{control_after}
+use Rattle.cept_profile.specs.Control.{initial_working}
 use Rattle.cept_profile.specs.Colours.{default_paint}
 use Rattle.cept_profile.specs.PageParts.{row_pens_after, screen_pen_after, paints_after, dclut_list_after}
 use Rattle.cept_profile.specs.PageParts.{dclut_in, list_of_codes, list_of_colours, list_of_dclut, paint_in, pattern_in}
 use Rattle.cept_profile.specs.PageParts.{part_after_all, patterns_after}
 use Rattle.cept_profile.specs.State.{Page, State, blank_page, core_of, page_after, state, state_after}
+use Rattle.cept_profile.specs.State.{Core}
 use Rattle.cept_profile.specs.Strokes.{strokes_of}
 use Rattle.cept_profile.specs.Valid.{AllValid, IsValidControl, IsValidCore, IsValidState}
 use Rattle.cept_profile.proofs.OneMoreState.{AllByRecursion-reverse, state-one_more}
 use Rattle.cept_profile.proofs.ValidControl.{IsValidControl-initial_control, IsValidControl-control_after}
+use Rattle.cept_profile.proofs.ValidControl.{IsValidWorking-initial_control}
 use Rattle.cept_profile.proofs.ValidPage.{IsSafe, IsSafe-strokes_of, LeadsTo}
 use Rattle.cept_profile.proofs.ValidPage.{AreValidCells-blank_cell, AreValidTables, AreValidTables-table}
 use Rattle.cept_profile.proofs.ValidPage.{AreValidTables-cells_after_all}
@@ -169,3 +173,41 @@ pub IsValidState-state : (history : List Command) → AllValid history → IsVal
 IsValidState-state history all =
     subst (λ h. IsValidState (state h)) (reverse-reverse history)
     (IsValidState-back (reverse history) (AllByRecursion-reverse IsValidCommand history all))
+
+-- ---- a core has a state
+
+-- 24 or 20 rows have a first one
+some_rows : (rows : ℕ) → (rows ≡ 24) ⊎ (rows ≡ 20) → 1 ≤ rows
+some_rows rows format = elim format [ inl e ↦ omega (arith, e) | inr e ↦ omega (arith, e) ]
+
+-- the state at the first place with what is seen of this core
+abbrev state_of_core : Core → State
+state_of_core k = record {
+  page = k.page;
+  control = record {
+    working = initial_working;
+    rows = k.rows;
+    wrap = k.wrap;
+    area = k.area;
+    implicit = k.implicit;
+    kept = None;
+  };
+}
+
+pub IsValidCore-of_state : (k : Core) → IsValidCore k → (s : State) × IsValidState s × (core_of s ≡ k)
+IsValidCore-of_state k is = (
+  state_of_core k,
+  record {
+    page = is.page;
+    control = record {
+      working = IsValidWorking-initial_control;
+      rows = is.rows;
+      within = some_rows k.rows is.rows;
+      area = is.area;
+      kept = tt;
+    };
+    past = is.past;
+    unset = is.unset;
+  },
+  refl,
+)

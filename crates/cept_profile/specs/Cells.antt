@@ -1,5 +1,6 @@
 -- Cells (own): what stands at a place is asked of the strokes from the last backwards.
-use Rattle.std.specs.Prelude.{ℕ, ◌+◌, ◌-◌, Bool, false, not, ◌&&◌, List, [], ◌∷◌, ◌==◌, nat_le, if◌then◌else◌}
+use Rattle.std.specs.Prelude.{ℕ, ◌+◌, ◌-◌, Bool, false, not, ◌&&◌, Option, Some, None, List, [], ◌∷◌, ◌==◌, nat_le}
+use Rattle.std.specs.Prelude.{if◌then◌else◌, is_some}
 use Rattle.cept_codes.specs.declared.cell.Cell.{Cell}
 use Rattle.cept_codes.specs.declared.command.Up.{Up}
 use Rattle.cept_codes.specs.declared.command.Up.TheVariants as ways
@@ -8,6 +9,7 @@ use Rattle.cept_codes.specs.declared.stroke.Stroke.TheVariants as strokes
 use Rattle.cept_codes.specs.Cell.{blank_cell}
 use Rattle.cept_codes.specs.Place.{Place}
 use Rattle.cept_codes.specs.Table.{table, value_at}
+use Rattle.cept_profile.specs.MovedRows.{MovedRows, moved_rows}
 
 -- the place is in this row and column
 abbrev pub is_at : Place → ℕ → ℕ → Bool
@@ -21,29 +23,32 @@ shifted ways.Up first last blank was r =
 shifted ways.Down first last blank was r =
     if nat_le first r && nat_le r last then (if r == first then blank else was (r - 1)) else was r
 
+-- what is at row r after these rows moved, by what was at each row, with a blank one for the row that came free
+abbrev pub value_after_move : {X : Type 0} → Option MovedRows → X → (ℕ → X) → ℕ → X
+value_after_move None blank was r = was r
+value_after_move (Some moved) blank was r = shifted moved.way moved.first moved.last blank was r
+
 -- the cell at row r and column c after a stroke, by the cells before it
 abbrev pub cell_after : Stroke → (ℕ → ℕ → Cell) → ℕ → ℕ → Cell
 cell_after (strokes.Put p cell) was r c = if is_at p r c && not (was r c).protected then cell else was r c
 cell_after (strokes.Erase row from) was r c =
     if r == row && nat_le from c && not (was r c).protected then blank_cell else was r c
 cell_after strokes.Wipe was r c = blank_cell
--- the cells of an area go up or down with their protection
-cell_after (strokes.Shift first last way) was r c = shifted way first last blank_cell (λ q. was q c) r
--- these change no cell
-cell_after (strokes.RowAttr row attr) was r c = was r c
-cell_after (strokes.ScreenAttr attr) was r c = was r c
-cell_after strokes.ScreenClear was r c = was r c
-cell_after (strokes.Colour i paint) was r c = was r c
-cell_after (strokes.Dclut i entry) was r c = was r c
-cell_after strokes.ColourDefaults was r c = was r c
-cell_after strokes.DrcsClear was r c = was r c
-cell_after (strokes.Drcs code pattern) was r c = was r c
-cell_after (strokes.Format rows) was r c = was r c
+-- any other changes no cell, and the cells of the rows that it moves go up or down with their protection
+cell_after stroke was r c = value_after_move (moved_rows stroke) blank_cell (λ q. was q c) r
 
--- the stroke moves what stands in row r, or takes it off the screen: a shift of an area in which the row is
+-- the stroke moves rows
+abbrev pub moves_rows : Stroke → Bool
+moves_rows stroke = is_some (moved_rows stroke)
+
+-- row r is one of the rows that move
+abbrev pub is_moved : Option MovedRows → ℕ → Bool
+is_moved None r = false
+is_moved (Some moved) r = nat_le moved.first r && nat_le r moved.last
+
+-- the stroke moves what stands in row r, or takes it off the screen
 abbrev pub moves : Stroke → ℕ → Bool
-moves (strokes.Shift first last way) r = nat_le first r && nat_le r last
-moves stroke r = false
+moves stroke r = is_moved (moved_rows stroke) r
 
 -- the cell at row r and column c after the strokes, the last first
 unfoldable pub cell_back : List Stroke → ℕ → ℕ → Cell

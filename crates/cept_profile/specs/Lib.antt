@@ -16,7 +16,7 @@ pub mod Working
 pub mod Writing
 pub mod Markers
 pub mod Serial
-pub mod Carry
+pub mod Influence
 pub mod Tiling
 pub mod RowsFromAbove
 pub mod PageParts

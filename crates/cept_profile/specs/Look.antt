@@ -24,6 +24,7 @@ use Rattle.cept_codes.specs.Table.{table, value_at}
 use Rattle.cept_profile.specs.Attributes.{cascade}
 use Rattle.cept_profile.specs.Colours.{fore_paint, back_paint, paint_over}
 use Rattle.cept_profile.specs.Definitions.{Definitions, inks_of}
+use Rattle.cept_profile.specs.Edges.{edges_of_core, is_last}
 use Rattle.cept_profile.specs.PageParts.{paint_in, pattern_in, row_pen_in}
 use Rattle.cept_profile.specs.Serial.{held_sign, own_attributes}
 use Rattle.cept_profile.specs.State.{Core, core, definitions_of}
@@ -124,13 +125,9 @@ own_look k r c = look_in_row (definitions_of k.page) (contents_of_row k r)
 abbrev pub own_size : Core → ℕ → ℕ → Size
 own_size k r c = size_in_row (contents_of_row k r) (row_pen_in k.page.row_pens r) k.page.screen_pen c
 
--- a row from `rows` on is last: no sign in it is high
-abbrev pub is_last_row : ℕ → ℕ → Bool
-is_last_row rows r = nat_le rows r
-
 -- which part of a sign each place of a core shows: the one table that is tiled by the sizes
 abbrev pub parts_of : Core → List (List Part)
-parts_of k = tiled_table (own_size k) (is_last_row k.rows)
+parts_of k = tiled_table (own_size k) (is_last (edges_of_core k))
 
 -- the part that a look shows
 abbrev pub part_of : Look → Part

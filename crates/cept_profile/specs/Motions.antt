@@ -38,10 +38,10 @@ abbrev pub is_last_of : Option (ℕ × ℕ) → ℕ → Bool
 is_last_of None r = false
 is_last_of (Some area) r = area.1 == r
 
--- the rows of the area go one row up or down
-abbrev pub strokes_of_shift : Up → Option (ℕ × ℕ) → List Stroke
-strokes_of_shift way None = []
-strokes_of_shift way (Some area) = strokes.Shift area.0 area.1 way ∷ []
+-- in this state the rows of the area go one row up or down
+abbrev pub strokes_of_scroll : ControlState → Up → Option (ℕ × ℕ) → List Stroke
+strokes_of_scroll s way None = []
+strokes_of_scroll s way (Some area) = strokes.Shift area.0 area.1 way ∷ []
 
 -- ---- motions
 
@@ -55,7 +55,7 @@ row_below s r =
 
 -- the strokes of going below row r: at the last row of an area that scrolls its rows go up
 abbrev pub below_strokes : ControlState → ℕ → List Stroke
-below_strokes s r = if is_last_of (scrolling_area s) r then strokes_of_shift ways.Up (scrolling_area s) else []
+below_strokes s r = if is_last_of (scrolling_area s) r then strokes_of_scroll s ways.Up (scrolling_area s) else []
 
 -- the row above row r: the first row of an area that scrolls is left for none; else from the first row it is the last
 -- with wrap, and the first itself without
@@ -67,7 +67,7 @@ row_above s r =
 
 -- the strokes of going above row r: at the first row of an area that scrolls its rows go down
 abbrev pub above_strokes : ControlState → ℕ → List Stroke
-above_strokes s r = if is_first_of (scrolling_area s) r then strokes_of_shift ways.Down (scrolling_area s) else []
+above_strokes s r = if is_first_of (scrolling_area s) r then strokes_of_scroll s ways.Down (scrolling_area s) else []
 
 -- n columns on: past the last column it goes to the first of the row below with wrap, and to the last without
 abbrev pub working_ahead : ControlState → ℕ → Working → Working

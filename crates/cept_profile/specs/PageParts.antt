@@ -10,6 +10,7 @@ use Rattle.cept_codes.specs.declared.stroke.Stroke.{Stroke}
 use Rattle.cept_codes.specs.declared.stroke.Stroke.TheVariants as strokes
 use Rattle.cept_codes.specs.Attribute.{unset_pen}
 use Rattle.cept_codes.specs.Look.{black_paint}
+pub use Rattle.cept_codes.specs.PatternTable.{list_of_codes, pattern_in}
 use Rattle.cept_codes.specs.Table.{entry, list_by_index}
 use Rattle.cept_profile.specs.Colours.{default_paint}
 use Rattle.cept_profile.specs.Pens.{pen_with, fore_in, back_in, flash_in, conceal_in, lined_in, boxed_in, size_in}
@@ -22,12 +23,39 @@ abbrev pub stroke_said : {X : Type 0} → (Stroke → Option X) → X → List S
 stroke_said says first [] = first
 stroke_said says first (stroke ∷ earlier) = unwrap_or (says stroke) (stroke_said says first earlier)
 
+-- of which row the attributes that row r has after a stroke came, or none where they came free: of the row itself, also
+-- where the stroke moves its cells
+abbrev pub attributes_row_before : Stroke → ℕ → Option ℕ
+attributes_row_before (strokes.Put p cell) r = Some r
+attributes_row_before (strokes.Erase row from) r = Some r
+attributes_row_before strokes.Wipe r = Some r
+attributes_row_before (strokes.Shift first last way) r = Some r
+attributes_row_before (strokes.RowAttr row attr) r = Some r
+attributes_row_before (strokes.ScreenAttr attr) r = Some r
+attributes_row_before strokes.ScreenClear r = Some r
+attributes_row_before (strokes.Colour i paint) r = Some r
+attributes_row_before (strokes.Dclut i entry) r = Some r
+attributes_row_before strokes.ColourDefaults r = Some r
+attributes_row_before strokes.DrcsClear r = Some r
+attributes_row_before (strokes.Drcs code pattern) r = Some r
+attributes_row_before (strokes.Format rows) r = Some r
+
 -- what a stroke says of a class of the attributes of row r: an attribute of that row sets it, or unsets the background,
 -- and a wipe unsets it
 abbrev pub row_said : {X : Type 0} → (Attr → Option (Option X)) → ℕ → Stroke → Option (Option X)
 row_said class r (strokes.RowAttr row attr) = if row == r then class attr else None
 row_said class r strokes.Wipe = Some None
-row_said class r _ = None
+row_said class r (strokes.Put p cell) = None
+row_said class r (strokes.Erase row from) = None
+row_said class r (strokes.Shift first last way) = None
+row_said class r (strokes.ScreenAttr attr) = None
+row_said class r strokes.ScreenClear = None
+row_said class r (strokes.Colour i paint) = None
+row_said class r (strokes.Dclut i entry) = None
+row_said class r strokes.ColourDefaults = None
+row_said class r strokes.DrcsClear = None
+row_said class r (strokes.Drcs code pattern) = None
+row_said class r (strokes.Format rows) = None
 
 -- what a stroke says of a class of the attributes of the screen
 abbrev pub screen_said : {X : Type 0} → (Attr → Option (Option X)) → Stroke → Option (Option X)
@@ -54,21 +82,29 @@ pattern_said d strokes.DrcsClear = Some None
 pattern_said d _ = None
 
 -- what a stroke says of the number of rows
-abbrev pub rows_said : Stroke → Option ℕ
-rows_said (strokes.Format rows) = Some rows
-rows_said _ = None
+abbrev pub format_said : Stroke → Option ℕ
+format_said (strokes.Format rows) = Some rows
+format_said _ = None
+
+-- a class of the attributes of a row after the strokes, which is followed back to the row of which they came: what the
+-- last stroke says that says anything of the row where it then stands; unset at first, and where they came free
+abbrev pub row_class_back : {X : Type 0} → (Attr → Option (Option X)) → List Stroke → Option ℕ → Option X
+row_class_back class [] row = None
+row_class_back class (stroke ∷ earlier) None = None
+row_class_back class (stroke ∷ earlier) (Some r) =
+    unwrap_or (row_said class r stroke) (row_class_back class earlier (attributes_row_before stroke r))
 
 -- the attributes of row r after the strokes
 abbrev pub row_pen_back : List Stroke → ℕ → Pen
 row_pen_back strokes r = record {
-  fore = stroke_said (row_said fore_in r) None strokes;
-  back = stroke_said (row_said back_in r) None strokes;
-  flash = stroke_said (row_said flash_in r) None strokes;
-  conceal = stroke_said (row_said conceal_in r) None strokes;
-  lined = stroke_said (row_said lined_in r) None strokes;
-  boxed = stroke_said (row_said boxed_in r) None strokes;
-  size = stroke_said (row_said size_in r) None strokes;
-  invert = stroke_said (row_said invert_in r) None strokes;
+  fore = row_class_back fore_in strokes (Some r);
+  back = row_class_back back_in strokes (Some r);
+  flash = row_class_back flash_in strokes (Some r);
+  conceal = row_class_back conceal_in strokes (Some r);
+  lined = row_class_back lined_in strokes (Some r);
+  boxed = row_class_back boxed_in strokes (Some r);
+  size = row_class_back size_in strokes (Some r);
+  invert = row_class_back invert_in strokes (Some r);
 }
 
 -- the attributes of the screen after the strokes
@@ -97,16 +133,22 @@ abbrev pub pattern_back : List Stroke → ℕ → Option Pattern
 pattern_back strokes d = stroke_said (pattern_said d) None strokes
 
 -- the number of rows after the strokes: 24 at first
-abbrev pub rows_back : List Stroke → ℕ
-rows_back strokes = stroke_said rows_said 24 strokes
+abbrev pub format_back : List Stroke → ℕ
+format_back strokes = stroke_said format_said 24 strokes
 
 -- ---- one more stroke
+
+-- the attributes of this row, none set where they came free
+abbrev pub pen_of_row : Option ℕ → (ℕ → Pen) → Pen
+pen_of_row None was = unset_pen
+pen_of_row (Some r) was = was r
 
 -- the attributes of row r after a stroke, by those before it
 abbrev pub row_pen_after : Stroke → (ℕ → Pen) → ℕ → Pen
 row_pen_after (strokes.RowAttr row attr) was r = if row == r then pen_with attr (was r) else was r
 row_pen_after strokes.Wipe was r = unset_pen
-row_pen_after _ was r = was r
+-- any other sets and unsets none
+row_pen_after stroke was r = pen_of_row (attributes_row_before stroke r) was
 
 -- the attributes of the screen
 abbrev pub screen_pen_after : Pen → Stroke → Pen
@@ -146,10 +188,6 @@ list_of_colours f = list_by_index 0 32 f
 abbrev pub list_of_dclut : {X : Type 0} → (ℕ → X) → List X
 list_of_dclut f = list_by_index 0 4 f
 
--- for each of the 94 codes of the downloaded set, 2/1 to 7/14
-abbrev pub list_of_codes : {X : Type 0} → (ℕ → X) → List X
-list_of_codes f = list_by_index 0x21 94 f
-
 -- the attributes of row r
 abbrev pub row_pen_in : List Pen → ℕ → Pen
 row_pen_in pens r = entry unset_pen 1 pens r
@@ -161,10 +199,6 @@ paint_in paints i = entry black_paint 0 paints i
 -- the colour entry that the entry i of the DCLUT names
 abbrev pub dclut_in : List ℕ → ℕ → ℕ
 dclut_in dclut i = entry 0 0 dclut i
-
--- the pattern of a code, where one is defined
-abbrev pub pattern_in : List (Option Pattern) → ℕ → Option Pattern
-pattern_in patterns d = entry None 0x21 patterns d
 
 -- the attributes of all rows after one stroke
 abbrev pub row_pens_after : List Pen → Stroke → List Pen

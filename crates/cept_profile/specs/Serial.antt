@@ -3,7 +3,7 @@
 -- 1; column 0 and what is past the row are never asked.
 use Rattle.std.specs.Prelude.{ℕ, zero, suc, ◌-◌, List, slice_index_or, Bool, true, false, not, ◌&&◌, ◌||◌}
 use Rattle.std.specs.Prelude.{if◌then◌else◌, Option, Some, None, unwrap_or}
-use Rattle.std.specs.Prelude.{nat_lt}
+use Rattle.std.specs.Prelude.{nat_lt, ◌==◌}
 use Rattle.cept_codes.specs.declared.attribute.Flash.{Flash}
 use Rattle.cept_codes.specs.declared.attribute.Flash.TheVariants as flashes
 use Rattle.cept_codes.specs.declared.attribute.Full.{Full}
@@ -92,10 +92,9 @@ abbrev pub nearest_column : (ℕ → Bool) → ℕ → Option ℕ
 nearest_column is_so zero = None
 nearest_column is_so (suc c) = if is_so (suc c) then Some (suc c) else nearest_column is_so c
 
--- a marker of a class in column d acts at column c: it stands left of it, or in it and acts there. It is asked of
--- columns d up to c only: one to the right of c that acts from its own cell would pass
+-- a marker of a class in column d acts at column c: it stands left of it, or in it and acts there
 abbrev pub acts : (ℕ → What) → Class → ℕ → ℕ → Bool
-acts row class c d = is_of class (row d) && (nat_lt d c || acts_there (row d))
+acts row class c d = is_of class (row d) && (nat_lt d c || (d == c && acts_there (row d)))
 
 -- the column of the marker in force: the greatest in which one of its class acts
 unfoldable pub column_in_force : (ℕ → What) → Class → ℕ → Option ℕ

@@ -8,7 +8,7 @@ use Rattle.cept_codes.specs.declared.stroke.Stroke.{Stroke}
 use Rattle.cept_codes.specs.declared.stroke.Stroke.TheVariants as strokes
 use Rattle.cept_profile.specs.Control.{ControlState, state_for_effect, control_back}
 use Rattle.cept_profile.specs.Motions.{below_strokes, above_strokes, on_strokes, back_strokes}
-use Rattle.cept_profile.specs.Motions.{area_in_force, strokes_of_shift}
+use Rattle.cept_profile.specs.Motions.{area_in_force, strokes_of_scroll}
 use Rattle.cept_profile.specs.Pens.{
   strokes_of_code,
   strokes_of_flash,
@@ -38,8 +38,8 @@ strokes_when s (commands.Entry i colour) = strokes.Colour i (paints.Ink colour) 
 strokes_when s (commands.Dclut i entry) = strokes.Dclut i entry ∷ []
 strokes_when s (commands.DrcsHeader delete form) = if delete then strokes.DrcsClear ∷ [] else []
 strokes_when s (commands.DrcsPattern code pattern) = strokes.Drcs code pattern ∷ []
-strokes_when s commands.ScrollUp = strokes_of_shift ways.Up (area_in_force s)
-strokes_when s commands.ScrollDown = strokes_of_shift ways.Down (area_in_force s)
+strokes_when s commands.ScrollUp = strokes_of_scroll s ways.Up (area_in_force s)
+strokes_when s commands.ScrollDown = strokes_of_scroll s ways.Down (area_in_force s)
 strokes_when s (commands.Format rows wrap) = strokes.Format rows ∷ strokes.Wipe ∷ []
 strokes_when s (commands.FullDefaults set) =
     strokes.Format 24 ∷ strokes.Wipe ∷ strokes.ScreenClear ∷ strokes.ColourDefaults ∷ strokes.DrcsClear ∷ []

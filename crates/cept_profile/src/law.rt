@@ -23,7 +23,7 @@ pub use control_settings::{
     closed_services_are_left_out, rows_are_those_of_the_last_format, settings_look_back,
 };
 pub use first_grid::{clearing_blanks_the_cells, the_first_grid};
-pub use looks_in_rows::{looks_hang_on_cells_to_the_left, the_page_and_the_rows_are_seen};
+pub use looks_in_rows::{looks_hang_on_cells_to_the_left, the_page_and_the_edges_are_seen};
 pub use motions::motions_go_round_the_places;
 pub use one_more::{looking_back_is_drawing, one_more_command, one_more_command_by_parts};
 pub use painting::{each_command_is_shown, marked_places_in_order, painting_the_changes};

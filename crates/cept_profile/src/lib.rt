@@ -18,6 +18,6 @@ pub use law::{
     rows_that_are_not_reached_keep_their_looks, rows_that_do_not_move,
     rows_that_strokes_do_not_reach_keep_their_looks, serial_attributes_are_valid,
     settings_look_back, single_shifts_wait, strokes_are_valid, the_first_grid,
-    the_nearest_marker_is_in_force, the_page_and_the_rows_are_seen,
+    the_nearest_marker_is_in_force, the_page_and_the_edges_are_seen,
     the_parts_of_a_core_are_the_tiled_ones, untouched_rows_stay, validity_is_kept, without_markers,
 };

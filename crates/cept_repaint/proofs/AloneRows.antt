@@ -14,12 +14,13 @@ use Rattle.cept_codes.specs.Same.{same_look}
 use Rattle.cept_codes.specs.Table.{value_at}
 use Rattle.cept_codes.proofs.Laws.{IsTable-table, look_decides, value_at-table}
 use Rattle.cept_profile.specs.Cells.{is_at, cell_after, cells_after}
+use Rattle.cept_profile.specs.Edges.{edges_of_core}
 use Rattle.cept_profile.specs.Look.{contents_of_row, is_double_set, look, look_of, looks_of, own_size}
 use Rattle.cept_profile.specs.Look.{part_of}
 use Rattle.cept_profile.specs.PageParts.{row_pen_in}
 use Rattle.cept_profile.specs.Reach.{is_last_under_one, is_row_touched, one_touches}
 use Rattle.cept_profile.specs.RowsFromAbove.{covering_differs, look_seen, looks_in}
-use Rattle.cept_profile.specs.State.{Page, definitions_of, page_after}
+use Rattle.cept_profile.specs.State.{Core, Page, definitions_of, page_after}
 use Rattle.cept_profile.specs.Tiling.{covers_below}
 use Rattle.cept_profile.specs.Valid.{IsValidPage}
 use Rattle.cept_repaint.specs.Kept.{OthersStay, core_on, look_alone}
@@ -31,29 +32,29 @@ use Rattle.cept_profile.proofs.Laws.{covers_nothing, covers_nothing-first, look-
 use Rattle.cept_profile.proofs.Laws.{look_in_row-unmarked, size_in_row-single}
 
 -- in a row in which no double size is set each cell is to be shown in single size, where the screen sets none
-own_size-single : (p : Page) (rows r : ℕ) → IsValidPage p → 1 ≤ r → r ≤ 24 → IsSingleRow p r → (c : ℕ) → 1 ≤ c → c ≤ 40
-    → own_size (core_on p rows) r c ≡ sizes.Normal
-own_size-single p rows r valid top bottom single c low high =
-    size_in_row-single (contents_of_row (core_on p rows) r) (row_pen_in p.row_pens r) p.screen_pen c low (λ d from to.
+own_size-single : (p : Page) (m : Core) (r : ℕ) → IsValidPage p → 1 ≤ r → r ≤ 24 → IsSingleRow p r → (c : ℕ) → 1 ≤ c → c ≤ 40
+    → own_size (core_on m p) r c ≡ sizes.Normal
+own_size-single p m r valid top bottom single c low high =
+    size_in_row-single (contents_of_row (core_on m p) r) (row_pen_in p.row_pens r) p.screen_pen c low (λ d from to.
     let on : OnScreen r d =
     record { from_top = top; to_bottom = bottom; from_left = from; to_right = omega arith } in
     single.cells d on) single.pen (ap is_double_set valid.screen_pen.size)
 
 -- and nothing in it covers the row below; nothing covers the first row
-covers_nothing-in : (p : Page) (rows r : ℕ) → IsValidPage p → r ≤ 24 → (1 ≤ r → IsSingleRow p r) → (c : ℕ)
-    → covers_below (part_of (look_seen (looks_of (core_on p rows)) r c)) ≡ false
-covers_nothing-in p rows zero valid bottom single c = covers_nothing-first (core_on p rows) c
-covers_nothing-in p rows (suc r) valid bottom single c =
-    covers_nothing (core_on p rows) (suc r) (omega arith) bottom
-    (own_size-single p rows (suc r) valid (omega arith) bottom (single (omega arith))) c
+covers_nothing-in : (p : Page) (m : Core) (r : ℕ) → IsValidPage p → r ≤ 24 → (1 ≤ r → IsSingleRow p r) → (c : ℕ)
+    → covers_below (part_of (look_seen (looks_of (core_on m p)) r c)) ≡ false
+covers_nothing-in p m zero valid bottom single c = covers_nothing-first (core_on m p) c
+covers_nothing-in p m (suc r) valid bottom single c =
+    covers_nothing (core_on m p) (suc r) (omega arith) bottom
+    (own_size-single p m (suc r) valid (omega arith) bottom (single (omega arith))) c
 
 -- each cell of a row that stands alone looks as it does by itself
-pub look-alone : (p : Page) (rows r c : ℕ) → IsValidPage p → OnScreen r c → StandsAlone p r
-    → look (core_on p rows) r c ≡ look_alone p (record { row = r; column = c })
-look-alone p rows r c valid on alone =
-    look-single (core_on p rows) r c on (own_size-single p rows r valid on.from_top on.to_bottom alone.single)
-    (covers_nothing-in p rows (r - 1) valid (omega (arith, on)) (λ low. alone.single_above (omega arith)))
-    ∙ look_in_row-unmarked (definitions_of p) (contents_of_row (core_on p rows) r) (row_pen_in p.row_pens r)
+pub look-alone : (p : Page) (m : Core) (r c : ℕ) → IsValidPage p → OnScreen r c → StandsAlone p r
+    → look (core_on m p) r c ≡ look_alone p (record { row = r; column = c })
+look-alone p m r c valid on alone =
+    look-single (core_on m p) r c on (own_size-single p m r valid on.from_top on.to_bottom alone.single)
+    (covers_nothing-in p m (r - 1) valid (omega (arith, on)) (λ low. alone.single_above (omega arith)))
+    ∙ look_in_row-unmarked (definitions_of p) (contents_of_row (core_on m p) r) (row_pen_in p.row_pens r)
     p.screen_pen c on.from_left (λ d low high.
     let there : OnScreen r d =
     record { from_top = on.from_top; to_bottom = on.to_bottom; from_left = low; to_right = omega (arith, on, high) } in
@@ -69,18 +70,18 @@ cell_elsewhere p place cell r c on other =
     value_at-table (cell_after (strokes.Put place cell) (value_at blank_cell p.cells)) blank_cell r c on
     ∙ cond-false (is_at place r c && not was.protected) cell was (and_left (is_at place r c) (not was.protected) other)
 
--- no row becomes last where the number of rows stays
-is_last_under_one-none : (rows r : ℕ) → is_last_under_one rows rows r ≡ false
-is_last_under_one-none rows r = grind (arith, nat_tests)
+-- no row becomes last where the edges stay
+is_last_under_one-none : (m : Core) (r : ℕ) → is_last_under_one (edges_of_core m) (edges_of_core m) r ≡ false
+is_last_under_one-none m r = grind (arith, nat_tests)
 
 -- and no other row is touched
-untouched : (place : Place) (cell : Cell) (rows r : ℕ) → place.row ≢ r
-    → is_row_touched (strokes.Put place cell ∷ []) rows rows r ≡ false
+untouched : (place : Place) (cell : Cell) (m : Core) (r : ℕ) → place.row ≢ r
+    → is_row_touched (strokes.Put place cell ∷ []) (edges_of_core m) (edges_of_core m) r ≡ false
 unfolding one_touches
-untouched place cell rows r apart =
+untouched place cell m r apart =
     let no : (place.row == r) ≡ false = grind (arith, nat_tests) in
-    or_from (one_touches (strokes.Put place cell ∷ []) r) (is_last_under_one rows rows r) (ap (λ b. b || false) no)
-    (is_last_under_one-none rows r)
+    or_from (one_touches (strokes.Put place cell ∷ []) r) (is_last_under_one (edges_of_core m) (edges_of_core m) r) (ap (λ b. b || false) no)
+    (is_last_under_one-none m r)
 
 -- a page before and after one cell is put, in a row that stands alone
 pub record IsPutAlone (p q : Page) (place : Place) : Type 0 where
@@ -93,19 +94,19 @@ pub record IsPutAlone (p q : Page) (place : Place) : Type 0 where
   pub after : StandsAlone q place.row
 
 -- all other places down to row n look as before
-abbrev OthersStayTo : Page → Page → ℕ → Place → ℕ → Type 0
-OthersStayTo p q rows place n =
-    (r c : ℕ) → OnScreen r c → r ≤ n → is_at place r c ≡ false → look (core_on q rows) r c ≡ look (core_on p rows) r c
+abbrev OthersStayTo : Page → Page → Core → Place → ℕ → Type 0
+OthersStayTo p q m place n =
+    (r c : ℕ) → OnScreen r c → r ≤ n → is_at place r c ≡ false → look (core_on m q) r c ≡ look (core_on m p) r c
 
 -- where all do down to the row above, what covers a row from above is the same
-covering_stays : (p q : Page) (rows : ℕ) (place : Place) → IsPutAlone p q place → (n : ℕ) → n < 24
-    → OthersStayTo p q rows place n
-    → covering_differs (looks_of (core_on p rows)) (looks_of (core_on q rows)) (n + 1) ≡ false
-covering_stays p q rows place put zero below stay =
-    covering_differs-first (looks_of (core_on p rows)) (looks_of (core_on q rows))
-covering_stays p q rows place put (suc n) below stay =
-    let g : List (List Look) = looks_of (core_on p rows) in
-    let h : List (List Look) = looks_of (core_on q rows) in
+covering_stays : (p q : Page) (m : Core) (place : Place) → IsPutAlone p q place → (n : ℕ) → n < 24
+    → OthersStayTo p q m place n
+    → covering_differs (looks_of (core_on m p)) (looks_of (core_on m q)) (n + 1) ≡ false
+covering_stays p q m place put zero below stay =
+    covering_differs-first (looks_of (core_on m p)) (looks_of (core_on m q))
+covering_stays p q m place put (suc n) below stay =
+    let g : List (List Look) = looks_of (core_on m p) in
+    let h : List (List Look) = looks_of (core_on m q) in
     let r : ℕ = suc n in
     covering_differs-below g h r
     ∙ is_other_above-none (looks_in g r) (looks_in h r) (λ c low high. elim (cases_eq place.row r) [
@@ -115,55 +116,55 @@ covering_stays p q rows place put (suc n) below stay =
           and_left (covers_below (part_of (look_seen g r c)) || covers_below (part_of (look_seen h r c)))
           (not (same_look (look_seen g r c) (look_seen h r c)))
           (or_from (covers_below (part_of (look_seen g r c))) (covers_below (part_of (look_seen h r c)))
-          (covers_nothing-in p rows r put.was_valid (omega arith) (λ low. was) c)
-          (covers_nothing-in q rows r put.valid (omega arith) (λ low. is) c))
+          (covers_nothing-in p m r put.was_valid (omega arith) (λ low. was) c)
+          (covers_nothing-in q m r put.valid (omega arith) (λ low. is) c))
       | inr apart ↦
           let on : OnScreen r c =
           record { from_top = omega arith; to_bottom = omega arith; from_left = low; to_right = high } in
           let row : (place.row == r) ≡ false = grind (arith, nat_tests) in
           let other : is_at place r c ≡ false = and_left (place.row == r) (place.column == c) row in
-          let kept : look_seen g r c ≡ look (core_on p rows) r c =
-          look_seen-at g r c (IsTable-table (look (core_on p rows))) on
-          ∙ value_at-table (look (core_on p rows)) blank_look r c on in
-          let new : look_seen h r c ≡ look (core_on q rows) r c =
-          look_seen-at h r c (IsTable-table (look (core_on q rows))) on
-          ∙ value_at-table (look (core_on q rows)) blank_look r c on in
+          let kept : look_seen g r c ≡ look (core_on m p) r c =
+          look_seen-at g r c (IsTable-table (look (core_on m p))) on
+          ∙ value_at-table (look (core_on m p)) blank_look r c on in
+          let new : look_seen h r c ≡ look (core_on m q) r c =
+          look_seen-at h r c (IsTable-table (look (core_on m q))) on
+          ∙ value_at-table (look (core_on m q)) blank_look r c on in
           is_other_covering-same (look_seen g r c) (look_seen h r c)
           ((look_decides (look_seen g r c) (look_seen h r c)).1
           (kept ∙ sym (stay r c on (omega arith) other) ∙ sym new))
     ])
 
 -- so all others look as before, one row after the other
-others_stay_to : (p q : Page) (rows : ℕ) (place : Place) → IsPutAlone p q place → (n : ℕ)
-    → OthersStayTo p q rows place n
-others_stay_to p q rows place put zero r c on none other = absurd (omega (arith, on))
-others_stay_to p q rows place put (suc n) r c on within other =
+others_stay_to : (p q : Page) (m : Core) (place : Place) → IsPutAlone p q place → (n : ℕ)
+    → OthersStayTo p q m place n
+others_stay_to p q m place put zero r c on none other = absurd (omega (arith, on))
+others_stay_to p q m place put (suc n) r c on within other =
     elim (cases_lt r (suc n)) [
-      | inl above ↦ others_stay_to p q rows place put n r c on (omega arith) other
+      | inl above ↦ others_stay_to p q m place put n r c on (omega arith) other
       | inr last ↦ elim (cases_eq place.row r) [
         | inl here ↦
             let was = subst (λ k. StandsAlone p k) here put.before in
             let is = subst (λ k. StandsAlone q k) here put.after in
-            look-alone q rows r c put.valid on is
+            look-alone q m r c put.valid on is
             ∙ ap (λ (x : Page). look_alone x (record { row = r; column = c }))
             (put.put ∙ page_after-put p put.was_valid place put.cell)
             ∙ ap (λ (x : Cell). look_of (definitions_of p) (row_pen_in p.row_pens r) p.screen_pen x.what)
             (cell_elsewhere p place put.cell r c on other)
-            ∙ sym (look-alone p rows r c put.was_valid on was)
+            ∙ sym (look-alone p m r c put.was_valid on was)
         | inr apart ↦
             let row : n + 1 ≡ r = omega arith in
-            look-untouched (core_on p rows) (core_on q rows) (strokes.Put place put.cell ∷ []) r c on
+            look-untouched (core_on m p) (core_on m q) (strokes.Put place put.cell ∷ []) r c on
             (AreWhole-valid p put.was_valid) put.put
-            (untouched place put.cell rows r apart)
-            (ap (covering_differs (looks_of (core_on p rows)) (looks_of (core_on q rows))) (sym row)
-            ∙ covering_stays p q rows place put n (omega (arith, on)) (others_stay_to p q rows place put n))
+            (untouched place put.cell m r apart)
+            (ap (covering_differs (looks_of (core_on m p)) (looks_of (core_on m q))) (sym row)
+            ∙ covering_stays p q m place put n (omega (arith, on)) (others_stay_to p q m place put n))
       ]
     ]
 
-pub OthersStay-put : (p q : Page) (rows : ℕ) (kept : List (List Look)) (place : Place)
-    → kept ≡ looks_of (core_on p rows)
-    → IsPutAlone p q place → OthersStay kept (core_on q rows) place
-OthersStay-put p q rows kept place e put r c on other =
+pub OthersStay-put : (p q : Page) (m : Core) (kept : List (List Look)) (place : Place)
+    → kept ≡ looks_of (core_on m p)
+    → IsPutAlone p q place → OthersStay kept (core_on m q) place
+OthersStay-put p q m kept place e put r c on other =
     ap (λ (t : List (List Look)). value_at blank_look t r c) e
-    ∙ value_at-table (look (core_on p rows)) blank_look r c on
-    ∙ sym (others_stay_to p q rows place put r r c on (omega arith) other)
+    ∙ value_at-table (look (core_on m p)) blank_look r c on
+    ∙ sym (others_stay_to p q m place put r r c on (omega arith) other)

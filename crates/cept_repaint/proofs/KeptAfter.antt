@@ -12,6 +12,7 @@ use Rattle.cept_codes.specs.declared.stroke.Stroke.TheVariants as strokes
 use Rattle.cept_codes.specs.Command.{IsValidCommand}
 use Rattle.cept_profile.specs.Changes.{differences}
 use Rattle.cept_profile.specs.Control.{ControlState, control_after}
+use Rattle.cept_profile.specs.Edges.{Edges, edges_of}
 use Rattle.cept_profile.specs.Look.{looks_of}
 use Rattle.cept_profile.specs.Reach.{rows_in_reach}
 use Rattle.cept_profile.specs.State.{Page, State, core_of, page_after, state_after}
@@ -19,20 +20,26 @@ use Rattle.cept_profile.specs.Strokes.{strokes_of}
 use Rattle.cept_profile.specs.Valid.{IsValidState}
 use Rattle.cept_profile.proofs.Laws.{IsValidState-state_after}
 use Rattle.cept_profile.specs.PageParts.{paint_in}
-use Rattle.cept_repaint.specs.Kept.{IsKept, SetsUnshown, core_on, reached_rows}
+use Rattle.cept_repaint.specs.Kept.{AreEdges, AreLooksOn, IsKept, SetsUnshown, reached_rows}
 use Rattle.cept_repaint.specs.Unshown.{IsUnshown}
 use Rattle.cept_repaint.proofs.OnePlace.{page_after-none}
 use Rattle.cept_repaint.proofs.RowsTouched.{reached-in_reach}
 use Rattle.cept_profile.proofs.Laws.{looks_of-alike}
+use Rattle.cept_repaint.proofs.WalkedRows.{AreLooksOn-one}
 
 -- two states of the same page and the same control are the same
 pub same_state : (p q : Page) (c d : ControlState) → p ≡ q → c ≡ d
     → (let s : State = record { page = p; control = c } in s) ≡ (let t : State = record { page = q; control = d } in t)
 same_state p q c d e f = λ i. record { page = e i; control = f i }
 
--- the looks of a state are those of its page and of the number of its rows
-pub looks_of-state : (s : State) → looks_of (core_of s) ≡ looks_of (core_on s.page s.control.rows)
-looks_of-state s = looks_of-alike (core_of s) (core_on s.page s.control.rows) refl refl
+-- the looks of a state are those of its page and of its edges
+pub AreLooksOn-state : (s : State) (looks : List (List Look)) (edges : Edges) → edges ≡ edges_of s.control
+    → looks ≡ looks_of (core_of s) → AreLooksOn looks s.page edges
+AreLooksOn-state s looks edges same e = AreLooksOn-one looks s.page edges (core_of s) (sym same) e
+
+-- and its edges those of a core
+pub AreEdges-state : (s : State) (edges : Edges) → edges ≡ edges_of s.control → AreEdges edges
+AreEdges-state s edges same = (core_of s, sym same)
 
 -- the state after a command, by its strokes
 pub state_after-drawn : (p : Page) (c : ControlState) (command : Command) (q : Page) (d : ControlState)
@@ -55,24 +62,23 @@ IsKept-state_after {p} {c} {kept} is command valid q d next whole looks = record
   looks = looks;
 }
 
--- the looks after it are those of its page and of the number of its rows
-pub looks_of-drawn : (q : Page) (d : ControlState) (after : ℕ) (next : List (List Look)) → after ≡ d.rows
-    → next ≡ looks_of (core_on q after) → next ≡ looks_of (core_of (record { page = q; control = d }))
-looks_of-drawn q d after next ea e =
-    e ∙ ap (λ n. looks_of (core_on q n)) ea ∙ sym (looks_of-state (record { page = q; control = d }))
+-- the looks after it are those of its page and of its edges
+pub looks_of-drawn : (q : Page) (d : ControlState) (after : Edges) (next : List (List Look)) → after ≡ edges_of d
+    → AreLooksOn next q after → next ≡ looks_of (core_of (record { page = q; control = d }))
+looks_of-drawn q d after next ea looks = looks (core_of (record { page = q; control = d })) (sym ea)
 
 -- its strokes reach as many rows as are in its reach
 pub reached-in_reach_of : {p : Page} {c : ControlState} {kept : List (List Look)}
     → IsKept (record { page = p; control = c }) kept → (command : Command)
-    → (q : Page) (d : ControlState) (next : List (List Look)) (strokes : List Stroke) (before after : ℕ)
-    → strokes ≡ strokes_of c command → before ≡ c.rows → after ≡ d.rows
+    → (q : Page) (d : ControlState) (next : List (List Look)) (strokes : List Stroke) (before after : Edges)
+    → strokes ≡ strokes_of c command → before ≡ edges_of c → after ≡ edges_of d
     → (let s : State = record { page = q; control = d } in s) ≡ state_after (record { page = p; control = c }) command
     → next ≡ looks_of (core_of (record { page = q; control = d }))
     → (s : State) → (let was : State = record { page = p; control = c } in was) ≡ s
     → reached_rows strokes before after kept next ≡ rows_in_reach s command
 reached-in_reach_of {p} {c} {kept} is command q d next strokes before after es eb ea whole looks s e =
     reached-in_reach (record { page = p; control = c }) command strokes before after kept next es eb
-    (ea ∙ ap (λ (t : State). t.control.rows) whole) is.looks (looks ∙ ap (λ (t : State). looks_of (core_of t)) whole)
+    (ea ∙ ap (λ (t : State). edges_of t.control) whole) is.looks (looks ∙ ap (λ (t : State). looks_of (core_of t)) whole)
     ∙ ap (λ (t : State). rows_in_reach t command) e
 
 -- marks are the differences of two states' looks, where both are kept
@@ -89,30 +95,29 @@ pub state_after-still : (p : Page) (c : ControlState) (command : Command) (d : C
     → (let s : State = record { page = p; control = d } in s) ≡ state_after (record { page = p; control = c }) command
 state_after-still p c command d e none = state_after-drawn p c command p d [] (sym none) (sym (page_after-none p [] refl)) e
 
--- the looks stay where the page and the number of its rows do
-pub looks_of-still : (p : Page) (c d : ControlState) → d.rows ≡ c.rows
+-- the looks stay where the page and its edges do
+pub looks_of-still : (p : Page) (c d : ControlState) → edges_of d ≡ edges_of c
     → looks_of (core_of (record { page = p; control = d })) ≡ looks_of (core_of (record { page = p; control = c }))
 looks_of-still p c d e =
-    looks_of-state (record { page = p; control = d }) ∙ ap (λ n. looks_of (core_on p n)) e
-    ∙ sym (looks_of-state (record { page = p; control = c }))
+    looks_of-alike (core_of (record { page = p; control = d })) (core_of (record { page = p; control = c })) refl e
 
 -- what is kept where a command without strokes is taken or not
 pub IsKept-still : {p : Page} {c : ControlState} {kept : List (List Look)}
     → IsKept (record { page = p; control = c }) kept
     → (command : Command) → IsValidCommand command → (d : ControlState) (taken : Bool)
     → (taken ≡ true → d ≡ control_after c command) → (taken ≡ true → strokes_of c command ≡ [])
-    → (taken ≡ false → d ≡ c) → d.rows ≡ c.rows → IsKept (record { page = p; control = d }) kept
-IsKept-still {p} {c} {kept} is command valid d taken after none left rows =
+    → (taken ≡ false → d ≡ c) → edges_of d ≡ edges_of c → IsKept (record { page = p; control = d }) kept
+IsKept-still {p} {c} {kept} is command valid d taken after none left edges =
     elim (cases_Bool taken) [
       | inl t ↦ IsKept-state_after is command valid p d kept (state_after-still p c command d (after t) (none t))
-          (is.looks ∙ sym (looks_of-still p c d rows))
+          (is.looks ∙ sym (looks_of-still p c d edges))
       | inr f ↦ subst (λ (e : ControlState). IsKept (record { page = p; control = e }) kept) (sym (left f)) is
     ]
 
--- a command that sets a colour entry leaves the number of rows
-pub rows-entry : (c : ControlState) (command : Command) (i : ℕ) (colour : Rgb) → command ≡ commands.Entry i colour
-    → (control_after c command).rows ≡ c.rows
-rows-entry c command i colour is = ap (λ (x : Command). (control_after c x).rows) is
+-- a command that sets a colour entry leaves the edges
+pub edges-entry : (c : ControlState) (command : Command) (i : ℕ) (colour : Rgb) → command ≡ commands.Entry i colour
+    → edges_of (control_after c command) ≡ edges_of c
+edges-entry c command i colour is = ap (λ (x : Command). edges_of (control_after c x)) is
 
 sets_paint : (p : Page) (xs : List Stroke) (kept : List (List Look)) (i : ℕ) (colour : Rgb)
     → xs ≡ strokes.Colour i (paints.Ink colour) ∷ [] → (paint : Paint) → paint_in p.paints i ≡ paint

@@ -10,7 +10,7 @@ use Rattle.cept_codes.specs.Place.{Place, OnScreen, number}
 use Rattle.cept_profile.specs.Cells.{is_at, cells_after_all}
 use Rattle.cept_profile.specs.Look.{look, looks_of}
 use Rattle.cept_profile.specs.PageParts.{part_after_all}
-use Rattle.cept_profile.specs.State.{Page, page_after}
+use Rattle.cept_profile.specs.State.{Core, Page, page_after}
 use Rattle.cept_profile.specs.Valid.{IsValidPage}
 use Rattle.cept_repaint.specs.Kept.{core_on, look_alone, IsRefreshed, OthersStay}
 use Rattle.cept_repaint.specs.MarkedRows.{StandsAlone}
@@ -45,10 +45,10 @@ page_after-put_alone before after xs place cell only drawn =
     page_after-one before after (strokes.Put place cell) drawn
     ∙ ap (λ (l : List Stroke). page_after before l) (sym only)
 
-Outside-place : (p : Page) (rows : ℕ) (was : List (List Look)) (place : Place) → OnScreen place.row place.column
-    → OthersStay was (core_on p rows) place
-    → Outside (look (core_on p rows)) was (number place.row place.column) (number place.row place.column + 1)
-Outside-place p rows was place on others r c there away =
+Outside-place : (p : Page) (m : Core) (was : List (List Look)) (place : Place) → OnScreen place.row place.column
+    → OthersStay was (core_on m p) place
+    → Outside (look (core_on m p)) was (number place.row place.column) (number place.row place.column + 1)
+Outside-place p m was place on others r c there away =
     others r c there (false_from_ne_true (is_at place r c) (λ here.
     let parts = and_parts (place.row == r) (place.column == c) here in
     let er : place.row ≡ r = eqb-true place.row r parts.0 in
@@ -58,21 +58,21 @@ Outside-place p rows was place on others r c there away =
     away (omega arith, omega arith)))
 
 -- the whole screen, where one place is refreshed by itself and all others stay
-pub looks-refreshed : (p : Page) (rows : ℕ) (was now : List (List Look)) (before marks : List Bool) (place : Place)
+pub looks-refreshed : (p : Page) (k : Core) (was now : List (List Look)) (before marks : List Bool) (place : Place)
     → IsValidPage p → OnScreen place.row place.column → StandsAlone p place.row
     → IsRefreshed (λ _ _. look_alone p place) was now before marks (number place.row place.column)
     (number place.row place.column + 1)
-    → OthersStay was (core_on p rows) place → now ≡ looks_of (core_on p rows)
-looks-refreshed p rows was now before marks place valid on alone m others =
-    let f : ℕ → ℕ → Look = look (core_on p rows) in
+    → OthersStay was (core_on k p) place → now ≡ looks_of (core_on k p)
+looks-refreshed p k was now before marks place valid on alone m others =
+    let f : ℕ → ℕ → Look = look (core_on k p) in
     let own : IsRefreshed f was now before marks (number place.row place.column)
     (number place.row place.column + 1) =
     IsRefreshed-alike (λ _ _. look_alone p place) f was now before marks _ _ (λ r c there low high.
     let er : place.row ≡ r = omega (arith, on, there) in
     let ec : place.column ≡ c = omega (arith, on, there) in
-    sym (look-alone p rows place.row place.column valid on alone)
-    ∙ ap (λ q. f q place.column) er ∙ ap (λ k. f r k) ec) m in
-    IsRefreshed-looks f was now before marks _ _ own (Outside-place p rows was place on others)
+    sym (look-alone p k place.row place.column valid on alone)
+    ∙ ap (λ q. f q place.column) er ∙ ap (λ d. f r d) ec) m in
+    IsRefreshed-looks f was now before marks _ _ own (Outside-place p k was place on others)
 
 -- no stroke changes nothing
 pub page_after-none : (p : Page) (xs : List Stroke) → length xs ≡ 0 → page_after p xs ≡ p

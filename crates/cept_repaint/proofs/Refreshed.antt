@@ -14,6 +14,7 @@ use Rattle.cept_codes.specs.Table.{value_at, entry, row_of, table, IsTable}
 use Rattle.cept_codes.proofs.Laws.{value_at-table, IsTable-table, look_decides, set_row_is, table-value_at}
 use Rattle.cept_codes.proofs.Laws.{same_table}
 use Rattle.cept_codes.proofs.Laws.{OnScreen-place_of, number-place_of, row_of-list_by_index, entry-list_by_index}
+use Rattle.cept_codes.proofs.Laws.{entry_from}
 use Rattle.cept_profile.specs.Cells.{is_at}
 use Rattle.cept_profile.specs.Changes.{look_at, differences, grid_with_paint}
 use Rattle.cept_profile.specs.RowsFromAbove.{looks_in}
@@ -235,7 +236,7 @@ IsRefreshedRow-made was now before marks row fresh is long top bottom e m =
           let here : (row == r) ≡ true = grind (arith, nat_tests) in
           ap (λ (t : List (List Look)). value_at blank_look t r c) made ∙ value_at-table f blank_look r c on
           ∙ cond-true (row == r) (entry blank_look 1 fresh c) (value_at blank_look was r c) here
-          ∙ sym (column_entry-at blank_look fresh c on.from_left);
+          ∙ entry_from blank_look 1 fresh c on.from_left ∙ sym (column_entry-at blank_look fresh c on.from_left);
       marked = λ r c on low high.
           let same : row ≡ r = omega (arith, on) in
           let there : OnScreen row c = subst (λ q. OnScreen q c) (sym same) on in
@@ -260,7 +261,7 @@ IsRefreshed-row f was mid now before between marks row fresh top bottom e m n =
     let own : IsRefreshed f mid now between marks (40 * (row - 1)) (40 * row) =
     IsRefreshed-alike (λ _ c. column_entry blank_look fresh c) f mid now between marks _ _ (λ r c on low high.
     let same : row ≡ r = omega (arith, on) in
-    column_entry-at blank_look fresh c on.from_left
+    column_entry-at blank_look fresh c on.from_left ∙ sym (entry_from blank_look 1 fresh c on.from_left)
     ∙ ap (λ (l : List Look). entry blank_look 1 l c) (e ∙ row_of-list_by_index (f row))
     ∙ entry-list_by_index blank_look 1 40 (f row) c on.from_left (omega (arith, on)) ∙ ap (λ q. f q c) same) n in
     IsRefreshed-append f was mid now before between marks 0 (40 * (row - 1)) _ (omega arith) (omega arith) m

@@ -3,7 +3,8 @@ use Rattle.std.proofs.Common.{◌≡◌, ℕ, ◌+◌, ◌-◌, ◌*◌, ◌≤�
 use Rattle.cept_codes.specs.declared.look.Look.{Look}
 use Rattle.cept_codes.specs.Table.{IsTable}
 use Rattle.cept_profile.specs.Changes.{differences}
-use Rattle.cept_profile.specs.Look.{is_last_row, look, looks_of}
+use Rattle.cept_profile.specs.Edges.{edges_of_core, is_last}
+use Rattle.cept_profile.specs.Look.{look, looks_of}
 use Rattle.cept_profile.specs.RowsFromAbove.{looks_in}
 use Rattle.cept_profile.specs.State.{Core}
 use Rattle.cept_repaint.specs.Kept.{row_beneath, IsRefreshed, IsRefreshedRow}
@@ -27,7 +28,7 @@ RestoredTo-first k was marks steps is none = record {
 
 pub RestoredTo-more : {k : Core} {was mid : List (List Look)} {between : List Bool} {start steps row : ℕ}
     → RestoredTo k was mid between start steps row → 1 ≤ row → row ≤ 24
-    → (last : Bool) → last ≡ is_last_row k.rows row → (now : List (List Look)) (marks : List Bool) (more : ℕ)
+    → (last : Bool) → last ≡ is_last (edges_of_core k) row → (now : List (List Look)) (marks : List Bool) (more : ℕ)
     → IsRefreshedRow (row_beneath (looks_in mid (row - 1)) k.page row last) row mid now between marks
     → more ≡ steps + 1 → RestoredTo k was now marks start more (row + 1)
 RestoredTo-more {k} {was} {mid} {between} {start} {steps} {row} m top bottom last el now marks more r tick = record {

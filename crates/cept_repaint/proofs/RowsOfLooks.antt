@@ -13,7 +13,9 @@ use Rattle.cept_codes.specs.Look.{blank_look}
 use Rattle.cept_codes.specs.Place.{OnScreen}
 use Rattle.cept_codes.specs.Same.{same_look}
 use Rattle.cept_codes.specs.Table.{value_at, row_of, table, IsTable}
+use Rattle.cept_codes.specs.Table.{list_by_index}
 use Rattle.cept_codes.proofs.Laws.{IsTable-table, look_decides, table-list_by_index, entry-list_by_index}
+use Rattle.cept_codes.proofs.Laws.{entry_from}
 use Rattle.cept_profile.specs.Look.{part_of}
 use Rattle.cept_profile.specs.RowsFromAbove.{blank_looks, covering_differs, is_other_covering, look_seen, looks_in}
 use Rattle.cept_profile.specs.Tiling.{column_entry, covers_below}
@@ -61,6 +63,7 @@ pub looks_in-table : (f : ℕ → ℕ → Look) (r : ℕ) → 1 ≤ r → r ≤ 
 looks_in-table f r low high =
     looks_in-at (table f) r (IsTable-table f) low high
     ∙ ap (λ (t : List (List Look)). get_or t (r - 1) []) (table-list_by_index f)
+    ∙ sym (entry_from [] 1 (list_by_index 1 24 (λ q. row_of (f q))) r low)
     ∙ entry-list_by_index [] 1 24 (λ q. row_of (f q)) r low (omega arith)
 
 -- a row replaced

@@ -16,7 +16,8 @@ use Rattle.cept_codes.specs.declared.stroke.Stroke.{Stroke}
 use Rattle.cept_codes.specs.declared.stroke.Stroke.TheVariants as strokes
 use Rattle.cept_codes.specs.Place.{Place, OnScreen}
 use Rattle.cept_codes.specs.Table.{entry, list_by_index}
-use Rattle.cept_codes.proofs.Laws.{entry-list_by_index, length-list_by_index, list_by_index-entry, same_indexed}
+use Rattle.cept_codes.proofs.Laws.{entry-list_by_index, entry_from, length-list_by_index, list_by_index-entry, same_indexed}
+use Rattle.cept_profile.specs.Edges.{Edges, edges_of}
 use Rattle.cept_profile.specs.Look.{looks_of}
 use Rattle.cept_profile.specs.Reach.{in_reach, is_row_touched, one_touches, rows_in_reach, touches}
 use Rattle.cept_profile.specs.State.{State, core_of, state_after}
@@ -30,7 +31,9 @@ use Rattle.cept_profile.proofs.Laws.{in_reach-by, rows_in_reach-counted}
 -- where all rows are flagged each is, whether it was or not
 pub all_flagged : (rows : List Bool) (r : ℕ) → 1 ≤ r → r ≤ 24
     → entry false 1 (replicate 24 true) r ≡ (entry false 1 rows r || true)
-all_flagged rows r low high = get_or-replicate 24 (r - 1) true false (omega arith) ∙ or_true (entry false 1 rows r)
+all_flagged rows r low high =
+    entry_from false 1 (replicate 24 true) r low ∙ get_or-replicate 24 (r - 1) true false (omega arith)
+    ∙ or_true (entry false 1 rows r)
 
 -- the flags of the rows that the first n strokes touch
 pub record TouchedSoFar (xs : List Stroke) (rows : List Bool) (n : ℕ) : Type 0 where
@@ -41,7 +44,8 @@ pub TouchedSoFar-none : (xs : List Stroke) → TouchedSoFar xs (replicate 24 fal
 unfolding one_touches
 TouchedSoFar-none xs = record {
   flags = length-replicate 24 false;
-  touched = λ r low high. get_or-replicate 24 (r - 1) false false (omega arith);
+  touched = λ r low high.
+      entry_from false 1 (replicate 24 false) r low ∙ get_or-replicate 24 (r - 1) false false (omega arith);
 }
 
 pub TouchedSoFar-more : {xs : List Stroke} {rows : List Bool} {n : ℕ} → TouchedSoFar xs rows n
@@ -84,9 +88,9 @@ same_count f g same =
     ∙ count_by-list_by_index g
 
 -- as many rows are in reach of a command as its strokes reach
-pub reached-in_reach : (s : State) (command : Command) (xs : List Stroke) (before after : ℕ)
-    (was now : List (List Look)) → xs ≡ strokes_of s.control command → before ≡ s.control.rows
-    → after ≡ (state_after s command).control.rows
+pub reached-in_reach : (s : State) (command : Command) (xs : List Stroke) (before after : Edges)
+    (was now : List (List Look)) → xs ≡ strokes_of s.control command → before ≡ edges_of s.control
+    → after ≡ edges_of (state_after s command).control
     → was ≡ looks_of (core_of s) → now ≡ looks_of (core_of (state_after s command))
     → reached_rows xs before after was now ≡ rows_in_reach s command
 unfolding reached_rows
@@ -94,17 +98,17 @@ reached-in_reach s command xs before after was now es eb ea ew en =
     let next : State = state_after s command in
     ap (λ (l : List Stroke). count_by (is_reached l before after was now) (range_with_len 1 24)) es
     ∙ ap (λ n. count_by (is_reached (strokes_of s.control command) n after was now) (range_with_len 1 24)) eb
-    ∙ ap (λ n. count_by (is_reached (strokes_of s.control command) s.control.rows n was now) (range_with_len 1 24)) ea
-    ∙ ap (λ (g : List (List Look)). count_by (is_reached (strokes_of s.control command) s.control.rows
-    next.control.rows g now) (range_with_len 1 24)) ew
-    ∙ ap (λ (g : List (List Look)). count_by (is_reached (strokes_of s.control command) s.control.rows
-    next.control.rows (looks_of (core_of s)) g) (range_with_len 1 24)) en
-    ∙ same_count (is_reached (strokes_of s.control command) s.control.rows next.control.rows
+    ∙ ap (λ n. count_by (is_reached (strokes_of s.control command) (edges_of s.control) n was now) (range_with_len 1 24)) ea
+    ∙ ap (λ (g : List (List Look)). count_by (is_reached (strokes_of s.control command) (edges_of s.control)
+    (edges_of next.control) g now) (range_with_len 1 24)) ew
+    ∙ ap (λ (g : List (List Look)). count_by (is_reached (strokes_of s.control command) (edges_of s.control)
+    (edges_of next.control) (looks_of (core_of s)) g) (range_with_len 1 24)) en
+    ∙ same_count (is_reached (strokes_of s.control command) (edges_of s.control) (edges_of next.control)
     (looks_of (core_of s)) (looks_of (core_of next))) (in_reach s command) (λ r. sym (in_reach-by s command r))
     ∙ sym (rows_in_reach-counted s command)
 
 -- a cell that is put reaches its row
-pub reach-put : (p : Place) (cell : Cell) (xs : List Stroke) (before after : ℕ) (was now : List (List Look))
+pub reach-put : (p : Place) (cell : Cell) (xs : List Stroke) (before after : Edges) (was now : List (List Look))
     → xs ≡ strokes.Put p cell ∷ [] → OnScreen p.row p.column
     → 1 ≤ reached_rows xs before after was now
 unfolding one_touches reached_rows
@@ -140,7 +144,7 @@ pub ticks-no : (f : ℕ → Bool) (row before steps : ℕ) → 1 ≤ row → row
 ticks-no f row before steps low high unset e =
     let rows : List Bool = list_by_index 1 24 f in
     let flag : get_or rows (row - 1) false ≡ false =
-    entry-list_by_index false 1 24 f row low (omega arith) ∙ unset in
+    sym (entry_from false 1 rows row low) ∙ entry-list_by_index false 1 24 f row low (omega arith) ∙ unset in
     let one = count_by_more_no (λ flag. flag) rows (row - 1) false (omega (arith, length-list_by_index 1 24 f)) flag in
     e ∙ ap (λ n. before + n) (sym one ∙ ap (count_by (λ flag. flag)) (ticks-more rows row low))
 
@@ -148,13 +152,14 @@ pub ticks-yes : (f : ℕ → Bool) (row before steps next : ℕ) → 1 ≤ row �
     → steps ≡ before + reached_above f row → next ≡ steps + 1 → next ≡ before + reached_above f (row + 1)
 ticks-yes f row before steps next low high set e tick =
     let rows : List Bool = list_by_index 1 24 f in
-    let flag : get_or rows (row - 1) false ≡ true = entry-list_by_index false 1 24 f row low (omega arith) ∙ set in
+    let flag : get_or rows (row - 1) false ≡ true =
+    sym (entry_from false 1 rows row low) ∙ entry-list_by_index false 1 24 f row low (omega arith) ∙ set in
     let one = count_by_more_yes (λ flag. flag) rows (row - 1) false (omega (arith, length-list_by_index 1 24 f)) flag in
     let more = ap (count_by (λ flag. flag)) (ticks-more rows row low) in
     omega (arith, e, tick, one, more)
 
 -- all rows
-pub ticks-all : (xs : List Stroke) (after rows before steps : ℕ) (was now : List (List Look)) (row : ℕ) → 24 ≤ row - 1
+pub ticks-all : (xs : List Stroke) (after rows : Edges) (before steps : ℕ) (was now : List (List Look)) (row : ℕ) → 24 ≤ row - 1
     → steps ≡ before + reached_above (is_reached xs rows after was now) row
     → steps ≡ before + reached_rows xs rows after was now
 unfolding reached_rows

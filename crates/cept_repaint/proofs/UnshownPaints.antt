@@ -36,7 +36,7 @@ use Rattle.cept_profile.specs.Tiling.{part_at}
 use Rattle.cept_profile.specs.Valid.{IsValidPage}
 use Rattle.cept_repaint.specs.Kept.{core_on, SetsUnshown}
 use Rattle.cept_repaint.proofs.PageParts.{row_pens_left, dclut_left, patterns_left}
-use Rattle.cept_rows.specs.Unshown.{is_pattern, IsWithout}
+use Rattle.cept_rows.specs.Unshown.{is_pattern_shape, IsWithout}
 
 -- ---- the paint of one entry changes
 
@@ -82,12 +82,12 @@ module _ (p : Page) (new : List Paint) where
   now = definitions_of with_paints
 
   -- a shape that is no pattern is the same
-  same_by_pattern : (g : Glyph) (found : Option Pattern) → is_pattern (shape_by_pattern was g found) ≡ false
+  same_by_pattern : (g : Glyph) (found : Option Pattern) → is_pattern_shape (shape_by_pattern was g found) ≡ false
       → shape_by_pattern now g found ≡ shape_by_pattern was g found
   same_by_pattern g None plain = refl
   same_by_pattern g (Some pattern) plain = cc
 
-  same_in_set : (g : Glyph) (set : SetId) → is_pattern (shape_in_set was g set) ≡ false
+  same_in_set : (g : Glyph) (set : SetId) → is_pattern_shape (shape_in_set was g set) ≡ false
       → shape_in_set now g set ≡ shape_in_set was g set
   same_in_set g sets.P plain = refl
   same_in_set g sets.S plain = refl
@@ -95,15 +95,15 @@ module _ (p : Page) (new : List Paint) where
   same_in_set g sets.N plain = refl
   same_in_set g sets.D plain = same_by_pattern g (pattern_in p.patterns g.code) plain
 
-  same_sign : (g : Glyph) → is_pattern (shape_of_sign was g) ≡ false → shape_of_sign now g ≡ shape_of_sign was g
+  same_sign : (g : Glyph) → is_pattern_shape (shape_of_sign was g) ≡ false → shape_of_sign now g ≡ shape_of_sign was g
   same_sign g plain = by_space (g.code == 0x20 && g.accent == 0) plain
     where
-      by_space : (b : Bool) → is_pattern (cond b shapes.Space (shape_in_set was g g.set)) ≡ false
+      by_space : (b : Bool) → is_pattern_shape (cond b shapes.Space (shape_in_set was g g.set)) ≡ false
           → cond b shapes.Space (shape_in_set now g g.set) ≡ cond b shapes.Space (shape_in_set was g g.set)
       by_space true none = refl
       by_space false none = same_in_set g g.set none
 
-  same_shape : (what : What) (held : Option Glyph) → is_pattern (shape_in was what held) ≡ false
+  same_shape : (what : What) (held : Option Glyph) → is_pattern_shape (shape_in was what held) ≡ false
       → shape_in now what held ≡ shape_in was what held
   same_shape whats.Blank held plain = refl
   same_shape (whats.Serial g) held plain = same_sign g plain
@@ -112,12 +112,12 @@ module _ (p : Page) (new : List Paint) where
   same_shape (whats.Marker m) (Some g) plain = same_sign g plain
 
   module _ (i : ℕ) (ink : Rgb) (is : paint_in p.paints i ≡ paints.Ink ink)
-      (others : (e : ℕ) → e ≢ i → paint_in new e ≡ paint_in p.paints e) (rows : ℕ) where
+      (others : (e : ℕ) → e ≢ i → paint_in new e ≡ paint_in p.paints e) (m : Core) where
     abbrev before : Core
-    before = core_on p rows
+    before = core_on m p
 
     abbrev after : Core
-    after = core_on with_paints rows
+    after = core_on m with_paints
 
     same_own : (r c : ℕ) → IsWithout (paints.Ink ink) (own_look before r c) → own_look after r c ≡ own_look before r c
     unfolding look_in_row
@@ -168,14 +168,14 @@ one_entry_set p i paint valid = λ j. record {
 }
 
 -- where no look shows the paint of the entry, all looks stay
-pub looks_of-unshown : (p : Page) (xs : List Stroke) (rows : ℕ) (kept : List (List Look)) → IsValidPage p
-    → kept ≡ looks_of (core_on p rows) → SetsUnshown p xs kept → kept ≡ looks_of (core_on (page_after p xs) rows)
-looks_of-unshown p xs rows kept valid is sets =
+pub looks_of-unshown : (p : Page) (xs : List Stroke) (m : Core) (kept : List (List Look)) → IsValidPage p
+    → kept ≡ looks_of (core_on m p) → SetsUnshown p xs kept → kept ≡ looks_of (core_on m (page_after p xs))
+looks_of-unshown p xs m kept valid is sets =
     let new = paints_after p.paints (strokes.Colour sets.entry sets.paint) in
     is
     ∙ sym (same_looks p new sets.entry sets.ink sets.was (other_entries p.paints sets.entry sets.paint valid.colours)
-    rows (λ r c on. subst (λ (l : Look). IsWithout (paints.Ink sets.ink) l)
+    m (λ r c on. subst (λ (l : Look). IsWithout (paints.Ink sets.ink) l)
     (ap (λ (t : List (List Look)). value_at blank_look t r c) is
-    ∙ value_at-table (look (core_on p rows)) blank_look r c on) (sets.unshown r c on)))
-    ∙ ap (λ (q : Page). looks_of (core_on q rows)) (sym (one_entry_set p sets.entry sets.paint valid))
-    ∙ ap (λ (l : List Stroke). looks_of (core_on (page_after p l) rows)) (sym sets.only)
+    ∙ value_at-table (look (core_on m p)) blank_look r c on) (sets.unshown r c on)))
+    ∙ ap (λ (q : Page). looks_of (core_on m q)) (sym (one_entry_set p sets.entry sets.paint valid))
+    ∙ ap (λ (l : List Stroke). looks_of (core_on m (page_after p l))) (sym sets.only)

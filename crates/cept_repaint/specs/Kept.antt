@@ -1,6 +1,6 @@
 -- What a screen keeps beside its state (this project's own): the look at each place, and when looks are refreshed.
 -- Private clauses alone cite this file, but for the cell of a page.
-use Rattle.std.specs.Prelude.{ℕ, ◌≡◌, ◌<◌, ◌≤◌, ◌*◌, ◌-◌, ◌||◌, Bool, true, false, not, None, List, [], ◌∷◌, length}
+use Rattle.std.specs.Prelude.{ℕ, ◌≡◌, ◌<◌, ◌≤◌, ◌*◌, ◌-◌, ◌||◌, Bool, true, false, not, List, [], ◌∷◌, length}
 use Rattle.std.specs.List.{count_by, list_any, range_with_len}
 use Rattle.cept_codes.specs.declared.cell.Cell.{Cell}
 use Rattle.cept_codes.specs.declared.cell.What.{What}
@@ -17,6 +17,7 @@ use Rattle.cept_codes.specs.Same.{same_look}
 use Rattle.cept_codes.specs.Table.{value_at, IsTable}
 use Rattle.cept_profile.specs.Cells.{is_at}
 use Rattle.cept_profile.specs.Control.{ControlState}
+use Rattle.cept_profile.specs.Edges.{Edges, edges_of_core}
 use Rattle.cept_profile.specs.Look.{look, look_in_row, look_of, looks_of, size_in_row}
 use Rattle.cept_profile.specs.PageParts.{paint_in, row_pen_in}
 use Rattle.cept_profile.specs.Reach.{is_row_touched}
@@ -31,9 +32,17 @@ use Rattle.cept_rows.specs.Unshown.{IsWithout}
 abbrev pub cell_at : Page → Place → Cell
 cell_at p place = value_at blank_cell p.cells place.row place.column
 
--- a core with this page and so many rows: no look shows more of control
-abbrev pub core_on : Page → ℕ → Core
-core_on p rows = record { page = p; rows = rows; wrap = true; area = None; implicit = false }
+-- the core with another page
+abbrev pub core_on : Core → Page → Core
+core_on k p = record k { page = p }
+
+-- these are the edges of a core
+abbrev pub AreEdges : Edges → Type 0
+AreEdges edges = (k : Core) × (edges_of_core k ≡ edges)
+
+-- the looks of a page with these edges: those of every core that has both
+abbrev pub AreLooksOn : List (List Look) → Page → Edges → Type 0
+AreLooksOn looks p edges = (k : Core) → edges_of_core k ≡ edges → looks ≡ looks_of (core_on k p)
 
 -- what stands in each column of row r of a page
 abbrev pub contents_in : Page → ℕ → ℕ → What
@@ -51,12 +60,12 @@ abbrev pub look_alone : Page → Place → Look
 look_alone p place =
     look_of (definitions_of p) (row_pen_in p.row_pens place.row) p.screen_pen (cell_at p place).what
 
--- strokes reach row r, where the page had so many rows before and has so many after, and these were and are its looks
-abbrev pub is_reached : List Stroke → ℕ → ℕ → List (List Look) → List (List Look) → ℕ → Bool
+-- strokes reach row r, where the page had these edges before and has those after, and these were and are its looks
+abbrev pub is_reached : List Stroke → Edges → Edges → List (List Look) → List (List Look) → ℕ → Bool
 is_reached strokes before after was now r = is_row_touched strokes before after r || covering_differs was now r
 
 -- how many rows of the screen they reach
-unfoldable pub reached_rows : List Stroke → ℕ → ℕ → List (List Look) → List (List Look) → ℕ
+unfoldable pub reached_rows : List Stroke → Edges → Edges → List (List Look) → List (List Look) → ℕ
 reached_rows strokes before after was now = count_by (is_reached strokes before after was now) (range_with_len 1 24)
 
 -- the looks aren't the same
@@ -82,10 +91,10 @@ is_other_above was fresh =
 abbrev pub OthersStay : List (List Look) → Core → Place → Type 0
 OthersStay was k place = (r c : ℕ) → OnScreen r c → is_at place r c ≡ false → value_at blank_look was r c ≡ look k r c
 
--- all rows that strokes don't reach look as they did, where the page had so many rows before
-abbrev pub UnreachedStay : List Stroke → ℕ → List (List Look) → Core → Type 0
+-- all rows that strokes don't reach look as they did, where the page had these edges before
+abbrev pub UnreachedStay : List Stroke → Edges → List (List Look) → Core → Type 0
 UnreachedStay strokes before was k =
-    (r c : ℕ) → OnScreen r c → is_reached strokes before k.rows was (looks_of k) r ≡ false
+    (r c : ℕ) → OnScreen r c → is_reached strokes before (edges_of_core k) was (looks_of k) r ≡ false
     → value_at blank_look was r c ≡ look k r c
 
 -- the only stroke sets a colour entry, no look that is kept has the paint that the entry has, and none is a pattern

@@ -1,6 +1,7 @@
 -- Rows in which no marker stands and no double size is set (this project's own): there each cell looks as it does by
 -- itself, where the row above covers nothing either. Private clauses alone cite this file.
 use Rattle.std.specs.Prelude.{ℕ, ◌≡◌, ◌≤◌, ◌<◌, ◌-◌, ◌==◌, ◌&&◌, ◌||◌, Bool, false, List, length}
+use Rattle.std.specs.Prelude.{Option, Some, None}
 use Rattle.cept_codes.specs.declared.attribute.Attr.{Attr}
 use Rattle.cept_codes.specs.declared.attribute.Attr.TheVariants as attrs
 use Rattle.cept_codes.specs.declared.cell.Cell.{Cell}
@@ -10,8 +11,9 @@ use Rattle.cept_codes.specs.declared.stroke.Stroke.TheVariants as strokes
 use Rattle.cept_codes.specs.Cell.{blank_cell}
 use Rattle.cept_codes.specs.Place.{OnScreen}
 use Rattle.cept_codes.specs.Table.{value_at, entry}
-use Rattle.cept_profile.specs.Cells.{shifted}
+use Rattle.cept_profile.specs.Cells.{value_after_move}
 use Rattle.cept_profile.specs.Look.{is_double, is_double_set, sets_double_size}
+use Rattle.cept_profile.specs.MovedRows.{MovedRows, moved_rows}
 use Rattle.cept_profile.specs.PageParts.{row_pen_in}
 use Rattle.cept_profile.specs.Serial.{is_marker}
 use Rattle.cept_profile.specs.State.{Page}
@@ -53,22 +55,25 @@ pub record IsKeptPage (p : Page) (marked sized : List Bool) : Type 0 where
   pub sizes : AreRowFlags (IsSingleRow p) sized
 
 -- the flag of row r after a stroke, by the flags before it: something such that is put sets its own, a wipe unsets each,
--- and a shift moves them with the cells
+-- and any other moves them with the cells of the rows that it moves
 abbrev pub flag_after : (What → Bool) → Stroke → (ℕ → Bool) → ℕ → Bool
 flag_after is_such (strokes.Put p cell) was r = was r || (p.row == r && is_such cell.what)
 flag_after is_such strokes.Wipe was r = false
-flag_after is_such (strokes.Shift first last way) was r = shifted way first last false was r
-flag_after is_such _ was r = was r
+flag_after is_such stroke was r = value_after_move (moved_rows stroke) false was r
 
 -- an attribute of a double size
 abbrev pub gives_size : Attr → Bool
 gives_size (attrs.Size size) = is_double size
 gives_size _ = false
 
--- the flag of sizes: an attribute of its row sets it too, and stays where a shift moves the cells
+-- the flag of sizes of row r after these rows moved: the cells bring theirs, and it stays, since attributes stay
+abbrev pub size_flag_after_move : Option MovedRows → (ℕ → Bool) → ℕ → Bool
+size_flag_after_move None was r = was r
+size_flag_after_move (Some moved) was r = was r || value_after_move (Some moved) false was r
+
+-- the flag of sizes: an attribute of its row sets it too
 abbrev pub size_flag_after : Stroke → (ℕ → Bool) → ℕ → Bool
 size_flag_after (strokes.Put p cell) was r = was r || (p.row == r && sets_double_size cell.what)
 size_flag_after (strokes.RowAttr row attr) was r = was r || (row == r && gives_size attr)
 size_flag_after strokes.Wipe was r = false
-size_flag_after (strokes.Shift first last way) was r = was r || shifted way first last false was r
-size_flag_after _ was r = was r
+size_flag_after stroke was r = size_flag_after_move (moved_rows stroke) was r

@@ -2,10 +2,10 @@ ghost use Rattle.std.specs.Prelude.{◌≡◌, ◌≤◌, ◌<◌, ◌+◌, ◌-
 ghost use Rattle.std.specs.Prelude.{slice_index_or, IfSome, nat_le, ◌&&◌};
 ghost use Rattle.cept_codes.specs.declared.cell.Cell.{Cell};
 ghost use Rattle.cept_codes.specs.Table.{list_by_index, entry};
-ghost use Rattle.cept_profile.specs.Look.{is_last_row};
 ghost use Rattle.cept_profile.specs.Reach.{is_last_under_one, one_touches, touches};
 
 use cept_codes::{Cell, Pos, Stroke};
+use cept_control::Edges;
 
 /// A cell that is put at a place, where it stands.
 #[derive(Clone, Copy)]
@@ -83,16 +83,9 @@ fn flag_area(first: u8, last: u8, rows: &mut [bool; 24])
     }
 }
 
-/// Whether a row from this many on is last: no sign in it is high.
-pub(crate) fn is_last_row(rows: u8, row: u8) -> bool
-    ensures { result ≡ is_last_row rows row }
-{
-    rows <= row
-}
-
 /// Whether a row becomes last, or is so no longer.
-pub(crate) fn is_last_under_one(before: u8, after: u8, row: u8) -> bool
-    ensures { result ≡ is_last_under_one before after row }
+pub(crate) fn is_last_under_one(before: &Edges, after: &Edges, row: u8) -> bool
+    ensures { result ≡ is_last_under_one before.now after.now row }
 {
-    is_last_row(before, row) != is_last_row(after, row)
+    before.is_last(row) != after.is_last(row)
 }

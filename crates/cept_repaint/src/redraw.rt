@@ -22,13 +22,15 @@ ghost use Rattle.cept_codes.specs.Stroke.{IsValidStroke};
 ghost use Rattle.cept_codes.specs.Table.{value_at, entry};
 ghost use Rattle.cept_profile.specs.Cells.{is_at};
 ghost use Rattle.cept_profile.specs.Changes.{differences, grid_with_paint, look_at};
+ghost use Rattle.cept_profile.specs.Edges.{edges_of_core};
 ghost use Rattle.cept_profile.specs.Look.{look, looks_of};
 ghost use Rattle.cept_profile.specs.Reach.{is_last_under_one, is_row_touched};
 ghost use Rattle.cept_profile.specs.RowsFromAbove.{covering_differs, is_other_covering, looks_in};
-ghost use Rattle.cept_profile.specs.State.{page_after};
+ghost use Rattle.cept_profile.specs.State.{Core, page_after};
 ghost use Rattle.cept_profile.specs.Tiling.{column_entry};
 ghost use Rattle.cept_profile.specs.Valid.{IsValidPage};
-ghost use Rattle.cept_repaint.specs.Kept.{core_on, is_other_above, look_alone, looks_differ};
+ghost use Rattle.cept_repaint.specs.Kept.{AreEdges, AreLooksOn, core_on, is_other_above};
+ghost use Rattle.cept_repaint.specs.Kept.{look_alone, looks_differ};
 ghost use Rattle.cept_repaint.specs.Kept.{reached_rows, row_beneath};
 ghost use Rattle.cept_repaint.specs.Kept.{HasMarkedRow, IsRefreshedRow, OthersStay, UnreachedStay};
 ghost use Rattle.cept_repaint.specs.Kept.{SetsUnshown};
@@ -38,39 +40,42 @@ ghost use Rattle.cept_repaint.specs.Marks.{no_marks};
 use crate::kept_rows::KeptRows;
 use crate::marks::Marks;
 use crate::page::Page;
-use crate::reach::{is_last_row, is_last_under_one, only_put, rows_touched};
+use crate::reach::{is_last_under_one, only_put, rows_touched};
 use cept_codes::{Paint, Pos, Stroke};
+use cept_control::Edges;
 use cept_outside::Steps;
 use cept_rows::RowLooks;
 use std::sync::ledger::Ledger;
 
 /// Draws the strokes on the page, resolves the rows that they reach and no others, and keeps their
-/// looks. Marks the places at which these differ from those before, and no others. The page has so
-/// many rows before and so many after.
+/// looks. Marks the places at which these differ from those before, and no others. The page has these
+/// edges before and those after.
 pub(crate) fn redraw<L: Ledger>(
     page: &mut Page,
     strokes: &[Stroke],
-    before: u8,
-    after: u8,
+    before: &Edges,
+    after: &Edges,
     kept: &mut KeptRows,
     fresh: &mut RowLooks,
     marks: &mut Marks,
     steps: &mut Steps<L>,
 )
-    requires kept { kept.old ≡ looks_of (core_on page.old before) }
+    requires from { AreEdges before.now }
+    requires to { AreEdges after.now }
+    requires kept { AreLooksOn kept.old page.old before.now }
     requires was_valid { IsValidPage page.old }
     requires strokes { AllByRecursion IsValidStroke strokes.now }
     requires valid { IsValidPage (page_after page.old strokes.now) }
     ensures page { page.new ≡ page_after page.old strokes.now }
-    ensures kept { kept.new ≡ looks_of (core_on page.new after) }
+    ensures kept { AreLooksOn kept.new page.new after.now }
     ensures marks { marks.new ≡ differences kept.old kept.new }
     ensures cost { steps.new
-        ≤ steps.old + reached_rows strokes.now before after kept.old kept.new }
-    ensures unshown { before ≡ after → SetsUnshown page.old strokes.now kept.old
+        ≤ steps.old + reached_rows strokes.now before.now after.now kept.old kept.new }
+    ensures unshown { before.now ≡ after.now → SetsUnshown page.old strokes.now kept.old
         → steps.new ≡ steps.old }
 {
     marks.clear();
-    if before != after {
+    if !before.is_same(after) {
         page.draw_all(strokes);
         refresh_rows(page, strokes, before, after, kept, fresh, marks, steps);
         return;
@@ -124,8 +129,8 @@ fn refresh_place<L: Ledger>(
     requires none { marks.old ≡ no_marks }
     requires valid { IsValidPage page.now }
     requires alone { StandsAlone page.now place.row }
-    ensures kept { (rows : ℕ) → OthersStay kept.old (core_on page.now rows) place
-        → kept.new ≡ looks_of (core_on page.now rows) }
+    ensures kept { (k : Core) → OthersStay kept.old (core_on k page.now) place
+        → kept.new ≡ looks_of (core_on k page.now) }
     ensures marks { marks.new ≡ differences kept.old kept.new }
     ensures cost { steps.new ≡ steps.old + 1 }
     ensures on_screen { OnScreen place.row place.column }
@@ -169,8 +174,8 @@ fn resolve_alone<L: Ledger>(
 fn refresh_rows<L: Ledger>(
     page: &Page,
     strokes: &[Stroke],
-    before: u8,
-    after: u8,
+    before: &Edges,
+    after: &Edges,
     kept: &mut KeptRows,
     fresh: &mut RowLooks,
     marks: &mut Marks,
@@ -178,11 +183,13 @@ fn refresh_rows<L: Ledger>(
 )
     requires none { marks.old ≡ no_marks }
     requires valid { IsValidPage page.now }
-    requires others { UnreachedStay strokes.now before kept.old (core_on page.now after) }
-    ensures kept { kept.new ≡ looks_of (core_on page.now after) }
+    requires to { AreEdges after.now }
+    requires others { (k : Core) → edges_of_core k ≡ after.now
+        → UnreachedStay strokes.now before.now kept.old (core_on k page.now) }
+    ensures kept { AreLooksOn kept.new page.now after.now }
     ensures marks { marks.new ≡ differences kept.old kept.new }
     ensures cost { steps.new
-        ≡ steps.old + reached_rows strokes.now before after kept.old kept.new }
+        ≡ steps.old + reached_rows strokes.now before.now after.now kept.old kept.new }
 {
     kept.tell_whole();
     let touched = rows_touched(strokes);
@@ -195,7 +202,7 @@ fn refresh_rows<L: Ledger>(
         covered = refresh_row(
             page,
             row,
-            is_last_row(after, row),
+            after.is_last(row),
             kept,
             fresh,
             marks,

@@ -195,15 +195,15 @@ impl Screen {
             → IsUnshown (paint_in self.old.page.paints i) (looks_of (core_of self.old))
             → steps.new ≡ steps.old }
     {
-        let before = self.control.rows();
+        let before = self.control.edges();
         self.control.step_into(command, &mut self.strokes);
-        let after = self.control.rows();
+        let after = self.control.edges();
         let strokes = self.strokes.as_slice();
         redraw(
             &mut self.page,
             strokes,
-            before,
-            after,
+            &before,
+            &after,
             &mut self.rows,
             &mut self.fresh,
             marks,
@@ -350,10 +350,10 @@ impl Screen {
         ensures at_most_24 { steps.new ≤ steps.old + 24 }
     {
         from.copy_to(&mut self.page, &mut self.control);
-        let rows = self.control.rows();
+        let edges = self.control.edges();
         redraw_all(
             &self.page,
-            rows,
+            &edges,
             &mut self.rows,
             &mut self.fresh,
             marks,

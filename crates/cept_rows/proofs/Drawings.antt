@@ -14,7 +14,9 @@ use Rattle.cept_codes.specs.declared.look.Pattern.{Pattern}
 use Rattle.cept_codes.specs.Same.{same_inks, same_paint, same_pattern}
 use Rattle.cept_codes.specs.Look.{black_paint}
 use Rattle.cept_codes.specs.Table.{HasMadeEntries, list_by_index}
+use Rattle.cept_codes.specs.Table.{entry}
 use Rattle.cept_codes.proofs.Laws.{HasMadeEntries-all, entry-list_by_index, length-list_by_index}
+use Rattle.cept_codes.proofs.Laws.{entry_from}
 use Rattle.cept_profile.specs.Definitions.{Definitions, inks_of}
 use Rattle.cept_profile.specs.PageParts.{dclut_in, list_of_dclut, paint_in}
 use Rattle.cept_rows.specs.declared.drawing.Drawing.{Drawing}
@@ -62,8 +64,15 @@ pub all_black : (from : ℕ) (f : ℕ → Paint)
 all_black from f = record {
   long = length-replicate 16 black_paint;
   made = λ k low high none. absurd (omega arith);
-  left = λ k low high more. get_or-replicate 16 (k - from) black_paint black_paint (omega arith);
+  left = λ k low high more. entry_from black_paint from (replicate 16 black_paint) k low
+      ∙ get_or-replicate 16 (k - from) black_paint black_paint (omega arith);
 }
+
+-- read from index 0 on
+read_first : (list : List Paint) (k : ℕ) → get_or list k black_paint ≡ entry black_paint 0 list k
+read_first list k =
+    let index : k ≡ k - 0 = omega arith in
+    ap (λ j. get_or list j black_paint) index ∙ sym (entry_from black_paint 0 list k (omega arith))
 
 -- the first four given, and the others black
 four_made : (f : ℕ → Paint) (list : List Paint) (n : ℕ)
@@ -76,13 +85,12 @@ four_made f list n made whole =
     ∙ (λ i. long i + length-replicate 12 black_paint i)))
     (λ k below.
     let inside : k < 16 = omega (arith, below, made.long) in
-    let index : k ≡ k - 0 = omega arith in
-    ap (λ j. get_or list j black_paint) index
+    read_first list k
     ∙ elim (cases_lt k 4) [
       | inl first ↦
           made.made k (omega arith) inside (omega (arith, first, whole))
           ∙ sym (entry-list_by_index black_paint 0 4 f k (omega arith) first)
-          ∙ sym (ap (λ j. get_or (list_of_dclut f) j black_paint) index)
+          ∙ sym (read_first (list_of_dclut f) k)
           ∙ sym (get_or_append_left (list_of_dclut f) (replicate 12 black_paint) black_paint k (omega
           (arith, first, long)))
       | inr past ↦

@@ -15,7 +15,7 @@ use Rattle.cept_codes.specs.Attribute.{unset_pen}
 use Rattle.cept_codes.specs.Look.{blank_look}
 use Rattle.cept_codes.specs.Table.{row_of}
 use Rattle.cept_profile.specs.Attributes.{cascade, first_value}
-use Rattle.cept_profile.specs.Carry.{Carry, carry, carry_after, carry_in}
+use Rattle.cept_profile.specs.Influence.{Influence, influence, influence_after, influence_in}
 use Rattle.cept_profile.specs.Definitions.{Definitions}
 use Rattle.cept_profile.specs.PageParts.{paint_in}
 use Rattle.cept_profile.specs.Look.{is_double_set, look_in_row, look_of, sets_double_size, look_with, look_with_part}
@@ -25,7 +25,7 @@ use Rattle.cept_profile.specs.RowsFromAbove.{look_by, look_from, row_from_above}
 use Rattle.cept_profile.specs.Serial.{acts_there, held_sign, is_marker, own_attributes_of, serial_attributes}
 use Rattle.cept_profile.specs.Tiling.{column_entry, covers_below, covers_right, is_covered_from_left, is_high}
 use Rattle.cept_profile.specs.Tiling.{is_wide, origin_part, part_below, part_to_the_right, single_part}
-use Rattle.cept_profile.proofs.Laws.{carry-start, carry-suc, serial_attributes-suc, in_plain, unmarked}
+use Rattle.cept_profile.proofs.Laws.{influence-start, influence-suc, serial_attributes-suc, in_plain, unmarked}
 use Rattle.cept_rows.specs.declared.small_look.SmallLook.{SmallLook}
 use Rattle.cept_rows.specs.SmallLooks.{small_of}
 use Rattle.cept_rows.proofs.Columns.{same_rows}
@@ -38,7 +38,7 @@ attributes_alone : (row : ℕ → What) (pen screen : Pen) (c : ℕ) → 1 ≤ c
 attributes_alone row pen screen zero low plain = absurd (omega arith)
 attributes_alone row pen screen (suc c) low plain =
     serial_attributes-suc row pen screen c
-    ∙ in_plain (row (suc c)) (carry row pen screen c) (plain (suc c) low (omega arith))
+    ∙ in_plain (row (suc c)) (influence row pen screen c) (plain (suc c) low (omega arith))
     ∙ unmarked row pen screen c (λ d from to. plain d from (omega arith))
 
 -- what is no marker is drawn as itself
@@ -74,8 +74,8 @@ look_alone defined row pen screen c low plain =
 -- ---- sizes
 
 -- what sets no size leaves the single one in force after it, and in its own cell
-single_after : (w : What) (s : Carry) → sets_double_size w ≡ false → s.full.size ≡ sizes.Normal
-    → (carry_after w s).full.size ≡ sizes.Normal
+single_after : (w : What) (s : Influence) → sets_double_size w ≡ false → s.full.size ≡ sizes.Normal
+    → (influence_after w s).full.size ≡ sizes.Normal
 single_after (whats.Marker (markers.Size sizes.Normal)) s sets e = refl
 single_after (whats.Marker (markers.Size sizes.High)) s sets e = cc
 single_after (whats.Marker (markers.Size sizes.Wide)) s sets e = cc
@@ -94,20 +94,20 @@ single_after whats.Blank s sets e = e
 single_after (whats.Serial g) s sets e = e
 single_after (whats.Parallel g p) s sets e = e
 
-single_in : (w : What) (s : Carry) → sets_double_size w ≡ false → s.full.size ≡ sizes.Normal
-    → (carry_in w s).full.size ≡ sizes.Normal
+single_in : (w : What) (s : Influence) → sets_double_size w ≡ false → s.full.size ≡ sizes.Normal
+    → (influence_in w s).full.size ≡ sizes.Normal
 single_in w s sets e =
-    cond_both (acts_there w) (carry_after w s) s (λ t. t.full.size ≡ sizes.Normal) (λ acts. single_after w s sets e)
+    cond_both (acts_there w) (influence_after w s) s (λ t. t.full.size ≡ sizes.Normal) (λ acts. single_after w s sets e)
     (λ acts. e)
 
 -- in a row that sets none it is carried everywhere, and in force everywhere
 single_carried : (row : ℕ → What) (pen screen : Pen) (c : ℕ) → ((d : ℕ) → 1 ≤ d → d ≤ c
     → sets_double_size (row d) ≡ false)
-    → (cascade unset_pen pen screen).size ≡ sizes.Normal → (carry row pen screen c).full.size ≡ sizes.Normal
-single_carried row pen screen zero plain e = ap (λ (s : Carry). s.full.size) (sym (carry-start row pen screen)) ∙ e
+    → (cascade unset_pen pen screen).size ≡ sizes.Normal → (influence row pen screen c).full.size ≡ sizes.Normal
+single_carried row pen screen zero plain e = ap (λ (s : Influence). s.full.size) (sym (influence-start row pen screen)) ∙ e
 single_carried row pen screen (suc c) plain e =
-    rw (carry-suc row pen screen c)
-    (single_after (row (suc c)) (carry row pen screen c) (plain (suc c) (omega arith) (omega arith))
+    rw (influence-suc row pen screen c)
+    (single_after (row (suc c)) (influence row pen screen c) (plain (suc c) (omega arith) (omega arith))
     (single_carried row pen screen c (λ d low high. plain d low (omega arith)) e))
 
 single_serial : (row : ℕ → What) (pen screen : Pen) (c : ℕ) → 1 ≤ c → ((d : ℕ) → 1 ≤ d → d ≤ c
@@ -116,7 +116,7 @@ single_serial : (row : ℕ → What) (pen screen : Pen) (c : ℕ) → 1 ≤ c �
 single_serial row pen screen zero low plain e = absurd (omega arith)
 single_serial row pen screen (suc c) low plain e =
     rw (serial_attributes-suc row pen screen c)
-    (single_in (row (suc c)) (carry row pen screen c) (plain (suc c) low (omega arith))
+    (single_in (row (suc c)) (influence row pen screen c) (plain (suc c) low (omega arith))
     (single_carried row pen screen c (λ d from to. plain d from (omega arith)) e))
 
 -- a pen that sets none

@@ -21,6 +21,7 @@ use Rattle.cept_codes.specs.Table.{HasMadeEntries, row_of}
 use Rattle.cept_codes.specs.declared.look.Pattern.{Pattern}
 use Rattle.cept_codes.specs.Look.{IsValidLook, IsValidPaint, IsValidPattern, blank_look}
 use Rattle.cept_codes.proofs.Laws.{entry_past}
+use Rattle.cept_codes.proofs.Laws.{entry_from}
 use Rattle.cept_profile.specs.Definitions.{Definitions}
 use Rattle.cept_profile.specs.PageParts.{paint_in, pattern_in}
 use Rattle.cept_profile.specs.Valid.{AreValidDefinitions}
@@ -291,7 +292,8 @@ left_made : (f g : ℕ → Look) (looks : List Look) (c : ℕ) → HasMadeEntrie
 left_made f g looks c made first low high =
     elim (cases_lt 0 (c - 1)) [
       | inl some ↦
-          column_entry-at blank_look looks (c - 1) some ∙ made.made (c - 1) some (omega arith) (omega arith)
+          column_entry-at blank_look looks (c - 1) some ∙ sym (entry_from blank_look 1 looks (c - 1) some)
+          ∙ made.made (c - 1) some (omega arith) (omega arith)
       | inr none ↦
           let e : c - 1 ≡ 0 = omega (arith, none) in
           ap (λ n. column_entry blank_look looks n) e ∙ sym first ∙ ap f (sym e)

@@ -12,10 +12,10 @@ use Rattle.cept_profile.specs.Tiling.{column_entry}
 use Rattle.cept_rows.specs.declared.small_look.SmallLook.{SmallLook}
 use Rattle.cept_rows.specs.declared.small_look.Tint.{Tint}
 use Rattle.cept_rows.specs.SmallLooks.{has_pattern, is_drcs, sign_of, small_of, tint_of}
-use Rattle.cept_rows.specs.Unshown.{is_pattern, IsWithout, AreWithout}
+use Rattle.cept_rows.specs.Unshown.{is_pattern_shape, IsWithout, AreWithout}
 
 -- a pattern is drawn where the sign says so
-pattern_drawn : (s : Shape) → is_pattern s ≡ is_drcs (sign_of s).kind
+pattern_drawn : (s : Shape) → is_pattern_shape s ≡ is_drcs (sign_of s).kind
 pattern_drawn shapes.Space = refl
 pattern_drawn (shapes.Char g) = refl
 pattern_drawn (shapes.Drcs pattern inks) = refl

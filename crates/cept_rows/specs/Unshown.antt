@@ -8,14 +8,14 @@ use Rattle.cept_codes.specs.Look.{blank_look}
 use Rattle.cept_profile.specs.Tiling.{column_entry}
 
 -- a pattern is drawn
-abbrev pub is_pattern : Shape → Bool
-is_pattern shapes.Space = false
-is_pattern (shapes.Char g) = false
-is_pattern (shapes.Drcs pattern inks) = true
+abbrev pub is_pattern_shape : Shape → Bool
+is_pattern_shape shapes.Space = false
+is_pattern_shape (shapes.Char g) = false
+is_pattern_shape (shapes.Drcs pattern inks) = true
 
 -- no pattern is drawn, and neither the sign nor the background has this paint
 pub record IsWithout (paint : Paint) (l : Look) : Type 0 where
-  pub plain : is_pattern l.shape ≡ false
+  pub plain : is_pattern_shape l.shape ≡ false
   pub fore : l.fore ≢ paint
   pub back : l.back ≢ paint
 

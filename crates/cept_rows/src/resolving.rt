@@ -9,8 +9,8 @@ ghost use Rattle.cept_codes.specs.Cell.{IsValidWhat};
 ghost use Rattle.cept_codes.specs.Look.{blank_look};
 ghost use Rattle.cept_codes.specs.Table.{row_of};
 ghost use Rattle.cept_profile.specs.Attributes.{cascade};
+ghost use Rattle.cept_profile.specs.Edges.{edges_of_core, is_last};
 ghost use Rattle.cept_profile.specs.Look.{
-  is_last_row,
   look_in_row,
   looks_of,
   part_of,
@@ -66,7 +66,7 @@ pub fn resolve_row<L: Ledger>(
         → cells.now.cells ≡ slice_index_or k.page.cells (r - 1) []
         → row.now ≡ row_pen_in k.page.row_pens r → screen.now ≡ k.page.screen_pen
         → drawn_with colours.now patterns.now ≡ definitions_of k.page
-        → last ≡ is_last_row k.rows r → result ≡ looks_in (looks_of k) r }
+        → last ≡ is_last (edges_of_core k) r → result ≡ looks_in (looks_of k) r }
     ensures tick { steps.new ≡ steps.old + 1 }
 {
     let mut looks = RowLooks::flat();
@@ -108,7 +108,7 @@ pub fn resolve_cells<L: Ledger>(
         → cells.now ≡ slice_index_or k.page.cells (r - 1) []
         → row.now ≡ row_pen_in k.page.row_pens r → screen.now ≡ k.page.screen_pen
         → drawn_with colours.now patterns.now ≡ definitions_of k.page
-        → last ≡ is_last_row k.rows r → looks.new ≡ looks_in (looks_of k) r }
+        → last ≡ is_last (edges_of_core k) r → looks.new ≡ looks_in (looks_of k) r }
     ensures tick { steps.new ≡ steps.old + 1 }
 {
     steps.tick();

@@ -1,17 +1,21 @@
 //! Laws of lists that are made of a function of an index and read by that index, which starts at
 //! any number.
 ghost use Rattle.std.specs.Prelude.{◌≡◌, ℕ, ◌+◌, ◌-◌, ◌<◌, ◌≤◌, ◌==◌, if◌then◌else◌};
-ghost use Rattle.std.specs.Prelude.{List, [], ◌∷◌, ◌++◌, length, slice_set};
+ghost use Rattle.std.specs.Prelude.{List, [], ◌∷◌, ◌++◌, length, slice_index_or, slice_set};
 ghost use Rattle.cept_codes.specs.Table.{list_by_index, entry, HasMadeEntries};
 
 /// A list is what it shows at each index: it has as many entries as it is made with, reading the
-/// list of a function gives the function, and past the end the default. Lists that agree at each
-/// index are the same, each is the list of what is read in it, and writing an entry changes that
+/// list of a function gives the function, and below the first index and past the end the default.
+/// Lists that agree at each index are the same, each is the list of what is read in it, and writing an entry changes that
 /// one alone.
 pub fn lists_are_by_index<X>()
     ensures count { (from count : ℕ) (f : ℕ → X) → length (list_by_index from count f) ≡ count }
     ensures read { (d : X) (from count : ℕ) (f : ℕ → X) (k : ℕ) → from ≤ k → k < from + count
         → entry d from (list_by_index from count f) k ≡ f k }
+    ensures at { (d : X) (from : ℕ) (list : List X) (k : ℕ) → from ≤ k
+        → entry d from list k ≡ slice_index_or list (k - from) d }
+    ensures below { (d : X) (from : ℕ) (list : List X) (k : ℕ) → k < from
+        → entry d from list k ≡ d }
     ensures past { (d : X) (from : ℕ) (list : List X) (k : ℕ) → from + length list ≤ k
         → entry d from list k ≡ d }
     ensures same { (d : X) (from : ℕ) (list other : List X) → length list ≡ length other

@@ -3,7 +3,7 @@ ghost use Rattle.std.specs.Prelude.{◌≡◌, ◌↔◌, ℕ, true, false, not,
 ghost use Rattle.cept_codes.specs.Command.{IsValidForm};
 ghost use Rattle.cept_codes.specs.Look.{IsValidPattern};
 ghost use Rattle.cept_codes.specs.declared.command.Form.{Form};
-ghost use Rattle.cept_drcs.specs.Loading.{Loading, Leads, fresh, takes, taken, loads, is_full};
+ghost use Rattle.cept_drcs.specs.Loading.{Loading, Leads, fresh, takes, loading_after, loads, is_full};
 ghost use Rattle.cept_drcs.specs.Loading.{all_lines};
 ghost use Rattle.cept_drcs.specs.Unit.{is_pattern, pattern, pattern_of, pattern_grows, lines_from};
 
@@ -19,10 +19,10 @@ pub fn bytes_one_by_one_give_the_pattern()
     ensures takes { (f : Form) (u : List ℕ) (l : Loading) (a : ℕ) → Leads f u l
         → takes l a ≡ is_pattern f (u ++ a ∷ []) }
     ensures leads { (f : Form) (u : List ℕ) (l : Loading) (a : ℕ) → Leads f u l
-        → takes l a ≡ true → Leads f (u ++ a ∷ []) (taken l a) }
+        → takes l a ≡ true → Leads f (u ++ a ∷ []) (loading_after l a) }
     ensures none { (f : Form) → IsValidForm f → Leads f [] (fresh f) }
 
-    // The lines of all planes behind one another are the pattern of the bytes, which is valid.
+    // The lines of all planes one after the other are the pattern of the bytes, which is valid.
     ensures pattern { (f : Form) (u : List ℕ) (l : Loading) → Leads f u l
         → pattern_of l.form (lines_from l.form.w 0 (all_lines l)) ≡ pattern f u }
     ensures valid { (f : Form) (u : List ℕ) (l : Loading) → Leads f u l

@@ -37,7 +37,7 @@ pub fn patterns_have_at_most_100_bytes()
         → length u ≤ 100 }
 {}
 
-/// Bytes of a valid form that are a pattern's give a valid one: no bit is set behind its pixels.
+/// Bytes of a valid form that are a pattern's give a valid one: no bit is set past its pixels.
 pub fn patterns_are_valid()
     ensures { (f : Form) (u : List ℕ) → IsValidForm f → is_pattern f u ≡ true
         → IsValidPattern (pattern f u) }

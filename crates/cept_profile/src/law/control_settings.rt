@@ -6,7 +6,7 @@ ghost use Rattle.cept_codes.specs.declared.command.Command.{Command};
 ghost use Rattle.cept_profile.specs.Control.{control};
 ghost use Rattle.cept_profile.specs.ControlSettings.{ends_service, is_running, outer_history};
 ghost use Rattle.cept_profile.specs.ControlSettings.{settings, settings_of};
-ghost use Rattle.cept_profile.specs.PageParts.{rows_back};
+ghost use Rattle.cept_profile.specs.PageParts.{format_back};
 ghost use Rattle.cept_profile.specs.Strokes.{strokes_in};
 ghost use Rattle.cept_profile.specs.Valid.{AllValid};
 
@@ -22,7 +22,7 @@ pub fn settings_look_back()
 /// The rows of control are those of the last stroke that sets the format, 24 before the first.
 pub fn rows_are_those_of_the_last_format()
     ensures { (history : List Command) → AllValid history
-        → rows_back (reverse (strokes_in history)) ≡ (control history).rows }
+        → format_back (reverse (strokes_in history)) ≡ (control history).rows }
 {}
 
 /// A service that is closed is left out, from its break to its end, and every command that closes

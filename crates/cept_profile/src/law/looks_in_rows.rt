@@ -4,6 +4,7 @@ ghost use Rattle.cept_codes.specs.declared.attribute.Pen.{Pen};
 ghost use Rattle.cept_codes.specs.declared.attribute.Size.TheVariants as sizes;
 ghost use Rattle.cept_codes.specs.declared.cell.What.{What};
 ghost use Rattle.cept_profile.specs.Definitions.{Definitions};
+ghost use Rattle.cept_profile.specs.Edges.{edges_of_core};
 ghost use Rattle.cept_profile.specs.Look.{is_double_set, look_in_row, look_of, looks_of};
 ghost use Rattle.cept_profile.specs.Look.{sets_double_size, size_in_row};
 ghost use Rattle.cept_profile.specs.Serial.{is_marker};
@@ -28,7 +29,8 @@ pub fn looks_hang_on_cells_to_the_left()
         → size_in_row row pen screen c ≡ sizes.Normal }
 {}
 
-/// Of a core its page and the number of its rows are seen, and nothing else.
-pub fn the_page_and_the_rows_are_seen()
-    ensures { (k m : Core) → k.page ≡ m.page → k.rows ≡ m.rows → looks_of k ≡ looks_of m }
+/// Of a core its page and its edges are seen, and nothing else.
+pub fn the_page_and_the_edges_are_seen()
+    ensures { (k m : Core) → k.page ≡ m.page → edges_of_core k ≡ edges_of_core m
+        → looks_of k ≡ looks_of m }
 {}

@@ -12,6 +12,7 @@ ghost use Rattle.cept_profile.specs.PageParts.{dclut_in, paint_in, row_pen_in};
 ghost use Rattle.cept_profile.specs.Reach.{in_reach, is_row_touched, one_touches, rows_in_reach};
 ghost use Rattle.cept_profile.specs.RowsFromAbove.{covering_differs};
 ghost use Rattle.cept_profile.specs.Definitions.{AreWhole};
+ghost use Rattle.cept_profile.specs.Edges.{edges_of, edges_of_core};
 ghost use Rattle.cept_profile.specs.State.{Core, Page, State, state_after, core_of, page_after};
 ghost use Rattle.cept_profile.specs.State.{definitions_of};
 ghost use Rattle.cept_profile.specs.Strokes.{strokes_of};
@@ -25,8 +26,8 @@ pub fn rows_out_of_reach_stay()
         → look (core_of (state_after s command)) r c ≡ look (core_of s) r c }
     ensures at_most_24 { (s : State) (command : Command) → rows_in_reach s command ≤ 24 }
     ensures reach { (s : State) (command : Command) (r : ℕ)
-        → in_reach s command r ≡ (is_row_touched (strokes_of s.control command) s.control.rows
-        (state_after s command).control.rows r
+        → in_reach s command r ≡ (is_row_touched (strokes_of s.control command) (edges_of s.control)
+        (edges_of (state_after s command).control) r
         || covering_differs (looks_of (core_of s)) (looks_of (core_of (state_after s command))) r) }
     ensures counted { (s : State) (command : Command)
         → rows_in_reach s command ≡ count_by (in_reach s command) (range_with_len 1 24) }
@@ -55,7 +56,7 @@ pub fn untouched_rows_stay()
         → definitions_of (page_after p strokes) ≡ definitions_of p }
     ensures looks { (k m : Core) (strokes : List Stroke) (r c : ℕ) → OnScreen r c
         → AreWhole (definitions_of k.page) → m.page ≡ page_after k.page strokes
-        → is_row_touched strokes k.rows m.rows r ≡ false
+        → is_row_touched strokes (edges_of_core k) (edges_of_core m) r ≡ false
         → covering_differs (looks_of k) (looks_of m) r ≡ false
         → look m r c ≡ look k r c }
 {}

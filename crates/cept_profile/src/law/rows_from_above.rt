@@ -7,7 +7,8 @@ ghost use Rattle.cept_codes.specs.declared.look.Look.{Look};
 ghost use Rattle.cept_codes.specs.declared.look.Part.{Part};
 ghost use Rattle.cept_codes.specs.Place.{OnScreen};
 ghost use Rattle.cept_codes.specs.Table.{IsTable};
-ghost use Rattle.cept_profile.specs.Look.{is_last_row, look, look_with_part, looks_of, own_look};
+ghost use Rattle.cept_profile.specs.Edges.{edges_of_core, is_last};
+ghost use Rattle.cept_profile.specs.Look.{look, look_with_part, looks_of, own_look};
 ghost use Rattle.cept_profile.specs.Look.{look_of_origin, own_size, part_of, parts_of};
 ghost use Rattle.cept_profile.specs.RowsFromAbove.{covering, covering_differs, look_by, look_seen};
 ghost use Rattle.cept_profile.specs.RowsFromAbove.{looks_in, row_from_above};
@@ -18,14 +19,14 @@ ghost use Rattle.cept_profile.specs.Tiling.{part_below, part_to_the_right};
 /// The parts of a core are the one table that is tiled by the sizes of its own cells; each place
 /// shows its part of what stands at its origin, which is on the screen.
 pub fn the_parts_of_a_core_are_the_tiled_ones()
-    ensures tiled { (k : Core) → IsTiled (own_size k) (is_last_row k.rows) (parts_of k) }
+    ensures tiled { (k : Core) → IsTiled (own_size k) (is_last (edges_of_core k)) (parts_of k) }
     ensures only { (k : Core) (t : List (List Part))
-        → IsTiled (own_size k) (is_last_row k.rows) t → t ≡ parts_of k }
+        → IsTiled (own_size k) (is_last (edges_of_core k)) t → t ≡ parts_of k }
     ensures look { (k : Core) (t : List (List Part)) (r c : ℕ)
-        → IsTiled (own_size k) (is_last_row k.rows) t
+        → IsTiled (own_size k) (is_last (edges_of_core k)) t
         → look k r c ≡ look_of_origin (own_look k) r c (part_at t r c) }
     ensures origin { (k : Core) (t : List (List Part)) (r c : ℕ)
-        → IsTiled (own_size k) (is_last_row k.rows) t → OnScreen r c
+        → IsTiled (own_size k) (is_last (edges_of_core k)) t → OnScreen r c
         → OnScreen (r - (part_at t r c).dy) (c - (part_at t r c).dx) }
 {}
 
@@ -53,7 +54,7 @@ pub fn looks_come_from_above_or_the_left()
     ensures row { (k : Core) (r : ℕ) → 1 ≤ r → r ≤ 24
         → looks_in (looks_of k) r
         ≡ row_from_above (looks_in (looks_of k) (r - 1)) (own_look k r) (own_size k r)
-        (is_last_row k.rows r) }
+        (is_last (edges_of_core k) r) }
 {}
 
 /// A row keeps its looks where its own cells, their sizes, whether it is last and what covers it
@@ -69,7 +70,7 @@ pub fn rows_stay_under_what_covers_them()
         (q - 1))
         → ((c : ℕ) → 1 ≤ c → c ≤ 40 → own_look k r c ≡ own_look m q c)
         → ((c : ℕ) → 1 ≤ c → c ≤ 40 → own_size k r c ≡ own_size m q c)
-        → is_last_row k.rows r ≡ is_last_row m.rows q
+        → is_last (edges_of_core k) r ≡ is_last (edges_of_core m) q
         → looks_in (looks_of k) r ≡ looks_in (looks_of m) q }
     ensures covering { (g h : List (List Look)) (r : ℕ) → IsTable g → IsTable h → 1 ≤ r → r ≤ 24
         → covering_differs g h r ≡ false

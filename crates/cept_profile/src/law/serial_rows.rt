@@ -1,5 +1,5 @@
 //! Laws of serial attributes: the nearest marker of a class is in force, and a walk along the row
-//! needs only what is carried to a cell.
+//! needs only what counts before a cell.
 ghost use Rattle.std.specs.Prelude.{◌≡◌, ℕ, ◌+◌, ◌≤◌, ◌<◌, Bool, true, false, MatchOption, IfSome};
 ghost use Rattle.std.specs.Prelude.{List};
 ghost use Rattle.cept_codes.specs.declared.attribute.Pen.{Pen};
@@ -10,22 +10,22 @@ ghost use Rattle.cept_codes.specs.Glyph.{IsValidGlyph};
 ghost use Rattle.cept_profile.specs.Attributes.{cascade};
 ghost use Rattle.cept_profile.specs.Serial.{Class, acts, column_in_force, held_sign, is_marker};
 ghost use Rattle.cept_profile.specs.Serial.{serial_attributes};
-ghost use Rattle.cept_profile.specs.Carry.{carry_after, carry, held_sign_in, carry_in};
+ghost use Rattle.cept_profile.specs.Influence.{influence_after, influence, held_sign_in, influence_in};
 
 /// The marker in force stands in the greatest column in which one of the class acts at the cell;
 /// there is none where none does.
 pub fn the_nearest_marker_is_in_force()
     ensures { (row : ℕ → What) (class : Class) (c : ℕ)
-        → MatchOption (column_in_force row class c) ((d : ℕ) → 1 ≤ d → d ≤ c
+        → MatchOption (column_in_force row class c) ((d : ℕ) → 1 ≤ d
         → acts row class c d ≡ false) (λ d. (1 ≤ d) × (d ≤ c) × (acts row class c d ≡ true)
-        × ((e : ℕ) → d < e → e ≤ c → acts row class c e ≡ false)) }
+        × ((e : ℕ) → d < e → acts row class c e ≡ false)) }
 {}
 
-/// One more cell needs what is carried to it alone: its attributes, the sign that it holds, and
-/// what is carried on.
+/// One more cell needs what counts before it alone: its attributes, the sign that it holds, and
+/// what counts after it.
 pub fn one_more_cell()
     ensures at_first { (row : ℕ → What) (pen screen : Pen)
-        → carry row pen screen 0 ≡ record {
+        → influence row pen screen 0 ≡ record {
           full = cascade unset_pen pen screen;
           hold =
               false;
@@ -33,11 +33,11 @@ pub fn one_more_cell()
         } }
     ensures attributes { (row : ℕ → What) (pen screen : Pen) (c : ℕ)
         → serial_attributes row pen screen (c + 1)
-        ≡ (carry_in (row (c + 1)) (carry row pen screen c)).full }
+        ≡ (influence_in (row (c + 1)) (influence row pen screen c)).full }
     ensures sign { (row : ℕ → What) (pen screen : Pen) (c : ℕ)
-        → held_sign row (c + 1) ≡ held_sign_in (row (c + 1)) (carry row pen screen c) }
-    ensures carry { (row : ℕ → What) (pen screen : Pen) (c : ℕ)
-        → carry row pen screen (c + 1) ≡ carry_after (row (c + 1)) (carry row pen screen c) }
+        → held_sign row (c + 1) ≡ held_sign_in (row (c + 1)) (influence row pen screen c) }
+    ensures influence { (row : ℕ → What) (pen screen : Pen) (c : ℕ)
+        → influence row pen screen (c + 1) ≡ influence_after (row (c + 1)) (influence row pen screen c) }
 {}
 
 /// A cell counts for itself and for those to its right: rows that agree up to a column have the

@@ -1,7 +1,9 @@
 //! Laws of valid states: the initial state is valid, and valid commands keep it valid, with valid
 //! strokes and looks.
 ghost use Rattle.std.specs.Prelude.{ℕ, ◌≤◌, Bool, List, [], length};
+ghost use Rattle.std.specs.Prelude.{◌≡◌};
 ghost use Rattle.std.specs.List.{AllByRecursion};
+ghost use Rattle.std.specs.List.{count_by};
 ghost use Rattle.cept_codes.specs.declared.attribute.Pen.{Pen};
 ghost use Rattle.cept_codes.specs.declared.attribute.Size.{Size};
 ghost use Rattle.cept_codes.specs.declared.cell.What.{What};
@@ -11,6 +13,7 @@ ghost use Rattle.cept_codes.specs.Command.{IsValidCommand};
 ghost use Rattle.cept_codes.specs.declared.look.Look.{Look};
 ghost use Rattle.cept_codes.specs.Look.{IsValidLook, blank_look};
 ghost use Rattle.cept_codes.specs.Stroke.{IsValidStroke};
+ghost use Rattle.cept_profile.specs.Cells.{moves_rows};
 ghost use Rattle.cept_profile.specs.Control.{ControlState, control_after};
 ghost use Rattle.cept_profile.specs.Look.{grid, look_in_row, look_of, looks_of};
 ghost use Rattle.cept_profile.specs.RowsFromAbove.{row_from_above};
@@ -23,7 +26,8 @@ ghost use Rattle.cept_profile.specs.Tiling.{column_entry};
 ghost use Rattle.cept_profile.specs.Valid.{AreValidDefinitions, IsValidPage, IsValidState};
 
 /// The state is valid at the start and after any list of valid commands, since each valid command
-/// keeps a valid state valid. The core of a valid state is valid.
+/// keeps a valid state valid. The core of a valid state is valid, and every valid core is the core of
+/// a valid state.
 pub fn validity_is_kept()
     ensures start { IsValidState (state []) }
     ensures control { (s : ControlState) (command : Command) → IsValidControl s
@@ -33,15 +37,19 @@ pub fn validity_is_kept()
         → IsValidState (state_after s command) }
     ensures always { (history : List Command) → AllValid history → IsValidState (state history) }
     ensures core { (s : State) → IsValidState s → IsValidCore (core_of s) }
+    ensures of_state { (k : Core) → IsValidCore k → (s : State) × IsValidState s × (core_of s ≡ k) }
 {}
 
-/// In a valid state of control a valid command makes valid strokes, and at most 128 of them.
+/// In a valid state of control a valid command makes valid strokes, and at most 128 of them, of
+/// which at most four move rows.
 pub fn strokes_are_valid()
     ensures valid { (s : ControlState) (command : Command) → IsValidControl s
         → IsValidCommand command
         → AllByRecursion IsValidStroke (strokes_of s command) }
     ensures few { (s : ControlState) (command : Command) → IsValidCommand command
         → length (strokes_of s command) ≤ 128 }
+    ensures moves { (s : ControlState) (command : Command) → IsValidControl s
+        → IsValidCommand command → count_by moves_rows (strokes_of s command) ≤ 4 }
 {}
 
 /// What stands in a valid cell has a valid look, by itself and in a row of valid cells, where what

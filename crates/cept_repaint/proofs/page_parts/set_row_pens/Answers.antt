@@ -8,6 +8,7 @@ use Rattle.cept_profile.specs.PageParts.{row_pens_after}
 use Rattle.cept_profile.specs.Pens.{pen_with}
 use Rattle.cept_repaint.proofs.PageParts.{row_pen_written, row_pens_unset}
 use Rattle.cept_repaint.proofs.page_parts.set_row_pens.Goals as goal
+use Rattle.cept_codes.proofs.Laws.{entry_from}
 
 pub returns-in-RowAttr : goal.returns-in-RowAttr
 returns-in-RowAttr c =
@@ -19,7 +20,8 @@ returns-in-RowAttr c =
     (c.pen_with.ensures
     ∙ ap (λ (p : Pen). pen_with c.in-RowAttr.attr p)
     (get_or_default c.args.pens.now (c.from-index.result - 1) _ unset_pen (omega (arith, valid.0.1, valid.0.0))
-    ∙ ap (λ n. get_or c.args.pens.now n unset_pen) index))
+    ∙ ap (λ n. get_or c.args.pens.now n unset_pen) index
+    ∙ sym (entry_from unset_pen 1 c.args.pens.now row valid.0.0)))
     ∙ ap (λ (s : Stroke). row_pens_after c.args.pens.now s) (sym c.in-RowAttr.is)
 
 pub returns-in-Wipe : goal.returns-in-Wipe

@@ -15,18 +15,18 @@ use Rattle.cept_repaint.proofs.redraw.redraw.Goals as goal
 
 pub refresh_rows-requires-clause-others : goal.refresh_rows-requires-clause-others
 refresh_rows-requires-clause-others g c =
-    UnreachedStay-drawn c.args.page.now c.draw_all.new.self c.args.strokes.now c.args.before c.args.after
-    c.args.kept.now (AreWhole-valid c.args.page.now c.requires.was_valid) c.requires.kept c.draw_all.ensures
+    UnreachedStay-drawn c.args.page.now c.draw_all.new.self c.args.strokes.now c.args.before.now c.args.after.now
+    c.args.kept.now (AreWhole-valid c.args.page.now c.requires.was_valid) c.requires.from c.requires.kept c.draw_all.ensures
 
 pub refresh_rows-requires-in-None-clause-others : goal.refresh_rows-requires-in-None-clause-others
 refresh_rows-requires-in-None-clause-others g c =
-    UnreachedStay-drawn c.args.page.now c.draw_all-in-None.new.self c.args.strokes.now c.args.before c.args.after
-    c.args.kept.now (AreWhole-valid c.args.page.now c.requires.was_valid) c.requires.kept c.draw_all-in-None.ensures
+    UnreachedStay-drawn c.args.page.now c.draw_all-in-None.new.self c.args.strokes.now c.args.before.now c.args.after.now
+    c.args.kept.now (AreWhole-valid c.args.page.now c.requires.was_valid) c.requires.from c.requires.kept c.draw_all-in-None.ensures
 
 pub refresh_rows-requires-else-put-clause-others : goal.refresh_rows-requires-else-put-clause-others
 refresh_rows-requires-else-put-clause-others g c =
-    UnreachedStay-drawn c.args.page.now c.put.new.self c.args.strokes.now c.args.before c.args.after
-    c.args.kept.now (AreWhole-valid c.args.page.now c.requires.was_valid) c.requires.kept
+    UnreachedStay-drawn c.args.page.now c.put.new.self c.args.strokes.now c.args.before.now c.args.after.now
+    c.args.kept.now (AreWhole-valid c.args.page.now c.requires.was_valid) c.requires.from c.requires.kept
     (page_after-put_alone c.args.page.now c.put.new.self c.args.strokes.now c.in-Some.put.place c.in-Some.put.cell.now
     c.in-Some.ensures c.put.ensures.drawn)
 
@@ -69,25 +69,25 @@ returns-then-put-clause-kept g c =
     c.in-Some.ensures
     c.put.ensures.drawn c.refresh_place.ensures.on_screen (c.put.ensures.before c.if-put.true)
     (c.put.ensures.after c.if-put.true) c.requires.was_valid c.requires.valid in
-    c.refresh_place.ensures.kept c.args.after
-    (OthersStay-put c.args.page.now c.put.new.self c.args.after c.args.kept.now c.in-Some.put.place
-    (c.requires.kept ∙ ap (λ n. looks_of (core_on c.args.page.now n)) c.if-before-after.false) alone)
+    λ k same. c.refresh_place.ensures.kept k
+    (OthersStay-put c.args.page.now c.put.new.self k c.args.kept.now c.in-Some.put.place
+    (c.requires.kept k (same ∙ sym (c.is_same.ensures.same c.if-not-is_same.false))) alone)
 
 pub returns-then-put-clause-cost : goal.returns-then-put-clause-cost
 returns-then-put-clause-cost g c =
     omega (
       arith,
       c.refresh_place.ensures.cost,
-      reach-put c.in-Some.put.place c.in-Some.put.cell.now c.args.strokes.now c.args.before c.args.after c.args.kept.now
+      reach-put c.in-Some.put.place c.in-Some.put.cell.now c.args.strokes.now c.args.before.now c.args.after.now c.args.kept.now
           c.refresh_place.new.kept c.in-Some.ensures c.refresh_place.ensures.on_screen,
     )
 
 pub returns-then-unshown-clause-kept : goal.returns-then-unshown-clause-kept
 returns-then-unshown-clause-kept g c =
-    looks_of-unshown c.args.page.now c.args.strokes.now c.args.after c.args.kept.now c.requires.was_valid
-    (c.requires.kept ∙ ap (λ n. looks_of (core_on c.args.page.now n)) c.if-before-after.false)
+    λ k same. looks_of-unshown c.args.page.now c.args.strokes.now k c.args.kept.now c.requires.was_valid
+    (c.requires.kept k (same ∙ sym (c.is_same.ensures.same c.if-not-is_same.false)))
     (c.sets_unshown-unshown.ensures.sets c.if-unshown.true)
-    ∙ ap (λ (p : Page). looks_of (core_on p c.args.after)) (sym c.draw_all-in-None.ensures)
+    ∙ ap (λ (p : Page). looks_of (core_on k p)) (sym c.draw_all-in-None.ensures)
 
 pub returns-then-unshown-clause-marks : goal.returns-then-unshown-clause-marks
 returns-then-unshown-clause-marks g c = differences_none c.args.kept.now _ c.clear.new.self c.clear.ensures refl

@@ -5,12 +5,12 @@ use Rattle.cept_repaint.proofs.Refreshed.{IsRefreshed-marks, IsRefreshed-place}
 use Rattle.cept_repaint.proofs.redraw.refresh_place.Goals as goal
 
 pub returns-then-resolve_alone-clause-kept : goal.returns-then-resolve_alone-clause-kept
-returns-then-resolve_alone-clause-kept g c = λ rows others.
+returns-then-resolve_alone-clause-kept g c = λ k others.
     let on = c.resolve_alone.ensures.on_screen in
     let refreshed = IsRefreshed-place c.args.kept.now c.resolve_alone.new.kept c.args.marks.now c.mark.new.self
     c.args.place (look_alone c.args.page.now c.args.place) true c.tell_places.ensures on
     (sym c.if-resolve_alone.true ∙ c.resolve_alone.ensures.differs) c.resolve_alone.ensures.looks c.mark.ensures in
-    looks-refreshed c.args.page.now rows c.args.kept.now c.resolve_alone.new.kept c.args.marks.now c.mark.new.self
+    looks-refreshed c.args.page.now k c.args.kept.now c.resolve_alone.new.kept c.args.marks.now c.mark.new.self
     c.args.place c.requires.valid on c.requires.alone refreshed others
 
 pub returns-then-resolve_alone-clause-marks : goal.returns-then-resolve_alone-clause-marks
@@ -23,12 +23,12 @@ returns-then-resolve_alone-clause-marks g c =
     c.requires.none refreshed
 
 pub returns-else-resolve_alone-clause-kept : goal.returns-else-resolve_alone-clause-kept
-returns-else-resolve_alone-clause-kept g c = λ rows others.
+returns-else-resolve_alone-clause-kept g c = λ k others.
     let on = c.resolve_alone.ensures.on_screen in
     let refreshed = IsRefreshed-place c.args.kept.now c.resolve_alone.new.kept c.args.marks.now c.args.marks.now
     c.args.place (look_alone c.args.page.now c.args.place) false c.tell_places.ensures on
     (sym c.if-resolve_alone.false ∙ c.resolve_alone.ensures.differs) c.resolve_alone.ensures.looks refl in
-    looks-refreshed c.args.page.now rows c.args.kept.now c.resolve_alone.new.kept c.args.marks.now c.args.marks.now
+    looks-refreshed c.args.page.now k c.args.kept.now c.resolve_alone.new.kept c.args.marks.now c.args.marks.now
     c.args.place c.requires.valid on c.requires.alone refreshed others
 
 pub returns-else-resolve_alone-clause-marks : goal.returns-else-resolve_alone-clause-marks

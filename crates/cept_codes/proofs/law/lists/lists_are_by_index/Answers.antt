@@ -7,6 +7,12 @@ returns-clause-count g c = Laws.length-list_by_index
 pub returns-clause-read : goal.returns-clause-read
 returns-clause-read g c = Laws.entry-list_by_index
 
+pub returns-clause-at : goal.returns-clause-at
+returns-clause-at g c = Laws.entry_from
+
+pub returns-clause-below : goal.returns-clause-below
+returns-clause-below g c = Laws.entry_below
+
 pub returns-clause-past : goal.returns-clause-past
 returns-clause-past g c = Laws.entry_past
 

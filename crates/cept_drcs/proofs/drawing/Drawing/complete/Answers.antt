@@ -1,5 +1,5 @@
 use Rattle.cept_drcs.proofs.KeptDrawings.{completed_shown}
-use Rattle.cept_drcs.proofs.DrawnLines.{lines_behind}
+use Rattle.cept_drcs.proofs.DrawnLines.{earlier_lines}
 use Rattle.cept_drcs.proofs.drawing.Drawing.complete.Goals as goal
 
 pub returns-then-self-ne6-clause-completed : goal.returns-then-self-ne6-clause-completed
@@ -7,8 +7,8 @@ returns-then-self-ne6-clause-completed c =
     completed_shown _ _ _ c.len-count.result c.self.inside.strips _ _ c.self.view_is c.len-count.ensures.len
     c.if-self-ne6.true c.pad.ensures
 
-pub returns-then-self-ne6-clause-behind : goal.returns-then-self-ne6-clause-behind
-returns-then-self-ne6-clause-behind c = lines_behind _ _ _ _ _ _ c.self.invariant c.self.view_is
+pub returns-then-self-ne6-clause-earlier : goal.returns-then-self-ne6-clause-earlier
+returns-then-self-ne6-clause-earlier c = earlier_lines _ _ _ _ _ _ c.self.invariant c.self.view_is
 
-pub returns-else-self-ne6-clause-behind : goal.returns-else-self-ne6-clause-behind
-returns-else-self-ne6-clause-behind c = lines_behind _ _ _ _ _ _ c.self.invariant c.self.view_is
+pub returns-else-self-ne6-clause-earlier : goal.returns-else-self-ne6-clause-earlier
+returns-else-self-ne6-clause-earlier c = earlier_lines _ _ _ _ _ _ c.self.invariant c.self.view_is

@@ -4,8 +4,8 @@ use Rattle.cept_drcs.proofs.Takes.{opener_later, opener_is_plane}
 use Rattle.cept_drcs.proofs.DrawnLines.{later_plane}
 use Rattle.cept_drcs.proofs.drawing.Drawing.take_other.Goals as goal
 
-pub open-requires-clause-behind : goal.open-requires-clause-behind
-open-requires-clause-behind c =
+pub open-requires-clause-earlier : goal.open-requires-clause-earlier
+open-requires-clause-earlier c =
     later_plane _ _ _ _ _ _ _ c.self.invariant c.self.view_is
     (opener_later c.args.self.now c.args.byte
     (ap (λ (l : Loading). l.begun) (sym c.self.view_is) ∙ c.if-not-self.false)

@@ -1,5 +1,5 @@
-use Rattle.cept_profile.proofs.MarkersInForce.{column_in_force-greatest}
+use Rattle.cept_profile.proofs.MarkersInForce.{marker_in_force}
 use Rattle.cept_profile.proofs.law.serial_rows.the_nearest_marker_is_in_force.Goals as goal
 
 pub returns : goal.returns
-returns c = column_in_force-greatest
+returns c = marker_in_force

@@ -1,21 +1,28 @@
 use Rattle.std.proofs.Common.{List, sym, ap, subst, ◌∙◌, arith}
 use Rattle.cept_codes.specs.declared.stroke.Stroke.{Stroke}
-use Rattle.cept_profile.specs.Control.{ControlState}
+use Rattle.cept_profile.specs.Edges.{edges_of}
 use Rattle.cept_profile.specs.Look.{looks_of}
 use Rattle.cept_profile.specs.State.{State, page_after, state_after}
 use Rattle.cept_profile.specs.Valid.{IsValidPage}
 use Rattle.cept_profile.proofs.Laws.{IsValidState-state_after}
-use Rattle.cept_repaint.specs.Kept.{core_on}
-use Rattle.cept_repaint.proofs.KeptAfter.{IsKept-state_after, looks_of-drawn, looks_of-state, marks-kept}
-use Rattle.cept_repaint.proofs.KeptAfter.{SetsUnshown-entry, reached-in_reach_of, rows-entry, state_after-drawn}
+use Rattle.cept_repaint.specs.Kept.{state_of_parts}
+use Rattle.cept_repaint.proofs.KeptAfter.{AreEdges-state, AreLooksOn-state, IsKept-state_after, looks_of-drawn, marks-kept}
+use Rattle.cept_repaint.proofs.KeptAfter.{SetsUnshown-entry, reached-in_reach_of, edges-entry, state_after-drawn}
 use Rattle.cept_profile.proofs.Laws.{rows_in_reach-le}
 use Rattle.cept_repaint.proofs.screen.Screen.write.Goals as goal
 
 pub redraw-requires-clause-kept : goal.redraw-requires-clause-kept
 redraw-requires-clause-kept g c =
-    let was : State = record { page = c.self.inside.page; control = c.self.inside.control } in
-    c.self.invariant.looks ∙ looks_of-state was
-    ∙ ap (λ n. looks_of (core_on c.self.inside.page n)) (sym c.rows-before.ensures.rows)
+    AreLooksOn-state (state_of_parts c.self.inside.page c.self.inside.control) c.self.inside.rows c.edges-before.result
+    c.edges-before.ensures c.self.invariant.looks
+
+pub redraw-requires-clause-from : goal.redraw-requires-clause-from
+redraw-requires-clause-from g c =
+    AreEdges-state (state_of_parts c.self.inside.page c.self.inside.control) c.edges-before.result c.edges-before.ensures
+
+pub redraw-requires-clause-to : goal.redraw-requires-clause-to
+redraw-requires-clause-to g c =
+    AreEdges-state (state_of_parts c.self.inside.page c.step_into.new.self) c.edges-after.result c.edges-after.ensures
 
 pub redraw-requires-clause-valid : goal.redraw-requires-clause-valid
 redraw-requires-clause-valid g c =
@@ -37,8 +44,8 @@ returns-clause-marks g c =
     let next : State = record { page = c.redraw.new.page; control = c.step_into.new.self } in
     marks-kept was c.args.self.now next c.self.inside.rows c.redraw.new.kept c.redraw.new.marks
     c.self.invariant.looks c.self.view_is
-    (looks_of-drawn c.redraw.new.page c.step_into.new.self c.rows-after.result c.redraw.new.kept
-    c.rows-after.ensures.rows c.redraw.ensures.kept)
+    (looks_of-drawn c.redraw.new.page c.step_into.new.self c.edges-after.result c.redraw.new.kept
+    c.edges-after.ensures c.redraw.ensures.kept)
     c.redraw.ensures.marks
 
 pub returns-clause-cost : goal.returns-clause-cost
@@ -46,14 +53,14 @@ returns-clause-cost g c =
     let strokes = c.as_slice-strokes.ensures.value ∙ c.step_into.ensures.strokes in
     let whole = state_after-drawn c.self.inside.page c.self.inside.control c.args.command.now c.redraw.new.page
     c.step_into.new.self c.as_slice-strokes.result.now strokes c.redraw.ensures.page c.step_into.ensures.state in
-    let looks = looks_of-drawn c.redraw.new.page c.step_into.new.self c.rows-after.result c.redraw.new.kept
-    c.rows-after.ensures.rows c.redraw.ensures.kept in
+    let looks = looks_of-drawn c.redraw.new.page c.step_into.new.self c.edges-after.result c.redraw.new.kept
+    c.edges-after.ensures c.redraw.ensures.kept in
     omega (
       arith,
       c.redraw.ensures.cost,
       reached-in_reach_of c.self.invariant c.args.command.now c.redraw.new.page c.step_into.new.self c.redraw.new.kept
-          c.as_slice-strokes.result.now c.rows-before.result c.rows-after.result strokes
-          c.rows-before.ensures.rows c.rows-after.ensures.rows whole looks c.args.self.now c.self.view_is,
+          c.as_slice-strokes.result.now c.edges-before.result c.edges-after.result strokes
+          c.edges-before.ensures c.edges-after.ensures whole looks c.args.self.now c.self.view_is,
     )
 
 pub returns-clause-at_most_24 : goal.returns-clause-at_most_24
@@ -61,23 +68,23 @@ returns-clause-at_most_24 g c =
     let strokes = c.as_slice-strokes.ensures.value ∙ c.step_into.ensures.strokes in
     let whole = state_after-drawn c.self.inside.page c.self.inside.control c.args.command.now c.redraw.new.page
     c.step_into.new.self c.as_slice-strokes.result.now strokes c.redraw.ensures.page c.step_into.ensures.state in
-    let looks = looks_of-drawn c.redraw.new.page c.step_into.new.self c.rows-after.result c.redraw.new.kept
-    c.rows-after.ensures.rows c.redraw.ensures.kept in
+    let looks = looks_of-drawn c.redraw.new.page c.step_into.new.self c.edges-after.result c.redraw.new.kept
+    c.edges-after.ensures c.redraw.ensures.kept in
     omega (
       arith,
       c.redraw.ensures.cost,
       reached-in_reach_of c.self.invariant c.args.command.now c.redraw.new.page c.step_into.new.self c.redraw.new.kept
-          c.as_slice-strokes.result.now c.rows-before.result c.rows-after.result strokes
-          c.rows-before.ensures.rows c.rows-after.ensures.rows whole looks c.args.self.now c.self.view_is,
+          c.as_slice-strokes.result.now c.edges-before.result c.edges-after.result strokes
+          c.edges-before.ensures c.edges-after.ensures whole looks c.args.self.now c.self.view_is,
       rows_in_reach-le c.args.self.now c.args.command.now,
     )
 
 pub returns-clause-unshown : goal.returns-clause-unshown
 returns-clause-unshown g c i colour entry unshown =
     c.redraw.ensures.unshown
-    (c.rows-before.ensures.rows ∙ sym (c.rows-after.ensures.rows
-    ∙ ap (λ (s : ControlState). s.rows) c.step_into.ensures.state
-    ∙ rows-entry c.self.inside.control c.args.command.now i colour entry))
+    (c.edges-before.ensures ∙ sym (c.edges-after.ensures
+    ∙ ap edges_of c.step_into.ensures.state
+    ∙ edges-entry c.self.inside.control c.args.command.now i colour entry))
     (SetsUnshown-entry c.self.invariant c.args.command.now c.as_slice-strokes.result.now
     (c.as_slice-strokes.ensures.value ∙ c.step_into.ensures.strokes) i colour entry c.args.self.now c.self.view_is unshown)
 
@@ -88,5 +95,5 @@ invariant_of-self g c =
     c.redraw.new.kept
     (state_after-drawn c.self.inside.page c.self.inside.control c.args.command.now c.redraw.new.page
     c.step_into.new.self c.as_slice-strokes.result.now strokes c.redraw.ensures.page c.step_into.ensures.state)
-    (looks_of-drawn c.redraw.new.page c.step_into.new.self c.rows-after.result c.redraw.new.kept
-    c.rows-after.ensures.rows c.redraw.ensures.kept)
+    (looks_of-drawn c.redraw.new.page c.step_into.new.self c.edges-after.result c.redraw.new.kept
+    c.edges-after.ensures c.redraw.ensures.kept)

@@ -8,7 +8,7 @@ pub invariant_of-self : goal.invariant_of-self
 invariant_of-self c =
     IsKept-still c.self.invariant c.args.command.now c.requires c.step_attribute.new.self c.step_attribute.result
     c.step_attribute.ensures.state c.step_attribute.ensures.strokes c.step_attribute.ensures.left
-    c.step_attribute.ensures.rows
+    c.step_attribute.ensures.edges
 
 pub returns-clause-after : goal.returns-clause-after
 returns-clause-after c = λ _.
@@ -19,11 +19,11 @@ returns-clause-after c = λ _.
 
 pub returns-clause-looks : goal.returns-clause-looks
 returns-clause-looks c =
-    looks_of-still c.self.inside.page c.self.inside.control c.step_attribute.new.self c.step_attribute.ensures.rows
+    looks_of-still c.self.inside.page c.self.inside.control c.step_attribute.new.self c.step_attribute.ensures.edges
     ∙ ap (λ (s : State). looks_of (core_of s)) c.self.view_is
 
 pub invariant_of-self-2 : goal.invariant_of-self-2
 invariant_of-self-2 c =
     IsKept-still c.self.invariant c.args.command.now c.requires c.step_attribute.new.self c.step_attribute.result
     c.step_attribute.ensures.state c.step_attribute.ensures.strokes c.step_attribute.ensures.left
-    c.step_attribute.ensures.rows
+    c.step_attribute.ensures.edges

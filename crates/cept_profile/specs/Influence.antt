@@ -1,5 +1,5 @@
--- What is carried along a row (own): what the cells up to a column leave for those after it, and what one more cell
--- makes of it.
+-- What counts for a cell of those to its left (own): what the cells up to a column leave for those after it, and what
+-- one more cell makes of it.
 use Rattle.std.specs.Prelude.{ℕ, Bool, true, false, ◌&&◌, Option, None, unwrap_or, if◌then◌else◌}
 use Rattle.cept_profile.specs.Serial.{Class, Hold}
 use Rattle.cept_codes.specs.declared.attribute.Full.{Full}
@@ -13,8 +13,8 @@ use Rattle.cept_profile.specs.Attributes.{cascade}
 use Rattle.cept_profile.specs.Serial.{acts_there, fore_at, hold_said, is_marker, is_of, kept_sign, mosaic_of}
 use Rattle.cept_profile.specs.Serial.{nearest_column, pen_of, value_found}
 
--- what is carried along a row: attributes, whether hold is on, and the sign that is kept for markers
-pub record Carry : Type 0 where
+-- what the cells up to a column leave: attributes, whether hold is on, and the sign that is kept for markers
+pub record Influence : Type 0 where
   pub full : Full
   pub hold : Bool
   pub kept_sign : Option Glyph
@@ -26,8 +26,8 @@ abbrev pub nearest_marker : (ℕ → What) → ℕ → Class → Option ℕ
 nearest_marker row c class = nearest_column (λ d. is_of class (row d)) c
 
 -- attributes, hold and the kept sign by the cells up to a column, each marker counted wherever it begins to act
-unfoldable pub carry : (ℕ → What) → Pen → Pen → ℕ → Carry
-carry row pen screen c = record {
+unfoldable pub influence : (ℕ → What) → Pen → Pen → ℕ → Influence
+influence row pen screen c = record {
   full = cascade (pen_of row (fore_at row pen screen) (nearest_marker row c)) pen screen;
   hold = unwrap_or (value_found (λ d. hold_said (row d)) (nearest_marker row c Hold)) false;
   kept_sign = kept_sign row c;
@@ -60,20 +60,20 @@ abbrev pub kept_sign_after : Marker → Option Glyph → Option Glyph
 kept_sign_after (markers.Size s) g = None
 kept_sign_after _ g = g
 
--- what is carried after a cell, by what is carried to it
-abbrev pub carry_after : What → Carry → Carry
-carry_after (whats.Marker m) s = record {
+-- what counts after a cell, by what counts before it
+abbrev pub influence_after : What → Influence → Influence
+influence_after (whats.Marker m) s = record {
   full = full_after m s.full;
   hold = hold_after m s.hold;
   kept_sign =
       kept_sign_after m s.kept_sign;
 }
-carry_after w s = record s { kept_sign = mosaic_of w }
+influence_after w s = record s { kept_sign = mosaic_of w }
 
--- what is in force in a cell: what is carried after it where its marker acts there, else what is carried to it
-abbrev pub carry_in : What → Carry → Carry
-carry_in w s = if acts_there w then carry_after w s else s
+-- what is in force in a cell: what counts after it where its marker acts there, else what counts before it
+abbrev pub influence_in : What → Influence → Influence
+influence_in w s = if acts_there w then influence_after w s else s
 
 -- the sign that is held in a cell
-abbrev pub held_sign_in : What → Carry → Option Glyph
-held_sign_in w s = if is_marker w && (carry_in w s).hold then (carry_after w s).kept_sign else None
+abbrev pub held_sign_in : What → Influence → Option Glyph
+held_sign_in w s = if is_marker w && (influence_in w s).hold then (influence_after w s).kept_sign else None

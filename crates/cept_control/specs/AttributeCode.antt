@@ -1,0 +1,11 @@
+-- Which commands set attributes alone (this project's own).
+use Rattle.std.specs.Prelude.{Bool, true, false}
+use Rattle.cept_codes.specs.declared.command.C1Set.{C1Set}
+use Rattle.cept_codes.specs.declared.command.C1Set.TheVariants as c1sets
+use Rattle.cept_codes.specs.declared.command.Command.{Command}
+use Rattle.cept_codes.specs.declared.command.Command.TheVariants as commands
+
+-- a C1 code under the parallel set
+abbrev pub is_attribute_code : C1Set → Command → Bool
+is_attribute_code c1sets.Parallel (commands.C1 n) = true
+is_attribute_code _ _ = false
