@@ -19,6 +19,7 @@ rack_state rack missed faults = record {
   selected = Some (name_of rack);
   left = Some (left_of rack);
   taken = rack.at;
+  ended = rack.ended;
   missed = missed;
   faults = faults;
 }

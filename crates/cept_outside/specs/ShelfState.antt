@@ -1,7 +1,7 @@
 -- A shelf: files under names, one of them selected at a time, whose bytes are taken from the front. This
 -- project's own.
-use Rattle.std.specs.Prelude.{◌≡◌, ℕ, ◌+◌, ◌-◌, ◌^◌, ◌≤◌, min, true, List, [], take, drop, length, Option, Some, None}
-use Rattle.std.specs.Prelude.{option_and_then, is_some, IsSome, Result, OnOk, OnErr, IfOk}
+use Rattle.std.specs.Prelude.{◌≡◌, ℕ, ◌+◌, ◌-◌, ◌^◌, ◌<◌, ◌≤◌, min, Bool, true, false, List, [], take, drop, length}
+use Rattle.std.specs.Prelude.{Option, Some, None, option_and_then, is_some, IsSome, Result, OnOk, OnErr, IfOk}
 use Rattle.std.specs.Io.KnownBytes.{prepend_known}
 
 -- what a shelf means
@@ -14,6 +14,8 @@ pub record ShelfState : Type 0 where
   pub left : Option (List ℕ)
   -- how many bytes were taken since the selection, up to the greatest u64
   pub taken : ℕ
+  -- a take since the selection answered that nothing is left
+  pub ended : Bool
   -- how many selections missed their file: a count that never falls
   pub missed : ℕ
   -- the count of faults, which never falls: no call fails where it doesn't rise
@@ -26,6 +28,7 @@ empty_shelf = record {
   selected = Some None;
   left = Some [];
   taken = 0;
+  ended = false;
   missed = 0;
   faults = 0;
 }
@@ -55,7 +58,7 @@ pub record KeepsFiles (old new : ShelfState) : Type 0 where
   pub tells_selected : is_some new.selected ≡ is_some old.selected
   pub tells_left : is_some new.left ≡ is_some old.left
 
--- a selection ends the former one, and its file's bytes are left
+-- a selection ends the former one, its file's bytes are left, and no take has answered yet
 pub record Selects {X E : Type 0} (old : ShelfState) (name : List ℕ) (result : Result X E) (new : ShelfState)
     : Type 0 where
   pub keeps : KeepsFiles old new
@@ -66,6 +69,7 @@ pub record Selects {X E : Type 0} (old : ShelfState) (name : List ℕ) (result :
       → chosen ≡ Some name)
   pub failed : OnErr result (SelectsNothing new)
   pub taken : new.taken ≡ 0
+  pub ended : new.ended ≡ false
   pub missed : old.missed ≤ new.missed
   pub missed_stays : IsSome (bytes_under old name) → new.missed ≡ old.missed
 
@@ -78,9 +82,12 @@ pub record Takes {E : Type 0} (old : ShelfState) (into : List ℕ) (result : Res
   pub moved : IfOk result (λ n. old.left ≡ prepend_known (take n into) new.left)
   pub taken : IfOk result (λ n. new.taken ≡ min (old.taken + n) (2 ^ 64 - 1))
   pub end : IfOk result (λ n. n ≡ 0 → (bytes : List ℕ) → old.left ≡ Some bytes → bytes ≡ [])
-  pub failed : OnErr result ((new.left ≡ old.left) × (new.taken ≡ old.taken))
+  pub ended : IfOk result (λ n. n ≡ 0 → new.ended ≡ true)
+  pub goes_on : IfOk result (λ n. 0 < n → new.ended ≡ old.ended)
+  pub failed : OnErr result ((new.left ≡ old.left) × (new.taken ≡ old.taken) × (new.ended ≡ old.ended))
 
--- the name that is selected is on the shelf, its bytes without those taken are left, and no more were taken than it has
+-- the name that is selected is on the shelf, its bytes without those taken are left, no more were taken than it has, and
+-- none are left where a take has answered so
 pub record IsSound (s : ShelfState) : Type 0 where
   pub together : is_some s.selected ≡ is_some s.left
   pub left : (name : List ℕ) → s.selected ≡ Some (Some name) → is_some s.files ≡ true
@@ -88,3 +95,4 @@ pub record IsSound (s : ShelfState) : Type 0 where
   pub within : (name bytes : List ℕ) → s.selected ≡ Some (Some name) → bytes_under s name ≡ Some bytes
       → s.taken ≤ length bytes
   pub nothing : s.selected ≡ Some None → (s.left ≡ Some []) × (s.taken ≡ 0)
+  pub ended : s.ended ≡ true → (bytes : List ℕ) → s.left ≡ Some bytes → bytes ≡ []

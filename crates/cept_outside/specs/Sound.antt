@@ -3,10 +3,11 @@
 use Rattle.std.proofs.Common.{◌≡◌, ℕ, ◌≤◌, List, [], Option, Some, None, option_map, unwrap_or, string_bytes, refl}
 use Rattle.std.proofs.Common.{drop, length, zero, suc, sym, ap, subst, ◌∙◌}
 use Rattle.std.proofs.Math.Nat.{not-suc-le-zero}
+use Rattle.std.proofs.lemmas.List.{drop_all}
 use Rattle.std.proofs.lemmas.Option.{none-some, same_Some}
 use Rattle.cept_outside.specs.declared.rack.StoredFile.{StoredFile}
 use Rattle.cept_outside.specs.declared.rack.Rack.{Rack}
-use Rattle.cept_outside.specs.Files.{bytes_of, chosen_file}
+use Rattle.cept_outside.specs.Files.{bytes_of, chosen_file, chosen_bytes}
 use Rattle.cept_outside.specs.Rack.{rack_state}
 use Rattle.cept_outside.specs.ShelfState.{IsSound}
 
@@ -49,6 +50,10 @@ within_is files at (Some file) named within name bytes e found =
     subst (λ n. bytes_of files n ≡ Some bytes) (sym (same_Some (string_bytes file.name) name e)) found in
     subst (λ l. at ≤ length l) (same_Some file.bytes.items bytes (sym (named file refl) ∙ same)) within
 
+-- where a take has answered that none are left, none are
+end_is : (at : ℕ) (whole bytes : List ℕ) → length whole ≤ at → Some (drop at whole) ≡ Some bytes → bytes ≡ []
+end_is at whole bytes within e = sym (same_Some (drop at whole) bytes e) ∙ drop_all at whole within
+
 -- what a rack tells of its selection agrees with its files
 pub rack_state_is_sound : (rack : Rack) (missed faults : ℕ) → IsSound (rack_state rack missed faults)
 rack_state_is_sound rack missed faults = record {
@@ -64,4 +69,6 @@ rack_state_is_sound rack missed faults = record {
       let n = nothing_is rack.at (chosen_file rack.files.items rack.selected) rack.within
       (same_Some (name_if (chosen_file rack.files.items rack.selected)) None e) in
       (ap Some n.0, n.1);
+  ended = λ e bytes left.
+      end_is rack.at (chosen_bytes rack.files.items rack.selected) bytes (rack.end e) left;
 }

@@ -1,5 +1,5 @@
 ghost use Rattle.std.specs.Prelude.{◌≡◌, ◌+◌, ◌-◌, ◌^◌, ◌<◌, ◌↔◌, min, length, is_some, IsSome, IsOk};
-ghost use Rattle.std.specs.Prelude.{None, OnErr};
+ghost use Rattle.std.specs.Prelude.{None, OnErr, false};
 ghost use Rattle.std.specs.Io.KnownBytes.{ReadConsumes};
 ghost use Rattle.cept_outside.specs.Causes.{HasCause};
 ghost use Rattle.cept_outside.specs.FileShelf.{untold_shelf};
@@ -23,7 +23,7 @@ pub struct FileShelf<'a, R: Files> {
 impl<'a, R: Files> FileShelf<'a, R> {
     /// No file is selected.
     pub fn new(files: &'a R) -> FileShelf<'a, R>
-        ensures state { ⟦<FileShelf<'a, R> as Shelf>⟧.state result ≡ untold_shelf 0 0 }
+        ensures state { ⟦<FileShelf<'a, R> as Shelf>⟧.state result ≡ untold_shelf 0 false 0 }
         ensures closed { result.reader.file ≡ None }
     {
         FileShelf {
@@ -34,16 +34,16 @@ impl<'a, R: Files> FileShelf<'a, R> {
 }
 
 impl<R: Files> Shelf for FileShelf<'_, R> {
-    ghost state = { λ shelf. untold_shelf shelf.taken shelf.reader.faults.count };
+    ghost state = { λ shelf. untold_shelf shelf.taken shelf.reader.ended shelf.reader.faults.count };
 
     ghost counted = { λ shelf. shelf.reader.faults.counted };
 
-    ghost sound = { λ shelf. untold_shelf_is_sound shelf.taken shelf.reader.faults.count };
+    ghost sound = { λ shelf. untold_shelf_is_sound shelf.taken shelf.reader.ended shelf.reader.faults.count };
 
     fn select(&mut self, name: &str) -> Result<(), Failed>
-        ensures selects { Selects (untold_shelf self.old.taken self.old.reader.faults.count)
+        ensures selects { Selects (untold_shelf self.old.taken self.old.reader.ended self.old.reader.faults.count)
             name.now result
-            (untold_shelf self.new.taken self.new.reader.faults.count) }
+            (untold_shelf self.new.taken self.new.reader.ended self.new.reader.faults.count) }
         ensures cause { HasCause self.old.reader.faults.count self.new.reader.faults.count result }
 
         // A file is open after a success alone.
@@ -59,9 +59,9 @@ impl<R: Files> Shelf for FileShelf<'_, R> {
 
     fn take(&mut self, into: &mut [u8]) -> Result<usize, Failed>
         requires { 0 < length into.old }
-        ensures takes { Takes (untold_shelf self.old.taken self.old.reader.faults.count) into.new
+        ensures takes { Takes (untold_shelf self.old.taken self.old.reader.ended self.old.reader.faults.count) into.new
             result
-            (untold_shelf self.new.taken self.new.reader.faults.count) }
+            (untold_shelf self.new.taken self.new.reader.ended self.new.reader.faults.count) }
         ensures cause { HasCause self.old.reader.faults.count self.new.reader.faults.count result }
 
         // Of a file that tells its bytes the next ones are moved, and none only at its end.

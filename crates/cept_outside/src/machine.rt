@@ -48,12 +48,13 @@ impl Faults {
     }
 }
 
-/// The files of the machine, and the one of them that is open, if one is. Who holds a reader reaches
-/// the files through it alone.
+/// The files of the machine, the one of them that is open, if one is, and whether a read since has
+/// answered that nothing is left. Who holds a reader reaches the files through it alone.
 #[derive(Drop)]
 pub struct Reader<'a, R: Files> {
     files: &'a R,
     file: Option<R::File>,
+    ended: bool,
     faults: Faults,
 }
 
@@ -61,11 +62,13 @@ impl<'a, R: Files> Reader<'a, R> {
     /// No file is open.
     pub fn new(files: &'a R) -> Reader<'a, R>
         ensures closed { result.file ≡ None }
+        ensures ended { result.ended ≡ false }
         ensures faults { result.faults.count ≡ 0 }
     {
         Reader {
             files,
             file: None,
+            ended: false,
             faults: Faults::new(),
         }
     }
@@ -74,11 +77,13 @@ impl<'a, R: Files> Reader<'a, R> {
     /// fault, and leaves none open.
     pub fn open(&mut self, name: &str) -> Result<(), Failed>
         ensures opened { IsOk result ↔ IsSome self.new.file }
+        ensures ended { self.new.ended ≡ false }
         ensures cause { HasCause self.old.faults.count self.new.faults.count result }
         ensures once { OnErr result (self.new.faults.count
             ≡ min (self.old.faults.count + 1) (2 ^ 64 - 1)) }
     {
         self.file = None;
+        self.ended = false;
         let answer = fs::open(self.files, name);
         self.file = Some(self.faults.judge(answer)?);
         Ok(())
@@ -92,13 +97,22 @@ impl<'a, R: Files> Reader<'a, R> {
             result into.new }
         ensures open { is_some self.new.file ≡ is_some self.old.file }
         ensures closed { self.old.file ≡ None → IsOk result }
+        ensures ended { IfOk result (λ n. n ≡ 0 → self.new.ended ≡ true) }
+        ensures goes_on { IfOk result (λ n. 0 < n → self.new.ended ≡ self.old.ended) }
+        ensures failed { OnErr result (self.new.ended ≡ self.old.ended) }
         ensures cause { HasCause self.old.faults.count self.new.faults.count result }
     {
-        let Some(file) = &mut self.file else {
-            return Ok(0);
+        let count = match &mut self.file {
+            Some(file) => {
+                let answer = file.read(into);
+                self.faults.judge(answer)?
+            }
+            None => 0,
         };
-        let answer = file.read(into);
-        self.faults.judge(answer)
+        if count == 0 {
+            self.ended = true;
+        }
+        Ok(count)
     }
 }
 

@@ -1,7 +1,7 @@
 ghost use Rattle.std.specs.Prelude.{◌≡◌, ℕ, ◌+◌, ◌-◌, ◌^◌, ◌<◌, ◌⊎◌, ◌↔◌, min, List, [], ◌++◌};
 ghost use Rattle.std.specs.Prelude.{length, take, drop};
 ghost use Rattle.std.specs.Prelude.{Some, None, is_some, IsErr, IfOk, OnOk, OnErr, Contains};
-ghost use Rattle.std.specs.Prelude.{bytes_eq, if◌then◌else◌};
+ghost use Rattle.std.specs.Prelude.{false, bytes_eq, if◌then◌else◌};
 ghost use Rattle.cept_outside.specs.Causes.{HasCause};
 ghost use Rattle.cept_outside.specs.Calls.{faults_of, numbers_with};
 ghost use Rattle.cept_outside.specs.ShelfState.{Selects, Takes, bytes_under, empty_shelf};
@@ -52,6 +52,7 @@ impl MemShelf {
           left =
               Some [];
           taken = 0;
+          ended = false;
         }) }
         ensures err { OnErr result (mem_shelf_state self.new ≡ mem_shelf_state self.old) }
         ensures count { mem_shelf_count self.new ≡ mem_shelf_count self.old }

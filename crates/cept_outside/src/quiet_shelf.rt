@@ -1,6 +1,6 @@
 ghost use Rattle.std.specs.Prelude.{◌≡◌, ℕ, ◌<◌, min, List, [], ◌++◌, length, take, drop, Some};
 ghost use Rattle.std.specs.Prelude.{None, IsOk, IfOk};
-ghost use Rattle.std.specs.Prelude.{OnOk, OnErr, bytes_eq, if◌then◌else◌};
+ghost use Rattle.std.specs.Prelude.{OnOk, OnErr, false, bytes_eq, if◌then◌else◌};
 ghost use Rattle.cept_outside.specs.Causes.{HasCause};
 ghost use Rattle.cept_outside.specs.ShelfState.{Selects, Takes, bytes_under, empty_shelf};
 
@@ -43,6 +43,7 @@ impl QuietShelf {
               left =
                   Some [];
               taken = 0;
+              ended = false;
             }) }
         ensures err { OnErr result (quiet_shelf_state self.new ≡ quiet_shelf_state self.old) }
     {

@@ -2,7 +2,7 @@ ghost use Rattle.std.specs.Prelude.{◌≡◌, ℕ, ◌+◌, ◌-◌, ◌<◌, �
 ghost use Rattle.std.specs.Prelude.{take, drop, Some};
 ghost use Rattle.std.specs.Prelude.{None, IsTrue, IsSome, IfOk, OnOk, OnErr, vec_len, position};
 ghost use Rattle.std.specs.Prelude.{string_bytes};
-ghost use Rattle.std.specs.Prelude.{bytes_eq, if◌then◌else◌};
+ghost use Rattle.std.specs.Prelude.{false, true, bytes_eq, if◌then◌else◌};
 ghost use Rattle.std.specs.Option.{ForSome};
 ghost use Rattle.std.proofs.Props.{props};
 ghost use Rattle.cept_outside.specs.Files.{has_name, bytes_of, chosen_file, chosen_bytes};
@@ -18,14 +18,16 @@ pub struct StoredFile {
 }
 
 /// Files in memory, each name once, and the place of the one that is selected with the count of its
-/// bytes taken.
+/// bytes taken, and whether a take has answered that none are left.
 #[derive(Drop)]
 pub struct Rack {
     files: Vec<StoredFile>,
     selected: Option<usize>,
     at: usize,
+    ended: bool,
     ghost there: { ForSome selected (λ place. place < length files.items) },
     ghost within: { at ≤ length (chosen_bytes files.items selected) },
+    ghost end: { IsTrue ended → length (chosen_bytes files.items selected) ≤ at },
     ghost named: { ForSome (chosen_file files.items selected)
         (λ file. bytes_of files.items (string_bytes file.name) ≡ Some file.bytes.items) } by { Prim.hlevel props },
 }
@@ -86,11 +88,13 @@ impl Rack {
         ensures files { result.files.items ≡ [] }
         ensures unselected { result.selected ≡ None }
         ensures start { result.at ≡ 0 }
+        ensures ended { result.ended ≡ false }
     {
         Rack {
             files: Vec::new(alloc),
             selected: None,
             at: 0,
+            ended: false,
         }
     }
 
@@ -100,15 +104,17 @@ impl Rack {
         ensures added { OnOk result ((other : List ℕ) → bytes_of self.new.files.items other
             ≡ (if bytes_eq name.now other then Some bytes.now
             else bytes_of self.old.files.items other)) }
-        ensures ended { OnOk result ((self.new.selected ≡ None) × (self.new.at ≡ 0)) }
+        ensures deselected { OnOk result ((self.new.selected ≡ None) × (self.new.at ≡ 0)
+            × (self.new.ended ≡ false)) }
         ensures files { OnErr result (self.new.files.items ≡ self.old.files.items) }
         ensures selection { OnErr result ((self.new.selected ≡ self.old.selected)
-            × (self.new.at ≡ self.old.at)) }
+            × (self.new.at ≡ self.old.at) × (self.new.ended ≡ self.old.ended)) }
     {
         let file = stored(*self.files.allocator(), name, bytes)?;
         put_file(&mut self.files, name, file)?;
         self.selected = None;
         self.at = 0;
+        self.ended = false;
         Ok(())
     }
 
@@ -116,6 +122,7 @@ impl Rack {
     pub fn select(&mut self, name: &str) -> bool
         ensures files { self.new.files.items ≡ self.old.files.items }
         ensures start { self.new.at ≡ 0 }
+        ensures ended { self.new.ended ≡ false }
         ensures found { IsTrue result ↔ IsSome (bytes_of self.old.files.items name.now) }
         ensures left { (bytes : List ℕ) → bytes_of self.old.files.items name.now ≡ Some bytes
             → (name_of self.new ≡ Some name.now) × (left_of self.new ≡ bytes) }
@@ -124,6 +131,7 @@ impl Rack {
     {
         self.selected = place_of(self.files.as_slice(), name);
         self.at = 0;
+        self.ended = false;
         self.selected.is_some()
     }
 
@@ -131,26 +139,34 @@ impl Rack {
     pub fn deselect(&mut self)
         ensures files { self.new.files.items ≡ self.old.files.items }
         ensures start { self.new.at ≡ 0 }
+        ensures ended { self.new.ended ≡ false }
         ensures none { (name_of self.new ≡ None) × (left_of self.new ≡ []) }
     {
         self.selected = None;
         self.at = 0;
+        self.ended = false;
     }
 
     /// Takes as many of the selected bytes as there are and fit.
     pub fn take(&mut self, into: &mut [u8]) -> usize
+        requires { 0 < length into.old }
         ensures files { self.new.files.items ≡ self.old.files.items }
         ensures name { name_of self.new ≡ name_of self.old }
         ensures count { result ≡ min (length (left_of self.old)) (length into.old) }
+        ensures ended { result ≡ 0 → self.new.ended ≡ true }
+        ensures goes_on { 0 < result → self.new.ended ≡ self.old.ended }
         ensures moved { into.new ≡ take result (left_of self.old) ++ drop result into.old }
         ensures left { left_of self.new ≡ drop result (left_of self.old) }
         ensures at { self.new.at ≡ self.old.at + result }
     {
-        let Some(place) = self.selected else {
-            return 0;
+        let count = match self.selected {
+            Some(place) => move_front(&self.files[place].bytes[self.at..], into),
+            None => 0,
         };
-        let count = move_front(&self.files[place].bytes[self.at..], into);
         self.at += count;
+        if count == 0 {
+            self.ended = true;
+        }
         count
     }
 }
