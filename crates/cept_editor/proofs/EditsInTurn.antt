@@ -11,7 +11,7 @@ use Rattle.cept_profile.proofs.Laws.{grid_with_paints-append}
 use Rattle.cept_editor.specs.Events.{Event, event_changes, paints}
 use Rattle.cept_editor.specs.Kept.{KeptEdits, none_kept, kept_after, kept_after_all, kept, remaining, states_before}
 use Rattle.cept_editor.specs.Kept.{commands_of_edits}
-use Rattle.cept_editor.specs.Meaning.{Step, TakeBack, Edit}
+use Rattle.cept_editor.specs.Meaning.{Step, Turn, TakeBack, Edit}
 use Rattle.cept_editor.specs.Stepping.{event_from, edit_events, nothing_event, line_events}
 use Rattle.cept_editor.proofs.MadeEvents.{paints-append, paints-one, paints-none, no_paint, event_shown}
 
@@ -66,70 +66,70 @@ further n earlier c cs =
     let more : n + 1 ≡ suc n = omega arith in
     ap (λ m. earlier ++ take m (c ∷ cs)) more ∙ sym (append_assoc earlier (c ∷ []) (take n cs))
 
-one_further : (reporting : Bool) (line : ℕ) (earlier : List Command) (c : Command) (cs : List Command) (n : ℕ)
-    → event_from reporting line (earlier ++ take (n + 1) (c ∷ cs)) (earlier ++ take ((n + 1) + 1) (c ∷ cs))
-    ≡ event_from reporting line ((earlier ++ c ∷ []) ++ take n cs) ((earlier ++ c ∷ []) ++ take (n + 1) cs)
-one_further reporting line earlier c cs n = λ i.
-    event_from reporting line (further n earlier c cs i) (further (n + 1) earlier c cs i)
+one_further : (listed : Bool) (line : ℕ) (earlier : List Command) (c : Command) (cs : List Command) (n : ℕ)
+    → event_from listed line (earlier ++ take (n + 1) (c ∷ cs)) (earlier ++ take ((n + 1) + 1) (c ∷ cs))
+    ≡ event_from listed line ((earlier ++ c ∷ []) ++ take n cs) ((earlier ++ c ∷ []) ++ take (n + 1) cs)
+one_further listed line earlier c cs n = λ i.
+    event_from listed line (further n earlier c cs i) (further (n + 1) earlier c cs i)
 
-pub edit_events-none : (reporting : Bool) (line : ℕ) (earlier : List Command) → edit_events reporting line earlier [] ≡ []
+pub edit_events-none : (listed : Bool) (line : ℕ) (earlier : List Command) → edit_events listed line earlier [] ≡ []
 unfolding edit_events
-edit_events-none reporting line earlier = refl
+edit_events-none listed line earlier = refl
 
 -- the event of the first command, and then those of the others after it
-pub edit_events-first : (reporting : Bool) (line : ℕ) (earlier : List Command) (c : Command) (cs : List Command)
-    → edit_events reporting line earlier (c ∷ cs)
-    ≡ event_from reporting line earlier (earlier ++ c ∷ []) ∷ edit_events reporting line (earlier ++ c ∷ []) cs
+pub edit_events-first : (listed : Bool) (line : ℕ) (earlier : List Command) (c : Command) (cs : List Command)
+    → edit_events listed line earlier (c ∷ cs)
+    ≡ event_from listed line earlier (earlier ++ c ∷ []) ∷ edit_events listed line (earlier ++ c ∷ []) cs
 unfolding edit_events
-edit_events-first reporting line earlier c cs = λ i.
-    event_from reporting line (append-nil earlier i) (earlier ++ c ∷ [])
+edit_events-first listed line earlier c cs = λ i.
+    event_from listed line (append-nil earlier i) (earlier ++ c ∷ [])
     ∷ numbered_on
-    (λ numbered. event_from reporting line (earlier ++ take numbered.0 (c ∷ cs)) (earlier ++ take (numbered.0 + 1) (c ∷ cs)))
-    (λ numbered. event_from reporting line ((earlier ++ c ∷ []) ++ take numbered.0 cs)
+    (λ numbered. event_from listed line (earlier ++ take numbered.0 (c ∷ cs)) (earlier ++ take (numbered.0 + 1) (c ∷ cs)))
+    (λ numbered. event_from listed line ((earlier ++ c ∷ []) ++ take numbered.0 cs)
     ((earlier ++ c ∷ []) ++ take (numbered.0 + 1) cs))
-    (λ n x. one_further reporting line earlier c cs n) 0 cs i
+    (λ n x. one_further listed line earlier c cs n) 0 cs i
 
 -- the events of the first commands, and then that of the last one
-pub edit_events-last : (reporting : Bool) (line : ℕ) (earlier cs : List Command) (c : Command)
-    → edit_events reporting line earlier (cs ++ c ∷ [])
-    ≡ edit_events reporting line earlier cs
-    ++ event_from reporting line (earlier ++ cs) ((earlier ++ cs) ++ c ∷ []) ∷ []
-edit_events-last reporting line earlier [] c =
-    edit_events-first reporting line earlier c []
-    ∙ (λ i. event_from reporting line (sym (append-nil earlier) i) (sym (append-nil earlier) i ++ c ∷ [])
-    ∷ edit_events-none reporting line (earlier ++ c ∷ []) i)
-    ∙ ap (λ l. l ++ event_from reporting line (earlier ++ []) ((earlier ++ []) ++ c ∷ []) ∷ [])
-    (sym (edit_events-none reporting line earlier))
-edit_events-last reporting line earlier (first ∷ cs) c =
-    edit_events-first reporting line earlier first (cs ++ c ∷ [])
-    ∙ ap (λ l. event_from reporting line earlier (earlier ++ first ∷ []) ∷ l)
-    (edit_events-last reporting line (earlier ++ first ∷ []) cs c
-    ∙ ap (λ h. edit_events reporting line (earlier ++ first ∷ []) cs
-    ++ event_from reporting line h (h ++ c ∷ []) ∷ []) (append_assoc earlier (first ∷ []) cs))
-    ∙ ap (λ l. l ++ event_from reporting line (earlier ++ first ∷ cs) ((earlier ++ first ∷ cs) ++ c ∷ []) ∷ [])
-    (sym (edit_events-first reporting line earlier first cs))
+pub edit_events-last : (listed : Bool) (line : ℕ) (earlier cs : List Command) (c : Command)
+    → edit_events listed line earlier (cs ++ c ∷ [])
+    ≡ edit_events listed line earlier cs
+    ++ event_from listed line (earlier ++ cs) ((earlier ++ cs) ++ c ∷ []) ∷ []
+edit_events-last listed line earlier [] c =
+    edit_events-first listed line earlier c []
+    ∙ (λ i. event_from listed line (sym (append-nil earlier) i) (sym (append-nil earlier) i ++ c ∷ [])
+    ∷ edit_events-none listed line (earlier ++ c ∷ []) i)
+    ∙ ap (λ l. l ++ event_from listed line (earlier ++ []) ((earlier ++ []) ++ c ∷ []) ∷ [])
+    (sym (edit_events-none listed line earlier))
+edit_events-last listed line earlier (first ∷ cs) c =
+    edit_events-first listed line earlier first (cs ++ c ∷ [])
+    ∙ ap (λ l. event_from listed line earlier (earlier ++ first ∷ []) ∷ l)
+    (edit_events-last listed line (earlier ++ first ∷ []) cs c
+    ∙ ap (λ h. edit_events listed line (earlier ++ first ∷ []) cs
+    ++ event_from listed line h (h ++ c ∷ []) ∷ []) (append_assoc earlier (first ∷ []) cs))
+    ∙ ap (λ l. l ++ event_from listed line (earlier ++ first ∷ cs) ((earlier ++ first ∷ cs) ++ c ∷ []) ∷ [])
+    (sym (edit_events-first listed line earlier first cs))
 
 -- the events of the first commands, and then those of the others after them
-pub edit_events-append : (reporting : Bool) (line : ℕ) (earlier xs ys : List Command)
-    → edit_events reporting line earlier (xs ++ ys)
-    ≡ edit_events reporting line earlier xs ++ edit_events reporting line (earlier ++ xs) ys
-edit_events-append reporting line earlier [] ys =
-    ap (λ h. edit_events reporting line h ys) (sym (append-nil earlier))
-    ∙ ap (λ l. l ++ edit_events reporting line (earlier ++ []) ys) (sym (edit_events-none reporting line earlier))
-edit_events-append reporting line earlier (c ∷ xs) ys =
-    let e = event_from reporting line earlier (earlier ++ c ∷ []) in
-    edit_events-first reporting line earlier c (xs ++ ys)
-    ∙ ap (λ l. e ∷ l) (edit_events-append reporting line (earlier ++ c ∷ []) xs ys
-    ∙ ap (λ h. edit_events reporting line (earlier ++ c ∷ []) xs ++ edit_events reporting line h ys)
+pub edit_events-append : (listed : Bool) (line : ℕ) (earlier xs ys : List Command)
+    → edit_events listed line earlier (xs ++ ys)
+    ≡ edit_events listed line earlier xs ++ edit_events listed line (earlier ++ xs) ys
+edit_events-append listed line earlier [] ys =
+    ap (λ h. edit_events listed line h ys) (sym (append-nil earlier))
+    ∙ ap (λ l. l ++ edit_events listed line (earlier ++ []) ys) (sym (edit_events-none listed line earlier))
+edit_events-append listed line earlier (c ∷ xs) ys =
+    let e = event_from listed line earlier (earlier ++ c ∷ []) in
+    edit_events-first listed line earlier c (xs ++ ys)
+    ∙ ap (λ l. e ∷ l) (edit_events-append listed line (earlier ++ c ∷ []) xs ys
+    ∙ ap (λ h. edit_events listed line (earlier ++ c ∷ []) xs ++ edit_events listed line h ys)
     (append_assoc earlier (c ∷ []) xs))
-    ∙ ap (λ l. l ++ edit_events reporting line (earlier ++ c ∷ xs) ys) (sym (edit_events-first reporting line earlier c xs))
+    ∙ ap (λ l. l ++ edit_events listed line (earlier ++ c ∷ xs) ys) (sym (edit_events-first listed line earlier c xs))
 
-pub length-edit_events : (reporting : Bool) (line : ℕ) (earlier commands : List Command)
-    → length (edit_events reporting line earlier commands) ≡ length commands
-length-edit_events reporting line earlier [] = ap length (edit_events-none reporting line earlier)
-length-edit_events reporting line earlier (c ∷ cs) =
-    let rest = length-edit_events reporting line (earlier ++ c ∷ []) cs in
-    let first = ap length (edit_events-first reporting line earlier c cs) in
+pub length-edit_events : (listed : Bool) (line : ℕ) (earlier commands : List Command)
+    → length (edit_events listed line earlier commands) ≡ length commands
+length-edit_events listed line earlier [] = ap length (edit_events-none listed line earlier)
+length-edit_events listed line earlier (c ∷ cs) =
+    let rest = length-edit_events listed line (earlier ++ c ∷ []) cs in
+    let first = ap length (edit_events-first listed line earlier c cs) in
     omega (arith, first, rest)
 
 -- ---- what the events of a line paint
@@ -145,18 +145,18 @@ then_shown g e events =
 one_shown : (e : Event) → grid_with_paints (grid e.before) (paints (e ∷ [])) ≡ grid e.after
 one_shown e = ap (grid_with_paints (grid e.before)) (paints-one e) ∙ event_shown e
 
-edit_shown : (reporting : Bool) (line : ℕ) (earlier commands : List Command)
-    → grid_with_paints (grid earlier) (paints (edit_events reporting line earlier commands)) ≡ grid (earlier ++ commands)
-edit_shown reporting line earlier [] =
-    ap (λ l. grid_with_paints (grid earlier) (paints l)) (edit_events-none reporting line earlier)
+edit_shown : (listed : Bool) (line : ℕ) (earlier commands : List Command)
+    → grid_with_paints (grid earlier) (paints (edit_events listed line earlier commands)) ≡ grid (earlier ++ commands)
+edit_shown listed line earlier [] =
+    ap (λ l. grid_with_paints (grid earlier) (paints l)) (edit_events-none listed line earlier)
     ∙ ap (grid_with_paints (grid earlier)) paints-none ∙ no_paint (grid earlier)
     ∙ ap grid (sym (append-nil earlier))
-edit_shown reporting line earlier (c ∷ cs) =
-    let e = event_from reporting line earlier (earlier ++ c ∷ []) in
-    ap (λ l. grid_with_paints (grid earlier) (paints l)) (edit_events-first reporting line earlier c cs)
-    ∙ then_shown (grid earlier) e (edit_events reporting line (earlier ++ c ∷ []) cs)
-    ∙ ap (λ g. grid_with_paints g (paints (edit_events reporting line (earlier ++ c ∷ []) cs))) (event_shown e)
-    ∙ edit_shown reporting line (earlier ++ c ∷ []) cs
+edit_shown listed line earlier (c ∷ cs) =
+    let e = event_from listed line earlier (earlier ++ c ∷ []) in
+    ap (λ l. grid_with_paints (grid earlier) (paints l)) (edit_events-first listed line earlier c cs)
+    ∙ then_shown (grid earlier) e (edit_events listed line (earlier ++ c ∷ []) cs)
+    ∙ ap (λ g. grid_with_paints g (paints (edit_events listed line (earlier ++ c ∷ []) cs))) (event_shown e)
+    ∙ edit_shown listed line (earlier ++ c ∷ []) cs
     ∙ ap grid (append_assoc earlier (c ∷ []) cs)
 
 either_before : (b : Bool) (x y : Event) (h : List Command) → x.before ≡ h → y.before ≡ h → (cond b x y).before ≡ h
@@ -168,23 +168,23 @@ either_after : (b : Bool) (x y : Event) (h : List Command) → (b ≡ true → x
 either_after true x y h first second = first refl
 either_after false x y h first second = second
 
-undo_shown : (reporting : Bool) (line : ℕ) (page : List Command) (k : KeptEdits)
-    → grid_with_paints (grid (remaining page k)) (paints (line_events reporting line page k TakeBack))
-    ≡ grid (remaining page (kept_after k TakeBack))
-undo_shown reporting line page k =
+undo_shown : (listed : Bool) (line : ℕ) (page : List Command) (k : KeptEdits)
+    → grid_with_paints (grid (remaining page k)) (paints (line_events listed line page k (Turn TakeBack)))
+    ≡ grid (remaining page (kept_after k (Turn TakeBack)))
+undo_shown listed line page k =
     let left : KeptEdits = record { edits = take (length k.edits - 1) k.edits; count = k.count - 1 } in
-    let nothing = nothing_event reporting line (remaining page k) in
-    let undone = event_from reporting line (remaining page k) (remaining page (kept_after k TakeBack)) in
+    let nothing = nothing_event listed line (remaining page k) in
+    let undone = event_from listed line (remaining page k) (remaining page (kept_after k (Turn TakeBack))) in
     let e : Event = cond (k.count == 0) nothing undone in
     let before : e.before ≡ remaining page k = either_before (k.count == 0) nothing undone (remaining page k) refl refl in
-    let after : e.after ≡ remaining page (kept_after k TakeBack) =
-    either_after (k.count == 0) nothing undone (remaining page (kept_after k TakeBack))
+    let after : e.after ≡ remaining page (kept_after k (Turn TakeBack)) =
+    either_after (k.count == 0) nothing undone (remaining page (kept_after k (Turn TakeBack)))
     (λ is. ap (λ (b : Bool). remaining page (cond b k left)) (sym is)) refl in
     ap (λ h. grid_with_paints (grid h) (paints (e ∷ []))) (sym before) ∙ one_shown e ∙ ap grid after
 
-pub line_shown : (reporting : Bool) (line : ℕ) (page : List Command) (k : KeptEdits) (step : Step)
-    → grid_with_paints (grid (remaining page k)) (paints (line_events reporting line page k step))
+pub line_shown : (listed : Bool) (line : ℕ) (page : List Command) (k : KeptEdits) (step : Step)
+    → grid_with_paints (grid (remaining page k)) (paints (line_events listed line page k step))
     ≡ grid (remaining page (kept_after k step))
-line_shown reporting line page k TakeBack = undo_shown reporting line page k
-line_shown reporting line page k (Edit commands) =
-    edit_shown reporting line (remaining page k) commands ∙ ap grid (sym (remaining-edit page k commands))
+line_shown listed line page k (Turn TakeBack) = undo_shown listed line page k
+line_shown listed line page k (Edit commands) =
+    edit_shown listed line (remaining page k) commands ∙ ap grid (sym (remaining-edit page k commands))

@@ -10,10 +10,10 @@ use Rattle.cept_codes.specs.Command.{IsValidCommand}
 use Rattle.cept_codes.specs.declared.command.Command.{Command}
 use Rattle.cept_profile.specs.State.{State, state}
 use Rattle.cept_profile.specs.Valid.{AllValid}
-use Rattle.cept_undo.specs.Edits.{state_before_latest}
+use Rattle.cept_undo.specs.Past.{most_kept, state_before_latest}
 use Rattle.cept_editor.specs.Kept.{KeptEdits, none_kept, kept_after, remaining, commands_of_edits, state_before_last}
 use Rattle.cept_editor.specs.Kept.{states_before, EditorState, StandsAfter}
-use Rattle.cept_editor.specs.Meaning.{TakeBack, Edit}
+use Rattle.cept_editor.specs.Meaning.{Turn, TakeBack, Edit}
 use Rattle.cept_editor.proofs.EditsInTurn.{remaining-edit, remaining-none, states_before-none}
 
 -- ---- lists
@@ -107,16 +107,16 @@ all_before page k commands =
     (one_later page k commands) 0 k.count) i)
     ∙ ap (λ c. map (state_before_last page (kept_after k (Edit commands))) (range_with_len 0 c)) more
 
-states_before-edit : (page : List Command) (k : KeptEdits) (commands : List Command)
-    → take 32 (state (remaining page k) ∷ states_before page k) ≡ states_before page (kept_after k (Edit commands))
+pub states_before-edit : (page : List Command) (k : KeptEdits) (commands : List Command)
+    → take most_kept (state (remaining page k) ∷ states_before page k) ≡ states_before page (kept_after k (Edit commands))
 unfolding states_before
 states_before-edit page k commands =
-    ap (take 32) (all_before page k commands)
-    ∙ first_of_range (state_before_last page (kept_after k (Edit commands))) 0 (k.count + 1) 32
+    ap (take most_kept) (all_before page k commands)
+    ∙ first_of_range (state_before_last page (kept_after k (Edit commands))) 0 (k.count + 1) most_kept
 
 pub StandsAfter-edit : (old new : EditorState) (page : List Command) (k : KeptEdits) (commands : List Command)
     → StandsAfter old page k → AllValid commands → 0 < length commands
-    → new.screen ≡ state (remaining page k ++ commands) → new.past ≡ take 32 (old.screen ∷ old.past)
+    → new.screen ≡ state (remaining page k ++ commands) → new.past ≡ take most_kept (old.screen ∷ old.past)
     → StandsAfter new page (kept_after k (Edit commands))
 StandsAfter-edit old new page k commands stands valid some screen past = record {
   valid = subst AllValid (sym (remaining-edit page k commands))
@@ -125,7 +125,7 @@ StandsAfter-edit old new page k commands stands valid some screen past = record 
   within = omega (arith, stands.within, length-append k.edits (commands ∷ []));
   is = λ i. record {
     screen = (screen ∙ ap state (sym (remaining-edit page k commands))) i;
-    past = (past ∙ ap (λ (e : EditorState). take 32 (e.screen ∷ e.past)) stands.is
+    past = (past ∙ ap (λ (e : EditorState). take most_kept (e.screen ∷ e.past)) stands.is
         ∙ states_before-edit page k commands) i;
   };
 }
@@ -133,14 +133,14 @@ StandsAfter-edit old new page k commands stands valid some screen past = record 
 -- ---- an edit less
 
 -- without the last edit, where one can be taken back
-abbrev without_last : KeptEdits → KeptEdits
+abbrev pub without_last : KeptEdits → KeptEdits
 without_last k = record { edits = take (length k.edits - 1) k.edits; count = k.count - 1 }
 
 not_none : (n : ℕ) (none : Bool) → (n == 0) ≡ none → 0 < n → none ≡ false
 not_none n true is some = absurd (omega (arith, some, eqb-true n 0 is))
 not_none n false is some = refl
 
-pub kept_after-undo : (k : KeptEdits) → 0 < k.count → kept_after k TakeBack ≡ without_last k
+pub kept_after-undo : (k : KeptEdits) → 0 < k.count → kept_after k (Turn TakeBack) ≡ without_last k
 kept_after-undo k some =
     ap (λ (b : Bool). cond b k (without_last k)) (not_none k.count (k.count == 0) refl some)
 
@@ -171,7 +171,7 @@ none_before page k none = ap (λ c. map (state_before_last page k) (range_with_l
 
 -- an undo leaves other commands
 pub undo_differs : (editor : EditorState) (page : List Command) (k : KeptEdits) → StandsAfter editor page k
-    → 0 < k.count → remaining page (kept_after k TakeBack) ≢ remaining page k
+    → 0 < k.count → remaining page (kept_after k (Turn TakeBack)) ≢ remaining page k
 undo_differs editor page k stands some same =
     let fewer = fewer_commands (length k.edits - 1) k.edits (omega (arith, stands.within, some)) stands.some in
     let left = ap (λ (j : KeptEdits). remaining page j) (kept_after-undo k some) in
@@ -183,12 +183,12 @@ undo_differs editor page k stands some same =
       length-append page (commands_of_edits (take (length k.edits - 1) k.edits)),
     )
 
-AllByRecursion-front : {X : Type 0} (P : X → Type 0) (xs ys : List X) → AllByRecursion P (xs ++ ys) → AllByRecursion P xs
+pub AllByRecursion-front : {X : Type 0} (P : X → Type 0) (xs ys : List X) → AllByRecursion P (xs ++ ys) → AllByRecursion P xs
 AllByRecursion-front P [] ys all = tt
 AllByRecursion-front P (x ∷ xs) ys all = (all.0, AllByRecursion-front P xs ys all.1)
 
 -- the commands of the first edits, and then those of the others
-remaining_in_parts : (page : List Command) (k : KeptEdits)
+pub remaining_in_parts : (page : List Command) (k : KeptEdits)
     → remaining page k ≡ remaining page (without_last k) ++ commands_of_edits (drop (length k.edits - 1) k.edits)
 unfolding commands_of_edits
 remaining_in_parts page k =
@@ -217,7 +217,7 @@ some_kept_by page k some =
     let kept = none_by k.count page k refl some in
     (kept, not_none k.count (k.count == 0) refl kept)
 
-pub kept_after-none : (k : KeptEdits) → k.count ≡ 0 → kept_after k TakeBack ≡ k
+pub kept_after-none : (k : KeptEdits) → k.count ≡ 0 → kept_after k (Turn TakeBack) ≡ k
 kept_after-none k none = ap (λ (n : ℕ). cond (n == 0) k (without_last k)) none
 
 -- the states before, where an edit is kept
@@ -227,14 +227,19 @@ some_states page k zero is some = absurd (omega (arith, some))
 some_states page k (suc n) is some = states_left page k n is
 
 pub screen_left : (page : List Command) (k : KeptEdits) (now : State) → 0 < k.count
-    → state_before_latest (states_before page k) now ≡ state (remaining page (kept_after k TakeBack))
+    → state_before_latest (states_before page k) now ≡ state (remaining page (kept_after k (Turn TakeBack)))
 screen_left page k now some =
     ap (λ p. state_before_latest p now) (some_states page k k.count refl some)
     ∙ ap (λ (j : KeptEdits). state (remaining page j)) (sym (kept_after-undo k some))
 
+pub past_left : (page : List Command) (k : KeptEdits) → 0 < k.count
+    → drop 1 (states_before page k) ≡ states_before page (kept_after k (Turn TakeBack))
+past_left page k some =
+    ap (drop 1) (some_states page k k.count refl some) ∙ ap (states_before page) (sym (kept_after-undo k some))
+
 pub StandsAfter-undo : (old new : EditorState) (page : List Command) (k : KeptEdits) → StandsAfter old page k
-    → 0 < k.count → new.screen ≡ state (remaining page (kept_after k TakeBack)) → new.past ≡ drop 1 old.past
-    → StandsAfter new page (kept_after k TakeBack)
+    → 0 < k.count → new.screen ≡ state (remaining page (kept_after k (Turn TakeBack))) → new.past ≡ drop 1 old.past
+    → StandsAfter new page (kept_after k (Turn TakeBack))
 StandsAfter-undo old new page k stands some screen past =
     let kept = kept_after-undo k some in
     subst (λ (j : KeptEdits). StandsAfter new page j) (sym kept) (record {

@@ -7,3 +7,4 @@ pub use Rattle.cept_editor.proofs.MadeEvents.{AreCutOff-longer, AreCutOff-end, c
 pub use Rattle.cept_editor.proofs.MadeEvents.{AreMade-append, AreCutOff-after}
 pub use Rattle.cept_editor.proofs.EditsInTurn.{kept-none, kept-more, remaining-none, states_before-none, line_shown}
 pub use Rattle.cept_editor.proofs.KeptStates.{StandsAfter-start}
+pub use Rattle.cept_editor.proofs.StatesInTurn.{editor_after-steps}

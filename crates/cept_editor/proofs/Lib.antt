@@ -13,5 +13,7 @@ mod EditsInTurn
 mod KeptStates
 mod AppliedInTurn
 mod LinesMade
+mod EditsKept
+mod StatesInTurn
 mod ScriptsByLines
 pub mod Laws

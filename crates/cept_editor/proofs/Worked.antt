@@ -4,7 +4,7 @@ use Rattle.cept_codes.specs.declared.command.Command.TheVariants as commands
 use Rattle.cept_codes.specs.declared.command.C1Set.TheVariants.{Serial, Parallel}
 use Rattle.cept_codes.specs.declared.line_reason.LineReason.TheVariants as reasons
 use Rattle.cept_editor.specs.Lines.{lines}
-use Rattle.cept_editor.specs.Meaning.{TakeBack, Edit, hex_bytes, line_meaning}
+use Rattle.cept_editor.specs.Meaning.{Turn, TakeBack, Edit, hex_bytes, line_meaning}
 use Rattle.cept_editor.specs.Script.{edits, first_fault, edits_from, fault_from}
 use Rattle.cept_editor.specs.Table.{row_of}
 
@@ -114,7 +114,7 @@ means-explicit : line_meaning (codes "explicit") ≡ Ok (Some (Edit (commands.Im
 unfolding line_meaning row_of
 means-explicit = refl
 
-means-undo : line_meaning (codes "undo") ≡ Ok (Some TakeBack)
+means-undo : line_meaning (codes "undo") ≡ Ok (Some (Turn TakeBack))
 unfolding line_meaning row_of
 means-undo = refl
 
@@ -255,7 +255,7 @@ abbrev script : List ℕ
 script = codes "# a" ++ 0x0A ∷ codes "up" ++ 0x0A ∷ 0x0A ∷ codes "undo"
 
 edits-of_script : edits script
-    ≡ record { line = 2; step = Edit (commands.Up ∷ []) } ∷ record { line = 4; step = TakeBack } ∷ []
+    ≡ record { line = 2; step = Edit (commands.Up ∷ []) } ∷ record { line = 4; step = Turn TakeBack } ∷ []
 unfolding line_meaning row_of edits_from
 edits-of_script = refl
 

@@ -1,14 +1,17 @@
 -- Commands that are applied to a screen one after the other, what they cost, and which marks they leave (this project's
 -- own).
-use Rattle.std.specs.Prelude.{◌≡◌, ◌≢◌, ℕ, ◌+◌, Bool, List, [], ◌∷◌, ◌++◌, length, take, Result, OnOk, OnErr}
+use Rattle.std.specs.Prelude.{◌≡◌, ◌≢◌, ℕ, ◌+◌, Bool, List, [], ◌∷◌, ◌++◌, length, take, drop, Result, OnOk, OnErr}
 use Rattle.cept_codes.specs.declared.command.Command.{Command}
 use Rattle.cept_profile.specs.Changes.{changes_between, differences}
 use Rattle.cept_profile.specs.Look.{looks_of}
 use Rattle.cept_profile.specs.Reach.{rows_in_reach}
 use Rattle.cept_profile.specs.State.{State, state, state_after, core_of}
 use Rattle.cept_profile.specs.Valid.{AllValid}
+use Rattle.cept_repaint.specs.Applied.{IsApplied}
+use Rattle.cept_undo.specs.Past.{most_kept, state_before_latest}
+use Rattle.cept_editor.specs.Kept.{EditorState}
 use Rattle.cept_editor.specs.Made.{Output, IsMade, AreMade, AreCutOff}
-use Rattle.cept_editor.specs.Meaning.{Step, TakeBack, Edit}
+use Rattle.cept_editor.specs.Meaning.{Step, TurnKind, Turn, TakeBack, Edit}
 use Rattle.cept_editor.specs.Stepping.{event_from, edit_events}
 
 -- a state after commands, one after the other
@@ -21,44 +24,69 @@ unfoldable pub rows_in_reach_of_all : State → List Command → ℕ
 rows_in_reach_of_all s [] = 0
 rows_in_reach_of_all s (c ∷ cs) = rows_in_reach s c + rows_in_reach_of_all (state_after s c) cs
 
--- how many rows an edit line may resolve: those in reach of its commands, and all 24 at an undo
+-- how many rows an edit line may resolve: those in reach of its commands, and all 24 at a turn
 abbrev pub rows_of_step : State → Step → ℕ
-rows_of_step s TakeBack = 24
+rows_of_step s (Turn turn) = 24
 rows_of_step s (Edit commands) = rows_in_reach_of_all s commands
+
+-- ---- edit lines by the states alone
+
+-- an editor after a turn: an undo brings the latest state of its past and leaves the others; where there is none, the
+-- editor stays
+abbrev pub editor_after_turn : EditorState → TurnKind → EditorState
+editor_after_turn e TakeBack = record { screen = state_before_latest e.past e.screen; past = drop 1 e.past }
+
+-- an editor after an edit line: the state before an edit comes first in its past, and no more stay than may be kept
+abbrev pub editor_after_step : EditorState → Step → EditorState
+editor_after_step e (Edit commands) =
+    record { screen = state_after_all e.screen commands; past = take most_kept (e.screen ∷ e.past) }
+editor_after_step e (Turn turn) = editor_after_turn e turn
+
+-- an editor after these edit lines, in order
+unfoldable pub editor_after_steps : EditorState → List Step → EditorState
+editor_after_steps e [] = e
+editor_after_steps e (step ∷ more) = editor_after_steps (editor_after_step e step) more
+
+-- what an edit line made of an editor, whatever it stands after
+pub record HasMade {X E : Type 0} (step : Step) (old : EditorState) (result : Result X E) (new : EditorState) : Type 0 where
+  -- all of it, where the sink didn't fail
+  pub whole : OnOk result (new ≡ editor_after_step old step)
+  -- a turn is made also where the sink fails at its lines
+  pub turned : (turn : TurnKind) → step ≡ Turn turn → new ≡ editor_after_turn old turn
+  -- and of an edit then as much is kept as was applied
+  pub past : new.past ≡ (editor_after_step old step).past
 
 -- ---- one command
 
 -- a command was applied, after whatever commands: what it changes was painted, and then its lines were put where they are
--- asked for, or a part of them
-pub record AppliesOne {X E : Type 0} (reporting : Bool) (line : ℕ) (command : Command) (old : State) (before : Output)
-    (result : Result X E) (new : State) (after : Output) : Type 0 where
-  pub stands : new ≡ state_after old command
-  pub goes_on : (history : List Command) → AllValid history → old ≡ state history
-      → new ≡ state (history ++ command ∷ [])
+-- listed, or a part of them
+pub record AppliesOne {X E : Type 0} (listed : Bool) (line : ℕ) (command : Command) (old : State) (before : Output)
+    (result : Result X E) (new : State) (after : Output) (marks : List Bool) (from to : ℕ) : Type 0 where
+  pub applied : IsApplied old command new marks before.glass after.glass from to
   pub made : (history : List Command) → AllValid history → old ≡ state history
-      → IsMade (event_from reporting line history (history ++ command ∷ [])) before result after
+      → IsMade (event_from listed line history (history ++ command ∷ [])) before result after
 
 -- ---- several commands
 
 -- commands were applied after others
-pub record HasApplied (reporting : Bool) (line : ℕ) (history commands : List Command) (before : Output) (new : State)
+pub record HasApplied (listed : Bool) (line : ℕ) (history commands : List Command) (before : Output) (new : State)
     (after : Output) : Type 0 where
   pub is : new ≡ state (history ++ commands)
-  pub made : AreMade (edit_events reporting line history commands) before after
+  pub made : AreMade (edit_events listed line history commands) before after
 
 -- the sink failed at one of them: the others after it weren't applied
-pub record HasStopped (reporting : Bool) (line : ℕ) (history commands : List Command) (before : Output) (new : State)
+pub record HasStopped (listed : Bool) (line : ℕ) (history commands : List Command) (before : Output) (new : State)
     (after : Output) : Type 0 where
-  pub off : AreCutOff (edit_events reporting line history commands) before after
+  pub off : AreCutOff (edit_events listed line history commands) before after
   pub is : new ≡ state (history ++ take (length off.done + 1) commands)
 
 -- one or the other, after whatever commands
-pub record AppliesAll {X E : Type 0} (reporting : Bool) (line : ℕ) (commands : List Command) (old : State)
+pub record AppliesAll {X E : Type 0} (listed : Bool) (line : ℕ) (commands : List Command) (old : State)
     (before : Output) (result : Result X E) (new : State) (after : Output) : Type 0 where
   pub applied : OnOk result ((history : List Command) → AllValid history → old ≡ state history
-      → HasApplied reporting line history commands before new after)
+      → HasApplied listed line history commands before new after)
   pub stopped : OnErr result ((history : List Command) → AllValid history → old ≡ state history
-      → HasStopped reporting line history commands before new after)
+      → HasStopped listed line history commands before new after)
 
 -- ---- marks
 
@@ -76,7 +104,7 @@ pub record MarksLast {X E : Type 0} (commands : List Command) (old : State) (res
   pub shown : OnErr result
       (changes_between (looks_of (core_of (state_after_all old earlier))) (looks_of (core_of new)) ≢ [])
 
--- the marks are those of the last command of an edit that was applied, or of an undo
+-- the marks are those of the last command of an edit that was applied, or of a turn
 abbrev pub MarksStep : {X E : Type 0} → Step → State → Result X E → State → List Bool → Type 0
-MarksStep TakeBack old result new marks = marks ≡ differences (looks_of (core_of old)) (looks_of (core_of new))
+MarksStep (Turn turn) old result new marks = marks ≡ differences (looks_of (core_of old)) (looks_of (core_of new))
 MarksStep (Edit commands) old result new marks = MarksLast commands old result new marks

@@ -1,10 +1,11 @@
 -- The edits that are kept after the edit lines of a script, and those of them that can be taken back (this project's own).
-use Rattle.std.specs.Prelude.{◌≡◌, ℕ, ◌+◌, ◌-◌, ◌<◌, ◌≤◌, ◌==◌, min, List, [], ◌∷◌, ◌++◌, length, map, take, if◌then◌else◌}
+use Rattle.std.specs.Prelude.{◌≡◌, ℕ, ◌+◌, ◌-◌, ◌<◌, ◌≤◌, ◌==◌, Bool, min, List, [], ◌∷◌, ◌++◌, length, map, take, if◌then◌else◌}
 use Rattle.std.specs.List.{flat_map, range_with_len, AllByRecursion}
 use Rattle.cept_codes.specs.declared.command.Command.{Command}
 use Rattle.cept_profile.specs.State.{State, state}
 use Rattle.cept_profile.specs.Valid.{AllValid}
-use Rattle.cept_editor.specs.Meaning.{Step, TakeBack, Edit}
+use Rattle.cept_undo.specs.Past.{Edits, FitsTogether, IsNotBegun, most_kept}
+use Rattle.cept_editor.specs.Meaning.{Step, TurnKind, Turn, TakeBack, Edit}
 
 -- the commands of each kept edit, in order, and how many of the last edits can be taken back
 pub record KeptEdits : Type 0 where
@@ -15,12 +16,18 @@ pub record KeptEdits : Type 0 where
 abbrev pub none_kept : KeptEdits
 none_kept = record { edits = []; count = 0 }
 
--- after one more edit line: an edit goes last, and at most 32 can be taken back; an undo takes the last edit away, where
--- one can be taken back
+-- there is nothing that a turn could bring: no edit can be taken back
+abbrev pub finds_nothing : TurnKind → KeptEdits → Bool
+finds_nothing TakeBack k = k.count == 0
+
+-- after a turn that finds something: an undo takes the last edit away
+abbrev pub kept_after_turn : KeptEdits → TurnKind → KeptEdits
+kept_after_turn k TakeBack = record { edits = take (length k.edits - 1) k.edits; count = k.count - 1 }
+
+-- after one more edit line: an edit goes last, and no more can be taken back than may be kept
 abbrev pub kept_after : KeptEdits → Step → KeptEdits
-kept_after k (Edit commands) = record { edits = k.edits ++ commands ∷ []; count = min (k.count + 1) 32 }
-kept_after k TakeBack =
-    if k.count == 0 then k else record { edits = take (length k.edits - 1) k.edits; count = k.count - 1 }
+kept_after k (Edit commands) = record { edits = k.edits ++ commands ∷ []; count = min (k.count + 1) most_kept }
+kept_after k (Turn turn) = if finds_nothing turn k then k else kept_after_turn k turn
 
 -- after these and more edit lines, in order
 unfoldable pub kept_after_all : KeptEdits → List Step → KeptEdits
@@ -65,3 +72,8 @@ pub record StandsAfter (editor : EditorState) (page : List Command) (k : KeptEdi
   pub some : AllByRecursion (λ commands. 0 < length commands) k.edits
   pub within : k.count ≤ length k.edits
   pub is : editor ≡ editor_after page k
+
+-- an editor's edits and the state of its screen between two calls: no edit is begun, and they fit together
+pub record IsBetweenEdits (edits : Edits) (screen : State) : Type 0 where
+  pub none_begun : IsNotBegun edits
+  pub fits : FitsTogether edits screen

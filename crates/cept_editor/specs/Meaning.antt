@@ -14,24 +14,28 @@ use Rattle.cept_parser.specs.Items.{is_refusal, closed_items, commands}
 use Rattle.cept_editor.specs.Lines.{words}
 use Rattle.cept_editor.specs.Table.{Row, row_of, Alone, One, Two, Four, Text, Raw, Undo}
 
--- what an edit line does: it takes back the last kept edit, or is an edit of these commands
+-- what a turn does: it takes back the last kept edit
+pub data TurnKind : Type 0 where
+  TakeBack : TurnKind
+
+-- what an edit line does: it is a turn, or an edit of these commands
 pub data Step : Type 0 where
-  TakeBack : Step
+  Turn : TurnKind → Step
   Edit : List Command → Step
 
 -- each command of a step is valid
 abbrev pub IsValidStep : Step → Type 0
-IsValidStep TakeBack = Unit {0}
+IsValidStep (Turn turn) = Unit {0}
 IsValidStep (Edit cs) = AllByRecursion IsValidCommand cs
 
 -- an edit has a command
 abbrev pub HasCommand : Step → Type 0
-HasCommand TakeBack = Unit {0}
+HasCommand (Turn turn) = Unit {0}
 HasCommand (Edit cs) = 0 < length cs
 
--- how many commands an edit has; an undo counts as one
+-- how many commands an edit has; a turn counts as one
 abbrev pub command_count : Step → ℕ
-command_count TakeBack = 1
+command_count (Turn turn) = 1
 command_count (Edit cs) = length cs
 
 -- the number of a word: one or two digits
@@ -132,7 +136,7 @@ step_by (Some (Two fits command)) more rest = two fits command more
 step_by (Some (Four fits command)) more rest = four fits command more
 step_by (Some Text) more rest = text rest
 step_by (Some Raw) more rest = raw more
-step_by (Some Undo) more rest = alone TakeBack more
+step_by (Some Undo) more rest = alone (Turn TakeBack) more
 
 -- what an edit line means, cut into words
 abbrev pub step_of_words : List (List ℕ) → List ℕ → Result Step LineReason

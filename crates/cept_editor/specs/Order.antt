@@ -19,7 +19,7 @@ use Rattle.cept_editor.specs.declared.order.Order.TheVariants as orders
 use Rattle.cept_editor.specs.declared.word.Word.{Word}
 use Rattle.cept_editor.specs.declared.word.Word.TheVariants as named
 use Rattle.cept_editor.specs.Lines.{words}
-use Rattle.cept_editor.specs.Meaning.{Step, TakeBack, Edit, HasCommand, text_commands, is_sign, hex_bytes}
+use Rattle.cept_editor.specs.Meaning.{Step, Turn, TakeBack, Edit, HasCommand, text_commands, is_sign, hex_bytes}
 use Rattle.cept_editor.specs.Table.{Row, Alone, One, Two, Four, Text, Raw, Undo, is_place, is_c1, is_screen_c1, is_colour}
 use Rattle.cept_editor.specs.Table.{entry_command, is_area}
 
@@ -90,7 +90,7 @@ raw_bytes digits = unwrap_or (hex_bytes digits) []
 
 -- the step of an order
 abbrev pub order_step : Order → Step
-order_step orders.TakeBack = TakeBack
+order_step orders.TakeBack = Turn TakeBack
 order_step (orders.One c) = Edit (c ∷ [])
 order_step (orders.Text text) = Edit (text_commands text.now)
 order_step (orders.Raw digits) = Edit (commands_of_bytes (raw_bytes digits.now))

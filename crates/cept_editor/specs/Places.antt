@@ -6,7 +6,7 @@ use Rattle.std.specs.List.{slice_split, AllByRecursion}
 use Rattle.cept_codes.specs.declared.line_reason.LineReason.{LineReason}
 use Rattle.cept_editor.specs.declared.places.EditPlace.{EditPlace}
 use Rattle.cept_editor.specs.Lines.{ends_line}
-use Rattle.cept_editor.specs.Meaning.{Step, TakeBack, IsValidStep, line_meaning}
+use Rattle.cept_editor.specs.Meaning.{Step, Turn, TakeBack, IsValidStep, line_meaning}
 use Rattle.cept_editor.specs.Script.{EditLine, edits, first_fault}
 use Rattle.cept_editor.specs.declared.script.ScriptFault.{ScriptFault}
 use Rattle.cept_editor.specs.declared.script.ScriptFault.TheVariants as faults
@@ -23,8 +23,8 @@ line_at bytes start = first_part (slice_split ends_line (drop start bytes))
 -- the step of a line that has one
 abbrev pub known_step : Result (Option Step) LineReason → Step
 known_step (Ok (Some step)) = step
-known_step (Ok None) = TakeBack
-known_step (Err reason) = TakeBack
+known_step (Ok None) = Turn TakeBack
+known_step (Err reason) = Turn TakeBack
 
 -- the edit that stands at a place
 abbrev pub edit_at : List ℕ → EditPlace → EditLine

@@ -1,25 +1,20 @@
 //! A screen whose edits are made line by line, and can be taken back.
 
-ghost use Rattle.std.specs.Prelude.{◌≡◌, ◌≢◌, ◌+◌, ◌*◌, ◌<◌, ◌≤◌, List, [], ◌∷◌, ◌++◌, Bool, false, length};
-ghost use Rattle.std.specs.Prelude.{Ok, OnErr, IfOk, IsOk, IsSome, slice_index_or, if◌then◌else◌};
+ghost use Rattle.std.specs.Prelude.{◌≡◌, ◌≢◌, ◌+◌, ◌*◌, ◌<◌, ◌≤◌, [], false, length};
+ghost use Rattle.std.specs.Prelude.{Ok, OnErr, IfOk, IsOk, slice_index_or};
 ghost use Rattle.std.specs.List.{AllByRecursion};
-ghost use Rattle.cept_codes.specs.declared.command.Command.{Command};
 ghost use Rattle.cept_codes.specs.Command.{IsValidCommand};
 ghost use Rattle.cept_outside.specs.Causes.{HasCause};
-ghost use Rattle.cept_outside.specs.SinkState.{PutsText};
-ghost use Rattle.cept_profile.specs.Changes.{changes_between, differences, grid_with_paints};
-ghost use Rattle.cept_profile.specs.Changes.{marked_looks};
+ghost use Rattle.cept_profile.specs.Changes.{changes_between, differences};
 ghost use Rattle.cept_profile.specs.Look.{looks_of};
-ghost use Rattle.cept_profile.specs.Reach.{rows_in_reach};
-ghost use Rattle.cept_profile.specs.State.{core_of, state, state_after};
-ghost use Rattle.cept_profile.specs.Valid.{AllValid};
-ghost use Rattle.cept_repaint.specs.GlassState.{Lists};
-ghost use Rattle.cept_report.specs.Text.{change_lines};
-ghost use Rattle.cept_editor.specs.Applying.{AppliesOne, AppliesAll, MarksLast, MarksStep};
+ghost use Rattle.cept_profile.specs.State.{core_of, state};
+ghost use Rattle.cept_repaint.specs.Applied.{IsApplied};
+ghost use Rattle.cept_undo.specs.Past.{FitsTogether, IsBegun, StaysBegun};
+ghost use Rattle.cept_editor.specs.Applying.{AppliesOne, AppliesAll, HasMade, MarksLast, MarksStep};
 ghost use Rattle.cept_editor.specs.Applying.{rows_in_reach_of_all, rows_of_step};
 ghost use Rattle.cept_editor.specs.Kept.{none_kept, StandsAfter};
 ghost use Rattle.cept_editor.specs.Made.{output_of};
-ghost use Rattle.cept_editor.specs.Meaning.{TakeBack, Edit as EditOf, command_count};
+ghost use Rattle.cept_editor.specs.Meaning.{Turn, TakeBack, Edit as EditOf, command_count};
 ghost use Rattle.cept_editor.specs.Script.{EditLine};
 ghost use Rattle.cept_editor.specs.Stepping.{GoesOn};
 
@@ -28,7 +23,7 @@ use crate::script::Script;
 use cept_codes::{Command, NoMemory};
 use cept_outside::{Sink, Steps, WriteFault};
 use cept_repaint::{Glass, Marks, Screen};
-use cept_report::put_changes;
+use cept_report::put_changes_if;
 use cept_undo::{Undo, Undone};
 use std::alloc::Global;
 use std::marker::Model;
@@ -43,28 +38,8 @@ pub enum Done {
     Nothing,
 }
 
-/// Puts the lines of the marked places, where they are asked for.
-fn put_lines<T: Sink>(
-    report: bool,
-    line: u32,
-    marks: &Marks,
-    screen: &Screen,
-    sink: &mut T,
-) -> Result<(), WriteFault>
-    ensures puts { let changed = marked_looks marks.now (looks_of (core_of screen.now)) in
-        let text = if report then change_lines line changed else [] in
-        PutsText (T.state sink.old) text result (T.state sink.new) }
-    ensures quiet { report ≡ false → IsOk result × (T.state sink.new ≡ T.state sink.old) }
-{
-    if report {
-        put_changes(sink, u64::from(line), marks, screen)
-    } else {
-        Ok(())
-    }
-}
-
 /// Applies a command of the edit that is begun, paints what it changes, and then puts its lines
-/// where they are asked for.
+/// where they are listed.
 fn apply_command<G: Glass, T: Sink, L: Ledger>(
     undo: &mut Undo,
     screen: &mut Screen,
@@ -73,26 +48,23 @@ fn apply_command<G: Glass, T: Sink, L: Ledger>(
     glass: &mut G,
     marks: &mut Marks,
     sink: &mut T,
-    report: bool,
+    listed: bool,
     steps: &mut Steps<L>,
 ) -> Result<(), WriteFault>
-    requires begun { IsSome undo.old.begun }
+    requires begun { IsBegun undo.old }
+    requires fits { FitsTogether undo.old screen.old }
     requires valid { IsValidCommand command }
-    ensures edits { undo.new ≡ undo.old }
-    ensures applies { AppliesOne report line command screen.old
+    ensures edit { StaysBegun undo.old screen.old undo.new screen.new }
+    ensures applies { AppliesOne listed line command screen.old
         (output_of (T.state sink.old) (G.state glass.old)) result screen.new
-        (output_of (T.state sink.new) (G.state glass.new)) }
+        (output_of (T.state sink.new) (G.state glass.new)) marks.new steps.old steps.new }
     ensures cause { HasCause (T.state sink.old).faults (T.state sink.new).faults result }
-    ensures quiet { report ≡ false → IsOk result × (T.state sink.new ≡ T.state sink.old) }
-    ensures marks { marks.new
-        ≡ differences (looks_of (core_of screen.old)) (looks_of (core_of screen.new)) }
+    ensures quiet { listed ≡ false → IsOk result × (T.state sink.new ≡ T.state sink.old) }
     ensures shown { OnErr result
         (changes_between (looks_of (core_of screen.old)) (looks_of (core_of screen.new)) ≢ []) }
-    ensures cost { steps.new ≤ steps.old + rows_in_reach screen.old command }
-    ensures at_most_24 { steps.new ≤ steps.old + 24 }
 {
     undo.apply(screen, command, glass, marks, steps);
-    put_lines(report, line, marks, screen, sink)
+    put_changes_if(listed, sink, u64::from(line), marks, screen)
 }
 
 /// Applies the commands of the edit that is begun one after the other, up to the first one whose
@@ -105,16 +77,17 @@ fn apply_commands<G: Glass, T: Sink, L: Ledger>(
     glass: &mut G,
     marks: &mut Marks,
     sink: &mut T,
-    report: bool,
+    listed: bool,
     steps: &mut Steps<L>,
 ) -> Result<(), WriteFault>
-    requires begun { IsSome undo.old.begun }
-    ensures edits { undo.new ≡ undo.old }
-    ensures applies { AppliesAll report line commands.entry screen.old
+    requires begun { IsBegun undo.old }
+    requires fits { FitsTogether undo.old screen.old }
+    ensures edit { StaysBegun undo.old screen.old undo.new screen.new }
+    ensures applies { AppliesAll listed line commands.entry screen.old
         (output_of (T.state sink.old) (G.state glass.old)) result screen.new
         (output_of (T.state sink.new) (G.state glass.new)) }
     ensures cause { HasCause (T.state sink.old).faults (T.state sink.new).faults result }
-    ensures quiet { report ≡ false → IsOk result × (T.state sink.new ≡ T.state sink.old) }
+    ensures quiet { listed ≡ false → IsOk result × (T.state sink.new ≡ T.state sink.old) }
     ensures marks { 0 < length commands.entry
         → MarksLast commands.entry screen.old result screen.new marks.new }
     ensures cost { steps.new ≤ steps.old + rows_in_reach_of_all screen.old commands.entry }
@@ -122,7 +95,7 @@ fn apply_commands<G: Glass, T: Sink, L: Ledger>(
 {
     while let Some(command) = commands.next() {
         apply_command(
-            undo, screen, line, command, glass, marks, sink, report, steps,
+            undo, screen, line, command, glass, marks, sink, listed, steps,
         )?;
     }
     Ok(())
@@ -137,15 +110,15 @@ pub struct Editor {
 }
 
 impl Model for Editor {
-    ghost use Rattle.std.specs.Prelude.{IsNone};
-    ghost use Rattle.cept_editor.specs.Kept.{EditorState};
+    ghost use Rattle.cept_undo.specs.Past.{past};
+    ghost use Rattle.cept_editor.specs.Kept.{EditorState, IsBetweenEdits};
 
     ghost Value = { EditorState };
 
-    ghost view = { λ e. record { screen = e.screen; past = e.undo.past } };
+    ghost view = { λ e. record { screen = e.screen; past = past e.undo e.screen } };
 
     // Between two calls no edit is begun.
-    ghost invariant = { λ e. IsNone e.undo.begun };
+    ghost invariant = { λ e. IsBetweenEdits e.undo e.screen };
 }
 
 impl Editor {
@@ -172,29 +145,16 @@ impl Editor {
     )
         requires { IsValidCommand command.now }
         ensures past { self.new.past ≡ self.old.past }
-        ensures goes_on { (history : List Command) → AllValid history
-            → self.old.screen ≡ state history
-            → self.new.screen ≡ state (history ++ command.now ∷ []) }
-        ensures after { self.new.screen ≡ state_after self.old.screen command.now }
-        ensures marks { marks.new ≡ differences (looks_of (core_of self.old.screen))
-            (looks_of (core_of self.new.screen)) }
-        ensures shown { (G.state glass.new).grid ≡ grid_with_paints (G.state glass.old).grid
-            (changes_between (looks_of (core_of self.old.screen))
-            (looks_of (core_of self.new.screen))) }
-        ensures told { Lists (G.state glass.old).paints
-            (changes_between (looks_of (core_of self.old.screen))
-            (looks_of (core_of self.new.screen)))
-            (G.state glass.new).paints }
-        ensures cost { steps.new ≤ steps.old + rows_in_reach self.old.screen command.now }
-        ensures at_most_24 { steps.new ≤ steps.old + 24 }
+        ensures applied { IsApplied self.old.screen command.now self.new.screen marks.new
+            (G.state glass.old) (G.state glass.new) steps.old steps.new }
     {
         self.screen.apply_from(command, glass, marks, steps);
     }
 
     /// Makes edit k of a script, counted from 0. The commands of an edit are applied one after the
-    /// other, each is painted, and then its change lines are put, where `report` holds. The edit is
+    /// other, each is painted, and then its change lines are put, where `listed` holds. The edit is
     /// kept, and where 32 are kept the oldest is dropped. An undo takes the last kept edit back in
-    /// one step, paints what changes, and then puts its change lines where `report` holds; where no
+    /// one step, paints what changes, and then puts its change lines where `listed` holds; where no
     /// edit is kept nothing happens. Takes no memory.
     ///
     /// # Errors
@@ -208,16 +168,18 @@ impl Editor {
         glass: &mut G,
         marks: &mut Marks,
         sink: &mut T,
-        report: bool,
+        listed: bool,
         steps: &mut Steps<L>,
     ) -> Result<Done, WriteFault>
         requires { k < length script.now }
         ensures goes_on { (default : EditLine) → let edit = slice_index_or script.now k default in
-            GoesOn report edit.line edit.step self.old
+            GoesOn listed edit.line edit.step self.old
             (output_of (T.state sink.old) (G.state glass.old)) result self.new
             (output_of (T.state sink.new) (G.state glass.new)) }
+        ensures made { (default : EditLine) → let edit = slice_index_or script.now k default in
+            HasMade edit.step self.old result self.new }
         ensures cause { HasCause (T.state sink.old).faults (T.state sink.new).faults result }
-        ensures quiet { report ≡ false → IsOk result × (T.state sink.new ≡ T.state sink.old) }
+        ensures quiet { listed ≡ false → IsOk result × (T.state sink.new ≡ T.state sink.old) }
         ensures marks { (default : EditLine) → let edit = slice_index_or script.now k default in
             MarksStep edit.step self.old.screen result self.new.screen marks.new }
         ensures cost { (default : EditLine) → let edit = slice_index_or script.now k default in
@@ -229,9 +191,9 @@ impl Editor {
     {
         let line = script.line_of(k);
         match script.edit(k) {
-            Edit::Undo => self.take_back(line, glass, marks, sink, report, steps),
+            Edit::Undo => self.take_back(line, glass, marks, sink, listed, steps),
             Edit::Commands(commands) => {
-                self.edit(line, commands, glass, marks, sink, report, steps)
+                self.edit(line, commands, glass, marks, sink, listed, steps)
             }
         }
     }
@@ -244,21 +206,22 @@ impl Editor {
         glass: &mut G,
         marks: &mut Marks,
         sink: &mut T,
-        report: bool,
+        listed: bool,
         steps: &mut Steps<L>,
     ) -> Result<Done, WriteFault>
         requires some { 0 < length commands }
         requires valid { AllByRecursion IsValidCommand commands }
-        ensures goes_on { GoesOn report line (EditOf commands.entry) self.old
+        ensures goes_on { GoesOn listed line (EditOf commands.entry) self.old
             (output_of (T.state sink.old) (G.state glass.old)) result self.new
             (output_of (T.state sink.new) (G.state glass.new)) }
+        ensures made { HasMade (EditOf commands.entry) self.old result self.new }
         ensures cause { HasCause (T.state sink.old).faults (T.state sink.new).faults result }
-        ensures quiet { report ≡ false → IsOk result × (T.state sink.new ≡ T.state sink.old) }
+        ensures quiet { listed ≡ false → IsOk result × (T.state sink.new ≡ T.state sink.old) }
         ensures marks { MarksLast commands.entry self.old.screen result self.new.screen marks.new }
         ensures cost { steps.new
             ≤ steps.old + rows_in_reach_of_all self.old.screen commands.entry }
         ensures at_most_24 { steps.new ≤ steps.old + 24 * length commands.entry }
-        ensures made { result ≢ Ok Done.Nothing }
+        ensures done { result ≢ Ok Done.Nothing }
     {
         self.undo.begin(&self.screen);
         let applied = apply_commands(
@@ -269,7 +232,7 @@ impl Editor {
             glass,
             marks,
             sink,
-            report,
+            listed,
             steps,
         );
         self.undo.commit();
@@ -284,14 +247,15 @@ impl Editor {
         glass: &mut G,
         marks: &mut Marks,
         sink: &mut T,
-        report: bool,
+        listed: bool,
         steps: &mut Steps<L>,
     ) -> Result<Done, WriteFault>
-        ensures goes_on { GoesOn report line TakeBack self.old
+        ensures goes_on { GoesOn listed line (Turn TakeBack) self.old
             (output_of (T.state sink.old) (G.state glass.old)) result self.new
             (output_of (T.state sink.new) (G.state glass.new)) }
+        ensures made { HasMade (Turn TakeBack) self.old result self.new }
         ensures cause { HasCause (T.state sink.old).faults (T.state sink.new).faults result }
-        ensures quiet { report ≡ false → IsOk result × (T.state sink.new ≡ T.state sink.old) }
+        ensures quiet { listed ≡ false → IsOk result × (T.state sink.new ≡ T.state sink.old) }
         ensures marks { marks.new ≡ differences (looks_of (core_of self.old.screen))
             (looks_of (core_of self.new.screen)) }
         ensures at_most_24 { steps.new ≤ steps.old + 24 }
@@ -300,7 +264,7 @@ impl Editor {
         match self.undo.undo(&mut self.screen, glass, marks, steps) {
             Undone::Nothing => Ok(Done::Nothing),
             Undone::Undone => {
-                put_lines(report, line, marks, &self.screen, sink)?;
+                put_changes_if(listed, sink, u64::from(line), marks, &self.screen)?;
                 Ok(Done::Done)
             }
         }

@@ -2,6 +2,7 @@
 
 ghost use Rattle.std.specs.Prelude.{◌≡◌, ◌≤◌, ◌<◌, ◌+◌, ◌==◌, ℕ, Bool, List, [], ◌∷◌, ◌++◌, Result, OnOk};
 ghost use Rattle.std.specs.Prelude.{OnErr, All, AllPairs, filter, length, None, IfSome, IsOk};
+ghost use Rattle.std.specs.List.{AllByRecursion};
 ghost use Rattle.cept_codes.specs.declared.command.Command.{Command};
 ghost use Rattle.cept_codes.specs.declared.look.Look.{Look};
 ghost use Rattle.cept_outside.specs.Causes.{Rose};
@@ -11,12 +12,13 @@ ghost use Rattle.cept_profile.specs.Look.{grid};
 ghost use Rattle.cept_profile.specs.State.{state};
 ghost use Rattle.cept_profile.specs.Valid.{AllValid};
 ghost use Rattle.cept_repaint.specs.GlassState.{GlassState};
+ghost use Rattle.cept_editor.specs.Applying.{editor_after_steps};
 ghost use Rattle.cept_editor.specs.Events.{Event, event_changes, report, paints};
 ghost use Rattle.cept_editor.specs.Kept.{KeptEdits, none_kept, kept_after, kept, remaining};
-ghost use Rattle.cept_editor.specs.Kept.{states_before, EditorState, StandsAfter};
+ghost use Rattle.cept_editor.specs.Kept.{states_before, EditorState, StandsAfter, editor_after};
 ghost use Rattle.cept_editor.specs.Made.{Output, AreStill, ArePainted, IsMade, AreMade, AreCutOff};
 ghost use Rattle.cept_editor.specs.Lines.{lines};
-ghost use Rattle.cept_editor.specs.Meaning.{Step, line_meaning};
+ghost use Rattle.cept_editor.specs.Meaning.{IsValidStep, Step, line_meaning};
 ghost use Rattle.cept_editor.specs.Script.{IsFirstFault, edit_of, edits, first_fault, numbered_line};
 ghost use Rattle.cept_editor.specs.Stepping.{line_events};
 
@@ -107,10 +109,18 @@ pub fn edit_lines_go_on()
         → editor.screen ≡ state page → editor.past ≡ [] → StandsAfter editor page none_kept }
 {}
 
+/// After a page and the edit lines of a script, made one after the other, the screen has the state of
+/// the commands that remain, and the past the states before the last edits.
+pub fn edit_lines_lead_to_what_remains()
+    ensures { (editor : EditorState) (page : List Command) (steps : List Step) → AllValid page
+        → AllByRecursion IsValidStep steps → editor.screen ≡ state page → editor.past ≡ []
+        → editor_after_steps editor steps ≡ editor_after page (kept steps) }
+{}
+
 /// What the events of an edit line change, painted over the grid before it, gives the grid after
 /// it.
 pub fn changes_of_a_line_lead_to_its_end()
-    ensures { (reporting : Bool) (line : ℕ) (page : List Command) (k : KeptEdits) (step : Step)
-        → grid_with_paints (grid (remaining page k)) (paints (line_events reporting line page k step))
+    ensures { (listed : Bool) (line : ℕ) (page : List Command) (k : KeptEdits) (step : Step)
+        → grid_with_paints (grid (remaining page k)) (paints (line_events listed line page k step))
         ≡ grid (remaining page (kept_after k step)) }
 {}

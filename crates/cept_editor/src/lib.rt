@@ -22,7 +22,8 @@ pub use commands::{Commands, Edit};
 pub use editor::{Done, Editor};
 pub use law::{
     changes_of_a_line_lead_to_its_end, each_event_is_shown, edit_lines_go_on,
-    events_are_made_in_turn, events_are_painted_in_turn, one_more_event_is_made,
-    one_more_text_is_put, scripts_are_told_by_their_lines, texts_and_changes_in_order,
+    edit_lines_lead_to_what_remains, events_are_made_in_turn, events_are_painted_in_turn,
+    one_more_event_is_made, one_more_text_is_put, scripts_are_told_by_their_lines,
+    texts_and_changes_in_order,
 };
 pub use script::{Script, ScriptFault};

@@ -1,3 +1,4 @@
+pub mod AppliedCommands
 pub mod AloneRows
 pub mod KeptAfter
 pub mod LooksWritten

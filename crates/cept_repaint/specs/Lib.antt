@@ -1,3 +1,4 @@
+pub mod Applied
 pub mod Drawn
 pub mod GlassState
 pub mod GridGlass

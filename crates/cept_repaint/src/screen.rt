@@ -1,6 +1,5 @@
-ghost use Rattle.std.specs.Prelude.{◌≡◌, ◌≤◌, ◌<◌, ◌+◌, ℕ, List, [], ◌∷◌, ◌++◌, true, false};
+ghost use Rattle.std.specs.Prelude.{◌≡◌, ◌≤◌, ◌<◌, ◌+◌, ℕ, [], true, false};
 ghost use Rattle.std.specs.Prelude.{IfOk, IfSome};
-ghost use Rattle.cept_codes.specs.declared.command.Command.{Command};
 ghost use Rattle.cept_codes.specs.declared.command.Command.TheVariants.{Entry};
 ghost use Rattle.cept_codes.specs.declared.look.Rgb.{Rgb};
 ghost use Rattle.cept_codes.specs.Attribute.{IsEntry, IsRowPen, IsScreenPen};
@@ -8,15 +7,14 @@ ghost use Rattle.cept_codes.specs.Cell.{IsValidCell};
 ghost use Rattle.cept_codes.specs.Command.{IsValidCommand};
 ghost use Rattle.cept_codes.specs.Look.{IsValidLook, IsValidPattern};
 ghost use Rattle.cept_codes.specs.Stroke.{IsPaintOf};
-ghost use Rattle.cept_profile.specs.Changes.{look_at, differences, changes_between};
-ghost use Rattle.cept_profile.specs.Changes.{grid_with_paints};
+ghost use Rattle.cept_profile.specs.Changes.{look_at, differences};
 ghost use Rattle.cept_profile.specs.Look.{looks_of};
 ghost use Rattle.cept_profile.specs.PageParts.{dclut_in, paint_in, pattern_in, row_pen_in};
 ghost use Rattle.cept_profile.specs.Reach.{rows_in_reach};
 ghost use Rattle.cept_profile.specs.RowsFromAbove.{looks_in};
 ghost use Rattle.cept_profile.specs.State.{state, state_after, core_of};
-ghost use Rattle.cept_profile.specs.Valid.{AllValid, IsValidState};
-ghost use Rattle.cept_repaint.specs.GlassState.{Lists};
+ghost use Rattle.cept_profile.specs.Valid.{IsValidState};
+ghost use Rattle.cept_repaint.specs.Applied.{IsApplied, IsRepainted};
 ghost use Rattle.cept_repaint.specs.Kept.{cell_at};
 ghost use Rattle.cept_repaint.specs.Marks.{no_marks};
 ghost use Rattle.cept_repaint.specs.Unshown.{IsUnshown};
@@ -86,18 +84,8 @@ impl Screen {
         steps: &mut Steps<L>,
     )
         requires { IsValidCommand command }
-        ensures goes_on { (history : List Command) → AllValid history → self.old ≡ state history
-            → self.new ≡ state (history ++ command ∷ []) }
-        ensures after { self.new ≡ state_after self.old command }
-        ensures marks { marks.new
-            ≡ differences (looks_of (core_of self.old)) (looks_of (core_of self.new)) }
-        ensures shown { (G.state glass.new).grid ≡ grid_with_paints (G.state glass.old).grid
-            (changes_between (looks_of (core_of self.old)) (looks_of (core_of self.new))) }
-        ensures told { Lists (G.state glass.old).paints
-            (changes_between (looks_of (core_of self.old)) (looks_of (core_of self.new)))
-            (G.state glass.new).paints }
-        ensures cost { steps.new ≤ steps.old + rows_in_reach self.old command }
-        ensures at_most_24 { steps.new ≤ steps.old + 24 }
+        ensures applied { IsApplied self.old command self.new marks.new (G.state glass.old)
+            (G.state glass.new) steps.old steps.new }
         ensures unshown { (i : ℕ) (colour : Rgb) → command ≡ Entry i colour
             → IsUnshown (paint_in self.old.page.paints i) (looks_of (core_of self.old))
             → steps.new ≡ steps.old }
@@ -115,18 +103,8 @@ impl Screen {
         steps: &mut Steps<L>,
     )
         requires { IsValidCommand command.now }
-        ensures goes_on { (history : List Command) → AllValid history → self.old ≡ state history
-            → self.new ≡ state (history ++ command.now ∷ []) }
-        ensures after { self.new ≡ state_after self.old command.now }
-        ensures marks { marks.new
-            ≡ differences (looks_of (core_of self.old)) (looks_of (core_of self.new)) }
-        ensures shown { (G.state glass.new).grid ≡ grid_with_paints (G.state glass.old).grid
-            (changes_between (looks_of (core_of self.old)) (looks_of (core_of self.new))) }
-        ensures told { Lists (G.state glass.old).paints
-            (changes_between (looks_of (core_of self.old)) (looks_of (core_of self.new)))
-            (G.state glass.new).paints }
-        ensures cost { steps.new ≤ steps.old + rows_in_reach self.old command.now }
-        ensures at_most_24 { steps.new ≤ steps.old + 24 }
+        ensures applied { IsApplied self.old command.now self.new marks.new (G.state glass.old)
+            (G.state glass.new) steps.old steps.new }
         ensures unshown { (i : ℕ) (colour : Rgb) → command.now ≡ Entry i colour
             → IsUnshown (paint_in self.old.page.paints i) (looks_of (core_of self.old))
             → steps.new ≡ steps.old }
@@ -165,16 +143,8 @@ impl Screen {
         steps: &mut Steps<L>,
     )
         requires { IsValidCommand command.now }
-        ensures after { self.new ≡ state_after self.old command.now }
-        ensures marks { marks.new
-            ≡ differences (looks_of (core_of self.old)) (looks_of (core_of self.new)) }
-        ensures shown { (G.state glass.new).grid ≡ grid_with_paints (G.state glass.old).grid
-            (changes_between (looks_of (core_of self.old)) (looks_of (core_of self.new))) }
-        ensures told { Lists (G.state glass.old).paints
-            (changes_between (looks_of (core_of self.old)) (looks_of (core_of self.new)))
-            (G.state glass.new).paints }
-        ensures cost { steps.new ≤ steps.old + rows_in_reach self.old command.now }
-        ensures at_most_24 { steps.new ≤ steps.old + 24 }
+        ensures applied { IsApplied self.old command.now self.new marks.new (G.state glass.old)
+            (G.state glass.new) steps.old steps.new }
         ensures unshown { (i : ℕ) (colour : Rgb) → command.now ≡ Entry i colour
             → IsUnshown (paint_in self.old.page.paints i) (looks_of (core_of self.old))
             → steps.new ≡ steps.old }
@@ -314,7 +284,8 @@ impl Screen {
 
     /// Saves its state.
     pub fn save(&self, into: &mut Snapshot)
-        ensures { into.new ≡ self.now }
+        ensures state { into.new ≡ self.now }
+        ensures valid { IsValidState self.now }
     {
         into.copy_from(&self.page, &self.control);
     }
@@ -329,13 +300,8 @@ impl Screen {
         steps: &mut Steps<L>,
     )
         ensures state { self.new ≡ from.now }
-        ensures marks { marks.new
-            ≡ differences (looks_of (core_of self.old)) (looks_of (core_of self.new)) }
-        ensures shown { (G.state glass.new).grid ≡ grid_with_paints (G.state glass.old).grid
-            (changes_between (looks_of (core_of self.old)) (looks_of (core_of self.new))) }
-        ensures told { Lists (G.state glass.old).paints
-            (changes_between (looks_of (core_of self.old)) (looks_of (core_of self.new)))
-            (G.state glass.new).paints }
+        ensures repainted { IsRepainted self.old self.new marks.new (G.state glass.old)
+            (G.state glass.new) }
         ensures at_most_24 { steps.new ≤ steps.old + 24 }
     {
         self.take_over(from, marks, steps);

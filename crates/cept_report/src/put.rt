@@ -1,4 +1,4 @@
-ghost use Rattle.std.specs.Prelude.{◌≤◌};
+ghost use Rattle.std.specs.Prelude.{◌≡◌, ◌≤◌, [], false, IsOk, if◌then◌else◌};
 ghost use Rattle.cept_codes.specs.Place.{number};
 ghost use Rattle.cept_outside.specs.SinkState.{PutsText};
 ghost use Rattle.cept_profile.specs.Changes.{look_at, marked_looks};
@@ -50,6 +50,28 @@ pub fn put_changes<T: Sink>(
         from = at.number() + 1;
     }
     Ok(())
+}
+
+/// Puts the lines of the marked places, where they are listed, and else nothing. After `WriteFault` a
+/// part of the text was put, from its front on, and not the whole.
+#[inline(always)]
+pub fn put_changes_if<T: Sink>(
+    listed: bool,
+    sink: &mut T,
+    label: u64,
+    marks: &Marks,
+    screen: &Screen,
+) -> Result<(), WriteFault>
+    ensures puts { let changed = marked_looks marks.now (looks_of (core_of screen.now)) in
+        PutsText (T.state sink.old) (if listed then change_lines label changed else []) result
+        (T.state sink.new) }
+    ensures quiet { listed ≡ false → IsOk result × (T.state sink.new ≡ T.state sink.old) }
+{
+    if listed {
+        put_changes(sink, label, marks, screen)
+    } else {
+        Ok(())
+    }
 }
 
 /// Puts the line of a changed place.

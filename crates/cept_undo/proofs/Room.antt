@@ -1,11 +1,11 @@
--- The states that are kept, begun and spare make 33 at all times.
+-- The states that are kept, begun and spare make one more than may be kept at all times.
 use Rattle.std.proofs.Common.{◌≡◌, ℕ, ◌≤◌, Option, Some, None, List, [], ◌∷◌, take, drop, length, refl, sym, ap, subst, ◌∙◌, arith}
 use Rattle.std.specs.Prelude.{IsSome, IsNone, is_some, slice_get}
 use Rattle.std.proofs.lemmas.Bool.{true≢false}
 use Rattle.std.proofs.lemmas.List.{length-drop, length-take}
 use Rattle.cept_profile.specs.State.{State}
 use Rattle.circular_buffer.specs.Buffer.{Buffer, buffer}
-use Rattle.cept_undo.specs.Edits.{HasRoom, count_begun}
+use Rattle.cept_undo.specs.Past.{HasRoom, count_begun}
 
 -- what is first of some states
 first_of_some : (xs : List State) → 1 ≤ length xs → IsSome (slice_get xs 0)
@@ -26,7 +26,7 @@ pub HasRoom-spare : {past spare : List State} {begun : Option State} {places spa
     → (first : Option State) → first ≡ slice_get spare 0 → IsSome first
 HasRoom-spare {past} {spare} {begun} m none first e =
     subst (λ (o : Option State). IsSome o) (sym e)
-    (first_of_some spare (omega (arith, m.all, m.kept, none_begun begun none)))
+    (first_of_some spare (omega (arith, m.all, m.few, none_begun begun none)))
 
 -- the first spare one becomes that of the edit begun
 pub HasRoom-begun : {past spare : List State} {begun : Option State} {places spare_places : ℕ}
@@ -35,11 +35,11 @@ pub HasRoom-begun : {past spare : List State} {begun : Option State} {places spa
 HasRoom-begun {past} {spare} {begun} m none s rest e = record {
   edits = m.edits;
   states = ap (λ (b : Buffer State). b.capacity) e ∙ m.states;
-  kept = m.kept;
+  few = m.few;
   all = omega (
     arith,
     m.all,
-    m.kept,
+    m.few,
     none_begun begun none,
     ap (λ (b : Buffer State). length b.items) e,
     length-drop 1 spare,
@@ -56,7 +56,7 @@ HasRoom-undone {past} {spare} {begun} {places} {spare_places} m s first rest mor
     let some : 1 ≤ length past = some_by_first past s first in record {
       edits = ap (λ (b : Buffer State). b.capacity) e ∙ m.edits;
       states = ap (λ (b : Buffer State). b.capacity) f ∙ m.states;
-      kept = omega (arith, m.kept, ap (λ (b : Buffer State). length b.items) e, length-drop 1 past);
+      few = omega (arith, m.few, ap (λ (b : Buffer State). length b.items) e, length-drop 1 past);
       all = omega (
         arith,
         m.all,

@@ -1,31 +1,11 @@
-ghost use Rattle.std.specs.Prelude.{
-  ◌≡◌,
-  ◌≤◌,
-  ◌+◌,
-  ◌↔◌,
-  List,
-  [],
-  ◌∷◌,
-  ◌++◌,
-  Some,
-  None,
-  IfOk,
-  IsSome,
-  IsNone,
-  length,
-  take,
-  drop,
-};
-ghost use Rattle.cept_codes.specs.declared.command.Command.{Command};
+ghost use Rattle.std.specs.Prelude.{◌≡◌, ◌≤◌, ◌+◌, ◌↔◌, [], ◌∷◌, Some, IfOk, length, take, drop};
 ghost use Rattle.cept_codes.specs.Command.{IsValidCommand};
-ghost use Rattle.cept_profile.specs.Changes.{changes_between, differences, grid_with_paints};
-ghost use Rattle.cept_profile.specs.Look.{looks_of};
-ghost use Rattle.cept_profile.specs.Reach.{rows_in_reach};
-ghost use Rattle.cept_profile.specs.State.{State, core_of, state, state_after};
-ghost use Rattle.cept_profile.specs.Valid.{AllValid};
-ghost use Rattle.cept_repaint.specs.GlassState.{Lists};
+ghost use Rattle.cept_profile.specs.State.{State};
+ghost use Rattle.cept_profile.specs.Valid.{IsValidState};
+ghost use Rattle.cept_repaint.specs.Applied.{IsApplied, IsRepainted};
 ghost use Rattle.cept_repaint.specs.Marks.{no_marks};
-ghost use Rattle.cept_undo.specs.Edits.{state_before_latest};
+ghost use Rattle.cept_undo.specs.Past.{FitsTogether, IsBegun, IsNotBegun, StaysBegun, at_begin};
+ghost use Rattle.cept_undo.specs.Past.{most_kept, past, state_before_latest};
 
 use cept_codes::{Command, NoMemory};
 use cept_outside::Steps;
@@ -34,6 +14,9 @@ use circular_buffer::HeapCircularBuffer;
 use std::alloc::Global;
 use std::marker::Model;
 use std::sync::ledger::Ledger;
+
+/// How many edits are kept at most.
+const MOST_KEPT: usize = 32;
 
 /// Whether an edit was taken back, or none was kept.
 #[derive(Clone, Copy, PartialEq, Eq, Debug)]
@@ -48,34 +31,38 @@ pub enum Undone {
 /// begun. Room for all of them is made at the start.
 #[derive(Drop)]
 pub struct Undo {
-    past: HeapCircularBuffer<Snapshot>,
+    kept: HeapCircularBuffer<Snapshot>,
     begun: Option<Snapshot>,
     spare: HeapCircularBuffer<Snapshot>,
 }
 
 impl Model for Undo {
-    ghost use Rattle.cept_undo.specs.Edits.{Edits, HasRoom};
+    ghost use Rattle.cept_undo.specs.Past.{Edits, HasRoom};
 
     ghost Value = { Edits };
 
-    ghost view = { λ u. record { past = u.past.items; begun = u.begun } };
+    ghost view = { λ u. record { kept = u.kept.items; begun = u.begun } };
 
-    ghost invariant = { λ u. HasRoom u.past.items u.past.capacity u.begun u.spare.items
+    ghost invariant = { λ u. HasRoom u.kept.items u.kept.capacity u.begun u.spare.items
         u.spare.capacity };
 }
 
+#[tactic(auto, unfolding(crate::specs::Past::past, crate::specs::Past::at_begin))]
 impl Undo {
-    /// No edit is kept, and none is begun.
+    /// No edit is kept, and none is begun. It fits every screen.
     pub fn new(alloc: Global) -> Result<Undo, NoMemory>
-        ensures { IfOk result (λ undo. undo ≡ record { past = []; begun = None }) }
+        ensures past { IfOk result (λ undo. (screen : State) → past undo screen ≡ []) }
+        ensures none_begun { IfOk result IsNotBegun }
+        ensures fits { IfOk result (λ undo. (screen : State) → IsValidState screen
+            → FitsTogether undo screen) }
     {
-        let past = HeapCircularBuffer::with_capacity(alloc, 32)?;
-        let mut spare = HeapCircularBuffer::with_capacity(alloc, 33)?;
-        for _place in 0..33usize {
+        let kept = HeapCircularBuffer::with_capacity(alloc, MOST_KEPT)?;
+        let mut spare = HeapCircularBuffer::with_capacity(alloc, MOST_KEPT + 1)?;
+        for _place in 0..MOST_KEPT + 1 {
             let _ = spare.push_front(Snapshot::new(alloc)?);
         }
         Ok(Undo {
-            past,
+            kept,
             begun: None,
             spare,
         })
@@ -83,8 +70,12 @@ impl Undo {
 
     /// Begins an edit at the screen's state.
     pub fn begin(&mut self, screen: &Screen)
-        requires { IsNone self.old.begun }
-        ensures { self.new ≡ record { past = self.old.past; begun = Some screen.now } }
+        requires none_begun { IsNotBegun self.old }
+        requires fits { FitsTogether self.old screen.now }
+        ensures past { past self.new screen.now ≡ past self.old screen.now }
+        ensures begun { IsBegun self.new }
+        ensures at_begin { at_begin self.new screen.now ≡ Some screen.now }
+        ensures fits { FitsTogether self.new screen.now }
     {
         let mut room = self.spare.pop_front().unwrap();
         screen.save(&mut room);
@@ -100,40 +91,34 @@ impl Undo {
         marks: &mut Marks,
         steps: &mut Steps<L>,
     )
-        requires begun { IsSome self.old.begun }
+        requires begun { IsBegun self.old }
+        requires fits { FitsTogether self.old screen.old }
         requires valid { IsValidCommand command }
-        ensures edits { self.new ≡ self.old }
-        ensures goes_on { (history : List Command) → AllValid history → screen.old ≡ state history
-            → screen.new ≡ state (history ++ command ∷ []) }
-        ensures after { screen.new ≡ state_after screen.old command }
-        ensures marks { marks.new
-            ≡ differences (looks_of (core_of screen.old)) (looks_of (core_of screen.new)) }
-        ensures shown { (G.state glass.new).grid ≡ grid_with_paints (G.state glass.old).grid
-            (changes_between (looks_of (core_of screen.old)) (looks_of (core_of screen.new))) }
-        ensures told { Lists (G.state glass.old).paints
-            (changes_between (looks_of (core_of screen.old)) (looks_of (core_of screen.new)))
-            (G.state glass.new).paints }
-        ensures cost { steps.new ≤ steps.old + rows_in_reach screen.old command }
-        ensures at_most_24 { steps.new ≤ steps.old + 24 }
+        ensures edit { StaysBegun self.old screen.old self.new screen.new }
+        ensures applied { IsApplied screen.old command screen.new marks.new
+            (G.state glass.old) (G.state glass.new) steps.old steps.new }
     {
         screen.apply(command, glass, marks, steps);
     }
 
     /// Keeps the edit. Where 32 are kept, the oldest is dropped whole.
     pub fn commit(&mut self)
-        requires { IsSome self.old.begun }
-        ensures none_begun { IsNone self.new.begun }
-        ensures edits { (before : State) → self.old.begun ≡ Some before
-            → self.new ≡ record { past = take 32 (before ∷ self.old.past); begun = None } }
+        requires { IsBegun self.old }
+        ensures past { (screen before : State) → at_begin self.old screen ≡ Some before
+            → past self.new screen ≡ take most_kept (before ∷ past self.old screen) }
+        ensures none_begun { IsNotBegun self.new }
+        ensures fits { (screen : State) → FitsTogether self.old screen
+            → FitsTogether self.new screen }
     {
         let before = self.begun.take().unwrap();
-        if let Some(oldest) = self.past.push_front(before) {
+        if let Some(oldest) = self.kept.push_front(before) {
             let _ = self.spare.push_front(oldest);
         }
     }
 
     /// Takes the latest kept edit back: brings the state before it, marks exactly the places whose
-    /// look changes, and paints each of them once, in reading order, with its new look.
+    /// look changes, and paints each of them once, in reading order, with its new look. Where none
+    /// is kept, nothing is touched.
     pub fn undo<G: Glass, L: Ledger>(
         &mut self,
         screen: &mut Screen,
@@ -141,23 +126,25 @@ impl Undo {
         marks: &mut Marks,
         steps: &mut Steps<L>,
     ) -> Undone
-        requires { IsNone self.old.begun }
-        ensures edits { self.new ≡ record { past = drop 1 self.old.past; begun = None } }
-        ensures state { screen.new ≡ state_before_latest self.old.past screen.old }
-        ensures nothing { (result ≡ Undone.Nothing) ↔ (self.old.past ≡ []) }
-        ensures marks { marks.new
-            ≡ differences (looks_of (core_of screen.old)) (looks_of (core_of screen.new)) }
-        ensures shown { (G.state glass.new).grid ≡ grid_with_paints (G.state glass.old).grid
-            (changes_between (looks_of (core_of screen.old)) (looks_of (core_of screen.new))) }
-        ensures told { Lists (G.state glass.old).paints
-            (changes_between (looks_of (core_of screen.old)) (looks_of (core_of screen.new)))
-            (G.state glass.new).paints }
+        requires none_begun { IsNotBegun self.old }
+        requires fits { FitsTogether self.old screen.old }
+        ensures past { past self.new screen.new ≡ drop 1 (past self.old screen.old) }
+        ensures none_begun { IsNotBegun self.new }
+        ensures fits { FitsTogether self.new screen.new }
+        ensures state { screen.new ≡ state_before_latest (past self.old screen.old) screen.old }
+        ensures repainted { IsRepainted screen.old screen.new marks.new (G.state glass.old)
+            (G.state glass.new) }
+        ensures at_most_24 { steps.new ≤ steps.old + 24 }
+
+        // Where no edit is kept.
+        ensures nothing { (result ≡ Undone.Nothing) ↔ (past self.old screen.old ≡ []) }
+        ensures stays { result ≡ Undone.Nothing → self.new ≡ self.old }
+        ensures unchanged { result ≡ Undone.Nothing → screen.new ≡ screen.old }
         ensures unpainted { result ≡ Undone.Nothing → glass.new ≡ glass.old }
         ensures unmarked { result ≡ Undone.Nothing → marks.new ≡ no_marks }
         ensures unticked { result ≡ Undone.Nothing → steps.new ≡ steps.old }
-        ensures at_most_24 { steps.new ≤ steps.old + 24 }
     {
-        match self.past.pop_front() {
+        match self.kept.pop_front() {
             Some(before) => {
                 screen.bring_back(&before, glass, marks, steps);
                 let _ = self.spare.push_front(before);
@@ -172,9 +159,9 @@ impl Undo {
 
     /// How many edits are kept, at most 32.
     pub fn kept(&self) -> u32
-        ensures edits { result ≡ length self.now.past }
+        ensures past { (screen : State) → result ≡ length (past self.now screen) }
         ensures at_most_32 { result ≤ 32 }
     {
-        self.past.len() as u32
+        self.kept.len() as u32
     }
 }

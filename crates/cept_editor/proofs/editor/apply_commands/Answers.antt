@@ -2,61 +2,59 @@ use Rattle.std.proofs.Common.{◌∙◌, refl}
 use Rattle.std.proofs.lemmas.Result.{err_from_is_err_and}
 use Rattle.cept_editor.proofs.AppliedInTurn.{gone_none, gone_more, gone_left, all_applied, all_marked, all_cost}
 use Rattle.cept_editor.proofs.AppliedInTurn.{all_stopped, stopped_marked, stopped_cost}
+use Rattle.cept_editor.proofs.EditsKept.{StaysBegun-more}
 use Rattle.cept_editor.proofs.editor.apply_commands.Goals as goal
 
 pub loop-command-init : goal.loop-command-init
 loop-command-init g c = record {
-  gone = gone_none c.args.report c.args.line c.args.commands c.args.screen.now _ c.args.marks.now c.args.steps.now;
-  undo = refl;
+  gone = gone_none c.args.listed c.args.line c.args.commands c.args.screen.now _ c.args.marks.now c.args.steps.now;
+  edit = record { past = refl; at_begin = refl; begun = c.requires.begun; fits = c.requires.fits };
   quiet = λ _. refl;
 }
 
 pub loop-command-preserved : goal.loop-command-preserved
 loop-command-preserved g c = record {
-  gone = gone_more c.args.report c.args.line _ _ c.in-Some.command _ _ _ _ _ _ _ _ _ _ _
+  gone = gone_more c.args.listed c.args.line _ _ c.in-Some.command _ _ _ _ _ _ _ _ _ _ _
       (gone_left c.in-Some.ensures.next c.loop-command.invariant.gone) c.in-Some.ensures.valid
-      c.in_ok-apply_command.ensures.applies c.in_ok-apply_command.ensures.cause.stays c.apply_command.ensures.marks
-      c.apply_command.ensures.cost c.apply_command.ensures.at_most_24;
-  undo = c.apply_command.ensures.edits ∙ c.loop-command.invariant.undo;
+      c.in_ok-apply_command.ensures.applies c.in_ok-apply_command.ensures.cause.stays;
+  edit = StaysBegun-more c.loop-command.invariant.edit c.apply_command.ensures.edit;
   quiet = λ none. (c.apply_command.ensures.quiet none).1 ∙ c.loop-command.invariant.quiet none;
 }
 
 pub returns-in_err-apply_command-clause-applies : goal.returns-in_err-apply_command-clause-applies
 returns-in_err-apply_command-clause-applies g c =
-    rw (err_from_is_err_and c.from_residual.result c.from_residual.ensures.1).1 (all_stopped c.args.report c.args.line
+    rw (err_from_is_err_and c.from_residual.result c.from_residual.ensures.1).1 (all_stopped c.args.listed c.args.line
     _ _ c.in-Some.command _ _ _ _ _ _ _ _ _ (gone_left c.in-Some.ensures.next c.loop-command.invariant.gone)
     c.in_err-apply_command.ensures.applies)
 
 pub returns-in_err-apply_command-clause-marks : goal.returns-in_err-apply_command-clause-marks
 returns-in_err-apply_command-clause-marks g c =
-    rw (err_from_is_err_and c.from_residual.result c.from_residual.ensures.1).1 (λ _. stopped_marked c.args.report
+    rw (err_from_is_err_and c.from_residual.result c.from_residual.ensures.1).1 (λ _. stopped_marked c.args.listed
     c.args.line _ _ c.in-Some.command _ _ _ _ _ _ _ _ _ (gone_left c.in-Some.ensures.next c.loop-command.invariant.gone)
-    c.apply_command.ensures.applies.stands c.apply_command.ensures.marks c.in_err-apply_command.ensures.shown)
+    c.apply_command.ensures.applies.applied c.in_err-apply_command.ensures.shown)
 
 pub returns-in_err-apply_command-clause-cost : goal.returns-in_err-apply_command-clause-cost
 returns-in_err-apply_command-clause-cost g c =
-    (stopped_cost c.args.report c.args.line _ _ c.in-Some.command _ _ _ _ _ _ _ _
-    (gone_left c.in-Some.ensures.next c.loop-command.invariant.gone) c.apply_command.ensures.cost
-    c.apply_command.ensures.at_most_24).0
+    (stopped_cost c.args.listed c.args.line _ _ c.in-Some.command _ _ _ _ _ _ _ _
+    (gone_left c.in-Some.ensures.next c.loop-command.invariant.gone) c.apply_command.ensures.applies.applied).0
 
 pub returns-in_err-apply_command-clause-at_most_24 : goal.returns-in_err-apply_command-clause-at_most_24
 returns-in_err-apply_command-clause-at_most_24 g c =
-    (stopped_cost c.args.report c.args.line _ _ c.in-Some.command _ _ _ _ _ _ _ _
-    (gone_left c.in-Some.ensures.next c.loop-command.invariant.gone) c.apply_command.ensures.cost
-    c.apply_command.ensures.at_most_24).1
+    (stopped_cost c.args.listed c.args.line _ _ c.in-Some.command _ _ _ _ _ _ _ _
+    (gone_left c.in-Some.ensures.next c.loop-command.invariant.gone) c.apply_command.ensures.applies.applied).1
 
 pub returns-clause-applies : goal.returns-clause-applies
-returns-clause-applies g c = all_applied c.args.report c.args.line _ _ _ _ _ _ _ _
+returns-clause-applies g c = all_applied c.args.listed c.args.line _ _ _ _ _ _ _ _
     (gone_left c.in_default.ensures.next.0 c.loop-command.invariant.gone)
 
 pub returns-clause-marks : goal.returns-clause-marks
-returns-clause-marks g c = λ some. all_marked c.args.report c.args.line _ _ _ _ _ _ _ _
+returns-clause-marks g c = λ some. all_marked c.args.listed c.args.line _ _ _ _ _ _ _ _
     (gone_left c.in_default.ensures.next.0 c.loop-command.invariant.gone) some
 
 pub returns-clause-cost : goal.returns-clause-cost
-returns-clause-cost g c = (all_cost c.args.report c.args.line _ _ _ _ _ _ _ _
+returns-clause-cost g c = (all_cost c.args.listed c.args.line _ _ _ _ _ _ _ _
     (gone_left c.in_default.ensures.next.0 c.loop-command.invariant.gone)).0
 
 pub returns-clause-at_most_24 : goal.returns-clause-at_most_24
-returns-clause-at_most_24 g c = (all_cost c.args.report c.args.line _ _ _ _ _ _ _ _
+returns-clause-at_most_24 g c = (all_cost c.args.listed c.args.line _ _ _ _ _ _ _ _
     (gone_left c.in_default.ensures.next.0 c.loop-command.invariant.gone)).1

@@ -1,25 +1,40 @@
 use Rattle.std.proofs.Common.{◌∙◌, ◌∷◌, take, ap}
 use Rattle.std.proofs.lemmas.Result.{err_from_is_err_and}
-use Rattle.cept_undo.specs.Edits.{Edits}
+use Rattle.cept_undo.specs.Past.{most_kept}
 use Rattle.cept_editor.proofs.LinesMade.{edit_made, edit_cut}
+use Rattle.cept_editor.proofs.StatesInTurn.{HasMade-edit, HasMade-cut}
 use Rattle.cept_editor.proofs.editor.Editor.edit.Goals as goal
 
 pub returns-in_err-applied-clause-goes_on : goal.returns-in_err-applied-clause-goes_on
 returns-in_err-applied-clause-goes_on g c =
-    let begun = c.apply_commands-applied.ensures.edits ∙ c.begin.ensures in
-    let past = ap (λ (u : Edits). u.past)
-    (c.commit.ensures.edits c.self.inside.screen (ap (λ (u : Edits). u.begun) begun))
-    ∙ ap (λ (u : Edits). take 32 (c.self.inside.screen ∷ u.past)) begun in
+    let past = c.commit.ensures.past c.apply_commands-applied.new.screen c.self.inside.screen
+    (c.apply_commands-applied.ensures.edit.at_begin ∙ c.begin.ensures.at_begin)
+    ∙ ap (λ l. take most_kept (c.self.inside.screen ∷ l)) (c.apply_commands-applied.ensures.edit.past ∙ c.begin.ensures.past) in
     rw (← c.self.view_is, (err_from_is_err_and c.from_residual.result c.from_residual.ensures.1).1) (edit_cut
-    c.args.report c.args.line c.args.commands _ _ _ _ c.in_err-applied.ensures.applies c.requires.valid c.requires.some
+    c.args.listed c.args.line c.args.commands _ _ _ _ c.in_err-applied.ensures.applies c.requires.valid c.requires.some
     past)
+
+pub returns-in_err-applied-clause-made : goal.returns-in_err-applied-clause-made
+returns-in_err-applied-clause-made g c =
+    let past = c.commit.ensures.past c.apply_commands-applied.new.screen c.self.inside.screen
+    (c.apply_commands-applied.ensures.edit.at_begin ∙ c.begin.ensures.at_begin)
+    ∙ ap (λ l. take most_kept (c.self.inside.screen ∷ l)) (c.apply_commands-applied.ensures.edit.past ∙ c.begin.ensures.past) in
+    rw (← c.self.view_is, (err_from_is_err_and c.from_residual.result c.from_residual.ensures.1).1)
+    (HasMade-cut c.args.commands _ _ past)
 
 pub returns-clause-goes_on : goal.returns-clause-goes_on
 returns-clause-goes_on g c =
-    let begun = c.apply_commands-applied.ensures.edits ∙ c.begin.ensures in
-    let past = ap (λ (u : Edits). u.past)
-    (c.commit.ensures.edits c.self.inside.screen (ap (λ (u : Edits). u.begun) begun))
-    ∙ ap (λ (u : Edits). take 32 (c.self.inside.screen ∷ u.past)) begun in
+    let past = c.commit.ensures.past c.apply_commands-applied.new.screen c.self.inside.screen
+    (c.apply_commands-applied.ensures.edit.at_begin ∙ c.begin.ensures.at_begin)
+    ∙ ap (λ l. take most_kept (c.self.inside.screen ∷ l)) (c.apply_commands-applied.ensures.edit.past ∙ c.begin.ensures.past) in
     rw (← c.self.view_is) (edit_made
-    c.args.report c.args.line c.args.commands _ _ _ _ c.in_ok-applied.ensures.applies c.requires.valid c.requires.some
+    c.args.listed c.args.line c.args.commands _ _ _ _ c.in_ok-applied.ensures.applies c.requires.valid c.requires.some
     past)
+
+pub returns-clause-made : goal.returns-clause-made
+returns-clause-made g c =
+    let past = c.commit.ensures.past c.apply_commands-applied.new.screen c.self.inside.screen
+    (c.apply_commands-applied.ensures.edit.at_begin ∙ c.begin.ensures.at_begin)
+    ∙ ap (λ l. take most_kept (c.self.inside.screen ∷ l)) (c.apply_commands-applied.ensures.edit.past ∙ c.begin.ensures.past) in
+    rw (← c.self.view_is)
+    (HasMade-edit c.args.commands _ _ _ (c.in_ok-applied.ensures.marks c.requires.some) past)

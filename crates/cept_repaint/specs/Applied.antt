@@ -1,0 +1,28 @@
+-- A command applied to a screen, and a change of a screen repainted (this project's own).
+use Rattle.std.specs.Prelude.{ℕ, ◌≡◌, ◌≤◌, ◌+◌, Bool, List, [], ◌∷◌, ◌++◌}
+use Rattle.cept_codes.specs.declared.command.Command.{Command}
+use Rattle.cept_profile.specs.Changes.{changes_between, differences, grid_with_paints}
+use Rattle.cept_profile.specs.Look.{looks_of}
+use Rattle.cept_profile.specs.Reach.{rows_in_reach}
+use Rattle.cept_profile.specs.State.{State, core_of, state, state_after}
+use Rattle.cept_profile.specs.Valid.{AllValid}
+use Rattle.cept_repaint.specs.GlassState.{GlassState, Lists}
+
+-- from one state to another exactly the places whose look changes were marked, and each was painted once, in reading
+-- order, with its new look
+pub record IsRepainted (old new : State) (marked : List Bool) (before now : GlassState) : Type 0 where
+  pub marks : marked ≡ differences (looks_of (core_of old)) (looks_of (core_of new))
+  pub shown : now.grid
+      ≡ grid_with_paints before.grid (changes_between (looks_of (core_of old)) (looks_of (core_of new)))
+  pub told : Lists before.paints (changes_between (looks_of (core_of old)) (looks_of (core_of new))) now.paints
+
+-- a command was applied, what it changes repainted, and no more rows resolved than are in its reach
+pub record IsApplied (old : State) (command : Command) (new : State) (marked : List Bool) (before now : GlassState)
+    (from to : ℕ) : Type 0 where
+  -- after whatever commands the state stood
+  pub goes_on : (history : List Command) → AllValid history → old ≡ state history
+      → new ≡ state (history ++ command ∷ [])
+  pub after : new ≡ state_after old command
+  pub repainted : IsRepainted old new marked before now
+  pub cost : to ≤ from + rows_in_reach old command
+  pub at_most_24 : to ≤ from + 24
