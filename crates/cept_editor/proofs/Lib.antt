@@ -5,6 +5,7 @@ pub mod BytesSaid
 pub mod RawWords
 pub mod KeptLines
 pub mod ValidOrders
+pub mod PlacedOrders
 pub mod DigitsLeft
 pub mod Worked
 pub mod WorkedBytes

@@ -1,6 +1,6 @@
 -- The commands of orders are valid.
 use Rattle.std.proofs.Common.{◌≡◌, ℕ, true, List, [], ◌∷◌, ◌++◌, map, Result, Ok, Option, Some}
-use Rattle.std.proofs.Common.{sym, subst, arith, inl, nat_le}
+use Rattle.std.proofs.Common.{sym, ap, subst, arith, inl, nat_le}
 use Rattle.std.specs.List.{AllByRecursion, list_all}
 use Rattle.std.proofs.lemmas.Bool.{and_parts, leb-true}
 use Rattle.std.proofs.lemmas.List.{append-nil}
@@ -9,10 +9,11 @@ use Rattle.cept_codes.specs.declared.command.Command.TheVariants.{Graphic}
 use Rattle.cept_codes.specs.declared.line_reason.LineReason.{LineReason}
 use Rattle.cept_editor.specs.declared.order.Order.{Order}
 use Rattle.cept_editor.specs.declared.order.Order.TheVariants as orders
-use Rattle.cept_editor.specs.declared.places.EditPlace.{EditPlace}
+use Rattle.cept_editor.specs.declared.places.OrderLine.{OrderLine}
+use Rattle.cept_editor.specs.declared.places.Span.{Span}
 use Rattle.cept_editor.specs.Meaning.{Step, IsValidStep, is_sign}
 use Rattle.cept_editor.specs.Order.{order_step, IsSoundOrder}
-use Rattle.cept_editor.specs.Places.{HasKept}
+use Rattle.cept_editor.specs.Places.{step_at, IsPlacedOrder, HasKept}
 
 pub signs_valid : (text : List ℕ) → list_all is_sign text ≡ true → AllByRecursion IsValidCommand (map Graphic text)
 signs_valid [] e = tt
@@ -23,16 +24,22 @@ signs_valid (a ∷ text) e =
     let high = leb-true a 0x7E ends.1 in
     (inl (low, omega (arith, high)), signs_valid text parts.1)
 
-pub order_valid : (o : Order) → IsSoundOrder o → IsValidStep (order_step o)
-order_valid orders.TakeBack s = tt
-order_valid (orders.One c) s = (s, tt)
-order_valid (orders.Text text) s = (omega arith, signs_valid text.now s)
-order_valid (orders.Raw digits) s = s.0.valid
+pub order_valid : (bytes : List ℕ) (span : Span) (o : Order) → IsSoundOrder bytes span o → IsValidStep (order_step bytes o)
+order_valid bytes span orders.TakeBack s = tt
+order_valid bytes span (orders.One brief) s = (s, tt)
+order_valid bytes span (orders.Text place) s = (omega arith, signs_valid bytes s.1)
+order_valid bytes span (orders.Raw place) s = s.1.valid
 
-pub kept_some : (m : Result (Option Step) LineReason) (o : Order) (p : EditPlace) (ps qs : List EditPlace)
-    → m ≡ Ok (Some (order_step o)) → IsSoundOrder o → qs ≡ ps ++ p ∷ [] → HasKept m p ps qs
-kept_some m o p ps qs e s k =
-    subst (λ (x : Result (Option Step) LineReason). HasKept x p ps qs) (sym e) (k, order_valid o s)
+pub kept_some : (script : List ℕ) (m : Result (Option Step) LineReason) (o : Order) (l : OrderLine)
+    (ps qs : List OrderLine) → Ok (Some (step_at script o)) ≡ m → IsPlacedOrder script o → l.order ≡ o
+    → qs ≡ ps ++ l ∷ [] → HasKept script l.line m ps qs
+kept_some script m o l ps qs e placed is k =
+    subst (λ (x : Result (Option Step) LineReason). HasKept script l.line x ps qs) e (
+      l,
+      k,
+      ap (λ (q : Order). record { line = l.line; step = step_at script q }) is,
+      subst (IsPlacedOrder script) (sym is) placed,
+    )
 
 -- the commands of a text, with nothing after them
 pub text_valid : (text : List ℕ) → list_all is_sign text ≡ true → AllByRecursion IsValidCommand (map Graphic text ++ [])

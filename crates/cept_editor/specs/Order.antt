@@ -1,58 +1,49 @@
--- The words of the table as the code names them, orders, and what a parser goes on to say (this project's own).
--- Private clauses alone cite this file.
-use Rattle.std.specs.Prelude.{ℕ, ◌≡◌, ◌≢◌, ◌<◌, ◌^◌, true, false, List, [], ◌∷◌, ◌++◌, length, Option, Some, None, Result, Ok, Err}
-use Rattle.std.specs.Prelude.{IsSome}
+-- Commands in brief, orders, and what a parser goes on to say (this project's own). Private clauses alone cite this file.
+use Rattle.std.specs.Prelude.{ℕ, ◌≡◌, ◌≢◌, ◌-◌, ◌<◌, ◌^◌, true, List, [], ◌∷◌, ◌++◌, length, Option, Some, None, Result, Ok, Err}
+use Rattle.std.specs.Prelude.{false, IsSome}
 use Rattle.std.specs.Borrow.{Bor}
 use Rattle.std.specs.Option.{unwrap_or}
 use Rattle.std.specs.List.{AllByRecursion, list_all}
 use Rattle.cept_codes.specs.Command.{IsValidCommand}
+use Rattle.cept_codes.specs.declared.command.Command.{Command}
 use Rattle.cept_codes.specs.declared.command.Command.TheVariants as commands
-use Rattle.cept_codes.specs.declared.command.C1Set.TheVariants.{Serial, Parallel}
 use Rattle.cept_codes.specs.declared.item.Item.{Item}
 use Rattle.cept_codes.specs.declared.line_reason.LineReason.{LineReason}
-use Rattle.cept_parser.specs.Bytes.{is_between}
 use Rattle.cept_parser.specs.Context.{start_context}
 use Rattle.cept_parser.specs.Items.{closing_items, commands_of, commands as commands_of_bytes}
 use Rattle.cept_parser.specs.State.{ParserState, reading_with, parser_after, pending_reading}
+use Rattle.cept_editor.specs.declared.brief.Brief.{Brief}
+use Rattle.cept_editor.specs.declared.brief.Brief.TheVariants as briefs
 use Rattle.cept_editor.specs.declared.order.Order.{Order}
 use Rattle.cept_editor.specs.declared.order.Order.TheVariants as orders
-use Rattle.cept_editor.specs.declared.word.Word.{Word}
-use Rattle.cept_editor.specs.declared.word.Word.TheVariants as named
+use Rattle.cept_editor.specs.declared.places.Span.{Span}
 use Rattle.cept_editor.specs.Lines.{words}
 use Rattle.cept_editor.specs.Meaning.{Step, Turn, TakeBack, Edit, HasCommand, text_commands, is_sign, hex_bytes}
-use Rattle.cept_editor.specs.Table.{Row, Alone, One, Two, Four, Text, Raw, Undo, is_place, is_c1, is_screen_c1, is_colour}
-use Rattle.cept_editor.specs.Table.{entry_command, is_area}
 
--- the row of the table for a word
-abbrev pub row_by : Word → Row
-row_by named.At = Two is_place commands.Position
-row_by named.Text = Text
-row_by named.Serial = Alone (commands.DesignateC1 Serial)
-row_by named.Parallel = Alone (commands.DesignateC1 Parallel)
-row_by named.C1 = One is_c1 commands.C1
-row_by named.Row = One is_c1 commands.FullRow
-row_by named.Screen = One is_screen_c1 commands.FullScreen
-row_by named.Table = One (is_between 0 3) commands.Table
-row_by named.Colour = Four is_colour entry_command
-row_by named.Repeat = One (is_between 0 63) commands.Repeat
-row_by named.Erase = Alone commands.Cancel
-row_by named.Clear = Alone commands.Clear
-row_by named.Home = Alone commands.Home
-row_by named.Return = Alone commands.Return
-row_by named.Back = Alone commands.Back
-row_by named.Forward = Alone commands.Forward
-row_by named.Down = Alone commands.Down
-row_by named.Up = Alone commands.Up
-row_by named.Protect = Alone (commands.Protect true)
-row_by named.Unprotect = Alone (commands.Protect false)
-row_by named.Area = Two is_area commands.AreaCreate
-row_by named.Noarea = Two is_area commands.AreaDelete
-row_by named.Scrollup = Alone commands.ScrollUp
-row_by named.Scrolldown = Alone commands.ScrollDown
-row_by named.Implicit = Alone (commands.Implicit true)
-row_by named.Explicit = Alone (commands.Implicit false)
-row_by named.Raw = Raw
-row_by named.Undo = Undo
+-- the command of a brief one
+abbrev pub command_of : Brief → Command
+command_of (briefs.Position row column) = commands.Position row column
+command_of (briefs.DesignateC1 set) = commands.DesignateC1 set
+command_of (briefs.C1 code) = commands.C1 code
+command_of (briefs.FullRow code) = commands.FullRow code
+command_of (briefs.FullScreen code) = commands.FullScreen code
+command_of (briefs.Table number) = commands.Table number
+command_of (briefs.Entry entry rgb) = commands.Entry entry rgb
+command_of (briefs.Repeat times) = commands.Repeat times
+command_of briefs.Cancel = commands.Cancel
+command_of briefs.Clear = commands.Clear
+command_of briefs.Home = commands.Home
+command_of briefs.Return = commands.Return
+command_of briefs.Back = commands.Back
+command_of briefs.Forward = commands.Forward
+command_of briefs.Down = commands.Down
+command_of briefs.Up = commands.Up
+command_of (briefs.Protect on) = commands.Protect on
+command_of (briefs.AreaCreate first last) = commands.AreaCreate first last
+command_of (briefs.AreaDelete first last) = commands.AreaDelete first last
+command_of briefs.ScrollUp = commands.ScrollUp
+command_of briefs.ScrollDown = commands.ScrollDown
+command_of (briefs.Implicit on) = commands.Implicit on
 
 -- the words in what stands after a word, if a space does
 abbrev pub words_after : Option (Bor (List ℕ)) → List (List ℕ)
@@ -88,12 +79,16 @@ bytes_after (Some rest) = rest.now
 abbrev pub raw_bytes : List ℕ → List ℕ
 raw_bytes digits = unwrap_or (hex_bytes digits) []
 
--- the step of an order
-abbrev pub order_step : Order → Step
-order_step orders.TakeBack = Turn TakeBack
-order_step (orders.One c) = Edit (c ∷ [])
-order_step (orders.Text text) = Edit (text_commands text.now)
-order_step (orders.Raw digits) = Edit (commands_of_bytes (raw_bytes digits.now))
+-- the step of an order, where these bytes stand at its place
+abbrev pub order_step : List ℕ → Order → Step
+order_step bytes orders.TakeBack = Turn TakeBack
+order_step bytes (orders.One brief) = Edit (command_of brief ∷ [])
+order_step bytes (orders.Text span) = Edit (text_commands bytes)
+order_step bytes (orders.Raw span) = Edit (commands_of_bytes (raw_bytes bytes))
+
+-- the place of bytes that end there in a script
+abbrev pub place_before : ℕ → List ℕ → Span
+place_before end bytes = record { start = end - length bytes; end = end }
 
 -- a parser before the first byte
 abbrev pub start_state : ParserState
@@ -111,25 +106,28 @@ pub record AreSoundDigits (digits : List ℕ) : Type 0 where
   pub said : commands_of (items_from start_state (raw_bytes digits)) ≡ commands_of_bytes (raw_bytes digits)
   pub valid : AllByRecursion IsValidCommand (commands_of_bytes (raw_bytes digits))
 
--- an order whose commands are valid, and can be given one after the other; hexadecimal digits give one at least
-abbrev pub IsSoundOrder : Order → Type 0
-IsSoundOrder orders.TakeBack = Unit {0}
-IsSoundOrder (orders.One c) = IsValidCommand c
-IsSoundOrder (orders.Text text) = list_all is_sign text.now ≡ true
-IsSoundOrder (orders.Raw digits) = AreSoundDigits digits.now × HasCommand (order_step (orders.Raw digits))
+-- an order whose commands are valid, and can be given one after the other, where these bytes stand at this place and it
+-- is the order's; hexadecimal digits give one at least
+abbrev pub IsSoundOrder : List ℕ → Span → Order → Type 0
+IsSoundOrder bytes place orders.TakeBack = Unit {0}
+IsSoundOrder bytes place (orders.One brief) = IsValidCommand (command_of brief)
+IsSoundOrder bytes place (orders.Text span) = (span ≡ place) × (list_all is_sign bytes ≡ true)
+IsSoundOrder bytes place (orders.Raw span) =
+    (span ≡ place) × AreSoundDigits bytes × HasCommand (order_step bytes (orders.Raw span))
+
+-- an order without bytes, whose command is valid if it has one
+abbrev pub IsPlainOrder : Order → Type 0
+IsPlainOrder orders.TakeBack = Unit {0}
+IsPlainOrder (orders.One brief) = IsValidCommand (command_of brief)
+IsPlainOrder (orders.Text span) = ⊥
+IsPlainOrder (orders.Raw span) = ⊥
 
 -- what a value decides, or the reason for which there is none
 abbrev pub decided : {A : Type 0} → Result A LineReason → (A → Result Step LineReason) → Result Step LineReason
 decided (Ok a) decide = decide a
 decided (Err reason) decide = Err reason
 
--- what an order of a line means, or its reason
-abbrev pub step_meant : Result Order LineReason → Result Step LineReason
-step_meant (Ok order) = Ok (order_step order)
-step_meant (Err reason) = Err reason
-
--- what an order of a line means, if it has one, or its reason
-abbrev pub line_meant : Result (Option Order) LineReason → Result (Option Step) LineReason
-line_meant (Ok None) = Ok None
-line_meant (Ok (Some order)) = Ok (Some (order_step order))
-line_meant (Err reason) = Err reason
+-- what an order of a line means, where these bytes stand at its place, or its reason
+abbrev pub step_meant : List ℕ → Result Order LineReason → Result Step LineReason
+step_meant bytes (Ok order) = Ok (order_step bytes order)
+step_meant bytes (Err reason) = Err reason

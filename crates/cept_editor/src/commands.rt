@@ -3,10 +3,11 @@ ghost use Rattle.std.specs.List.{AllByRecursion, list_all};
 ghost use Rattle.cept_codes.specs.Command.{IsValidCommand};
 ghost use Rattle.cept_editor.specs.Edit.{edit_step};
 ghost use Rattle.cept_editor.specs.Meaning.{is_sign, IsValidStep, HasCommand};
-ghost use Rattle.cept_editor.specs.Order.{order_step, IsSoundOrder};
+ghost use Rattle.cept_editor.specs.Places.{step_at, IsPlacedOrder};
 
 use crate::decoding::Decoding;
 use crate::order::Order;
+use crate::places::bytes_at;
 use cept_codes::Command;
 use std::marker::Model;
 
@@ -65,29 +66,29 @@ pub enum Edit<'a> {
 }
 
 impl<'a> Edit<'a> {
-    /// The edit of an order.
-    pub(crate) fn of(order: Order<'a>) -> Edit<'a>
-        requires { IsSoundOrder order }
-        ensures step { edit_step result ≡ order_step order.entry }
+    /// The edit of an order of this script.
+    pub(crate) fn of(order: Order, script: &'a [u8]) -> Edit<'a>
+        requires { IsPlacedOrder script.now order }
+        ensures step { edit_step result ≡ step_at script.now order }
         ensures valid { IsValidStep (edit_step result) }
         ensures some { HasCommand (edit_step result) }
     {
         match order {
             Order::TakeBack => Edit::Undo,
-            Order::One(command) => Edit::Commands(Commands {
-                first: Some(command),
+            Order::One(brief) => Edit::Commands(Commands {
+                first: Some(brief.command()),
                 text: &[],
                 raw: None,
             }),
-            Order::Text(text) => Edit::Commands(Commands {
+            Order::Text(span) => Edit::Commands(Commands {
                 first: Some(Command::LockLeft(0)),
-                text,
+                text: bytes_at(script, span),
                 raw: None,
             }),
-            Order::Raw(digits) => Edit::Commands(Commands {
+            Order::Raw(span) => Edit::Commands(Commands {
                 first: None,
                 text: &[],
-                raw: Some(Decoding::new(digits)),
+                raw: Some(Decoding::new(bytes_at(script, span))),
             }),
         }
     }

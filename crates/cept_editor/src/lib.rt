@@ -2,6 +2,7 @@
 //! screen and takes them back. It knows no files, and of a page its commands alone.
 #![tactic(auto)]
 
+mod brief;
 mod commands;
 mod cut;
 mod decoding;
@@ -14,9 +15,9 @@ mod numbered;
 mod order;
 mod places;
 mod script;
+mod table;
 #[cfg(test)]
 mod tests;
-mod word;
 
 pub use commands::{Commands, Edit};
 pub use editor::{Done, Editor};

@@ -1,4 +1,4 @@
-ghost use Rattle.std.specs.Prelude.{◌≡◌, ◌<◌, ◌≤◌, ℕ, length, Bool, Some, None, IfSome, if◌then◌else◌};
+ghost use Rattle.std.specs.Prelude.{◌≡◌, ◌<◌, ℕ, Bool, Some, None, IfSome, if◌then◌else◌};
 ghost use Rattle.cept_codes.specs.declared.command.Command.{Command};
 ghost use Rattle.cept_parser.specs.Bytes.{is_between, is_digit, digit};
 ghost use Rattle.cept_editor.specs.Meaning.{number, one, two, four, ranged};
@@ -47,7 +47,8 @@ fn number(word: &[u8]) -> Option<u8>
 /// The first word of what stands after a word, and what stands after that.
 pub(crate) fn next_word(rest: Option<&[u8]>) -> Option<(&[u8], Option<&[u8]>)>
     ensures words { words_after rest.entry ≡ first_words result }
-    ensures within { IfSome result (λ parts. length parts.0.now ≤ length (bytes_after rest.entry)) }
+    ensures alone { IfSome result (λ parts. parts.1 ≡ None
+        → parts.0.now ≡ bytes_after rest.entry) }
 {
     Some(cut(rest?, SPACE))
 }
@@ -55,7 +56,7 @@ pub(crate) fn next_word(rest: Option<&[u8]>) -> Option<(&[u8], Option<&[u8]>)>
 /// The one word that stands after a word.
 pub(crate) fn one_word(rest: Option<&[u8]>) -> Option<&[u8]>
     ensures words { IsOneWord (words_after rest.entry) result }
-    ensures within { IfSome result (λ word. length word.now ≤ length (bytes_after rest.entry)) }
+    ensures whole { IfSome result (λ word. word.now ≡ bytes_after rest.entry) }
 {
     let (word, more) = next_word(rest)?;
     match more {

@@ -5,13 +5,14 @@ ghost use Rattle.cept_codes.specs.Place.{OnScreen};
 ghost use Rattle.cept_codes.specs.declared.command.Command.TheVariants as commands;
 ghost use Rattle.cept_parser.specs.Bytes.{is_between};
 ghost use Rattle.cept_editor.specs.Meaning.{one, two, four};
-ghost use Rattle.cept_editor.specs.Order.{words_after, step_meant, IsSoundOrder};
+ghost use Rattle.cept_editor.specs.Order.{words_after, bytes_after, step_meant, IsPlainOrder};
 ghost use Rattle.cept_editor.specs.Table.{is_place, is_c1, is_screen_c1, is_colour, is_area};
 ghost use Rattle.cept_editor.specs.Table.{entry_command};
 
+use crate::brief::Brief;
 use crate::number::{four_numbers, is_between, one_number, two_numbers};
 use crate::order::{Order, ranged};
-use cept_codes::{Command, LineReason, Rgb};
+use cept_codes::{LineReason, Rgb};
 
 /// Whether these are a row and a column of the screen.
 fn is_place(row: u8, column: u8) -> bool
@@ -62,83 +63,83 @@ fn is_area(first: u8, last: u8) -> bool
 }
 
 /// `at R C`: the position.
-pub(crate) fn place(rest: Option<&[u8]>) -> Result<Order<'_>, LineReason>
-    ensures meant { step_meant result ≡ two is_place commands.Position (words_after rest.entry) }
-    ensures sound { IfOk result IsSoundOrder }
+pub(crate) fn place(rest: Option<&[u8]>) -> Result<Order, LineReason>
+    ensures meant { step_meant (bytes_after rest.entry) result ≡ two is_place commands.Position (words_after rest.entry) }
+    ensures plain { IfOk result IsPlainOrder }
 {
     let (row, column) = two_numbers(rest)?;
-    ranged(is_place(row, column), Command::Position(row, column))
+    ranged(is_place(row, column), Brief::Position(row, column))
 }
 
 /// `c1 N`: a C1 code.
-pub(crate) fn c1(rest: Option<&[u8]>) -> Result<Order<'_>, LineReason>
-    ensures meant { step_meant result ≡ one is_c1 commands.C1 (words_after rest.entry) }
-    ensures sound { IfOk result IsSoundOrder }
+pub(crate) fn c1(rest: Option<&[u8]>) -> Result<Order, LineReason>
+    ensures meant { step_meant (bytes_after rest.entry) result ≡ one is_c1 commands.C1 (words_after rest.entry) }
+    ensures plain { IfOk result IsPlainOrder }
 {
     let code = one_number(rest)?;
-    ranged(is_c1(code), Command::C1(code))
+    ranged(is_c1(code), Brief::C1(code))
 }
 
 /// `row N`: an attribute of the row.
-pub(crate) fn full_row(rest: Option<&[u8]>) -> Result<Order<'_>, LineReason>
-    ensures meant { step_meant result ≡ one is_c1 commands.FullRow (words_after rest.entry) }
-    ensures sound { IfOk result IsSoundOrder }
+pub(crate) fn full_row(rest: Option<&[u8]>) -> Result<Order, LineReason>
+    ensures meant { step_meant (bytes_after rest.entry) result ≡ one is_c1 commands.FullRow (words_after rest.entry) }
+    ensures plain { IfOk result IsPlainOrder }
 {
     let code = one_number(rest)?;
-    ranged(is_c1(code), Command::FullRow(code))
+    ranged(is_c1(code), Brief::FullRow(code))
 }
 
 /// `screen N`: an attribute of the screen.
-pub(crate) fn full_screen(rest: Option<&[u8]>) -> Result<Order<'_>, LineReason>
-    ensures meant { step_meant result ≡ one is_screen_c1 commands.FullScreen (words_after rest.entry) }
-    ensures sound { IfOk result IsSoundOrder }
+pub(crate) fn full_screen(rest: Option<&[u8]>) -> Result<Order, LineReason>
+    ensures meant { step_meant (bytes_after rest.entry) result ≡ one is_screen_c1 commands.FullScreen (words_after rest.entry) }
+    ensures plain { IfOk result IsPlainOrder }
 {
     let code = one_number(rest)?;
-    ranged(is_screen_c1(code), Command::FullScreen(code))
+    ranged(is_screen_c1(code), Brief::FullScreen(code))
 }
 
 /// `table N`: a colour table.
-pub(crate) fn table(rest: Option<&[u8]>) -> Result<Order<'_>, LineReason>
-    ensures meant { step_meant result ≡ one (is_between 0 3) commands.Table (words_after rest.entry) }
-    ensures sound { IfOk result IsSoundOrder }
+pub(crate) fn table(rest: Option<&[u8]>) -> Result<Order, LineReason>
+    ensures meant { step_meant (bytes_after rest.entry) result ≡ one (is_between 0 3) commands.Table (words_after rest.entry) }
+    ensures plain { IfOk result IsPlainOrder }
 {
     let number = one_number(rest)?;
-    ranged(is_between(0, 3, number), Command::Table(number))
+    ranged(is_between(0, 3, number), Brief::Table(number))
 }
 
 /// `colour N R G B`: the colour of an entry.
-pub(crate) fn colour(rest: Option<&[u8]>) -> Result<Order<'_>, LineReason>
-    ensures meant { step_meant result ≡ four is_colour entry_command (words_after rest.entry) }
-    ensures sound { IfOk result IsSoundOrder }
+pub(crate) fn colour(rest: Option<&[u8]>) -> Result<Order, LineReason>
+    ensures meant { step_meant (bytes_after rest.entry) result ≡ four is_colour entry_command (words_after rest.entry) }
+    ensures plain { IfOk result IsPlainOrder }
 {
     let (entry, r, g, b) = four_numbers(rest)?;
     let rgb = Rgb { r, g, b };
-    ranged(is_colour(entry, rgb), Command::Entry(entry, rgb))
+    ranged(is_colour(entry, rgb), Brief::Entry(entry, rgb))
 }
 
 /// `repeat N`: the last sign so many times more.
-pub(crate) fn repeat(rest: Option<&[u8]>) -> Result<Order<'_>, LineReason>
-    ensures meant { step_meant result ≡ one (is_between 0 63) commands.Repeat (words_after rest.entry) }
-    ensures sound { IfOk result IsSoundOrder }
+pub(crate) fn repeat(rest: Option<&[u8]>) -> Result<Order, LineReason>
+    ensures meant { step_meant (bytes_after rest.entry) result ≡ one (is_between 0 63) commands.Repeat (words_after rest.entry) }
+    ensures plain { IfOk result IsPlainOrder }
 {
     let times = one_number(rest)?;
-    ranged(is_between(0, 63, times), Command::Repeat(times))
+    ranged(is_between(0, 63, times), Brief::Repeat(times))
 }
 
 /// `area A B`: a scrolling area.
-pub(crate) fn area(rest: Option<&[u8]>) -> Result<Order<'_>, LineReason>
-    ensures meant { step_meant result ≡ two is_area commands.AreaCreate (words_after rest.entry) }
-    ensures sound { IfOk result IsSoundOrder }
+pub(crate) fn area(rest: Option<&[u8]>) -> Result<Order, LineReason>
+    ensures meant { step_meant (bytes_after rest.entry) result ≡ two is_area commands.AreaCreate (words_after rest.entry) }
+    ensures plain { IfOk result IsPlainOrder }
 {
     let (first, last) = two_numbers(rest)?;
-    ranged(is_area(first, last), Command::AreaCreate(first, last))
+    ranged(is_area(first, last), Brief::AreaCreate(first, last))
 }
 
 /// `noarea A B`: the end of a scrolling area.
-pub(crate) fn no_area(rest: Option<&[u8]>) -> Result<Order<'_>, LineReason>
-    ensures meant { step_meant result ≡ two is_area commands.AreaDelete (words_after rest.entry) }
-    ensures sound { IfOk result IsSoundOrder }
+pub(crate) fn no_area(rest: Option<&[u8]>) -> Result<Order, LineReason>
+    ensures meant { step_meant (bytes_after rest.entry) result ≡ two is_area commands.AreaDelete (words_after rest.entry) }
+    ensures plain { IfOk result IsPlainOrder }
 {
     let (first, last) = two_numbers(rest)?;
-    ranged(is_area(first, last), Command::AreaDelete(first, last))
+    ranged(is_area(first, last), Brief::AreaDelete(first, last))
 }

@@ -1,53 +1,73 @@
-ghost use Rattle.std.specs.Prelude.{◌≡◌, ◌<◌, ◌^◌, ◌∷◌, [], length, true, IfOk, Some};
+ghost use Rattle.std.specs.Prelude.{◌≡◌, ◌≤◌, ◌<◌, ◌^◌, ◌∷◌, ℕ, List, [], length, true, IfOk};
 ghost use Rattle.std.specs.List.{list_all};
 ghost use Rattle.cept_codes.specs.Command.{IsValidCommand};
-ghost use Rattle.cept_editor.specs.Meaning.{Edit, ranged, alone, is_sign, text, raw, step_by};
+ghost use Rattle.cept_editor.specs.Meaning.{TakeBack, Edit, ranged, alone, is_sign, text, raw};
 ghost use Rattle.cept_editor.specs.Meaning.{bytes_step, hex_bytes};
 ghost use Rattle.cept_editor.specs.Order.{words_after, bytes_after, order_step, step_meant};
-ghost use Rattle.cept_editor.specs.Order.{IsSoundOrder, row_by};
+ghost use Rattle.cept_editor.specs.Order.{command_of, place_before, IsSoundOrder, IsPlainOrder};
 
+use crate::brief::Brief;
 use crate::digits::{are_digits, has_refusal};
 use crate::number::{is_between, one_word};
-use crate::numbered::{area, c1, colour, full_row, full_screen, no_area, place, repeat, table};
-use crate::word::Word;
-use cept_codes::{C1Set, Command, LineReason};
+use crate::places::{Span, place_before};
+use cept_codes::LineReason;
 
 /// What an edit line asks for.
 #[derive(Clone, Copy, Debug)]
-pub(crate) enum Order<'a> {
+pub(crate) enum Order {
     /// To take back the last kept edit.
     TakeBack,
     /// One command.
-    One(Command),
-    /// The commands that write this text.
-    Text(&'a [u8]),
-    /// The commands of the bytes of these hexadecimal digits.
-    Raw(&'a [u8]),
+    One(Brief),
+    /// The commands that write the text that stands there.
+    Text(Span),
+    /// The commands of the bytes of the hexadecimal digits that stand there.
+    Raw(Span),
 }
 
 /// One command, where its numbers are in their ranges.
-pub(crate) fn ranged<'a>(fits: bool, command: Command) -> Result<Order<'a>, LineReason>
-    requires { fits ≡ true → IsValidCommand command }
-    ensures meant { step_meant result ≡ ranged fits command }
-    ensures sound { IfOk result IsSoundOrder }
+pub(crate) fn ranged(fits: bool, brief: Brief) -> Result<Order, LineReason>
+    requires { fits ≡ true → IsValidCommand (command_of brief) }
+    ensures meant { (bytes : List ℕ) → step_meant bytes result ≡ ranged fits (command_of brief) }
+    ensures plain { IfOk result IsPlainOrder }
 {
     if fits {
-        Ok(Order::One(command))
+        Ok(Order::One(brief))
     } else {
         Err(LineReason::BadNumber)
     }
 }
 
 /// An order without a word after it.
-fn alone<'a>(order: Order<'a>, rest: Option<&[u8]>) -> Result<Order<'a>, LineReason>
-    requires { IsSoundOrder order }
-    ensures meant { step_meant result ≡ alone (order_step order.entry) (words_after rest.entry) }
-    ensures sound { IfOk result IsSoundOrder }
+fn alone(order: Order, rest: Option<&[u8]>) -> Result<Order, LineReason>
+    requires { IsPlainOrder order }
+    ensures meant { step_meant (bytes_after rest.entry) result
+        ≡ alone (order_step (bytes_after rest.entry) order) (words_after rest.entry) }
+    ensures plain { IfOk result IsPlainOrder }
 {
     match rest {
         None => Ok(order),
         Some(_) => Err(LineReason::WrongCount),
     }
+}
+
+/// A command without a word after it.
+pub(crate) fn one(brief: Brief, rest: Option<&[u8]>) -> Result<Order, LineReason>
+    requires { IsValidCommand (command_of brief) }
+    ensures meant { step_meant (bytes_after rest.entry) result
+        ≡ alone (Edit (command_of brief ∷ [])) (words_after rest.entry) }
+    ensures plain { IfOk result IsPlainOrder }
+{
+    alone(Order::One(brief), rest)
+}
+
+/// To take back the last kept edit, without a word after it.
+pub(crate) fn take_back(rest: Option<&[u8]>) -> Result<Order, LineReason>
+    ensures meant { step_meant (bytes_after rest.entry) result
+        ≡ alone TakeBack (words_after rest.entry) }
+    ensures plain { IfOk result IsPlainOrder }
+{
+    alone(Order::TakeBack, rest)
 }
 
 /// Whether these are signs of a text: 2/0 to 7/14.
@@ -64,10 +84,12 @@ fn are_signs(text: &[u8]) -> bool
     true
 }
 
-/// The text after a word and one space.
-fn text(rest: Option<&[u8]>) -> Result<Order<'_>, LineReason>
-    ensures meant { step_meant result ≡ text (bytes_after rest.entry) }
-    ensures sound { IfOk result IsSoundOrder }
+/// The text after a word and one space, which ends there in a script.
+pub(crate) fn text(rest: Option<&[u8]>, end: u32) -> Result<Order, LineReason>
+    requires { length (bytes_after rest) ≤ end }
+    ensures meant { step_meant (bytes_after rest.entry) result ≡ text (bytes_after rest.entry) }
+    ensures sound { IfOk result (IsSoundOrder (bytes_after rest.entry)
+        (place_before end (bytes_after rest.entry))) }
 {
     let Some(text) = rest else {
         return Err(LineReason::WrongCount);
@@ -78,14 +100,15 @@ fn text(rest: Option<&[u8]>) -> Result<Order<'_>, LineReason>
     if !are_signs(text) {
         return Err(LineReason::BadText);
     }
-    Ok(Order::Text(text))
+    Ok(Order::Text(place_before(end, text)))
 }
 
-/// The bytes of these hexadecimal digits.
-fn bytes_of(digits: &[u8]) -> Result<Order<'_>, LineReason>
-    requires { length digits.now < 2 ^ 31 }
-    ensures meant { step_meant result ≡ bytes_step (hex_bytes digits.now) }
-    ensures sound { IfOk result IsSoundOrder }
+/// The bytes of these hexadecimal digits, which end there in a script.
+fn bytes_of(digits: &[u8], end: u32) -> Result<Order, LineReason>
+    requires few { length digits.now < 2 ^ 31 }
+    requires within { length digits.now ≤ end }
+    ensures meant { step_meant digits.now result ≡ bytes_step (hex_bytes digits.now) }
+    ensures sound { IfOk result (IsSoundOrder digits.now (place_before end digits.now)) }
 {
     if !are_digits(digits) {
         return Err(LineReason::BadHex);
@@ -96,65 +119,19 @@ fn bytes_of(digits: &[u8]) -> Result<Order<'_>, LineReason>
     if has_refusal(digits) {
         return Err(LineReason::BadBytes);
     }
-    Ok(Order::Raw(digits))
+    Ok(Order::Raw(place_before(end, digits)))
 }
 
-/// The bytes of the one word of hexadecimal digits.
-fn raw(rest: Option<&[u8]>) -> Result<Order<'_>, LineReason>
-    requires { length (bytes_after rest) < 2 ^ 31 }
-    ensures meant { step_meant result ≡ raw (words_after rest.entry) }
-    ensures sound { IfOk result IsSoundOrder }
+/// The bytes of the one word of hexadecimal digits, which ends there in a script.
+pub(crate) fn raw(rest: Option<&[u8]>, end: u32) -> Result<Order, LineReason>
+    requires few { length (bytes_after rest) < 2 ^ 31 }
+    requires within { length (bytes_after rest) ≤ end }
+    ensures meant { step_meant (bytes_after rest.entry) result ≡ raw (words_after rest.entry) }
+    ensures sound { IfOk result (IsSoundOrder (bytes_after rest.entry)
+        (place_before end (bytes_after rest.entry))) }
 {
     let Some(digits) = one_word(rest) else {
         return Err(LineReason::WrongCount);
     };
-    bytes_of(digits)
-}
-
-/// A command without a word after it.
-fn one<'a>(command: Command, rest: Option<&[u8]>) -> Result<Order<'a>, LineReason>
-    requires { IsValidCommand command }
-    ensures meant { step_meant result ≡ alone (Edit (command ∷ [])) (words_after rest.entry) }
-    ensures sound { IfOk result IsSoundOrder }
-{
-    alone(Order::One(command), rest)
-}
-
-/// What a word and what stands after it ask for.
-pub(crate) fn order_of(word: Word, rest: Option<&[u8]>) -> Result<Order<'_>, LineReason>
-    requires { length (bytes_after rest) < 2 ^ 31 }
-    ensures meant { step_meant result
-        ≡ step_by (Some (row_by word)) (words_after rest.entry) (bytes_after rest.entry) }
-    ensures sound { IfOk result IsSoundOrder }
-{
-    match word {
-        Word::At => place(rest),
-        Word::Text => text(rest),
-        Word::Serial => one(Command::DesignateC1(C1Set::Serial), rest),
-        Word::Parallel => one(Command::DesignateC1(C1Set::Parallel), rest),
-        Word::C1 => c1(rest),
-        Word::Row => full_row(rest),
-        Word::Screen => full_screen(rest),
-        Word::Table => table(rest),
-        Word::Colour => colour(rest),
-        Word::Repeat => repeat(rest),
-        Word::Erase => one(Command::Cancel, rest),
-        Word::Clear => one(Command::Clear, rest),
-        Word::Home => one(Command::Home, rest),
-        Word::Return => one(Command::Return, rest),
-        Word::Back => one(Command::Back, rest),
-        Word::Forward => one(Command::Forward, rest),
-        Word::Down => one(Command::Down, rest),
-        Word::Up => one(Command::Up, rest),
-        Word::Protect => one(Command::Protect(true), rest),
-        Word::Unprotect => one(Command::Protect(false), rest),
-        Word::Area => area(rest),
-        Word::Noarea => no_area(rest),
-        Word::Scrollup => one(Command::ScrollUp, rest),
-        Word::Scrolldown => one(Command::ScrollDown, rest),
-        Word::Implicit => one(Command::Implicit(true), rest),
-        Word::Explicit => one(Command::Implicit(false), rest),
-        Word::Raw => raw(rest),
-        Word::Undo => alone(Order::TakeBack, rest),
-    }
+    bytes_of(digits, end)
 }

@@ -1,17 +1,18 @@
-ghost use Rattle.std.specs.Prelude.{◌≡◌, ◌≤◌, ◌<◌, ◌^◌, [], length, IfOk, OnOk, IfErr, None, ◌==◌, slice_index_or};
+ghost use Rattle.std.specs.Prelude.{◌≡◌, ◌≤◌, ◌<◌, ◌^◌, ℕ, List, [], length, IfOk, OnOk, IfErr, None, ◌==◌};
+ghost use Rattle.std.specs.Prelude.{slice_index_or};
 ghost use Rattle.cept_editor.specs.Fault.{SaysFault};
-ghost use Rattle.cept_editor.specs.Meaning.{line_meaning, IsValidStep, HasCommand};
 ghost use Rattle.cept_editor.specs.Order.{bytes_after};
-ghost use Rattle.cept_editor.specs.Places.{HasKept, IsUnkept, HasPlaces};
+ghost use Rattle.cept_editor.specs.Meaning.{line_meaning, IsValidStep, HasCommand};
+ghost use Rattle.cept_editor.specs.Places.{EndsAt, HasKept, IsUnkept, HasOrders};
 ghost use Rattle.cept_editor.specs.Edit.{edit_step};
 ghost use Rattle.cept_editor.specs.Script.{EditLine, edits, first_fault, AreValidEdits};
 
 use crate::commands::Edit;
 use crate::cut::cut;
 use crate::line::line_order;
-use crate::places::EditPlace;
+use crate::places::OrderLine;
 use cept_codes::LineReason;
-use std::alloc::{AllocError, AllocFailed, Global};
+use std::alloc::{AllocError, AllocFailed};
 use std::marker::Model;
 
 /// The byte that ends a line.
@@ -62,7 +63,7 @@ fn count_edits(bytes: &[u8]) -> usize
     count
 }
 
-/// What stands after a line.
+/// What stands after a mark.
 fn after(rest: Option<&[u8]>) -> &[u8]
     ensures { result.now ≡ bytes_after rest.entry }
 {
@@ -72,43 +73,47 @@ fn after(rest: Option<&[u8]>) -> &[u8]
     }
 }
 
-/// Keeps the place of a line, where it is an edit.
-fn keep_line(places: &mut Vec<EditPlace>, line: &[u8], place: EditPlace) -> Result<(), ScriptFault>
-    requires { length line.now ≤ 2 ^ 20 }
-    ensures kept { OnOk result (HasKept (line_meaning line.now) place places.old.items places.new.items) }
-    ensures fault { IfErr result (λ fault. IsUnkept (line_meaning line.now) place.line fault) }
+/// Keeps the order of the line of this number, which ends there in a script, where it is an edit.
+fn keep_line(
+    orders: &mut Vec<OrderLine>,
+    line: &[u8],
+    number: u32,
+    end: u32,
+) -> Result<(), ScriptFault>
+    requires few { length line.now ≤ 2 ^ 20 }
+    requires within { length line.now ≤ end }
+    ensures kept { OnOk result ((script : List ℕ) → EndsAt script end line.now
+        → HasKept script number (line_meaning line.now) orders.old.items orders.new.items) }
+    ensures fault { IfErr result (λ fault. (script : List ℕ) → EndsAt script end line.now
+        → IsUnkept (line_meaning line.now) number fault) }
 {
-    match line_order(line) {
+    match line_order(line, end) {
         Ok(None) => Ok(()),
-        Ok(Some(_)) => {
-            places.push(place)?;
+        Ok(Some(order)) => {
+            orders.push(OrderLine {
+                line: number,
+                order,
+            })?;
             Ok(())
         }
-        Err(reason) => Err(ScriptFault::BadLine(place.line, reason)),
+        Err(reason) => Err(ScriptFault::BadLine(number, reason)),
     }
 }
 
-/// Keeps the places of all edits.
-fn keep_lines(places: &mut Vec<EditPlace>, bytes: &[u8]) -> Result<(), ScriptFault>
-    requires none { places.old.items ≡ [] }
+/// Keeps the orders of all edits.
+fn keep_lines(orders: &mut Vec<OrderLine>, bytes: &[u8]) -> Result<(), ScriptFault>
+    requires none { orders.old.items ≡ [] }
     requires few { length bytes.now ≤ 2 ^ 20 }
-    ensures places { OnOk result (HasPlaces bytes.now places.new.items) }
+    ensures orders { OnOk result (HasOrders bytes.now orders.new.items) }
     ensures fault { IfErr result (λ fault. SaysFault (first_fault bytes.now) fault) }
 {
     let mut number = 0u32;
     let mut left = bytes;
     while !left.is_empty() {
-        let start = (bytes.len() - left.len()) as u32;
+        let start = bytes.len() - left.len();
         let (line, rest) = cut(left, LINE_END);
         number += 1;
-        keep_line(
-            places,
-            line,
-            EditPlace {
-                line: number,
-                start,
-            },
-        )?;
+        keep_line(orders, line, number, (start + line.len()) as u32)?;
         left = after(rest);
     }
     Ok(())
@@ -118,19 +123,19 @@ fn keep_lines(places: &mut Vec<EditPlace>, bytes: &[u8]) -> Result<(), ScriptFau
 #[derive(Drop)]
 pub struct Script {
     text: Vec<u8>,
-    places: Vec<EditPlace>,
+    orders: Vec<OrderLine>,
 }
 
 impl Model for Script {
     ghost use Rattle.std.specs.Prelude.{List, map};
-    ghost use Rattle.cept_editor.specs.Places.{edit_at, AreEditPlaces};
+    ghost use Rattle.cept_editor.specs.Places.{edit_at, ArePlacedLines};
     ghost use Rattle.cept_editor.specs.Script.{EditLine};
 
     ghost Value = { List EditLine };
 
-    ghost view = { λ s. map (edit_at s.text.items) s.places.items };
+    ghost view = { λ s. map (edit_at s.text.items) s.orders.items };
 
-    ghost invariant = { λ s. AreEditPlaces s.text.items s.places.items };
+    ghost invariant = { λ s. ArePlacedLines s.text.items s.orders.items };
 }
 
 impl Script {
@@ -140,31 +145,33 @@ impl Script {
     ///
     /// `BadLine` with the first line outside the grammar and the first reason that holds of it, and
     /// `NoMemory` where memory runs out.
-    pub fn read(alloc: Global, bytes: &[u8]) -> Result<Script, ScriptFault>
-        requires { length bytes.now ≤ 2 ^ 20 }
-        ensures edits { IfOk result (λ script. script ≡ edits bytes.now) }
-        ensures valid { OnOk result (AreValidEdits (edits bytes.now)) }
-        ensures good { OnOk result (first_fault bytes.now ≡ None) }
-        ensures fault { IfErr result (λ fault. SaysFault (first_fault bytes.now) fault) }
+    pub fn read(bytes: Vec<u8>) -> Result<Script, ScriptFault>
+        requires { length bytes.items ≤ 2 ^ 20 }
+        ensures edits { IfOk result (λ script. script ≡ edits bytes.items) }
+        ensures valid { OnOk result (AreValidEdits (edits bytes.items)) }
+        ensures good { OnOk result (first_fault bytes.items ≡ None) }
+        ensures fault { IfErr result (λ fault. SaysFault (first_fault bytes.items) fault) }
     {
-        let text = Vec::from_slice(alloc, bytes)?;
-        let mut places = Vec::with_capacity(alloc, count_edits(bytes))?;
-        keep_lines(&mut places, bytes)?;
-        Ok(Script { text, places })
+        let mut orders = Vec::with_capacity(*bytes.allocator(), count_edits(bytes.as_slice()))?;
+        keep_lines(&mut orders, bytes.as_slice())?;
+        Ok(Script {
+            text: bytes,
+            orders,
+        })
     }
 
     /// How many edits there are.
     pub fn len(&self) -> u32
         ensures { result ≡ length self.now }
     {
-        self.places.len() as u32
+        self.orders.len() as u32
     }
 
     /// Whether there is no edit.
     pub fn is_empty(&self) -> bool
         ensures { result ≡ (length self.now == 0) }
     {
-        self.places.is_empty()
+        self.orders.is_empty()
     }
 
     /// The number of the line of an edit, counted from 1. Edits are counted from 0.
@@ -172,7 +179,7 @@ impl Script {
         requires { k < length self.now }
         ensures { (default : EditLine) → result ≡ (slice_index_or self.now k default).line }
     {
-        self.places[k as usize].line
+        self.orders[k as usize].line
     }
 
     /// What an edit does: its commands one after the other, or undo. Edits are counted from 0.
@@ -183,11 +190,6 @@ impl Script {
         ensures valid { IsValidStep (edit_step result) }
         ensures some { HasCommand (edit_step result) }
     {
-        let start = self.places[k as usize].start as usize;
-        let (line, _) = cut(&self.text.as_slice()[start..], LINE_END);
-        let Ok(Some(order)) = line_order(line) else {
-            unreachable!()
-        };
-        Edit::of(order)
+        Edit::of(self.orders[k as usize].order, self.text.as_slice())
     }
 }

@@ -42,7 +42,7 @@ const GOOD: &[u8] =
 
 #[test]
 fn reads_a_script(rt: HostRuntime) -> Result<(), Fail> {
-    let script = Script::read(rt.alloc(), GOOD)?;
+    let script = Script::read(Vec::from_slice(rt.alloc(), GOOD)?)?;
     let want: [(u32, &[Command]); 10] = [
         (3, &[Command::Position(1, 40)]),
         (
@@ -108,7 +108,7 @@ fn refuses_the_first_bad_line(rt: HostRuntime) -> Result<(), Fail> {
     ];
     for (text, line, reason) in cases {
         if text.len() <= 1 << 20 {
-            match Script::read(rt.alloc(), text) {
+            match Script::read(Vec::from_slice(rt.alloc(), text)?) {
                 Ok(_) => assert!(rt; false, "{text:?} is read"),
                 Err(fault) => {
                     assert_eq!(rt; fault, ScriptFault::BadLine(line, reason), "of {text:?}");
@@ -133,7 +133,7 @@ fn reads_a_line_of_all_bytes(rt: HostRuntime) -> Result<(), Fail> {
     let text = long_line(rt.alloc(), (1 << 20) - 5)?;
     assert_eq!(rt; text.len(), 1 << 20);
     if text.len() <= 1 << 20 {
-        let script = Script::read(rt.alloc(), text.as_slice())?;
+        let script = Script::read(text)?;
         assert_eq!(rt; script.len(), 1);
         if script.len() > 0 {
             assert_eq!(rt; script.line_of(0), 1);
@@ -171,7 +171,7 @@ fn make_edits<L: Ledger>(alloc: Global, blank: Blank, text: &[u8]) -> Result<Lef
     requires some { 0 < blank.parts }
     requires few { length text.now ≤ 2 ^ 20 }
 {
-    let script = Script::read(alloc, text)?;
+    let script = Script::read(Vec::from_slice(alloc, text)?)?;
     let mut editor = Editor::new(alloc)?;
     let mut glass = GridGlass::new(alloc)?;
     let mut sink = MemSink::new(alloc, 4096)?;

@@ -21,6 +21,7 @@ returns-clause-meant c =
 
 pub returns-clause-sound : goal.returns-clause-sound
 returns-clause-sound c = (
+  c.place_before.ensures,
   c.has_refusal.ensures.sound,
   raw_some _ (some_length _ (sym c.is_empty.ensures ∙ c.if-is_empty.false))
       (sym c.are_digits.ensures ∙ c.if-not-are_digits.false) (sym c.has_refusal.ensures.refused ∙ c.if-has_refusal.false),

@@ -10,8 +10,8 @@ loop-left-init c = read_none _ _ c.requires.none
 pub returns-in_err-keep_line-clause-fault : goal.returns-in_err-keep_line-clause-fault
 returns-in_err-keep_line-clause-fault c =
     let p = err_from_is_err_and c.from_residual.result c.from_residual.ensures.1 in
-    rw (p.1, p.2) (read_fault _ _ _ _ _ _ _ c.loop-left.invariant
-    (some_length _ (sym c.is_empty.ensures ∙ c.loop-left-test.true)) c.cut.ensures.parts c.cut.ensures.places
+    rw (p.1, p.2) (read_fault _ _ _ _ _ _ _ _ c.loop-left.invariant
+    (some_length _ (sym c.is_empty.ensures ∙ c.loop-left-test.true)) c.cut.ensures.parts c.cut.ensures.places refl
     c.in_err-keep_line.ensures.fault)
 
 pub loop-left-preserved : goal.loop-left-preserved
@@ -20,7 +20,7 @@ loop-left-preserved c =
     (some_length _ (sym c.is_empty.ensures ∙ c.loop-left-test.true)) c.cut.ensures.parts c.cut.ensures.places refl
     c.in_ok-keep_line.ensures.kept)
 
-pub returns-clause-places : goal.returns-clause-places
-returns-clause-places c =
+pub returns-clause-orders : goal.returns-clause-orders
+returns-clause-orders c =
     read_all _ _ _ _ c.loop-left.invariant (no_length _ (sym c.is_empty.ensures ∙ c.loop-left-test.false))
     c.requires.few

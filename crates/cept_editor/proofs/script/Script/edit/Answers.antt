@@ -1,13 +1,18 @@
-use Rattle.std.proofs.Common.{◌∙◌, ◌<◌, List, length, sym, ap, subst, slice_index_or}
+use Rattle.std.proofs.Common.{◌∙◌, ◌<◌, List, ℕ, length, sym, ap, subst, slice_index_or}
+use Rattle.cept_editor.specs.Places.{IsPlacedOrder, step_at}
 use Rattle.cept_editor.specs.Script.{EditLine}
-use Rattle.cept_editor.proofs.KeptLines.{edit_is}
+use Rattle.cept_editor.proofs.KeptLines.{placed_at, step_is}
 use Rattle.cept_editor.proofs.script.Script.edit.Goals as goal
+
+pub of-requires : goal.of-requires
+of-requires c =
+    subst (λ (text : List ℕ). IsPlacedOrder text c.index.result.now.order) (sym c.as_slice.ensures.value)
+    (placed_at c.self.inside.text.items c.self.inside.orders.items c.args.k c.index.result.now c.self.invariant.each
+    (subst (λ (es : List EditLine). c.args.k < length es) (sym c.self.view_is) c.requires) c.index.ensures)
 
 pub returns-clause-step : goal.returns-clause-step
 returns-clause-step c default =
-    let told = rw c.in-Ok-Some.field-0-is at c.in-Ok-Some.ensures in
-    c.of.ensures.step
-    ∙ edit_is _ _ c.self.inside.places.items c.args.k c.index.result.now _ _ _ default c.as_slice.ensures.value
+    c.of.ensures.step ∙ ap (λ (text : List ℕ). step_at text c.index.result.now.order) c.as_slice.ensures.value
+    ∙ step_is c.self.inside.text.items c.self.inside.orders.items c.args.k c.index.result.now default
     (subst (λ (es : List EditLine). c.args.k < length es) (sym c.self.view_is) c.requires) c.index.ensures
-    c.cut.ensures.parts told.meant
     ∙ ap (λ (es : List EditLine). (slice_index_or es c.args.k default).step) c.self.view_is
