@@ -69,7 +69,7 @@ impl Grid {
         ensures refused { result ≡ false → self.new ≡ self.old }
         ensures cells { self.new ≡ cells_after self.old (Stroke.Put place cell) }
     {
-        self.tell_whole();
+        self.whole_by_type();
         let free = !self.get(place).protected;
         if free {
             self.rows[usize::from(place.row()) - 1][usize::from(place.col()) - 1] = cell;
@@ -100,7 +100,7 @@ impl Grid {
     }
 
     /// Tells the prover that there are 24 rows of 40: reading a field opens the model.
-    fn tell_whole(&self)
+    fn whole_by_type(&self)
         ensures { IsTable self.now }
     {
         let _rows = &self.rows;
@@ -111,7 +111,7 @@ impl Grid {
         requires { IsValidStroke stroke.now }
         ensures { self.new ≡ cells_after self.old stroke.now }
     {
-        self.tell_whole();
+        self.whole_by_type();
         match stroke {
             Stroke::Put(place, cell) => {
                 let _ = self.put(*place, *cell);

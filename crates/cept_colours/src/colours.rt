@@ -67,7 +67,7 @@ impl Colours {
 
     /// Tells the prover that all paints are valid: reading a field opens the model.
     #[inline(always)]
-    pub fn tell_valid(&self)
+    pub fn valid_by_type(&self)
         ensures { (i : ℕ) → IsValidPaint (paint_in self.now.paints i) }
     {
         let _paints = &self.paints;

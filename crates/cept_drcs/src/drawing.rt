@@ -4,7 +4,7 @@ ghost use Rattle.cept_codes.specs.Command.{IsValidForm};
 ghost use Rattle.cept_drcs.specs.Kept.{plane_end, IsFed};
 ghost use Rattle.cept_drcs.specs.Strips.{strips_in, strip_line};
 
-use crate::lines::{lines_asked, first_line, has_pixels, is_opener, is_sign};
+use crate::lines::{first_line, has_pixels, is_opener, is_sign, lines_asked};
 use crate::strips::Strips;
 use cept_codes::{Form, Pattern};
 use std::marker::Model;

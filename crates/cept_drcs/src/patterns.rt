@@ -69,7 +69,7 @@ impl Patterns {
 
     /// Tells the prover that there are 94, and each valid: reading a field opens the model.
     #[inline(always)]
-    pub fn tell_valid(&self)
+    pub fn valid_by_type(&self)
         ensures codes { length self.now ≡ 94 }
         ensures valid { (code : ℕ) → 0x21 ≤ code → code ≤ 0x7E
             → IfSome (pattern_in self.now code) IsValidPattern }

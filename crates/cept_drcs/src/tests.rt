@@ -60,7 +60,12 @@ fn each_plane_has_a_block(rt: HostRuntime) {
         planes: 2,
         ..SIX_LINES
     };
-    assert_words(&rt, pattern_of_bytes(two_planes, b"\x30\x2F\x31\x20"), 0xFFFFFFFFF, 0);
+    assert_words(
+        &rt,
+        pattern_of_bytes(two_planes, b"\x30\x2F\x31\x20"),
+        0xFFFFFFFFF,
+        0,
+    );
 }
 
 #[test]

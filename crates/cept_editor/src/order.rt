@@ -1,7 +1,7 @@
 ghost use Rattle.std.specs.Prelude.{◌≡◌, ◌≤◌, ◌<◌, ◌^◌, ◌∷◌, ℕ, List, [], length, true, IfOk};
 ghost use Rattle.std.specs.List.{list_all};
 ghost use Rattle.cept_codes.specs.Command.{IsValidCommand};
-ghost use Rattle.cept_editor.specs.Meaning.{TakeBack, Edit, ranged, alone, is_sign, text, raw};
+ghost use Rattle.cept_editor.specs.Meaning.{Turn, TakeBack, Edit, ranged, alone, is_sign, text, raw};
 ghost use Rattle.cept_editor.specs.Meaning.{bytes_step, hex_bytes};
 ghost use Rattle.cept_editor.specs.Order.{words_after, bytes_after, order_step, step_meant};
 ghost use Rattle.cept_editor.specs.Order.{command_of, place_before, IsSoundOrder, IsPlainOrder};
@@ -64,7 +64,7 @@ pub(crate) fn one(brief: Brief, rest: Option<&[u8]>) -> Result<Order, LineReason
 /// To take back the last kept edit, without a word after it.
 pub(crate) fn take_back(rest: Option<&[u8]>) -> Result<Order, LineReason>
     ensures meant { step_meant (bytes_after rest.entry) result
-        ≡ alone TakeBack (words_after rest.entry) }
+        ≡ alone (Turn TakeBack) (words_after rest.entry) }
     ensures plain { IfOk result IsPlainOrder }
 {
     alone(Order::TakeBack, rest)

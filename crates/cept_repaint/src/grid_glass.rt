@@ -38,7 +38,7 @@ impl Glass for GridGlass {
 
     fn paint(&mut self, at: Pos, screen: &Screen) {
         let looks = screen.row_looks(at.row());
-        looks.tell_columns();
+        looks.columns_by_type();
         self.rows.copy_at(at, looks);
     }
 

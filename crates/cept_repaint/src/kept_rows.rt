@@ -86,7 +86,7 @@ impl KeptRows {
         ensures shows { ((r c : ℕ) → OnScreen r c
             → IsWithout paint (value_at blank_look self.now r c)) → result ≡ false }
     {
-        self.tell_whole();
+        self.whole_by_type();
         for row in 1..25u8 {
             if self.row(row).may_show(paint) {
                 return true;
@@ -104,7 +104,7 @@ impl KeptRows {
     }
 
     /// Tells the prover that there are 24 rows of 40: reading a field opens the model.
-    pub(crate) fn tell_whole(&self)
+    pub(crate) fn whole_by_type(&self)
         ensures { IsTable self.now }
     {
         let _rows = &self.rows;
@@ -117,7 +117,7 @@ impl KeptRows {
         ensures rows { self.new ≡ slice_set self.old (row - 1) looks.now }
         ensures columns { length looks.now ≡ 40 }
     {
-        looks.tell_columns();
+        looks.columns_by_type();
         self.rows[usize::from(row) - 1].copy_from(looks);
     }
 

@@ -66,7 +66,7 @@ impl Marks {
     }
 
     /// Tells the prover that there are 960 flags: reading a field opens the model.
-    pub(crate) fn tell_places(&self)
+    pub(crate) fn places_by_type(&self)
         ensures { length self.now ≡ 960 }
     {
         let _flags = &self.flags;

@@ -135,8 +135,8 @@ fn refresh_place<L: Ledger>(
     ensures cost { steps.new ≡ steps.old + 1 }
     ensures on_screen { OnScreen place.row place.column }
 {
-    kept.tell_whole();
-    marks.tell_places();
+    kept.whole_by_type();
+    marks.places_by_type();
     if resolve_alone(page, place, kept, steps) {
         marks.mark(place);
     }
@@ -191,7 +191,7 @@ fn refresh_rows<L: Ledger>(
     ensures cost { steps.new
         ≡ steps.old + reached_rows strokes.now before.now after.now kept.old kept.new }
 {
-    kept.tell_whole();
+    kept.whole_by_type();
     let touched = rows_touched(strokes);
     let mut covered = false;
     for row in 1..25u8 {
@@ -199,15 +199,7 @@ fn refresh_rows<L: Ledger>(
         if !(changed | covered) {
             continue;
         }
-        covered = refresh_row(
-            page,
-            row,
-            after.is_last(row),
-            kept,
-            fresh,
-            marks,
-            steps,
-        );
+        covered = refresh_row(page, row, after.is_last(row), kept, fresh, marks, steps);
     }
 }
 
@@ -230,7 +222,7 @@ pub(crate) fn refresh_row<L: Ledger>(
     ensures covering { result ≡ is_other_above (looks_in kept.old row) (looks_in kept.new row) }
     ensures tick { steps.new ≡ steps.old + 1 }
 {
-    kept.tell_whole();
+    kept.whole_by_type();
     page.resolve_row(row, kept.above(row), last, fresh, steps);
     let covered = mark_differences(row, kept.row(row), fresh, marks);
     kept.copy_row(row, fresh);
@@ -245,7 +237,7 @@ fn mark_differences(row: u8, was: &RowLooks, fresh: &RowLooks, marks: &mut Marks
     ensures marked { HasMarkedRow was.now fresh.now row 41 marks.old marks.new }
     ensures covering { result ≡ is_other_above was.now fresh.now }
 {
-    marks.tell_places();
+    marks.places_by_type();
     let mut covered = false;
     let mut from = 1;
     while let Some(column) = was.next_difference(fresh, from) {

@@ -29,7 +29,7 @@ pub(crate) fn redraw_all<L: Ledger>(
     ensures ticks { steps.new ≡ steps.old + 24 }
 {
     marks.clear();
-    kept.tell_whole();
+    kept.whole_by_type();
     for row in 1..25u8 {
         let _ = refresh_row(page, row, edges.is_last(row), kept, fresh, marks, steps);
     }

@@ -77,7 +77,7 @@ pub(crate) fn pattern_of<'a>(glyph: &Glyph, patterns: &'a Patterns) -> Option<&'
     requires { IsValidGlyph glyph.now }
     ensures { option_copied result ≡ pattern_of_sign patterns.now glyph.now }
 {
-    patterns.tell_valid();
+    patterns.valid_by_type();
     if matches!(glyph.set, SetId::D) && glyph.code < 0x7F {
         patterns.at(glyph.code)
     } else {

@@ -169,9 +169,9 @@ fn each_plain(
     ensures size { result ≡ true → (c : ℕ) → 1 ≤ c → c ≤ 40
         → sets_double_size (row_in cells.now c) ≡ false }
 {
-    looks.tell_columns();
-    colours.tell_valid();
-    patterns.tell_valid();
+    looks.columns_by_type();
+    colours.valid_by_type();
+    patterns.valid_by_type();
     let blank = small_with(Sign::NOTHING, full, colours);
     for column in 1..41u8 {
         let what = &cells[column as usize - 1].what;
@@ -199,9 +199,9 @@ fn each_under_markers(
         ≡ row_of (look_in_row (drawn_with colours.now patterns.now) (row_in cells.now) row.now
         screen.now) }
 {
-    looks.tell_columns();
-    colours.tell_valid();
-    patterns.tell_valid();
+    looks.columns_by_type();
+    colours.valid_by_type();
+    patterns.valid_by_type();
     let RowSerial { full, held } = serial_cells(cells, row, screen);
     for column in 1..41u8 {
         let k = column as usize - 1;
@@ -231,10 +231,10 @@ fn each_by_part(
         (look_in_row (drawn_with colours.now patterns.now) (row_in cells.now) row.now screen.now)
         (size_in_row (row_in cells.now) row.now screen.now) last }
 {
-    above.tell_columns();
-    looks.tell_columns();
-    colours.tell_valid();
-    patterns.tell_valid();
+    above.columns_by_type();
+    looks.columns_by_type();
+    colours.valid_by_type();
+    patterns.valid_by_type();
     let RowSerial { mut full, held } = serial_cells(cells, row, screen);
     lay_pens(cells, &mut full, row, screen);
     let wants = sizes_in_row(&full);

@@ -78,7 +78,7 @@ impl RowLooks {
 
     /// Tells the prover that there are forty looks: reading a field opens the model.
     #[inline(always)]
-    pub fn tell_columns(&self)
+    pub fn columns_by_type(&self)
         ensures columns { length self.now ≡ 40 }
         ensures valid { (c : ℕ) → 1 ≤ c → c ≤ 40
             → IsValidLook (column_entry blank_look self.now c) }
@@ -253,8 +253,8 @@ impl RowLooks {
         if is_downloaded(what) {
             return self.resolve_downloaded(column, what, row, screen, colours, patterns);
         }
-        colours.tell_valid();
-        patterns.tell_valid();
+        colours.valid_by_type();
+        patterns.valid_by_type();
         let fresh = small_alone(what, row, screen, colours);
         self.replace(column, &fresh)
     }
@@ -284,8 +284,8 @@ impl RowLooks {
             (look_of (drawn_with colours.now patterns.now) row.now screen.now what.now)) }
         ensures columns { length self.old ≡ 40 }
     {
-        colours.tell_valid();
-        patterns.tell_valid();
+        colours.valid_by_type();
+        patterns.valid_by_type();
         let fresh = small_of_any(what, row, screen, colours, patterns);
         let drawing = drawing_of(what, colours, patterns);
         let k = column as usize - 1;
@@ -320,7 +320,7 @@ impl RowLooks {
         ensures valid { (c : ℕ) → 1 ≤ c → c ≤ 40
             → IsValidPart (column_entry single_part result.parts c) }
     {
-        self.tell_columns();
+        self.columns_by_type();
         let mut parts = Parts::flat().parts;
         for column in 1..41u8 {
             parts[column as usize - 1] = self.small(column).part;

@@ -2,22 +2,9 @@
 //! the report on standard output.
 #![tactic(auto)]
 
-mod decoder;
-mod easel;
-mod edits;
-mod generated;
-mod laws;
-mod page;
-mod reporter;
-mod run;
-mod script;
-#[cfg(test)]
-mod tests;
-mod words;
-
 use cept_outside::{FileShelf, StdSink};
 use cept_repaint::GridGlass;
-use run::{Status, run};
+use cept_run::run::{Status, run};
 use std::io::ErrorKind;
 use std::process::ExitCode;
 use std::{env, io};

@@ -46,6 +46,7 @@ pub fn put_colours<T: Sink>(sink: &mut T, screen: &Screen) -> Result<(), WriteFa
         PutsText (T.state sink.old) text result (T.state sink.new) }
 {
     validity_is_kept();
+    // What this call promises is asked for: that the state of the screen is valid.
     let _rows = screen.rows();
     let mut list = Commands::new();
     list.add(Command::ColourHeader(false));

@@ -7,7 +7,7 @@ use Rattle.cept_repaint.proofs.redraw.mark_differences.Goals as goal
 
 pub loop-column-init : goal.loop-column-init
 loop-column-init c =
-    ComparedSoFar-none c.args.was.now c.args.fresh.now c.args.row c.args.marks.now c.tell_places.ensures
+    ComparedSoFar-none c.args.was.now c.args.fresh.now c.args.row c.args.marks.now c.places_by_type.ensures
 
 pub loop-column-preserved : goal.loop-column-preserved
 loop-column-preserved c =

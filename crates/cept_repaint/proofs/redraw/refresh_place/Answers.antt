@@ -8,7 +8,7 @@ pub returns-then-resolve_alone-clause-kept : goal.returns-then-resolve_alone-cla
 returns-then-resolve_alone-clause-kept g c = λ k others.
     let on = c.resolve_alone.ensures.on_screen in
     let refreshed = IsRefreshed-place c.args.kept.now c.resolve_alone.new.kept c.args.marks.now c.mark.new.self
-    c.args.place (look_alone c.args.page.now c.args.place) true c.tell_places.ensures on
+    c.args.place (look_alone c.args.page.now c.args.place) true c.places_by_type.ensures on
     (sym c.if-resolve_alone.true ∙ c.resolve_alone.ensures.differs) c.resolve_alone.ensures.looks c.mark.ensures in
     looks-refreshed c.args.page.now k c.args.kept.now c.resolve_alone.new.kept c.args.marks.now c.mark.new.self
     c.args.place c.requires.valid on c.requires.alone refreshed others
@@ -17,7 +17,7 @@ pub returns-then-resolve_alone-clause-marks : goal.returns-then-resolve_alone-cl
 returns-then-resolve_alone-clause-marks g c =
     let fresh = look_alone c.args.page.now c.args.place in
     let refreshed = IsRefreshed-place c.args.kept.now c.resolve_alone.new.kept c.args.marks.now c.mark.new.self
-    c.args.place fresh true c.tell_places.ensures c.resolve_alone.ensures.on_screen
+    c.args.place fresh true c.places_by_type.ensures c.resolve_alone.ensures.on_screen
     (sym c.if-resolve_alone.true ∙ c.resolve_alone.ensures.differs) c.resolve_alone.ensures.looks c.mark.ensures in
     IsRefreshed-marks (λ _ _. fresh) c.args.kept.now c.resolve_alone.new.kept c.args.marks.now c.mark.new.self _ _
     c.requires.none refreshed
@@ -26,7 +26,7 @@ pub returns-else-resolve_alone-clause-kept : goal.returns-else-resolve_alone-cla
 returns-else-resolve_alone-clause-kept g c = λ k others.
     let on = c.resolve_alone.ensures.on_screen in
     let refreshed = IsRefreshed-place c.args.kept.now c.resolve_alone.new.kept c.args.marks.now c.args.marks.now
-    c.args.place (look_alone c.args.page.now c.args.place) false c.tell_places.ensures on
+    c.args.place (look_alone c.args.page.now c.args.place) false c.places_by_type.ensures on
     (sym c.if-resolve_alone.false ∙ c.resolve_alone.ensures.differs) c.resolve_alone.ensures.looks refl in
     looks-refreshed c.args.page.now k c.args.kept.now c.resolve_alone.new.kept c.args.marks.now c.args.marks.now
     c.args.place c.requires.valid on c.requires.alone refreshed others
@@ -35,7 +35,7 @@ pub returns-else-resolve_alone-clause-marks : goal.returns-else-resolve_alone-cl
 returns-else-resolve_alone-clause-marks g c =
     let fresh = look_alone c.args.page.now c.args.place in
     let refreshed = IsRefreshed-place c.args.kept.now c.resolve_alone.new.kept c.args.marks.now c.args.marks.now
-    c.args.place fresh false c.tell_places.ensures c.resolve_alone.ensures.on_screen
+    c.args.place fresh false c.places_by_type.ensures c.resolve_alone.ensures.on_screen
     (sym c.if-resolve_alone.false ∙ c.resolve_alone.ensures.differs) c.resolve_alone.ensures.looks refl in
     IsRefreshed-marks (λ _ _. fresh) c.args.kept.now c.resolve_alone.new.kept c.args.marks.now c.args.marks.now _ _
     c.requires.none refreshed

@@ -16,13 +16,13 @@ returns-clause-refreshed g c =
     (c.resolve_row.ensures.looks
     ∙ ap (λ (above : List Look). row_beneath above c.args.page.now c.args.row c.args.last) c.above.ensures)
     (IsRefreshedRow-made c.args.kept.now c.copy_row.new.self c.args.marks.now marks c.args.row fresh
-    c.tell_whole.ensures c.copy_row.ensures.columns c.requires.from_top c.requires.to_bottom c.copy_row.ensures.rows
+    c.whole_by_type.ensures c.copy_row.ensures.columns c.requires.from_top c.requires.to_bottom c.copy_row.ensures.rows
     marked)
 
 pub returns-clause-covering : goal.returns-clause-covering
 returns-clause-covering g c =
     let fresh : List Look = c.resolve_row.new.looks in
     let row = ap (λ (t : List (List Look)). looks_in t c.args.row) c.copy_row.ensures.rows
-    ∙ looks_in-set c.args.kept.now c.args.row fresh c.tell_whole.ensures c.requires.from_top c.requires.to_bottom in
+    ∙ looks_in-set c.args.kept.now c.args.row fresh c.whole_by_type.ensures c.requires.from_top c.requires.to_bottom in
     c.mark_differences-covered.ensures.covering ∙ ap (λ (l : List Look). is_other_above l fresh) c.row.ensures
     ∙ ap (is_other_above (looks_in c.args.kept.now c.args.row)) (sym row)

@@ -11,7 +11,7 @@ use Rattle.cept_repaint.proofs.redraw.refresh_rows.Goals as goal
 pub loop-row-init : goal.loop-row-init
 loop-row-init g c = λ k _.
     WalkedTo-first c.args.strokes.now c.args.before.now (core_on k c.args.page.now) c.args.kept.now
-    c.args.marks.now c.args.steps.now c.tell_whole.ensures c.requires.none
+    c.args.marks.now c.args.steps.now c.whole_by_type.ensures c.requires.none
 
 pub loop-row-preserved-then-not-changed-covered : goal.loop-row-preserved-then-not-changed-covered
 loop-row-preserved-then-not-changed-covered g c = λ k same.
@@ -20,7 +20,7 @@ loop-row-preserved-then-not-changed-covered g c = λ k same.
     ∙ ap (λ n. get_or (list_by_index 1 24 (one_touches c.args.strokes.now)) (n - 1) false) c.from.ensures
     ∙ sym (entry_from false 1 (list_by_index 1 24 (one_touches c.args.strokes.now)) row c.loop-row.auto.row)
     ∙ entry-list_by_index false 1 24 (one_touches c.args.strokes.now) row c.loop-row.auto.row (omega arith) in
-    WalkedTo-kept (c.loop-row.invariant k same) c.tell_whole.ensures c.loop-row.auto.row (omega arith)
+    WalkedTo-kept (c.loop-row.invariant k same) c.whole_by_type.ensures c.loop-row.auto.row (omega arith)
     (c.requires.others k same)
     (reached_by c.args.strokes.now c.args.before.now (edges_of_core k) row _ c.is_last_under_one.result c.loop-row.covered false
     touched (c.is_last_under_one.ensures
@@ -36,7 +36,7 @@ loop-row-preserved g c = λ k same.
     let reached = reached_by c.args.strokes.now c.args.before.now (edges_of_core k) row _ c.is_last_under_one.result
     c.loop-row.covered true touched (c.is_last_under_one.ensures
     ∙ ap (λ (e : Edges). is_last_under_one c.args.before.now e row) (sym same)) c.if-not-changed-covered.false in
-    WalkedTo-more (c.loop-row.invariant k same) c.tell_whole.ensures c.loop-row.auto.row (omega arith) reached
+    WalkedTo-more (c.loop-row.invariant k same) c.whole_by_type.ensures c.loop-row.auto.row (omega arith) reached
     c.is_last.result (c.is_last.ensures ∙ ap (λ (e : Edges). is_last e row) (sym same)) c.refresh_row-covered.new.kept c.refresh_row-covered.new.marks
     c.refresh_row-covered.result c.refresh_row-covered.new.steps c.refresh_row-covered.ensures.refreshed
     c.refresh_row-covered.ensures.covering c.refresh_row-covered.ensures.tick

@@ -7,7 +7,7 @@ use Rattle.cept_repaint.proofs.redraw_all.redraw_all.Goals as goal
 pub loop-row-init : goal.loop-row-init
 loop-row-init g c = λ k _.
     RestoredTo-first (core_on k c.args.page.now) c.args.kept.now c.clear.new.self c.args.steps.now
-    c.tell_whole.ensures c.clear.ensures
+    c.whole_by_type.ensures c.clear.ensures
 
 pub loop-row-preserved : goal.loop-row-preserved
 loop-row-preserved g c = λ k same.

@@ -36,7 +36,7 @@ keep_part-requires-clause-held c =
 
 pub loop-column-init : goal.loop-column-init
 loop-column-init c = record {
-  row = HasMadeEntries-none blank_look 1 40 _ _ c.tell_columns-2.ensures.columns;
+  row = HasMadeEntries-none blank_look 1 40 _ _ c.columns_by_type-2.ensures.columns;
   left = ap small_of (sym (look_from-0 (column_entry blank_look c.args.above.now)
       (look_in_row (drawn_with c.args.colours.now c.args.patterns.now) (row_in c.args.cells.now) c.args.row.now
       c.args.screen.now)
@@ -59,7 +59,7 @@ tiled : (c : After-small_by_part-look)
     → IsTiledBeneath c.args.above.now c.args.cells.now c.args.row.now c.args.screen.now c.args.last
     c.parts.result.parts c.sizes_in_row-wants.result.sizes c.tile_row-tiled.result.parts
 tiled c = record {
-  columns = c.tell_columns.ensures.columns;
+  columns = c.columns_by_type.ensures.columns;
   parts_above = c.parts.ensures.parts;
   wanted = c.sizes_in_row-wants.ensures c.args.cells.now c.args.row.now c.args.screen.now c.lay_pens.ensures;
   parts = c.tile_row-tiled.ensures.row;
@@ -84,9 +84,9 @@ valid : (c : After-small_by_part-look) → IsValidLook (wanted c c.loop-column.c
 valid c =
     let defined = drawn_with c.args.colours.now c.args.patterns.now in
     IsValidLook-look_from c.args.above.now (own c)
-    (size_in_row (row_in c.args.cells.now) c.args.row.now c.args.screen.now) c.args.last c.tell_columns.ensures.valid
+    (size_in_row (row_in c.args.cells.now) c.args.row.now c.args.screen.now) c.args.last c.columns_by_type.ensures.valid
     (λ d from to. IsValidLook-cell defined (row_in c.args.cells.now) c.args.row.now c.args.screen.now
-    (AreValidDefinitions-kept defined c.tell_valid.ensures c.tell_valid-2.ensures.codes c.tell_valid-2.ensures.valid)
+    (AreValidDefinitions-kept defined c.valid_by_type.ensures c.valid_by_type-2.ensures.codes c.valid_by_type-2.ensures.valid)
     c.requires.cells d from to) c.loop-column.column c.loop-column.auto.column (omega arith)
 
 -- the shape that is kept

@@ -47,7 +47,7 @@ valid : (c : After-small_under-look) → IsValidLook (wanted c)
 valid c =
     let defined = drawn_with c.args.colours.now c.args.patterns.now in
     IsValidLook-cell defined (row_in c.args.cells.now) c.args.row.now c.args.screen.now
-    (AreValidDefinitions-kept defined c.tell_valid.ensures c.tell_valid-2.ensures.codes c.tell_valid-2.ensures.valid)
+    (AreValidDefinitions-kept defined c.valid_by_type.ensures c.valid_by_type-2.ensures.codes c.valid_by_type-2.ensures.valid)
     c.requires.cells c.loop-column.column c.loop-column.auto.column (omega arith)
 
 pub keep-requires-clause-small : goal.keep-requires-clause-small

@@ -18,4 +18,4 @@ pub returns-else-free-clause-cells : goal.returns-else-free-clause-cells
 returns-else-free-clause-cells c =
     let kept : (value_at blank_cell c.args.self.now c.args.place.row c.args.place.column).protected
     ≡ true = ap (λ (x : Cell). x.protected) (sym c.get-free.ensures) ∙ not-false _ c.if-free.false in
-    cells_after-put_kept c.tell_whole.ensures c.args.place c.args.cell kept
+    cells_after-put_kept c.whole_by_type.ensures c.args.place c.args.cell kept

@@ -19,7 +19,7 @@ invariant_of-self c =
       valid = subst (λ (g : List (List Look)). IsValidGrid g) (sym c.copy_at.ensures)
           (IsValidGrid-grid_with_paint c.args.self.now.valid c.args.at
           (column_entry blank_look c.row_looks-looks.result.now c.args.at.column)
-          (c.tell_columns.ensures.valid c.args.at.column on.from_left on.to_right));
+          (c.columns_by_type.ensures.valid c.args.at.column on.from_left on.to_right));
     }
 
 pub returns : goal.returns

@@ -19,7 +19,7 @@ loop-row-preserved c = λ r column on below.
           subst (λ n. IsWithout c.args.paint (value_at blank_look c.args.self.now n column)) (sym same)
           (subst (λ (l : Look). IsWithout c.args.paint l)
           (ap (λ (looks : List Look). column_entry blank_look looks column) c.row.ensures
-          ∙ look_seen-at c.args.self.now c.loop-row.row column c.tell_whole.ensures (rw same at on))
+          ∙ look_seen-at c.args.self.now c.loop-row.row column c.whole_by_type.ensures (rw same at on))
           (c.may_show.ensures.lacks c.if-may_show.false column on.from_left on.to_right))
       | inr other ↦ c.loop-row.invariant r column on (omega (arith, below, other))
     ]
@@ -36,7 +36,7 @@ returns-then-may_show-clause-shows c = λ without.
     } in
     subst (λ (l : Look). IsWithout c.args.paint l)
     (sym (ap (λ (looks : List Look). column_entry blank_look looks column) c.row.ensures
-    ∙ look_seen-at c.args.self.now c.loop-row.row column c.tell_whole.ensures on)) (without c.loop-row.row column on))
+    ∙ look_seen-at c.args.self.now c.loop-row.row column c.whole_by_type.ensures on)) (without c.loop-row.row column on))
 
 pub returns-clause-lacks : goal.returns-clause-lacks
 returns-clause-lacks c = λ none r column on. c.loop-row.invariant r column on (omega (arith, on.to_bottom, c.loop-row-test.false))

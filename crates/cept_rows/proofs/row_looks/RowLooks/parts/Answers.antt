@@ -20,4 +20,4 @@ returns-clause-valid c column low high =
     let part : ℕ → Part = λ d. part_of (column_entry blank_look c.args.self.now d) in
     subst IsValidPart
     (sym (ap (λ l. column_entry single_part l column) (whole c) ∙ column_entry-row_of single_part part column low high))
-    (c.tell_columns.ensures.valid column low high).part
+    (c.columns_by_type.ensures.valid column low high).part

@@ -28,7 +28,7 @@ replace-requires-clause-small g c =
     plain_small c.small_alone-fresh.result (look_of defined c.args.row.now c.args.screen.now c.args.what.now)
     (c.small_alone-fresh.ensures c.args.patterns.now) (replace-requires-clause-plain g c)
     (IsValidLook-look_of defined c.args.row.now c.args.screen.now c.args.what.now
-    (AreValidDefinitions-kept defined c.tell_valid.ensures c.tell_valid-2.ensures.codes c.tell_valid-2.ensures.valid)
+    (AreValidDefinitions-kept defined c.valid_by_type.ensures c.valid_by_type-2.ensures.codes c.valid_by_type-2.ensures.valid)
     c.requires.valid)
 
 pub returns-clause-looks : goal.returns-clause-looks

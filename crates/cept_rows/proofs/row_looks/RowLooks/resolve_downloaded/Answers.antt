@@ -17,14 +17,14 @@ same_with-differs-requires-clause-b c =
     let defined = drawn_with c.args.colours.now c.args.patterns.now in
     any_small c.small_of_any-fresh.result c.drawing_of-drawing.result defined c.args.row.now c.args.screen.now
     c.args.what.now c.small_of_any-fresh.ensures c.drawing_of-drawing.ensures
-    (AreValidDefinitions-kept defined c.tell_valid.ensures c.tell_valid-2.ensures.codes c.tell_valid-2.ensures.valid) c.requires.valid
+    (AreValidDefinitions-kept defined c.valid_by_type.ensures c.valid_by_type-2.ensures.codes c.valid_by_type-2.ensures.valid) c.requires.valid
 
 pub put_drawn-requires-clause-small : goal.put_drawn-requires-clause-small
 put_drawn-requires-clause-small c =
     let defined = drawn_with c.args.colours.now c.args.patterns.now in
     any_small c.small_of_any-fresh.result c.drawing_of-drawing.result defined c.args.row.now c.args.screen.now
     c.args.what.now c.small_of_any-fresh.ensures c.drawing_of-drawing.ensures
-    (AreValidDefinitions-kept defined c.tell_valid.ensures c.tell_valid-2.ensures.codes c.tell_valid-2.ensures.valid) c.requires.valid
+    (AreValidDefinitions-kept defined c.valid_by_type.ensures c.valid_by_type-2.ensures.codes c.valid_by_type-2.ensures.valid) c.requires.valid
 
 pub returns-clause-looks : goal.returns-clause-looks
 returns-clause-looks c =

@@ -1,0 +1,185 @@
+-- What stands after a page and the edits of a script, if one was asked for.
+use Rattle.std.proofs.Common.{◌≡◌, ℕ, Bool, true, false, cond, List, [], arith}
+use Rattle.std.proofs.Common.{Option, Some, None, Result, Ok, Err, refl, sym, ◌∙◌, ap, subst}
+use Rattle.cept_codes.specs.declared.command.Command.{Command}
+use Rattle.cept_codes.specs.declared.item.Item.{Item}
+use Rattle.cept_editor.specs.Events.{Event}
+use Rattle.cept_editor.specs.Kept.{KeptEdits, none_kept, remaining, EditorState, StandsAfter, editor_after}
+use Rattle.cept_editor.specs.Made.{Output, AreMade, AreCutOff}
+use Rattle.cept_editor.specs.Script.{EditLine}
+use Rattle.cept_editor.proofs.Laws.{AreMade-append, AreCutOff-after, remaining-none, states_before-none}
+use Rattle.cept_profile.specs.State.{State, state}
+use Rattle.cept_profile.specs.Valid.{AllValid}
+use Rattle.cept_run.specs.declared.easel.Easel.TheVariants as easels
+use Rattle.cept_run.specs.Events.{history, item_events, script_events, edited_events, kept_of}
+use Rattle.cept_run.specs.Reporting.{Plan, lines_if_any, lines_of, ReporterState, painted_easel, easel_at, screen_of}
+use Rattle.cept_run.specs.Reporting.{HasReported, HasMadeLines, MakesLines, remaining_at_end, StandsAtEnd, HasEdited, EditsOn}
+use Rattle.cept_run.proofs.EditedLines.{edited_events-none, kept_of-none}
+use Rattle.cept_run.proofs.ReportedItems.{screen_painted, editor_painted, not_idle, editor_with}
+
+-- ---- what is asked for, by what commands are applied to
+
+module _ (plan : Plan) (h : List Command) where
+  nothing_asked : easels.Nothing ≡ easel_at plan h → plan.asked.painting ≡ false
+  nothing_asked e = by_flag plan.asked.painting e
+    where
+      by_flag : (b : Bool) → easels.Nothing ≡ cond b (painted_easel plan.script h) easels.Nothing → b ≡ false
+      by_flag true f = absurd (not_idle plan.script h f)
+      by_flag false f = refl
+
+  unasked : easels.Nothing ≡ easel_at plan h → lines_of plan ≡ []
+  unasked e = ap (λ b. cond b (lines_if_any plan.script) []) (nothing_asked e)
+
+  alone : (screen : State) → easels.Screen screen ≡ easel_at plan h → lines_of plan ≡ []
+  alone screen e = by_flag plan.asked.painting e
+    where
+      by_flag : (b : Bool) → easels.Screen screen ≡ cond b (painted_easel plan.script h) easels.Nothing
+          → cond b (lines_if_any plan.script) [] ≡ []
+      by_flag true f = ap lines_if_any (screen_painted plan.script screen h f).0
+      by_flag false f = refl
+
+  with_editor : (editor : EditorState) (lines : List EditLine) → easels.Editor editor lines ≡ easel_at plan h
+      → (plan.asked.painting ≡ true) × (lines_of plan ≡ lines) × (editor ≡ record { screen = state h; past = [] })
+  with_editor editor lines e = by_flag plan.asked.painting refl e
+    where
+      by_flag : (b : Bool) → plan.asked.painting ≡ b
+          → easels.Editor editor lines ≡ cond b (painted_easel plan.script h) easels.Nothing
+          → (plan.asked.painting ≡ true) × (lines_of plan ≡ lines) × (editor ≡ record { screen = state h; past = [] })
+      by_flag true is f =
+          let there = editor_painted plan.script editor lines h f in
+          (is, ap (λ c. cond c (lines_if_any plan.script) []) is ∙ ap lines_if_any there.0, there.1)
+      by_flag false is f = cc
+
+  screen_there : screen_of (easel_at plan h) ≡ cond plan.asked.painting (Some (state h)) None
+  screen_there = by_flag plan.asked.painting
+    where
+      on_painted : (script : Option (List EditLine)) → screen_of (painted_easel script h) ≡ Some (state h)
+      on_painted None = refl
+      on_painted (Some lines) = refl
+
+      by_flag : (b : Bool) → screen_of (cond b (painted_easel plan.script h) easels.Nothing) ≡ cond b (Some (state h)) None
+      by_flag true = on_painted plan.script
+      by_flag false = refl
+
+-- ---- no edits are made
+
+pub unedited : (plan : Plan) (reporter : ReporterState) (reported : List Item) (start now : Output)
+    → lines_of plan ≡ [] → HasReported plan reporter reported start now → HasEdited plan reporter reported start now
+unedited plan reporter reported start now none has =
+    let h = history plan.asked reported in
+    let same : h ≡ remaining_at_end plan reported =
+    sym (ap (λ l. remaining h (kept_of l)) none ∙ ap (remaining h) kept_of-none ∙ remaining-none h) in
+    record {
+      stands = record {
+        asked_is = has.stands.asked_is;
+        screen = ap screen_of has.stands.easel ∙ screen_there plan h
+            ∙ ap (λ (c : List Command). cond plan.asked.painting (Some (state c)) None) same;
+        items = has.stands.items;
+        refused = has.stands.refused;
+        painted = has.stands.painted;
+      };
+      valid = subst AllValid same has.stands.valid;
+      made = subst (λ (es : List Event). AreMade es start now)
+          (sym (ap (edited_events plan.asked reported) none ∙ edited_events-none plan.asked reported)) has.made;
+      stays = has.stays;
+    }
+
+pub edits_nowhere : {X E : Type 0} {x : X} (old : ReporterState) (o : Output) (none : old.easel ≡ easels.Nothing)
+    → EditsOn {E = E} old o (Ok x) old o
+edits_nowhere old o none = record {
+  counted = refl;
+  edited = λ plan reported start has.
+      unedited plan old reported start o (unasked plan (history plan.asked reported) (sym none ∙ has.stands.easel)) has;
+  cut = tt;
+}
+
+pub edits_unasked : {X E : Type 0} {x : X} (old : ReporterState) (o : Output) (screen : State)
+    (is : old.easel ≡ easels.Screen screen) → EditsOn {E = E} old o (Ok x) old o
+edits_unasked old o screen is = record {
+  counted = refl;
+  edited = λ plan reported start has.
+      unedited plan old reported start o (alone plan (history plan.asked reported) screen (sym is ∙ has.stands.easel))
+      has;
+  cut = tt;
+}
+
+-- ---- edits are made
+
+-- the reporter, with the editor after them
+abbrev pub with_editor_after : ReporterState → EditorState → List EditLine → ReporterState
+with_editor_after old editor lines = record {
+  asked = old.asked;
+  easel = easels.Editor editor lines;
+  items = old.items;
+  refused = old.refused;
+  painted = old.painted;
+}
+
+module _ (old : ReporterState) (editor new : EditorState) (lines : List EditLine) (before after : Output)
+    (at : old.easel ≡ easels.Editor editor lines) (plan : Plan) (reported : List Item) (start : Output)
+    (has : HasReported plan old reported start before) where
+  abbrev page : List Command
+  page = history plan.asked reported
+
+  abbrev there : (plan.asked.painting ≡ true) × (lines_of plan ≡ lines) × (editor ≡ record { screen = state page; past = [] })
+  there = with_editor plan page editor lines (sym at ∙ has.stands.easel)
+
+  flag_is : old.asked.edits_listed ≡ plan.asked.edits_listed
+  flag_is = ap (λ a. a.edits_listed) has.stands.asked_is
+
+  stands_alone : StandsAfter editor page none_kept
+  stands_alone = subst (λ (e : EditorState). StandsAfter e page none_kept) (sym there.2) (record {
+    valid = subst AllValid (sym (remaining-none page)) has.stands.valid;
+    some = tt;
+    within = omega arith;
+    is = sym (editor_with (editor_after page none_kept) (state page) [] (ap state (remaining-none page))
+        (states_before-none page));
+  })
+
+  all_made : HasMadeLines old.asked.edits_listed page lines new before after
+      → HasEdited plan (with_editor_after old new lines) reported start after
+  all_made made =
+      let is : lines ≡ lines_of plan = sym there.1 in
+      let end : AreMade (script_events plan.asked.edits_listed page (lines_of plan)) before after =
+      subst (λ (l : List EditLine). AreMade (script_events plan.asked.edits_listed page l) before after) is
+      (subst (λ b. AreMade (script_events b page lines) before after) flag_is made.made) in
+      let stands = subst (λ (l : List EditLine). StandsAfter new page (kept_of l)) is made.stands in
+      record {
+        stands = record {
+          asked_is = has.stands.asked_is;
+          screen = ap (λ (e : EditorState). Some e.screen) stands.is
+              ∙ ap (λ b. cond b (Some (state (remaining_at_end plan reported))) None) (sym there.0);
+          items = has.stands.items;
+          refused = has.stands.refused;
+          painted = has.stands.painted;
+        };
+        valid = stands.valid;
+        made = AreMade-append (item_events plan.asked reported)
+            (script_events plan.asked.edits_listed page (lines_of plan)) start before after has.made end;
+        stays = made.stays ∙ has.stays;
+      }
+
+  one_cut : AreCutOff (script_events old.asked.edits_listed page lines) before after
+      → AreCutOff (edited_events plan.asked reported (lines_of plan)) start after
+  one_cut off =
+      AreCutOff-after (item_events plan.asked reported) (script_events plan.asked.edits_listed page (lines_of plan)) start
+      before after has.made has.stays
+      (subst (λ (l : List EditLine). AreCutOff (script_events plan.asked.edits_listed page l) before after) (sym there.1)
+      (subst (λ b. AreCutOff (script_events b page lines) before after) flag_is off))
+
+pub edits_made : {X E : Type 0} (old : ReporterState) (editor new : EditorState) (lines : List EditLine)
+    (before after : Output) (result : Result X E) → old.easel ≡ easels.Editor editor lines
+    → MakesLines {X = X} {E = E} old.asked.edits_listed lines editor before result new after
+    → EditsOn old before result (with_editor_after old new lines) after
+edits_made old editor new lines before after (Ok x) at makes = record {
+  counted = refl;
+  edited = λ plan reported start has. all_made old editor new lines before after at plan reported start has
+      (makes.made (history plan.asked reported) (stands_alone old editor new lines before after at plan reported start has));
+  cut = tt;
+}
+edits_made old editor new lines before after (Err f) at makes = record {
+  counted = refl;
+  edited = tt;
+  cut = λ plan reported start has. one_cut old editor new lines before after at plan reported start has
+      (makes.cut (history plan.asked reported) (stands_alone old editor new lines before after at plan reported start has));
+}

@@ -1,0 +1,61 @@
+-- The text at the end, by what is asked for.
+use Rattle.std.proofs.Common.{◌≡◌, ℕ, Bool, true, false, cond, List, Option, Some, None, length, Result, refl, sym}
+use Rattle.std.proofs.Common.{◌∙◌, ap, subst}
+use Rattle.std.proofs.lemmas.Option.{none-some, same_Some}
+use Rattle.cept_codes.specs.declared.command.Command.{Command}
+use Rattle.cept_codes.specs.declared.look.Look.{Look}
+use Rattle.cept_outside.specs.SinkState.{SinkState, PutsText}
+use Rattle.cept_parser.specs.Items.{closed_items}
+use Rattle.cept_profile.specs.State.{State, state}
+use Rattle.cept_report.specs.Text.{check_line}
+use Rattle.cept_run.specs.declared.words.Asked.{Asked}
+use Rattle.cept_run.specs.declared.words.End.{End}
+use Rattle.cept_run.specs.Events.{painted_end, text_at_end, refused_count}
+use Rattle.cept_run.specs.Reporting.{Plan, ReporterState, StandsAtEnd, remaining_at_end, screen_of}
+
+-- the end that is asked for is this one
+pub end_as : {X E : Type 0} (one other : End) (asked : Asked) (shown : List (List Look)) (page : List ℕ)
+    (commands : List Command) (s t : SinkState) (result : Result X E) → one ≡ other
+    → PutsText s (painted_end one asked shown page commands) result t
+    → PutsText s (painted_end other asked shown page commands) result t
+end_as one other asked shown page commands s t result is puts =
+    subst (λ (e : End). PutsText s (painted_end e asked shown page commands) result t) is puts
+
+module _ (plan : Plan) (reporter : ReporterState) (page : List ℕ)
+    (stands : StandsAtEnd plan reporter (closed_items page)) where
+  abbrev all : List Command
+  all = remaining_at_end plan (closed_items page)
+
+  -- there is a screen where commands are painted
+  pub screen_is : (screen : State) → Some screen ≡ screen_of reporter.easel
+      → (plan.asked.painting ≡ true) × (screen ≡ state all)
+  screen_is screen is = by_flag plan.asked.painting refl (is ∙ stands.screen)
+    where
+      by_flag : (b : Bool) → plan.asked.painting ≡ b → Some screen ≡ cond b (Some (state all)) None
+          → (plan.asked.painting ≡ true) × (screen ≡ state all)
+      by_flag true p e = (p, same_Some screen (state all) e)
+      by_flag false p e = absurd (none-some screen (sym e))
+
+  pub no_screen : None ≡ screen_of reporter.easel → plan.asked.painting ≡ false
+  no_screen is = by_flag plan.asked.painting (is ∙ stands.screen)
+    where
+      by_flag : (b : Bool) → None ≡ cond b (Some (state all)) None → b ≡ false
+      by_flag true e = absurd (none-some (state all) e)
+      by_flag false e = refl
+
+  -- so the text at the end is one or the other
+  pub painted_text : {X E : Type 0} (shown : List (List Look)) (s t : SinkState) (result : Result X E)
+      → plan.asked.painting ≡ true → PutsText s (painted_end plan.asked.end plan.asked shown page all) result t
+      → PutsText s (text_at_end plan.asked shown page all) result t
+  painted_text shown s t result is puts =
+      subst (λ b. PutsText s (cond b (painted_end plan.asked.end plan.asked shown page all)
+      (check_line (length (closed_items page)) (refused_count (closed_items page)))) result t) (sym is) puts
+
+  pub counted_text : {X E : Type 0} (shown : List (List Look)) (s t : SinkState) (result : Result X E)
+      → plan.asked.painting ≡ false → PutsText s (check_line reporter.items reporter.refused) result t
+      → PutsText s (text_at_end plan.asked shown page all) result t
+  counted_text shown s t result is puts =
+      subst (λ b. PutsText s (cond b (painted_end plan.asked.end plan.asked shown page all)
+      (check_line (length (closed_items page)) (refused_count (closed_items page)))) result t) (sym is)
+      (subst (λ n. PutsText s (check_line n (refused_count (closed_items page))) result t) stands.items
+      (subst (λ n. PutsText s (check_line reporter.items n) result t) stands.refused puts))

@@ -1,0 +1,368 @@
+-- How a run ends by its page.
+use Rattle.std.proofs.Common.{◌≡◌, ◌≢◌, ◌⊎◌, inl, inr, ℕ, ◌^◌, ◌<◌, ◌≤◌, Bool, true, false, cond, List, [], ◌∷◌, ◌++◌, take}
+use Rattle.std.proofs.Common.{Option, Some, None, IsSome, Result, Ok, Err, refl, sym, ◌∙◌, ap, subst, arith}
+use Rattle.std.proofs.Common.{append_assoc, length}
+use Rattle.std.proofs.lemmas.Option.{none-some, same_Some}
+use Rattle.cept_codes.specs.declared.command.Command.{Command}
+use Rattle.cept_codes.specs.declared.item.Item.{Item}
+use Rattle.cept_editor.specs.Events.{Event}
+use Rattle.cept_editor.specs.Kept.{remaining}
+use Rattle.cept_editor.specs.Made.{AreStill, output_of, AreMade, AreCutOff}
+use Rattle.cept_editor.specs.Script.{EditLine, Fault, edits, first_fault}
+use Rattle.cept_editor.proofs.Laws.{AreCutOff-longer, cut_untouched}
+use Rattle.cept_outside.specs.Causes.{Rose, HasCause}
+use Rattle.cept_outside.specs.ShelfState.{ShelfState, Holds, Selects, IsSound}
+use Rattle.cept_outside.specs.SinkState.{SinkState, HasPut}
+use Rattle.cept_outside.proofs.Laws.{HasPut-nothing}
+use Rattle.cept_parser.specs.Items.{items, closed_items}
+use Rattle.cept_profile.specs.State.{core}
+use Rattle.cept_profile.specs.Valid.{AllValid}
+use Rattle.cept_writer.specs.PageCommands.{page_text}
+use Rattle.cept_run.specs.declared.page.Stop.{Stop}
+use Rattle.cept_run.specs.declared.page.Stop.TheVariants as stops
+use Rattle.cept_run.specs.declared.run.Status.{Status}
+use Rattle.cept_run.specs.declared.run.Status.TheVariants as statuses
+use Rattle.cept_run.specs.declared.words.Asked.{Asked}
+use Rattle.cept_run.specs.Course.{Course, Source, File, Given, Gives, HasBytes, IsNamed, reporting}
+use Rattle.cept_run.specs.Events.{history, item_events, text_at_end, end_event, edited_events, remaining_of, script_events}
+use Rattle.cept_run.specs.Events.{kept_of, has_refusal}
+use Rattle.cept_run.specs.Outside.{Outside, outside_of, output, PutsWhole}
+use Rattle.cept_run.specs.Page.{PageUnput, PageStops, PutsEnd, KeepsShelf}
+use Rattle.cept_run.specs.Reporting.{Plan, lines_if_any, lines_of, remaining_at_end}
+use Rattle.cept_run.specs.Run.{is_flushed, fault_text, Restores, EndsWhole, IsReportCut, HasStopper, PutsAtMost, Ends}
+use Rattle.cept_run.specs.Run.{RunsCourse, status_of, status_at_end}
+use Rattle.cept_run.specs.ScriptReading.{ScriptKnown}
+use Rattle.cept_run.proofs.EditedLines.{edited_events-none}
+use Rattle.cept_run.proofs.EventsOfItems.{item_events-append, events_after}
+use Rattle.cept_run.proofs.PagesInPieces.{KeepsFiles-more, nil_from_length}
+use Rattle.cept_run.proofs.PaintedItems.{still_idle}
+use Rattle.cept_run.proofs.ReportedFronts.{reports_front, reports_nothing, made_nothing}
+use Rattle.cept_run.proofs.ReportedRuns.{put_made, put_cut, all, edited, the_end, the_run, whole_report}
+use Rattle.cept_run.proofs.ReportedRuns.{cut_at_end, put_to_end}
+use Rattle.cept_run.proofs.Selections.{nothing_selected, selected_is, given_left, under_same, holds_still}
+use Rattle.cept_run.proofs.Selections.{gives_still}
+use Rattle.cept_run.proofs.StoppedScripts.{selected_so_long, name_in}
+
+-- ---- the script was read
+
+module _ (plan : Plan) (name : List ℕ) (script : Source) (told : List ℕ) (before : Outside) (ready : ShelfState)
+    (known : ScriptKnown name script told before.shelf ready) where
+  abbrev asked : Asked
+  asked = plan.asked
+
+  abbrev course : Course
+  course = reporting asked (File name) script
+
+  -- the bytes of the script, where the shelf tells them
+  told_are : (other bytes : List ℕ) → script ≡ File other → Gives before.shelf other bytes → told ≡ bytes
+  told_are other bytes named = subst (λ (s : Source). HasBytes before.shelf s told) named known.has bytes
+
+  -- no line of it is outside the grammar
+  no_fault : (other bytes : List ℕ) (fault : Fault) → script ≡ File other → Gives before.shelf other bytes
+      → first_fault bytes ≡ Some fault → ⊥
+  no_fault other bytes fault named given found =
+      none-some fault (sym known.good ∙ ap first_fault (told_are other bytes named given) ∙ found)
+
+  -- so it doesn't stop the run
+  no_stopper : HasStopper course before.shelf → ⊥
+  no_stopper stopper = by_stop stopper.stops
+    where
+      same : told ≡ stopper.script
+      same = told_are stopper.name stopper.script stopper.named (inl stopper.holds)
+
+      by_stop : (2 ^ 20 < length stopper.script) ⊎ IsSome (first_fault stopper.script) → ⊥
+      by_stop (inl long) = absurd (omega (arith, long, known.few, ap length same))
+      by_stop (inr some) =
+          let no : false ≡ true = subst IsSome (ap first_fault (sym same) ∙ known.good) some in
+          cc
+
+  -- ---- the page couldn't be selected
+
+  pub ends_unselected : {X E : Type 0} (shelf : ShelfState) (f : E)
+      → Selects {X = X} ready name (Err f) shelf → HasCause {X = X} ready.faults shelf.faults (Err f)
+      → RunsCourse course before (outside_of shelf before.sink before.glass) statuses.ReadFault
+  ends_unselected shelf f selects cause = record {
+    ends = record {
+      read_fault = subst (λ n. Rose n shelf.faults) known.stays cause.failed;
+      name = name;
+      named = refl;
+      front = [];
+      counted = inl refl;
+      front_is = λ page holds is. ap (λ k. take k page) (sym selects.taken);
+      reports = reports_nothing asked (File name) script before (outside_of shelf before.sink before.glass) refl;
+      unended = selects.ended;
+      early = λ chosen is other. (refl, refl);
+      not_too_long = omega (arith, selects.taken);
+      script_not_too_long = λ other named is. omega (arith, selects.taken);
+      sink_stays = refl;
+    };
+    shelf = record {
+      script_first = λ stopper. absurd (no_stopper stopper);
+      missed = λ there scripts. selects.missed_stays (subst IsSome (sym (under_same before.shelf ready name
+          known.files)) there) ∙ known.missed scripts;
+      selects = λ touched chosen is. inl (selects.failed.chosen chosen is);
+      files = KeepsFiles-more before.shelf ready shelf known.files selects.keeps;
+      faults = omega (arith, known.stays, cause.later);
+    };
+    bad_script = λ other bytes fault named given found. absurd (no_fault other bytes fault named given found);
+    unpainted = λ idle. refl;
+    unflushed = λ early. HasPut-nothing before.sink;
+    sink_faults = omega arith;
+  }
+
+  -- ---- the page was selected
+
+  module _ {X E : Type 0} (mid : ShelfState) (after : Outside) (x : X) (sound : IsSound ready)
+      (selects : Selects {X = X} {E = E} ready name (Ok x) mid) (selected : mid.faults ≡ ready.faults)
+      (keeps : KeepsShelf mid after.shelf) where
+    same_faults : mid.faults ≡ before.shelf.faults
+    same_faults = selected ∙ known.stays
+
+    left_of_held : (page : List ℕ) → Holds before.shelf name page → mid.left ≡ Some page
+    left_of_held page holds = (selects.found page (holds_still before.shelf ready name page known.files holds)).1
+
+    left_of_given : (page : List ℕ) → Gives before.shelf name page → mid.left ≡ Some page
+    left_of_given page given = given_left ready mid name page x selects
+        (gives_still before.shelf ready name page known.files given)
+
+    page_or_none : (chosen : Option (List ℕ)) → after.shelf.selected ≡ Some chosen
+        → (chosen ≡ None) ⊎ (chosen ≡ Some name)
+    page_or_none chosen is = selected_is ready mid name x sound selects chosen (sym keeps.selected ∙ is)
+
+    -- the script isn't selected
+    script_unselected : (other : List ℕ) → script ≡ File other → after.shelf.selected ≡ Some (Some other) → ⊥
+    script_unselected other named is = by_name (page_or_none (Some other) is)
+      where
+        by_name : (Some other ≡ None) ⊎ (Some other ≡ Some name) → ⊥
+        by_name (inl e) = none-some other (sym e)
+        by_name (inr e) = known.differs other named (same_Some other name e)
+
+    among_names : (chosen : Option (List ℕ)) → (chosen ≡ None) ⊎ (chosen ≡ Some name)
+        → (chosen ≡ None) ⊎ (chosen ≡ Some name) ⊎ IsNamed script chosen
+    among_names chosen (inl none) = inl none
+    among_names chosen (inr is) = inr (inl is)
+
+    runs_course : (status : Status) → Ends course before after status
+        → (asked.painting ≡ false → after.glass ≡ before.glass)
+        → (is_flushed status ≡ false → HasPut before.sink after.sink) → before.sink.faults ≤ after.sink.faults
+        → RunsCourse course before after status
+    runs_course status ends idle puts later = record {
+      ends = ends;
+      shelf = record {
+        script_first = λ stopper. absurd (no_stopper stopper);
+        missed = λ there scripts. keeps.missed ∙ selects.missed_stays (subst IsSome (sym (under_same before.shelf ready
+            name known.files)) there) ∙ known.missed scripts;
+        selects = λ touched chosen is. among_names chosen (page_or_none chosen is);
+        files = KeepsFiles-more before.shelf ready after.shelf known.files
+            (KeepsFiles-more ready mid after.shelf selects.keeps keeps.files);
+        faults = omega (arith, same_faults, keeps.faults);
+      };
+      bad_script = λ other bytes fault named given found. absurd (no_fault other bytes fault named given found);
+      unpainted = idle;
+      unflushed = puts;
+      sink_faults = later;
+    }
+
+    -- the front of the page was reported, and no fault of the sink was counted
+    runs_made : (status : Status) (bytes : List ℕ) → AreMade (item_events asked (items bytes)) (output before)
+        (output after) → after.sink.faults ≡ before.sink.faults → Ends course before after status
+        → RunsCourse course before after status
+    runs_made status bytes made stays ends = runs_course status ends
+        (λ idle. made.painted.untouched (still_idle asked (items bytes) idle))
+        (λ early. put_made (item_events asked (items bytes)) (output before) (output after) made)
+        (omega (arith, stays))
+
+    -- the events of some items are cut off of those of the whole run
+    cut_in_run : (page : List ℕ) (front others : List Item) → closed_items page ≡ front ++ others
+        → AreCutOff (item_events asked front) (output before) (output after)
+        → AreCutOff (the_run asked page told after.glass.grid) (output before) (output after)
+    cut_in_run page front others is off =
+        let end = the_end asked page told after.glass.grid ∷ [] in
+        let script_part = script_events asked.edits_listed (history asked (closed_items page)) (edits told) in
+        AreCutOff-longer (item_events asked front) (events_after asked front others ++ (script_part ++ end))
+        (the_run asked page told after.glass.grid) (output before) (output after)
+        (append_assoc (item_events asked (closed_items page)) script_part end
+        ∙ ap (λ (l : List Item). item_events asked l ++ (script_part ++ end)) is
+        ∙ ap (λ (es : List Event). es ++ (script_part ++ end)) (item_events-append asked front others)
+        ∙ append_assoc (item_events asked front) (events_after asked front others) (script_part ++ end)) off
+
+    -- the page that is told, or the bytes that were taken
+    report_cut : (left : Option (List ℕ)) → mid.left ≡ left → (front : List Item)
+        → AreCutOff (item_events asked front) (output before) (output after)
+        → (bytes : List ℕ) → (others : List Item) × (closed_items bytes ≡ front ++ others)
+        → ((page : List ℕ) → mid.left ≡ Some page → (others : List Item) × (closed_items page ≡ front ++ others))
+        → IsReportCut course before after
+    report_cut (Some page) is front off bytes are there = record {
+      page = page;
+      page_is = λ given gives. same_Some page given (sym is ∙ left_of_given given gives);
+      script = told;
+      script_is = known.has;
+      good = known.good;
+      cut = let others = there page is in inl (cut_in_run page front others.0 others.1 off);
+    }
+    report_cut None is front off bytes are there = record {
+      page = bytes;
+      page_is = λ given gives. absurd (none-some given (sym is ∙ left_of_given given gives));
+      script = told;
+      script_is = known.has;
+      good = known.good;
+      cut = inl (cut_in_run bytes front are.0 are.1 off);
+    }
+
+    -- the reading stopped
+    pub ends_stopped : (stop : Stop) → IsSound after.shelf
+        → PageStops plan (outside_of mid before.sink before.glass) stop after
+        → RunsCourse course before after (status_of stop)
+    ends_stopped stops.ReadFault sound_after ends = runs_made statuses.ReadFault ends.bytes ends.made ends.stays (record {
+      read_fault = subst (λ n. Rose n after.shelf.faults) same_faults ends.cause;
+      name = name;
+      named = refl;
+      front = ends.bytes;
+      counted = inr ends.taken;
+      front_is = λ page holds is. ends.known page (left_of_held page holds);
+      reports = reports_front asked (File name) script ends.bytes before after ends.made;
+      unended = ends.unended;
+      early = λ chosen is other.
+          let none = nothing_selected chosen name (page_or_none chosen is) other in
+          made_nothing asked ends.bytes before after
+          (nil_from_length ends.bytes (sym ends.taken ∙ (sound_after.nothing (is ∙ ap Some none)).1)) ends.made
+          ends.stays;
+      not_too_long = omega (arith, ends.few, ends.taken);
+      script_not_too_long = λ other named is. absurd (script_unselected other named is);
+      sink_stays = ends.stays;
+    })
+    ends_stopped stops.WriteFault sound_after ends = runs_course statuses.WriteFault (record {
+      write_fault = ends.cut.cause;
+      cut = inl (report_cut mid.left refl ends.items ends.cut ends.bytes ends.are ends.known);
+      shelf_stays = ends.stays ∙ same_faults;
+    }) (λ idle. cut_untouched (item_events asked ends.items) (output before) (output after)
+        (still_idle asked ends.items idle) ends.cut)
+        (λ early. put_cut (item_events asked ends.items) (output before) (output after) ends.cut) ends.cut.later
+    ends_stopped stops.TooLong sound_after ends = runs_made statuses.TooLong ends.bytes ends.made ends.sink_stays (record {
+      which = inl (record {
+        name = name;
+        named = refl;
+        too_long = ends.cause;
+        selected = λ chosen is. selected_so_long name after.shelf sound_after (omega (arith, ends.cause)) chosen is
+            (page_or_none chosen is);
+        longer = λ page given. (ends.known page (left_of_given page given)).0;
+        front = ends.bytes;
+        counted = ends.count;
+        front_is = λ page given. (ends.known page (left_of_given page given)).1;
+        reports = reports_front asked (File name) script ends.bytes before after ends.made;
+      });
+      shelf_stays = ends.shelf_stays ∙ same_faults;
+      sink_stays = ends.sink_stays;
+    })
+    ends_stopped stops.Script sound_after ends = elim ends [ ]
+    ends_stopped stops.NoMemory sound_after ends = elim ends [ ]
+
+    -- ---- the page was read to its end
+
+    module _ (bytes : List ℕ) (read : (page : List ℕ) → mid.left ≡ Some page → bytes ≡ page)
+        (taken : (after.shelf.taken ≡ length bytes) × (after.shelf.ended ≡ true)) (stays : after.shelf.faults ≡ mid.faults)
+        (few : length bytes ≤ 2 ^ 24) (lines_are : lines_of plan ≡ edits told) where
+      abbrev shown_run : List Event
+      shown_run = the_run asked bytes told after.glass.grid
+
+      page_is : HasBytes before.shelf (File name) bytes
+      page_is given gives = read given (left_of_given given gives)
+
+      unscripted : asked.painting ≡ false → lines_of plan ≡ []
+      unscripted idle = ap (λ b. cond b (lines_if_any plan.script) []) idle
+
+      -- without painting nothing is changed
+      still_edited : asked.painting ≡ false → AreStill (edited asked bytes told)
+      still_edited idle =
+          subst (λ (l : List EditLine). AreStill (edited_events asked (closed_items bytes) l)) lines_are
+          (subst (λ (l : List EditLine). AreStill (edited_events asked (closed_items bytes) l)) (sym (unscripted idle))
+          (subst AreStill (sym (edited_events-none asked (closed_items bytes))) (still_idle asked (closed_items bytes) idle)))
+
+      cut_as : AreCutOff shown_run (output before) (output after) ⊎ AreMade shown_run (output before) (output after)
+          → IsReportCut course before after
+      cut_as cut = record {
+        page = bytes;
+        page_is = page_is;
+        script = told;
+        script_is = known.has;
+        good = known.good;
+        cut = cut;
+      }
+
+      -- the sink failed at an edit line
+      pub ends_unedited : (stop : Stop) → stop ≡ stops.WriteFault
+          → AreCutOff (edited_events asked (closed_items bytes) (lines_of plan)) (output before) (output after)
+          → RunsCourse course before after (status_of stop)
+      ends_unedited stop is cut =
+          let off = subst (λ (l : List EditLine). AreCutOff (edited_events asked (closed_items bytes) l) (output before)
+          (output after)) lines_are cut in
+          subst (λ (s : Stop). RunsCourse course before after (status_of s)) (sym is)
+          (runs_course statuses.WriteFault (record {
+            write_fault = off.cause;
+            cut = inl (cut_as (inl (AreCutOff-longer (edited asked bytes told)
+                (the_end asked bytes told after.glass.grid ∷ []) shown_run (output before) (output after) refl off)));
+            shelf_stays = stays ∙ same_faults;
+          }) (λ idle. cut_untouched (edited asked bytes told) (output before) (output after) (still_edited idle) off)
+          (λ early. put_cut (edited asked bytes told) (output before) (output after) off) off.later)
+
+      module _ (sink : SinkState)
+          (made_all : AreMade (edited_events asked (closed_items bytes) (lines_of plan)) (output before)
+          (output_of sink after.glass)) (sink_stays : sink.faults ≡ before.sink.faults)
+          (restores : Restores (page_text (core (remaining_at_end plan (closed_items bytes))))
+          (remaining_at_end plan (closed_items bytes))) where
+        all_is : remaining_at_end plan (closed_items bytes) ≡ all asked bytes told
+        all_is = ap (λ l. remaining (history asked (closed_items bytes)) (kept_of l)) lines_are
+
+        made : AreMade (edited asked bytes told) (output before) (output_of sink after.glass)
+        made = subst (λ (l : List EditLine). AreMade (edited_events asked (closed_items bytes) l) (output before)
+            (output_of sink after.glass)) lines_are made_all
+
+        abbrev end_put : List ℕ
+        end_put = text_at_end asked after.glass.grid bytes (all asked bytes told)
+
+        idle_run : asked.painting ≡ false → after.glass ≡ before.glass
+        idle_run idle = made.painted.untouched (still_edited idle)
+
+        whole_end : (refused : Bool) → refused ≡ has_refusal (closed_items bytes) → PutsWhole end_put sink after.sink
+            → EndsWhole course before after refused
+        whole_end refused is puts = record {
+          page = bytes;
+          page_is = page_is;
+          script = told;
+          script_is = known.has;
+          reports = whole_report asked bytes told before after sink made sink_stays (File name) script
+              (subst (λ (h : List Command). Restores (page_text (core h)) h) all_is restores) puts;
+          refusals = is;
+          good = known.good;
+          page_not_too_long = few;
+          script_not_too_long = known.few;
+          taken = λ other named. taken;
+          selected = λ other named chosen is. subst (λ n. (chosen ≡ None) ⊎ (chosen ≡ Some n))
+              (name_in name other named) (page_or_none chosen is);
+          flushed = puts.flushed;
+          shelf_stays = stays ∙ same_faults;
+          sink_stays = puts.stays ∙ sink_stays;
+        }
+
+        by_end : (result : Result Bool Stop) → PutsEnd end_put (has_refusal (closed_items bytes)) sink result after.sink
+            → RunsCourse course before after (status_at_end result)
+        by_end (Ok false) puts = runs_course statuses.Done (whole_end false puts.1 puts.0) idle_run
+            (λ early. cc) (omega (arith, puts.0.stays, sink_stays))
+        by_end (Ok true) puts = runs_course statuses.Refusals (whole_end true puts.1 puts.0) idle_run
+            (λ early. cc) (omega (arith, puts.0.stays, sink_stays))
+        by_end (Err stop) puts =
+            subst (λ (s : Stop). RunsCourse course before after (status_of s)) (sym puts.1)
+            (runs_course statuses.WriteFault (record {
+              write_fault = subst (λ n. Rose n after.sink.faults) sink_stays puts.0.cause;
+              cut = inl (cut_as (cut_at_end asked bytes told before after sink made sink_stays puts.0));
+              shelf_stays = stays ∙ same_faults;
+            }) idle_run
+            (λ early. put_to_end asked bytes told before after sink made sink_stays puts.0)
+            (omega (arith, puts.0.later, sink_stays)))
+
+        pub ends_put : (result : Result Bool Stop)
+            → PutsEnd (text_at_end asked after.glass.grid bytes (remaining_at_end plan (closed_items bytes)))
+            (has_refusal (closed_items bytes)) sink result after.sink → RunsCourse course before after (status_at_end result)
+        ends_put result puts = by_end result
+            (subst (λ (h : List Command). PutsEnd (text_at_end asked after.glass.grid bytes h)
+            (has_refusal (closed_items bytes)) sink result after.sink) all_is puts)

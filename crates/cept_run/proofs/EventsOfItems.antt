@@ -1,0 +1,129 @@
+-- The events of items: of one item more, and of items in two parts.
+use Rattle.std.specs.List.{sum_by, enumerate_from}
+use Rattle.std.proofs.lemmas.List.Sums.{sum_by-append}
+use Rattle.std.proofs.Math.Seq.{take-append_seam}
+use Rattle.std.proofs.Common.{◌≡◌, ℕ, ◌+◌, zero-add, Bool, true, false, cond, List, [], ◌∷◌, ◌++◌, length, map, take}
+use Rattle.std.proofs.Common.{refl, sym, ap, ◌∙◌, append_assoc, append-nil, length-append}
+use Rattle.cept_codes.specs.declared.command.Command.{Command}
+use Rattle.cept_codes.specs.declared.item.Item.{Item}
+use Rattle.cept_codes.specs.declared.item.Reason.{Reason}
+use Rattle.cept_codes.specs.declared.item.Said.TheVariants as said
+use Rattle.cept_parser.specs.Items.{commands_of, command_said, is_refusal}
+use Rattle.cept_run.specs.declared.words.Asked.{Asked}
+use Rattle.cept_editor.specs.Events.{Event}
+use Rattle.cept_run.specs.Events.{history, item_event, item_events, refused_count}
+
+-- ---- items that come after others
+
+unfoldable pub events_after : Asked → List Item → List Item → List Event
+events_after asked earlier [] = []
+events_after asked earlier (i ∷ is) = item_event asked earlier i ∷ events_after asked (earlier ++ i ∷ []) is
+
+numbered_after : (asked : Asked) (earlier items whole : List Item) (n : ℕ) → whole ≡ earlier ++ items
+    → n ≡ length earlier
+    → map (λ numbered. item_event asked (take numbered.0 whole) numbered.1) (enumerate_from n items)
+    ≡ events_after asked earlier items
+unfolding events_after
+numbered_after asked earlier [] whole n is counted = refl
+numbered_after asked earlier (i ∷ is) whole n e counted =
+    let front : take n whole ≡ earlier =
+    ap (λ k. take k whole) counted ∙ ap (take (length earlier)) e ∙ take-append_seam earlier (i ∷ is) in
+    ap (λ (xs : List Item). item_event asked xs i ∷ map (λ numbered. item_event asked (take numbered.0 whole)
+    numbered.1) (enumerate_from (n + 1) is)) front
+    ∙ ap (λ (es : List Event). item_event asked earlier i ∷ es)
+    (numbered_after asked (earlier ++ i ∷ []) is whole (n + 1) (e ∙ sym (append_assoc earlier (i ∷ []) is))
+    (ap (λ k. k + 1) counted ∙ sym (length-append earlier (i ∷ []))))
+
+pub item_events-after : (asked : Asked) (items : List Item) → item_events asked items ≡ events_after asked [] items
+unfolding item_events
+item_events-after asked items = numbered_after asked [] items items 0 refl refl
+
+events_after-append : (asked : Asked) (earlier xs ys : List Item)
+    → events_after asked earlier (xs ++ ys) ≡ events_after asked earlier xs ++ events_after asked (earlier ++ xs) ys
+unfolding events_after
+events_after-append asked earlier [] ys = ap (λ (e : List Item). events_after asked e ys) (sym (append-nil earlier))
+events_after-append asked earlier (x ∷ xs) ys =
+    ap (λ (es : List Event). item_event asked earlier x ∷ es)
+    (events_after-append asked (earlier ++ x ∷ []) xs ys
+    ∙ ap (λ (e : List Item). events_after asked (earlier ++ x ∷ []) xs ++ events_after asked e ys)
+    (append_assoc earlier (x ∷ []) xs))
+
+-- the events of items, and then those of others after them
+pub item_events-append : (asked : Asked) (xs ys : List Item)
+    → item_events asked (xs ++ ys) ≡ item_events asked xs ++ events_after asked xs ys
+item_events-append asked xs ys =
+    item_events-after asked (xs ++ ys) ∙ events_after-append asked [] xs ys
+    ∙ ap (λ (es : List Event). es ++ events_after asked xs ys) (sym (item_events-after asked xs))
+
+events_after-one : (asked : Asked) (earlier : List Item) (i : Item)
+    → events_after asked earlier (i ∷ []) ≡ item_event asked earlier i ∷ []
+unfolding events_after
+events_after-one asked earlier i = refl
+
+-- one item more
+pub item_events-more : (asked : Asked) (items : List Item) (i : Item)
+    → item_events asked (items ++ i ∷ []) ≡ item_events asked items ++ item_event asked items i ∷ []
+item_events-more asked items i =
+    item_events-append asked items (i ∷ [])
+    ∙ ap (λ (es : List Event). item_events asked items ++ es) (events_after-one asked items i)
+
+pub item_events-none : (asked : Asked) → item_events asked [] ≡ []
+unfolding item_events
+item_events-none asked = refl
+
+-- ---- the commands and the refusals of one item more
+
+pub refused_count-more : (items : List Item) (i : Item)
+    → refused_count (items ++ i ∷ []) ≡ refused_count items + cond (is_refusal i.what) 1 0
+refused_count-more items i =
+    sum_by-append (λ (j : Item). cond (is_refusal j.what) 1 0) items (i ∷ [])
+    ∙ ap (λ n. sum_by (λ (j : Item). cond (is_refusal j.what) 1 0) items + n) (zero-add _)
+
+commands_of-more : (items : List Item) (i : Item)
+    → commands_of (items ++ i ∷ []) ≡ commands_of items ++ command_said i.what
+commands_of-more [] i = append-nil _
+commands_of-more (j ∷ is) i = ap (λ t. command_said j.what ++ t) (commands_of-more is i)
+    ∙ sym (append_assoc (command_said j.what) (commands_of is) (command_said i.what))
+
+-- nothing was applied before the first item
+pub history-none : (asked : Asked) → history asked [] ≡ []
+history-none asked = nothing asked.painting
+  where
+    nothing : (b : Bool) → cond b (commands_of []) [] ≡ []
+    nothing true = refl
+    nothing false = refl
+
+history-more : (asked : Asked) (items : List Item) (i : Item)
+    → history asked (items ++ i ∷ []) ≡ history asked items ++ cond asked.painting (command_said i.what) []
+history-more asked items i = by_flag asked.painting
+  where
+    by_flag : (b : Bool) → cond b (commands_of (items ++ i ∷ [])) []
+        ≡ cond b (commands_of items) [] ++ cond b (command_said i.what) []
+    by_flag true = commands_of-more items i
+    by_flag false = refl
+
+-- a command is applied
+pub history-command : (asked : Asked) (items : List Item) (i : Item) (command : Command)
+    → asked.painting ≡ true → i.what ≡ said.Command command
+    → history asked (items ++ i ∷ []) ≡ history asked items ++ command ∷ []
+history-command asked items i command painting is =
+    history-more asked items i
+    ∙ ap (λ b. history asked items ++ cond b (command_said i.what) []) painting
+    ∙ ap (λ s. history asked items ++ command_said s) is
+
+-- a refusal leaves what was applied
+pub history-refused : (asked : Asked) (items : List Item) (i : Item) (reason : Reason)
+    → i.what ≡ said.Refused reason → history asked (items ++ i ∷ []) ≡ history asked items
+history-refused asked items i reason is =
+    history-more asked items i
+    ∙ ap (λ s. history asked items ++ cond asked.painting (command_said s) []) is
+    ∙ nothing asked.painting
+  where
+    nothing : (b : Bool) → history asked items ++ cond b [] [] ≡ history asked items
+    nothing true = append-nil _
+    nothing false = append-nil _
+
+-- without painting nothing is applied
+pub history-idle : (asked : Asked) (items : List Item) → asked.painting ≡ false
+    → history asked items ≡ []
+history-idle asked items idle = ap (λ b. cond b (commands_of items) []) idle

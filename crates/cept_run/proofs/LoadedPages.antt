@@ -1,0 +1,244 @@
+-- How a run of a generated page ends.
+use Rattle.std.proofs.Common.{◌≡◌, inl, ℕ, ◌^◌, ◌≤◌, Bool, true, false, cond, List, [], ◌∷◌, ◌++◌, Result, Ok, Err, refl, sym}
+use Rattle.std.proofs.Common.{◌∙◌, ap, subst, arith, nat_lt, length, ◌⊎◌, inr}
+use Rattle.std.specs.Io.KnownBytes.{append_known}
+use Rattle.cept_codes.specs.declared.command.Command.{Command}
+use Rattle.cept_editor.specs.Events.{Event, paints}
+use Rattle.cept_editor.specs.Kept.{remaining}
+use Rattle.cept_editor.specs.Made.{AreStill, ArePainted, output_of, AreMade, AreCutOff}
+use Rattle.cept_editor.specs.Script.{EditLine, edits}
+use Rattle.cept_editor.proofs.Laws.{AreCutOff-longer, cut_untouched, report-one, ArePainted-still, AreMade-none}
+use Rattle.cept_editor.proofs.Laws.{AreMade-end, AreCutOff-end}
+use Rattle.cept_outside.specs.Causes.{Rose}
+use Rattle.cept_outside.specs.ShelfState.{ShelfState}
+use Rattle.cept_outside.specs.SinkState.{SinkState, HasPut, Gains, GainsPart}
+use Rattle.cept_profile.specs.Changes.{grid_with_paints}
+use Rattle.cept_repaint.specs.GlassState.{GlassState}
+use Rattle.cept_parser.specs.Items.{closed_items}
+use Rattle.cept_profile.specs.State.{core}
+use Rattle.cept_writer.specs.PageCommands.{page_text}
+use Rattle.cept_run.specs.declared.page.Stop.{Stop}
+use Rattle.cept_run.specs.declared.page.Stop.TheVariants as stops
+use Rattle.cept_run.specs.declared.run.Status.{Status}
+use Rattle.cept_run.specs.declared.run.Status.TheVariants as statuses
+use Rattle.cept_run.specs.declared.words.Asked.{Asked}
+use Rattle.cept_run.specs.Course.{Course, File, Given, reporting, putting, text_event}
+use Rattle.cept_run.specs.Events.{history, item_events, text_at_end, edited_events, has_refusal, kept_of}
+use Rattle.cept_run.specs.Outside.{Outside, outside_of, output, PutsWhole, PutsUnflushed}
+use Rattle.cept_run.specs.Page.{PutsEnd}
+use Rattle.cept_run.specs.Reporting.{Plan, lines_of, remaining_at_end}
+use Rattle.cept_run.specs.Run.{is_flushed, Restores, EndsWhole, IsReportCut, ReportsWhole, Ends, RunsCourse, status_at_end}
+use Rattle.cept_run.proofs.EditedLines.{edited_events-none}
+use Rattle.cept_run.proofs.PaintedItems.{chained-one, chained_shown, each_shown, still_idle}
+use Rattle.cept_run.proofs.ReportedRuns.{put_cut, put_made, all, edited, the_end, the_run, whole_report, cut_at_end}
+use Rattle.cept_run.proofs.ReportedRuns.{put_to_end}
+use Rattle.cept_run.proofs.Selections.{put_either}
+use Rattle.cept_run.proofs.StoppedScripts.{edits-none, first_fault-none}
+
+-- ---- the page is put
+
+module _ (page : List ℕ) (before after : Outside) (shelf : after.shelf ≡ before.shelf) (short : length page ≤ 2 ^ 24)
+    (same : after.glass ≡ before.glass) where
+  abbrev bare : Course
+  bare = putting page
+
+  abbrev event : Event
+  event = text_event page
+
+  runs_bare : (status : Status) → Ends bare before after status
+      → (is_flushed status ≡ false → HasPut before.sink after.sink) → before.sink.faults ≤ after.sink.faults
+      → RunsCourse bare before after status
+  runs_bare status ends puts later = record {
+    ends = ends;
+    shelf = shelf;
+    bad_script = λ name script fault named given found. cc;
+    unpainted = λ idle. same;
+    unflushed = puts;
+    sink_faults = later;
+  }
+
+  whole : PutsWhole page before.sink after.sink → EndsWhole bare before after false
+  whole puts = record {
+    page = page;
+    page_is = refl;
+    script = [];
+    script_is = refl;
+    reports = record {
+      put = puts.put ∙ ap (append_known before.sink.bytes) (sym (report-one event));
+      painted = subst (λ (g : GlassState). ArePainted (event ∷ []) before.glass g) (sym same)
+          (ArePainted-still event before.glass refl);
+      each = λ blank done e rest split. ap (λ g. grid_with_paints g (paints (done ++ e ∷ []))) blank
+          ∙ each_shown [] [] (event ∷ []) done e rest (chained-one event) split;
+      meaning = λ blank. ap (λ (g : GlassState). g.grid) same ∙ blank;
+      written = λ e. cc;
+    };
+    refusals = refl;
+    good = first_fault-none;
+    page_not_too_long = short;
+    script_not_too_long = omega arith;
+    taken = λ name e. cc;
+    selected = λ name e. cc;
+    flushed = puts.flushed;
+    shelf_stays = ap (λ (s : ShelfState). s.faults) shelf;
+    sink_stays = puts.stays;
+  }
+
+  cut : PutsUnflushed page before.sink after.sink → IsReportCut bare before after
+  cut puts = record {
+    page = page;
+    page_is = refl;
+    script = [];
+    script_is = refl;
+    good = first_fault-none;
+    cut = by_text puts.put;
+  }
+    where
+      by_text : GainsPart before.sink page after.sink ⊎ Gains before.sink page after.sink
+          → AreCutOff (event ∷ []) (output before) (output after) ⊎ AreMade (event ∷ []) (output before) (output after)
+      by_text (inl part) = inl (AreCutOff-end [] event (output before) (output before) (output after)
+          (AreMade-none (output before)) refl refl part puts.cause puts.later same)
+      by_text (inr all) = inr (AreMade-end [] event (output before) (output before) (output after)
+          (AreMade-none (output before)) refl all same)
+
+  pub runs_put : (result : Result Bool Stop) → PutsEnd page false before.sink result after.sink
+      → RunsCourse bare before after (status_at_end result)
+  runs_put (Ok false) puts = runs_bare statuses.Done (whole puts.0) (λ early. cc) (omega (arith, puts.0.stays))
+  runs_put (Ok true) puts =
+      let no = puts.1 in
+      cc
+  runs_put (Err stop) puts =
+      subst (λ (s : Stop). RunsCourse bare before after (status_at_end (Err s))) (sym puts.1)
+      (runs_bare statuses.WriteFault (record {
+        write_fault = puts.0.cause;
+        cut = inl (cut puts.0);
+        shelf_stays = ap (λ (s : ShelfState). s.faults) shelf;
+      }) (λ early. put_either page before.sink after.sink puts.0.put) puts.0.later)
+
+-- ---- the page is read
+
+module _ (plan : Plan) (page : List ℕ) (before after : Outside) (shelf : after.shelf ≡ before.shelf)
+    (short : length page ≤ 2 ^ 24) (alone : lines_of plan ≡ []) where
+  abbrev asked : Asked
+  asked = plan.asked
+
+  abbrev loaded : Course
+  loaded = reporting asked (Given page) (Given [])
+
+  abbrev shown_run : List Event
+  shown_run = the_run asked page [] after.glass.grid
+
+  runs_loaded : (status : Status) → Ends loaded before after status
+      → (asked.painting ≡ false → after.glass ≡ before.glass)
+      → (is_flushed status ≡ false → HasPut before.sink after.sink) → before.sink.faults ≤ after.sink.faults
+      → RunsCourse loaded before after status
+  runs_loaded status ends idle puts later = record {
+    ends = ends;
+    shelf = shelf;
+    bad_script = λ name script fault named given found. cc;
+    unpainted = idle;
+    unflushed = puts;
+    sink_faults = later;
+  }
+
+  no_lines : lines_of plan ≡ edits []
+  no_lines = alone ∙ sym edits-none
+
+  edited_is : edited_events asked (closed_items page) (lines_of plan) ≡ item_events asked (closed_items page)
+  edited_is = ap (edited_events asked (closed_items page)) alone ∙ edited_events-none asked (closed_items page)
+
+  loaded_cut : AreCutOff shown_run (output before) (output after) ⊎ AreMade shown_run (output before) (output after)
+      → IsReportCut loaded before after
+  loaded_cut cut = record {
+    page = page;
+    page_is = refl;
+    script = [];
+    script_is = refl;
+    good = first_fault-none;
+    cut = cut;
+  }
+
+  -- the sink failed at an event before the end
+  pub loads_cut : (stop : Stop) → stop ≡ stops.WriteFault
+      → AreCutOff (edited_events asked (closed_items page) (lines_of plan)) (output before) (output after)
+      → RunsCourse loaded before after (status_at_end (Err stop))
+  loads_cut stop is off =
+      let own = subst (λ (l : List EditLine). AreCutOff (edited_events asked (closed_items page) l) (output before)
+      (output after)) no_lines off in
+      subst (λ (s : Stop). RunsCourse loaded before after (status_at_end (Err s))) (sym is)
+      (runs_loaded statuses.WriteFault (record {
+        write_fault = off.cause;
+        cut = inl (loaded_cut (inl (AreCutOff-longer (edited asked page [])
+            (the_end asked page [] after.glass.grid ∷ []) shown_run (output before) (output after) refl own)));
+        shelf_stays = ap (λ (s : ShelfState). s.faults) shelf;
+      }) (λ idle. cut_untouched (edited_events asked (closed_items page) (lines_of plan)) (output before) (output after)
+      (subst AreStill (sym edited_is) (still_idle asked (closed_items page) idle)) off)
+      (λ early. put_cut (edited_events asked (closed_items page) (lines_of plan)) (output before) (output after) off)
+      off.later)
+
+  -- at an item
+  pub loads_cut_at : (stop : Stop) → stop ≡ stops.WriteFault
+      → AreCutOff (item_events asked (closed_items page)) (output before) (output after)
+      → RunsCourse loaded before after (status_at_end (Err stop))
+  loads_cut_at stop is off = loads_cut stop is
+      (subst (λ (es : List Event). AreCutOff es (output before) (output after)) (sym edited_is) off)
+
+  -- it was read to its end
+  module _ (sink : SinkState)
+      (made_all : AreMade (edited_events asked (closed_items page) (lines_of plan)) (output before)
+      (output_of sink after.glass)) (stays : sink.faults ≡ before.sink.faults)
+      (restores : Restores (page_text (core (remaining_at_end plan (closed_items page))))
+      (remaining_at_end plan (closed_items page))) where
+    all_is : remaining_at_end plan (closed_items page) ≡ all asked page []
+    all_is = ap (λ l. remaining (history asked (closed_items page)) (kept_of l)) no_lines
+
+    made : AreMade (edited asked page []) (output before) (output_of sink after.glass)
+    made = subst (λ (l : List EditLine). AreMade (edited_events asked (closed_items page) l) (output before)
+        (output_of sink after.glass)) no_lines made_all
+
+    idle_run : asked.painting ≡ false → after.glass ≡ before.glass
+    idle_run idle = made_all.painted.untouched
+        (subst AreStill (sym edited_is) (still_idle asked (closed_items page) idle))
+
+    loaded_whole : (refused : Bool) → refused ≡ has_refusal (closed_items page)
+        → PutsWhole (text_at_end asked after.glass.grid page (all asked page [])) sink after.sink
+        → EndsWhole loaded before after refused
+    loaded_whole refused is puts = record {
+      page = page;
+      page_is = refl;
+      script = [];
+      script_is = refl;
+      reports = whole_report asked page [] before after sink made stays (Given page) (Given [])
+          (subst (λ (h : List Command). Restores (page_text (core h)) h) all_is restores) puts;
+      refusals = is;
+      good = first_fault-none;
+      page_not_too_long = short;
+      script_not_too_long = omega arith;
+      taken = λ name e. cc;
+      selected = λ name e. cc;
+      flushed = puts.flushed;
+      shelf_stays = ap (λ (s : ShelfState). s.faults) shelf;
+      sink_stays = puts.stays ∙ stays;
+    }
+
+    by_end : (result : Result Bool Stop)
+        → PutsEnd (text_at_end asked after.glass.grid page (all asked page [])) (has_refusal (closed_items page)) sink
+        result after.sink → RunsCourse loaded before after (status_at_end result)
+    by_end (Ok false) puts = runs_loaded statuses.Done (loaded_whole false puts.1 puts.0) idle_run (λ early. cc)
+        (omega (arith, puts.0.stays, stays))
+    by_end (Ok true) puts = runs_loaded statuses.Refusals (loaded_whole true puts.1 puts.0) idle_run (λ early. cc)
+        (omega (arith, puts.0.stays, stays))
+    by_end (Err stop) puts =
+        subst (λ (s : Stop). RunsCourse loaded before after (status_at_end (Err s))) (sym puts.1)
+        (runs_loaded statuses.WriteFault (record {
+          write_fault = subst (λ n. Rose n after.sink.faults) stays puts.0.cause;
+          cut = inl (loaded_cut (cut_at_end asked page [] before after sink made stays puts.0));
+          shelf_stays = ap (λ (s : ShelfState). s.faults) shelf;
+        }) idle_run (λ early. put_to_end asked page [] before after sink made stays puts.0)
+        (omega (arith, puts.0.later, stays)))
+
+    pub loads_read : (result : Result Bool Stop)
+        → PutsEnd (text_at_end asked after.glass.grid page (remaining_at_end plan (closed_items page)))
+        (has_refusal (closed_items page)) sink result after.sink → RunsCourse loaded before after (status_at_end result)
+    loads_read result puts = by_end result
+        (subst (λ (h : List Command). PutsEnd (text_at_end asked after.glass.grid page h)
+        (has_refusal (closed_items page)) sink result after.sink) all_is puts)

@@ -1,0 +1,125 @@
+-- What events paint that lead from some commands to others, and what those of items paint.
+use Rattle.std.proofs.Common.{◌≡◌, true, false, List, [], ◌∷◌, ◌++◌, refl, sym, ap, ◌∙◌, subst, append_assoc, append-nil}
+use Rattle.cept_codes.specs.declared.command.Command.{Command}
+use Rattle.cept_codes.specs.declared.item.Item.{Item}
+use Rattle.cept_codes.specs.declared.item.Reason.{Reason}
+use Rattle.cept_codes.specs.declared.item.Said.TheVariants as said
+use Rattle.cept_editor.specs.Events.{Event, event_changes, paints}
+use Rattle.cept_editor.specs.Made.{AreStill}
+use Rattle.cept_editor.proofs.Laws.{paints-append, paints-one, paints-none, no_paint, event_shown}
+use Rattle.cept_profile.proofs.Laws.{grid_with_paints-append, changes_between-same}
+use Rattle.cept_profile.specs.Changes.{changes_between, changes, grid_with_paints}
+use Rattle.cept_profile.specs.Look.{grid}
+use Rattle.cept_run.specs.declared.words.Asked.{Asked}
+use Rattle.cept_run.specs.Events.{history, item_event, item_events}
+use Rattle.cept_run.proofs.EventsOfItems.{events_after, item_events-after, history-none, history-command}
+use Rattle.cept_run.proofs.EventsOfItems.{history-refused, history-idle}
+
+-- ---- events that lead from some commands to others
+
+-- each of these events begins with the commands at which the one before it ends
+unfoldable pub AreChained : List Command → List Event → List Command → Type 0
+AreChained from [] to = to ≡ from
+AreChained from (e ∷ es) to = (e.before ≡ from) × AreChained e.after es to
+
+-- events, and then others
+pub chained-append : (from mid to : List Command) (xs ys : List Event) → AreChained from xs mid → AreChained mid ys to
+    → AreChained from (xs ++ ys) to
+unfolding AreChained
+chained-append from mid to [] ys first second = subst (λ (h : List Command). AreChained h ys to) first second
+chained-append from mid to (x ∷ xs) ys first second = (first.0, chained-append x.after mid to xs ys first.1 second)
+
+pub chained-one : (e : Event) → AreChained e.before (e ∷ []) e.after
+unfolding AreChained
+chained-one e = (refl, refl)
+
+-- the events up to one of them lead to where that one ends
+pub chained_to : (from to : List Command) (done : List Event) (e : Event) (rest : List Event)
+    → AreChained from (done ++ e ∷ rest) to → AreChained from (done ++ e ∷ []) e.after
+unfolding AreChained
+chained_to from to [] e rest chained = (chained.0, refl)
+chained_to from to (x ∷ done) e rest chained = (chained.0, chained_to x.after to done e rest chained.1)
+
+-- their changes lead from grid to grid
+pub chained_shown : (from to : List Command) (es : List Event) → AreChained from es to
+    → grid_with_paints (grid from) (paints es) ≡ grid to
+unfolding AreChained
+chained_shown from to [] chained =
+    ap (grid_with_paints (grid from)) paints-none ∙ no_paint (grid from) ∙ ap grid (sym chained)
+chained_shown from to (e ∷ es) chained =
+    ap (grid_with_paints (grid from)) (paints-append (e ∷ []) es ∙ ap (λ xs. xs ++ paints es) (paints-one e))
+    ∙ grid_with_paints-append (grid from) (event_changes e) (paints es)
+    ∙ ap (λ g. grid_with_paints g (paints es))
+    (ap (λ (h : List Command). grid_with_paints (grid h) (event_changes e)) (sym chained.0) ∙ event_shown e)
+    ∙ chained_shown e.after to es chained.1
+
+-- so after each of them its commands are shown
+pub each_shown : (from to : List Command) (es done : List Event) (e : Event) (rest : List Event)
+    → AreChained from es to → es ≡ done ++ e ∷ rest
+    → grid_with_paints (grid from) (paints (done ++ e ∷ [])) ≡ grid e.after
+each_shown from to es done e rest chained split =
+    chained_shown from e.after (done ++ e ∷ [])
+    (chained_to from to done e rest (subst (λ (l : List Event). AreChained from l to) split chained))
+
+-- ---- items
+
+items_chained : (asked : Asked) (earlier items : List Item)
+    → AreChained (history asked earlier) (events_after asked earlier items) (history asked (earlier ++ items))
+unfolding events_after AreChained
+items_chained asked earlier [] = ap (λ (xs : List Item). history asked xs) (append-nil earlier)
+items_chained asked earlier (i ∷ is) = (
+  refl,
+  subst
+      (λ (xs : List Item). AreChained (history asked (earlier ++ i ∷ [])) (events_after asked (earlier ++ i ∷ []) is)
+      (history asked xs)) (append_assoc earlier (i ∷ []) is) (items_chained asked (earlier ++ i ∷ []) is),
+)
+
+pub item_events-chained : (asked : Asked) (items : List Item)
+    → AreChained [] (item_events asked items) (history asked items)
+item_events-chained asked items =
+    subst (λ (es : List Event). AreChained [] es (history asked items)) (sym (item_events-after asked items))
+    (subst (λ (h : List Command). AreChained h (events_after asked [] items) (history asked items))
+    (history-none asked) (items_chained asked [] items))
+
+-- a blank glass with the paints of items over it shows their meaning
+pub blank_painted : (asked : Asked) (items : List Item)
+    → grid_with_paints (grid []) (paints (item_events asked items)) ≡ grid (history asked items)
+blank_painted asked items =
+    chained_shown [] (history asked items) (item_events asked items) (item_events-chained asked items)
+
+-- without painting nothing is changed
+still_after : (asked : Asked) (earlier items : List Item) → asked.painting ≡ false
+    → AreStill (events_after asked earlier items)
+unfolding events_after
+still_after asked earlier [] idle = tt
+still_after asked earlier (i ∷ is) idle = (
+  history-idle asked (earlier ++ i ∷ []) idle ∙ sym (history-idle asked earlier idle),
+  still_after asked (earlier ++ i ∷ []) is idle,
+)
+
+pub still_idle : (asked : Asked) (items : List Item) → asked.painting ≡ false → AreStill (item_events asked items)
+still_idle asked items idle =
+    subst AreStill (sym (item_events-after asked items)) (still_after asked [] items idle)
+
+-- ---- what one item changes
+
+pub applied_changes : (asked : Asked) (items : List Item) (i : Item) (command : Command)
+    → asked.painting ≡ true → i.what ≡ said.Command command
+    → event_changes (item_event asked items i) ≡ changes (history asked items) command
+applied_changes asked items i command painting is =
+    ap (λ h. changes_between (grid (history asked items)) (grid h)) (history-command asked items i command painting is)
+
+unchanged : (asked : Asked) (items : List Item) (i : Item)
+    → history asked (items ++ i ∷ []) ≡ history asked items → event_changes (item_event asked items i) ≡ []
+unchanged asked items i same =
+    ap (λ h. changes_between (grid (history asked items)) (grid h)) same
+    ∙ changes_between-same (grid (history asked items))
+
+pub refused_changes : (asked : Asked) (items : List Item) (i : Item) (reason : Reason)
+    → i.what ≡ said.Refused reason → event_changes (item_event asked items i) ≡ []
+refused_changes asked items i reason is = unchanged asked items i (history-refused asked items i reason is)
+
+pub checked_changes : (asked : Asked) (items : List Item) (i : Item) → asked.painting ≡ false
+    → event_changes (item_event asked items i) ≡ []
+checked_changes asked items i idle =
+    unchanged asked items i (history-idle asked (items ++ i ∷ []) idle ∙ sym (history-idle asked items idle))

@@ -1,0 +1,59 @@
+-- What was reported of the front of a page.
+use Rattle.std.proofs.Common.{◌≡◌, ℕ, List, [], take, refl, sym, ◌∙◌, ap, subst, arith}
+use Rattle.cept_editor.specs.Events.{Event, paints}
+use Rattle.cept_editor.specs.Made.{Output, AreMade}
+use Rattle.cept_editor.proofs.Laws.{report-none, AreMade-none}
+use Rattle.cept_outside.specs.SinkState.{SinkState, Gains}
+use Rattle.cept_outside.proofs.Laws.{append_known-nil}
+use Rattle.cept_parser.specs.Items.{items, reading_within}
+use Rattle.cept_profile.specs.Changes.{grid_with_paints}
+use Rattle.cept_run.specs.declared.words.Asked.{Asked}
+use Rattle.cept_run.specs.Course.{Source, reporting}
+use Rattle.cept_run.specs.Events.{item_events}
+use Rattle.cept_run.specs.Outside.{Outside, output}
+use Rattle.cept_run.specs.Run.{ReportsFront}
+use Rattle.cept_run.proofs.EventsOfItems.{item_events-none}
+use Rattle.cept_run.proofs.PaintedItems.{blank_painted}
+
+pub reports_front : (asked : Asked) (page script : Source) (front : List ℕ) (before after : Outside)
+    → AreMade (item_events asked (items front)) (output before) (output after)
+    → ReportsFront (reporting asked page script) front before after
+reports_front asked page script front before after made = record {
+  made = made;
+  meaning = λ blank. made.painted.over
+      ∙ ap (λ g. grid_with_paints g (paints (item_events asked (items front)))) blank ∙ blank_painted asked (items front);
+}
+
+-- no bytes have no event
+no_events : (asked : Asked) → item_events asked (items []) ≡ []
+unfolding reading_within
+no_events asked = item_events-none asked
+
+-- of no bytes nothing
+pub reports_nothing : (asked : Asked) (page script : Source) (before after : Outside) → output after ≡ output before
+    → ReportsFront (reporting asked page script) [] before after
+reports_nothing asked page script before after same =
+    reports_front asked page script [] before after
+    (subst (λ (o : Output). AreMade (item_events asked (items [])) (output before) o) (sym same)
+    (subst (λ (es : List Event). AreMade es (output before) (output before)) (sym (no_events asked))
+    (AreMade-none (output before))))
+
+same_sink : (s t : SinkState) → Gains s [] t → t.faults ≡ s.faults → t ≡ s
+same_sink s t gains stays =
+    same_parts s t (gains.bytes ∙ sym (append_known-nil s.bytes)) (gains.unflushed_stays refl) stays
+  where
+    same_parts : (a b : SinkState) → b.bytes ≡ a.bytes → b.unflushed ≡ a.unflushed → b.faults ≡ a.faults → b ≡ a
+    same_parts a b bytes unflushed faults = grind (arith, bytes, unflushed, faults)
+
+-- what was made of no bytes was nothing
+pub made_nothing : (asked : Asked) (bytes : List ℕ) (before after : Outside) → bytes ≡ []
+    → AreMade (item_events asked (items bytes)) (output before) (output after)
+    → after.sink.faults ≡ before.sink.faults → (after.sink ≡ before.sink) × (after.glass ≡ before.glass)
+made_nothing asked bytes before after none made stays =
+    let nothing : AreMade [] (output before) (output after) =
+    subst (λ (es : List Event). AreMade es (output before) (output after)) (no_events asked)
+    (subst (λ (b : List ℕ). AreMade (item_events asked (items b)) (output before) (output after)) none made) in
+    let gains = subst (λ (t : List ℕ). Gains before.sink t after.sink) report-none nothing.put in (
+      same_sink before.sink after.sink gains stays,
+      nothing.painted.untouched tt,
+    )

@@ -1,0 +1,565 @@
+-- How a reporter stands after one item more.
+use Rattle.std.proofs.Common.{◌≡◌, ℕ, ◌+◌, ◌<◌, ◌≤◌, Bool, true, false, cond, Option, Some, None, Result, Ok, Err, List}
+use Rattle.std.proofs.Common.{[], ◌∷◌, ◌++◌, length, take, drop, get_or, refl, sym, ◌∙◌, ap, subst, arith, append_assoc}
+use Rattle.std.proofs.Common.{take-append-drop, length-append, add-zero, add-one, drop-cons, IsOk}
+use Rattle.std.proofs.lemmas.List.{take_more, take_all}
+use Rattle.std.specs.List.{AllByRecursion, count_by}
+use Rattle.cept_codes.specs.declared.command.Command.{Command}
+use Rattle.cept_codes.specs.declared.command.Command.TheVariants as commands
+use Rattle.cept_codes.specs.declared.item.Item.{Item}
+use Rattle.cept_codes.specs.declared.item.Reason.{Reason}
+use Rattle.cept_codes.specs.declared.item.Said.{Said}
+use Rattle.cept_codes.specs.declared.item.Said.TheVariants as said
+use Rattle.cept_codes.specs.Command.{IsValidCommand}
+use Rattle.cept_codes.specs.declared.look.Look.{Look}
+use Rattle.cept_codes.specs.Place.{Place}
+use Rattle.cept_outside.specs.SinkState.{SinkState, Gains, PutsText}
+use Rattle.cept_outside.proofs.Laws.{Gains-nil}
+use Rattle.std.proofs.lemmas.Option.{same_Some, none-some}
+use Rattle.cept_profile.specs.Changes.{changes_between, changes, differences, marked_looks, grid_with_paints}
+use Rattle.cept_profile.specs.Look.{grid, looks_of}
+use Rattle.cept_profile.specs.State.{State, state, core_of}
+use Rattle.cept_profile.specs.Valid.{AllValid}
+use Rattle.cept_repaint.specs.Applied.{IsApplied}
+use Rattle.cept_repaint.specs.GlassState.{GlassState, Lists}
+use Rattle.cept_report.specs.Text.{change_lines}
+use Rattle.cept_editor.specs.Events.{Event, paints}
+use Rattle.cept_editor.specs.Kept.{EditorState}
+use Rattle.cept_editor.specs.Script.{EditLine}
+use Rattle.cept_editor.specs.Made.{Output, output_of, IsMade, AreMade, AreCutOff}
+use Rattle.cept_editor.proofs.Laws.{paints-one, ArePainted-still, AreMade-none, AreMade-more, AreCutOff-here}
+use Rattle.cept_editor.proofs.Laws.{AreCutOff-longer}
+use Rattle.cept_run.specs.declared.easel.Easel.{Easel}
+use Rattle.cept_run.specs.declared.easel.Easel.TheVariants as easels
+use Rattle.cept_run.specs.declared.words.Asked.{Asked}
+use Rattle.cept_run.specs.Events.{history, event_between, text_of_said, item_event, item_events, refused_count}
+use Rattle.cept_run.specs.Events.{painted_at}
+use Rattle.cept_parser.specs.Items.{items, closed_items, reading_within, is_refusal}
+use Rattle.cept_parser.specs.State.{Leads}
+use Rattle.cept_run.specs.Reporting.{DecoderState, HasRead, ReadsOn, ReadsToEnd}
+use Rattle.cept_run.specs.Reporting.{Plan, ReporterState, painted_easel, easel_at, screen_of, script_in, Stands, HasReported, Applies}
+use Rattle.cept_run.specs.Reporting.{AppliesOn, IsAppliedAfter}
+use Rattle.cept_run.specs.Reporting.{ReportsOn, command_event, refusal_text, counted_of}
+use Rattle.cept_run.proofs.EventsOfItems.{history-none, history-command, history-refused, history-idle, item_events-more}
+use Rattle.cept_run.specs.Words.{is_counted}
+use Rattle.cept_run.proofs.MarkedCount.{changes_counted}
+use Rattle.cept_run.proofs.PaintedItems.{checked_changes}
+use Rattle.cept_run.proofs.CountedPlaces.{counted-none, counted-command, counted-refused, counted-idle}
+use Rattle.cept_run.proofs.EventsOfItems.{item_events-none, item_events-append, events_after, refused_count-more}
+
+-- ---- before the first item
+
+pub Stands-none : (plan : Plan) (reporter : ReporterState) → reporter.asked ≡ plan.asked
+    → reporter.easel ≡ easel_at plan [] → reporter.items ≡ 0 → reporter.refused ≡ 0 → reporter.painted ≡ 0
+    → Stands plan reporter []
+Stands-none plan reporter same is items refused painted = record {
+  asked_is = same;
+  valid = subst AllValid (sym (history-none plan.asked)) tt;
+  easel = is ∙ ap (easel_at plan) (sym (history-none plan.asked));
+  items = items;
+  refused = refused;
+  painted = painted ∙ sym (counted-none plan.asked);
+}
+
+pub HasReported-none : (plan : Plan) (reporter : ReporterState) (start : Output) → Stands plan reporter []
+    → HasReported plan reporter [] start start
+HasReported-none plan reporter start stands = record {
+  stands = stands;
+  made = subst (λ (es : List Event). AreMade es start start) (sym (item_events-none plan.asked)) (AreMade-none start);
+  stays = refl;
+}
+
+-- ---- one item more, by its event
+
+module _ {X E : Type 0} (plan : Plan) (old new : ReporterState) (earlier : List Item) (i : Item)
+    (start before after : Output) where
+  pub reported_more : (x : X) → HasReported plan old earlier start before
+      → Stands plan new (earlier ++ i ∷ [])
+      → IsMade {X = X} {E = E} (item_event plan.asked earlier i) before (Ok x) after
+      → HasReported plan new (earlier ++ i ∷ []) start after
+  reported_more x has stands made = record {
+    stands = stands;
+    made = subst (λ (es : List Event). AreMade es start after) (sym (item_events-more plan.asked earlier i))
+        (AreMade-more (item_events plan.asked earlier) (item_event plan.asked earlier i) start before after has.made made);
+    stays = made.puts.cause.stays ∙ has.stays;
+  }
+
+  pub cut_more : (f : E) → HasReported plan old earlier start before
+      → IsMade {X = X} {E = E} (item_event plan.asked earlier i) before (Err f) after
+      → AreCutOff (item_events plan.asked (earlier ++ i ∷ [])) start after
+  cut_more f has made =
+      subst (λ (es : List Event). AreCutOff es start after) (sym (item_events-more plan.asked earlier i))
+      (AreCutOff-here (item_events plan.asked earlier) (item_event plan.asked earlier i) start before after has.made has.stays
+      made)
+
+-- so it goes on, where it stands after the item, and its event was made
+reports_on : {X E : Type 0} (old new : ReporterState) (i : Item) (before after : Output) (result : Result X E)
+    → new.items ≤ old.items + 1
+    → ((plan : Plan) (earlier : List Item) → Stands plan old earlier → Stands plan new (earlier ++ i ∷ []))
+    → ((plan : Plan) (earlier : List Item) → Stands plan old earlier
+    → IsMade (item_event plan.asked earlier i) before result after)
+    → ReportsOn old (i ∷ []) before result new after
+reports_on old new i before after (Ok x) counted stands made = record {
+  counted = counted;
+  reported = λ plan earlier start has. reported_more plan old new earlier i start before after x has
+      (stands plan earlier has.stands) (made plan earlier has.stands);
+  cut = tt;
+}
+reports_on old new i before after (Err f) counted stands made = record {
+  counted = counted;
+  reported = tt;
+  cut = λ plan earlier start has. cut_more plan old new earlier i start before after f has
+      (made plan earlier has.stands);
+}
+
+-- ---- an event that changes nothing
+
+still_made : {X E : Type 0} (e : Event) (o : Output) (result : Result X E) → IsOk result → e.after ≡ e.before
+    → e.text ≡ [] → IsMade e o result o
+still_made e o (Ok x) ok still none = record {
+  puts = record {
+    whole = subst (λ (t : List ℕ). Gains o.sink t o.sink) (sym none) (Gains-nil o.sink);
+    part = tt;
+    cause = record { later = omega arith; failed = tt; stays = refl };
+  };
+  painted = ArePainted-still e o.glass still;
+}
+still_made e o (Err f) ok still none = cc
+
+-- no change has no line
+idle_text : (asked : Asked) (i : Item) (command : Command) (xs : List (Place × Look)) → xs ≡ []
+    → text_of_said asked i (said.Command command) xs ≡ []
+unfolding change_lines
+idle_text asked i command xs none =
+    ap (λ ys. cond asked.listed (change_lines i.at ys) []) none ∙ by_flag asked.listed
+  where
+    by_flag : (b : Bool) → cond b (change_lines i.at []) [] ≡ []
+    by_flag true = refl
+    by_flag false = refl
+
+-- without painting nothing is applied
+idle_easel : (plan : Plan) (h : List Command) → plan.asked.painting ≡ false → easel_at plan h ≡ easels.Nothing
+idle_easel plan h p = ap (λ b. cond b (painted_easel plan.script h) easels.Nothing) p
+
+painted_at_plan : (plan : Plan) (h : List Command) → plan.asked.painting ≡ true
+    → easel_at plan h ≡ painted_easel plan.script h
+painted_at_plan plan h p = ap (λ b. cond b (painted_easel plan.script h) easels.Nothing) p
+
+-- ---- a command more
+
+AllValid-more : (history : List Command) (command : Command) → AllValid history → IsValidCommand command
+    → AllValid (history ++ command ∷ [])
+AllValid-more [] command all one = (one, tt)
+AllValid-more (c ∷ history) command all one = (all.0, AllValid-more history command all.1 one)
+
+length-more : {X : Type 0} (xs : List X) (x : X) → length (xs ++ x ∷ []) ≡ length xs + 1
+length-more xs x = length-append xs (x ∷ [])
+
+-- the reporter when the item was counted
+abbrev pub counted_one : ReporterState → ReporterState
+counted_one r =
+    record { asked = r.asked; easel = r.easel; items = r.items + 1; refused = r.refused; painted = r.painted }
+
+refused_as : (items : List Item) (i : Item) (what : Said) → i.what ≡ what
+    → refused_count (items ++ i ∷ []) ≡ refused_count items + cond (is_refusal what) 1 0
+refused_as items i what is =
+    refused_count-more items i ∙ ap (λ s. refused_count items + cond (is_refusal s) 1 0) is
+
+module _ {X E : Type 0} (old new : ReporterState) (i : Item) (command : Command) (before after : Output)
+    (result : Result X E) (is : i.what ≡ said.Command command) (valid : IsValidCommand command)
+    (applies : Applies (counted_one old) i.at command before result new after) where
+  command_stands : (plan : Plan) (earlier : List Item) (painting : Bool) → plan.asked.painting ≡ painting
+      → Stands plan old earlier → Stands plan new (earlier ++ i ∷ [])
+  command_stands plan earlier true p stands =
+      let more = history-command plan.asked earlier i command p is in
+      let h = history plan.asked earlier in
+      let painting = ap (λ (a : Asked). a.painting) stands.asked_is ∙ p in
+      let at : old.easel ≡ painted_easel plan.script h = stands.easel ∙ painted_at_plan plan h p in
+      record {
+        asked_is = applies.asked ∙ stands.asked_is;
+        valid = subst AllValid (sym more) (AllValid-more h command stands.valid valid);
+        easel = applies.easel plan.script h stands.valid painting at
+            ∙ sym (painted_at_plan plan (h ++ command ∷ []) p) ∙ ap (easel_at plan) (sym more);
+        items = applies.items ∙ ap (λ n. n + 1) stands.items ∙ sym (length-more earlier i);
+        refused = applies.refused ∙ stands.refused
+            ∙ sym (refused_as earlier i (said.Command command) is ∙ add-zero (refused_count earlier));
+        painted = applies.painted plan.script h stands.valid painting at
+            ∙ ap (λ n. n + counted_of old.asked (length (changes h command))) stands.painted
+            ∙ ap (λ (a : Asked). counted_of plan.asked (painted_at plan.asked earlier)
+            + counted_of a (length (changes h command))) stands.asked_is
+            ∙ sym (counted-command plan.asked earlier i command p is);
+      }
+  command_stands plan earlier false p stands =
+      let none : old.easel ≡ easels.Nothing = stands.easel ∙ idle_easel plan (history plan.asked earlier) p in
+      record {
+        asked_is = applies.asked ∙ stands.asked_is;
+        valid = subst AllValid (sym (history-idle plan.asked (earlier ++ i ∷ []) p)) tt;
+        easel = (applies.idle none).0 ∙ sym (idle_easel plan (history plan.asked (earlier ++ i ∷ [])) p);
+        items = applies.items ∙ ap (λ n. n + 1) stands.items ∙ sym (length-more earlier i);
+        refused = applies.refused ∙ stands.refused
+            ∙ sym (refused_as earlier i (said.Command command) is ∙ add-zero (refused_count earlier));
+        painted = (applies.idle none).3 ∙ stands.painted ∙ sym (counted-idle plan.asked earlier i p);
+      }
+
+  command_made : (plan : Plan) (earlier : List Item) (painting : Bool) → plan.asked.painting ≡ painting
+      → Stands plan old earlier → IsMade (item_event plan.asked earlier i) before result after
+  command_made plan earlier true p stands =
+      let h = history plan.asked earlier in
+      let event : item_event plan.asked earlier i ≡ command_event plan.asked i.at h command =
+      ap (λ hs. event_between plan.asked i h hs) (history-command plan.asked earlier i command p is)
+      ∙ ap (λ (s : Said). record {
+        before = h;
+        after = h ++ command ∷ [];
+        text = text_of_said plan.asked i s (changes_between (grid h) (grid (h ++ command ∷ [])));
+      }) is in
+      subst (λ (e : Event). IsMade e before result after) (sym event)
+      (subst (λ (a : Asked). IsMade (command_event a i.at h command) before result after) stands.asked_is
+      (applies.made plan.script h stands.valid (ap (λ (a : Asked). a.painting) stands.asked_is ∙ p)
+      (stands.easel ∙ painted_at_plan plan h p)))
+  command_made plan earlier false p stands =
+      let none : old.easel ≡ easels.Nothing = stands.easel ∙ idle_easel plan (history plan.asked earlier) p in
+      let h = history-idle plan.asked earlier p in
+      let k = history-idle plan.asked (earlier ++ i ∷ []) p in
+      subst (λ (o : Output). IsMade (item_event plan.asked earlier i) before result o) (sym (applies.idle none).2)
+      (still_made (item_event plan.asked earlier i) before result (applies.idle none).1 (k ∙ sym h)
+      (ap (λ w. text_of_said plan.asked i w (changes_between (grid (history plan.asked earlier))
+      (grid (history plan.asked (earlier ++ i ∷ []))))) is
+      ∙ idle_text plan.asked i command _ (checked_changes plan.asked earlier i p)))
+
+  pub command_more : ReportsOn old (i ∷ []) before result new after
+  command_more = reports_on old new i before after result (omega (arith, applies.items))
+      (λ plan earlier stands. command_stands plan earlier _ refl stands)
+      (λ plan earlier stands. command_made plan earlier _ refl stands)
+
+-- ---- a refusal more
+
+-- the reporter when the item and its refusal were counted
+abbrev pub counted_refusal : ReporterState → ReporterState
+counted_refusal r =
+    record { asked = r.asked; easel = r.easel; items = r.items + 1; refused = r.refused + 1; painted = r.painted }
+
+module _ {X E : Type 0} (old : ReporterState) (i : Item) (reason : Reason) (sink now : SinkState) (glass : GlassState)
+    (result : Result X E) (is : i.what ≡ said.Refused reason)
+    (puts : PutsText sink (refusal_text old.asked i reason) result now) where
+  refusal_stands : (plan : Plan) (earlier : List Item) → Stands plan old earlier
+      → Stands plan (counted_refusal old) (earlier ++ i ∷ [])
+  refusal_stands plan earlier stands =
+      let same = history-refused plan.asked earlier i reason is in
+      record {
+        asked_is = stands.asked_is;
+        valid = subst AllValid (sym same) stands.valid;
+        easel = stands.easel ∙ ap (easel_at plan) (sym same);
+        items = ap (λ n. n + 1) stands.items ∙ sym (length-more earlier i);
+        refused = ap (λ n. n + 1) stands.refused ∙ sym (refused_as earlier i (said.Refused reason) is);
+        painted = stands.painted ∙ sym (counted-refused plan.asked earlier i reason is);
+      }
+
+  refusal_made : (plan : Plan) (earlier : List Item) → Stands plan old earlier
+      → IsMade (item_event plan.asked earlier i) (output_of sink glass) result (output_of now glass)
+  refusal_made plan earlier stands =
+      let text : refusal_text old.asked i reason ≡ (item_event plan.asked earlier i).text =
+      ap (λ (a : Asked). refusal_text a i reason) stands.asked_is
+      ∙ ap (λ w. text_of_said plan.asked i w (changes_between (grid (history plan.asked earlier))
+      (grid (history plan.asked (earlier ++ i ∷ []))))) (sym is) in
+      record {
+        puts = subst (λ (t : List ℕ). PutsText sink t result now) text puts;
+        painted = ArePainted-still (item_event plan.asked earlier i) glass (history-refused plan.asked earlier i reason is);
+      }
+
+  pub refusal_more : ReportsOn old (i ∷ []) (output_of sink glass) result (counted_refusal old) (output_of now glass)
+  refusal_more = reports_on old (counted_refusal old) i (output_of sink glass) (output_of now glass) result (omega arith)
+      refusal_stands refusal_made
+
+-- ---- a command that is applied
+
+append_other : (h : List Command) (c : Command) → h ++ c ∷ [] ≡ h → ⊥
+append_other h c e = absurd (omega (arith, ap length e, length-append h (c ∷ [])))
+
+-- what a screen is, where it is what commands are painted on
+pub screen_painted : (script : Option (List EditLine)) (screen : State) (h : List Command)
+    → easels.Screen screen ≡ painted_easel script h → (script ≡ None) × (screen ≡ state h)
+screen_painted None screen h e = (refl, same_Some screen (state h) (ap screen_of e))
+screen_painted (Some lines) screen h e = cc
+
+abbrev pub editor_in : EditorState → Easel → EditorState
+editor_in other easels.Nothing = other
+editor_in other (easels.Screen screen) = other
+editor_in other (easels.Editor editor lines) = editor
+
+-- and what an editor is
+pub editor_painted : (script : Option (List EditLine)) (editor : EditorState) (lines : List EditLine) (h : List Command)
+    → easels.Editor editor lines ≡ painted_easel script h
+    → (script ≡ Some lines) × (editor ≡ record { screen = state h; past = [] })
+editor_painted None editor lines h e = cc
+editor_painted (Some others) editor lines h e = (sym (ap script_in e), ap (editor_in editor) e)
+
+pub editor_with : (editor : EditorState) (screen : State) (past : List State) → editor.screen ≡ screen → editor.past ≡ past
+    → editor ≡ record { screen = screen; past = past }
+editor_with editor screen past s p = λ i. record { screen = s i; past = p i }
+
+-- there is something to paint on
+pub not_idle : (script : Option (List EditLine)) (h : List Command) → easels.Nothing ≡ painted_easel script h → ⊥
+not_idle None h e = cc
+not_idle (Some lines) h e = cc
+
+-- what a command changes, where it leads a screen's state on
+module _ (screen new : State) (marks : List Bool) (command : Command) (glass shown : GlassState) (from to : ℕ)
+    (is_applied : IsApplied screen command new marks glass shown from to) where
+  applied : (script : Option (List EditLine)) (h : List Command) (easel : Easel) → screen ≡ state h
+      → new ≡ state (h ++ command ∷ []) → easel ≡ painted_easel script (h ++ command ∷ [])
+      → IsAppliedAfter script h command glass easel marks shown
+  applied script h easel before after at =
+      let grids : (f : List (List Look) → List (List Look) → List (Place × Look))
+      → f (looks_of (core_of screen)) (looks_of (core_of new)) ≡ f (grid h) (grid (h ++ command ∷ [])) =
+      λ f. ap (λ (s : State). f (looks_of (core_of s)) (looks_of (core_of new))) before
+      ∙ ap (λ (s : State). f (grid h) (looks_of (core_of s))) after in
+      record {
+        easel_is = at;
+        marked = is_applied.repainted.marks ∙ ap (λ (s : State). differences (looks_of (core_of s)) (looks_of (core_of new))) before
+            ∙ ap (λ (s : State). differences (grid h) (looks_of (core_of s))) after;
+        told = subst (λ (xs : List (Place × Look)). Lists glass.paints xs shown.paints) (grids changes_between) is_applied.repainted.told;
+        shown = is_applied.repainted.shown ∙ ap (grid_with_paints glass.grid) (grids changes_between);
+      }
+
+  -- on a screen
+  pub applied_on_screen : AppliesOn (easels.Screen screen) command glass (easels.Screen new) marks shown
+  applied_on_screen = record {
+    painted = λ script h valid e.
+        let is = screen_painted script screen h e in
+        let after = is_applied.goes_on h valid is.1 in
+        applied script h (easels.Screen new) is.1 after (ap easels.Screen after
+        ∙ ap (λ (o : Option (List EditLine)). painted_easel o (h ++ command ∷ [])) (sym is.0));
+    idle = λ none. cc;
+  }
+
+  -- on a screen whose edits can be taken back
+  pub applied_in_editor : (editor after : EditorState) (lines : List EditLine) → editor.screen ≡ screen
+      → after.screen ≡ new → after.past ≡ editor.past
+      → AppliesOn (easels.Editor editor lines) command glass (easels.Editor after lines) marks shown
+  applied_in_editor editor after lines was now past = record {
+    painted = λ script h valid e.
+        let is = editor_painted script editor lines h e in
+        let before = sym was ∙ ap (λ (s : EditorState). s.screen) is.1 in
+        let next = is_applied.goes_on h valid before in
+        applied script h (easels.Editor after lines) before next
+        (ap (λ (s : EditorState). easels.Editor s lines)
+        (editor_with after (state (h ++ command ∷ [])) [] (now ∙ next)
+        (past ∙ ap (λ (s : EditorState). s.past) is.1))
+        ∙ ap (λ (o : Option (List EditLine)). painted_easel o (h ++ command ∷ [])) (sym is.0));
+    idle = λ none. cc;
+  }
+
+-- where nothing is painted
+pub applied_nowhere : (command : Command) (glass : GlassState) (marks : List Bool)
+    → AppliesOn easels.Nothing command glass easels.Nothing marks glass
+applied_nowhere command glass marks = record {
+  painted = λ script h valid e. absurd (not_idle script h e);
+  idle = λ none. (refl, refl);
+}
+
+-- the same by a reporter, which stays but for that
+abbrev pub with_easel : ReporterState → Easel → ℕ → ReporterState
+with_easel old easel painted = record {
+  asked = old.asked;
+  easel = easel;
+  items = old.items;
+  refused = old.refused;
+  painted = painted;
+}
+
+module _ (old : ReporterState) (easel : Easel) (place : ℕ) (command : Command) (marks : List Bool)
+    (sink : SinkState) (glass shown : GlassState)
+    (applies : AppliesOn old.easel command glass easel marks shown) where
+  -- there is a screen
+  module _ {X E : Type 0} (screen : State) (now : SinkState) (result : Result X E) (count : ℕ)
+      (at : screen_of easel ≡ Some screen)
+      (puts : PutsText sink (cond old.asked.listed (change_lines place (marked_looks marks (looks_of (core_of screen)))) [])
+      result now)
+      (count_is : count ≡ cond (is_counted old.asked.end) (count_by (λ b. b) marks) 0) (few : count ≤ 960) where
+    -- the screen is that after the command
+    module _ (script : Option (List EditLine)) (h : List Command) (is : IsAppliedAfter script h command glass easel marks shown)
+      where
+        screen_is : screen ≡ state (h ++ command ∷ [])
+        screen_is = same_Some screen (state (h ++ command ∷ []))
+            (sym at ∙ ap screen_of is.easel_is ∙ of_painted script (h ++ command ∷ []))
+          where
+            of_painted : (o : Option (List EditLine)) (k : List Command) → screen_of (painted_easel o k) ≡ Some (state k)
+            of_painted None k = refl
+            of_painted (Some lines) k = refl
+
+        listed_are : marked_looks marks (looks_of (core_of screen)) ≡ changes h command
+        listed_are = ap (λ m. marked_looks m (looks_of (core_of screen))) is.marked
+            ∙ ap (λ (s : State). marked_looks (differences (grid h) (grid (h ++ command ∷ []))) (looks_of (core_of s))) screen_is
+
+        event_made : IsMade (command_event old.asked place h command) (output_of sink glass) result (output_of now shown)
+        event_made =
+            let painted : changes h command ≡ paints (command_event old.asked place h command ∷ []) =
+            sym (paints-one (command_event old.asked place h command)) in
+            record {
+              puts = subst (λ (t : List ℕ). PutsText sink t result now)
+                  (ap (λ (xs : List (Place × Look)). cond old.asked.listed (change_lines place xs) []) listed_are) puts;
+              painted = record {
+                listed = subst (λ (xs : List (Place × Look)). Lists glass.paints xs shown.paints) painted is.told;
+                over = is.shown ∙ ap (grid_with_paints glass.grid) painted;
+                untouched = λ still. absurd (append_other h command still.0);
+              };
+            }
+
+        counted : old.painted + count ≡ old.painted + counted_of old.asked (length (changes h command))
+        counted = ap (λ n. old.painted + n) (count_is
+            ∙ ap (λ m. cond (is_counted old.asked.end) (count_by (λ b. b) m) 0) is.marked
+            ∙ ap (λ n. cond (is_counted old.asked.end) n 0) (changes_counted (grid h) (grid (h ++ command ∷ []))))
+
+    pub applied_painted : Applies old place command (output_of sink glass) result
+        (with_easel old easel (old.painted + count)) (output_of now shown)
+    applied_painted = record {
+      asked = refl;
+      items = refl;
+      refused = refl;
+      easel = λ script h valid painting e. (applies.painted script h valid e).easel_is;
+      made = λ script h valid painting e. event_made script h (applies.painted script h valid e);
+      painted = λ script h valid painting e. counted script h (applies.painted script h valid e);
+      few = omega (arith, few);
+      idle = λ none. absurd (no_screen (sym (ap screen_of (applies.idle none).0) ∙ at));
+    }
+      where
+        no_screen : None ≡ Some screen → ⊥
+        no_screen e = none-some screen e
+
+  -- there is none
+  pub applied_idle : {X E : Type 0} (x : X) → screen_of easel ≡ None
+      → Applies {E = E} old place command (output_of sink glass) (Ok x) (with_easel old easel old.painted)
+      (output_of sink shown)
+  applied_idle x none = record {
+    asked = refl;
+    items = refl;
+    refused = refl;
+    easel = λ script h valid painting e. (applies.painted script h valid e).easel_is;
+    made = λ script h valid painting e. absurd (with_screen script h (applies.painted script h valid e));
+    painted = λ script h valid painting e. absurd (with_screen script h (applies.painted script h valid e));
+    few = omega arith;
+    idle = λ is. ((applies.idle is).0, refl, ap (output_of sink) (applies.idle is).1, refl);
+  }
+    where
+      with_screen : (script : Option (List EditLine)) (h : List Command)
+          → IsAppliedAfter script h command glass easel marks shown → ⊥
+      with_screen None h is = none-some (state (h ++ command ∷ [])) (sym none ∙ ap screen_of is.easel_is)
+      with_screen (Some lines) h is = none-some (state (h ++ command ∷ [])) (sym none ∙ ap screen_of is.easel_is)
+
+-- nothing was put
+pub PutsText-nothing : {X E : Type 0} {x : X} (s : SinkState) → PutsText {E = E} s [] (Ok x) s
+PutsText-nothing s = record {
+  whole = Gains-nil s;
+  part = tt;
+  cause = record { later = omega arith; failed = tt; stays = refl };
+}
+
+-- ---- lists that are gone through
+
+-- the elements so far and the next one
+pub front_more : {X : Type 0} (earlier xs : List X) (i : ℕ) (d : X) → i < length xs
+    → (earlier ++ take i xs) ++ get_or xs i d ∷ [] ≡ earlier ++ take (i + 1) xs
+front_more earlier xs i d h = append_assoc earlier (take i xs) _ ∙ ap (λ l. earlier ++ l) (sym (take_more xs i d h))
+
+-- all elements were gone through
+pub front_all : {X : Type 0} (earlier xs : List X) (i : ℕ) → length xs ≤ i → earlier ++ take i xs ≡ earlier ++ xs
+front_all earlier xs i h = ap (λ l. earlier ++ l) (take_all i xs h)
+
+-- the elements so far and all others
+pub front_rest : {X : Type 0} (earlier xs : List X) (i : ℕ) → (earlier ++ take i xs) ++ drop i xs ≡ earlier ++ xs
+front_rest earlier xs i = append_assoc earlier (take i xs) (drop i xs)
+    ∙ ap (λ l. earlier ++ l) (take-append-drop i xs)
+
+-- what holds of all that is left holds of the next one and of the rest
+pub AllByRecursion-next : {X : Type 0} (P : X → Type 0) (xs : List X) (i : ℕ) (d : X) → i < length xs
+    → AllByRecursion P (drop i xs) → P (get_or xs i d) × AllByRecursion P (drop (i + 1) xs)
+AllByRecursion-next P xs i d h all =
+    let split : drop i xs ≡ get_or xs i d ∷ drop (i + 1) xs = rw add-one (drop-cons xs i d h) in
+    let parts = subst (AllByRecursion P) split all in
+    (parts.0, parts.1)
+
+-- what fills the unused room of a list of items
+abbrev spare : Item
+spare = record { at = 0; len = 0; what = said.Command commands.Nul }
+
+pub AllByRecursion-rest : (P : Item → Type 0) (xs : List Item) (i : ℕ) → i < length xs
+    → AllByRecursion P (drop i xs) → AllByRecursion P (drop (i + 1) xs)
+AllByRecursion-rest P xs i h all = (AllByRecursion-next P xs i spare h all).1
+
+-- ---- what was reported of fewer items
+
+-- items at which the sink failed, among more
+pub cut_longer : (plan : Plan) (front rest whole : List Item) (start after : Output) → front ++ rest ≡ whole
+    → AreCutOff (item_events plan.asked front) start after → AreCutOff (item_events plan.asked whole) start after
+cut_longer plan front rest whole start after is off =
+    AreCutOff-longer (item_events plan.asked front) (events_after plan.asked front rest) (item_events plan.asked whole) start after
+    (ap (item_events plan.asked) (sym is) ∙ item_events-append plan.asked front rest) off
+
+pub has_reported_same : (plan : Plan) (reporter : ReporterState) (xs ys : List Item) (start now : Output) → xs ≡ ys
+    → HasReported plan reporter xs start now → HasReported plan reporter ys start now
+has_reported_same plan reporter xs ys start now e has =
+    subst (λ (l : List Item). HasReported plan reporter l start now) e has
+
+-- ---- a decoder that reads on
+
+pub reads_as : (plan : Plan) (xs ys : List Item) (start after : Output) → xs ≡ ys
+    → AreCutOff (item_events plan.asked xs) start after → AreCutOff (item_events plan.asked ys) start after
+reads_as plan xs ys start after e off = subst (λ (l : List Item). AreCutOff (item_events plan.asked l) start after) e off
+
+pub reads_on : {X E : Type 0} (old new : DecoderState) (more : List ℕ) (answer : List Item) (before after : Output)
+    (result : Result X E) → new.parser.place ≡ old.parser.place + length more → new.parser.finished ≡ false
+    → ((b : List ℕ) → Leads b old.parser → items (b ++ more) ≡ items b ++ answer)
+    → ((b : List ℕ) → Leads b old.parser → Leads (b ++ more) new.parser)
+    → ReportsOn old.reporter answer before result new.reporter after → ReadsOn old more before result new after
+reads_on old new more answer before after (Ok x) place running law leads on = record {
+  place = place;
+  running = running;
+  read = λ plan bytes start has. record {
+    parser = leads bytes has.parser;
+    reported = has_reported_same plan new.reporter (items bytes ++ answer) (items (bytes ++ more)) start after
+        (sym (law bytes has.parser)) (on.reported plan (items bytes) start has.reported);
+  };
+  cut = tt;
+}
+reads_on old new more answer before after (Err f) place running law leads on = record {
+  place = tt;
+  running = tt;
+  read = tt;
+  cut = λ plan bytes start has. reads_as plan (items bytes ++ answer) (items (bytes ++ more)) start after
+      (sym (law bytes has.parser)) (on.cut plan (items bytes) start has.reported);
+}
+
+pub reads_to_end : {X E : Type 0} (old new : DecoderState) (answer : List Item) (before after : Output)
+    (result : Result X E) → ((b : List ℕ) → Leads b old.parser → closed_items b ≡ items b ++ answer)
+    → ReportsOn old.reporter answer before result new.reporter after → ReadsToEnd old before result new after
+reads_to_end old new answer before after (Ok x) law on = record {
+  reported = λ plan bytes start has.
+      has_reported_same plan new.reporter (items bytes ++ answer) (closed_items bytes) start after
+      (sym (law bytes has.parser)) (on.reported plan (items bytes) start has.reported);
+  cut = tt;
+}
+reads_to_end old new answer before after (Err f) law on = record {
+  reported = tt;
+  cut = λ plan bytes start has. reads_as plan (items bytes ++ answer) (closed_items bytes) start after
+      (sym (law bytes has.parser)) (on.cut plan (items bytes) start has.reported);
+}
+
+pub has_read_same : (plan : Plan) (decoder : DecoderState) (xs ys : List ℕ) (start now : Output) → xs ≡ ys
+    → HasRead plan decoder xs start now → HasRead plan decoder ys start now
+has_read_same plan decoder xs ys start now e has =
+    subst (λ (l : List ℕ). HasRead plan decoder l start now) e has
+
+-- bytes at which the sink failed, among more: a law of reading says which items these add
+pub cut_by_bytes : (plan : Plan) (front rest whole : List ℕ) (others : List Item) (start after : Output)
+    → front ++ rest ≡ whole → items (front ++ rest) ≡ items front ++ others
+    → AreCutOff (item_events plan.asked (items front)) start after
+    → AreCutOff (item_events plan.asked (items whole)) start after
+cut_by_bytes plan front rest whole others start after is law off =
+    cut_longer plan (items front) others (items whole) start after (sym law ∙ ap items is) off
+
+-- a decoder before the first byte
+pub HasRead-none : (plan : Plan) (decoder : DecoderState) (start : Output) → Leads [] decoder.parser
+    → Stands plan decoder.reporter [] → HasRead plan decoder [] start start
+unfolding reading_within
+HasRead-none plan decoder start leads stands =
+    record { parser = leads; reported = HasReported-none plan decoder.reporter start stands }

@@ -1,0 +1,163 @@
+-- What was reported of a page that was read to its end, after the edit lines that were made.
+use Rattle.std.proofs.Common.{◌≡◌, ◌⊎◌, inl, inr, ℕ, Bool, true, false, not, cond, length, List, [], ◌∷◌, ◌++◌, take, refl, sym, ◌∙◌, ap, subst}
+use Rattle.std.specs.Io.KnownBytes.{append_known}
+use Rattle.cept_codes.specs.declared.command.Command.{Command}
+use Rattle.cept_codes.specs.declared.look.Look.{Look}
+use Rattle.cept_editor.specs.Events.{Event, report, paints}
+use Rattle.cept_editor.specs.Made.{Output, output_of, AreMade, AreCutOff}
+use Rattle.cept_editor.specs.Script.{EditLine}
+use Rattle.cept_editor.proofs.Laws.{report-append, report-one, AreMade-end, AreCutOff-end, ArePainted-more}
+use Rattle.cept_editor.proofs.Laws.{ArePainted-still}
+use Rattle.cept_outside.specs.SinkState.{SinkState, HasPut, Gains, GainsPart}
+use Rattle.cept_outside.proofs.Laws.{HasPut-more, append_known-append_known}
+use Rattle.cept_parser.specs.Items.{closed_items}
+use Rattle.cept_profile.specs.Changes.{grid_with_paints}
+use Rattle.cept_profile.specs.Look.{grid}
+use Rattle.cept_profile.specs.State.{core}
+use Rattle.cept_writer.specs.PageCommands.{page_text}
+use Rattle.cept_run.specs.declared.words.Asked.{Asked}
+use Rattle.cept_run.specs.Events.{text_at_end, painted_end, end_event, edited_events, run_events, remaining_of, refused_count}
+use Rattle.cept_run.specs.Outside.{Outside, output, PutsWhole, PutsUnflushed}
+use Rattle.cept_run.specs.Course.{Source, is_page, puts_page, reporting}
+use Rattle.cept_run.specs.declared.words.End.{End}
+use Rattle.cept_run.specs.declared.words.End.TheVariants as ends
+use Rattle.cept_run.specs.Run.{Restores, ReportsWhole}
+use Rattle.cept_report.specs.Text.{check_line}
+use Rattle.std.proofs.lemmas.Bool.{and_parts}
+use Rattle.cept_editor.specs.Script.{edits}
+use Rattle.cept_run.proofs.EditedLines.{edited_events-chained}
+use Rattle.cept_run.proofs.PaintedItems.{AreChained, chained-append, chained-one, chained_shown, each_shown}
+use Rattle.cept_run.proofs.Selections.{put_either}
+use Rattle.cept_run.proofs.SilentEvents.{silent_edits}
+
+-- some bytes were put
+pub put_made : (events : List Event) (before after : Output) → AreMade events before after → HasPut before.sink after.sink
+put_made events before after made = record { part = report events; gains = made.put }
+
+pub put_cut : (events : List Event) (before after : Output) → AreCutOff events before after → HasPut before.sink after.sink
+put_cut events before after off = record { part = report off.done ++ take off.size off.cut.text; gains = off.put }
+
+-- nothing is put but the page
+pub record PutsPage (asked : Asked) : Type 0 where
+  pub painting : asked.painting ≡ true
+  pub end : is_page asked.end ≡ true
+  pub listed : asked.listed ≡ false
+  pub refusals : asked.refusals ≡ false
+  pub edits_listed : asked.edits_listed ≡ false
+
+-- a flag that isn't set
+unset : (b : Bool) → not b ≡ true → b ≡ false
+unset true e = cc
+unset false e = refl
+
+puts_page_by : (asked : Asked) → puts_page asked ≡ true → PutsPage asked
+puts_page_by asked is =
+    let four = and_parts _ (not asked.edits_listed) is in
+    let three = and_parts _ (not asked.refusals) four.0 in
+    let two = and_parts _ (not asked.listed) three.0 in
+    let one = and_parts asked.painting (is_page asked.end) two.0 in
+    record {
+      painting = one.0;
+      end = one.1;
+      listed = unset asked.listed two.1;
+      refusals = unset asked.refusals three.1;
+      edits_listed = unset asked.edits_listed four.1;
+    }
+
+-- the text at the end is the page then
+page_end : (end : End) (asked : Asked) (shown : List (List Look)) (page : List ℕ) (commands : List Command)
+    → is_page end ≡ true → painted_end end asked shown page commands ≡ page_text (core commands)
+page_end ends.Nothing asked shown page commands e = cc
+page_end ends.Screen asked shown page commands e = cc
+page_end ends.Cells asked shown page commands e = cc
+page_end ends.Page asked shown page commands e = refl
+page_end ends.Counts asked shown page commands e = cc
+
+written_text : (asked : Asked) (shown : List (List Look)) (page : List ℕ) (commands : List Command)
+    → PutsPage asked → text_at_end asked shown page commands ≡ page_text (core commands)
+written_text asked shown page commands puts =
+    ap (λ b. cond b (painted_end asked.end asked shown page commands)
+    (check_line (length (closed_items page)) (refused_count (closed_items page)))) puts.painting
+    ∙ page_end asked.end asked shown page commands puts.end
+
+-- ---- a page, and the edit lines of a script
+
+module _ (asked : Asked) (bytes script : List ℕ) where
+  abbrev pub lines : List EditLine
+  lines = edits script
+
+  abbrev pub all : List Command
+  all = remaining_of asked bytes lines
+
+  abbrev pub edited : List Event
+  edited = edited_events asked (closed_items bytes) lines
+
+  abbrev pub the_end : List (List Look) → Event
+  the_end shown = end_event asked shown bytes all
+
+  abbrev pub the_run : List (List Look) → List Event
+  the_run shown = run_events asked bytes lines shown
+
+  to_all : AreChained [] edited all
+  to_all = edited_events-chained asked (closed_items bytes) lines
+
+  run_chained : (shown : List (List Look)) → AreChained [] (the_run shown) all
+  run_chained shown = chained-append [] all all edited (the_end shown ∷ []) to_all (chained-one (the_end shown))
+
+  -- all events were made but that of the end
+  module _ (before after : Outside) (sink : SinkState) (made : AreMade edited (output before) (output_of sink after.glass))
+      (sink_stays : sink.faults ≡ before.sink.faults) where
+    abbrev middle : Output
+    middle = output_of sink after.glass
+
+    abbrev pub the_text : List ℕ
+    the_text = text_at_end asked after.glass.grid bytes all
+
+    abbrev last : Event
+    last = the_end after.glass.grid
+
+    -- the glass shows what remains of the page and the edits, where it was blank
+    meaning_at_end : before.glass.grid ≡ grid [] → after.glass.grid ≡ grid all
+    meaning_at_end blank = made.painted.over ∙ ap (λ g. grid_with_paints g (paints edited)) blank
+        ∙ chained_shown [] all edited to_all
+
+    whole_text : PutsPage asked → report (the_run after.glass.grid) ≡ page_text (core all)
+    whole_text writes =
+        report-append edited (last ∷ [])
+        ∙ ap (λ t. t ++ report (last ∷ []))
+        (silent_edits asked (closed_items bytes) lines writes.listed writes.refusals writes.edits_listed)
+        ∙ report-one last ∙ written_text asked after.glass.grid bytes all writes
+
+    -- it was put
+    pub whole_report : (page source : Source) → Restores (page_text (core all)) all → PutsWhole the_text sink after.sink
+        → ReportsWhole (reporting asked page source) bytes script before after
+    whole_report page source restores puts = record {
+      put = puts.put ∙ ap (λ known. append_known known the_text) made.put.bytes
+          ∙ append_known-append_known before.sink.bytes (report edited) the_text
+          ∙ ap (λ t. append_known before.sink.bytes (report edited ++ t)) (sym (report-one last))
+          ∙ ap (append_known before.sink.bytes) (sym (report-append edited (last ∷ [])));
+      painted = ArePainted-more edited (last ∷ []) before.glass after.glass after.glass made.painted
+          (ArePainted-still last after.glass refl);
+      each = λ blank done event rest split. ap (λ g. grid_with_paints g (paints (done ++ event ∷ []))) blank
+          ∙ each_shown [] all (the_run after.glass.grid) done event rest (run_chained after.glass.grid) split;
+      meaning = meaning_at_end;
+      written = λ writes. subst (λ (t : List ℕ). Restores t all) (sym (whole_text (puts_page_by asked writes))) restores;
+    }
+
+    -- the sink failed
+    pub cut_at_end : PutsUnflushed the_text sink after.sink
+        → AreCutOff (the_run after.glass.grid) (output before) (output after)
+        ⊎ AreMade (the_run after.glass.grid) (output before) (output after)
+    cut_at_end puts = by_text puts.put
+      where
+        by_text : GainsPart sink the_text after.sink ⊎ Gains sink the_text after.sink
+            → AreCutOff (the_run after.glass.grid) (output before) (output after)
+            ⊎ AreMade (the_run after.glass.grid) (output before) (output after)
+        by_text (inl part) = inl (AreCutOff-end edited last (output before) middle (output after) made sink_stays
+            refl part puts.cause puts.later refl)
+        by_text (inr whole) = inr (AreMade-end edited last (output before) middle (output after) made refl
+            whole refl)
+
+    pub put_to_end : PutsUnflushed the_text sink after.sink → HasPut before.sink after.sink
+    put_to_end puts = HasPut-more before.sink sink after.sink (put_made edited (output before) middle made)
+        (put_either the_text sink after.sink puts.put)

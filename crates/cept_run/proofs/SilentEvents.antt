@@ -1,0 +1,85 @@
+-- Where nothing is listed and named, nothing is put before the end.
+use Rattle.std.proofs.Common.{◌≡◌, ℕ, ◌+◌, Bool, true, false, cond, List, [], ◌∷◌, ◌++◌, map, take, refl, ap, ◌∙◌}
+use Rattle.std.specs.List.{enumerate_from}
+use Rattle.cept_codes.specs.declared.command.Command.{Command}
+use Rattle.cept_codes.specs.declared.item.Item.{Item}
+use Rattle.cept_codes.specs.declared.item.Said.{Said}
+use Rattle.cept_codes.specs.declared.item.Said.TheVariants as said
+use Rattle.cept_codes.specs.declared.look.Look.{Look}
+use Rattle.cept_codes.specs.Place.{Place}
+use Rattle.cept_editor.specs.Events.{Event, report}
+use Rattle.cept_editor.specs.Kept.{KeptEdits, finds_nothing, kept_after, remaining}
+use Rattle.cept_editor.specs.Meaning.{Step, Turn, Edit}
+use Rattle.cept_editor.specs.Script.{EditLine}
+use Rattle.cept_editor.specs.Stepping.{event_from, nothing_event, edit_events, line_events}
+use Rattle.cept_report.specs.Text.{change_lines, refusal_line}
+use Rattle.cept_editor.proofs.Laws.{report-append, report-one, report-none}
+use Rattle.cept_run.specs.declared.words.Asked.{Asked}
+use Rattle.cept_run.specs.Events.{history, text_of_said, item_event, item_events, events_of_line, script_events}
+use Rattle.cept_run.specs.Events.{edited_events, kept_of}
+use Rattle.cept_run.proofs.EventsOfItems.{events_after, item_events-after}
+use Rattle.cept_run.proofs.EditedLines.{lines_after, script_events-after}
+
+-- one event more, of no text
+silent_one : (e : Event) (es : List Event) → e.text ≡ [] → report es ≡ [] → report (e ∷ es) ≡ []
+silent_one e es none others =
+    report-append (e ∷ []) es ∙ ap (λ t. t ++ report es) (report-one e ∙ none) ∙ others
+
+silent_more : (xs ys : List Event) → report xs ≡ [] → report ys ≡ [] → report (xs ++ ys) ≡ []
+silent_more xs ys first second = report-append xs ys ∙ ap (λ t. t ++ report ys) first ∙ second
+
+-- neither changes nor refusals are listed
+silent_said : (asked : Asked) (item : Item) (what : Said) (xs : List (Place × Look)) → asked.listed ≡ false
+    → asked.refusals ≡ false → text_of_said asked item what xs ≡ []
+silent_said asked item (said.Command command) xs c r = ap (λ b. cond b (change_lines item.at xs) []) c
+silent_said asked item (said.Refused reason) xs c r = ap (λ b. cond b (refusal_line item.at item.len reason) []) r
+
+silent_items_after : (asked : Asked) (earlier items : List Item) → asked.listed ≡ false
+    → asked.refusals ≡ false → report (events_after asked earlier items) ≡ []
+unfolding events_after
+silent_items_after asked earlier [] c r = report-none
+silent_items_after asked earlier (i ∷ is) c r =
+    silent_one (item_event asked earlier i) (events_after asked (earlier ++ i ∷ []) is)
+    (silent_said asked i i.what _ c r) (silent_items_after asked (earlier ++ i ∷ []) is c r)
+
+-- and no edits
+silent_edit : (line n : ℕ) (earlier whole rest : List Command)
+    → report (map (λ (numbered : ℕ × Command). event_from false line (earlier ++ take numbered.0 whole)
+    (earlier ++ take (numbered.0 + 1) whole)) (enumerate_from n rest)) ≡ []
+silent_edit line n earlier whole [] = report-none
+silent_edit line n earlier whole (c ∷ rest) =
+    silent_one (event_from false line (earlier ++ take n whole) (earlier ++ take (n + 1) whole))
+    (map (λ (numbered : ℕ × Command). event_from false line (earlier ++ take numbered.0 whole)
+    (earlier ++ take (numbered.0 + 1) whole)) (enumerate_from (n + 1) rest)) refl
+    (silent_edit line (n + 1) earlier whole rest)
+
+silent_undo : (line : ℕ) (before after : List Command) (none : Bool)
+    → report ((cond none (nothing_event false line before) (event_from false line before after)) ∷ []) ≡ []
+silent_undo line before after true = report-one (nothing_event false line before)
+silent_undo line before after false = report-one (event_from false line before after)
+
+silent_line : (line : ℕ) (page : List Command) (k : KeptEdits) (step : Step)
+    → report (line_events false line page k step) ≡ []
+unfolding edit_events
+silent_line line page k (Turn turn) =
+    silent_undo line (remaining page k) (remaining page (kept_after k (Turn turn))) (finds_nothing turn k)
+silent_line line page k (Edit commands) = silent_edit line 0 (remaining page k) commands commands
+
+silent_lines_after : (listed : Bool) (page : List Command) (earlier lines : List EditLine) → listed ≡ false
+    → report (lines_after listed page earlier lines) ≡ []
+unfolding lines_after
+silent_lines_after listed page earlier [] t = report-none
+silent_lines_after listed page earlier (l ∷ ls) t =
+    silent_more (events_of_line listed page earlier l) (lines_after listed page (earlier ++ l ∷ []) ls)
+    (ap (λ b. report (line_events b l.line page (kept_of earlier) l.step)) t
+    ∙ silent_line l.line page (kept_of earlier) l.step)
+    (silent_lines_after listed page (earlier ++ l ∷ []) ls t)
+
+-- nothing is listed and named, so that nothing is put before the end
+pub silent_edits : (asked : Asked) (items : List Item) (lines : List EditLine) → asked.listed ≡ false
+    → asked.refusals ≡ false → asked.edits_listed ≡ false → report (edited_events asked items lines) ≡ []
+silent_edits asked items lines c r t =
+    silent_more (item_events asked items) (script_events asked.edits_listed (history asked items) lines)
+    (ap report (item_events-after asked items) ∙ silent_items_after asked [] items c r)
+    (ap report (script_events-after asked.edits_listed (history asked items) lines)
+    ∙ silent_lines_after asked.edits_listed (history asked items) [] lines t)

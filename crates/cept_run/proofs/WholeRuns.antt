@@ -1,0 +1,245 @@
+-- A known page, whatever is selected at the end, and the whole run.
+use Rattle.std.proofs.Common.{◌≡◌, ◌≢◌, ◌⊎◌, inl, inr, ℕ, ◌^◌, ◌<◌, ◌≤◌, Bool, true, false, List, [], take}
+use Rattle.std.proofs.Common.{Option, Some, None, is_some, Result, Ok, Err, refl, sym, ◌∙◌, ap, subst, arith}
+use Rattle.std.proofs.Common.{length}
+use Rattle.std.proofs.lemmas.Option.{none-some, same_Some}
+use Rattle.cept_outside.specs.Causes.{Rose}
+use Rattle.cept_outside.specs.ShelfState.{ShelfState, Holds, KeepsFiles, IsSound}
+use Rattle.cept_outside.proofs.Laws.{HasPut-nothing, append_known-nil}
+use Rattle.cept_run.specs.declared.page.Stop.{Stop}
+use Rattle.cept_run.specs.declared.page.Stop.TheVariants as stops
+use Rattle.cept_run.specs.declared.run.Status.{Status}
+use Rattle.cept_run.specs.declared.run.Status.TheVariants as statuses
+use Rattle.cept_run.specs.Course.{Course, Source, File, Given, Gives, IsNamed, course_of}
+use Rattle.cept_run.specs.Outside.{Outside}
+use Rattle.cept_run.specs.Run.{is_early, is_whole, EndsAtReadFault, IsPageTooLong, IsScriptTooLong, Ends, ReadsFiles}
+use Rattle.cept_run.specs.Run.{ReportsFront, TouchesShelf, RunsCourse, IsShortScript, Runs, status_at_end}
+use Rattle.cept_run.specs.Words.{Request, request_of}
+use Rattle.cept_run.proofs.PagesInPieces.{nil_from_length}
+use Rattle.cept_run.proofs.StoppedScripts.{name_in}
+
+-- ---- a known page, whatever is selected at the end
+
+-- where the page is known, either it is selected at the end, or no name is
+selected_at_end : (name : List ℕ) (before after : ShelfState) (selected : Option (Option (List ℕ))) (page : List ℕ)
+    → after.selected ≡ selected → IsSound before → KeepsFiles before after → Holds before name page
+    → ((chosen : Option (List ℕ)) → after.selected ≡ Some chosen → (chosen ≡ None) ⊎ (chosen ≡ Some name))
+    → (after.selected ≡ Some None) ⊎ (after.selected ≡ Some (Some name))
+selected_at_end name before after None page is sound keeps holds selects =
+    let reported : is_some after.selected ≡ true = keeps.tells_selected ∙ sound.together ∙ holds.tells in
+    let untold : false ≡ true = sym (ap is_some is) ∙ reported in
+    cc
+selected_at_end name before after (Some chosen) page is sound keeps holds selects = by_name (selects chosen is)
+  where
+    by_name : (chosen ≡ None) ⊎ (chosen ≡ Some name)
+        → (after.selected ≡ Some None) ⊎ (after.selected ≡ Some (Some name))
+    by_name (inl e) = inl (is ∙ ap Some e)
+    by_name (inr e) = inr (is ∙ ap Some e)
+
+-- without a script no other name is selected
+page_alone : (name own : List ℕ) (script : Source) (chosen : Option (List ℕ)) → script ≡ Given own
+    → (chosen ≡ None) ⊎ (chosen ≡ Some name) ⊎ IsNamed script chosen → (chosen ≡ None) ⊎ (chosen ≡ Some name)
+page_alone name own script chosen given (inl e) = inl e
+page_alone name own script chosen given (inr (inl e)) = inr e
+page_alone name own script chosen given (inr (inr named)) =
+    absurd (subst (λ (s : Source). IsNamed s chosen) given named)
+
+-- what the shelf does, where the page is in a file
+reads_files : (course : Course) (name : List ℕ) (before after : ShelfState) (status : Status) → course.page ≡ File name
+    → TouchesShelf course course.page before after status → ReadsFiles course name before after status
+reads_files course name before after status is =
+    subst (λ (s : Source). TouchesShelf course s before after status) is
+
+module _ (course : Course) (name own page : List ℕ) (before after : Outside) (status : Status)
+    (sound : IsSound before.shelf) (sound_after : IsSound after.shelf) (run : RunsCourse course before after status)
+    (touched : is_early status ≡ false) (paged : course.page ≡ File name) (holds : Holds before.shelf name page)
+    (alone : course.script ≡ Given own) where
+  at_end : (after.shelf.selected ≡ Some None) ⊎ (after.shelf.selected ≡ Some (Some name))
+  at_end =
+      let shelf = reads_files course name before.shelf after.shelf status paged run.shelf in
+      selected_at_end name before.shelf after.shelf after.shelf.selected page refl sound shelf.files holds
+      (λ chosen is. page_alone name own course.script chosen alone (shelf.selects touched chosen is))
+
+  unread_by : EndsAtReadFault course before after → (after.shelf.selected ≡ Some None)
+      ⊎ (after.shelf.selected ≡ Some (Some name)) → ReportsFront course (take after.shelf.taken page) before after
+  unread_by ends (inr is) =
+      let same : ends.name ≡ name = name_in ends.name name (sym ends.named ∙ paged) in
+      subst (λ (b : List ℕ). ReportsFront course b before after)
+      (ends.front_is page (subst (λ n. Holds before.shelf n page) (sym same) holds)
+      (is ∙ ap (λ n. Some (Some n)) (sym same))) ends.reports
+  unread_by ends (inl none) =
+      let nothing = (sound_after.nothing none).1 in
+      subst (λ (b : List ℕ). ReportsFront course b before after)
+      (by_count ends.counted nothing ∙ sym (ap (λ k. take k page) nothing)) ends.reports
+    where
+      by_count : (ends.front ≡ []) ⊎ (after.shelf.taken ≡ length ends.front) → after.shelf.taken ≡ 0 → ends.front ≡ []
+      by_count (inl e) nothing = e
+      by_count (inr e) nothing = nil_from_length ends.front (sym e ∙ nothing)
+
+  too_long_by : IsPageTooLong course before after ⊎ IsScriptTooLong course before after
+      → ReportsFront course (take (2 ^ 24) page) before after
+  too_long_by (inl ends) =
+      let same : ends.name ≡ name = name_in ends.name name (sym ends.named ∙ paged) in
+      subst (λ (b : List ℕ). ReportsFront course b before after)
+      (ends.front_is page (subst (λ n. Gives before.shelf n page) (sym same) (inl holds))) ends.reports
+  too_long_by (inr ends) = absurd (not_file own ends.name (sym alone ∙ ends.named))
+    where
+      not_file : (given other : List ℕ) → Given given ≡ File other → ⊥
+      not_file given other e = cc
+
+pub unread_reported : (words : List (List ℕ)) (request : Request) (name own page : List ℕ) (before after : Outside)
+    → IsSound before.shelf → IsSound after.shelf → Runs words before after statuses.ReadFault
+    → request_of words ≡ Some request → (course_of request).page ≡ File name → Holds before.shelf name page
+    → (course_of request).script ≡ Given own
+    → ReportsFront (course_of request) (take after.shelf.taken page) before after
+unread_reported words request name own page before after sound sound_after runs asked paged holds alone =
+    let run = runs.request request asked in
+    unread_by (course_of request) name own page before after statuses.ReadFault sound sound_after run refl paged holds
+    alone run.ends
+    (at_end (course_of request) name own page before after statuses.ReadFault sound sound_after run refl paged holds alone)
+
+pub too_long_reported : (words : List (List ℕ)) (request : Request) (name own page : List ℕ) (before after : Outside)
+    → IsSound before.shelf → IsSound after.shelf → Runs words before after statuses.TooLong
+    → request_of words ≡ Some request → (course_of request).page ≡ File name → Holds before.shelf name page
+    → (course_of request).script ≡ Given own
+    → ReportsFront (course_of request) (take (2 ^ 24) page) before after
+too_long_reported words request name own page before after sound sound_after runs asked paged holds alone =
+    let run = runs.request request asked in
+    too_long_by (course_of request) name own page before after statuses.TooLong sound sound_after run refl paged holds
+    alone run.ends.which
+
+-- ---- the whole run
+
+-- a script that is short enough is not too long
+not_short : (shelf : ShelfState) (script : Source) (name : List ℕ) → script ≡ File name
+    → ((told : List ℕ) → Gives shelf name told → 2 ^ 20 < length told) → IsShortScript shelf script → ⊥
+not_short shelf (File other) name named longer short = omega (
+  arith,
+  short.2,
+  longer short.0
+      (subst (λ n. Gives shelf n short.0) (name_in other name named) short.1),
+)
+not_short shelf (Given own) name named longer short = cc
+
+not_too_long : (course : Course) (name page : List ℕ) (before after : Outside) → course.page ≡ File name
+    → IsPageTooLong course before after ⊎ IsScriptTooLong course before after → Gives before.shelf name page
+    → length page ≤ 2 ^ 24 → IsShortScript before.shelf course.script → ⊥
+not_too_long course name page before after paged (inl ends) given few short = omega (
+  arith,
+  few,
+  ends.longer page
+      (subst (λ n. Gives before.shelf n page) (name_in name ends.name (sym paged ∙ ends.named)) given),
+)
+not_too_long course name page before after paged (inr ends) given few short =
+    not_short before.shelf course.script ends.name ends.named ends.longer short
+
+-- it is read to its end, or there is a cause
+completes_by : (course : Course) (name page : List ℕ) (before after : Outside) (status : Status)
+    → course.page ≡ File name → Ends course before after status → Gives before.shelf name page
+    → length page ≤ 2 ^ 24 → IsShortScript before.shelf course.script
+    → (Rose before.shelf.faults after.shelf.faults → ⊥) → (Rose before.sink.faults after.sink.faults → ⊥)
+    → (is_whole status ≡ true) ⊎ (status ≡ statuses.Script)
+    ⊎ ((status ≡ statuses.NoMemory) × (course.painting ≡ true))
+completes_by course name page before after statuses.Done paged ends given few short shelf sink = inl refl
+completes_by course name page before after statuses.Refusals paged ends given few short shelf sink = inl refl
+completes_by course name page before after statuses.Usage paged ends given few short shelf sink = elim ends [ ]
+completes_by course name page before after statuses.Script paged ends given few short shelf sink = inr (inl refl)
+completes_by course name page before after statuses.ReadFault paged ends given few short shelf sink =
+    absurd (shelf ends.read_fault)
+completes_by course name page before after statuses.WriteFault paged ends given few short shelf sink =
+    absurd (sink ends.write_fault)
+completes_by course name page before after statuses.NoMemory paged ends given few short shelf sink =
+    inr (inr (refl, ends.memory))
+completes_by course name page before after statuses.TooLong paged ends given few short shelf sink =
+    absurd (not_too_long course name page before after paged ends.which given few short)
+
+runs_by : (words : List (List ℕ)) (request : Request) (before after : Outside) (status : Status)
+    → request_of words ≡ Some request → (status ≡ statuses.Usage → ⊥)
+    → RunsCourse (course_of request) before after status → Runs words before after status
+runs_by words request before after status is other run =
+    let same : (r : Request) → request_of words ≡ Some r → request ≡ r = λ r e. same_Some request r (sym is ∙ e) in
+    let by : (r : Request) → request_of words ≡ Some r → RunsCourse (course_of r) before after status =
+    λ r e. subst (λ (q : Request). RunsCourse (course_of q) before after status) (same r e) run in
+    record {
+      usage = ((λ e. absurd (other e)), (λ none. absurd (none-some request (sym none ∙ is))));
+      untouched = λ u. absurd (other u);
+      request = by;
+      completes = λ r page asks few short shelf sink. completes_by (course_of r) asks.name page before after status
+          asks.named (by r asks.asked).ends asks.given few short shelf sink;
+    }
+
+-- the words are no request
+pub runs_nothing : (words : List (List ℕ)) (before : Outside) → request_of words ≡ None
+    → Runs words before before statuses.Usage
+runs_nothing words before none = record {
+  usage = ((λ e. none), (λ e. refl));
+  untouched = λ e. refl;
+  request = λ r e. absurd (none-some r (sym none ∙ e));
+  completes = λ r page asks few short shelf sink. absurd (none-some r (sym none ∙ asks.asked));
+}
+
+-- a run of a request, by what was answered
+pub runs_at_end : (words : List (List ℕ)) (request : Request) (before after : Outside) (answer : Result Bool Stop)
+    → request_of words ≡ Some request → RunsCourse (course_of request) before after (status_at_end answer)
+    → Runs words before after (status_at_end answer)
+runs_at_end words request before after (Ok false) is run =
+    runs_by words request before after statuses.Done is (λ e. cc) run
+runs_at_end words request before after (Ok true) is run =
+    runs_by words request before after statuses.Refusals is (λ e. cc) run
+runs_at_end words request before after (Err stops.ReadFault) is run =
+    runs_by words request before after statuses.ReadFault is (λ e. cc) run
+runs_at_end words request before after (Err stops.WriteFault) is run =
+    runs_by words request before after statuses.WriteFault is (λ e. cc) run
+runs_at_end words request before after (Err stops.TooLong) is run =
+    runs_by words request before after statuses.TooLong is (λ e. cc) run
+runs_at_end words request before after (Err stops.Script) is run =
+    runs_by words request before after statuses.Script is (λ e. cc) run
+runs_at_end words request before after (Err stops.NoMemory) is run =
+    runs_by words request before after statuses.NoMemory is (λ e. cc) run
+
+-- what a run that isn't of status 2 ended by
+pub ended : (words : List (List ℕ)) (before after : Outside) (status : Status) (P : Type 0)
+    → (status ≡ statuses.Usage → ⊥) → Runs words before after status
+    → ((course : Course) → Ends course before after status → P) → P
+ended words before after status P other runs by = by_request (request_of words) refl
+  where
+    by_request : (r : Option Request) → request_of words ≡ r → P
+    by_request None is = absurd (other (runs.usage.1 is))
+    by_request (Some request) is = by (course_of request) (runs.request request is).ends
+
+-- ---- there is no memory
+
+-- the shelf isn't touched
+shelf_untouched : (course : Course) (page : Source) (shelf : ShelfState)
+    → TouchesShelf course page shelf shelf statuses.NoMemory
+shelf_untouched course (File name) shelf = record {
+  script_first = λ stopper. (refl, λ touched. cc);
+  missed = λ there scripts. refl;
+  selects = λ touched. cc;
+  files = record { files = refl; tells_selected = refl; tells_left = refl };
+  faults = omega arith;
+}
+shelf_untouched course (Given own) shelf = refl
+
+-- for a screen or an editor; nothing was touched
+pub runs_without_memory : (course : Course) (before : Outside) → course.painting ≡ true
+    → RunsCourse course before before statuses.NoMemory
+runs_without_memory course before painting = record {
+  ends = record {
+    memory = painting;
+    unput = refl;
+    unpainted = refl;
+    untouched = λ own e. refl;
+    early = inl refl;
+    shelf_stays = refl;
+  };
+  shelf = shelf_untouched course course.page before.shelf;
+  bad_script = λ name script fault named given found. record {
+    unpainted = refl;
+    size = 0;
+    put = append_known-nil before.sink.bytes;
+  };
+  unpainted = λ idle. refl;
+  unflushed = λ early. HasPut-nothing before.sink;
+  sink_faults = omega arith;
+}

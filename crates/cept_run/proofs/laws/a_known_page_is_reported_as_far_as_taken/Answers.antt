@@ -1,0 +1,5 @@
+use Rattle.cept_run.proofs.WholeRuns.{unread_reported, too_long_reported}
+use Rattle.cept_run.proofs.laws.a_known_page_is_reported_as_far_as_taken.Goals as goal
+
+pub returns : goal.returns
+returns c = record { read_fault = unread_reported; too_long = too_long_reported }

@@ -1,0 +1,116 @@
+-- The course of a run: what it reads, the events of what it read, and what decides how it ends. Each request is one, and what
+-- a run does is said of its course alone. This project's own.
+use Rattle.std.specs.Prelude.{◌≡◌, ◌⊎◌, ℕ, Bool, true, false, not, ◌&&◌, List, [], ◌∷◌, Option, Some, None, is_some}
+use Rattle.cept_codes.specs.declared.command.Command.{Command}
+use Rattle.cept_codes.specs.declared.look.Look.{Look}
+use Rattle.cept_editor.specs.Events.{Event}
+use Rattle.cept_editor.specs.Script.{Fault, edits, first_fault}
+use Rattle.cept_generator.specs.Generated.{generated}
+use Rattle.cept_outside.specs.ShelfState.{ShelfState, Holds, Lacks}
+use Rattle.cept_parser.specs.Items.{items}
+use Rattle.cept_run.specs.declared.words.Asked.{Asked}
+use Rattle.cept_run.specs.declared.words.End.{End}
+use Rattle.cept_run.specs.declared.words.End.TheVariants as ends
+use Rattle.cept_run.specs.declared.words.NumberAction.{NumberAction}
+use Rattle.cept_run.specs.declared.words.NumberAction.TheVariants as numbers
+use Rattle.cept_run.specs.Events.{history, item_events, run_events, remaining_of}
+use Rattle.cept_run.specs.Words.{Request, Page, Script, Number, asked_of_page, asked_of_script, asked_to_load}
+
+-- ---- what is read
+
+-- bytes that the file of this name gives, or that the words alone give
+pub data Source : Type 0 where
+  File : List ℕ → Source
+  Given : List ℕ → Source
+
+-- the shelf tells its selection and these bytes under the name, or that it has nothing under it; then these are none
+abbrev pub Gives : ShelfState → List ℕ → List ℕ → Type 0
+Gives shelf name bytes =
+    Holds shelf name bytes ⊎ (Lacks shelf name × (is_some shelf.left ≡ true) × (bytes ≡ []))
+
+-- a source has these bytes: a file has those that the shelf gives, where it tells them
+abbrev pub HasBytes : ShelfState → Source → List ℕ → Type 0
+HasBytes shelf (File name) bytes = (told : List ℕ) → Gives shelf name told → bytes ≡ told
+HasBytes shelf (Given own) bytes = bytes ≡ own
+
+-- a source is the file of this name, if one is chosen
+abbrev pub IsNamed : Source → Option (List ℕ) → Type 0
+IsNamed (File name) chosen = chosen ≡ Some name
+IsNamed (Given own) chosen = ⊥
+
+-- ---- courses
+
+pub record Course : Type 0 where
+  -- the page that is read, and the script that is read before it
+  pub page : Source
+  pub script : Source
+  -- the first fault of a script
+  pub fault : List ℕ → Option Fault
+  -- the events of these bytes, the front of a page, and the commands that remain after them
+  pub front_events : List ℕ → List Event
+  pub front_remaining : List ℕ → List Command
+  -- all events of a page and a script that are read to their ends, where the glass shows this grid at the end, and the
+  -- commands that remain after them
+  pub events : List ℕ → List ℕ → List (List Look) → List Event
+  pub remaining : List ℕ → List ℕ → List Command
+  -- the page's items decide the status: one that is refused makes it 1
+  pub judged : Bool
+  -- the glass is painted, which takes memory
+  pub painting : Bool
+  -- nothing is put but the page, as bytes that bring it back
+  pub written : Bool
+
+-- what is put at the end is the page
+abbrev pub is_page : End → Bool
+is_page ends.Page = true
+is_page _ = false
+
+-- nothing is put but the page, at the end
+abbrev pub puts_page : Asked → Bool
+puts_page asked =
+    asked.painting && is_page asked.end && not asked.listed && not asked.refusals && not asked.edits_listed
+
+-- items are reported, and then the edits of a script
+abbrev pub reporting : Asked → Source → Source → Course
+reporting asked page script = record {
+  page = page;
+  script = script;
+  fault = first_fault;
+  front_events = λ bytes. item_events asked (items bytes);
+  front_remaining = λ bytes. history asked (items bytes);
+  events = λ bytes lines shown. run_events asked bytes (edits lines) shown;
+  remaining = λ bytes lines. remaining_of asked bytes (edits lines);
+  judged = true;
+  painting = asked.painting;
+  written = puts_page asked;
+}
+
+-- a text is put
+abbrev pub text_event : List ℕ → Event
+text_event text = record { before = []; after = []; text = text }
+
+-- bytes are put as they are, whatever they say
+abbrev pub putting : List ℕ → Course
+putting page = record {
+  page = Given page;
+  script = Given [];
+  fault = first_fault;
+  front_events = λ bytes. text_event bytes ∷ [];
+  front_remaining = λ bytes. [];
+  events = λ bytes lines shown. text_event bytes ∷ [];
+  remaining = λ bytes lines. [];
+  judged = false;
+  painting = false;
+  written = false;
+}
+
+-- of a generated page
+abbrev pub course_of_number : NumberAction → ℕ → Course
+course_of_number numbers.Generate number = putting (generated number)
+course_of_number numbers.Load number = reporting asked_to_load (Given (generated number)) (Given [])
+
+-- the course of each request
+abbrev pub course_of : Request → Course
+course_of (Page action page) = reporting (asked_of_page action) (File page) (Given [])
+course_of (Script action page script) = reporting (asked_of_script action) (File page) (File script)
+course_of (Number action number) = course_of_number action number

@@ -1,0 +1,130 @@
+-- The events of a run: one for each item of the page, one for each command of each edit and for each undo, and one at the
+-- end. This project's own.
+use Rattle.std.specs.Prelude.{ℕ, Bool, List, [], ◌∷◌, ◌++◌, length, map, take, count_by, nat_lt}
+use Rattle.std.specs.Prelude.{if◌then◌else◌}
+use Rattle.std.specs.List.{enumerate_from, flat_map}
+use Rattle.cept_codes.specs.declared.command.Command.{Command}
+use Rattle.cept_codes.specs.declared.item.Item.{Item}
+use Rattle.cept_codes.specs.declared.item.Said.{Said}
+use Rattle.cept_codes.specs.declared.item.Said.TheVariants as said
+use Rattle.cept_codes.specs.declared.look.Look.{Look}
+use Rattle.cept_codes.specs.Place.{Place}
+use Rattle.cept_parser.specs.Items.{closed_items, commands_of, is_refusal}
+use Rattle.cept_profile.specs.Changes.{changes_between}
+use Rattle.cept_profile.specs.Control.{control}
+use Rattle.cept_profile.specs.Look.{grid}
+use Rattle.cept_report.specs.Screen.{screen_text, cells_text}
+use Rattle.cept_report.specs.Text.{change_lines, refusal_line, check_line, load_line}
+use Rattle.cept_profile.specs.State.{core}
+use Rattle.cept_writer.specs.PageCommands.{page_text}
+use Rattle.cept_editor.specs.Events.{Event, paints}
+use Rattle.cept_editor.specs.Kept.{KeptEdits, kept, remaining}
+use Rattle.cept_editor.specs.Script.{EditLine}
+use Rattle.cept_editor.specs.Stepping.{line_events}
+use Rattle.cept_run.specs.declared.words.Asked.{Asked}
+use Rattle.cept_run.specs.declared.words.End.{End}
+use Rattle.cept_run.specs.declared.words.End.TheVariants as ends
+
+-- ---- items
+
+-- the commands that are applied of items
+abbrev pub history : Asked → List Item → List Command
+history asked items = if asked.painting then commands_of items else []
+
+-- what is put of an item that changes these places
+abbrev pub text_of_said : Asked → Item → Said → List (Place × Look) → List ℕ
+text_of_said asked item (said.Command command) changes = if asked.listed then change_lines item.at changes else []
+text_of_said asked item (said.Refused reason) changes =
+    if asked.refusals then refusal_line item.at item.len reason else []
+
+-- an item that comes with these commands before it and these after it
+abbrev pub event_between : Asked → Item → List Command → List Command → Event
+event_between asked item before after = record {
+  before = before;
+  after = after;
+  text = text_of_said asked item item.what (changes_between (grid before) (grid after));
+}
+
+-- an item that comes after these
+abbrev pub item_event : Asked → List Item → Item → Event
+item_event asked earlier item =
+    event_between asked item (history asked earlier) (history asked (earlier ++ item ∷ []))
+
+-- each of these items, after those before it
+unfoldable pub item_events : Asked → List Item → List Event
+item_events asked items =
+    map (λ numbered. item_event asked (take numbered.0 items) numbered.1) (enumerate_from 0 items)
+
+-- ---- refusals, and the end
+
+-- how many items are refused
+abbrev pub refused_count : List Item → ℕ
+refused_count items = count_by (λ i. is_refusal i.what) items
+
+-- an item is refused
+abbrev pub has_refusal : List Item → Bool
+has_refusal items = nat_lt 0 (refused_count items)
+
+-- how many rows the page has after the commands
+abbrev pub rows_after : List Command → ℕ
+rows_after commands = (control commands).rows
+
+-- how many places are painted at these items
+abbrev pub painted_at : Asked → List Item → ℕ
+painted_at asked items = length (paints (item_events asked items))
+
+-- what is put at the end of a page that was painted, where these commands remain and the glass shows this grid
+abbrev pub painted_end : End → Asked → List (List Look) → List ℕ → List Command → List ℕ
+painted_end ends.Nothing asked shown page commands = []
+painted_end ends.Screen asked shown page commands = screen_text shown (rows_after commands)
+painted_end ends.Cells asked shown page commands = cells_text shown (rows_after commands)
+painted_end ends.Page asked shown page commands = page_text (core commands)
+painted_end ends.Counts asked shown page commands =
+    load_line (length page) (length (closed_items page)) (painted_at asked (closed_items page))
+
+-- what is put at the end of a page; of one that isn't painted the counts of its items
+abbrev pub text_at_end : Asked → List (List Look) → List ℕ → List Command → List ℕ
+text_at_end asked shown page commands =
+    if asked.painting then painted_end asked.end asked shown page commands
+    else check_line (length (closed_items page)) (refused_count (closed_items page))
+
+-- the end of a page, where these commands remain and the glass shows this grid: it changes nothing
+abbrev pub end_event : Asked → List (List Look) → List ℕ → List Command → Event
+end_event asked shown page commands = record {
+  before = commands;
+  after = commands;
+  text = text_at_end asked shown page commands;
+}
+
+-- ---- edit lines
+
+-- the edits that are kept after these edit lines
+abbrev pub kept_of : List EditLine → KeptEdits
+kept_of lines = kept (map (λ line. line.step) lines)
+
+-- the events of an edit line that comes after these, after a page's commands; their changes are listed or not
+abbrev pub events_of_line : Bool → List Command → List EditLine → EditLine → List Event
+events_of_line listed page earlier line =
+    line_events listed line.line page (kept_of earlier) line.step
+
+-- the events of each of these edit lines, after those before it
+unfoldable pub script_events : Bool → List Command → List EditLine → List Event
+script_events listed page lines =
+    flat_map (λ numbered. events_of_line listed page (take numbered.0 lines) numbered.1) (enumerate_from 0 lines)
+
+-- ---- a whole run
+
+-- the commands that remain after a page and edit lines: those of the page, and those of the edits that are kept
+abbrev pub remaining_of : Asked → List ℕ → List EditLine → List Command
+remaining_of asked page lines = remaining (history asked (closed_items page)) (kept_of lines)
+
+-- the events of a page that is read to its end, and of edit lines
+abbrev pub edited_events : Asked → List Item → List EditLine → List Event
+edited_events asked items lines =
+    item_events asked items ++ script_events asked.edits_listed (history asked items) lines
+
+-- all events of a run over a page that is read to its end, and over edit lines, where the glass shows this grid at the end
+abbrev pub run_events : Asked → List ℕ → List EditLine → List (List Look) → List Event
+run_events asked page lines shown =
+    edited_events asked (closed_items page) lines
+    ++ end_event asked shown page (remaining_of asked page lines) ∷ []

@@ -1,0 +1,34 @@
+-- What a run has from outside: a shelf to read, a sink to put into, and a glass to paint on. This project's own.
+use Rattle.std.specs.Prelude.{◌≡◌, ◌⊎◌, ◌≤◌, ℕ, false, List, []}
+use Rattle.std.specs.Io.KnownBytes.{append_known}
+use Rattle.cept_outside.specs.ShelfState.{ShelfState}
+use Rattle.cept_outside.specs.Causes.{Rose}
+use Rattle.cept_outside.specs.SinkState.{SinkState, Gains, GainsPart}
+use Rattle.cept_repaint.specs.GlassState.{GlassState}
+use Rattle.cept_editor.specs.Made.{Output, output_of}
+
+-- a shelf, a sink and a glass
+pub record Outside : Type 0 where
+  pub shelf : ShelfState
+  pub sink : SinkState
+  pub glass : GlassState
+
+-- these three
+abbrev pub outside_of : ShelfState → SinkState → GlassState → Outside
+outside_of shelf sink glass = record { shelf = shelf; sink = sink; glass = glass }
+
+-- where it puts and paints
+abbrev pub output : Outside → Output
+output o = output_of o.sink o.glass
+
+-- a text was put whole and flushed
+pub record PutsWhole (text : List ℕ) (before after : SinkState) : Type 0 where
+  pub put : after.bytes ≡ append_known before.bytes text
+  pub flushed : after.unflushed ≡ false
+  pub stays : after.faults ≡ before.faults
+
+-- a text was put, whole or a part of it from its front on, and the sink failed
+pub record PutsUnflushed (text : List ℕ) (before after : SinkState) : Type 0 where
+  pub cause : Rose before.faults after.faults
+  pub later : before.faults ≤ after.faults
+  pub put : GainsPart before text after ⊎ Gains before text after

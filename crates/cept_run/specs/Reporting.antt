@@ -1,0 +1,243 @@
+-- What stands while a page is reported, and from which items to which it goes on. This project's own. Private clauses
+-- alone cite this file.
+use Rattle.std.specs.Prelude.{◌≡◌, ℕ, ◌+◌, ◌≤◌, Bool, true, false, List, [], ◌∷◌, ◌++◌, length, Option, Some, None}
+use Rattle.std.specs.Prelude.{if◌then◌else◌, Result, OnOk, OnErr, IsOk, IfErr}
+use Rattle.cept_codes.specs.declared.command.Command.{Command}
+use Rattle.cept_codes.specs.declared.item.Item.{Item}
+use Rattle.cept_codes.specs.declared.item.Reason.{Reason}
+use Rattle.cept_parser.specs.Items.{items, closed_items}
+use Rattle.cept_parser.specs.State.{ParserState, Leads}
+use Rattle.cept_profile.specs.Changes.{changes, differences, grid_with_paints}
+use Rattle.cept_profile.specs.Look.{grid}
+use Rattle.cept_profile.specs.State.{State, state}
+use Rattle.cept_profile.specs.Valid.{AllValid}
+use Rattle.cept_repaint.specs.GlassState.{GlassState, Lists}
+use Rattle.cept_report.specs.Text.{change_lines, refusal_line}
+use Rattle.cept_editor.specs.Events.{Event}
+use Rattle.cept_editor.specs.Kept.{KeptEdits, none_kept, kept_after, remaining, EditorState, StandsAfter}
+use Rattle.cept_editor.specs.Made.{Output, IsMade, AreMade, AreCutOff}
+use Rattle.cept_editor.specs.Script.{EditLine}
+use Rattle.cept_editor.specs.Stepping.{line_events}
+use Rattle.cept_run.specs.declared.easel.Easel.{Easel}
+use Rattle.cept_run.specs.declared.easel.Easel.TheVariants as easels
+use Rattle.cept_run.specs.declared.page.Stop.{Stop}
+use Rattle.cept_run.specs.declared.page.Stop.TheVariants as stops
+use Rattle.cept_run.specs.declared.words.Asked.{Asked}
+use Rattle.cept_run.specs.Words.{is_counted}
+use Rattle.cept_run.specs.Events.{history, item_events, refused_count, painted_at, kept_of, script_events, edited_events}
+
+-- ---- the reporter of items
+
+-- what is done with a page, and the edits of the script that is asked for beside it, if one is
+pub record Plan : Type 0 where
+  pub asked : Asked
+  pub script : Option (List EditLine)
+
+-- the edits, if there are some
+abbrev pub lines_if_any : Option (List EditLine) → List EditLine
+lines_if_any None = []
+lines_if_any (Some lines) = lines
+
+-- the edits that are made: where nothing is painted, none
+abbrev pub lines_of : Plan → List EditLine
+lines_of plan = if plan.asked.painting then lines_if_any plan.script else []
+
+-- what is asked for, what commands are applied to, how many items there were and were refused, and how many places were
+-- painted, where these are counted
+pub record ReporterState : Type 0 where
+  pub asked : Asked
+  pub easel : Easel
+  pub items : ℕ
+  pub refused : ℕ
+  pub painted : ℕ
+
+-- what the commands of a page are applied to, after these: where there is a script, a screen whose edits can be taken back
+abbrev pub painted_easel : Option (List EditLine) → List Command → Easel
+painted_easel None commands = easels.Screen (state commands)
+painted_easel (Some lines) commands = easels.Editor (record { screen = state commands; past = [] }) lines
+
+-- what commands are applied to, after these
+abbrev pub easel_at : Plan → List Command → Easel
+easel_at plan commands = if plan.asked.painting then painted_easel plan.script commands else easels.Nothing
+
+-- the screen, where there is one
+abbrev pub screen_of : Easel → Option State
+screen_of easels.Nothing = None
+screen_of (easels.Screen screen) = Some screen
+screen_of (easels.Editor editor lines) = Some editor.screen
+
+-- the edits of the script, where there is one
+abbrev pub script_in : Easel → Option (List EditLine)
+script_in easels.Nothing = None
+script_in (easels.Screen screen) = None
+script_in (easels.Editor editor lines) = Some lines
+
+-- the plan by which it reports
+abbrev pub plan_in : ReporterState → Plan
+plan_in reporter = record { asked = reporter.asked; script = script_in reporter.easel }
+
+-- what is counted of so many painted places
+abbrev pub counted_of : Asked → ℕ → ℕ
+counted_of asked places = if is_counted asked.end then places else 0
+
+-- it stands after these items, of which this is asked
+pub record Stands (plan : Plan) (reporter : ReporterState) (reported : List Item) : Type 0 where
+  pub asked_is : reporter.asked ≡ plan.asked
+  pub valid : AllValid (history plan.asked reported)
+  pub easel : reporter.easel ≡ easel_at plan (history plan.asked reported)
+  pub items : reporter.items ≡ length reported
+  pub refused : reporter.refused ≡ refused_count reported
+  pub painted : reporter.painted ≡ counted_of plan.asked (painted_at plan.asked reported)
+
+-- from a start to now it has reported these items, and no fault was counted
+pub record HasReported (plan : Plan) (reporter : ReporterState) (reported : List Item) (start now : Output) : Type
+    0 where
+  pub stands : Stands plan reporter reported
+  pub made : AreMade (item_events plan.asked reported) start now
+  pub stays : now.sink.faults ≡ start.sink.faults
+
+-- what is put of refused bytes
+abbrev pub refusal_text : Asked → Item → Reason → List ℕ
+refusal_text asked item reason =
+    if asked.refusals then refusal_line item.at item.len reason else []
+
+-- a command at this place, after these
+abbrev pub command_event : Asked → ℕ → List Command → Command → Event
+command_event asked place earlier command = record {
+  before = earlier;
+  after = earlier ++ command ∷ [];
+  text = if asked.listed then change_lines place (changes earlier command) else [];
+}
+
+-- a command was applied after these, where they are painted
+pub record IsAppliedAfter (script : Option (List EditLine)) (earlier : List Command) (command : Command) (before : GlassState)
+    (easel : Easel) (marks : List Bool) (after : GlassState) : Type 0 where
+  pub easel_is : easel ≡ painted_easel script (earlier ++ command ∷ [])
+  pub marked : marks ≡ differences (grid earlier) (grid (earlier ++ command ∷ []))
+  pub told : Lists before.paints (changes earlier command) after.paints
+  pub shown : after.grid ≡ grid_with_paints before.grid (changes earlier command)
+
+-- a command is applied, where there is a screen
+pub record AppliesOn (old : Easel) (command : Command) (before : GlassState) (new : Easel) (marks : List Bool)
+    (after : GlassState) : Type 0 where
+  pub painted : (script : Option (List EditLine)) (earlier : List Command) → AllValid earlier
+      → old ≡ painted_easel script earlier → IsAppliedAfter script earlier command before new marks after
+  pub idle : old ≡ easels.Nothing → (new ≡ easels.Nothing) × (after ≡ before)
+
+-- it applies a command: where commands are painted, the command's event is made; else nothing happens
+pub record Applies {X E : Type 0} (old : ReporterState) (place : ℕ) (command : Command) (before : Output)
+    (result : Result X E) (new : ReporterState) (after : Output) : Type 0 where
+  pub asked : new.asked ≡ old.asked
+  pub items : new.items ≡ old.items
+  pub refused : new.refused ≡ old.refused
+  pub easel : (script : Option (List EditLine)) (earlier : List Command) → AllValid earlier
+      → old.asked.painting ≡ true → old.easel ≡ painted_easel script earlier
+      → new.easel ≡ painted_easel script (earlier ++ command ∷ [])
+  pub made : (script : Option (List EditLine)) (earlier : List Command) → AllValid earlier
+      → old.asked.painting ≡ true → old.easel ≡ painted_easel script earlier
+      → IsMade (command_event old.asked place earlier command) before result after
+  pub painted : (script : Option (List EditLine)) (earlier : List Command) → AllValid earlier
+      → old.asked.painting ≡ true → old.easel ≡ painted_easel script earlier
+      → new.painted ≡ old.painted + counted_of old.asked (length (changes earlier command))
+  pub few : new.painted ≤ old.painted + 960
+  pub idle : old.easel ≡ easels.Nothing
+      → (new.easel ≡ easels.Nothing) × IsOk result × (after ≡ before) × (new.painted ≡ old.painted)
+
+-- it goes on by these items: all are reported, or the sink failed at one
+pub record ReportsOn {X E : Type 0} (old : ReporterState) (more : List Item) (before : Output) (result : Result X E)
+    (new : ReporterState) (after : Output) : Type 0 where
+  pub counted : new.items ≤ old.items + length more
+  pub reported : OnOk result ((plan : Plan) (earlier : List Item) (start : Output)
+      → HasReported plan old earlier start before → HasReported plan new (earlier ++ more) start after)
+  pub cut : OnErr result ((plan : Plan) (earlier : List Item) (start : Output)
+      → HasReported plan old earlier start before → AreCutOff (item_events plan.asked (earlier ++ more)) start after)
+
+-- ---- edits
+
+-- an edit line is made after whatever page and kept edits an editor stands: exactly its events are made, or the sink
+-- failed at one
+pub record MakesLine {X E : Type 0} (listed : Bool) (edit : EditLine) (old : EditorState) (before : Output)
+    (result : Result X E) (new : EditorState) (after : Output) : Type 0 where
+  pub stands : OnOk result ((page : List Command) (k : KeptEdits) → StandsAfter old page k
+      → StandsAfter new page (kept_after k edit.step))
+  pub made : OnOk result ((page : List Command) (k : KeptEdits) → StandsAfter old page k
+      → AreMade (line_events listed edit.line page k edit.step) before after)
+  pub stays : OnOk result (after.sink.faults ≡ before.sink.faults)
+  pub cut : OnErr result ((page : List Command) (k : KeptEdits) → StandsAfter old page k
+      → AreCutOff (line_events listed edit.line page k edit.step) before after)
+
+-- after a page these edit lines were made
+pub record HasMadeLines (listed : Bool) (page : List Command) (lines : List EditLine) (editor : EditorState)
+    (start now : Output) : Type 0 where
+  pub stands : StandsAfter editor page (kept_of lines)
+  pub made : AreMade (script_events listed page lines) start now
+  pub stays : now.sink.faults ≡ start.sink.faults
+
+-- these edit lines are made after whatever page an editor stands, or the sink failed at one
+pub record MakesLines {X E : Type 0} (listed : Bool) (lines : List EditLine) (old : EditorState) (before : Output)
+    (result : Result X E) (new : EditorState) (after : Output) : Type 0 where
+  pub made : OnOk result ((page : List Command) → StandsAfter old page none_kept
+      → HasMadeLines listed page lines new before after)
+  pub cut : OnErr result ((page : List Command) → StandsAfter old page none_kept
+      → AreCutOff (script_events listed page lines) before after)
+
+-- the commands that remain at the end, after these items
+abbrev pub remaining_at_end : Plan → List Item → List Command
+remaining_at_end plan reported = remaining (history plan.asked reported) (kept_of (lines_of plan))
+
+-- at the end these commands remain after these items
+pub record StandsAtEnd (plan : Plan) (reporter : ReporterState) (reported : List Item) : Type 0 where
+  pub asked_is : reporter.asked ≡ plan.asked
+  pub screen : screen_of reporter.easel
+      ≡ (if plan.asked.painting then Some (state (remaining_at_end plan reported)) else None)
+  pub items : reporter.items ≡ length reported
+  pub refused : reporter.refused ≡ refused_count reported
+  pub painted : reporter.painted ≡ counted_of plan.asked (painted_at plan.asked reported)
+
+-- from a start to now it has reported these items and made all edits, and no fault was counted
+pub record HasEdited (plan : Plan) (reporter : ReporterState) (reported : List Item) (start now : Output) : Type
+    0 where
+  pub stands : StandsAtEnd plan reporter reported
+  pub valid : AllValid (remaining_at_end plan reported)
+  pub made : AreMade (edited_events plan.asked reported (lines_of plan)) start now
+  pub stays : now.sink.faults ≡ start.sink.faults
+
+-- it makes the edits, if there are some: all are made, or the sink failed at one
+pub record EditsOn {X E : Type 0} (old : ReporterState) (before : Output) (result : Result X E) (new : ReporterState)
+    (after : Output) : Type 0 where
+  pub counted : new.items ≡ old.items
+  pub edited : OnOk result ((plan : Plan) (reported : List Item) (start : Output)
+      → HasReported plan old reported start before → HasEdited plan new reported start after)
+  pub cut : OnErr result ((plan : Plan) (reported : List Item) (start : Output)
+      → HasReported plan old reported start before
+      → AreCutOff (edited_events plan.asked reported (lines_of plan)) start after)
+
+-- ---- the decoder of bytes
+
+-- the parser, and the reporter of its items
+pub record DecoderState : Type 0 where
+  pub parser : ParserState
+  pub reporter : ReporterState
+
+-- from a start to now it has read these bytes, and their items are reported
+pub record HasRead (plan : Plan) (decoder : DecoderState) (bytes : List ℕ) (start now : Output) : Type 0 where
+  pub parser : Leads bytes decoder.parser
+  pub reported : HasReported plan decoder.reporter (items bytes) start now
+
+-- it goes on by these bytes: all are read, or the sink failed at an item
+pub record ReadsOn {X E : Type 0} (old : DecoderState) (more : List ℕ) (before : Output) (result : Result X E)
+    (new : DecoderState) (after : Output) : Type 0 where
+  pub place : OnOk result (new.parser.place ≡ old.parser.place + length more)
+  pub running : OnOk result (new.parser.finished ≡ false)
+  pub read : OnOk result ((plan : Plan) (bytes : List ℕ) (start : Output)
+      → HasRead plan old bytes start before → HasRead plan new (bytes ++ more) start after)
+  pub cut : OnErr result ((plan : Plan) (bytes : List ℕ) (start : Output)
+      → HasRead plan old bytes start before → AreCutOff (item_events plan.asked (items (bytes ++ more))) start after)
+
+-- it ends: the item that is left is reported too, or the sink failed at it
+pub record ReadsToEnd {X E : Type 0} (old : DecoderState) (before : Output) (result : Result X E) (new : DecoderState)
+    (after : Output) : Type 0 where
+  pub reported : OnOk result ((plan : Plan) (bytes : List ℕ) (start : Output)
+      → HasRead plan old bytes start before → HasReported plan new.reporter (closed_items bytes) start after)
+  pub cut : OnErr result ((plan : Plan) (bytes : List ℕ) (start : Output)
+      → HasRead plan old bytes start before → AreCutOff (item_events plan.asked (closed_items bytes)) start after)

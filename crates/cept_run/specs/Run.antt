@@ -1,0 +1,342 @@
+-- The ends of a run, and what a run does by its end. This project's own.
+use Rattle.std.specs.Prelude.{◌≡◌, ◌≢◌, ◌↔◌, ◌⊎◌, ℕ, ◌^◌, ◌<◌, ◌≤◌, Bool, true, false, ◌&&◌, List, [], ◌∷◌, ◌++◌, length, take}
+use Rattle.std.specs.Prelude.{Option, Some, None, IsSome, Result, Ok, Err, if◌then◌else◌}
+use Rattle.std.specs.Io.KnownBytes.{append_known}
+use Rattle.std.specs.List.{AllByRecursion}
+use Rattle.cept_codes.specs.declared.command.Command.{Command}
+use Rattle.cept_editor.specs.Events.{Event, report, paints}
+use Rattle.cept_editor.specs.Made.{ArePainted, AreMade, AreCutOff}
+use Rattle.cept_editor.specs.Script.{Fault}
+use Rattle.cept_outside.specs.Causes.{Rose}
+use Rattle.cept_outside.specs.ShelfState.{ShelfState, Holds, KeepsFiles, bytes_under}
+use Rattle.cept_outside.specs.SinkState.{HasPut}
+use Rattle.cept_parser.specs.Items.{closed_items, commands, is_refusal}
+use Rattle.cept_profile.specs.Changes.{grid_with_paints}
+use Rattle.cept_profile.specs.Look.{grid}
+use Rattle.cept_profile.specs.State.{core}
+use Rattle.cept_report.specs.Text.{script_fault_line}
+use Rattle.cept_run.specs.declared.page.Stop.{Stop}
+use Rattle.cept_run.specs.declared.page.Stop.TheVariants as stops
+use Rattle.cept_run.specs.declared.run.Status.{Status}
+use Rattle.cept_run.specs.declared.run.Status.TheVariants as statuses
+use Rattle.cept_run.specs.Course.{Course, Source, File, Given, Gives, HasBytes, IsNamed, course_of}
+use Rattle.cept_run.specs.Events.{has_refusal}
+use Rattle.cept_run.specs.Outside.{Outside, output, PutsUnflushed}
+use Rattle.cept_run.specs.Words.{Request, request_of}
+
+-- the page was read to its end
+abbrev pub is_whole : Status → Bool
+is_whole statuses.Done = true
+is_whole statuses.Refusals = true
+is_whole _ = false
+
+-- the run ended before the outside was touched, or with a script for which there is no memory
+abbrev pub is_early : Status → Bool
+is_early statuses.Usage = true
+is_early statuses.NoMemory = true
+is_early _ = false
+
+-- the run ended with a flush
+abbrev pub is_flushed : Status → Bool
+is_flushed statuses.Script = true
+is_flushed status = is_whole status
+
+-- a reset decoder reads these bytes without a refusal, and they bring the core, and so the grid, of these commands
+pub record Restores (bytes : List ℕ) (history : List Command) : Type 0 where
+  pub good : AllByRecursion (λ i. is_refusal i.what ≡ false) (closed_items bytes)
+  pub brings : core (commands bytes) ≡ core history
+  pub shows : grid (commands bytes) ≡ grid history
+
+-- ---- what was reported
+
+-- a page and a script that were read to their ends
+pub record ReportsWhole (course : Course) (page script : List ℕ) (before after : Outside) : Type 0 where
+  -- the whole report was put
+  pub put : after.sink.bytes
+      ≡ append_known before.sink.bytes (report (course.events page script after.glass.grid))
+  -- exactly the changes of the events were painted, in their order
+  pub painted : ArePainted (course.events page script after.glass.grid) before.glass after.glass
+  -- so a glass that was blank shows after the paints of each event what the commands mean that remain after it
+  pub each : before.glass.grid ≡ grid [] → (done : List Event) (event : Event) (rest : List Event)
+      → course.events page script after.glass.grid ≡ done ++ event ∷ rest
+      → grid_with_paints before.glass.grid (paints (done ++ event ∷ [])) ≡ grid event.after
+  -- and at the end what all mean that remain
+  pub meaning : before.glass.grid ≡ grid [] → after.glass.grid ≡ grid (course.remaining page script)
+  -- a page that is written shows on a reset decoder what the glass shows: it has no refused item, and its commands bring
+  -- the same core
+  pub written : course.written ≡ true
+      → Restores (report (course.events page script after.glass.grid)) (course.remaining page script)
+
+-- the front of a page
+pub record ReportsFront (course : Course) (front : List ℕ) (before after : Outside) : Type 0 where
+  -- exactly its texts were put, and exactly its changes painted
+  pub made : AreMade (course.front_events front) (output before) (output after)
+  -- so a glass that was blank shows its meaning
+  pub meaning : before.glass.grid ≡ grid [] → after.glass.grid ≡ grid (course.front_remaining front)
+
+-- ---- the ends: what was read are bytes of which all is made that was put and painted; they are those of the files, where
+-- the shelf tells them
+
+-- status 0 or 1: the page was read to its end, and this says whether an item in it is refused
+pub record EndsWhole (course : Course) (before after : Outside) (refused : Bool) : Type 0 where
+  pub page : List ℕ
+  pub page_is : HasBytes before.shelf course.page page
+  pub script : List ℕ
+  pub script_is : HasBytes before.shelf course.script script
+  -- the whole page is reported and the whole script made, in whatever pieces the shelf gives them and the sink takes the
+  -- text
+  pub reports : ReportsWhole course page script before after
+  pub refusals : refused ≡ (course.judged && has_refusal (closed_items page))
+  -- no line of the script is outside the grammar
+  pub good : course.fault script ≡ None
+  pub page_not_too_long : length page ≤ 2 ^ 24
+  pub script_not_too_long : length script ≤ 2 ^ 20
+  -- of a page in a file all bytes were taken, up to where the shelf said that there are no more, and no other is selected
+  pub taken : (name : List ℕ) → course.page ≡ File name
+      → (after.shelf.taken ≡ length page) × (after.shelf.ended ≡ true)
+  pub selected : (name : List ℕ) → course.page ≡ File name → (chosen : Option (List ℕ))
+      → after.shelf.selected ≡ Some chosen → (chosen ≡ None) ⊎ (chosen ≡ Some name)
+  pub flushed : after.sink.unflushed ≡ false
+  -- no fault was counted on the way
+  pub shelf_stays : after.shelf.faults ≡ before.shelf.faults
+  pub sink_stays : after.sink.faults ≡ before.sink.faults
+
+-- a script of this name has a line outside the grammar
+pub record HasBadLine (course : Course) (shelf : ShelfState) : Type 0 where
+  pub name : List ℕ
+  pub named : course.script ≡ File name
+  pub script : List ℕ
+  pub script_is : HasBytes shelf (File name) script
+  -- the first such line, and its reason
+  pub fault : Fault
+  pub found : course.fault script ≡ Some fault
+  pub not_too_long : length script ≤ 2 ^ 20
+
+-- the line that says so
+abbrev pub fault_text : Fault → List ℕ
+fault_text fault = script_fault_line fault.line fault.reason
+
+-- status 3: a line of the script is outside the grammar
+pub record EndsAtBadLine (course : Course) (before after : Outside) : Type 0 where
+  pub bad : HasBadLine course before.shelf
+  -- the line that says so was put, and nothing else
+  pub put : after.sink.bytes ≡ append_known before.sink.bytes (fault_text bad.fault)
+  pub unpainted : after.glass ≡ before.glass
+  pub flushed : after.sink.unflushed ≡ false
+  -- no more bytes were taken than the script has, and no fault was counted on the way
+  pub taken : after.shelf.taken ≡ length bad.script
+  pub shelf_stays : after.shelf.faults ≡ before.shelf.faults
+  pub sink_stays : after.sink.faults ≡ before.sink.faults
+
+-- status 4: the script or the page can't be read on
+pub record EndsAtReadFault (course : Course) (before after : Outside) : Type 0 where
+  -- the shelf counted a fault
+  pub read_fault : Rose before.shelf.faults after.shelf.faults
+  -- the page is in a file. Exactly its bytes that were taken are reported, none where it wasn't selected
+  pub name : List ℕ
+  pub named : course.page ≡ File name
+  pub front : List ℕ
+  pub counted : (front ≡ []) ⊎ (after.shelf.taken ≡ length front)
+  pub front_is : (page : List ℕ) → Holds before.shelf name page → after.shelf.selected ≡ Some (Some name)
+      → front ≡ take after.shelf.taken page
+  pub reports : ReportsFront course front before after
+  -- no take had answered that there are no more bytes
+  pub unended : after.shelf.ended ≡ false
+  -- before the page is selected, nothing was put and nothing painted
+  pub early : (chosen : Option (List ℕ)) → after.shelf.selected ≡ Some chosen → chosen ≢ Some name
+      → (after.sink ≡ before.sink) × (after.glass ≡ before.glass)
+  pub not_too_long : after.shelf.taken ≤ 2 ^ 24
+  pub script_not_too_long : (script : List ℕ) → course.script ≡ File script
+      → after.shelf.selected ≡ Some (Some script) → after.shelf.taken ≤ 2 ^ 20
+  -- the sink counted none
+  pub sink_stays : after.sink.faults ≡ before.sink.faults
+
+-- the sink failed at the report
+pub record IsReportCut (course : Course) (before after : Outside) : Type 0 where
+  pub page : List ℕ
+  pub page_is : HasBytes before.shelf course.page page
+  pub script : List ℕ
+  pub script_is : HasBytes before.shelf course.script script
+  pub good : course.fault script ≡ None
+  -- at one event, which was painted and no later one; or the report was put, and not flushed
+  pub cut : AreCutOff (course.events page script after.glass.grid) (output before) (output after)
+      ⊎ AreMade (course.events page script after.glass.grid) (output before) (output after)
+
+-- the sink failed at the line of a script's fault
+pub record IsFaultCut (course : Course) (before after : Outside) : Type 0 where
+  pub bad : HasBadLine course before.shelf
+  pub put : PutsUnflushed (fault_text bad.fault) before.sink after.sink
+  pub unpainted : after.glass ≡ before.glass
+
+-- status 5: the sink failed
+pub record EndsAtWriteFault (course : Course) (before after : Outside) : Type 0 where
+  -- the sink counted a fault
+  pub write_fault : Rose before.sink.faults after.sink.faults
+  pub cut : IsReportCut course before after ⊎ IsFaultCut course before after
+  -- the shelf counted none
+  pub shelf_stays : after.shelf.faults ≡ before.shelf.faults
+
+-- status 6: there is no memory
+pub record EndsWithoutMemory (course : Course) (before after : Outside) : Type 0 where
+  -- what paints nothing takes none
+  pub memory : course.painting ≡ true
+  -- nothing was put and nothing painted; and without a script nothing was touched
+  pub unput : after.sink ≡ before.sink
+  pub unpainted : after.glass ≡ before.glass
+  pub untouched : (own : List ℕ) → course.script ≡ Given own → after.shelf ≡ before.shelf
+  -- the page wasn't selected
+  pub early : (after.shelf ≡ before.shelf) ⊎ ((chosen : Option (List ℕ)) → after.shelf.selected ≡ Some chosen
+      → (chosen ≡ None) ⊎ IsNamed course.script chosen)
+  -- no fault was counted on the way
+  pub shelf_stays : after.shelf.faults ≡ before.shelf.faults
+
+-- status 7, at the page: it has more than 2^24 bytes
+pub record IsPageTooLong (course : Course) (before after : Outside) : Type 0 where
+  pub name : List ℕ
+  pub named : course.page ≡ File name
+  -- more were taken, of the page
+  pub too_long : 2 ^ 24 < after.shelf.taken
+  pub selected : (chosen : Option (List ℕ)) → after.shelf.selected ≡ Some chosen → chosen ≡ Some name
+  -- so a page within the limit, that is told, never ends so
+  pub longer : (page : List ℕ) → Gives before.shelf name page → 2 ^ 24 < length page
+  -- exactly its first 2^24 bytes are reported
+  pub front : List ℕ
+  pub counted : length front ≡ 2 ^ 24
+  pub front_is : (page : List ℕ) → Gives before.shelf name page → front ≡ take (2 ^ 24) page
+  pub reports : ReportsFront course front before after
+
+-- status 7, at the script: it has more than 2^20 bytes
+pub record IsScriptTooLong (course : Course) (before after : Outside) : Type 0 where
+  pub name : List ℕ
+  pub named : course.script ≡ File name
+  -- more were taken, of the script
+  pub too_long : 2 ^ 20 < after.shelf.taken
+  pub selected : (chosen : Option (List ℕ)) → after.shelf.selected ≡ Some chosen → chosen ≡ Some name
+  pub longer : (script : List ℕ) → Gives before.shelf name script → 2 ^ 20 < length script
+  -- nothing was put and nothing painted
+  pub unput : after.sink ≡ before.sink
+  pub unpainted : after.glass ≡ before.glass
+
+-- status 7: the page has more than 2^24 bytes, or the script more than 2^20
+pub record EndsTooLong (course : Course) (before after : Outside) : Type 0 where
+  pub which : IsPageTooLong course before after ⊎ IsScriptTooLong course before after
+  -- no fault was counted on the way
+  pub shelf_stays : after.shelf.faults ≡ before.shelf.faults
+  pub sink_stays : after.sink.faults ≡ before.sink.faults
+
+-- how a run ends, by its status
+abbrev pub Ends : Course → Outside → Outside → Status → Type 0
+Ends course before after statuses.Done = EndsWhole course before after false
+Ends course before after statuses.Refusals = EndsWhole course before after true
+Ends course before after statuses.Usage = ⊥
+Ends course before after statuses.Script = EndsAtBadLine course before after
+Ends course before after statuses.ReadFault = EndsAtReadFault course before after
+Ends course before after statuses.WriteFault = EndsAtWriteFault course before after
+Ends course before after statuses.NoMemory = EndsWithoutMemory course before after
+Ends course before after statuses.TooLong = EndsTooLong course before after
+
+-- ---- however a run ends
+
+-- a known script stops the run: it is too long, or a line of it is outside the grammar
+pub record HasStopper (course : Course) (shelf : ShelfState) : Type 0 where
+  pub name : List ℕ
+  pub named : course.script ≡ File name
+  pub script : List ℕ
+  pub holds : Holds shelf name script
+  pub stops : (2 ^ 20 < length script) ⊎ IsSome (course.fault script)
+
+-- nothing was painted, and nothing was put but a text or a part of it, from its front on
+pub record PutsAtMost (text : List ℕ) (before after : Outside) : Type 0 where
+  pub unpainted : after.glass ≡ before.glass
+  pub size : ℕ
+  pub put : after.sink.bytes ≡ append_known before.sink.bytes (take size text)
+
+-- what holds of the shelf, where the page is in the file of this name
+pub record ReadsFiles (course : Course) (page : List ℕ) (before after : ShelfState) (status : Status) : Type 0 where
+  -- the script comes first: where a known one stops the run, no file is missed, and the page isn't selected
+  pub script_first : HasStopper course before → (after.missed ≡ before.missed)
+      × (is_early status ≡ false → after.selected ≡ Some (Some page) → ⊥)
+  -- where the shelf has the page and the script no file is missed
+  pub missed : IsSome (bytes_under before page)
+      → ((name : List ℕ) → course.script ≡ File name → IsSome (bytes_under before name))
+      → after.missed ≡ before.missed
+  -- at the end no other name than the page's and the script's is selected
+  pub selects : is_early status ≡ false → (chosen : Option (List ℕ)) → after.selected ≡ Some chosen
+      → (chosen ≡ None) ⊎ (chosen ≡ Some page) ⊎ IsNamed course.script chosen
+  -- the files stay, and the count of faults doesn't fall
+  pub files : KeepsFiles before after
+  pub faults : before.faults ≤ after.faults
+
+-- where no file is read the shelf isn't touched
+abbrev pub TouchesShelf : Course → Source → ShelfState → ShelfState → Status → Type 0
+TouchesShelf course (File page) before after status = ReadsFiles course page before after status
+TouchesShelf course (Given own) before after status = after ≡ before
+
+-- a run of a course
+pub record RunsCourse (course : Course) (before after : Outside) (status : Status) : Type 0 where
+  -- each status has its cause, and says what was reported
+  pub ends : Ends course before after status
+  pub shelf : TouchesShelf course course.page before.shelf after.shelf status
+  -- where a line of the script is outside the grammar, nothing is painted, and only the line that says so is put
+  pub bad_script : (name script : List ℕ) (fault : Fault) → course.script ≡ File name → Gives before.shelf name script
+      → course.fault script ≡ Some fault → PutsAtMost (fault_text fault) before after
+  -- what paints nothing doesn't touch the glass
+  pub unpainted : course.painting ≡ false → after.glass ≡ before.glass
+  -- no early end flushes, but that at a script's bad line
+  pub unflushed : is_flushed status ≡ false → HasPut before.sink after.sink
+  pub sink_faults : before.sink.faults ≤ after.sink.faults
+
+-- the shelf gives at most 2^20 bytes of the script, if one is in a file
+abbrev pub IsShortScript : ShelfState → Source → Type 0
+IsShortScript shelf (File name) = (script : List ℕ) × Gives shelf name script × (length script ≤ 2 ^ 20)
+IsShortScript shelf (Given own) = Unit {0}
+
+-- the words are this request, its page is in a file, and the shelf gives this page
+pub record Asks (words : List (List ℕ)) (shelf : ShelfState) (request : Request) (page : List ℕ) : Type 0 where
+  pub asked : request_of words ≡ Some request
+  pub name : List ℕ
+  pub named : (course_of request).page ≡ File name
+  pub given : Gives shelf name page
+
+-- a run over these words
+pub record Runs (words : List (List ℕ)) (before after : Outside) (status : Status) : Type 0 where
+  -- status 2 comes exactly where the words are no request; then nothing was touched
+  pub usage : (status ≡ statuses.Usage) ↔ (request_of words ≡ None)
+  pub untouched : status ≡ statuses.Usage → after ≡ before
+  -- what a request asks for is done, or the status says why not
+  pub request : (request : Request) → request_of words ≡ Some request
+      → RunsCourse (course_of request) before after status
+  -- a known page of at most 2^24 bytes is read to its end, after a known script of at most 2^20 bytes, unless a line of
+  -- that is outside the grammar, a fault is counted or there is no memory
+  pub completes : (request : Request) (page : List ℕ) → Asks words before.shelf request page → length page ≤ 2 ^ 24
+      → IsShortScript before.shelf (course_of request).script
+      → (Rose before.shelf.faults after.shelf.faults → ⊥)
+      → (Rose before.sink.faults after.sink.faults → ⊥)
+      → (is_whole status ≡ true) ⊎ (status ≡ statuses.Script)
+      ⊎ ((status ≡ statuses.NoMemory) × ((course_of request).painting ≡ true))
+
+-- ---- statuses
+
+-- the number that the program ends with
+abbrev pub status_number : Status → ℕ
+status_number statuses.Done = 0
+status_number statuses.Refusals = 1
+status_number statuses.Usage = 2
+status_number statuses.Script = 3
+status_number statuses.ReadFault = 4
+status_number statuses.WriteFault = 5
+status_number statuses.NoMemory = 6
+status_number statuses.TooLong = 7
+
+-- the status of a run that stopped
+abbrev pub status_of : Stop → Status
+status_of stops.ReadFault = statuses.ReadFault
+status_of stops.WriteFault = statuses.WriteFault
+status_of stops.TooLong = statuses.TooLong
+status_of stops.Script = statuses.Script
+status_of stops.NoMemory = statuses.NoMemory
+
+-- the status of what was answered: whether an item was refused, or why the run stopped
+abbrev pub status_at_end : Result Bool Stop → Status
+status_at_end (Ok refused) = if refused then statuses.Refusals else statuses.Done
+status_at_end (Err stop) = status_of stop

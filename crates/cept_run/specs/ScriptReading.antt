@@ -1,0 +1,133 @@
+-- How the reading of a script ends, before the page is selected. The bytes that were read are those of the script, where
+-- the shelf tells it. This project's own. Private clauses alone cite this file.
+use Rattle.std.specs.Prelude.{◌≡◌, ◌≢◌, ◌⊎◌, ℕ, ◌^◌, ◌<◌, ◌≤◌, false, List, length, Option, Some, None, IsSome}
+use Rattle.std.specs.Prelude.{Result, Ok, Err}
+use Rattle.cept_editor.specs.declared.script.ScriptFault.{ScriptFault}
+use Rattle.cept_editor.specs.declared.script.ScriptFault.TheVariants as faults
+use Rattle.cept_editor.specs.Script.{EditLine, Fault, edits, first_fault}
+use Rattle.cept_outside.specs.Causes.{Rose}
+use Rattle.cept_outside.specs.ShelfState.{ShelfState, KeepsFiles, bytes_under}
+use Rattle.cept_outside.specs.SinkState.{SinkState}
+use Rattle.cept_report.specs.Text.{script_fault_line}
+use Rattle.cept_run.specs.declared.page.Stop.{Stop}
+use Rattle.cept_run.specs.declared.page.Stop.TheVariants as stops
+use Rattle.cept_run.specs.Outside.{PutsWhole, PutsUnflushed}
+use Rattle.cept_run.specs.Course.{Source, File, Gives, HasBytes}
+use Rattle.cept_run.specs.Run.{fault_text}
+
+-- ---- the bytes that are selected are taken
+
+-- all were taken
+pub record TakenWhole (bytes : List ℕ) (before after : ShelfState) : Type 0 where
+  pub known : (script : List ℕ) → before.left ≡ Some script → bytes ≡ script
+  pub taken : after.taken ≡ length bytes
+  pub few : length bytes ≤ 2 ^ 20
+  pub stays : after.faults ≡ before.faults
+
+-- the shelf failed
+pub record Untaken (before after : ShelfState) : Type 0 where
+  pub cause : Rose before.faults after.faults
+  pub short : after.taken ≤ 2 ^ 20
+  pub unended : after.ended ≡ false
+
+-- there are more than 2^20
+pub record TakenTooLong (before after : ShelfState) : Type 0 where
+  pub cause : 2 ^ 20 < after.taken
+  pub longer : (script : List ℕ) → before.left ≡ Some script → 2 ^ 20 < length script
+  pub stays : after.faults ≡ before.faults
+
+-- they weren't taken to the end, for this reason
+abbrev pub TakingStops : ShelfState → Stop → ShelfState → Type 0
+TakingStops before stops.ReadFault after = Untaken before after
+TakingStops before stops.WriteFault after = ⊥
+TakingStops before stops.TooLong after = TakenTooLong before after
+TakingStops before stops.Script after = ⊥
+TakingStops before stops.NoMemory after = after.faults ≡ before.faults
+
+-- ---- a script of this name is read
+
+-- it has these edit lines
+pub record ScriptWhole (name : List ℕ) (lines : List EditLine) (before after : ShelfState) : Type 0 where
+  pub bytes : List ℕ
+  pub known : HasBytes before (File name) bytes
+  pub few : length bytes ≤ 2 ^ 20
+  pub good : first_fault bytes ≡ None
+  pub are : lines ≡ edits bytes
+  pub stays : after.faults ≡ before.faults
+
+-- the shelf failed
+pub record ScriptUnread (before after : ShelfState) : Type 0 where
+  pub cause : Rose before.faults after.faults
+  pub short : after.taken ≤ 2 ^ 20
+  pub unended : after.ended ≡ false
+
+-- it has more than 2^20 bytes
+pub record ScriptTooLong (name : List ℕ) (before after : ShelfState) : Type 0 where
+  pub cause : 2 ^ 20 < after.taken
+  pub longer : (script : List ℕ) → Gives before name script → 2 ^ 20 < length script
+  pub stays : after.faults ≡ before.faults
+
+-- a line of it is outside the grammar
+pub record ScriptBad (name : List ℕ) (before after : ShelfState) : Type 0 where
+  pub bytes : List ℕ
+  pub known : HasBytes before (File name) bytes
+  pub fault : Fault
+  pub found : first_fault bytes ≡ Some fault
+  pub few : length bytes ≤ 2 ^ 20
+  pub taken : after.taken ≡ length bytes
+  pub stays : after.faults ≡ before.faults
+
+-- the line of a fault was put, whole and flushed, or the sink failed
+abbrev pub Refuses : List ℕ → SinkState → Stop → SinkState → Type 0
+Refuses text old stops.ReadFault new = ⊥
+Refuses text old stops.WriteFault new = PutsUnflushed text old new
+Refuses text old stops.TooLong new = ⊥
+Refuses text old stops.Script new = PutsWhole text old new
+Refuses text old stops.NoMemory new = ⊥
+
+-- what is answered and put by the fault of a script
+abbrev pub StopsAt : ScriptFault → SinkState → Stop → SinkState → Type 0
+StopsAt (faults.BadLine line reason) old stop new = Refuses (script_fault_line line reason) old stop new
+StopsAt faults.NoMemory old stop new = (stop ≡ stops.NoMemory) × (new ≡ old)
+
+-- the line of its fault was put whole and flushed
+pub record ScriptRefused (name : List ℕ) (before after : ShelfState) (old new : SinkState) : Type 0 where
+  pub bad : ScriptBad name before after
+  pub put : PutsWhole (fault_text bad.fault) old new
+
+-- or the sink failed
+pub record ScriptUnput (name : List ℕ) (before after : ShelfState) (old new : SinkState) : Type 0 where
+  pub bad : ScriptBad name before after
+  pub put : PutsUnflushed (fault_text bad.fault) old new
+
+-- how the reading of a script ends
+abbrev pub ScriptEnds : List ℕ → ShelfState → SinkState → Result (List EditLine) Stop → ShelfState → SinkState → Type 0
+ScriptEnds name before old (Ok lines) after new = ScriptWhole name lines before after × (new ≡ old)
+ScriptEnds name before old (Err stops.ReadFault) after new = ScriptUnread before after × (new ≡ old)
+ScriptEnds name before old (Err stops.WriteFault) after new = ScriptUnput name before after old new
+ScriptEnds name before old (Err stops.TooLong) after new = ScriptTooLong name before after × (new ≡ old)
+ScriptEnds name before old (Err stops.Script) after new = ScriptRefused name before after old new
+ScriptEnds name before old (Err stops.NoMemory) after new = (new ≡ old) × (after.faults ≡ before.faults)
+
+-- however it ends, no other name is selected, the files stay, no count of faults falls, and where the shelf has the
+-- script no file is missed
+pub record SelectsScript (name : List ℕ) (before after : ShelfState) : Type 0 where
+  pub files : KeepsFiles before after
+  pub selects : (chosen : Option (List ℕ)) → after.selected ≡ Some chosen → (chosen ≡ None) ⊎ (chosen ≡ Some name)
+  pub missed : IsSome (bytes_under before name) → after.missed ≡ before.missed
+  pub faults : before.faults ≤ after.faults
+
+-- ---- before a page is selected
+
+-- the script was read, if one is asked for: it has these bytes, and is within the grammar
+pub record ScriptKnown (page : List ℕ) (script : Source) (bytes : List ℕ) (before after : ShelfState) : Type 0 where
+  pub has : HasBytes before script bytes
+  pub good : first_fault bytes ≡ None
+  pub few : length bytes ≤ 2 ^ 20
+  -- it isn't the page
+  pub differs : (name : List ℕ) → script ≡ File name → name ≢ page
+  -- the files stay, none that is there was missed, and no fault was counted
+  pub files : KeepsFiles before after
+  pub missed : ((name : List ℕ) → script ≡ File name → IsSome (bytes_under before name))
+      → after.missed ≡ before.missed
+  pub stays : after.faults ≡ before.faults

@@ -1,0 +1,124 @@
+-- The words of the program: which of them are a request, and what a request asks for. This project's own.
+use Rattle.std.specs.Prelude.{◌≢◌, ◌⊎◌, ◌≡◌, ℕ, ◌^◌, Bool, true, false, ◌&&◌, List, [], ◌∷◌, Option, Some, None, codes, is_some}
+use Rattle.std.specs.Prelude.{if◌then◌else◌, string_bytes, length, nat_lt, nat_le}
+use Rattle.std.specs.Char.{is_ascii_digit}
+use Rattle.std.specs.List.{list_all}
+use Rattle.std.specs.Option.{option_map, option_and_then}
+use Rattle.std.specs.Str.{bytes_eq}
+use Rattle.std.specs.Str.Parse.{digits_value}
+use Rattle.cept_run.specs.declared.words.Asked.{Asked}
+use Rattle.cept_run.specs.declared.words.End.{End}
+use Rattle.cept_run.specs.declared.words.End.TheVariants as ends
+use Rattle.cept_run.specs.declared.words.NumberAction.{NumberAction}
+use Rattle.cept_run.specs.declared.words.NumberAction.TheVariants as numbers
+use Rattle.cept_run.specs.declared.words.PageAction.{PageAction}
+use Rattle.cept_run.specs.declared.words.PageAction.TheVariants as pages
+use Rattle.cept_run.specs.declared.words.Request.{Request as NamedRequest}
+use Rattle.cept_run.specs.declared.words.Request.TheVariants as named
+use Rattle.cept_run.specs.declared.words.ScriptAction.{ScriptAction}
+use Rattle.cept_run.specs.declared.words.ScriptAction.TheVariants as scripts
+use Rattle.cept_run.specs.declared.words.Word.{Word}
+use Rattle.cept_run.specs.declared.words.Word.TheVariants as words
+
+-- ---- requests
+
+-- what the program is asked for: of the page of this name; of the page of the first name and the script of the second; of
+-- the generated page of this number
+pub data Request : Type 0 where
+  Page : PageAction → List ℕ → Request
+  Script : ScriptAction → List ℕ → List ℕ → Request
+  Number : NumberAction → ℕ → Request
+
+-- a request by its names' bytes
+abbrev pub request_by : NamedRequest → Request
+request_by (named.Page action page) = Page action (string_bytes page.now)
+request_by (named.Script action page script) = Script action (string_bytes page.now) (string_bytes script.now)
+request_by (named.Number action number) = Number action number
+
+-- the table of the first words
+abbrev pub word_of : List ℕ → Option Word
+word_of word =
+    if bytes_eq word (codes "changes") then Some (words.Page pages.Changes) else
+    if bytes_eq word (codes "check") then Some (words.Page pages.Check) else
+    if bytes_eq word (codes "show") then Some (words.Page pages.Show) else
+    if bytes_eq word (codes "cells") then Some (words.Page pages.Cells) else
+    if bytes_eq word (codes "write") then Some (words.Page pages.Write) else
+    if bytes_eq word (codes "trace") then Some (words.Script scripts.Trace) else
+    if bytes_eq word (codes "edit") then Some (words.Script scripts.Edit) else
+    if bytes_eq word (codes "gen") then Some (words.Number numbers.Generate) else
+    if bytes_eq word (codes "load") then Some (words.Number numbers.Load) else
+    None
+
+-- the value in decimal of a word of one to ten digits, where it is at most 2^32 - 1
+abbrev pub number_of : List ℕ → Option ℕ
+number_of word =
+    if nat_lt 0 (length word) && nat_le (length word) 10 && list_all is_ascii_digit word
+    && nat_lt (digits_value 10 word) (2 ^ 32)
+    then Some (digits_value 10 word) else None
+
+-- the name of a page, which isn't empty
+abbrev pub page_request : PageAction → List (List ℕ) → Option Request
+page_request action ((a ∷ name) ∷ []) = Some (Page action (a ∷ name))
+page_request action _ = None
+
+-- the names of a page and of a script: neither is empty, and the two differ
+abbrev pub script_request : ScriptAction → List (List ℕ) → Option Request
+script_request action ((a ∷ name) ∷ (b ∷ script) ∷ []) =
+    if bytes_eq (a ∷ name) (b ∷ script) then None else Some (Script action (a ∷ name) (b ∷ script))
+script_request action _ = None
+
+-- the number of a generated page
+abbrev pub number_request : NumberAction → List (List ℕ) → Option Request
+number_request action (number ∷ []) = option_map (Number action) (number_of number)
+number_request action _ = None
+
+-- what a first word asks for with the words after it
+abbrev pub request_with : Word → List (List ℕ) → Option Request
+request_with (words.Page action) after = page_request action after
+request_with (words.Script action) after = script_request action after
+request_with (words.Number action) after = number_request action after
+
+-- what the words ask for
+unfoldable pub request_of : List (List ℕ) → Option Request
+request_of [] = None
+request_of (word ∷ after) = option_and_then (λ w. request_with w after) (word_of word)
+
+-- the names of two files differ
+abbrev pub HasTwoNames : Request → Type 0
+HasTwoNames (Page action page) = Unit {0}
+HasTwoNames (Script action page script) = script ≢ page
+HasTwoNames (Number action number) = Unit {0}
+
+-- ---- what each action asks for
+
+-- a page that is painted, and of which nothing is put
+abbrev pub painted_alone : Asked
+painted_alone = record {
+  painting = true;
+  listed = false;
+  refusals = false;
+  edits_listed = false;
+  end = ends.Nothing;
+}
+
+-- of a page
+abbrev pub asked_of_page : PageAction → Asked
+asked_of_page pages.Changes = record painted_alone { listed = true; refusals = true }
+asked_of_page pages.Check = record painted_alone { painting = false; refusals = true }
+asked_of_page pages.Show = record painted_alone { end = ends.Screen }
+asked_of_page pages.Cells = record painted_alone { end = ends.Cells }
+asked_of_page pages.Write = record painted_alone { end = ends.Page }
+
+-- of a page and a script
+abbrev pub asked_of_script : ScriptAction → Asked
+asked_of_script scripts.Trace = record painted_alone { refusals = true; edits_listed = true }
+asked_of_script scripts.Edit = record painted_alone { end = ends.Page }
+
+-- of a generated page that is read and painted
+abbrev pub asked_to_load : Asked
+asked_to_load = record painted_alone { end = ends.Counts }
+
+-- painted cells are counted where the count is put at the end
+abbrev pub is_counted : End → Bool
+is_counted ends.Counts = true
+is_counted _ = false

@@ -1,0 +1,71 @@
+//! What the commands of a page are applied to.
+
+ghost use Rattle.std.specs.Prelude.{◌≡◌, [], IfOk, IsOk, None, false, if◌then◌else◌};
+ghost use Rattle.std.specs.Option.{option_map};
+ghost use Rattle.cept_codes.specs.Command.{IsValidCommand};
+ghost use Rattle.cept_run.specs.Reporting.{painted_easel, screen_of, AppliesOn};
+
+use cept_codes::{Command, NoMemory};
+use cept_editor::{Editor, Script};
+use cept_outside::Steps;
+use cept_repaint::{Glass, Marks, Screen};
+use std::alloc::Global;
+use std::sync::ledger::Ledger;
+
+/// What the commands of a page are applied to.
+#[derive(Drop)]
+pub enum Easel {
+    /// They aren't applied.
+    Nothing,
+    /// A screen.
+    Screen(Screen),
+    /// A screen whose edits can be taken back, and the script of the edits.
+    Editor(Editor, Script),
+}
+
+impl Easel {
+    /// A screen before the first command, where commands are painted. Else it takes no memory.
+    pub fn new(alloc: Global, painting: bool) -> Result<Easel, NoMemory>
+        ensures start { IfOk result (λ easel. easel
+            ≡ (if painting then painted_easel None [] else Easel.Nothing)) }
+        ensures memory { painting ≡ false → IsOk result }
+    {
+        if painting {
+            Ok(Easel::Screen(Screen::new(alloc)?))
+        } else {
+            Ok(Easel::Nothing)
+        }
+    }
+
+    /// Applies a command and paints what it changes, where there is a screen.
+    #[inline(always)]
+    pub fn apply<G: Glass, L: Ledger>(
+        &mut self,
+        command: &Command,
+        glass: &mut G,
+        marks: &mut Marks,
+        steps: &mut Steps<L>,
+    )
+        requires { IsValidCommand command.now }
+        ensures { AppliesOn self.old command.now (G.state glass.old) self.new marks.new
+            (G.state glass.new) }
+    {
+        match self {
+            Easel::Nothing => {}
+            Easel::Screen(screen) => screen.apply_from(command, glass, marks, steps),
+            Easel::Editor(editor, _) => editor.page(command, glass, marks, steps),
+        }
+    }
+
+    /// The screen, where there is one.
+    #[inline(always)]
+    pub fn screen(&self) -> Option<&Screen>
+        ensures { option_map (λ screen. screen.now) result ≡ screen_of self.now }
+    {
+        match self {
+            Easel::Nothing => None,
+            Easel::Screen(screen) => Some(screen),
+            Easel::Editor(editor, _) => Some(editor.screen()),
+        }
+    }
+}

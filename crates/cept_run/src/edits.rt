@@ -1,0 +1,68 @@
+//! Makes the edits of a script, and puts their lines where they are asked for.
+
+ghost use Rattle.std.specs.Prelude.{◌<◌, [], length, if◌then◌else◌, slice_index_or};
+ghost use Rattle.cept_editor.specs.Made.{output_of};
+ghost use Rattle.cept_editor.specs.Script.{EditLine};
+ghost use Rattle.cept_outside.specs.SinkState.{PutsText};
+ghost use Rattle.cept_report.specs.Text.{nothing_line};
+ghost use Rattle.cept_run.specs.Reporting.{MakesLine, MakesLines};
+
+use cept_editor::{Done, Editor, Script};
+use cept_outside::{Sink, Steps, WriteFault};
+use cept_repaint::{Glass, Marks};
+use cept_report::put_nothing;
+use std::sync::ledger::Ledger;
+
+/// Puts the line of an undo before which no edit was kept, where lines are asked for.
+fn tell_nothing<T: Sink>(listed: bool, line: u32, sink: &mut T) -> Result<(), WriteFault>
+    ensures { PutsText (T.state sink.old) (if listed then nothing_line line else []) result
+        (T.state sink.new) }
+{
+    if listed {
+        put_nothing(sink, line)
+    } else {
+        Ok(())
+    }
+}
+
+/// Makes edit k of a script.
+fn make_line<T: Sink, G: Glass, L: Ledger>(
+    editor: &mut Editor,
+    script: &Script,
+    k: u32,
+    listed: bool,
+    marks: &mut Marks,
+    sink: &mut T,
+    glass: &mut G,
+    steps: &mut Steps<L>,
+) -> Result<(), WriteFault>
+    requires { k < length script.now }
+    ensures { (default : EditLine) → MakesLine listed (slice_index_or script.now k default)
+        editor.old (output_of (T.state sink.old) (G.state glass.old)) result editor.new
+        (output_of (T.state sink.new) (G.state glass.new)) }
+{
+    match editor.line(script, k, glass, marks, sink, listed, steps)? {
+        Done::Done => Ok(()),
+        Done::Nothing => tell_nothing(listed, script.line_of(k), sink),
+    }
+}
+
+/// Makes all edits of a script.
+pub fn make_lines<T: Sink, G: Glass, L: Ledger>(
+    editor: &mut Editor,
+    script: &Script,
+    listed: bool,
+    marks: &mut Marks,
+    sink: &mut T,
+    glass: &mut G,
+    steps: &mut Steps<L>,
+) -> Result<(), WriteFault>
+    ensures { MakesLines listed script.now editor.old
+        (output_of (T.state sink.old) (G.state glass.old)) result editor.new
+        (output_of (T.state sink.new) (G.state glass.new)) }
+{
+    for k in 0..script.len() {
+        make_line(editor, script, k, listed, marks, sink, glass, steps)?;
+    }
+    Ok(())
+}

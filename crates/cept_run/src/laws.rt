@@ -1,0 +1,60 @@
+//! Laws of the report. The functions do nothing: their contracts are the laws.
+
+ghost use Rattle.std.specs.Prelude.{◌≡◌, ◌^◌, ℕ, List, [], ◌∷◌, ◌++◌, Some, take, true, false};
+ghost use Rattle.cept_codes.specs.declared.command.Command.{Command};
+ghost use Rattle.cept_codes.specs.declared.item.Item.{Item};
+ghost use Rattle.cept_codes.specs.declared.item.Reason.{Reason};
+ghost use Rattle.cept_codes.specs.declared.item.Said.TheVariants as said;
+ghost use Rattle.cept_outside.specs.ShelfState.{Holds, IsSound};
+ghost use Rattle.cept_profile.specs.Changes.{changes, grid_with_paints};
+ghost use Rattle.cept_profile.specs.Look.{grid};
+ghost use Rattle.cept_run.specs.declared.run.Status.TheVariants as statuses;
+ghost use Rattle.cept_run.specs.declared.words.Asked.{Asked};
+ghost use Rattle.cept_editor.specs.Events.{event_changes, paints};
+ghost use Rattle.cept_run.specs.Course.{File, Given, course_of};
+ghost use Rattle.cept_run.specs.Events.{history, item_event, item_events};
+ghost use Rattle.cept_run.specs.Outside.{Outside};
+ghost use Rattle.cept_run.specs.Run.{Runs, ReportsFront};
+ghost use Rattle.cept_run.specs.Words.{Request, request_of};
+
+/// The events of some items and one more are those of the items and then that of the one, as it is
+/// after them. A command that is applied comes after the commands before it, and changes what it
+/// changes after these; a refused item, and any item of a page that isn't painted, changes nothing.
+pub fn each_item_after_those_before_it()
+    ensures none { (asked : Asked) → item_events asked [] ≡ [] }
+    ensures more { (asked : Asked) (items : List Item) (item : Item)
+        → item_events asked (items ++ item ∷ [])
+        ≡ item_events asked items ++ item_event asked items item ∷ [] }
+    ensures applied { (asked : Asked) (items : List Item) (item : Item) (command : Command)
+        → asked.painting ≡ true → item.what ≡ said.Command command
+        → event_changes (item_event asked items item)
+        ≡ changes (history asked items) command }
+    ensures refused { (asked : Asked) (items : List Item) (item : Item) (reason : Reason)
+        → item.what ≡ said.Refused reason → event_changes (item_event asked items item) ≡ [] }
+    ensures idle { (asked : Asked) (items : List Item) (item : Item)
+        → asked.painting ≡ false → event_changes (item_event asked items item) ≡ [] }
+{}
+
+/// A blank glass with the paints of items over it shows their meaning.
+pub fn a_blank_glass_shows_the_meaning()
+    ensures { (asked : Asked) (items : List Item)
+        → grid_with_paints (grid []) (paints (item_events asked items))
+        ≡ grid (history asked items) }
+{}
+
+/// A known page that can't be read on, or is too long, is reported as far as it was taken, whether
+/// it is selected at the end or not: where it isn't, nothing was taken. No script is asked for.
+pub fn a_known_page_is_reported_as_far_as_taken()
+    ensures read_fault { (words : List (List ℕ)) (request : Request) (name own page : List ℕ)
+        (before after : Outside)
+        → IsSound before.shelf → IsSound after.shelf → Runs words before after statuses.ReadFault
+        → request_of words ≡ Some request → (course_of request).page ≡ File name
+        → Holds before.shelf name page → (course_of request).script ≡ Given own
+        → ReportsFront (course_of request) (take after.shelf.taken page) before after }
+    ensures too_long { (words : List (List ℕ)) (request : Request) (name own page : List ℕ)
+        (before after : Outside)
+        → IsSound before.shelf → IsSound after.shelf → Runs words before after statuses.TooLong
+        → request_of words ≡ Some request → (course_of request).page ≡ File name
+        → Holds before.shelf name page → (course_of request).script ≡ Given own
+        → ReportsFront (course_of request) (take (2 ^ 24) page) before after }
+{}

@@ -1,0 +1,16 @@
+//! The run of the program as a call: it reads the words, a stored page and the commands in it, paints a
+//! screen, and puts the report. It knows no real file, output and display.
+#![tactic(auto)]
+
+mod decoder;
+mod easel;
+mod edits;
+mod generated;
+mod laws;
+mod page;
+mod reporter;
+pub mod run;
+mod script;
+#[cfg(test)]
+mod tests;
+mod words;

@@ -1,0 +1,367 @@
+ghost use Rattle.std.specs.Prelude.{◌≡◌, ◌≢◌, ◌^◌, ◌<◌, ◌≤◌, [], List, ℕ};
+ghost use Rattle.std.specs.Prelude.{map, string_bytes, length};
+ghost use Rattle.cept_editor.specs.Made.{Output};
+ghost use Rattle.cept_editor.specs.Script.{edits};
+ghost use Rattle.cept_generator.specs.Generated.{generated};
+ghost use Rattle.cept_outside.specs.QuietShelf.{quiet_shelf_state};
+ghost use Rattle.cept_outside.specs.QuietSink.{quiet_sink_state};
+ghost use Rattle.cept_outside.specs.ShelfState.{ShelfState};
+ghost use Rattle.cept_parser.specs.Items.{closed_items};
+ghost use Rattle.cept_run.specs.Course.{Source, File, Given, reporting, course_of};
+ghost use Rattle.cept_run.specs.Events.{text_at_end, has_refusal};
+ghost use Rattle.cept_run.specs.Outside.{outside_of};
+ghost use Rattle.cept_run.specs.Page.{PutsEnd};
+ghost use Rattle.cept_run.specs.Reporting.{Plan, StandsAtEnd, HasRead, plan_in, lines_of};
+ghost use Rattle.cept_run.specs.Reporting.{remaining_at_end};
+ghost use Rattle.cept_run.specs.Run.{Runs, RunsCourse, Asks, IsShortScript};
+ghost use Rattle.cept_run.specs.Run.{status_number, status_of, status_at_end};
+ghost use Rattle.cept_run.specs.ScriptReading.{ScriptKnown};
+ghost use Rattle.cept_run.specs.Words.{Request as Asked, HasTwoNames, Page, Script as OfScript};
+ghost use Rattle.cept_run.specs.Words.{Number, request_by};
+
+use crate::decoder::Decoder;
+use crate::easel::Easel;
+use crate::generated::{put_generated, read_generated};
+use crate::page::{Stop, read_page};
+use crate::script::read_script;
+use crate::words::{LOADED, NumberAction, PageAction, Request, ScriptAction, request_of};
+use cept_editor::Editor;
+use cept_generator::{generated_pages_are_read, generated_pages_are_short};
+use cept_outside::{QuietShelf, QuietSink, Shelf, Sink, Steps};
+use cept_profile::validity_is_kept;
+use cept_repaint::Glass;
+use cept_writer::{bytes_of_pages_bring_them_back, pages_are_spelled};
+use std::alloc::Global;
+use std::marker::Brand;
+use std::sync::ledger::{Blank, Ledger};
+
+/// How a run ends. The program ends with its number.
+#[derive(Clone, Copy, Debug, PartialEq, Eq)]
+pub enum Status {
+    /// The page was read to its end, and nothing in it is refused.
+    Done,
+    /// The page was read to its end, and an item in it is refused.
+    Refusals,
+    /// The words are no request.
+    Usage,
+    /// A line of the script is outside the grammar.
+    Script,
+    /// The page or the script can't be opened or read.
+    ReadFault,
+    /// The output failed.
+    WriteFault,
+    /// There is no memory.
+    NoMemory,
+    /// The page has more than 2^24 bytes, or the script more than 2^20.
+    TooLong,
+}
+
+impl Status {
+    /// The number that the program ends with.
+    pub fn number(self) -> u8
+        ensures { result ≡ status_number self }
+    {
+        match self {
+            Status::Done => 0,
+            Status::Refusals => 1,
+            Status::Usage => 2,
+            Status::Script => 3,
+            Status::ReadFault => 4,
+            Status::WriteFault => 5,
+            Status::NoMemory => 6,
+            Status::TooLong => 7,
+        }
+    }
+
+    /// The status of a page that was read to its end.
+    fn of_whole(refused: bool) -> Status
+        ensures { result ≡ status_at_end (Ok refused) }
+    {
+        if refused {
+            Status::Refusals
+        } else {
+            Status::Done
+        }
+    }
+
+    /// The status of a run that stopped.
+    fn of_stop(stop: Stop) -> Status
+        ensures { result ≡ status_of stop }
+    {
+        match stop {
+            Stop::ReadFault => Status::ReadFault,
+            Stop::WriteFault => Status::WriteFault,
+            Stop::TooLong => Status::TooLong,
+            Stop::Script => Status::Script,
+            Stop::NoMemory => Status::NoMemory,
+        }
+    }
+
+    /// The status of what was answered: whether an item was refused, or why the run stopped.
+    fn at_end(answer: Result<bool, Stop>) -> Status
+        ensures { result ≡ status_at_end answer }
+    {
+        match answer {
+            Ok(refused) => Status::of_whole(refused),
+            Err(stop) => Status::of_stop(stop),
+        }
+    }
+}
+
+/// Puts the text at the end of a page of so many bytes and flushes. Answers whether an item was
+/// refused.
+fn end_report<T: Sink, G: Glass>(
+    decoder: &Decoder,
+    bytes: u64,
+    sink: &mut T,
+    glass: &G,
+) -> Result<bool, Stop>
+    ensures { (plan : Plan) (page : List ℕ)
+        → StandsAtEnd plan decoder.now.reporter (closed_items page)
+        → bytes ≡ length page
+        → PutsEnd (text_at_end plan.asked (G.state glass.now).grid page
+        (remaining_at_end plan (closed_items page)))
+        (has_refusal (closed_items page)) (T.state sink.old) result (T.state sink.new) }
+{
+    decoder.put_end(bytes, sink, glass)?;
+    let Ok(()) = sink.flush() else {
+        return Err(Stop::WriteFault);
+    };
+    Ok(decoder.has_refusal())
+}
+
+/// Reads a page to its end, makes the edits of the script, if there is one, puts the text at the end
+/// and flushes. Answers whether an item of the page was refused.
+fn report_stored<F: Shelf, T: Sink, G: Glass, L: Ledger>(
+    decoder: &mut Decoder,
+    page: &String,
+    shelf: &mut F,
+    sink: &mut T,
+    glass: &mut G,
+    blank: Blank,
+) -> Result<bool, Stop>
+    requires fresh { (start : Output)
+        → HasRead (plan_in decoder.old.reporter) decoder.old [] start start }
+    requires name { blank.name ≡ L.name }
+    requires parts { blank.parts ≡ L.parts }
+    requires some { 0 < blank.parts }
+    ensures { (script : Source) (bytes : List ℕ) (start : ShelfState)
+        → ScriptKnown (string_bytes page.now) script bytes start (F.state shelf.old)
+        → lines_of (plan_in decoder.old.reporter) ≡ edits bytes
+        → RunsCourse
+        (reporting decoder.old.reporter.asked (File (string_bytes page.now)) script)
+        (outside_of start (T.state sink.old) (G.state glass.old))
+        (outside_of (F.state shelf.new) (T.state sink.new) (G.state glass.new))
+        (status_at_end result) }
+{
+    // Laws: the bytes of a written page bring its core back, and none of them is refused.
+    bytes_of_pages_bring_them_back();
+    pages_are_spelled();
+    validity_is_kept();
+    let Ok(()) = shelf.select(page.as_str()) else {
+        return Err(Stop::ReadFault);
+    };
+    let mut steps = Steps::<L>::new(blank);
+    let bytes = read_page(decoder, shelf, sink, glass, &mut steps)?;
+    decoder.make_edits(sink, glass, &mut steps)?;
+    end_report(decoder, bytes, sink, glass)
+}
+
+/// Reports a page by itself.
+fn report_page<F: Shelf, T: Sink, G: Glass>(
+    alloc: Global,
+    action: PageAction,
+    page: &String,
+    shelf: &mut F,
+    sink: &mut T,
+    glass: &mut G,
+) -> Result<bool, Stop>
+    ensures { RunsCourse (course_of (Page action (string_bytes page.now)))
+        (outside_of (F.state shelf.old) (T.state sink.old) (G.state glass.old))
+        (outside_of (F.state shelf.new) (T.state sink.new) (G.state glass.new))
+        (status_at_end result) }
+{
+    let asked = action.asked();
+    let easel = Easel::new(alloc, asked.painting)?;
+    let mut decoder = Decoder::new(asked, easel);
+    // No step is counted: the ledger is a blank one.
+    let blank = Blank::new(1);
+    report_stored::<F, T, G, Brand>(&mut decoder, page, shelf, sink, glass, blank)
+}
+
+/// Reads a script, and then reports a page and the edits of the script.
+fn report_edited<F: Shelf, T: Sink, G: Glass>(
+    alloc: Global,
+    action: ScriptAction,
+    page: &String,
+    script: &String,
+    shelf: &mut F,
+    sink: &mut T,
+    glass: &mut G,
+) -> Result<bool, Stop>
+    requires { string_bytes script.now ≢ string_bytes page.now }
+    ensures { RunsCourse
+        (course_of (OfScript action (string_bytes page.now) (string_bytes script.now)))
+        (outside_of (F.state shelf.old) (T.state sink.old) (G.state glass.old))
+        (outside_of (F.state shelf.new) (T.state sink.new) (G.state glass.new))
+        (status_at_end result) }
+{
+    let editor = Editor::new(alloc)?;
+    let script = read_script(alloc, script, shelf, sink)?;
+    let mut decoder = Decoder::new(action.asked(), Easel::Editor(editor, script));
+    // No step is counted: the ledger is a blank one.
+    let blank = Blank::new(1);
+    report_stored::<F, T, G, Brand>(&mut decoder, page, shelf, sink, glass, blank)
+}
+
+/// Reads a generated page to its end, puts the text at the end and flushes. Answers whether an item
+/// of the page was refused.
+fn report_generated<T: Sink, G: Glass, L: Ledger>(
+    decoder: &mut Decoder,
+    number: u32,
+    sink: &mut T,
+    glass: &mut G,
+    blank: Blank,
+) -> Result<bool, Stop>
+    requires fresh { (start : Output)
+        → HasRead (plan_in decoder.old.reporter) decoder.old [] start start }
+    requires alone { lines_of (plan_in decoder.old.reporter) ≡ [] }
+    requires name { blank.name ≡ L.name }
+    requires parts { blank.parts ≡ L.parts }
+    requires some { 0 < blank.parts }
+    ensures { (shelf : ShelfState)
+        → RunsCourse (reporting decoder.old.reporter.asked (Given (generated number)) (Given []))
+        (outside_of shelf (T.state sink.old) (G.state glass.old))
+        (outside_of shelf (T.state sink.new) (G.state glass.new)) (status_at_end result) }
+{
+    // Laws: a generated page has no refused item and is short; the bytes of a written page bring its
+    // core back, and none of them is refused.
+    generated_pages_are_read();
+    generated_pages_are_short();
+    bytes_of_pages_bring_them_back();
+    pages_are_spelled();
+    validity_is_kept();
+    let mut steps = Steps::<L>::new(blank);
+    let bytes = read_generated(decoder, number, sink, glass, &mut steps)?;
+    decoder.make_edits(sink, glass, &mut steps)?;
+    end_report(decoder, bytes, sink, glass)
+}
+
+/// Reads and paints a generated page.
+fn load<T: Sink, G: Glass>(
+    alloc: Global,
+    number: u32,
+    sink: &mut T,
+    glass: &mut G,
+) -> Result<bool, Stop>
+    ensures { (shelf : ShelfState) → RunsCourse (course_of (Number NumberAction.Load number))
+        (outside_of shelf (T.state sink.old) (G.state glass.old))
+        (outside_of shelf (T.state sink.new) (G.state glass.new)) (status_at_end result) }
+{
+    let easel = Easel::new(alloc, LOADED.painting)?;
+    let mut decoder = Decoder::new(LOADED, easel);
+    // No step is counted: the ledger is a blank one.
+    let blank = Blank::new(1);
+    report_generated::<T, G, Brand>(&mut decoder, number, sink, glass, blank)
+}
+
+/// Does what is asked for of a generated page.
+fn report_number<T: Sink, G: Glass>(
+    alloc: Global,
+    action: NumberAction,
+    number: u32,
+    sink: &mut T,
+    glass: &mut G,
+) -> Result<bool, Stop>
+    ensures { (shelf : ShelfState) → RunsCourse (course_of (Number action number))
+        (outside_of shelf (T.state sink.old) (G.state glass.old))
+        (outside_of shelf (T.state sink.new) (G.state glass.new)) (status_at_end result) }
+{
+    // A law: a generated page is short.
+    generated_pages_are_short();
+    match action {
+        NumberAction::Generate => put_generated(number, sink),
+        NumberAction::Load => load(alloc, number, sink, glass),
+    }
+}
+
+/// Does what is asked for. Answers whether an item of the page was refused, or why it stopped.
+fn report_request<F: Shelf, T: Sink, G: Glass>(
+    alloc: Global,
+    request: Request<'_>,
+    shelf: &mut F,
+    sink: &mut T,
+    glass: &mut G,
+) -> Result<bool, Stop>
+    requires { HasTwoNames (request_by request) }
+    ensures { RunsCourse (course_of (request_by request.entry))
+        (outside_of (F.state shelf.old) (T.state sink.old) (G.state glass.old))
+        (outside_of (F.state shelf.new) (T.state sink.new) (G.state glass.new))
+        (status_at_end result) }
+{
+    match request {
+        Request::Page(action, page) => report_page(alloc, action, page, shelf, sink, glass),
+        Request::Script(action, page, script) => {
+            report_edited(alloc, action, page, script, shelf, sink, glass)
+        }
+        Request::Number(action, number) => report_number(alloc, action, number, sink, glass),
+    }
+}
+
+/// Runs the program on its words, those after the program's name, over a shelf, a sink and a glass.
+///
+/// `changes PAGE`, `show PAGE`, `cells PAGE` and `write PAGE` apply the commands of the page one
+/// after the other, and paint after each the cells that it changed on the glass. `changes` puts
+/// their lines; `show` and `cells` put after the last item what the glass shows, and `write` the
+/// bytes that bring the page back. `check PAGE` applies and paints nothing: it puts how many items
+/// there are and how many are refused. `changes` and `check` put the line of a refused item, which
+/// changes nothing.
+///
+/// `trace PAGE SCRIPT` and `edit PAGE SCRIPT` read the script first. They apply and paint the page
+/// likewise, and then the edits of the script, an undo by bringing back the state before the last
+/// edit that is kept. `trace` puts the lines of the page's refused items, and the lines of the
+/// changes of each edit; `edit` the bytes that bring the edited page back.
+///
+/// `gen NUMBER` puts the generated page of the number, and paints nothing. `load NUMBER` reads and
+/// paints it as `show` does a stored page, and puts how many bytes and items it has, and how many
+/// cells were painted. Both take the page piece by piece, and leave the shelf.
+pub fn run<F: Shelf, T: Sink, G: Glass>(
+    alloc: Global,
+    words: &Vec<String>,
+    shelf: &mut F,
+    sink: &mut T,
+    glass: &mut G,
+) -> Status
+    ensures { Runs (map string_bytes words.now.items)
+        (outside_of (F.state shelf.old) (T.state sink.old) (G.state glass.old))
+        (outside_of (F.state shelf.new) (T.state sink.new) (G.state glass.new)) result }
+{
+    let Some(request) = request_of(words.as_slice()) else {
+        return Status::Usage;
+    };
+    Status::at_end(report_request(alloc, request, shelf, sink, glass))
+}
+
+/// Runs the program over a shelf and a sink that never fail: it does all that `run` does, no fault
+/// is answered, and only a page that is too long ends so.
+pub fn run_quietly<G: Glass>(
+    alloc: Global,
+    words: &Vec<String>,
+    shelf: &mut QuietShelf,
+    sink: &mut QuietSink,
+    glass: &mut G,
+) -> Status
+    ensures runs { Runs (map string_bytes words.now.items)
+        (outside_of (quiet_shelf_state shelf.old) (quiet_sink_state sink.old) (G.state glass.old))
+        (outside_of (quiet_shelf_state shelf.new) (quiet_sink_state sink.new) (G.state glass.new))
+        result }
+    ensures read_fault { result ≢ Status.ReadFault }
+    ensures write_fault { result ≢ Status.WriteFault }
+    ensures too_long { (request : Asked) (page : List ℕ)
+        → Asks (map string_bytes words.now.items) (quiet_shelf_state shelf.old) request page
+        → length page ≤ 2 ^ 24
+        → IsShortScript (quiet_shelf_state shelf.old) (course_of request).script
+        → result ≢ Status.TooLong }
+{
+    run(alloc, words, shelf, sink, glass)
+}

@@ -1,0 +1,269 @@
+//! The words of the program: which of them are a request, and what a request asks for.
+
+ghost use Rattle.std.specs.Prelude.{◌≡◌, ◌≢◌, ◌∷◌, [], map, codes, string_bytes, IfSome};
+ghost use Rattle.std.specs.Char.{is_ascii_digit};
+ghost use Rattle.std.specs.List.{list_all};
+ghost use Rattle.std.specs.Option.{option_map};
+ghost use Rattle.cept_run.specs.Words.{asked_of_page, asked_of_script, asked_to_load, number_of};
+ghost use Rattle.cept_run.specs.Words.{is_counted, request_by, request_of, page_request, script_request};
+ghost use Rattle.cept_run.specs.Words.{number_request, word_of, HasTwoNames};
+
+/// What is asked for of a page.
+#[derive(Clone, Copy, Debug, PartialEq, Eq)]
+pub enum PageAction {
+    /// `changes PAGE`: the changed cells of each item, and the refused items.
+    Changes,
+    /// `check PAGE`: the refused items, and how many items there are.
+    Check,
+    /// `show PAGE`: the screen at the end, as text.
+    Show,
+    /// `cells PAGE`: the cells of the screen at the end that aren't blank.
+    Cells,
+    /// `write PAGE`: the page at the end, as bytes that bring it back.
+    Write,
+}
+
+/// What is asked for of a page and a script.
+#[derive(Clone, Copy, Debug, PartialEq, Eq)]
+pub enum ScriptAction {
+    /// `trace PAGE SCRIPT`: the refused items of the page, and the changed cells of each edit.
+    Trace,
+    /// `edit PAGE SCRIPT`: the page after the edits, as bytes that bring it back.
+    Edit,
+}
+
+/// What is asked for of a generated page.
+#[derive(Clone, Copy, Debug, PartialEq, Eq)]
+pub enum NumberAction {
+    /// `gen NUMBER`: it is put.
+    Generate,
+    /// `load NUMBER`: it is read and painted; how many bytes and items it has, and how many cells
+    /// were painted.
+    Load,
+}
+
+/// What is put at the end of a page whose commands are painted.
+#[derive(Clone, Copy, Debug, PartialEq, Eq)]
+pub enum End {
+    /// Nothing.
+    Nothing,
+    /// What the glass shows, as text.
+    Screen,
+    /// The cells that the glass shows and that aren't blank.
+    Cells,
+    /// The page, as bytes that bring it back.
+    Page,
+    /// How many bytes and items the page has, and how many cells were painted, which are counted.
+    Counts,
+}
+
+impl End {
+    /// Whether the painted cells are counted.
+    #[inline(always)]
+    pub fn is_counted(self) -> bool
+        ensures { result ≡ is_counted self }
+    {
+        matches!(self, End::Counts)
+    }
+}
+
+/// What is done with a page on the way.
+#[derive(Clone, Copy, Debug, PartialEq, Eq)]
+pub struct Asked {
+    /// Its commands are applied and painted. Else its items are counted, and the counts put at the
+    /// end.
+    pub painting: bool,
+    /// The changes of each of its commands are listed.
+    pub listed: bool,
+    /// Its refused items are named.
+    pub refusals: bool,
+    /// The changes of each edit are listed.
+    pub edits_listed: bool,
+    /// What is put at the end.
+    pub end: End,
+}
+
+/// A page that is painted, and of which something is put at the end alone.
+const PAINTED: Asked = Asked {
+    painting: true,
+    listed: false,
+    refusals: false,
+    edits_listed: false,
+    end: End::Nothing,
+};
+
+impl PageAction {
+    /// What it asks for.
+    pub fn asked(self) -> Asked
+        ensures { result ≡ asked_of_page self }
+    {
+        match self {
+            PageAction::Changes => Asked {
+                listed: true,
+                refusals: true,
+                ..PAINTED
+            },
+            PageAction::Check => Asked {
+                painting: false,
+                refusals: true,
+                ..PAINTED
+            },
+            PageAction::Show => Asked {
+                end: End::Screen,
+                ..PAINTED
+            },
+            PageAction::Cells => Asked {
+                end: End::Cells,
+                ..PAINTED
+            },
+            PageAction::Write => Asked {
+                end: End::Page,
+                ..PAINTED
+            },
+        }
+    }
+}
+
+impl ScriptAction {
+    /// What it asks for.
+    pub fn asked(self) -> Asked
+        ensures { result ≡ asked_of_script self }
+    {
+        match self {
+            ScriptAction::Trace => Asked {
+                refusals: true,
+                edits_listed: true,
+                ..PAINTED
+            },
+            ScriptAction::Edit => Asked {
+                end: End::Page,
+                ..PAINTED
+            },
+        }
+    }
+}
+
+/// What is asked for where a generated page is loaded.
+pub const LOADED: Asked = Asked {
+    painting: true,
+    listed: false,
+    refusals: false,
+    edits_listed: false,
+    end: End::Counts,
+};
+
+/// What the first word asks for, by what stands after it.
+#[derive(Clone, Copy, Debug, PartialEq, Eq)]
+pub enum Word {
+    /// The name of a page.
+    Page(PageAction),
+    /// The names of a page and of a script.
+    Script(ScriptAction),
+    /// The number of a generated page.
+    Number(NumberAction),
+}
+
+/// What a word asks for.
+fn word_of(word: &str) -> Option<Word>
+    ensures { result ≡ word_of word.now }
+{
+    if word == "changes" {
+        Some(Word::Page(PageAction::Changes))
+    } else if word == "check" {
+        Some(Word::Page(PageAction::Check))
+    } else if word == "show" {
+        Some(Word::Page(PageAction::Show))
+    } else if word == "cells" {
+        Some(Word::Page(PageAction::Cells))
+    } else if word == "write" {
+        Some(Word::Page(PageAction::Write))
+    } else if word == "trace" {
+        Some(Word::Script(ScriptAction::Trace))
+    } else if word == "edit" {
+        Some(Word::Script(ScriptAction::Edit))
+    } else if word == "gen" {
+        Some(Word::Number(NumberAction::Generate))
+    } else if word == "load" {
+        Some(Word::Number(NumberAction::Load))
+    } else {
+        None
+    }
+}
+
+/// What the program is asked for: a word, and what has to stand after it.
+#[derive(Clone, Copy, Debug)]
+pub enum Request<'a> {
+    /// Of the page of this name.
+    Page(PageAction, &'a String),
+    /// Of the page of the first name and the script of the second.
+    Script(ScriptAction, &'a String, &'a String),
+    /// Of the generated page of this number.
+    Number(NumberAction, u32),
+}
+
+/// Whether each byte is a digit.
+fn are_digits(text: &[u8]) -> bool
+    ensures { result ≡ list_all is_ascii_digit text.now }
+{
+    text.iter().all(|byte| byte.is_ascii_digit())
+}
+
+/// The number of a word of one to ten digits, at most 4,294,967,295.
+fn number_of(word: &str) -> Option<u32>
+    ensures { result ≡ number_of word.now }
+{
+    if word.len() > 10 || !are_digits(word.as_bytes()) {
+        return None;
+    }
+    word.parse::<u32>().ok()
+}
+
+/// An action and the one word after it, the name of a page.
+fn page_request(action: PageAction, words: &[String]) -> Option<Request<'_>>
+    ensures { option_map request_by result ≡ page_request action (map string_bytes words.now) }
+{
+    match words {
+        [page] if !page.is_empty() => Some(Request::Page(action, page)),
+        _ => None,
+    }
+}
+
+/// An action and the two words after it, the names of a page and of a script.
+fn script_request(action: ScriptAction, words: &[String]) -> Option<Request<'_>>
+    ensures request { option_map request_by result
+        ≡ script_request action (map string_bytes words.now) }
+    ensures differ { IfSome result (λ request. HasTwoNames (request_by request)) }
+{
+    match words {
+        [page, script] if !page.is_empty() && !script.is_empty() && page != script => {
+            Some(Request::Script(action, page, script))
+        }
+        _ => None,
+    }
+}
+
+/// An action and the one word after it, the number of a generated page.
+fn number_request(action: NumberAction, words: &[String]) -> Option<Request<'_>>
+    ensures { option_map request_by result ≡ number_request action (map string_bytes words.now) }
+{
+    match words {
+        [number] => Some(Request::Number(action, number_of(number.as_str())?)),
+        _ => None,
+    }
+}
+
+/// What the words ask for, where they are a request.
+#[tactic(auto, unfolding(crate::specs::Words::request_of))]
+pub fn request_of(words: &[String]) -> Option<Request<'_>>
+    ensures request { option_map request_by result ≡ request_of (map string_bytes words.now) }
+    ensures differ { IfSome result (λ request. HasTwoNames (request_by request)) }
+{
+    let [word, after @ ..] = words else {
+        return None;
+    };
+    match word_of(word.as_str())? {
+        Word::Page(action) => page_request(action, after),
+        Word::Script(action) => script_request(action, after),
+        Word::Number(action) => number_request(action, after),
+    }
+}

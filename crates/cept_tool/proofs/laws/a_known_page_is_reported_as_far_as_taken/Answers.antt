@@ -1,5 +1,0 @@
-use Rattle.cept_tool.proofs.WholeRuns.{unread_reported, too_long_reported}
-use Rattle.cept_tool.proofs.laws.a_known_page_is_reported_as_far_as_taken.Goals as goal
-
-pub returns : goal.returns
-returns c = record { read_fault = unread_reported; too_long = too_long_reported }
