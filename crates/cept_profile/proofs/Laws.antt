@@ -27,15 +27,9 @@ pub use Rattle.cept_profile.proofs.CopiesOfSigns.{control_after_copies-none, str
 pub use Rattle.cept_profile.proofs.CopiesOfSigns.{control_after_copies-more, strokes_of_copies-more}
 pub use Rattle.cept_profile.proofs.CopiesOfSigns.{length-strokes_of_copies, length-strokes_of_copies-unscrolled}
 pub use Rattle.cept_profile.proofs.CopiesOfSigns.{control_with-control_after_copies}
--- ---- rows_out_of_reach_stay
-pub use Rattle.cept_profile.proofs.RowsInReach.{look-out_of_reach, rows_in_reach-le, in_reach-by}
-pub use Rattle.cept_profile.proofs.RowsInReach.{rows_in_reach-counted}
--- ---- untouched_rows_stay
-pub use Rattle.cept_profile.proofs.RowsInReach.{cell-untouched, row_pen-untouched, screen_pen-untouched}
-pub use Rattle.cept_profile.proofs.RowsInReach.{paint-untouched, dclut-untouched, definitions-untouched, look-untouched}
 -- ---- rows_that_are_not_reached_keep_their_looks
 pub use Rattle.cept_profile.proofs.RowsReached.{look-not_reached, row_before-not_reached, reaches-by}
-pub use Rattle.cept_profile.proofs.RowsReached.{rows_reached-counted, rows_reached-le}
+pub use Rattle.cept_profile.proofs.RowsReached.{rows_in_reach-counted, rows_in_reach-le}
 -- ---- rows_that_strokes_do_not_reach_keep_their_looks
 pub use Rattle.cept_profile.proofs.RowsReached.{LeadsTo-state_after, look-unreached, row_before-unreached, is_reached-by}
 -- ---- rows_come_with_their_cells

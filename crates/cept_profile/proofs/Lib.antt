@@ -13,7 +13,7 @@ mod OneMoreCommand
 mod ControlSettings
 mod CopiesOfSigns
 mod MovesOfCommands
-mod RowsInReach
+mod RowsWithoutSizes
 pub mod Laws
 mod MarkedPlaces
 mod MotionStrokes
@@ -61,5 +61,4 @@ mod NamedDefinitions
 mod RowsAlike
 mod SamePens
 mod RowsReached
-mod WorkedReachedRows
 mod NamesOfRows

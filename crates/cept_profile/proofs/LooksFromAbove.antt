@@ -15,7 +15,7 @@ use Rattle.cept_codes.specs.Table.{IsTable}
 use Rattle.cept_codes.proofs.Laws.{look_decides}
 use Rattle.cept_profile.specs.Look.{look, look_in_row, look_with_part, looks_of, own_look, own_size}
 use Rattle.cept_profile.specs.Look.{look_of_origin, part_of, parts_of}
-use Rattle.cept_profile.specs.RowsFromAbove.{covering, covering_differs, is_other_covering, look_by, look_seen}
+use Rattle.cept_profile.specs.RowsFromAbove.{covering, is_covered_otherwise, is_other_covering, look_by, look_seen}
 use Rattle.cept_profile.specs.RowsFromAbove.{looks_in}
 use Rattle.cept_profile.specs.RowsFromAbove.{row_from_above}
 use Rattle.cept_profile.specs.State.{Core}
@@ -146,24 +146,24 @@ covering-alike a b alike =
       | inr same ↦ ap (λ l. covering l) ((look_decides a b).0 (not-false (same_look a b) same))
     ]
 
-none_differs : (g h : List (List Look)) (r : ℕ) → covering_differs g h r ≡ false → (c : ℕ) → 1 ≤ c → c ≤ 40
-    → covering (look_seen g (r - 1) c) ≡ covering (look_seen h (r - 1) c)
-unfolding covering_differs
-none_differs g h r none c low high =
-    covering-alike (look_seen g (r - 1) c) (look_seen h (r - 1) c)
-    (no_index 1 40 (λ d. is_other_covering (look_seen g (r - 1) d) (look_seen h (r - 1) d)) none c low (omega arith))
+none_differs : (g h : List (List Look)) (q r : ℕ) → is_covered_otherwise g q h r ≡ false → (c : ℕ) → 1 ≤ c → c ≤ 40
+    → covering (look_seen g (q - 1) c) ≡ covering (look_seen h (r - 1) c)
+unfolding is_covered_otherwise
+none_differs g h q r none c low high =
+    covering-alike (look_seen g (q - 1) c) (look_seen h (r - 1) c)
+    (no_index 1 40 (λ d. is_other_covering (look_seen g (q - 1) d) (look_seen h (r - 1) d)) none c low (omega arith))
 
 -- where nothing covers in either grid, nothing differs
-pub covering-none : (g h : List (List Look)) (r : ℕ)
-    → ((c : ℕ) → covers_below (part_of (look_seen g (r - 1) c)) ≡ false)
-    → ((c : ℕ) → covers_below (part_of (look_seen h (r - 1) c)) ≡ false) → covering_differs g h r ≡ false
-unfolding covering_differs
-covering-none g h r free also =
-    none_passes 1 40 (λ c. is_other_covering (look_seen g (r - 1) c) (look_seen h (r - 1) c)) (λ c low high.
+pub covering-none : (g h : List (List Look)) (q r : ℕ)
+    → ((c : ℕ) → covers_below (part_of (look_seen g (q - 1) c)) ≡ false)
+    → ((c : ℕ) → covers_below (part_of (look_seen h (r - 1) c)) ≡ false) → is_covered_otherwise g q h r ≡ false
+unfolding is_covered_otherwise
+covering-none g h q r free also =
+    none_passes 1 40 (λ c. is_other_covering (look_seen g (q - 1) c) (look_seen h (r - 1) c)) (λ c low high.
     and_left
-    (covers_below (part_of (look_seen g (r - 1) c)) || covers_below (part_of (look_seen h (r - 1) c)))
-    (not (same_look (look_seen g (r - 1) c) (look_seen h (r - 1) c)))
-    (or_from (covers_below (part_of (look_seen g (r - 1) c))) (covers_below (part_of (look_seen h (r - 1) c)))
+    (covers_below (part_of (look_seen g (q - 1) c)) || covers_below (part_of (look_seen h (r - 1) c)))
+    (not (same_look (look_seen g (q - 1) c) (look_seen h (r - 1) c)))
+    (or_from (covers_below (part_of (look_seen g (q - 1) c))) (covers_below (part_of (look_seen h (r - 1) c)))
     (free c) (also c)))
 
 same_covering : (above next : List Look) → length above ≡ 40 → length next ≡ 40
@@ -175,11 +175,11 @@ same_covering above next long also same =
     (length-map next covering ∙ also) (λ c low high.
     column_entry-map covering blank_look above c ∙ same c low high ∙ sym (column_entry-map covering blank_look next c))
 
-pub covering-same : (g h : List (List Look)) (r : ℕ) → IsTable g → IsTable h → 1 ≤ r → r ≤ 24
-    → covering_differs g h r ≡ false → map covering (looks_in g (r - 1)) ≡ map covering (looks_in h (r - 1))
-covering-same g h r is also low high none =
-    same_covering (looks_in g (r - 1)) (looks_in h (r - 1)) (length-row_in (λ _. blank_look) g (r - 1) is (omega arith))
-    (length-row_in (λ _. blank_look) h (r - 1) also (omega arith)) (none_differs g h r none)
+pub covering-same : (g h : List (List Look)) (q r : ℕ) → IsTable g → IsTable h → 1 ≤ q → q ≤ 24 → 1 ≤ r → r ≤ 24
+    → is_covered_otherwise g q h r ≡ false → map covering (looks_in g (q - 1)) ≡ map covering (looks_in h (r - 1))
+covering-same g h q r is also from to low high none =
+    same_covering (looks_in g (q - 1)) (looks_in h (r - 1)) (length-row_in (λ _. blank_look) g (q - 1) is (omega arith))
+    (length-row_in (λ _. blank_look) h (r - 1) also (omega arith)) (none_differs g h q r none)
 
 -- ---- rows of single size
 

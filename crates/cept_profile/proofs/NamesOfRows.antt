@@ -28,8 +28,9 @@ use Rattle.cept_profile.specs.Names.{Names, code_in_set, code_named, is_code, na
 use Rattle.cept_profile.specs.Names.{names_entry, names_pattern, names_some_pattern, pattern_shown, place_names_entry}
 use Rattle.cept_profile.specs.Names.{shows_ink_of, shows_two_planes}
 use Rattle.cept_profile.specs.PageParts.{dclut_in, pattern_in}
-use Rattle.cept_profile.specs.ReachedRows.{LeadsTo, has_other_attributes, is_covered_otherwise, is_redefined, is_written}
-use Rattle.cept_profile.specs.ReachedRows.{redefines}
+use Rattle.cept_profile.specs.Reach.{LeadsTo, has_other_attributes, is_redefined, is_written}
+use Rattle.cept_profile.specs.Reach.{redefines}
+use Rattle.cept_profile.specs.RowsFromAbove.{is_covered_otherwise}
 use Rattle.cept_profile.specs.Serial.{held_sign, is_mosaic}
 use Rattle.cept_profile.specs.State.{Core, definitions_of}
 use Rattle.cept_profile.specs.Tiling.{covers_below, part_at}

@@ -1,7 +1,7 @@
 -- Rows followed back through strokes: cells of a row in which none of them writes are those of the row of which it came.
 use Rattle.std.proofs.Common.{◌≡◌, ℕ, ◌+◌, ◌-◌, ◌≤◌, cond, ◌&&◌, ◌||◌, ◌==◌, not, eqb, leb, Bool, true, false, List, []}
 use Rattle.std.proofs.Common.{◌∷◌, Option, Some, None, refl, sym, subst, ◌∙◌, ap, arith}
-use Rattle.std.specs.Prelude.{is_some, option_and_then}
+use Rattle.std.specs.Prelude.{option_and_then}
 use Rattle.std.specs.List.{AllByRecursion, list_any}
 use Rattle.std.proofs.lemmas.Bool.{and_left, cond-false, or_parts, true≢false}
 use Rattle.std.proofs.lemmas.Bool.Decides.{nat_tests}
@@ -16,9 +16,9 @@ use Rattle.cept_codes.specs.Place.{OnScreen}
 use Rattle.cept_codes.specs.Stroke.{IsRow, IsValidStroke}
 use Rattle.cept_codes.specs.Table.{value_at}
 use Rattle.cept_codes.proofs.Laws.{value_at-table}
-use Rattle.cept_profile.specs.Cells.{cell_after, cells_after, cells_after_all, is_at, shifted}
-use Rattle.cept_profile.specs.MovedRows.{MovedRows, moved_rows, one_moves, row_before, row_before_move}
-use Rattle.cept_profile.specs.ReachedRows.{is_written, writes, writes_where}
+use Rattle.cept_profile.specs.Cells.{cell_after, cells_after, cells_after_all, is_at, is_moved, moves, shifted}
+use Rattle.cept_profile.specs.MovedRows.{MovedRows, moved_rows, row_before, row_before_move, row_within}
+use Rattle.cept_profile.specs.Reach.{is_written, writes, writes_where}
 
 -- ---- one stroke
 
@@ -121,27 +121,28 @@ cells_after_all-from cells (x ∷ xs) r q c valid on is out =
     ∙ cell_after-from x (value_at blank_cell cells) steps.0 q c steps.2
     (sym (ap (writes_where x) steps.1) ∙ parts.0)
 
--- ---- strokes that move no row
+-- ---- rows that no stroke moves
 
-moves_none : (moved : Option MovedRows) (r : ℕ) → is_some moved ≡ false → row_before_move moved r ≡ Some r
+moves_none : (moved : Option MovedRows) (r : ℕ) → is_moved moved r ≡ false → row_before_move moved r ≡ Some r
 moves_none None r none = refl
-moves_none (Some moved) r none = absurd (true≢false none)
+moves_none (Some moved) r none =
+    cond-false (leb moved.first r && leb r moved.last) (row_within moved.way moved.first moved.last r) (Some r) none
 
--- then each row was where it is
-pub row_before-still : (xs : List Stroke) (r : ℕ) → one_moves xs ≡ false → row_before xs r ≡ Some r
-unfolding row_before one_moves
+-- then it was where it is
+pub row_before-still : (xs : List Stroke) (r : ℕ) → list_any (λ x. moves x r) xs ≡ false → row_before xs r ≡ Some r
+unfolding row_before
 row_before-still [] r none = refl
 row_before-still (x ∷ xs) r none =
-    let parts = or_parts (is_some (moved_rows x)) (one_moves xs) none in
+    let parts = or_parts (moves x r) (list_any (λ y. moves y r) xs) none in
     ap (option_and_then (row_before_move (moved_rows x))) (row_before-still xs r parts.1)
     ∙ moves_none (moved_rows x) r parts.0
 
 -- and is written where a stroke names it
-pub is_written-still : (xs : List Stroke) (r : ℕ) → one_moves xs ≡ false
+pub is_written-still : (xs : List Stroke) (r : ℕ) → list_any (λ x. moves x r) xs ≡ false
     → is_written xs r ≡ list_any (λ x. writes x r) xs
-unfolding is_written one_moves
+unfolding is_written
 is_written-still [] r none = refl
 is_written-still (x ∷ xs) r none =
-    let parts = or_parts (is_some (moved_rows x)) (one_moves xs) none in
+    let parts = or_parts (moves x r) (list_any (λ y. moves y r) xs) none in
     ap (λ o. writes_where x o || is_written xs r) (row_before-still xs r parts.1)
     ∙ ap (λ b. writes x r || b) (is_written-still xs r parts.1)

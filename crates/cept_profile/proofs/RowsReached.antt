@@ -34,9 +34,9 @@ use Rattle.cept_profile.specs.Names.{code_in_set, code_named, contents_at_origin
 use Rattle.cept_profile.specs.Names.{names_dclut, names_entry, names_pattern, own_attributes_in}
 use Rattle.cept_profile.specs.Names.{pattern_shown, place_names_entry, shows_ink_of, shows_two_planes}
 use Rattle.cept_profile.specs.PageParts.{dclut_in, paint_in, pattern_in, row_pen_in}
-use Rattle.cept_profile.specs.ReachedRows.{LeadsTo, has_other_attributes, is_covered_otherwise, is_reached, is_reached_from}
-use Rattle.cept_profile.specs.ReachedRows.{is_redefined, is_written, just_one, reaches, rows_reached}
-use Rattle.cept_profile.specs.RowsFromAbove.{covering, is_other_covering, look_seen, looks_in}
+use Rattle.cept_profile.specs.Reach.{LeadsTo, has_other_attributes, is_reached, is_reached_from}
+use Rattle.cept_profile.specs.Reach.{is_redefined, is_written, just_one, reaches, rows_in_reach}
+use Rattle.cept_profile.specs.RowsFromAbove.{covering, is_covered_otherwise, is_other_covering, look_seen, looks_in}
 use Rattle.cept_profile.specs.State.{Core, Page, State, core_of, definitions_of, page_after, state_after}
 use Rattle.cept_profile.specs.Strokes.{strokes_of}
 use Rattle.cept_profile.specs.Tiling.{covers_below, part_at, part_below}
@@ -423,12 +423,12 @@ row_before-not_reached s command r is valid low high out =
     row_before-unreached (core_of s) (core_of (state_after s command)) (strokes_of s.control command) r
     (LeadsTo-state_after s command is valid).each low high (sym (reaches-by s command r) ∙ out)
 
-pub rows_reached-counted : (s : State) (command : Command)
-    → rows_reached s command ≡ count_by (reaches s command) (range_with_len 1 24)
-unfolding rows_reached
-rows_reached-counted s command = refl
+pub rows_in_reach-counted : (s : State) (command : Command)
+    → rows_in_reach s command ≡ count_by (reaches s command) (range_with_len 1 24)
+unfolding rows_in_reach
+rows_in_reach-counted s command = refl
 
-pub rows_reached-le : (s : State) (command : Command) → rows_reached s command ≤ 24
-unfolding rows_reached
-rows_reached-le s command =
+pub rows_in_reach-le : (s : State) (command : Command) → rows_in_reach s command ≤ 24
+unfolding rows_in_reach
+rows_in_reach-le s command =
     omega (arith, count_by-le-length (reaches s command) (range_with_len 1 24), length-range_with_len 1 24)

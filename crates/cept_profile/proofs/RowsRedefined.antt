@@ -16,7 +16,7 @@ use Rattle.cept_codes.proofs.Laws.{entry-list_by_index, entry_past, length-list_
 use Rattle.cept_profile.specs.Names.{is_code, names_at, names_dclut, names_entry, names_pattern, names_some_pattern}
 use Rattle.cept_profile.specs.PageParts.{dclut_after, dclut_in, dclut_list_after, paint_after, paint_in, paints_after}
 use Rattle.cept_profile.specs.PageParts.{part_after_all, pattern_after, pattern_in, patterns_after}
-use Rattle.cept_profile.specs.ReachedRows.{is_redefined, redefines}
+use Rattle.cept_profile.specs.Reach.{is_redefined, redefines}
 use Rattle.cept_profile.specs.State.{Core}
 
 -- ---- an entry that no stroke sets

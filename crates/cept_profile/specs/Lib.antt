@@ -24,4 +24,3 @@ pub mod Definitions
 pub mod Edges
 pub mod MovedRows
 pub mod Names
-pub mod ReachedRows

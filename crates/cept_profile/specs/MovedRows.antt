@@ -1,7 +1,6 @@
 -- Moved rows (own): which rows a stroke moves, and the row before strokes of which a row after them came.
 use Rattle.std.specs.Prelude.{ℕ, ◌+◌, ◌-◌, ◌&&◌, ◌==◌, Option, Some, None, List, [], ◌∷◌, nat_le, option_and_then}
-use Rattle.std.specs.Prelude.{if◌then◌else◌, Bool, is_some}
-use Rattle.std.specs.List.{list_any}
+use Rattle.std.specs.Prelude.{if◌then◌else◌}
 use Rattle.cept_codes.specs.declared.command.Up.{Up}
 use Rattle.cept_codes.specs.declared.command.Up.TheVariants as ways
 use Rattle.cept_codes.specs.declared.stroke.Stroke.{Stroke}
@@ -46,7 +45,3 @@ row_before_move (Some moved) r =
 unfoldable pub row_before : List Stroke → ℕ → Option ℕ
 row_before [] r = Some r
 row_before (stroke ∷ more) r = option_and_then (row_before_move (moved_rows stroke)) (row_before more r)
-
--- one of the strokes moves rows
-unfoldable pub one_moves : List Stroke → Bool
-one_moves strokes = list_any (λ stroke. is_some (moved_rows stroke)) strokes

@@ -57,7 +57,8 @@ covering l = if covers_below (part_of l) then Some l else None
 abbrev pub is_other_covering : Look → Look → Bool
 is_other_covering a b = (covers_below (part_of a) || covers_below (part_of b)) && not (same_look a b)
 
--- what covers row r from above in one grid differs from what covers it in the other; nothing covers the first row
-unfoldable pub covering_differs : List (List Look) → List (List Look) → ℕ → Bool
-covering_differs g h r =
-    list_any (λ c. is_other_covering (look_seen g (r - 1) c) (look_seen h (r - 1) c)) (range_with_len 1 40)
+-- what covers row r of the looks after from above is not what covers row q of the looks before; nothing covers the first
+-- row
+unfoldable pub is_covered_otherwise : List (List Look) → ℕ → List (List Look) → ℕ → Bool
+is_covered_otherwise before q after r =
+    list_any (λ c. is_other_covering (look_seen before (q - 1) c) (look_seen after (r - 1) c)) (range_with_len 1 40)

@@ -12,7 +12,6 @@ mod protected_cells;
 mod reach;
 mod repeated_signs;
 mod rows_from_above;
-mod rows_reached;
 mod serial_rows;
 mod tiling;
 mod validity;
@@ -28,16 +27,15 @@ pub use motions::motions_go_round_the_places;
 pub use one_more::{looking_back_is_drawing, one_more_command, one_more_command_by_parts};
 pub use painting::{each_command_is_shown, marked_places_in_order, painting_the_changes};
 pub use protected_cells::protection;
-pub use reach::{rows_out_of_reach_stay, untouched_rows_stay};
+pub use reach::{
+    rows_come_with_their_cells, rows_come_with_their_parts_and_names,
+    rows_that_are_not_reached_keep_their_looks, rows_that_do_not_move,
+    rows_that_strokes_do_not_reach_keep_their_looks,
+};
 pub use repeated_signs::copies_are_written_in_turn;
 pub use rows_from_above::{
     looks_come_from_above_or_the_left, rows_of_single_size_cover_nothing,
     rows_stay_under_what_covers_them, the_parts_of_a_core_are_the_tiled_ones,
-};
-pub use rows_reached::{
-    rows_come_with_their_cells, rows_come_with_their_parts_and_names,
-    rows_that_are_not_reached_keep_their_looks, rows_that_do_not_move,
-    rows_that_strokes_do_not_reach_keep_their_looks,
 };
 pub use serial_rows::{
     cells_to_the_right_count_for_nothing, one_more_cell, serial_attributes_are_valid,

@@ -14,10 +14,10 @@ pub use law::{
     one_more_cell, one_more_command, one_more_command_by_parts, painting_the_changes,
     parts_are_valid, protection, rows_are_those_of_the_last_format, rows_come_with_their_cells,
     rows_come_with_their_parts_and_names, rows_of_single_size_cover_nothing,
-    rows_out_of_reach_stay, rows_stay_under_what_covers_them,
+    rows_stay_under_what_covers_them,
     rows_that_are_not_reached_keep_their_looks, rows_that_do_not_move,
     rows_that_strokes_do_not_reach_keep_their_looks, serial_attributes_are_valid,
     settings_look_back, single_shifts_wait, strokes_are_valid, the_first_grid,
     the_nearest_marker_is_in_force, the_page_and_the_edges_are_seen,
-    the_parts_of_a_core_are_the_tiled_ones, untouched_rows_stay, validity_is_kept, without_markers,
+    the_parts_of_a_core_are_the_tiled_ones, validity_is_kept, without_markers,
 };

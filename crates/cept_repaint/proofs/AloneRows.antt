@@ -11,24 +11,27 @@ use Rattle.cept_codes.specs.Cell.{blank_cell}
 use Rattle.cept_codes.specs.Look.{blank_look}
 use Rattle.cept_codes.specs.Place.{Place, OnScreen}
 use Rattle.cept_codes.specs.Same.{same_look}
+use Rattle.cept_codes.specs.Stroke.{IsValidStroke}
 use Rattle.cept_codes.specs.Table.{value_at}
 use Rattle.cept_codes.proofs.Laws.{IsTable-table, look_decides, value_at-table}
 use Rattle.cept_profile.specs.Cells.{is_at, cell_after, cells_after}
-use Rattle.cept_profile.specs.Edges.{edges_of_core}
+use Rattle.cept_profile.specs.Edges.{Edges, edges_of_core}
 use Rattle.cept_profile.specs.Look.{contents_of_row, is_double_set, look, look_of, looks_of, own_size}
 use Rattle.cept_profile.specs.Look.{part_of}
 use Rattle.cept_profile.specs.PageParts.{row_pen_in}
-use Rattle.cept_profile.specs.Reach.{is_last_under_one, is_row_touched, one_touches}
-use Rattle.cept_profile.specs.RowsFromAbove.{covering_differs, look_seen, looks_in}
+use Rattle.cept_profile.specs.RowsFromAbove.{is_covered_otherwise, look_seen, looks_in}
 use Rattle.cept_profile.specs.State.{Core, Page, definitions_of, page_after}
 use Rattle.cept_profile.specs.Tiling.{covers_below}
 use Rattle.cept_profile.specs.Valid.{IsValidPage}
+use Rattle.cept_repaint.specs.Due.{is_altered, one_alters, pens_of}
 use Rattle.cept_repaint.specs.Kept.{OthersStay, core_on, look_alone}
 use Rattle.cept_repaint.specs.MarkedRows.{IsSingleRow, StandsAlone}
-use Rattle.cept_repaint.proofs.PageParts.{AreWhole-valid, page_after-put}
-use Rattle.cept_repaint.proofs.RowsOfLooks.{covering_differs-below, covering_differs-first, is_other_above-none}
+use Rattle.cept_repaint.proofs.AlteredRows.{is_altered-put}
+use Rattle.cept_repaint.proofs.PageParts.{page_after-put}
+use Rattle.cept_repaint.proofs.RowsDue.{look-unaltered}
+use Rattle.cept_repaint.proofs.RowsOfLooks.{covered_otherwise-below, covered_otherwise-first, is_other_above-none}
 use Rattle.cept_repaint.proofs.RowsOfLooks.{is_other_covering-same, look_seen-at}
-use Rattle.cept_profile.proofs.Laws.{covers_nothing, covers_nothing-first, look-single, look-untouched}
+use Rattle.cept_profile.proofs.Laws.{covers_nothing, covers_nothing-first, look-single}
 use Rattle.cept_profile.proofs.Laws.{look_in_row-unmarked, size_in_row-single}
 
 -- in a row in which no double size is set each cell is to be shown in single size, where the screen sets none
@@ -70,22 +73,19 @@ cell_elsewhere p place cell r c on other =
     value_at-table (cell_after (strokes.Put place cell) (value_at blank_cell p.cells)) blank_cell r c on
     ∙ cond-false (is_at place r c && not was.protected) cell was (and_left (is_at place r c) (not was.protected) other)
 
--- no row becomes last where the edges stay
-is_last_under_one-none : (m : Core) (r : ℕ) → is_last_under_one (edges_of_core m) (edges_of_core m) r ≡ false
-is_last_under_one-none m r = grind (arith, nat_tests)
-
--- and no other row is touched
-untouched : (place : Place) (cell : Cell) (m : Core) (r : ℕ) → place.row ≢ r
-    → is_row_touched (strokes.Put place cell ∷ []) (edges_of_core m) (edges_of_core m) r ≡ false
-unfolding one_touches
-untouched place cell m r apart =
+-- and no other row is altered
+unaltered : (p : Page) (place : Place) (cell : Cell) (edges : Edges) (r : ℕ) → place.row ≢ r → 1 ≤ r → r ≤ 24
+    → is_altered (strokes.Put place cell ∷ []) (pens_of p) edges
+    (pens_of (page_after p (strokes.Put place cell ∷ []))) edges r ≡ false
+unfolding one_alters
+unaltered p place cell edges r apart low high =
     let no : (place.row == r) ≡ false = grind (arith, nat_tests) in
-    or_from (one_touches (strokes.Put place cell ∷ []) r) (is_last_under_one (edges_of_core m) (edges_of_core m) r) (ap (λ b. b || false) no)
-    (is_last_under_one-none m r)
+    is_altered-put p place cell edges r low high ∙ ap (λ b. (b || false) || false) no
 
 -- a page before and after one cell is put, in a row that stands alone
 pub record IsPutAlone (p q : Page) (place : Place) : Type 0 where
   pub cell : Cell
+  pub each : IsValidStroke (strokes.Put place cell)
   pub put : q ≡ page_after p (strokes.Put place cell ∷ [])
   pub row : (1 ≤ place.row) × (place.row ≤ 24)
   pub was_valid : IsValidPage p
@@ -101,14 +101,14 @@ OthersStayTo p q m place n =
 -- where all do down to the row above, what covers a row from above is the same
 covering_stays : (p q : Page) (m : Core) (place : Place) → IsPutAlone p q place → (n : ℕ) → n < 24
     → OthersStayTo p q m place n
-    → covering_differs (looks_of (core_on m p)) (looks_of (core_on m q)) (n + 1) ≡ false
+    → is_covered_otherwise (looks_of (core_on m p)) (n + 1) (looks_of (core_on m q)) (n + 1) ≡ false
 covering_stays p q m place put zero below stay =
-    covering_differs-first (looks_of (core_on m p)) (looks_of (core_on m q))
+    covered_otherwise-first (looks_of (core_on m p)) (looks_of (core_on m q))
 covering_stays p q m place put (suc n) below stay =
     let g : List (List Look) = looks_of (core_on m p) in
     let h : List (List Look) = looks_of (core_on m q) in
     let r : ℕ = suc n in
-    covering_differs-below g h r
+    covered_otherwise-below g h r
     ∙ is_other_above-none (looks_in g r) (looks_in h r) (λ c low high. elim (cases_eq place.row r) [
       | inl here ↦
           let was = subst (λ k. IsSingleRow p k) here put.before.single in
@@ -153,10 +153,12 @@ others_stay_to p q m place put (suc n) r c on within other =
             ∙ sym (look-alone p m r c put.was_valid on was)
         | inr apart ↦
             let row : n + 1 ≡ r = omega arith in
-            look-untouched (core_on m p) (core_on m q) (strokes.Put place put.cell ∷ []) r c on
-            (AreWhole-valid p put.was_valid) put.put
-            (untouched place put.cell m r apart)
-            (ap (covering_differs (looks_of (core_on m p)) (looks_of (core_on m q))) (sym row)
+            look-unaltered (core_on m p) (core_on m q) (strokes.Put place put.cell ∷ []) r c
+            (record { valid = put.was_valid; each = (put.each, tt); page = put.put }) on
+            (ap (λ (x : Page). is_altered (strokes.Put place put.cell ∷ []) (pens_of p) (edges_of_core m) (pens_of x)
+            (edges_of_core m) r) put.put
+            ∙ unaltered p place put.cell (edges_of_core m) r apart on.from_top on.to_bottom)
+            (ap (λ k. is_covered_otherwise (looks_of (core_on m p)) k (looks_of (core_on m q)) k) (sym row)
             ∙ covering_stays p q m place put n (omega (arith, on)) (others_stay_to p q m place put n))
       ]
     ]

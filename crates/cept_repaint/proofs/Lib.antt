@@ -1,5 +1,6 @@
 pub mod AppliedCommands
 pub mod AloneRows
+pub mod AlteredRows
 pub mod KeptAfter
 pub mod LooksWritten
 pub mod MarkedDifferences
@@ -11,7 +12,7 @@ pub mod PaintedInOrder
 pub mod Refreshed
 pub mod RestoredRows
 pub mod RowsOfLooks
-pub mod RowsTouched
+pub mod RowsDue
 pub mod Unmarked
 pub mod UnshownPaints
 pub mod ValidGrids

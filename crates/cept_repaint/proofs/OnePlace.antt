@@ -1,12 +1,14 @@
 -- One place refreshed by itself.
 use Rattle.std.proofs.Common.{◌≡◌, ℕ, ◌+◌, ◌==◌, Bool, List, [], ◌∷◌, length, ap, subst, ◌∙◌}
 use Rattle.std.proofs.Common.{refl, sym, arith}
+use Rattle.std.specs.List.{AllByRecursion}
 use Rattle.std.proofs.lemmas.Bool.{and_parts, eqb-true, false_from_ne_true}
 use Rattle.cept_codes.specs.declared.cell.Cell.{Cell}
 use Rattle.cept_codes.specs.declared.look.Look.{Look}
 use Rattle.cept_codes.specs.declared.stroke.Stroke.{Stroke}
 use Rattle.cept_codes.specs.declared.stroke.Stroke.TheVariants as strokes
 use Rattle.cept_codes.specs.Place.{Place, OnScreen, number}
+use Rattle.cept_codes.specs.Stroke.{IsValidStroke}
 use Rattle.cept_profile.specs.Cells.{is_at, cells_after_all}
 use Rattle.cept_profile.specs.Look.{look, looks_of}
 use Rattle.cept_profile.specs.PageParts.{part_after_all}
@@ -23,12 +25,13 @@ use Rattle.cept_repaint.proofs.Refreshed.{Outside, IsRefreshed-alike, IsRefreshe
 pub IsPutAlone-drawn : (before after : Page) (xs : List Stroke) (place : Place) (cell : Cell)
     → xs ≡ strokes.Put place cell ∷ [] → IsDrawn before (strokes.Put place cell) after → OnScreen place.row place.column
     → StandsAlone before place.row → StandsAlone after place.row → IsValidPage before
-    → IsValidPage (page_after before xs) → IsPutAlone before after place
-IsPutAlone-drawn before after xs place cell only drawn on was is was_valid valid =
+    → AllByRecursion IsValidStroke xs → IsValidPage (page_after before xs) → IsPutAlone before after place
+IsPutAlone-drawn before after xs place cell only drawn on was is was_valid each valid =
     let put : after ≡ page_after before (strokes.Put place cell ∷ []) =
     page_after-one before after (strokes.Put place cell) drawn in
     record {
       cell = cell;
+      each = (subst (λ (l : List Stroke). AllByRecursion IsValidStroke l) only each).0;
       put = put;
       row = (on.from_top, on.to_bottom);
       was_valid = was_valid;

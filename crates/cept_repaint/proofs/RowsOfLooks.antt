@@ -17,7 +17,7 @@ use Rattle.cept_codes.specs.Table.{list_by_index}
 use Rattle.cept_codes.proofs.Laws.{IsTable-table, look_decides, table-list_by_index, entry-list_by_index}
 use Rattle.cept_codes.proofs.Laws.{entry_from}
 use Rattle.cept_profile.specs.Look.{part_of}
-use Rattle.cept_profile.specs.RowsFromAbove.{blank_looks, covering_differs, is_other_covering, look_seen, looks_in}
+use Rattle.cept_profile.specs.RowsFromAbove.{blank_looks, is_covered_otherwise, is_other_covering, look_seen, looks_in}
 use Rattle.cept_profile.specs.Tiling.{column_entry, covers_below}
 use Rattle.cept_repaint.specs.Kept.{is_other_above}
 
@@ -111,14 +111,14 @@ is_other_above-same was fresh e =
     (ap (λ (l : List Look). column_entry blank_look l c) e)))
 
 -- what covers the row below
-pub covering_differs-below : (g h : List (List Look)) (r : ℕ)
-    → covering_differs g h (r + 1) ≡ is_other_above (looks_in g r) (looks_in h r)
-unfolding covering_differs is_other_above
-covering_differs-below g h r =
+pub covered_otherwise-below : (g h : List (List Look)) (r : ℕ)
+    → is_covered_otherwise g (r + 1) h (r + 1) ≡ is_other_above (looks_in g r) (looks_in h r)
+unfolding is_covered_otherwise is_other_above
+covered_otherwise-below g h r =
     let back : r + 1 - 1 ≡ r = omega arith in
     ap (λ q. list_any (λ c. is_other_covering (look_seen g q c) (look_seen h q c)) (range_with_len 1 40)) back
 
 -- nothing covers the first row
-pub covering_differs-first : (g h : List (List Look)) → covering_differs g h 1 ≡ false
-covering_differs-first g h =
-    covering_differs-below g h 0 ∙ is_other_above-same (looks_in g 0) (looks_in h 0) (λ i. blank_looks)
+pub covered_otherwise-first : (g h : List (List Look)) → is_covered_otherwise g 1 h 1 ≡ false
+covered_otherwise-first g h =
+    covered_otherwise-below g h 0 ∙ is_other_above-same (looks_in g 0) (looks_in h 0) (λ i. blank_looks)

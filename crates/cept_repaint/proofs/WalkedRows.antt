@@ -1,78 +1,72 @@
--- One walk over the rows from the top: the rows above it are refreshed, and those that strokes reach were resolved.
+-- One walk over the rows from the top: the rows above it are refreshed, and those that are due were resolved.
 use Rattle.std.proofs.Common.{◌≡◌, ℕ, ◌+◌, ◌-◌, ◌*◌, ◌≤◌, ◌||◌, Bool, true, false, List, length}
 use Rattle.std.proofs.Common.{refl, sym, ap, ◌∙◌, inl, inr, arith}
+use Rattle.std.specs.List.{AllByRecursion}
 use Rattle.std.proofs.lemmas.Bool.{cases_eq, or_from, or_parts}
 use Rattle.cept_codes.specs.declared.look.Look.{Look}
 use Rattle.cept_codes.specs.declared.stroke.Stroke.{Stroke}
+use Rattle.cept_codes.specs.Stroke.{IsValidStroke}
 use Rattle.cept_codes.specs.Look.{blank_look}
-use Rattle.cept_codes.specs.Table.{row_of, value_at, IsTable}
-use Rattle.cept_codes.proofs.Laws.{IsTable-table, value_at-table}
+use Rattle.cept_codes.specs.Table.{entry, list_by_index, row_of, value_at, IsTable}
+use Rattle.cept_codes.proofs.Laws.{IsTable-table, entry-list_by_index, value_at-table}
 use Rattle.cept_profile.specs.Changes.{differences}
 use Rattle.cept_profile.specs.Edges.{Edges, edges_of_core, is_last}
 use Rattle.cept_profile.specs.Look.{look, looks_of}
-use Rattle.cept_profile.specs.Reach.{is_last_under_one, is_row_touched, one_touches}
-use Rattle.cept_profile.specs.RowsFromAbove.{covering_differs, looks_in}
-use Rattle.cept_profile.specs.Definitions.{AreWhole}
-use Rattle.cept_profile.specs.State.{Core, Page, definitions_of, page_after}
-use Rattle.cept_repaint.specs.Kept.{core_on, is_other_above, is_reached, reached_rows, row_beneath, IsRefreshed}
-use Rattle.cept_repaint.specs.Kept.{AreEdges, AreLooksOn, IsRefreshedRow, UnreachedStay}
+use Rattle.cept_profile.specs.Reach.{LeadsTo}
+use Rattle.cept_profile.specs.RowsFromAbove.{is_covered_otherwise, looks_in}
+use Rattle.cept_profile.specs.State.{Core, Page, page_after}
+use Rattle.cept_profile.specs.Valid.{IsValidPage}
+use Rattle.cept_repaint.specs.Due.{is_altered, is_due, pens_of, rows_due, OtherRowsStay}
+use Rattle.cept_repaint.specs.Kept.{core_on, is_other_above, row_beneath, IsRefreshed}
+use Rattle.cept_repaint.specs.Kept.{AreEdges, AreLooksOn, IsRefreshedRow}
 use Rattle.cept_repaint.specs.Marks.{no_marks}
 use Rattle.cept_repaint.proofs.Refreshed.{IsRefreshed-looks, IsRefreshed-marks, IsRefreshed-none, IsRefreshed-row}
 use Rattle.cept_repaint.proofs.Refreshed.{IsRefreshed-row_kept}
-use Rattle.cept_repaint.proofs.RowsOfLooks.{covering_differs-below, covering_differs-first, is_other_above-same}
+use Rattle.cept_repaint.proofs.RowsOfLooks.{covered_otherwise-below, covered_otherwise-first, is_other_above-same}
 use Rattle.cept_repaint.proofs.RowsOfLooks.{looks_in-same, looks_in-table}
-use Rattle.cept_repaint.proofs.RowsTouched.{reached_above, ticks-all, ticks-no, ticks-yes}
+use Rattle.cept_repaint.proofs.RowsDue.{due_above, look-unaltered, ticks-all, ticks-no, ticks-yes}
 use Rattle.cept_repaint.proofs.Unmarked.{length-no_marks}
-use Rattle.cept_profile.proofs.Laws.{look-untouched, looks_in-from_above, looks_of-alike}
+use Rattle.cept_profile.proofs.Laws.{looks_in-from_above, looks_of-alike}
 
--- the rows above this one are refreshed, with a tick for each that is reached; and whether this one is covered
+-- the rows above this one are refreshed, with a tick for each that is due; and whether this one is covered
 -- differently
-pub record WalkedTo (xs : List Stroke) (before : Edges) (k : Core) (was now : List (List Look))
+pub record WalkedTo (flags : List Bool) (k : Core) (was now : List (List Look))
     (former marks : List Bool) (covered : Bool) (start steps row : ℕ) : Type 0 where
   pub refreshed : IsRefreshed (look k) was now former marks 0 (40 * (row - 1))
-  pub covering : covered ≡ covering_differs was (looks_of k) row
-  pub ticks : steps ≡ start + reached_above (is_reached xs before (edges_of_core k) was (looks_of k)) row
+  pub covering : covered ≡ is_covered_otherwise was row (looks_of k) row
+  pub ticks : steps ≡ start + due_above (is_due flags was (looks_of k)) row
 
-pub WalkedTo-first : (xs : List Stroke) (before : Edges) (k : Core) (was : List (List Look)) (marks : List Bool)
-    (steps : ℕ) → IsTable was → marks ≡ no_marks → WalkedTo xs before k was was marks marks false steps steps 1
-WalkedTo-first xs before k was marks steps is none = record {
+pub WalkedTo-first : (flags : List Bool) (k : Core) (was : List (List Look)) (marks : List Bool)
+    (steps : ℕ) → IsTable was → marks ≡ no_marks → WalkedTo flags k was was marks marks false steps steps 1
+WalkedTo-first flags k was marks steps is none = record {
   refreshed = IsRefreshed-none (look k) was marks 0 is (ap length none ∙ length-no_marks);
-  covering = sym (covering_differs-first was (looks_of k));
+  covering = sym (covered_otherwise-first was (looks_of k));
   ticks = omega arith;
 }
 
--- whether a row is reached, by a flag for its strokes and one for the edges
-pub reached_by : (xs : List Stroke) (before after : Edges) (row : ℕ) (touched last covered reached : Bool)
-    → touched ≡ one_touches xs row → last ≡ is_last_under_one before after row
-    → ((touched || last) || covered) ≡ reached
-    → (is_row_touched xs before after row || covered) ≡ reached
-reached_by xs before after row touched last covered reached et el e =
-    ap (λ b. (b || is_last_under_one before after row) || covered) (sym et)
-    ∙ ap (λ b. (touched || b) || covered) (sym el) ∙ e
-
--- a row that isn't reached
-pub WalkedTo-kept : {xs : List Stroke} {before : Edges} {k : Core} {was now : List (List Look)} {former marks : List Bool}
+-- a row that isn't due
+pub WalkedTo-kept : {flags : List Bool} {k : Core} {was now : List (List Look)} {former marks : List Bool}
     {covered : Bool} {start steps row : ℕ}
-    → WalkedTo xs before k was now former marks covered start steps row → IsTable was → 1 ≤ row → row ≤ 24
-    → UnreachedStay xs before was k → (is_row_touched xs before (edges_of_core k) row || covered) ≡ false
-    → WalkedTo xs before k was now former marks covered start steps (row + 1)
-WalkedTo-kept {xs} {before} {k} {was} {now} {former} {marks} {covered} {start} {steps} {row} m is top bottom others
+    → WalkedTo flags k was now former marks covered start steps row → IsTable was → 1 ≤ row → row ≤ 24
+    → OtherRowsStay flags was k → (entry false 1 flags row || covered) ≡ false
+    → WalkedTo flags k was now former marks covered start steps (row + 1)
+WalkedTo-kept {flags} {k} {was} {now} {former} {marks} {covered} {start} {steps} {row} m is top bottom others
     none =
-    let parts = or_parts (is_row_touched xs before (edges_of_core k) row) covered none in
-    let unreached : is_reached xs before (edges_of_core k) was (looks_of k) row ≡ false =
-    or_from (is_row_touched xs before (edges_of_core k) row) (covering_differs was (looks_of k) row) parts.0
+    let parts = or_parts (entry false 1 flags row) covered none in
+    let undue : is_due flags was (looks_of k) row ≡ false =
+    or_from (entry false 1 flags row) (is_covered_otherwise was row (looks_of k) row) parts.0
     (sym m.covering ∙ parts.1) in
     let same : looks_in was row ≡ looks_in (looks_of k) row =
     looks_in-same was (looks_of k) row is (IsTable-table (look k)) top bottom
-    (λ c on. others row c on unreached ∙ sym (value_at-table (look k) blank_look row c on)) in
+    (λ c on. others row c on undue ∙ sym (value_at-table (look k) blank_look row c on)) in
     record {
       refreshed = IsRefreshed-row_kept (look k) was now former marks row top bottom
-          (λ c on. others row c on unreached) m.refreshed;
+          (λ c on. others row c on undue) m.refreshed;
       covering =
           parts.1
-          ∙ sym (covering_differs-below was (looks_of k) row
+          ∙ sym (covered_otherwise-below was (looks_of k) row
           ∙ is_other_above-same (looks_in was row) (looks_in (looks_of k) row) same);
-      ticks = ticks-no (is_reached xs before (edges_of_core k) was (looks_of k)) row start steps top bottom unreached m.ticks;
+      ticks = ticks-no (is_due flags was (looks_of k)) row start steps top bottom undue m.ticks;
     }
 
 -- the row above this one is that of the core already
@@ -99,16 +93,16 @@ beneath_is k above row last top bottom e el =
     ∙ ap (row_beneath (looks_in (looks_of k) (row - 1)) k.page row) el ∙ sym (looks_in-from_above k row top bottom)
     ∙ looks_in-table (look k) row top bottom
 
--- a row that is reached and resolved
-pub WalkedTo-more : {xs : List Stroke} {before : Edges} {k : Core} {was mid : List (List Look)}
+-- a row that is due and resolved
+pub WalkedTo-more : {flags : List Bool} {k : Core} {was mid : List (List Look)}
     {former between : List Bool} {covered : Bool} {start steps row : ℕ}
-    → WalkedTo xs before k was mid former between covered start steps row → IsTable was → 1 ≤ row → row ≤ 24
-    → (is_row_touched xs before (edges_of_core k) row || covered) ≡ true → (last : Bool) → last ≡ is_last (edges_of_core k) row
+    → WalkedTo flags k was mid former between covered start steps row → IsTable was → 1 ≤ row → row ≤ 24
+    → (entry false 1 flags row || covered) ≡ true → (last : Bool) → last ≡ is_last (edges_of_core k) row
     → (now : List (List Look)) (marks : List Bool) (next : Bool) (more : ℕ)
     → IsRefreshedRow (row_beneath (looks_in mid (row - 1)) k.page row last) row mid now between marks
     → next ≡ is_other_above (looks_in mid row) (looks_in now row) → more ≡ steps + 1
-    → WalkedTo xs before k was now former marks next start more (row + 1)
-WalkedTo-more {xs} {before} {k} {was} {mid} {former} {between} {covered} {start} {steps} {row} m is top bottom reached
+    → WalkedTo flags k was now former marks next start more (row + 1)
+WalkedTo-more {flags} {k} {was} {mid} {former} {between} {covered} {start} {steps} {row} m is top bottom reached
     last el now marks next more r en tick =
     let above : looks_in mid (row - 1) ≡ looks_in (looks_of k) (row - 1) =
     above_is k was mid former between row top bottom m.refreshed in
@@ -126,47 +120,53 @@ WalkedTo-more {xs} {before} {k} {was} {mid} {former} {between} {covered} {start}
       refreshed = done;
       covering =
           en ∙ ap (λ (l : List Look). is_other_above l (looks_in now row)) unchanged
-          ∙ ap (is_other_above (looks_in was row)) new ∙ sym (covering_differs-below was (looks_of k) row);
-      ticks = ticks-yes (is_reached xs before (edges_of_core k) was (looks_of k)) row start steps more top bottom
-          (ap (λ b. is_row_touched xs before (edges_of_core k) row || b) (sym m.covering) ∙ reached) m.ticks tick;
+          ∙ ap (is_other_above (looks_in was row)) new ∙ sym (covered_otherwise-below was (looks_of k) row);
+      ticks = ticks-yes (is_due flags was (looks_of k)) row start steps more top bottom
+          (ap (λ b. entry false 1 flags row || b) (sym m.covering) ∙ reached) m.ticks tick;
     }
 
 -- all rows
-pub WalkedTo-looks : {xs : List Stroke} {before : Edges} {k : Core} {was now : List (List Look)} {former marks : List Bool}
+pub WalkedTo-looks : {flags : List Bool} {k : Core} {was now : List (List Look)} {former marks : List Bool}
     {covered : Bool} {start steps row : ℕ}
-    → WalkedTo xs before k was now former marks covered start steps row → 24 ≤ row - 1 → now ≡ looks_of k
+    → WalkedTo flags k was now former marks covered start steps row → 24 ≤ row - 1 → now ≡ looks_of k
 WalkedTo-looks {k = k} {was = was} {now = now} {former = former} {marks = marks} m past =
     IsRefreshed-looks (look k) was now former marks _ _ m.refreshed
     (λ r c on away. absurd (away (omega arith, omega (arith, on))))
 
-pub WalkedTo-marks : {xs : List Stroke} {before : Edges} {k : Core} {was now : List (List Look)} {former marks : List Bool}
+pub WalkedTo-marks : {flags : List Bool} {k : Core} {was now : List (List Look)} {former marks : List Bool}
     {covered : Bool} {start steps row : ℕ}
-    → WalkedTo xs before k was now former marks covered start steps row → former ≡ no_marks
+    → WalkedTo flags k was now former marks covered start steps row → former ≡ no_marks
     → marks ≡ differences was now
 WalkedTo-marks {k = k} {was = was} {now = now} {former = former} {marks = marks} m none =
     IsRefreshed-marks (look k) was now former marks _ _ none m.refreshed
 
-pub WalkedTo-cost : {xs : List Stroke} {before : Edges} {k : Core} {was now : List (List Look)} {former marks : List Bool}
+pub WalkedTo-cost : {flags : List Bool} {k : Core} {was now : List (List Look)} {former marks : List Bool}
     {covered : Bool} {start steps row : ℕ}
-    → WalkedTo xs before k was now former marks covered start steps row → 24 ≤ row - 1
-    → steps ≡ start + reached_rows xs before (edges_of_core k) was now
-WalkedTo-cost {xs} {before} {k} {was} {now} {former} {marks} {covered} {start} {steps} {row} m past =
-    ticks-all xs (edges_of_core k) before start steps was (looks_of k) row past m.ticks
-    ∙ ap (λ (g : List (List Look)). start + reached_rows xs before (edges_of_core k) was g) (sym (WalkedTo-looks m past))
+    → WalkedTo flags k was now former marks covered start steps row → 24 ≤ row - 1
+    → steps ≡ start + rows_due flags was now
+WalkedTo-cost {flags} {k} {was} {now} {former} {marks} {covered} {start} {steps} {row} m past =
+    ticks-all flags start steps was (looks_of k) row past m.ticks
+    ∙ ap (λ (g : List (List Look)). start + rows_due flags was g) (sym (WalkedTo-looks m past))
 
--- rows that the strokes don't reach stay, where they were drawn
-pub UnreachedStay-drawn : (p q : Page) (xs : List Stroke) (before after : Edges) (was : List (List Look))
-    → AreWhole (definitions_of p) → AreEdges before → AreLooksOn was p before → q ≡ page_after p xs
-    → (k : Core) → edges_of_core k ≡ after → UnreachedStay xs before was (core_on k q)
-UnreachedStay-drawn p q xs before after was whole (core, is) looks drawn k same r c on none =
+-- where the rows are flagged that strokes alter, all that aren't due stay, where the strokes were drawn
+pub OtherRowsStay-drawn : (p q : Page) (xs : List Stroke) (before after : Edges) (was : List (List Look))
+    (flags : List Bool) → IsValidPage p → AllByRecursion IsValidStroke xs → AreEdges before → AreLooksOn was p before
+    → q ≡ page_after p xs → flags ≡ list_by_index 1 24 (is_altered xs (pens_of p) before (pens_of q) after)
+    → (k : Core) → edges_of_core k ≡ after → OtherRowsStay flags was (core_on k q)
+OtherRowsStay-drawn p q xs before after was flags valid each (core, is) looks drawn es k same r c on none =
     let old : Core = core_on core p in
     let new : Core = core_on k q in
     let e : was ≡ looks_of old = looks core is in
-    let parts = or_parts (is_row_touched xs before (edges_of_core k) r) (covering_differs was (looks_of new) r) none in
+    let parts = or_parts (entry false 1 flags r) (is_covered_otherwise was r (looks_of new) r) none in
+    let out : is_altered xs (pens_of p) before (pens_of q) after r ≡ false =
+    sym (entry-list_by_index false 1 24 (is_altered xs (pens_of p) before (pens_of q) after) r on.from_top
+    (omega (arith, on)))
+    ∙ ap (λ (l : List Bool). entry false 1 l r) (sym es) ∙ parts.0 in
+    let leads : LeadsTo old new xs = record { valid = valid; each = each; page = drawn } in
     ap (λ (t : List (List Look)). value_at blank_look t r c) e ∙ value_at-table (look old) blank_look r c on
-    ∙ sym (look-untouched old new xs r c on whole drawn
-    (ap (λ (x : Edges). is_row_touched xs x (edges_of_core k) r) is ∙ parts.0)
-    (ap (λ (g : List (List Look)). covering_differs g (looks_of new) r) (sym e) ∙ parts.1))
+    ∙ sym (look-unaltered old new xs r c leads on
+    ((λ i. is_altered xs (pens_of p) (is i) (pens_of q) (same i) r) ∙ out)
+    (ap (λ (g : List (List Look)). is_covered_otherwise g r (looks_of new) r) (sym e) ∙ parts.1))
 
 -- the looks of one core are those of every core with this page and these edges
 pub AreLooksOn-one : (looks : List (List Look)) (p : Page) (edges : Edges) (k : Core) → edges_of_core k ≡ edges

@@ -1,7 +1,7 @@
 -- What a screen keeps beside its state (this project's own): the look at each place, and when looks are refreshed.
 -- Private clauses alone cite this file, but for the cell of a page.
-use Rattle.std.specs.Prelude.{ℕ, ◌≡◌, ◌<◌, ◌≤◌, ◌*◌, ◌-◌, ◌||◌, Bool, true, false, not, List, [], ◌∷◌, length}
-use Rattle.std.specs.List.{count_by, list_any, range_with_len}
+use Rattle.std.specs.Prelude.{ℕ, ◌≡◌, ◌<◌, ◌≤◌, ◌*◌, ◌-◌, ◌||◌, Bool, false, not, List, [], ◌∷◌, length}
+use Rattle.std.specs.List.{list_any, range_with_len}
 use Rattle.cept_codes.specs.declared.cell.Cell.{Cell}
 use Rattle.cept_codes.specs.declared.cell.What.{What}
 use Rattle.cept_codes.specs.declared.look.Look.{Look}
@@ -20,8 +20,7 @@ use Rattle.cept_profile.specs.Control.{ControlState}
 use Rattle.cept_profile.specs.Edges.{Edges, edges_of_core}
 use Rattle.cept_profile.specs.Look.{look, look_in_row, look_of, looks_of, size_in_row}
 use Rattle.cept_profile.specs.PageParts.{paint_in, row_pen_in}
-use Rattle.cept_profile.specs.Reach.{is_row_touched}
-use Rattle.cept_profile.specs.RowsFromAbove.{covering_differs, is_other_covering, row_from_above}
+use Rattle.cept_profile.specs.RowsFromAbove.{is_other_covering, row_from_above}
 use Rattle.cept_profile.specs.State.{Core, Page, State, core_of, definitions_of}
 use Rattle.cept_profile.specs.Tiling.{column_entry}
 use Rattle.cept_profile.specs.Valid.{IsValidState}
@@ -60,14 +59,6 @@ abbrev pub look_alone : Page → Place → Look
 look_alone p place =
     look_of (definitions_of p) (row_pen_in p.row_pens place.row) p.screen_pen (cell_at p place).what
 
--- strokes reach row r, where the page had these edges before and has those after, and these were and are its looks
-abbrev pub is_reached : List Stroke → Edges → Edges → List (List Look) → List (List Look) → ℕ → Bool
-is_reached strokes before after was now r = is_row_touched strokes before after r || covering_differs was now r
-
--- how many rows of the screen they reach
-unfoldable pub reached_rows : List Stroke → Edges → Edges → List (List Look) → List (List Look) → ℕ
-reached_rows strokes before after was now = count_by (is_reached strokes before after was now) (range_with_len 1 24)
-
 -- the looks aren't the same
 unfoldable pub looks_differ : Look → Look → Bool
 looks_differ a b = not (same_look a b)
@@ -90,12 +81,6 @@ is_other_above was fresh =
 -- all places but this one look as they did
 abbrev pub OthersStay : List (List Look) → Core → Place → Type 0
 OthersStay was k place = (r c : ℕ) → OnScreen r c → is_at place r c ≡ false → value_at blank_look was r c ≡ look k r c
-
--- all rows that strokes don't reach look as they did, where the page had these edges before
-abbrev pub UnreachedStay : List Stroke → Edges → List (List Look) → Core → Type 0
-UnreachedStay strokes before was k =
-    (r c : ℕ) → OnScreen r c → is_reached strokes before (edges_of_core k) was (looks_of k) r ≡ false
-    → value_at blank_look was r c ≡ look k r c
 
 -- the only stroke sets a colour entry, no look that is kept has the paint that the entry has, and none is a pattern
 pub record SetsUnshown (p : Page) (strokes : List Stroke) (kept : List (List Look)) : Type 0 where

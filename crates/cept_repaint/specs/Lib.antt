@@ -1,11 +1,13 @@
 pub mod Applied
 pub mod Drawn
+pub mod Due
 pub mod GlassState
 pub mod GridGlass
 pub mod Inside
 pub mod Kept
 pub mod MarkedRows
 pub mod Marks
+pub mod Resolved
 pub mod Tape
 pub mod TapeGlass
 pub mod ValidGrid

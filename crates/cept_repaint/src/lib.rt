@@ -2,6 +2,7 @@
 //! and paints them on a glass. It knows no bytes and keeps no history.
 #![tactic(auto)]
 
+mod altered_rows;
 mod glass;
 mod grid_glass;
 mod kept_rows;
@@ -9,7 +10,6 @@ mod marks;
 mod page;
 mod page_parts;
 mod painting;
-mod reach;
 mod redraw;
 mod redraw_all;
 mod row_flags;

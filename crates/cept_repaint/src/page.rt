@@ -1,4 +1,4 @@
-ghost use Rattle.std.specs.Prelude.{◌≡◌, ◌≤◌, ◌+◌, ℕ, true, [], IfOk};
+ghost use Rattle.std.specs.Prelude.{◌≡◌, ◌≤◌, ◌+◌, ℕ, true, [], IfOk, length};
 ghost use Rattle.std.specs.List.{AllByRecursion};
 ghost use Rattle.cept_codes.specs.Attribute.{IsRowPen, IsScreenPen};
 ghost use Rattle.cept_codes.specs.Cell.{IsValidWhat, blank_cell};
@@ -8,6 +8,7 @@ ghost use Rattle.cept_profile.specs.PageParts.{row_pen_in};
 ghost use Rattle.cept_profile.specs.State.{page, page_after};
 ghost use Rattle.cept_profile.specs.Valid.{IsValidPage};
 ghost use Rattle.cept_repaint.specs.Drawn.{IsDrawn};
+ghost use Rattle.cept_repaint.specs.Due.{pens_of};
 ghost use Rattle.cept_repaint.specs.Kept.{row_beneath};
 ghost use Rattle.cept_repaint.specs.MarkedRows.{StandsAlone};
 
@@ -35,6 +36,13 @@ pub(crate) struct Page {
     patterns: Patterns,
     marked: [bool; 24],
     sized: [bool; 24],
+}
+
+/// The attributes of the rows of a page, and of its screen.
+#[derive(Clone, Copy)]
+pub(crate) struct Pens {
+    pub(crate) rows: [Pen; 24],
+    pub(crate) screen: Pen,
 }
 
 impl Model for Page {
@@ -102,6 +110,17 @@ impl Page {
         ensures valid { IsScreenPen result.now }
     {
         &self.screen_pen
+    }
+
+    /// The attributes of all rows and of the screen.
+    pub(crate) fn pens(&self) -> Pens
+        ensures pens { result ≡ pens_of self.now }
+        ensures rows { length result.rows ≡ 24 }
+    {
+        Pens {
+            rows: self.row_pens,
+            screen: self.screen_pen,
+        }
     }
 
     /// The colour entries and the DCLUT, where they stand.

@@ -19,37 +19,38 @@ ghost use Rattle.cept_codes.specs.declared.cell.Cell.{Cell};
 ghost use Rattle.cept_codes.specs.Look.{blank_look};
 ghost use Rattle.cept_codes.specs.Place.{OnScreen};
 ghost use Rattle.cept_codes.specs.Stroke.{IsValidStroke};
-ghost use Rattle.cept_codes.specs.Table.{value_at, entry};
+ghost use Rattle.cept_codes.specs.Table.{entry, list_by_index, value_at};
 ghost use Rattle.cept_profile.specs.Cells.{is_at};
 ghost use Rattle.cept_profile.specs.Changes.{differences, grid_with_paint, look_at};
 ghost use Rattle.cept_profile.specs.Edges.{edges_of_core};
 ghost use Rattle.cept_profile.specs.Look.{look, looks_of};
-ghost use Rattle.cept_profile.specs.Reach.{is_last_under_one, is_row_touched};
-ghost use Rattle.cept_profile.specs.RowsFromAbove.{covering_differs, is_other_covering, looks_in};
+ghost use Rattle.cept_profile.specs.RowsFromAbove.{is_covered_otherwise, is_other_covering};
+ghost use Rattle.cept_profile.specs.RowsFromAbove.{looks_in};
 ghost use Rattle.cept_profile.specs.State.{Core, page_after};
 ghost use Rattle.cept_profile.specs.Tiling.{column_entry};
 ghost use Rattle.cept_profile.specs.Valid.{IsValidPage};
+ghost use Rattle.cept_repaint.specs.Due.{is_altered, is_due, pens_of, rows_due, OtherRowsStay};
 ghost use Rattle.cept_repaint.specs.Kept.{AreEdges, AreLooksOn, core_on, is_other_above};
 ghost use Rattle.cept_repaint.specs.Kept.{look_alone, looks_differ};
-ghost use Rattle.cept_repaint.specs.Kept.{reached_rows, row_beneath};
-ghost use Rattle.cept_repaint.specs.Kept.{HasMarkedRow, IsRefreshedRow, OthersStay, UnreachedStay};
+ghost use Rattle.cept_repaint.specs.Kept.{row_beneath};
+ghost use Rattle.cept_repaint.specs.Kept.{HasMarkedRow, IsRefreshedRow, OthersStay};
 ghost use Rattle.cept_repaint.specs.Kept.{SetsUnshown};
 ghost use Rattle.cept_repaint.specs.MarkedRows.{StandsAlone};
 ghost use Rattle.cept_repaint.specs.Marks.{no_marks};
 
+use crate::altered_rows::{only_put, rows_altered, rows_of_strokes};
 use crate::kept_rows::KeptRows;
 use crate::marks::Marks;
 use crate::page::Page;
-use crate::reach::{is_last_under_one, only_put, rows_touched};
 use cept_codes::{Paint, Pos, Stroke};
 use cept_control::Edges;
 use cept_outside::Steps;
 use cept_rows::RowLooks;
 use std::sync::ledger::Ledger;
 
-/// Draws the strokes on the page, resolves the rows that they reach and no others, and keeps their
-/// looks. Marks the places at which these differ from those before, and no others. The page has these
-/// edges before and those after.
+/// Draws the strokes on the page, resolves the rows that they alter or cover otherwise and no others,
+/// and keeps their looks. Marks the places at which these differ from those before, and no others.
+/// The page has these edges before and those after.
 pub(crate) fn redraw<L: Ledger>(
     page: &mut Page,
     strokes: &[Stroke],
@@ -69,15 +70,15 @@ pub(crate) fn redraw<L: Ledger>(
     ensures page { page.new ≡ page_after page.old strokes.now }
     ensures kept { AreLooksOn kept.new page.new after.now }
     ensures marks { marks.new ≡ differences kept.old kept.new }
-    ensures cost { steps.new
-        ≤ steps.old + reached_rows strokes.now before.now after.now kept.old kept.new }
+    ensures cost { steps.new ≤ steps.old + rows_due (list_by_index 1 24
+        (is_altered strokes.now (pens_of page.old) before.now (pens_of page.new) after.now)) kept.old
+        kept.new }
     ensures unshown { before.now ≡ after.now → SetsUnshown page.old strokes.now kept.old
         → steps.new ≡ steps.old }
 {
     marks.clear();
     if !before.is_same(after) {
-        page.draw_all(strokes);
-        refresh_rows(page, strokes, before, after, kept, fresh, marks, steps);
+        redraw_rows(page, strokes, before, after, kept, fresh, marks, steps);
         return;
     }
     if strokes.is_empty() {
@@ -88,18 +89,49 @@ pub(crate) fn redraw<L: Ledger>(
             if page.put(put.place, put.cell) {
                 refresh_place(page, put.place, kept, marks, steps);
             } else {
-                refresh_rows(page, strokes, before, after, kept, fresh, marks, steps);
+                let altered = rows_of_strokes(strokes);
+                refresh_rows(page, &altered, after, kept, fresh, marks, steps);
             }
         }
         None => {
-            let unshown = sets_unshown(page, strokes, kept);
-            page.draw_all(strokes);
-            if unshown {
-                return;
+            if sets_unshown(page, strokes, kept) {
+                page.draw_all(strokes);
+            } else {
+                redraw_rows(page, strokes, before, after, kept, fresh, marks, steps);
             }
-            refresh_rows(page, strokes, before, after, kept, fresh, marks, steps);
         }
     }
+}
+
+/// The same of any strokes, where nothing is marked yet.
+fn redraw_rows<L: Ledger>(
+    page: &mut Page,
+    strokes: &[Stroke],
+    before: &Edges,
+    after: &Edges,
+    kept: &mut KeptRows,
+    fresh: &mut RowLooks,
+    marks: &mut Marks,
+    steps: &mut Steps<L>,
+)
+    requires none { marks.old ≡ no_marks }
+    requires from { AreEdges before.now }
+    requires to { AreEdges after.now }
+    requires kept { AreLooksOn kept.old page.old before.now }
+    requires was_valid { IsValidPage page.old }
+    requires strokes { AllByRecursion IsValidStroke strokes.now }
+    requires valid { IsValidPage (page_after page.old strokes.now) }
+    ensures page { page.new ≡ page_after page.old strokes.now }
+    ensures kept { AreLooksOn kept.new page.new after.now }
+    ensures marks { marks.new ≡ differences kept.old kept.new }
+    ensures cost { steps.new ≡ steps.old + rows_due (list_by_index 1 24
+        (is_altered strokes.now (pens_of page.old) before.now (pens_of page.new) after.now)) kept.old
+        kept.new }
+{
+    let was = page.pens();
+    page.draw_all(strokes);
+    let altered = rows_altered(strokes, &was, before, page, after);
+    refresh_rows(page, &altered, after, kept, fresh, marks, steps);
 }
 
 /// Whether the only stroke sets a colour entry whose paint no look shows: then it changes no look.
@@ -169,37 +201,34 @@ fn resolve_alone<L: Ledger>(
     )
 }
 
-/// Resolves the rows that the strokes reach, from the top, where all others have the looks that are
-/// kept.
+/// Resolves the flagged rows and those that are covered otherwise than before, from the top, where
+/// all others have the looks that are kept.
 fn refresh_rows<L: Ledger>(
     page: &Page,
-    strokes: &[Stroke],
-    before: &Edges,
-    after: &Edges,
+    altered: &[bool; 24],
+    edges: &Edges,
     kept: &mut KeptRows,
     fresh: &mut RowLooks,
     marks: &mut Marks,
     steps: &mut Steps<L>,
 )
+    requires flags { length altered.now ≡ 24 }
     requires none { marks.old ≡ no_marks }
     requires valid { IsValidPage page.now }
-    requires to { AreEdges after.now }
-    requires others { (k : Core) → edges_of_core k ≡ after.now
-        → UnreachedStay strokes.now before.now kept.old (core_on k page.now) }
-    ensures kept { AreLooksOn kept.new page.now after.now }
+    requires edges { AreEdges edges.now }
+    requires others { (k : Core) → edges_of_core k ≡ edges.now
+        → OtherRowsStay altered.now kept.old (core_on k page.now) }
+    ensures kept { AreLooksOn kept.new page.now edges.now }
     ensures marks { marks.new ≡ differences kept.old kept.new }
-    ensures cost { steps.new
-        ≡ steps.old + reached_rows strokes.now before.now after.now kept.old kept.new }
+    ensures cost { steps.new ≡ steps.old + rows_due altered.now kept.old kept.new }
 {
     kept.whole_by_type();
-    let touched = rows_touched(strokes);
     let mut covered = false;
     for row in 1..25u8 {
-        let changed = touched[usize::from(row) - 1] | is_last_under_one(before, after, row);
-        if !(changed | covered) {
+        if !(altered[usize::from(row) - 1] | covered) {
             continue;
         }
-        covered = refresh_row(page, row, after.is_last(row), kept, fresh, marks, steps);
+        covered = refresh_row(page, row, edges.is_last(row), kept, fresh, marks, steps);
     }
 }
 

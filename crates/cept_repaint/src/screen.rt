@@ -1,5 +1,6 @@
 ghost use Rattle.std.specs.Prelude.{◌≡◌, ◌≤◌, ◌<◌, ◌+◌, ℕ, [], true, false};
 ghost use Rattle.std.specs.Prelude.{IfOk, IfSome};
+ghost use Rattle.std.specs.List.{list_any};
 ghost use Rattle.cept_codes.specs.declared.command.Command.TheVariants.{Entry};
 ghost use Rattle.cept_codes.specs.declared.look.Rgb.{Rgb};
 ghost use Rattle.cept_codes.specs.Attribute.{IsEntry, IsRowPen, IsScreenPen};
@@ -13,10 +14,12 @@ ghost use Rattle.cept_profile.specs.PageParts.{dclut_in, paint_in, pattern_in, r
 ghost use Rattle.cept_profile.specs.Reach.{rows_in_reach};
 ghost use Rattle.cept_profile.specs.RowsFromAbove.{looks_in};
 ghost use Rattle.cept_profile.specs.State.{state, state_after, core_of};
+ghost use Rattle.cept_profile.specs.Strokes.{strokes_of};
 ghost use Rattle.cept_profile.specs.Valid.{IsValidState};
 ghost use Rattle.cept_repaint.specs.Applied.{IsApplied, IsRepainted};
 ghost use Rattle.cept_repaint.specs.Kept.{cell_at};
 ghost use Rattle.cept_repaint.specs.Marks.{no_marks};
+ghost use Rattle.cept_repaint.specs.Resolved.{moves_or_defines, rows_resolved};
 ghost use Rattle.cept_repaint.specs.Unshown.{IsUnshown};
 
 use crate::glass::Glass;
@@ -159,7 +162,9 @@ impl Screen {
         ensures after { self.new ≡ state_after self.old command.now }
         ensures marks { marks.new
             ≡ differences (looks_of (core_of self.old)) (looks_of (core_of self.new)) }
-        ensures cost { steps.new ≤ steps.old + rows_in_reach self.old command.now }
+        ensures cost { steps.new ≤ steps.old + rows_resolved self.old command.now }
+        ensures in_reach { list_any moves_or_defines (strokes_of self.old.control command.now) ≡ false
+            → steps.new ≤ steps.old + rows_in_reach self.old command.now }
         ensures at_most_24 { steps.new ≤ steps.old + 24 }
         ensures unshown { (i : ℕ) (colour : Rgb) → command.now ≡ Entry i colour
             → IsUnshown (paint_in self.old.page.paints i) (looks_of (core_of self.old))

@@ -10,7 +10,7 @@ ghost use Rattle.cept_codes.specs.Table.{IsTable};
 ghost use Rattle.cept_profile.specs.Edges.{edges_of_core, is_last};
 ghost use Rattle.cept_profile.specs.Look.{look, look_with_part, looks_of, own_look};
 ghost use Rattle.cept_profile.specs.Look.{look_of_origin, own_size, part_of, parts_of};
-ghost use Rattle.cept_profile.specs.RowsFromAbove.{covering, covering_differs, look_by, look_seen};
+ghost use Rattle.cept_profile.specs.RowsFromAbove.{covering, is_covered_otherwise, look_by, look_seen};
 ghost use Rattle.cept_profile.specs.RowsFromAbove.{looks_in, row_from_above};
 ghost use Rattle.cept_profile.specs.State.{Core};
 ghost use Rattle.cept_profile.specs.Tiling.{IsTiled, covers_below, is_covered_from_left, part_at};
@@ -72,9 +72,9 @@ pub fn rows_stay_under_what_covers_them()
         → ((c : ℕ) → 1 ≤ c → c ≤ 40 → own_size k r c ≡ own_size m q c)
         → is_last (edges_of_core k) r ≡ is_last (edges_of_core m) q
         → looks_in (looks_of k) r ≡ looks_in (looks_of m) q }
-    ensures covering { (g h : List (List Look)) (r : ℕ) → IsTable g → IsTable h → 1 ≤ r → r ≤ 24
-        → covering_differs g h r ≡ false
-        → map covering (looks_in g (r - 1)) ≡ map covering (looks_in h (r - 1)) }
+    ensures covering { (g h : List (List Look)) (q r : ℕ) → IsTable g → IsTable h → 1 ≤ q → q ≤ 24
+        → 1 ≤ r → r ≤ 24 → is_covered_otherwise g q h r ≡ false
+        → map covering (looks_in g (q - 1)) ≡ map covering (looks_in h (r - 1)) }
 {}
 
 /// In a row in which every sign is to be shown in single size, nothing covers the row below; and

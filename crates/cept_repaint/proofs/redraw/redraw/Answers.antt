@@ -1,37 +1,45 @@
-use Rattle.std.proofs.Common.{length, refl, sym, ap, subst, ◌∙◌, arith}
+use Rattle.std.proofs.Common.{Bool, List, length, refl, sym, ap, subst, ◌∙◌, arith}
 use Rattle.std.proofs.lemmas.Bool.{eqb-true}
 use Rattle.cept_profile.specs.Look.{looks_of}
 use Rattle.cept_profile.specs.State.{Page}
 use Rattle.cept_profile.specs.Valid.{IsValidPage}
+use Rattle.cept_repaint.specs.Due.{pens_of, rows_due}
 use Rattle.cept_repaint.specs.Kept.{core_on}
 use Rattle.cept_repaint.proofs.AloneRows.{OthersStay-put}
-use Rattle.cept_repaint.proofs.PageParts.{AreWhole-valid}
 use Rattle.cept_repaint.proofs.OnePlace.{IsPutAlone-drawn, page_after-none, page_after-put_alone}
 use Rattle.cept_repaint.proofs.Refreshed.{differences_none}
-use Rattle.cept_repaint.proofs.RowsTouched.{reach-put}
+use Rattle.cept_repaint.proofs.AlteredRows.{altered-put}
+use Rattle.cept_repaint.proofs.RowsDue.{due-put}
 use Rattle.cept_repaint.proofs.UnshownPaints.{looks_of-unshown}
-use Rattle.cept_repaint.proofs.WalkedRows.{UnreachedStay-drawn}
+use Rattle.cept_repaint.proofs.WalkedRows.{OtherRowsStay-drawn}
 use Rattle.cept_repaint.proofs.redraw.redraw.Goals as goal
 
 pub refresh_rows-requires-clause-others : goal.refresh_rows-requires-clause-others
 refresh_rows-requires-clause-others g c =
-    UnreachedStay-drawn c.args.page.now c.draw_all.new.self c.args.strokes.now c.args.before.now c.args.after.now
-    c.args.kept.now (AreWhole-valid c.args.page.now c.requires.was_valid) c.requires.from c.requires.kept c.draw_all.ensures
+    let drawn = page_after-put_alone c.args.page.now c.put.new.self c.args.strokes.now c.in-Some.put.place
+    c.in-Some.put.cell.now c.in-Some.ensures c.put.ensures.drawn in
+    OtherRowsStay-drawn c.args.page.now c.put.new.self c.args.strokes.now c.args.before.now c.args.after.now
+    c.args.kept.now c.rows_of_strokes-altered.result c.requires.was_valid c.requires.strokes c.requires.from
+    c.requires.kept drawn
+    (c.rows_of_strokes-altered.ensures
+    ∙ altered-put c.args.page.now c.put.new.self c.args.strokes.now c.in-Some.put.place c.in-Some.put.cell.now
+    c.args.before.now c.args.after.now c.in-Some.ensures drawn (c.is_same.ensures.same c.if-not-is_same.false))
 
-pub refresh_rows-requires-in-None-clause-others : goal.refresh_rows-requires-in-None-clause-others
-refresh_rows-requires-in-None-clause-others g c =
-    UnreachedStay-drawn c.args.page.now c.draw_all-in-None.new.self c.args.strokes.now c.args.before.now c.args.after.now
-    c.args.kept.now (AreWhole-valid c.args.page.now c.requires.was_valid) c.requires.from c.requires.kept c.draw_all-in-None.ensures
+pub returns-else-put-clause-cost : goal.returns-else-put-clause-cost
+returns-else-put-clause-cost g c =
+    let drawn = page_after-put_alone c.args.page.now c.put.new.self c.args.strokes.now c.in-Some.put.place
+    c.in-Some.put.cell.now c.in-Some.ensures c.put.ensures.drawn in
+    let flags = c.rows_of_strokes-altered.ensures
+    ∙ altered-put c.args.page.now c.put.new.self c.args.strokes.now c.in-Some.put.place c.in-Some.put.cell.now
+    c.args.before.now c.args.after.now c.in-Some.ensures drawn (c.is_same.ensures.same c.if-not-is_same.false) in
+    omega (
+      arith,
+      c.refresh_rows.ensures.cost,
+      ap (λ (l : List Bool). rows_due l c.args.kept.now c.refresh_rows.new.kept) flags,
+    )
 
-pub refresh_rows-requires-else-put-clause-others : goal.refresh_rows-requires-else-put-clause-others
-refresh_rows-requires-else-put-clause-others g c =
-    UnreachedStay-drawn c.args.page.now c.put.new.self c.args.strokes.now c.args.before.now c.args.after.now
-    c.args.kept.now (AreWhole-valid c.args.page.now c.requires.was_valid) c.requires.from c.requires.kept
-    (page_after-put_alone c.args.page.now c.put.new.self c.args.strokes.now c.in-Some.put.place c.in-Some.put.cell.now
-    c.in-Some.ensures c.put.ensures.drawn)
-
-pub refresh_rows-requires-else-put-clause-valid : goal.refresh_rows-requires-else-put-clause-valid
-refresh_rows-requires-else-put-clause-valid g c =
+pub refresh_rows-requires-clause-valid : goal.refresh_rows-requires-clause-valid
+refresh_rows-requires-clause-valid g c =
     subst (λ (p : Page). IsValidPage p)
     (sym (page_after-put_alone c.args.page.now c.put.new.self c.args.strokes.now c.in-Some.put.place
     c.in-Some.put.cell.now
@@ -68,7 +76,7 @@ returns-then-put-clause-kept g c =
     IsPutAlone-drawn c.args.page.now c.put.new.self c.args.strokes.now c.in-Some.put.place c.in-Some.put.cell.now
     c.in-Some.ensures
     c.put.ensures.drawn c.refresh_place.ensures.on_screen (c.put.ensures.before c.if-put.true)
-    (c.put.ensures.after c.if-put.true) c.requires.was_valid c.requires.valid in
+    (c.put.ensures.after c.if-put.true) c.requires.was_valid c.requires.strokes c.requires.valid in
     λ k same. c.refresh_place.ensures.kept k
     (OthersStay-put c.args.page.now c.put.new.self k c.args.kept.now c.in-Some.put.place
     (c.requires.kept k (same ∙ sym (c.is_same.ensures.same c.if-not-is_same.false))) alone)
@@ -78,16 +86,17 @@ returns-then-put-clause-cost g c =
     omega (
       arith,
       c.refresh_place.ensures.cost,
-      reach-put c.in-Some.put.place c.in-Some.put.cell.now c.args.strokes.now c.args.before.now c.args.after.now c.args.kept.now
-          c.refresh_place.new.kept c.in-Some.ensures c.refresh_place.ensures.on_screen,
+      due-put c.in-Some.put.place c.in-Some.put.cell.now c.args.strokes.now (pens_of c.args.page.now)
+          (pens_of c.put.new.self) c.args.before.now c.args.after.now c.args.kept.now c.refresh_place.new.kept
+          c.in-Some.ensures c.refresh_place.ensures.on_screen,
     )
 
-pub returns-then-unshown-clause-kept : goal.returns-then-unshown-clause-kept
-returns-then-unshown-clause-kept g c =
+pub returns-then-sets_unshown-clause-kept : goal.returns-then-sets_unshown-clause-kept
+returns-then-sets_unshown-clause-kept g c =
     λ k same. looks_of-unshown c.args.page.now c.args.strokes.now k c.args.kept.now c.requires.was_valid
     (c.requires.kept k (same ∙ sym (c.is_same.ensures.same c.if-not-is_same.false)))
-    (c.sets_unshown-unshown.ensures.sets c.if-unshown.true)
-    ∙ ap (λ (p : Page). looks_of (core_on k p)) (sym c.draw_all-in-None.ensures)
+    (c.sets_unshown.ensures.sets c.if-sets_unshown.true)
+    ∙ ap (λ (p : Page). looks_of (core_on k p)) (sym c.draw_all.ensures)
 
-pub returns-then-unshown-clause-marks : goal.returns-then-unshown-clause-marks
-returns-then-unshown-clause-marks g c = differences_none c.args.kept.now _ c.clear.new.self c.clear.ensures refl
+pub returns-then-sets_unshown-clause-marks : goal.returns-then-sets_unshown-clause-marks
+returns-then-sets_unshown-clause-marks g c = differences_none c.args.kept.now _ c.clear.new.self c.clear.ensures refl

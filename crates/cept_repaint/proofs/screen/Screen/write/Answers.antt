@@ -1,14 +1,13 @@
 use Rattle.std.proofs.Common.{List, sym, ap, subst, ◌∙◌, arith}
 use Rattle.cept_codes.specs.declared.stroke.Stroke.{Stroke}
 use Rattle.cept_profile.specs.Edges.{edges_of}
-use Rattle.cept_profile.specs.Look.{looks_of}
 use Rattle.cept_profile.specs.State.{State, page_after, state_after}
 use Rattle.cept_profile.specs.Valid.{IsValidPage}
 use Rattle.cept_profile.proofs.Laws.{IsValidState-state_after}
 use Rattle.cept_repaint.specs.Kept.{state_of_parts}
 use Rattle.cept_repaint.proofs.KeptAfter.{AreEdges-state, AreLooksOn-state, IsKept-state_after, looks_of-drawn, marks-kept}
-use Rattle.cept_repaint.proofs.KeptAfter.{SetsUnshown-entry, reached-in_reach_of, edges-entry, state_after-drawn}
-use Rattle.cept_profile.proofs.Laws.{rows_in_reach-le}
+use Rattle.cept_repaint.proofs.KeptAfter.{SetsUnshown-entry, rows_due-resolved_of, edges-entry, state_after-drawn}
+use Rattle.cept_repaint.proofs.RowsDue.{rows_resolved-in_reach, rows_resolved-le}
 use Rattle.cept_repaint.proofs.screen.Screen.write.Goals as goal
 
 pub redraw-requires-clause-kept : goal.redraw-requires-clause-kept
@@ -58,7 +57,7 @@ returns-clause-cost g c =
     omega (
       arith,
       c.redraw.ensures.cost,
-      reached-in_reach_of c.self.invariant c.args.command.now c.redraw.new.page c.step_into.new.self c.redraw.new.kept
+      rows_due-resolved_of c.self.invariant c.args.command.now c.redraw.new.page c.step_into.new.self c.redraw.new.kept
           c.as_slice-strokes.result.now c.edges-before.result c.edges-after.result strokes
           c.edges-before.ensures c.edges-after.ensures whole looks c.args.self.now c.self.view_is,
     )
@@ -73,10 +72,26 @@ returns-clause-at_most_24 g c =
     omega (
       arith,
       c.redraw.ensures.cost,
-      reached-in_reach_of c.self.invariant c.args.command.now c.redraw.new.page c.step_into.new.self c.redraw.new.kept
+      rows_due-resolved_of c.self.invariant c.args.command.now c.redraw.new.page c.step_into.new.self c.redraw.new.kept
           c.as_slice-strokes.result.now c.edges-before.result c.edges-after.result strokes
           c.edges-before.ensures c.edges-after.ensures whole looks c.args.self.now c.self.view_is,
-      rows_in_reach-le c.args.self.now c.args.command.now,
+      rows_resolved-le c.args.self.now c.args.command.now,
+    )
+
+pub returns-clause-in_reach : goal.returns-clause-in_reach
+returns-clause-in_reach g c none =
+    let strokes = c.as_slice-strokes.ensures.value ∙ c.step_into.ensures.strokes in
+    let whole = state_after-drawn c.self.inside.page c.self.inside.control c.args.command.now c.redraw.new.page
+    c.step_into.new.self c.as_slice-strokes.result.now strokes c.redraw.ensures.page c.step_into.ensures.state in
+    let looks = looks_of-drawn c.redraw.new.page c.step_into.new.self c.edges-after.result c.redraw.new.kept
+    c.edges-after.ensures c.redraw.ensures.kept in
+    omega (
+      arith,
+      c.redraw.ensures.cost,
+      rows_due-resolved_of c.self.invariant c.args.command.now c.redraw.new.page c.step_into.new.self c.redraw.new.kept
+          c.as_slice-strokes.result.now c.edges-before.result c.edges-after.result strokes
+          c.edges-before.ensures c.edges-after.ensures whole looks c.args.self.now c.self.view_is,
+      rows_resolved-in_reach c.args.self.now c.args.command.now none,
     )
 
 pub returns-clause-unshown : goal.returns-clause-unshown

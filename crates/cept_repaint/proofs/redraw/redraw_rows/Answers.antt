@@ -1,0 +1,22 @@
+use Rattle.std.proofs.Common.{◌+◌, ap, ◌∙◌}
+use Rattle.cept_codes.specs.Table.{list_by_index}
+use Rattle.cept_repaint.specs.declared.page.Pens.{Pens}
+use Rattle.cept_repaint.specs.Due.{is_altered, pens_of, rows_due}
+use Rattle.cept_repaint.proofs.WalkedRows.{OtherRowsStay-drawn}
+use Rattle.cept_repaint.proofs.redraw.redraw_rows.Goals as goal
+
+pub refresh_rows-requires-clause-others : goal.refresh_rows-requires-clause-others
+refresh_rows-requires-clause-others g c =
+    OtherRowsStay-drawn c.args.page.now c.draw_all.new.self c.args.strokes.now c.args.before.now c.args.after.now
+    c.args.kept.now c.rows_altered-altered.result c.requires.was_valid c.requires.strokes c.requires.from c.requires.kept
+    c.draw_all.ensures
+    (c.rows_altered-altered.ensures
+    ∙ ap (λ (p : Pens). list_by_index 1 24 (is_altered c.args.strokes.now p c.args.before.now
+    (pens_of c.draw_all.new.self) c.args.after.now)) c.pens-was.ensures.pens)
+
+pub returns-clause-cost : goal.returns-clause-cost
+returns-clause-cost g c =
+    c.refresh_rows.ensures.cost
+    ∙ (λ i. c.args.steps.now + rows_due ((c.rows_altered-altered.ensures
+    ∙ ap (λ (p : Pens). list_by_index 1 24 (is_altered c.args.strokes.now p c.args.before.now
+    (pens_of c.draw_all.new.self) c.args.after.now)) c.pens-was.ensures.pens) i) c.args.kept.now c.refresh_rows.new.kept)
