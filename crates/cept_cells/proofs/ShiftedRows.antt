@@ -1,4 +1,4 @@
--- What moving rows and blanking one makes of the table of cells, against what a shift makes of it.
+-- What moving rows and blanking one makes of the table of cells, against what a shift makes of it, and a row freed.
 use Rattle.std.proofs.Common.{◌≡◌, ℕ, ◌+◌, ◌-◌, ◌<◌, ◌≤◌, ◌==◌, ◌&&◌, inl, inr, cond, leb, List, [], get_or, set}
 use Rattle.std.proofs.Common.{length, ap, ◌∙◌, arith}
 use Rattle.std.proofs.lemmas.Bool.{cases_lt}
@@ -15,6 +15,7 @@ use Rattle.cept_codes.specs.Table.{value_at, entry, IsTable}
 use Rattle.cept_codes.proofs.Laws.{same_table, set_row_is, row_of-list_by_index, entry-list_by_index}
 use Rattle.cept_codes.proofs.Laws.{length-list_by_index}
 use Rattle.cept_cells.specs.declared.grid.TheConstants.{BLANK_ROW}
+use Rattle.cept_cells.specs.Freed.{cells_freed}
 use Rattle.cept_cells.proofs.CellsAfterStrokes.{blank_row}
 use Rattle.cept_profile.specs.Cells.{cell_after, cells_after}
 
@@ -27,6 +28,16 @@ entry-blank_row : (r c : ℕ) → OnScreen r c → entry blank_cell 1 BLANK_ROW 
 entry-blank_row r c on =
     ap (λ (l : List Cell). entry blank_cell 1 l c) (blank_row ∙ row_of-list_by_index (λ _. blank_cell))
     ∙ entry-list_by_index blank_cell 1 40 (λ _. blank_cell) c on.from_left (omega (arith, on))
+
+-- one row blank, and the others as they were
+pub cells_freed-set : {t now : List (List Cell)} → IsTable t → t ≡ now → (i row : ℕ) → i < 24 → i + 1 ≡ row
+    → set t i BLANK_ROW ≡ cells_freed now row
+cells_freed-set {t} is same i row below e =
+    set_row_is t blank_cell i row BLANK_ROW is below e length-blank_row
+    ∙ same_table (λ r c. cond (row == r) (entry blank_cell 1 BLANK_ROW c) (value_at blank_cell t r c))
+    (λ r c. cond (row == r) blank_cell (value_at blank_cell t r c))
+    (λ r c on. ap (λ (x : Cell). cond (row == r) x (value_at blank_cell t r c)) (entry-blank_row r c on))
+    ∙ ap (λ (l : List (List Cell)). cells_freed l row) same
 
 -- rows that are copies of the table's: that at k is the table's at `from k`
 record AreRowsFrom (from : ℕ → ℕ) (t rows : List (List Cell)) : Type 0 where

@@ -9,6 +9,7 @@ ghost use Rattle.cept_codes.specs.Stroke.{IsValidStroke};
 ghost use Rattle.cept_codes.specs.Table.{table, value_at, entry, list_by_index, IsTable};
 ghost use Rattle.cept_profile.specs.Cells.{cells_after};
 ghost use Rattle.cept_cells.specs.Erased.{cell_after_erasing};
+ghost use Rattle.cept_cells.specs.Freed.{cells_freed};
 
 use cept_codes::{Cell, NoMemory, Pos, RowCells, Stroke, Up};
 use std::alloc::Global;
@@ -139,6 +140,15 @@ impl Grid {
         ensures { self.new ≡ cells_after self.old (Stroke.Erase row from) }
     {
         erase_from(&mut self.rows[usize::from(row) - 1], from);
+    }
+
+    /// Makes every cell of a row blank and unprotected.
+    pub fn free(&mut self, row: u8)
+        requires from_top { 1 ≤ row }
+        requires to_bottom { row ≤ 24 }
+        ensures { self.new ≡ cells_freed self.old row }
+    {
+        self.rows[usize::from(row) - 1] = BLANK_ROW;
     }
 
     /// Makes every cell blank and unprotected.
