@@ -1,0 +1,4 @@
+mod Orders
+mod SlotsHeld
+mod TurnedSlots
+pub mod Laws

@@ -1,0 +1,10 @@
+//! Which slot holds which row. It knows no cells, no looks and no histories.
+#![tactic(auto)]
+
+mod law;
+mod row_order;
+#[cfg(test)]
+mod tests;
+
+pub use law::{slots_hold_one_row, turned_rows_are_shifted_rows};
+pub use row_order::RowOrder;
