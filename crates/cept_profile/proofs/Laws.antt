@@ -40,6 +40,11 @@ pub use Rattle.cept_profile.proofs.RowsReached.{part_at-unreached, names_at-unre
 pub use Rattle.cept_profile.proofs.NamesOfRows.{is_redefined-unreached}
 -- ---- rows_that_do_not_move
 pub use Rattle.cept_profile.proofs.RowsMoved.{row_before-still, is_written-still}
+-- ---- names_come_from_above_or_the_left, looks_show_the_parts, the_first_names
+pub use Rattle.cept_profile.proofs.FirstNames.{names_at-first}
+pub use Rattle.cept_profile.proofs.NamesFromAbove.{names_at-lower, names_at-right, names_at-itself, names_at-from_above}
+pub use Rattle.cept_profile.proofs.NamesFromAbove.{names_at-covered}
+pub use Rattle.cept_profile.proofs.RowsAlike.{part_of-seen}
 -- ---- exactly_one_row_is_tiled, exactly_one_table_is_tiled, parts_are_valid
 pub use Rattle.cept_profile.proofs.TiledTables.{
   IsTiledRow-tiled_row,

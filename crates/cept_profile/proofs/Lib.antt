@@ -62,3 +62,6 @@ mod RowsAlike
 mod SamePens
 mod RowsReached
 mod NamesOfRows
+mod WorkedNames
+mod NamesFromAbove
+mod FirstNames

@@ -170,12 +170,12 @@ at_origin-below own r c p u same upper =
     let up : r - 1 ≡ r - 1 - u.dy = omega (arith, upper) in
     ap (at_origin own r c) same ∙ ap (λ (k : ℕ). own k (c - u.dx)) up
 
-covered_part : (k : Core) (r c : ℕ) → OnScreen r c → covers_below (part_at (parts_of k) (r - 1) c) ≡ true
+pub covered_part : (k : Core) (r c : ℕ) → OnScreen r c → covers_below (part_at (parts_of k) (r - 1) c) ≡ true
     → part_at (parts_of k) r c ≡ part_below (part_at (parts_of k) (r - 1) c)
 covered_part k r c on covered = ((tiled_parts k).places r c on).from_above covered
 
 -- where a place is covered from above it names what the place above it names
-names_at-below : (k : Core) (r c : ℕ) → OnScreen r c → covers_below (part_at (parts_of k) (r - 1) c) ≡ true
+pub names_at-below : (k : Core) (r c : ℕ) → OnScreen r c → covers_below (part_at (parts_of k) (r - 1) c) ≡ true
     → names_at k r c ≡ names_at k (r - 1) c
 unfolding full_attributes contents_at_origin
 names_at-below k r c on covered =

@@ -24,3 +24,4 @@ pub mod Definitions
 pub mod Edges
 pub mod MovedRows
 pub mod Names
+pub mod NamesFromAbove

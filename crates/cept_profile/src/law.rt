@@ -6,6 +6,7 @@ mod control_settings;
 mod first_grid;
 mod looks_in_rows;
 mod motions;
+mod names_of_rows;
 mod one_more;
 mod painting;
 mod protected_cells;
@@ -24,6 +25,7 @@ pub use control_settings::{
 pub use first_grid::{clearing_blanks_the_cells, the_first_grid};
 pub use looks_in_rows::{looks_hang_on_cells_to_the_left, the_page_and_the_edges_are_seen};
 pub use motions::motions_go_round_the_places;
+pub use names_of_rows::{looks_show_the_parts, names_come_from_above_or_the_left, the_first_names};
 pub use one_more::{looking_back_is_drawing, one_more_command, one_more_command_by_parts};
 pub use painting::{each_command_is_shown, marked_places_in_order, painting_the_changes};
 pub use protected_cells::protection;
