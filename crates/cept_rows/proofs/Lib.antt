@@ -8,3 +8,4 @@ pub mod RowsAlone
 pub mod RowsByPart
 pub mod RowsOfCores
 pub mod Signs
+pub mod NamesKept

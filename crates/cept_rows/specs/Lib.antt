@@ -3,3 +3,4 @@ pub mod SmallLooks
 pub mod Unshown
 pub mod KeptRows
 pub mod RowsByCell
+pub mod KeptNames

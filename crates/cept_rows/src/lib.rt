@@ -5,9 +5,11 @@
 mod cell_look;
 mod colours;
 mod drawing;
+mod naming;
 mod resolving;
 mod row_looks;
 mod small_look;
 
+pub use naming::{RowNames, name_cells, name_row};
 pub use resolving::{resolve_cells, resolve_row};
 pub use row_looks::RowLooks;

@@ -1,0 +1,204 @@
+ghost use Rattle.std.specs.Prelude.{◌≡◌, ◌≢◌, ℕ, ◌-◌, ◌≤◌, [], slice_index_or};
+ghost use Rattle.cept_codes.specs.Cell.{IsValidWhat};
+ghost use Rattle.cept_codes.specs.Glyph.{IsValidGlyph};
+ghost use Rattle.cept_codes.specs.Look.{blank_look};
+ghost use Rattle.cept_codes.specs.Place.{OnScreen};
+ghost use Rattle.cept_profile.specs.Look.{looks_of, part_of};
+ghost use Rattle.cept_profile.specs.Names.{code_in_set, code_named, names_at, names_with};
+ghost use Rattle.cept_profile.specs.NamesFromAbove.{default_names, names_by, names_from_above};
+ghost use Rattle.cept_profile.specs.NamesFromAbove.{names_in_row};
+ghost use Rattle.cept_profile.specs.PageParts.{row_pen_in};
+ghost use Rattle.cept_profile.specs.RowsFromAbove.{looks_in};
+ghost use Rattle.cept_profile.specs.Serial.{row_in};
+ghost use Rattle.cept_profile.specs.State.{Core};
+ghost use Rattle.cept_profile.specs.Tiling.{column_entry};
+ghost use Rattle.cept_rows.specs.KeptNames.{code_kept, names_kept, names_of_place};
+
+use crate::cell_look::own_attributes;
+use crate::row_looks::RowLooks;
+use cept_attrs::{RowSerial, serial_cells};
+use cept_codes::{Cell, Full, Glyph, Part, Pen, RowCells, SetId, What};
+
+/// What the places of a row name, from the left: the colour entries of foreground and background,
+/// 0 to 31, and the code of a sign of the downloaded set, or 0 where there is none.
+#[derive(Clone, Copy)]
+pub struct RowNames {
+    pub fore: [u8; 40],
+    pub back: [u8; 40],
+    pub code: [u8; 40],
+}
+
+/// The same of one place.
+#[derive(Clone, Copy)]
+pub(crate) struct PlaceNames {
+    pub(crate) fore: u8,
+    pub(crate) back: u8,
+    pub(crate) code: u8,
+}
+
+impl RowNames {
+    /// What a row names in which nothing stands and that has no attribute: white on black in each
+    /// column, and no sign of the downloaded set.
+    pub fn blank() -> RowNames
+        ensures { (c : ℕ) → 1 ≤ c → c ≤ 40 → names_kept result c ≡ default_names }
+    {
+        RowNames {
+            fore: [7; 40],
+            back: [0; 40],
+            code: [0; 40],
+        }
+    }
+
+    /// The names in a column, 1 to 40.
+    #[inline(always)]
+    fn at(&self, column: u8) -> PlaceNames
+        requires from_left { 1 ≤ column }
+        requires to_right { column ≤ 40 }
+        ensures { names_of_place result ≡ names_kept self.now column }
+    {
+        let k = column as usize - 1;
+        PlaceNames {
+            fore: self.fore[k],
+            back: self.back[k],
+            code: self.code[k],
+        }
+    }
+
+    /// Keeps the names of a place in a column, 1 to 40.
+    #[inline(always)]
+    fn put(&mut self, column: u8, place: PlaceNames)
+        requires from_left { 1 ≤ column }
+        requires to_right { column ≤ 40 }
+        ensures here { names_kept self.new column ≡ names_of_place place }
+        ensures others { (c : ℕ) → 1 ≤ c → c ≢ column
+            → names_kept self.new c ≡ names_kept self.old c }
+    {
+        let k = column as usize - 1;
+        self.fore[k] = place.fore;
+        self.back[k] = place.back;
+        self.code[k] = place.code;
+    }
+}
+
+impl PlaceNames {
+    /// What a place of such a row names.
+    const BLANK: PlaceNames = PlaceNames {
+        fore: 7,
+        back: 0,
+        code: 0,
+    };
+}
+
+/// What the places of a row name, by its own cells and attributes, by the parts that its looks show
+/// and by what the row above it names.
+pub fn name_row(
+    cells: &RowCells,
+    row: &Pen,
+    screen: &Pen,
+    above: &RowNames,
+    looks: &RowLooks,
+) -> RowNames
+    requires cells { (c : ℕ) → 1 ≤ c → c ≤ 40 → IsValidWhat (row_in cells.now.cells c) }
+    ensures names { (c : ℕ) → 1 ≤ c → c ≤ 40
+        → names_kept result c
+        ≡ names_from_above (names_kept above.now)
+        (λ d. part_of (column_entry blank_look looks.now d))
+        (names_in_row (row_in cells.now.cells) row.now screen.now) c }
+    ensures beneath { (k : Core) (r c : ℕ) → OnScreen r c
+        → cells.now.cells ≡ slice_index_or k.page.cells (r - 1) []
+        → row.now ≡ row_pen_in k.page.row_pens r → screen.now ≡ k.page.screen_pen
+        → looks.now ≡ looks_in (looks_of k) r
+        → ((d : ℕ) → OnScreen (r - 1) d → names_kept above.now d ≡ names_at k (r - 1) d)
+        → names_kept result c ≡ names_at k r c }
+{
+    let mut names = RowNames::blank();
+    name_cells(&cells.cells, row, screen, above, looks, &mut names);
+    names
+}
+
+/// The same of forty cells where they stand. The names take the place of those that were kept.
+pub fn name_cells(
+    cells: &[Cell; 40],
+    row: &Pen,
+    screen: &Pen,
+    above: &RowNames,
+    looks: &RowLooks,
+    names: &mut RowNames,
+)
+    requires cells { (c : ℕ) → 1 ≤ c → c ≤ 40 → IsValidWhat (row_in cells.now c) }
+    ensures names { (c : ℕ) → 1 ≤ c → c ≤ 40
+        → names_kept names.new c
+        ≡ names_from_above (names_kept above.now)
+        (λ d. part_of (column_entry blank_look looks.now d))
+        (names_in_row (row_in cells.now) row.now screen.now) c }
+    ensures beneath { (k : Core) (r c : ℕ) → OnScreen r c
+        → cells.now ≡ slice_index_or k.page.cells (r - 1) []
+        → row.now ≡ row_pen_in k.page.row_pens r → screen.now ≡ k.page.screen_pen
+        → looks.now ≡ looks_in (looks_of k) r
+        → ((d : ℕ) → OnScreen (r - 1) d → names_kept above.now d ≡ names_at k (r - 1) d)
+        → names_kept names.new c ≡ names_at k r c }
+{
+    let RowSerial { full, held: _ } = serial_cells(cells, row, screen);
+    let mut left = PlaceNames::BLANK;
+    for column in 1..41u8 {
+        let k = column as usize - 1;
+        let what = &cells[k].what;
+        let own = names_with(&own_attributes(what, &full[k], row, screen), what);
+        let place = names_by(looks.small(column).part, above.at(column), left, own);
+        names.put(column, place);
+        left = place;
+    }
+}
+
+/// The names of a place by the part that it shows: those of the place above or left of it, or those
+/// of what stands in its own cell.
+#[inline(always)]
+fn names_by(part: Part, above: PlaceNames, left: PlaceNames, own: PlaceNames) -> PlaceNames
+    ensures { names_of_place result
+        ≡ names_by part (names_of_place above) (names_of_place left) (names_of_place own) }
+{
+    if part.dy > 0 {
+        above
+    } else if part.dx > 0 {
+        left
+    } else {
+        own
+    }
+}
+
+/// The names of what stands in a cell with these attributes.
+#[inline(always)]
+fn names_with(full: &Full, what: &What) -> PlaceNames
+    requires { IsValidWhat what.now }
+    ensures { names_of_place result ≡ names_with full.now what.now }
+{
+    PlaceNames {
+        fore: full.fore,
+        back: full.back,
+        code: code_named(what),
+    }
+}
+
+/// The code of a sign of the downloaded set that stands in a cell, or 0.
+#[inline(always)]
+fn code_named(what: &What) -> u8
+    requires { IsValidWhat what.now }
+    ensures { code_kept result ≡ code_named what.now }
+{
+    match what {
+        What::Serial(glyph) | What::Parallel(glyph, _) => code_in_set(glyph),
+        What::Blank | What::Marker(_) => 0,
+    }
+}
+
+/// The code of a sign, if it is of the downloaded set, or 0.
+#[inline(always)]
+fn code_in_set(glyph: &Glyph) -> u8
+    requires { IsValidGlyph glyph.now }
+    ensures { code_kept result ≡ code_in_set glyph.now.set glyph.now.code }
+{
+    match glyph.set {
+        SetId::D => glyph.code,
+        SetId::P | SetId::S | SetId::M | SetId::N => 0,
+    }
+}
