@@ -2,6 +2,7 @@ pub mod AppliedCommands
 pub mod AloneRows
 pub mod AlteredRows
 pub mod KeptAfter
+pub mod LooksSeen
 pub mod LooksWritten
 pub mod MarkedDifferences
 pub mod MarkedRows

@@ -1,4 +1,5 @@
-ghost use Rattle.std.specs.Prelude.{◌≡◌, ◌≤◌, [], false, IfOk, vec_len, vec_capacity};
+ghost use Rattle.std.specs.Prelude.{◌≡◌, ◌≤◌, ◌<◌, List, [], ◌∷◌, ◌++◌, length, Some, None, false};
+ghost use Rattle.std.specs.Prelude.{IfOk, vec_len, vec_capacity};
 ghost use Rattle.cept_codes.specs.Look.{IsValidLook, blank_look};
 ghost use Rattle.cept_codes.specs.Table.{table};
 ghost use Rattle.cept_profile.specs.Changes.{look_at};
@@ -15,7 +16,7 @@ use cept_codes::{Look, NoMemory, Pos};
 use std::alloc::Global;
 
 /// A glass in memory that keeps the first paints besides. It tells its list as long as all paints
-/// had room.
+/// had room, and none from then on.
 #[derive(Drop)]
 pub struct TapeGlass {
     glass: GridGlass,
@@ -28,12 +29,14 @@ pub struct TapeGlass {
 }
 
 impl TapeGlass {
-    ghost use Rattle.cept_repaint.specs.TapeGlass.{tape_of, tape_glass_state};
+    ghost use Rattle.cept_repaint.specs.TapeGlass.{tape_of, tape_room, tape_glass_state};
 
-    /// A glass that is blank everywhere, with room for so many paints.
+    /// A glass that is blank everywhere, with room for so many paints. It tells that there were none.
     pub fn new(alloc: Global, room: u32) -> Result<TapeGlass, NoMemory>
         ensures blank { IfOk result (λ glass. (tape_glass_state glass).grid
             ≡ table (λ _ _. blank_look)) }
+        ensures none { IfOk result (λ glass. (tape_glass_state glass).paints ≡ Some []) }
+        ensures room { IfOk result (λ glass. tape_room glass ≡ room) }
         ensures empty { IfOk result (λ glass. tape_of glass
             ≡ record { kept = []; room = room; over = false }) }
     {
@@ -57,7 +60,9 @@ impl TapeGlass {
 }
 
 impl Glass for TapeGlass {
-    ghost use Rattle.cept_repaint.specs.TapeGlass.{tape_of, tape_glass_state};
+    ghost use Rattle.cept_codes.specs.declared.look.Look.{Look};
+    ghost use Rattle.cept_codes.specs.Place.{Place};
+    ghost use Rattle.cept_repaint.specs.TapeGlass.{tape_of, tape_room, tape_glass_state};
 
     ghost state = { tape_glass_state };
 
@@ -66,10 +71,22 @@ impl Glass for TapeGlass {
             at (look_at (looks_of (core_of screen.now)) at) (tape_glass_state self.new) }
         ensures tape { tape_of self.new
             ≡ tape_after (tape_of self.old) at (look_at (looks_of (core_of screen.now)) at) }
+        ensures told { (former : List (Place × Look))
+            → (tape_glass_state self.old).paints ≡ Some former
+            → length former < tape_room self.old
+            → (tape_glass_state self.new).paints
+            ≡ Some (former ++ (at, look_at (looks_of (core_of screen.now)) at) ∷ []) }
+        ensures over { (former : List (Place × Look))
+            → (tape_glass_state self.old).paints ≡ Some former
+            → tape_room self.old ≤ length former
+            → (tape_glass_state self.new).paints ≡ None }
+        ensures stays_over { (tape_glass_state self.old).paints ≡ None
+            → (tape_glass_state self.new).paints ≡ None }
+        ensures room { tape_room self.new ≡ tape_room self.old }
     {
         self.glass.paint(at, screen);
         if self.paints.len() < self.room {
-            self.paints.push((at, screen.look(at))).unwrap();
+            self.paints.push((at, look_in_row(screen, at))).unwrap();
         } else {
             self.over = true;
         }
@@ -80,4 +97,12 @@ impl Glass for TapeGlass {
     }
 
     ghost valid = { λ glass. glass.glass.valid };
+}
+
+/// The look of a screen at a place, taken from its row.
+fn look_in_row(screen: &Screen, at: Pos) -> Look
+    ensures look { result ≡ look_at (looks_of (core_of screen.now)) at }
+    ensures valid { IsValidLook result }
+{
+    screen.row_looks(at.row()).at(at.col())
 }

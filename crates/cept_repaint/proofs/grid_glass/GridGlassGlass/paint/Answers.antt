@@ -1,14 +1,11 @@
-use Rattle.std.proofs.Common.{List, sym, ap, subst, ◌∙◌, rules}
+use Rattle.std.proofs.Common.{List, refl, sym, ap, subst, ◌∙◌, rules}
 use Rattle.cept_codes.specs.declared.look.Look.{Look}
 use Rattle.cept_codes.specs.Look.{blank_look}
-use Rattle.cept_codes.proofs.Laws.{IsTable-table}
 use Rattle.cept_profile.specs.Changes.{grid_with_paint}
-use Rattle.cept_profile.specs.Look.{look, looks_of}
-use Rattle.cept_profile.specs.RowsFromAbove.{look_seen}
 use Rattle.cept_profile.specs.State.{core_of}
 use Rattle.cept_profile.specs.Tiling.{column_entry}
 use Rattle.cept_profile.specs.Valid.{IsValidGrid}
-use Rattle.cept_repaint.proofs.RowsOfLooks.{look_seen-at}
+use Rattle.cept_repaint.proofs.LooksSeen.{look_at-in_row}
 use Rattle.cept_repaint.proofs.ValidGrids.{IsValidGrid-grid_with_paint}
 use Rattle.cept_repaint.proofs.grid_glass.GridGlassGlass.paint.Goals as goal
 
@@ -24,11 +21,8 @@ invariant_of-self c =
 
 pub returns : goal.returns
 returns c =
-    let grid : List (List Look) = looks_of (core_of c.args.screen.now) in
-    let own = ap (λ (l : List Look). column_entry blank_look l c.args.at.column) c.row_looks-looks.ensures.looks
-    ∙ ap (λ r. look_seen grid r c.args.at.column) c.row.ensures.row
-    ∙ look_seen-at grid c.args.at.row c.args.at.column (IsTable-table (look (core_of c.args.screen.now)))
-    c.row.ensures.on_screen in
+    let own = look_at-in_row (core_of c.args.screen.now) c.args.at c.row_looks-looks.result.now c.row.result
+    c.args.at.column c.row.ensures.on_screen c.row_looks-looks.ensures.looks c.row.ensures.row refl in
     record {
       grid = c.copy_at.ensures ∙ ap (λ (l : Look). grid_with_paint c.args.self.now.rows c.args.at l) own;
       listed = search rules;
