@@ -99,6 +99,7 @@ impl KeptRows {
     pub(crate) fn get(&self, place: Pos) -> Look
         ensures look { result ≡ look_at self.now place }
         ensures valid { IsValidLook result }
+        ensures on_screen { OnScreen place.row place.column }
     {
         self.rows[usize::from(place.row()) - 1].at(place.col())
     }

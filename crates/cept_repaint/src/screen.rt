@@ -6,15 +6,16 @@ ghost use Rattle.cept_codes.specs.declared.look.Rgb.{Rgb};
 ghost use Rattle.cept_codes.specs.Attribute.{IsEntry, IsRowPen, IsScreenPen};
 ghost use Rattle.cept_codes.specs.Cell.{IsValidCell};
 ghost use Rattle.cept_codes.specs.Command.{IsValidCommand};
-ghost use Rattle.cept_codes.specs.Look.{IsValidLook, IsValidPattern};
+ghost use Rattle.cept_codes.specs.Look.{IsValidLook, IsValidPattern, blank_look};
 ghost use Rattle.cept_codes.specs.Stroke.{IsPaintOf};
 ghost use Rattle.cept_profile.specs.Changes.{look_at, differences};
-ghost use Rattle.cept_profile.specs.Look.{looks_of};
+ghost use Rattle.cept_profile.specs.Look.{looks_of, part_of, parts_of};
 ghost use Rattle.cept_profile.specs.PageParts.{dclut_in, paint_in, pattern_in, row_pen_in};
 ghost use Rattle.cept_profile.specs.Reach.{rows_in_reach};
 ghost use Rattle.cept_profile.specs.RowsFromAbove.{looks_in};
 ghost use Rattle.cept_profile.specs.State.{state, state_after, core_of};
 ghost use Rattle.cept_profile.specs.Strokes.{strokes_of};
+ghost use Rattle.cept_profile.specs.Tiling.{column_entry, part_at};
 ghost use Rattle.cept_profile.specs.Valid.{IsValidState};
 ghost use Rattle.cept_repaint.specs.Applied.{IsApplied, IsRepainted};
 ghost use Rattle.cept_repaint.specs.Kept.{cell_at};
@@ -186,19 +187,23 @@ impl Screen {
         );
     }
 
-    /// The look at a place.
+    /// The look at a place. It shows the part that the tiling by sizes has there.
     pub fn look(&self, at: Pos) -> Look
         ensures look { result ≡ look_at (looks_of (core_of self.now)) at }
+        ensures part { part_of result ≡ part_at (parts_of (core_of self.now)) at.row at.column }
         ensures valid { IsValidLook result }
     {
         self.rows.get(at)
     }
 
-    /// The looks of a row, where they stand.
+    /// The looks of a row, where they stand. Each shows the part that the tiling by sizes has there.
     pub fn row_looks(&self, row: u8) -> &RowLooks
         requires from_top { 1 ≤ row }
         requires to_bottom { row ≤ 24 }
         ensures looks { result.now ≡ looks_in (looks_of (core_of self.now)) row }
+        ensures parts { (c : ℕ) → 1 ≤ c → c ≤ 40
+            → part_of (column_entry blank_look result.now c)
+            ≡ part_at (parts_of (core_of self.now)) row c }
     {
         self.rows.row(row)
     }
