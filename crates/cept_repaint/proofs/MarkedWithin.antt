@@ -51,11 +51,10 @@ unmarked_is flags places none =
     ext_get_or false flags no_marks (places ∙ sym length-no_marks)
     (λ n below. none n (omega (arith, places)) ∙ sym (is_marked-no_marks n))
 
--- the range is empty
-pub none_within : {flags : List Bool} {first end : ℕ} → AreWithin flags first end → length flags ≡ 960 → first ≡ end
+-- the range ends before the first place
+pub none_within : {flags : List Bool} {first end : ℕ} → AreWithin flags first end → length flags ≡ 960 → end ≡ 0
     → flags ≡ no_marks
-none_within {flags} {first} {end} w places none =
-    unmarked_is flags places (λ n below. elim (cases_lt n first) [ inl up ↦ w.before n up | inr not_up ↦ w.after n (omega arith) ])
+none_within {flags} {first} {end} w places none = unmarked_is flags places (λ n below. w.after n (omega (arith, none)))
 
 -- the only place of the range unset
 pub cleared_one : {flags : List Bool} {first end : ℕ} → AreWithin flags first end → length flags ≡ 960

@@ -76,7 +76,7 @@ impl Marks {
     pub(crate) fn clear(&mut self)
         ensures { self.new ≡ no_marks }
     {
-        if self.first == self.end {
+        if self.end == 0 {
             return;
         }
         unmark_within(&mut self.flags, self.first, self.end);
@@ -90,7 +90,7 @@ impl Marks {
     {
         let n = usize::from(at.number());
         self.flags[n] = true;
-        if self.first == self.end {
+        if self.end == 0 {
             self.first = n;
             self.end = n + 1;
         } else {
