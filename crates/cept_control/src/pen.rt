@@ -6,7 +6,8 @@ ghost use Rattle.cept_profile.specs.Control.{control_after, control_effect};
 ghost use Rattle.cept_profile.specs.Edges.{edges_of};
 ghost use Rattle.cept_profile.specs.Strokes.{strokes_of, strokes_when};
 ghost use Rattle.cept_profile.specs.Pens.{attribute_of, fast_after, fast_after_code, fast_before};
-ghost use Rattle.cept_profile.specs.Pens.{fast_flash, flash_of, next_fast, pen_with_any, pen_with};
+ghost use Rattle.cept_profile.specs.Pens.{fast_flash, flash_of, is_flash, next_fast, pen_with_any};
+ghost use Rattle.cept_profile.specs.Pens.{pen_with};
 
 use crate::control::Control;
 use crate::marker::marker_of;
@@ -63,7 +64,9 @@ impl Control {
     {
         let attribute = attribute_of(self.working.table, n);
         set_any(attribute, &mut self.working.pen);
-        self.working.fast = fast_after_code(n, self.working.fast);
+        if is_flash(n) {
+            self.working.fast = 0;
+        }
     }
 
     pub(crate) fn flash_mode(&mut self, mode: u8, strokes: &mut ArrayVec<Stroke, 128>)
@@ -98,11 +101,18 @@ impl Control {
     }
 }
 
-/// The fast flash in force after a C1 code: the codes of flash end it.
+/// Whether a C1 code is one of flash. These end the fast flash.
+fn is_flash(n: u8) -> bool
+    ensures { result ≡ is_flash n }
+{
+    n == 8 || n == 9
+}
+
+/// The fast flash in force after a C1 code.
 fn fast_after_code(n: u8, fast: u8) -> u8
     ensures { result ≡ fast_after_code n fast }
 {
-    if n == 8 || n == 9 { 0 } else { fast }
+    if is_flash(n) { 0 } else { fast }
 }
 
 /// The attribute of a C1 code with a colour table.
