@@ -1,6 +1,6 @@
 -- Rows whose cells look as they do by themselves, and one cell that is put in such a row.
 use Rattle.std.proofs.Common.{◌≡◌, ◌≢◌, ℕ, zero, suc, ◌+◌, ◌-◌, ◌≤◌, ◌<◌, ◌==◌, ◌&&◌, ◌||◌, not, false}
-use Rattle.std.proofs.Common.{List, [], ◌∷◌, inl, inr, sym, ap, subst, ◌∙◌, arith}
+use Rattle.std.proofs.Common.{List, [], ◌∷◌, inl, inr, Some, refl, sym, ap, subst, ◌∙◌, arith}
 use Rattle.std.proofs.lemmas.Bool.Decides.{nat_tests}
 use Rattle.std.proofs.lemmas.Bool.{and_left, cases_eq, cases_lt, cond-false, or_from}
 use Rattle.cept_codes.specs.declared.attribute.Size.TheVariants as sizes
@@ -18,12 +18,13 @@ use Rattle.cept_profile.specs.Cells.{is_at, cell_after, cells_after}
 use Rattle.cept_profile.specs.Edges.{Edges, edges_of_core}
 use Rattle.cept_profile.specs.Look.{contents_of_row, is_double_set, look, look_of, looks_of, own_size}
 use Rattle.cept_profile.specs.Look.{part_of}
+use Rattle.cept_profile.specs.MovedRows.{row_before}
 use Rattle.cept_profile.specs.PageParts.{row_pen_in}
 use Rattle.cept_profile.specs.RowsFromAbove.{is_covered_otherwise, look_seen, looks_in}
 use Rattle.cept_profile.specs.State.{Core, Page, definitions_of, page_after}
 use Rattle.cept_profile.specs.Tiling.{covers_below}
 use Rattle.cept_profile.specs.Valid.{IsValidPage}
-use Rattle.cept_repaint.specs.Due.{is_altered, one_alters, pens_of}
+use Rattle.cept_repaint.specs.Due.{is_altered, pens_of}
 use Rattle.cept_repaint.specs.Kept.{OthersStay, core_on, look_alone}
 use Rattle.cept_repaint.specs.MarkedRows.{IsSingleRow, StandsAlone}
 use Rattle.cept_repaint.proofs.AlteredRows.{is_altered-put}
@@ -77,10 +78,12 @@ cell_elsewhere p place cell r c on other =
 unaltered : (p : Page) (place : Place) (cell : Cell) (edges : Edges) (r : ℕ) → place.row ≢ r → 1 ≤ r → r ≤ 24
     → is_altered (strokes.Put place cell ∷ []) (pens_of p) edges
     (pens_of (page_after p (strokes.Put place cell ∷ []))) edges r ≡ false
-unfolding one_alters
 unaltered p place cell edges r apart low high =
-    let no : (place.row == r) ≡ false = grind (arith, nat_tests) in
-    is_altered-put p place cell edges r low high ∙ ap (λ b. (b || false) || false) no
+    let no : (place.row == r) ≡ false = grind (arith, nat_tests) in is_altered-put p place cell edges r low high ∙ no
+
+still : (place : Place) (cell : Cell) (r : ℕ) → row_before (strokes.Put place cell ∷ []) r ≡ Some r
+unfolding row_before
+still place cell r = refl
 
 -- a page before and after one cell is put, in a row that stands alone
 pub record IsPutAlone (p q : Page) (place : Place) : Type 0 where
@@ -153,8 +156,8 @@ others_stay_to p q m place put (suc n) r c on within other =
             ∙ sym (look-alone p m r c put.was_valid on was)
         | inr apart ↦
             let row : n + 1 ≡ r = omega arith in
-            look-unaltered (core_on m p) (core_on m q) (strokes.Put place put.cell ∷ []) r c
-            (record { valid = put.was_valid; each = (put.each, tt); page = put.put }) on
+            look-unaltered (core_on m p) (core_on m q) (strokes.Put place put.cell ∷ []) r r c
+            (record { valid = put.was_valid; each = (put.each, tt); page = put.put }) on (still place put.cell r)
             (ap (λ (x : Page). is_altered (strokes.Put place put.cell ∷ []) (pens_of p) (edges_of_core m) (pens_of x)
             (edges_of_core m) r) put.put
             ∙ unaltered p place put.cell (edges_of_core m) r apart on.from_top on.to_bottom)

@@ -21,11 +21,11 @@ use Rattle.cept_profile.specs.Valid.{IsValidState}
 use Rattle.cept_profile.proofs.Laws.{IsValidState-state_after}
 use Rattle.cept_profile.specs.PageParts.{paint_in}
 use Rattle.cept_repaint.specs.Kept.{AreEdges, AreLooksOn, IsKept, SetsUnshown}
-use Rattle.cept_repaint.specs.Due.{is_altered, pens_of, rows_due}
+use Rattle.cept_repaint.specs.Due.{followed, is_altered, pens_of, rows_due}
 use Rattle.cept_repaint.specs.Resolved.{rows_resolved}
 use Rattle.cept_repaint.specs.Unshown.{IsUnshown}
 use Rattle.cept_repaint.proofs.OnePlace.{page_after-none}
-use Rattle.cept_repaint.proofs.RowsDue.{altered_by, rows_due-resolved}
+use Rattle.cept_repaint.proofs.RowsDue.{altered_by, followed_by, rows_due-resolved}
 use Rattle.cept_profile.proofs.Laws.{looks_of-alike}
 use Rattle.cept_repaint.proofs.WalkedRows.{AreLooksOn-one}
 
@@ -77,20 +77,26 @@ pub rows_due-resolved_of : {p : Page} {c : ControlState} {kept : List (List Look
     → (let s : State = record { page = q; control = d } in s) ≡ state_after (record { page = p; control = c }) command
     → next ≡ looks_of (core_of (record { page = q; control = d }))
     → (s : State) → (let was : State = record { page = p; control = c } in was) ≡ s
-    → rows_due (list_by_index 1 24 (is_altered strokes (pens_of p) before (pens_of q) after)) kept next
+    → rows_due (list_by_index 1 24 (is_altered strokes (pens_of p) before (pens_of q) after))
+    (list_by_index 1 24 (followed strokes)) kept next
     ≤ rows_resolved s command
 rows_due-resolved_of {p} {c} {kept} is command q d next strokes before after es eb ea whole looks s e =
     let was : State = record { page = p; control = c } in
     let now : State = record { page = q; control = d } in
-    let first : rows_due (list_by_index 1 24 (is_altered strokes (pens_of p) before (pens_of q) after)) kept next
+    let first : rows_due (list_by_index 1 24 (is_altered strokes (pens_of p) before (pens_of q) after))
+    (list_by_index 1 24 (followed strokes)) kept next
     ≡ rows_due (list_by_index 1 24 (is_altered (strokes_of c command) (pens_of p) (edges_of c) (pens_of q) (edges_of d)))
-    (looks_of (core_of was)) (looks_of (core_of now)) = λ i.
-    rows_due (list_by_index 1 24 (is_altered (es i) (pens_of p) (eb i) (pens_of q) (ea i))) (is.looks i) (looks i) in
+    (list_by_index 1 24 (followed (strokes_of c command))) (looks_of (core_of was)) (looks_of (core_of now)) = λ i.
+    rows_due (list_by_index 1 24 (is_altered (es i) (pens_of p) (eb i) (pens_of q) (ea i)))
+    (list_by_index 1 24 (followed (es i))) (is.looks i) (looks i) in
     let second : rows_due (list_by_index 1 24 (is_altered (strokes_of c command) (pens_of p) (edges_of c) (pens_of q)
-    (edges_of d))) (looks_of (core_of was)) (looks_of (core_of now))
-    ≡ rows_due (altered_by was command) (looks_of (core_of was)) (looks_of (core_of (state_after was command))) =
+    (edges_of d))) (list_by_index 1 24 (followed (strokes_of c command))) (looks_of (core_of was))
+    (looks_of (core_of now))
+    ≡ rows_due (altered_by was command) (followed_by was command) (looks_of (core_of was))
+    (looks_of (core_of (state_after was command))) =
     ap (λ (t : State). rows_due (list_by_index 1 24 (is_altered (strokes_of c command) (pens_of p) (edges_of c)
-    (pens_of t.page) (edges_of t.control))) (looks_of (core_of was)) (looks_of (core_of t))) whole in
+    (pens_of t.page) (edges_of t.control))) (list_by_index 1 24 (followed (strokes_of c command)))
+    (looks_of (core_of was)) (looks_of (core_of t))) whole in
     let third : rows_resolved was command ≡ rows_resolved s command =
     ap (λ (t : State). rows_resolved t command) e in
     omega (arith, first, second, third, rows_due-resolved was command)

@@ -1,6 +1,7 @@
 pub mod AppliedCommands
 pub mod AloneRows
 pub mod AlteredRows
+pub mod FollowedRows
 pub mod KeptAfter
 pub mod LooksSeen
 pub mod LooksWritten

@@ -178,3 +178,45 @@ ComparedSoFar-covered {was} {fresh} {r} {from} {before} {marks} {covered} m same
                 (same c later high)
           ]))
     ]
+
+-- ---- compared without marking: no look that differs so far covers the place below it
+
+pub record UncoveredSoFar (was fresh : List Look) (from : ℕ) : Type 0 where
+  pub low : 1 ≤ from
+  pub none : (c : ℕ) → 1 ≤ c → c < from → c ≤ 40
+      → is_other_covering (column_entry blank_look was c) (column_entry blank_look fresh c) ≡ false
+
+pub UncoveredSoFar-more : {was fresh : List Look} {from : ℕ} → UncoveredSoFar was fresh from → (column : ℕ)
+    → from ≤ column → ((d : ℕ) → from ≤ d → d < column → is_same_in was fresh d ≡ true)
+    → is_covered_below was fresh column ≡ false → UncoveredSoFar was fresh (column + 1)
+UncoveredSoFar-more {was} {fresh} {from} m column low same free = record {
+  low = omega arith;
+  none = λ c l below h. elim (cases_lt c from) [
+    | inl earlier ↦ m.none c l earlier h
+    | inr later ↦ elim (cases_eq c column) [
+      | inl here ↦
+          and_left (is_covered_below was fresh c) (not (is_same_in was fresh c))
+          (ap (is_covered_below was fresh) here ∙ free)
+      | inr apart ↦
+          is_other_covering-same (column_entry blank_look was c) (column_entry blank_look fresh c)
+          (same c later (omega arith))
+    ]
+  ];
+}
+
+pub UncoveredSoFar-all : {was fresh : List Look} {from : ℕ} → UncoveredSoFar was fresh from
+    → ((d : ℕ) → from ≤ d → d ≤ 40 → is_same_in was fresh d ≡ true) → is_other_above was fresh ≡ false
+UncoveredSoFar-all {was} {fresh} {from} m same =
+    is_other_above-none was fresh (λ c low high. elim (cases_lt c from) [
+      | inl earlier ↦ m.none c low earlier high
+      | inr later ↦
+          is_other_covering-same (column_entry blank_look was c) (column_entry blank_look fresh c)
+          (same c later high)
+    ])
+
+pub other_above-found : (was fresh : List Look) (column : ℕ) → 1 ≤ column → column ≤ 40
+    → is_same_in was fresh column ≡ false → is_covered_below was fresh column ≡ true
+    → is_other_above was fresh ≡ true
+other_above-found was fresh column low high other covers =
+    is_other_above-some was fresh column low high
+    (and_from (is_covered_below was fresh column) (not (is_same_in was fresh column)) covers (ap not other))

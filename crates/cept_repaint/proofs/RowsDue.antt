@@ -1,6 +1,6 @@
 -- Rows that are due: a tick for each, and no more of them than a command may resolve.
-use Rattle.std.proofs.Common.{◌≡◌, ℕ, ◌+◌, ◌-◌, ◌≤◌, ◌==◌, ◌||◌, Bool, true, false, cond, List, [], ◌∷◌, map}
-use Rattle.std.proofs.Common.{get_or, take, inl, inr, refl, sym, ap, ◌∙◌, arith}
+use Rattle.std.proofs.Common.{◌≡◌, ℕ, ◌+◌, ◌-◌, ◌<◌, ◌≤◌, ◌==◌, ◌||◌, Bool, true, false, cond, List, [], ◌∷◌, map}
+use Rattle.std.proofs.Common.{Option, Some, None, get_or, take, length, inl, inr, refl, sym, ap, ◌∙◌, arith}
 use Rattle.std.specs.List.{count_by, list_any, range_with_len}
 use Rattle.std.proofs.lemmas.Bool.{cases_Bool, or_from, or_left, or_parts, or_right, true≢false}
 use Rattle.std.proofs.lemmas.Bool.Decides.{nat_tests}
@@ -16,60 +16,25 @@ use Rattle.cept_codes.specs.declared.stroke.Stroke.TheVariants as strokes
 use Rattle.cept_codes.specs.Place.{Place, OnScreen}
 use Rattle.cept_codes.specs.Table.{entry, list_by_index}
 use Rattle.cept_codes.proofs.Laws.{entry-list_by_index, entry_from, length-list_by_index, same_indexed}
-use Rattle.cept_profile.specs.Cells.{moves, moves_rows}
 use Rattle.cept_profile.specs.Edges.{Edges, edges_of, edges_of_core}
 use Rattle.cept_profile.specs.Look.{look, looks_of}
+use Rattle.cept_profile.specs.MovedRows.{row_before}
 use Rattle.cept_profile.specs.Reach.{LeadsTo, has_other_attributes, is_reached, is_reached_from, is_redefined}
-use Rattle.cept_profile.specs.Reach.{is_written, reaches, redefines, rows_in_reach, writes}
+use Rattle.cept_profile.specs.Reach.{is_written, reaches, redefines, rows_in_reach}
 use Rattle.cept_profile.specs.RowsFromAbove.{is_covered_otherwise}
 use Rattle.cept_profile.specs.State.{Core, State, core_of, state_after}
 use Rattle.cept_profile.specs.Strokes.{strokes_of}
-use Rattle.cept_profile.proofs.Laws.{is_reached-by, is_written-still, look-unreached, reaches-by, row_before-still}
-use Rattle.cept_profile.proofs.Laws.{rows_in_reach-counted}
+use Rattle.cept_profile.proofs.Laws.{is_reached-by, look-unreached, reaches-by, rows_in_reach-counted}
+use Rattle.cept_repaint.specs.declared.followed_rows.Followed.{Followed}
 use Rattle.cept_repaint.specs.declared.page.Pens.{Pens}
-use Rattle.cept_repaint.specs.Due.{alters, has_others, is_altered, is_due, one_alters, pens_of, rows_due}
-use Rattle.cept_repaint.specs.Resolved.{defines, may_resolve, moves_or_defines, rows_resolved}
+use Rattle.cept_repaint.specs.Due.{followed, has_others, is_altered, is_altered_from, is_covered_from, is_due, pens_of}
+use Rattle.cept_repaint.specs.Due.{row_from, rows_due}
+use Rattle.cept_repaint.specs.Resolved.{defines, may_resolve, rows_resolved}
+use Rattle.cept_repaint.proofs.FollowedRows.{row_from-followed}
 
--- ---- strokes that alter a row
+-- ---- a row that isn't altered, nor covered otherwise, keeps the looks of the row of which it came
 
--- the stroke moves row r or defines something
-abbrev pub moves_it : ℕ → Stroke → Bool
-moves_it r x = moves x r || defines x
-
--- what doesn't alter a row neither moves it nor defines anything
-alters-not : (x : Stroke) (r : ℕ) → alters x r ≡ false → moves_it r x ≡ false
-alters-not (strokes.Put p cell) r out = refl
-alters-not (strokes.Erase row from) r out = refl
-alters-not strokes.Wipe r out = absurd (true≢false out)
-alters-not (strokes.Shift first last way) r out = or_from (moves (strokes.Shift first last way) r) false out refl
-alters-not (strokes.RowAttr row attr) r out = refl
-alters-not (strokes.ScreenAttr attr) r out = refl
-alters-not strokes.ScreenClear r out = refl
-alters-not (strokes.Colour i paint) r out = absurd (true≢false out)
-alters-not (strokes.Dclut j v) r out = absurd (true≢false out)
-alters-not strokes.ColourDefaults r out = absurd (true≢false out)
-alters-not (strokes.Drcs code pattern) r out = absurd (true≢false out)
-alters-not strokes.DrcsClear r out = absurd (true≢false out)
-alters-not (strokes.Format rows) r out = refl
-
--- what neither moves a row nor defines anything alters it where it writes in it
-alters-still : (x : Stroke) (r : ℕ) → moves_it r x ≡ false → alters x r ≡ writes x r
-alters-still (strokes.Put p cell) r none = refl
-alters-still (strokes.Erase row from) r none = refl
-alters-still strokes.Wipe r none = refl
-alters-still (strokes.Shift first last way) r none =
-    (or_parts (moves (strokes.Shift first last way) r) false none).0
-alters-still (strokes.RowAttr row attr) r none = refl
-alters-still (strokes.ScreenAttr attr) r none = refl
-alters-still strokes.ScreenClear r none = refl
-alters-still (strokes.Colour i paint) r none = absurd (true≢false none)
-alters-still (strokes.Dclut j v) r none = absurd (true≢false none)
-alters-still strokes.ColourDefaults r none = absurd (true≢false none)
-alters-still (strokes.Drcs code pattern) r none = absurd (true≢false none)
-alters-still strokes.DrcsClear r none = absurd (true≢false none)
-alters-still (strokes.Format rows) r none = refl
-
--- and what defines nothing defines no name of a row anew
+-- what defines nothing defines no name of a row anew
 defines-not : (k : Core) (r : ℕ) (x : Stroke) → defines x ≡ false → redefines k r x ≡ false
 defines-not k r (strokes.Put p cell) none = refl
 defines-not k r (strokes.Erase row from) none = refl
@@ -85,79 +50,49 @@ defines-not k r (strokes.Drcs code pattern) none = absurd (true≢false none)
 defines-not k r strokes.DrcsClear none = absurd (true≢false none)
 defines-not k r (strokes.Format rows) none = refl
 
--- the same of several strokes
-one_alters-not : (xs : List Stroke) (r : ℕ) → one_alters xs r ≡ false → list_any (moves_it r) xs ≡ false
-unfolding one_alters
-one_alters-not [] r out = refl
-one_alters-not (x ∷ xs) r out =
-    let parts = or_parts (alters x r) (one_alters xs r) out in
-    or_from (moves_it r x) (list_any (moves_it r) xs) (alters-not x r parts.0) (one_alters-not xs r parts.1)
-
-one_alters-still : (xs : List Stroke) (r : ℕ) → list_any (moves_it r) xs ≡ false
-    → one_alters xs r ≡ list_any (λ x. writes x r) xs
-unfolding one_alters
-one_alters-still [] r none = refl
-one_alters-still (x ∷ xs) r none =
-    let parts = or_parts (moves_it r x) (list_any (moves_it r) xs) none in
-    ap (λ b. b || one_alters xs r) (alters-still x r parts.0)
-    ∙ ap (λ b. writes x r || b) (one_alters-still xs r parts.1)
-
-none_moves : (xs : List Stroke) (r : ℕ) → list_any (moves_it r) xs ≡ false → list_any (λ x. moves x r) xs ≡ false
-none_moves [] r none = refl
-none_moves (x ∷ xs) r none =
-    let parts = or_parts (moves_it r x) (list_any (moves_it r) xs) none in
-    or_from (moves x r) (list_any (λ y. moves y r) xs) (or_parts (moves x r) (defines x) parts.0).0
-    (none_moves xs r parts.1)
-
-none_redefined : (k : Core) (xs : List Stroke) (r : ℕ) → list_any (moves_it r) xs ≡ false
-    → is_redefined k xs r ≡ false
+none_redefined : (k : Core) (xs : List Stroke) (r : ℕ) → list_any defines xs ≡ false → is_redefined k xs r ≡ false
 unfolding is_redefined
 none_redefined k [] r none = refl
 none_redefined k (x ∷ xs) r none =
-    let parts = or_parts (moves_it r x) (list_any (moves_it r) xs) none in
-    or_from (redefines k r x) (is_redefined k xs r)
-    (defines-not k r x (or_parts (moves x r) (defines x) parts.0).1) (none_redefined k xs r parts.1)
-
--- a row that no stroke moves, where none defines anything: it is written where it is altered
-is_written-altered : (xs : List Stroke) (r : ℕ) → list_any (moves_it r) xs ≡ false → is_written xs r ≡ one_alters xs r
-is_written-altered xs r none =
-    is_written-still xs r (none_moves xs r none) ∙ sym (one_alters-still xs r none)
+    let parts = or_parts (defines x) (list_any defines xs) none in
+    or_from (redefines k r x) (is_redefined k xs r) (defines-not k r x parts.0) (none_redefined k xs r parts.1)
 
 -- other attributes in the words of cores
-has_others-cores : (before after : Core) (r : ℕ)
-    → has_other_attributes before r after r
-    ≡ has_others (pens_of before.page) (edges_of_core before) (pens_of after.page) (edges_of_core after) r
+has_others-cores : (before after : Core) (q r : ℕ)
+    → has_other_attributes before q after r
+    ≡ has_others (pens_of before.page) (edges_of_core before) q (pens_of after.page) (edges_of_core after) r
 unfolding has_others has_other_attributes
-has_others-cores before after r = refl
+has_others-cores before after q r = refl
 
--- then it is reached where it is altered or covered otherwise
-is_reached-still : (before after : Core) (xs : List Stroke) (r : ℕ) → list_any (moves_it r) xs ≡ false
+-- whether a row is reached that came of this one
+is_reached-came : (before after : Core) (xs : List Stroke) (q r : ℕ) → row_before xs r ≡ Some q
     → is_reached before after xs r
-    ≡ (is_written xs r || has_other_attributes before r after r || is_redefined after xs r
-    || is_covered_otherwise (looks_of before) r (looks_of after) r)
-is_reached-still before after xs r none =
-    is_reached-by before after xs r
-    ∙ ap (λ found. is_reached_from before after xs found r) (row_before-still xs r (none_moves xs r none))
+    ≡ (is_written xs r || has_other_attributes before q after r || is_redefined after xs r
+    || is_covered_otherwise (looks_of before) q (looks_of after) r)
+is_reached-came before after xs q r came =
+    is_reached-by before after xs r ∙ ap (λ found. is_reached_from before after xs found r) came
 
--- a row that isn't altered, nor covered otherwise, keeps its looks
-pub look-unaltered : (before after : Core) (xs : List Stroke) (r c : ℕ) → LeadsTo before after xs → OnScreen r c
+pub look-unaltered : (before after : Core) (xs : List Stroke) (q r c : ℕ) → LeadsTo before after xs → OnScreen r c
+    → row_before xs r ≡ Some q
     → is_altered xs (pens_of before.page) (edges_of_core before) (pens_of after.page) (edges_of_core after) r ≡ false
-    → is_covered_otherwise (looks_of before) r (looks_of after) r ≡ false → look after r c ≡ look before r c
+    → is_covered_otherwise (looks_of before) q (looks_of after) r ≡ false → look after r c ≡ look before q c
 unfolding is_altered
-look-unaltered before after xs r c leads on out covered =
-    let parts = or_parts (one_alters xs r)
-    (has_others (pens_of before.page) (edges_of_core before) (pens_of after.page) (edges_of_core after) r) out in
-    let none : list_any (moves_it r) xs ≡ false = one_alters-not xs r parts.0 in
-    let written : is_written xs r ≡ false = is_written-altered xs r none ∙ parts.0 in
-    let others : has_other_attributes before r after r ≡ false = has_others-cores before after r ∙ parts.1 in
-    let redefined : is_redefined after xs r ≡ false = none_redefined after xs r none in
-    let three : (is_written xs r || has_other_attributes before r after r || is_redefined after xs r) ≡ false =
-    or_from (is_written xs r || has_other_attributes before r after r) (is_redefined after xs r)
-    (or_from (is_written xs r) (has_other_attributes before r after r) written others) redefined in
-    look-unreached before after xs r r c leads on (row_before-still xs r (none_moves xs r none))
-    (is_reached-still before after xs r none
-    ∙ or_from (is_written xs r || has_other_attributes before r after r || is_redefined after xs r)
-    (is_covered_otherwise (looks_of before) r (looks_of after) r) three covered)
+look-unaltered before after xs q r c leads on came out covered =
+    let others : Bool =
+    has_others (pens_of before.page) (edges_of_core before) q (pens_of after.page) (edges_of_core after) r in
+    let none : (is_written xs r || list_any defines xs || others) ≡ false =
+    ap (λ found. is_altered_from (is_written xs r) (list_any defines xs) (pens_of before.page) (edges_of_core before)
+    (pens_of after.page) (edges_of_core after) found r) (sym came) ∙ out in
+    let parts = or_parts (is_written xs r || list_any defines xs) others none in
+    let first = or_parts (is_written xs r) (list_any defines xs) parts.0 in
+    let three : (is_written xs r || has_other_attributes before q after r || is_redefined after xs r) ≡ false =
+    or_from (is_written xs r || has_other_attributes before q after r) (is_redefined after xs r)
+    (or_from (is_written xs r) (has_other_attributes before q after r) first.0
+    (has_others-cores before after q r ∙ parts.1)) (none_redefined after xs r first.1) in
+    look-unreached before after xs q r c leads on came
+    (is_reached-came before after xs q r came
+    ∙ or_from (is_written xs r || has_other_attributes before q after r || is_redefined after xs r)
+    (is_covered_otherwise (looks_of before) q (looks_of after) r) three covered)
 
 -- ---- no more rows are due than a command may resolve
 
@@ -202,51 +137,78 @@ fewer f g so =
     same_count (λ r. g r || f r) g (λ r low high. implied (f r) (g r) (so r low high)) in
     omega (arith, more, same)
 
--- the rows that a command alters
+-- the rows that a command alters, and each row followed
 abbrev pub altered_by : State → Command → List Bool
 altered_by s command =
     list_by_index 1 24 (is_altered (strokes_of s.control command) (pens_of s.page) (edges_of s.control)
     (pens_of (state_after s command).page) (edges_of (state_after s command).control))
 
+abbrev pub followed_by : State → Command → List Followed
+followed_by s command = list_by_index 1 24 (followed (strokes_of s.control command))
+
+-- two ways to say that one of four holds, of which the third does not
+four : (a b c : Bool) → ((a || false || b) || c) ≡ ((a || b || false) || c)
+four true b c = refl
+four false true c = refl
+four false false c = refl
+
 -- a row that is due may be resolved
-due_may : (s : State) (command : Command) (r : ℕ) → 1 ≤ r → r ≤ 24
-    → is_due (altered_by s command) (looks_of (core_of s)) (looks_of (core_of (state_after s command))) r ≡ true
-    → may_resolve s command r ≡ true
-unfolding may_resolve is_altered
-due_may s command r low high due =
+due_reached : (s : State) (command : Command) (r : ℕ) → list_any defines (strokes_of s.control command) ≡ false
+    → (found : Option ℕ) → row_before (strokes_of s.control command) r ≡ found
+    → (is_altered_from (is_written (strokes_of s.control command) r) (list_any defines (strokes_of s.control command))
+    (pens_of s.page) (edges_of s.control) (pens_of (state_after s command).page)
+    (edges_of (state_after s command).control) found r
+    || is_covered_from (looks_of (core_of s)) found (looks_of (core_of (state_after s command))) r) ≡ true
+    → reaches s command r ≡ true
+due_reached s command r none None came due =
+    reaches-by s command r
+    ∙ is_reached-by (core_of s) (core_of (state_after s command)) (strokes_of s.control command) r
+    ∙ ap (λ found. is_reached_from (core_of s) (core_of (state_after s command)) (strokes_of s.control command) found r) came
+due_reached s command r none (Some q) came due =
     let xs : List Stroke = strokes_of s.control command in
     let before : Core = core_of s in
     let after : Core = core_of (state_after s command) in
     let others : Bool =
-    has_others (pens_of s.page) (edges_of s.control) (pens_of (state_after s command).page)
+    has_others (pens_of s.page) (edges_of s.control) q (pens_of (state_after s command).page)
     (edges_of (state_after s command).control) r in
-    let covered : Bool = is_covered_otherwise (looks_of before) r (looks_of after) r in
-    elim (cases_Bool (list_any (moves_it r) xs)) [
-      | inl so ↦ or_right (reaches s command r) (list_any (moves_it r) xs) so
+    let covered : Bool = is_covered_otherwise (looks_of before) q (looks_of after) r in
+    reaches-by s command r ∙ is_reached-came before after xs q r came
+    ∙ (λ i. (is_written xs r || has_others-cores before after q r i || none_redefined after xs r none i) || covered)
+    ∙ sym (four (is_written xs r) others covered)
+    ∙ ap (λ b. (is_written xs r || b || others) || covered) (sym none) ∙ due
+
+due_may : (s : State) (command : Command) (r : ℕ) → 1 ≤ r → r ≤ 24
+    → is_due (altered_by s command) (followed_by s command) (looks_of (core_of s))
+    (looks_of (core_of (state_after s command))) r ≡ true
+    → may_resolve s command r ≡ true
+unfolding may_resolve is_altered
+due_may s command r low high due =
+    let xs : List Stroke = strokes_of s.control command in
+    let was : List (List Look) = looks_of (core_of s) in
+    let now : List (List Look) = looks_of (core_of (state_after s command)) in
+    let altered : ℕ → Bool =
+    is_altered xs (pens_of s.page) (edges_of s.control) (pens_of (state_after s command).page)
+    (edges_of (state_after s command).control) in
+    elim (cases_Bool (list_any defines xs)) [
+      | inl so ↦ or_right (reaches s command r) (list_any defines xs) so
       | inr none ↦
-          let flag : entry false 1 (altered_by s command) r ≡ (one_alters xs r || others) =
-          entry-list_by_index false 1 24 (λ q. one_alters xs q || has_others (pens_of s.page) (edges_of s.control)
-          (pens_of (state_after s command).page) (edges_of (state_after s command).control) q) r low
-          (omega (arith, high)) in
-          let is : ((one_alters xs r || others) || covered) ≡ true = ap (λ b. b || covered) (sym flag) ∙ due in
-          let reached : reaches s command r
-          ≡ (is_written xs r || has_other_attributes before r after r || is_redefined after xs r || covered) =
-          reaches-by s command r ∙ is_reached-still before after xs r none in
-          let same : (is_written xs r || has_other_attributes before r after r || is_redefined after xs r || covered)
-          ≡ (((one_alters xs r || others) || false) || covered) =
-          (λ i. is_written-altered xs r none i || has_others-cores before after r i
-          || none_redefined after xs r none i || covered) in
-          or_left (reaches s command r) (list_any (moves_it r) xs)
-          (reached ∙ same ∙ ap (λ b. b || covered) (or_false (one_alters xs r || others)) ∙ is)
+          let flag : entry false 1 (altered_by s command) r ≡ altered r =
+          entry-list_by_index false 1 24 altered r low (omega (arith, high)) in
+          let from : row_from (followed_by s command) r ≡ row_before xs r =
+          row_from-followed (followed_by s command) xs refl r low high in
+          or_left (reaches s command r) (list_any defines xs)
+          (due_reached s command r none (row_before xs r) refl
+          (sym (λ i. flag i || is_covered_from was (from i) now r) ∙ due))
     ]
 
 pub rows_due-resolved : (s : State) (command : Command)
-    → rows_due (altered_by s command) (looks_of (core_of s)) (looks_of (core_of (state_after s command)))
+    → rows_due (altered_by s command) (followed_by s command) (looks_of (core_of s))
+    (looks_of (core_of (state_after s command)))
     ≤ rows_resolved s command
 unfolding rows_due rows_resolved
 rows_due-resolved s command =
-    fewer (is_due (altered_by s command) (looks_of (core_of s)) (looks_of (core_of (state_after s command))))
-    (may_resolve s command) (due_may s command)
+    fewer (is_due (altered_by s command) (followed_by s command) (looks_of (core_of s))
+    (looks_of (core_of (state_after s command)))) (may_resolve s command) (due_may s command)
 
 -- at most all 24 rows
 pub rows_resolved-le : (s : State) (command : Command) → rows_resolved s command ≤ 24
@@ -254,44 +216,43 @@ unfolding rows_resolved
 rows_resolved-le s command =
     omega (arith, count_by-le-length (may_resolve s command) (range_with_len 1 24), length-range_with_len 1 24)
 
-moves_none : (xs : List Stroke) (r : ℕ) → list_any moves_or_defines xs ≡ false → list_any (moves_it r) xs ≡ false
-moves_none [] r none = refl
-moves_none (x ∷ xs) r none =
-    let parts = or_parts (moves_or_defines x) (list_any moves_or_defines xs) none in
-    let own = or_parts (moves_rows x) (defines x) parts.0 in
-    or_from (moves_it r x) (list_any (moves_it r) xs)
-    (or_from (moves x r) (defines x) (still x r own.0) own.1) (moves_none xs r parts.1)
-  where
-    still : (x : Stroke) (r : ℕ) → moves_rows x ≡ false → moves x r ≡ false
-    still (strokes.Shift first last way) r none = absurd (true≢false none)
-    still _ r none = refl
-
--- of a command that moves no rows and defines nothing those in its reach
+-- of a command that defines nothing those in its reach
 pub rows_resolved-in_reach : (s : State) (command : Command)
-    → list_any moves_or_defines (strokes_of s.control command) ≡ false → rows_resolved s command ≡ rows_in_reach s command
+    → list_any defines (strokes_of s.control command) ≡ false → rows_resolved s command ≡ rows_in_reach s command
 unfolding rows_resolved may_resolve
 rows_resolved-in_reach s command none =
     same_count (may_resolve s command) (reaches s command) (λ r low high.
-    ap (λ b. reaches s command r || b) (moves_none (strokes_of s.control command) r none)
-    ∙ or_false (reaches s command r))
+    ap (λ b. reaches s command r || b) none ∙ or_false (reaches s command r))
     ∙ sym (rows_in_reach-counted s command)
+
+-- a row that was freed is altered
+pub freed-altered : (flags : List Bool) (rows : List Followed) (xs : List Stroke) (was : Pens) (before : Edges)
+    (now : Pens) (after : Edges) → flags ≡ list_by_index 1 24 (is_altered xs was before now after)
+    → rows ≡ list_by_index 1 24 (followed xs) → (r : ℕ) → 1 ≤ r → r ≤ 24 → row_from rows r ≡ None
+    → entry false 1 flags r ≡ true
+unfolding is_altered
+freed-altered flags rows xs was before now after es er r low high none =
+    ap (λ (l : List Bool). entry false 1 l r) es
+    ∙ entry-list_by_index false 1 24 (is_altered xs was before now after) r low (omega (arith, high))
+    ∙ ap (λ found. is_altered_from (is_written xs r) (list_any defines xs) was before now after found r)
+    (sym (row_from-followed rows xs er r low high) ∙ none)
 
 -- a cell that is put alters its row
 pub due-put : (p : Place) (cell : Cell) (xs : List Stroke) (before now : Pens) (edges next : Edges)
-    (was looks : List (List Look)) → xs ≡ strokes.Put p cell ∷ [] → OnScreen p.row p.column
-    → 1 ≤ rows_due (list_by_index 1 24 (is_altered xs before edges now next)) was looks
-unfolding one_alters is_altered rows_due
-due-put p cell xs before now edges next was looks e on =
+    (rows : List Followed) (was looks : List (List Look)) → xs ≡ strokes.Put p cell ∷ [] → OnScreen p.row p.column
+    → 1 ≤ rows_due (list_by_index 1 24 (is_altered xs before edges now next)) rows was looks
+unfolding is_altered is_written row_before rows_due
+due-put p cell xs before now edges next rows was looks e on =
     let altered : ℕ → Bool = is_altered xs before edges now next in
-    let f : ℕ → Bool = is_due (list_by_index 1 24 altered) was looks in
+    let f : ℕ → Bool = is_due (list_by_index 1 24 altered) rows was looks in
     let here : (p.row == p.row) ≡ true = grind (arith, nat_tests) in
     let row : get_or (range_with_len 1 24) (p.row - 1) 0 ≡ p.row =
     get_or-range_with_len 1 24 (p.row - 1) 0 (omega (arith, on)) ∙ omega (arith, on) in
-    let touched : one_alters xs p.row ≡ true =
-    ap (λ (l : List Stroke). one_alters l p.row) e ∙ or_left (p.row == p.row) false here in
+    let touched : altered p.row ≡ true =
+    ap (λ (l : List Stroke). is_altered l before edges now next p.row) e
+    ∙ or_left _ _ (or_left _ _ (or_left (p.row == p.row) false here)) in
     let flag : entry false 1 (list_by_index 1 24 altered) p.row ≡ true =
-    entry-list_by_index false 1 24 altered p.row on.from_top (omega (arith, on))
-    ∙ or_left (one_alters xs p.row) _ touched in
+    entry-list_by_index false 1 24 altered p.row on.from_top (omega (arith, on)) ∙ touched in
     let yes : f (get_or (range_with_len 1 24) (p.row - 1) 0) ≡ true = ap f row ∙ or_left _ _ flag in
     let one : cond {A = ℕ} (f (get_or (range_with_len 1 24) (p.row - 1) 0)) 1 0
     ≡ 1 = ap (λ b. cond b 1 0) yes in
@@ -331,11 +292,11 @@ ticks-yes f row before steps next low high set e tick =
     omega (arith, e, tick, one, more)
 
 -- all rows
-pub ticks-all : (flags : List Bool) (before steps : ℕ) (was now : List (List Look)) (row : ℕ) → 24 ≤ row - 1
-    → steps ≡ before + due_above (is_due flags was now) row → steps ≡ before + rows_due flags was now
+pub ticks-all : (flags : List Bool) (rows : List Followed) (before steps : ℕ) (was now : List (List Look)) (row : ℕ) → 24 ≤ row - 1
+    → steps ≡ before + due_above (is_due flags rows was now) row → steps ≡ before + rows_due flags rows was now
 unfolding rows_due
-ticks-all flags before steps was now row past e =
-    let f : ℕ → Bool = is_due flags was now in
+ticks-all flags rows before steps was now row past e =
+    let f : ℕ → Bool = is_due flags rows was now in
     e ∙ ap (λ (l : List Bool). before + count_by (λ flag. flag) l)
     (take_all (row - 1) (list_by_index 1 24 f) (omega (arith, length-list_by_index 1 24 f)))
     ∙ ap (λ n. before + n) (count_by-list_by_index f)

@@ -40,14 +40,14 @@ look_seen-at g r c is on =
     column_entry-at blank_look (looks_in g r) c on.from_left
     ∙ ap (λ (l : List Look). get_or l (c - 1) blank_look) (looks_in-at g r is on.from_top on.to_bottom)
 
--- two rows with the same look at each place
-pub looks_in-same : (g h : List (List Look)) (r : ℕ) → IsTable g → IsTable h → 1 ≤ r → r ≤ 24
-    → ((c : ℕ) → OnScreen r c → value_at blank_look g r c ≡ value_at blank_look h r c) → looks_in g r ≡ looks_in h r
-looks_in-same g h r is ih low high same =
-    let left : length (get_or g (r - 1) []) ≡ 40 = is.columns (r - 1) [] (omega arith) in
+-- two rows with the same look in each column
+pub looks_in-alike : (g h : List (List Look)) (q r : ℕ) → IsTable g → IsTable h → 1 ≤ q → q ≤ 24 → 1 ≤ r → r ≤ 24
+    → ((c : ℕ) → OnScreen r c → value_at blank_look g q c ≡ value_at blank_look h r c) → looks_in g q ≡ looks_in h r
+looks_in-alike g h q r is ih from to low high same =
+    let left : length (get_or g (q - 1) []) ≡ 40 = is.columns (q - 1) [] (omega arith) in
     let right : length (get_or h (r - 1) []) ≡ 40 = ih.columns (r - 1) [] (omega arith) in
-    looks_in-at g r is low high
-    ∙ ext_get_or blank_look (get_or g (r - 1) []) (get_or h (r - 1) []) (left ∙ sym right) (λ i below.
+    looks_in-at g q is from to
+    ∙ ext_get_or blank_look (get_or g (q - 1) []) (get_or h (r - 1) []) (left ∙ sym right) (λ i below.
     let back : i + 1 - 1 ≡ i = omega arith in
     let on : OnScreen r (i + 1) = record {
       from_top = low;
@@ -55,9 +55,14 @@ looks_in-same g h r is ih low high same =
       from_left = omega arith;
       to_right = omega (arith, left);
     } in
-    ap (λ k. get_or (get_or g (r - 1) []) k blank_look) (sym back) ∙ same (i + 1) on
+    ap (λ k. get_or (get_or g (q - 1) []) k blank_look) (sym back) ∙ same (i + 1) on
     ∙ ap (λ k. get_or (get_or h (r - 1) []) k blank_look) back)
     ∙ sym (looks_in-at h r ih low high)
+
+-- and the same row of two grids
+pub looks_in-same : (g h : List (List Look)) (r : ℕ) → IsTable g → IsTable h → 1 ≤ r → r ≤ 24
+    → ((c : ℕ) → OnScreen r c → value_at blank_look g r c ≡ value_at blank_look h r c) → looks_in g r ≡ looks_in h r
+looks_in-same g h r is ih low high same = looks_in-alike g h r r is ih low high low high same
 
 pub looks_in-table : (f : ℕ → ℕ → Look) (r : ℕ) → 1 ≤ r → r ≤ 24 → looks_in (table f) r ≡ row_of (f r)
 looks_in-table f r low high =
@@ -65,6 +70,16 @@ looks_in-table f r low high =
     ∙ ap (λ (t : List (List Look)). get_or t (r - 1) []) (table-list_by_index f)
     ∙ sym (entry_from [] 1 (list_by_index 1 24 (λ q. row_of (f q))) r low)
     ∙ entry-list_by_index [] 1 24 (λ q. row_of (f q)) r low (omega arith)
+
+-- two grids with the same rows
+pub tables-same : (g h : List (List Look)) → IsTable g → IsTable h
+    → ((r : ℕ) → 1 ≤ r → r ≤ 24 → looks_in g r ≡ looks_in h r) → g ≡ h
+tables-same g h is ih same =
+    ext_get_or [] g h (is.rows ∙ sym ih.rows) (λ i below.
+    let back : i + 1 - 1 ≡ i = omega arith in
+    let high : i + 1 ≤ 24 = omega (arith, is.rows) in
+    ap (λ k. get_or g k []) (sym back) ∙ sym (looks_in-at g (i + 1) is (omega arith) high)
+    ∙ same (i + 1) (omega arith) high ∙ looks_in-at h (i + 1) ih (omega arith) high ∙ ap (λ k. get_or h k []) back)
 
 -- a row replaced
 pub looks_in-set : (g : List (List Look)) (r : ℕ) (looks : List Look) → IsTable g → 1 ≤ r → r ≤ 24
@@ -109,6 +124,11 @@ is_other_above-same was fresh e =
     is_other_covering-same (column_entry blank_look was c) (column_entry blank_look fresh c)
     ((look_decides (column_entry blank_look was c) (column_entry blank_look fresh c)).1
     (ap (λ (l : List Look). column_entry blank_look l c) e)))
+
+pub covered_otherwise-above : (g h : List (List Look)) (q r : ℕ)
+    → is_covered_otherwise g q h r ≡ is_other_above (looks_in g (q - 1)) (looks_in h (r - 1))
+unfolding is_covered_otherwise is_other_above
+covered_otherwise-above g h q r = λ i. is_other_above (looks_in g (q - 1)) (looks_in h (r - 1))
 
 -- what covers the row below
 pub covered_otherwise-below : (g h : List (List Look)) (r : ℕ)

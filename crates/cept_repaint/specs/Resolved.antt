@@ -1,11 +1,10 @@
--- Rows that a command may resolve (this project's own): those that it reaches, those that it moves, and all where it
--- defines a colour or a pattern anew.
+-- Rows that a command may resolve (this project's own): those that it reaches, and all where it defines a colour or a
+-- pattern anew.
 use Rattle.std.specs.Prelude.{ℕ, Bool, true, false, ◌||◌}
 use Rattle.std.specs.List.{count_by, list_any, range_with_len}
 use Rattle.cept_codes.specs.declared.command.Command.{Command}
 use Rattle.cept_codes.specs.declared.stroke.Stroke.{Stroke}
 use Rattle.cept_codes.specs.declared.stroke.Stroke.TheVariants as strokes
-use Rattle.cept_profile.specs.Cells.{moves, moves_rows}
 use Rattle.cept_profile.specs.Reach.{reaches}
 use Rattle.cept_profile.specs.State.{State}
 use Rattle.cept_profile.specs.Strokes.{strokes_of}
@@ -27,14 +26,9 @@ defines (strokes.ScreenAttr attr) = false
 defines strokes.ScreenClear = false
 defines (strokes.Format rows) = false
 
--- the stroke moves rows or defines something
-abbrev pub moves_or_defines : Stroke → Bool
-moves_or_defines stroke = moves_rows stroke || defines stroke
-
--- in this state the command may resolve row r: it reaches it, one of its strokes moves it, or one defines something
+-- in this state the command may resolve row r: it reaches it, or one of its strokes defines something
 unfoldable pub may_resolve : State → Command → ℕ → Bool
-may_resolve s command r =
-    reaches s command r || list_any (λ stroke. moves stroke r || defines stroke) (strokes_of s.control command)
+may_resolve s command r = reaches s command r || list_any defines (strokes_of s.control command)
 
 -- how many rows of the screen it may resolve
 unfoldable pub rows_resolved : State → Command → ℕ

@@ -122,6 +122,17 @@ impl KeptRows {
         self.rows[usize::from(row) - 1].copy_from(looks);
     }
 
+    /// Takes over all looks.
+    pub(crate) fn copy_from(&mut self, from: &KeptRows)
+        ensures { self.new ≡ from.now }
+    {
+        self.whole_by_type();
+        from.whole_by_type();
+        for row in 1..25u8 {
+            self.copy_row(row, from.row(row));
+        }
+    }
+
     /// Takes over the look at a place from the looks of its row.
     pub(crate) fn copy_at(&mut self, place: Pos, from: &RowLooks)
         ensures { self.new

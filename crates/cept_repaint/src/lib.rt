@@ -3,6 +3,7 @@
 #![tactic(auto)]
 
 mod altered_rows;
+mod followed_rows;
 mod glass;
 mod grid_glass;
 mod kept_rows;

@@ -12,13 +12,17 @@ ghost use Rattle.std.specs.Prelude.{
   ◌∷◌,
   length,
   Some,
+  None,
   IfSome,
+  ◌≢◌,
+  ◌==◌,
+  if◌then◌else◌,
 };
 ghost use Rattle.std.specs.List.{AllByRecursion, list_any, range_with_len};
 ghost use Rattle.cept_codes.specs.declared.cell.Cell.{Cell};
 ghost use Rattle.cept_codes.specs.Look.{blank_look};
 ghost use Rattle.cept_codes.specs.Place.{OnScreen};
-ghost use Rattle.cept_codes.specs.Stroke.{IsValidStroke};
+ghost use Rattle.cept_codes.specs.Stroke.{IsRow, IsValidStroke};
 ghost use Rattle.cept_codes.specs.Table.{entry, list_by_index, value_at};
 ghost use Rattle.cept_profile.specs.Cells.{is_at};
 ghost use Rattle.cept_profile.specs.Changes.{differences, grid_with_paint, look_at};
@@ -29,7 +33,8 @@ ghost use Rattle.cept_profile.specs.RowsFromAbove.{looks_in};
 ghost use Rattle.cept_profile.specs.State.{Core, page_after};
 ghost use Rattle.cept_profile.specs.Tiling.{column_entry};
 ghost use Rattle.cept_profile.specs.Valid.{IsValidPage};
-ghost use Rattle.cept_repaint.specs.Due.{is_altered, is_due, pens_of, rows_due, OtherRowsStay};
+ghost use Rattle.cept_repaint.specs.Due.{came_from, followed, is_altered, is_due, pens_of, row_from, rows_due};
+ghost use Rattle.cept_repaint.specs.Due.{OtherRowsStay};
 ghost use Rattle.cept_repaint.specs.Kept.{AreEdges, AreLooksOn, core_on, is_other_above};
 ghost use Rattle.cept_repaint.specs.Kept.{look_alone, looks_differ};
 ghost use Rattle.cept_repaint.specs.Kept.{row_beneath};
@@ -38,7 +43,8 @@ ghost use Rattle.cept_repaint.specs.Kept.{SetsUnshown};
 ghost use Rattle.cept_repaint.specs.MarkedRows.{StandsAlone};
 ghost use Rattle.cept_repaint.specs.Marks.{no_marks};
 
-use crate::altered_rows::{only_put, rows_altered, rows_of_strokes};
+use crate::altered_rows::{only_put, row_alone, rows_altered};
+use crate::followed_rows::{Followed, follow_rows, one_moved};
 use crate::kept_rows::KeptRows;
 use crate::marks::Marks;
 use crate::page::Page;
@@ -49,14 +55,15 @@ use cept_rows::RowLooks;
 use std::sync::ledger::Ledger;
 
 /// Draws the strokes on the page, resolves the rows that they alter or cover otherwise and no others,
-/// and keeps their looks. Marks the places at which these differ from those before, and no others.
-/// The page has these edges before and those after.
+/// takes over the looks of those that moved, and keeps all looks. Marks the places at which these
+/// differ from those before, and no others. The page has these edges before and those after.
 pub(crate) fn redraw<L: Ledger>(
     page: &mut Page,
     strokes: &[Stroke],
     before: &Edges,
     after: &Edges,
     kept: &mut KeptRows,
+    stood: &mut KeptRows,
     fresh: &mut RowLooks,
     marks: &mut Marks,
     steps: &mut Steps<L>,
@@ -71,14 +78,16 @@ pub(crate) fn redraw<L: Ledger>(
     ensures kept { AreLooksOn kept.new page.new after.now }
     ensures marks { marks.new ≡ differences kept.old kept.new }
     ensures cost { steps.new ≤ steps.old + rows_due (list_by_index 1 24
-        (is_altered strokes.now (pens_of page.old) before.now (pens_of page.new) after.now)) kept.old
-        kept.new }
+        (is_altered strokes.now (pens_of page.old) before.now (pens_of page.new) after.now))
+        (list_by_index 1 24 (followed strokes.now)) kept.old kept.new }
     ensures unshown { before.now ≡ after.now → SetsUnshown page.old strokes.now kept.old
         → steps.new ≡ steps.old }
 {
     marks.clear();
     if !before.is_same(after) {
-        redraw_rows(page, strokes, before, after, kept, fresh, marks, steps);
+        redraw_rows(
+            page, strokes, before, after, kept, stood, fresh, marks, steps,
+        );
         return;
     }
     if strokes.is_empty() {
@@ -89,15 +98,20 @@ pub(crate) fn redraw<L: Ledger>(
             if page.put(put.place, put.cell) {
                 refresh_place(page, put.place, kept, marks, steps);
             } else {
-                let altered = rows_of_strokes(strokes);
-                refresh_rows(page, &altered, after, kept, fresh, marks, steps);
+                let rows = follow_rows(strokes);
+                let altered = row_alone(put.place.row());
+                refresh_rows(
+                    page, &rows, &altered, after, stood, kept, fresh, marks, steps,
+                );
             }
         }
         None => {
             if sets_unshown(page, strokes, kept) {
                 page.draw_all(strokes);
             } else {
-                redraw_rows(page, strokes, before, after, kept, fresh, marks, steps);
+                redraw_rows(
+                    page, strokes, before, after, kept, stood, fresh, marks, steps,
+                );
             }
         }
     }
@@ -110,6 +124,7 @@ fn redraw_rows<L: Ledger>(
     before: &Edges,
     after: &Edges,
     kept: &mut KeptRows,
+    stood: &mut KeptRows,
     fresh: &mut RowLooks,
     marks: &mut Marks,
     steps: &mut Steps<L>,
@@ -125,13 +140,19 @@ fn redraw_rows<L: Ledger>(
     ensures kept { AreLooksOn kept.new page.new after.now }
     ensures marks { marks.new ≡ differences kept.old kept.new }
     ensures cost { steps.new ≡ steps.old + rows_due (list_by_index 1 24
-        (is_altered strokes.now (pens_of page.old) before.now (pens_of page.new) after.now)) kept.old
-        kept.new }
+        (is_altered strokes.now (pens_of page.old) before.now (pens_of page.new) after.now))
+        (list_by_index 1 24 (followed strokes.now)) kept.old kept.new }
 {
     let was = page.pens();
     page.draw_all(strokes);
-    let altered = rows_altered(strokes, &was, before, page, after);
-    refresh_rows(page, &altered, after, kept, fresh, marks, steps);
+    let rows = follow_rows(strokes);
+    let altered = rows_altered(strokes, &rows, &was, before, page, after);
+    if one_moved(&rows) {
+        stood.copy_from(kept);
+    }
+    refresh_rows(
+        page, &rows, &altered, after, stood, kept, fresh, marks, steps,
+    );
 }
 
 /// Whether the only stroke sets a colour entry whose paint no look shows: then it changes no look.
@@ -201,35 +222,91 @@ fn resolve_alone<L: Ledger>(
     )
 }
 
-/// Resolves the flagged rows and those that are covered otherwise than before, from the top, where
-/// all others have the looks that are kept.
+/// Resolves the flagged rows and those that are covered otherwise than before, from the top, and
+/// takes over the looks of those that moved as they are, where each looks as the row did of which it
+/// came. Where a row moved, the looks are those that stood before.
 fn refresh_rows<L: Ledger>(
     page: &Page,
+    rows: &[Followed; 24],
     altered: &[bool; 24],
     edges: &Edges,
+    stood: &KeptRows,
     kept: &mut KeptRows,
     fresh: &mut RowLooks,
     marks: &mut Marks,
     steps: &mut Steps<L>,
 )
+    requires rows { length rows.now ≡ 24 }
     requires flags { length altered.now ≡ 24 }
     requires none { marks.old ≡ no_marks }
     requires valid { IsValidPage page.now }
     requires edges { AreEdges edges.now }
+    requires came { (r : ℕ) → 1 ≤ r → r ≤ 24 → IfSome (row_from rows.now r) IsRow }
+    requires freed { (r : ℕ) → 1 ≤ r → r ≤ 24 → row_from rows.now r ≡ None
+        → entry false 1 altered.now r ≡ true }
+    requires stood { (r q : ℕ) → 1 ≤ r → r ≤ 24 → row_from rows.now r ≡ Some q → q ≢ r
+        → stood.now ≡ kept.old }
     requires others { (k : Core) → edges_of_core k ≡ edges.now
-        → OtherRowsStay altered.now kept.old (core_on k page.now) }
+        → OtherRowsStay altered.now rows.now kept.old (core_on k page.now) }
     ensures kept { AreLooksOn kept.new page.now edges.now }
     ensures marks { marks.new ≡ differences kept.old kept.new }
-    ensures cost { steps.new ≡ steps.old + rows_due altered.now kept.old kept.new }
+    ensures cost { steps.new ≡ steps.old + rows_due altered.now rows.now kept.old kept.new }
 {
     kept.whole_by_type();
     let mut covered = false;
     for row in 1..25u8 {
-        if !(altered[usize::from(row) - 1] | covered) {
-            continue;
+        let at = usize::from(row) - 1;
+        let from = came_from(rows[at].from, row);
+        if altered[at] | is_covered(from, row, covered, stood, kept) {
+            covered = refresh_row(page, row, edges.is_last(row), kept, fresh, marks, steps);
+        } else if from != row {
+            covered = take_row(row, stood.row(from), kept, marks);
         }
-        covered = refresh_row(page, row, edges.is_last(row), kept, fresh, marks, steps);
     }
+}
+
+/// The row of which one came, or itself where it was freed.
+fn came_from(from: Option<u8>, row: u8) -> u8
+    requires from_top { 1 ≤ row }
+    requires to_bottom { row ≤ 24 }
+    requires came { IfSome from IsRow }
+    ensures row { result ≡ came_from from row }
+    ensures on_screen { IsRow result }
+{
+    match from {
+        Some(from) => from,
+        None => row,
+    }
+}
+
+/// Whether a row is covered otherwise than the row before was of which it came: as is known, where it
+/// stayed, else by the looks that stood above that one and are above it.
+fn is_covered(from: u8, row: u8, covered: bool, stood: &KeptRows, kept: &KeptRows) -> bool
+    requires came { IsRow from }
+    requires from_top { 1 ≤ row }
+    requires to_bottom { row ≤ 24 }
+    ensures { result ≡ (if from == row then covered
+        else is_other_above (looks_in stood.now (from - 1)) (looks_in kept.now (row - 1))) }
+{
+    if from == row {
+        covered
+    } else {
+        covers_otherwise(stood.above(from), kept.above(row))
+    }
+}
+
+/// Whether one of the looks that differ covers the place below it.
+fn covers_otherwise(was: &RowLooks, now: &RowLooks) -> bool
+    ensures { result ≡ is_other_above was.now now.now }
+{
+    let mut from = 1;
+    while let Some(column) = was.next_difference(now, from) {
+        if was.covers_below(column) | now.covers_below(column) {
+            return true;
+        }
+        from = column + 1;
+    }
+    false
 }
 
 /// Resolves a row beneath the looks kept of the row above, keeps its looks, and marks the places at
@@ -251,10 +328,21 @@ pub(crate) fn refresh_row<L: Ledger>(
     ensures covering { result ≡ is_other_above (looks_in kept.old row) (looks_in kept.new row) }
     ensures tick { steps.new ≡ steps.old + 1 }
 {
-    kept.whole_by_type();
     page.resolve_row(row, kept.above(row), last, fresh, steps);
-    let covered = mark_differences(row, kept.row(row), fresh, marks);
-    kept.copy_row(row, fresh);
+    take_row(row, fresh, kept, marks)
+}
+
+/// Keeps these looks of a row, and marks the places at which they differ from those before. Answers
+/// whether what covers the row below differs.
+fn take_row(row: u8, looks: &RowLooks, kept: &mut KeptRows, marks: &mut Marks) -> bool
+    requires from_top { 1 ≤ row }
+    requires to_bottom { row ≤ 24 }
+    ensures refreshed { IsRefreshedRow looks.now row kept.old kept.new marks.old marks.new }
+    ensures covering { result ≡ is_other_above (looks_in kept.old row) (looks_in kept.new row) }
+{
+    kept.whole_by_type();
+    let covered = mark_differences(row, kept.row(row), looks, marks);
+    kept.copy_row(row, looks);
     covered
 }
 

@@ -20,7 +20,7 @@ ghost use Rattle.cept_profile.specs.Valid.{IsValidState};
 ghost use Rattle.cept_repaint.specs.Applied.{IsApplied, IsRepainted};
 ghost use Rattle.cept_repaint.specs.Kept.{cell_at};
 ghost use Rattle.cept_repaint.specs.Marks.{no_marks};
-ghost use Rattle.cept_repaint.specs.Resolved.{moves_or_defines, rows_resolved};
+ghost use Rattle.cept_repaint.specs.Resolved.{defines, rows_resolved};
 ghost use Rattle.cept_repaint.specs.Unshown.{IsUnshown};
 
 use crate::glass::Glass;
@@ -41,12 +41,14 @@ use std::marker::Model;
 use std::sync::ledger::Ledger;
 
 /// A decoder's screen: its page, its control, and the looks of all rows. Beside these there is room
-/// for a row while it is resolved, and for the strokes of a command.
+/// for the looks that stood before rows moved, for a row while it is resolved, and for the strokes of
+/// a command.
 #[derive(Drop)]
 pub struct Screen {
     page: Page,
     control: Control,
     rows: KeptRows,
+    stood: KeptRows,
     fresh: RowLooks,
     strokes: ArrayVec<Stroke, 128>,
 }
@@ -69,10 +71,12 @@ impl Screen {
     {
         let page = Page::new(alloc)?;
         let rows = KeptRows::new(alloc)?;
+        let stood = KeptRows::new(alloc)?;
         Ok(Screen {
             page,
             control: Control::new(),
             rows,
+            stood,
             fresh: RowLooks::flat(),
             strokes: ArrayVec::new(),
         })
@@ -164,7 +168,7 @@ impl Screen {
         ensures marks { marks.new
             ≡ differences (looks_of (core_of self.old)) (looks_of (core_of self.new)) }
         ensures cost { steps.new ≤ steps.old + rows_resolved self.old command.now }
-        ensures in_reach { list_any moves_or_defines (strokes_of self.old.control command.now) ≡ false
+        ensures in_reach { list_any defines (strokes_of self.old.control command.now) ≡ false
             → steps.new ≤ steps.old + rows_in_reach self.old command.now }
         ensures at_most_24 { steps.new ≤ steps.old + 24 }
         ensures unshown { (i : ℕ) (colour : Rgb) → command.now ≡ Entry i colour
@@ -181,6 +185,7 @@ impl Screen {
             &before,
             &after,
             &mut self.rows,
+            &mut self.stood,
             &mut self.fresh,
             marks,
             steps,

@@ -3,39 +3,66 @@ use Rattle.std.proofs.lemmas.Bool.{eqb-true}
 use Rattle.cept_profile.specs.Look.{looks_of}
 use Rattle.cept_profile.specs.State.{Page}
 use Rattle.cept_profile.specs.Valid.{IsValidPage}
-use Rattle.cept_repaint.specs.Due.{pens_of, rows_due}
+use Rattle.cept_codes.specs.Table.{list_by_index}
+use Rattle.cept_repaint.specs.declared.followed_rows.Followed.{Followed}
+use Rattle.cept_repaint.specs.Due.{followed, is_altered, pens_of, rows_due}
 use Rattle.cept_repaint.specs.Kept.{core_on}
 use Rattle.cept_repaint.proofs.AloneRows.{OthersStay-put}
 use Rattle.cept_repaint.proofs.OnePlace.{IsPutAlone-drawn, page_after-none, page_after-put_alone}
 use Rattle.cept_repaint.proofs.Refreshed.{differences_none}
 use Rattle.cept_repaint.proofs.AlteredRows.{altered-put}
-use Rattle.cept_repaint.proofs.RowsDue.{due-put}
+use Rattle.cept_repaint.proofs.FollowedRows.{came-followed, still-put}
+use Rattle.cept_repaint.proofs.RowsDue.{due-put, freed-altered}
 use Rattle.cept_repaint.proofs.UnshownPaints.{looks_of-unshown}
 use Rattle.cept_repaint.proofs.WalkedRows.{OtherRowsStay-drawn}
 use Rattle.cept_repaint.proofs.redraw.redraw.Goals as goal
+
+pub refresh_rows-requires-clause-came : goal.refresh_rows-requires-clause-came
+refresh_rows-requires-clause-came g c =
+    came-followed c.follow_rows-rows.result c.args.strokes.now c.follow_rows-rows.ensures c.requires.strokes
+
+pub refresh_rows-requires-clause-freed : goal.refresh_rows-requires-clause-freed
+refresh_rows-requires-clause-freed g c =
+    let drawn = page_after-put_alone c.args.page.now c.put.new.self c.args.strokes.now c.in-Some.put.place
+    c.in-Some.put.cell.now c.in-Some.ensures c.put.ensures.drawn in
+    freed-altered c.row_alone-altered.result c.follow_rows-rows.result c.args.strokes.now (pens_of c.args.page.now)
+    c.args.before.now (pens_of c.put.new.self) c.args.after.now
+    (altered-put c.args.page.now c.put.new.self c.args.strokes.now c.in-Some.put.place c.in-Some.put.cell.now
+    c.args.before.now c.args.after.now c.row_alone-altered.result c.row.result c.in-Some.ensures drawn
+    (c.is_same.ensures.same c.if-not-is_same.false) c.row_alone-altered.ensures c.row.ensures.row)
+    c.follow_rows-rows.ensures
+
+pub refresh_rows-requires-clause-stood : goal.refresh_rows-requires-clause-stood
+refresh_rows-requires-clause-stood g c r q low high came away =
+    absurd (away (still-put c.follow_rows-rows.result c.args.strokes.now c.in-Some.put.place c.in-Some.put.cell.now
+    c.follow_rows-rows.ensures c.in-Some.ensures r q low high came))
 
 pub refresh_rows-requires-clause-others : goal.refresh_rows-requires-clause-others
 refresh_rows-requires-clause-others g c =
     let drawn = page_after-put_alone c.args.page.now c.put.new.self c.args.strokes.now c.in-Some.put.place
     c.in-Some.put.cell.now c.in-Some.ensures c.put.ensures.drawn in
     OtherRowsStay-drawn c.args.page.now c.put.new.self c.args.strokes.now c.args.before.now c.args.after.now
-    c.args.kept.now c.rows_of_strokes-altered.result c.requires.was_valid c.requires.strokes c.requires.from
-    c.requires.kept drawn
-    (c.rows_of_strokes-altered.ensures
-    ∙ altered-put c.args.page.now c.put.new.self c.args.strokes.now c.in-Some.put.place c.in-Some.put.cell.now
-    c.args.before.now c.args.after.now c.in-Some.ensures drawn (c.is_same.ensures.same c.if-not-is_same.false))
+    c.args.kept.now c.row_alone-altered.result c.follow_rows-rows.result c.requires.was_valid c.requires.strokes
+    c.requires.from c.requires.kept drawn
+    (altered-put c.args.page.now c.put.new.self c.args.strokes.now c.in-Some.put.place c.in-Some.put.cell.now
+    c.args.before.now c.args.after.now c.row_alone-altered.result c.row.result c.in-Some.ensures drawn
+    (c.is_same.ensures.same c.if-not-is_same.false) c.row_alone-altered.ensures c.row.ensures.row)
+    c.follow_rows-rows.ensures
 
 pub returns-else-put-clause-cost : goal.returns-else-put-clause-cost
 returns-else-put-clause-cost g c =
     let drawn = page_after-put_alone c.args.page.now c.put.new.self c.args.strokes.now c.in-Some.put.place
     c.in-Some.put.cell.now c.in-Some.ensures c.put.ensures.drawn in
-    let flags = c.rows_of_strokes-altered.ensures
-    ∙ altered-put c.args.page.now c.put.new.self c.args.strokes.now c.in-Some.put.place c.in-Some.put.cell.now
-    c.args.before.now c.args.after.now c.in-Some.ensures drawn (c.is_same.ensures.same c.if-not-is_same.false) in
+    let flags = altered-put c.args.page.now c.put.new.self c.args.strokes.now c.in-Some.put.place c.in-Some.put.cell.now
+    c.args.before.now c.args.after.now c.row_alone-altered.result c.row.result c.in-Some.ensures drawn
+    (c.is_same.ensures.same c.if-not-is_same.false) c.row_alone-altered.ensures c.row.ensures.row in
     omega (
       arith,
       c.refresh_rows.ensures.cost,
-      ap (λ (l : List Bool). rows_due l c.args.kept.now c.refresh_rows.new.kept) flags,
+      ap (λ (l : List Bool). rows_due l c.follow_rows-rows.result c.args.kept.now c.refresh_rows.new.kept) flags,
+      ap (λ (l : List Followed). rows_due (list_by_index 1 24 (is_altered c.args.strokes.now (pens_of c.args.page.now)
+          c.args.before.now (pens_of c.put.new.self) c.args.after.now)) l c.args.kept.now c.refresh_rows.new.kept)
+          c.follow_rows-rows.ensures,
     )
 
 pub refresh_rows-requires-clause-valid : goal.refresh_rows-requires-clause-valid
@@ -87,7 +114,8 @@ returns-then-put-clause-cost g c =
       arith,
       c.refresh_place.ensures.cost,
       due-put c.in-Some.put.place c.in-Some.put.cell.now c.args.strokes.now (pens_of c.args.page.now)
-          (pens_of c.put.new.self) c.args.before.now c.args.after.now c.args.kept.now c.refresh_place.new.kept
+          (pens_of c.put.new.self) c.args.before.now c.args.after.now (list_by_index 1 24 (followed c.args.strokes.now)) c.args.kept.now
+          c.refresh_place.new.kept
           c.in-Some.ensures c.refresh_place.ensures.on_screen,
     )
 

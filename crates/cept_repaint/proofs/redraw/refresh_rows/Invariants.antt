@@ -8,5 +8,5 @@ use Rattle.cept_repaint.proofs.redraw.refresh_rows.Given as goal
 abbrev pub invariant-loop-row : goal.invariant-loop-row
 invariant-loop-row g l =
     (k : Core) → edges_of_core k ≡ l.edges
-    → WalkedTo l.altered (core_on k l.page) l.fn.kept l.kept l.fn.marks l.marks l.covered
+    → WalkedTo l.altered l.rows (core_on k l.page) l.fn.kept l.kept l.fn.marks l.marks l.covered
     l.fn.steps l.steps l.row

@@ -9,8 +9,8 @@ use Rattle.cept_repaint.proofs.screen.Screen.new.Goals as goal
 
 pub invariant_of-result : goal.invariant_of-result
 invariant_of-result c =
-    let at_start : (let s : State = record { page = c.in_ok-page.page; control = c.new-3.result } in s)
-    ≡ state [] = same_state _ _ _ _ c.in_ok-page.ensures c.new-3.ensures.start in
+    let at_start : (let s : State = record { page = c.in_ok-page.page; control = c.new-4.result } in s)
+    ≡ state [] = same_state _ _ _ _ c.in_ok-page.ensures c.new-4.ensures.start in
     record {
       valid = subst (λ (s : State). IsValidState s) (sym at_start) IsValidState-start;
       looks = c.in_ok-rows.ensures ∙ sym grid-none

@@ -1,0 +1,8 @@
+use Rattle.std.proofs.Common.{◌≡◌, ◌<◌, ◌≤◌, ℕ}
+use Rattle.cept_codes.specs.Table.{IsTable}
+use Rattle.cept_profile.specs.RowsFromAbove.{looks_in}
+use Rattle.cept_repaint.proofs.kept_rows.KeptRows.copy_from.Given as goal
+
+abbrev pub invariant-loop-row : goal.invariant-loop-row
+invariant-loop-row l =
+    IsTable l.self × ((r : ℕ) → 1 ≤ r → r ≤ 24 → r < l.row → looks_in l.self r ≡ looks_in l.from r)

@@ -1,0 +1,188 @@
+ghost use Rattle.std.specs.Prelude.{◌≡◌, ◌≤◌, ◌<◌, ◌+◌, ◌-◌, ◌==◌, ◌&&◌, ◌||◌, ℕ, true, false, length, Some, [], ◌∷◌};
+ghost use Rattle.std.specs.List.{AllByRecursion, list_any};
+ghost use Rattle.cept_codes.specs.Command.{IsArea};
+ghost use Rattle.cept_codes.specs.Stroke.{IsValidStroke};
+ghost use Rattle.cept_codes.specs.Table.{entry, list_by_index};
+ghost use Rattle.cept_profile.specs.Cells.{shifted};
+ghost use Rattle.cept_repaint.specs.Due.{followed, followed_after, freed, row_from, written_if};
+ghost use Rattle.cept_repaint.specs.Resolved.{defines};
+
+use cept_codes::{Stroke, Up};
+
+/// A row after strokes: the row before them of which it came, `None` where it was freed, and
+/// whether one of them writes in it.
+#[derive(Clone, Copy)]
+pub(crate) struct Followed {
+    pub(crate) from: Option<u8>,
+    pub(crate) written: bool,
+}
+
+/// A row that was freed.
+const FREED: Followed = Followed {
+    from: None,
+    written: false,
+};
+
+/// Each row from the top, followed back through the strokes.
+pub(crate) fn follow_rows(strokes: &[Stroke]) -> [Followed; 24]
+    requires { AllByRecursion IsValidStroke strokes.now }
+    ensures { result ≡ list_by_index 1 24 (followed strokes.now) }
+{
+    let mut rows = rows_at_rest();
+    for stroke in strokes {
+        follow(stroke, &mut rows);
+    }
+    rows
+}
+
+/// Each row from the top, where no stroke was made.
+fn rows_at_rest() -> [Followed; 24]
+    ensures { result ≡ list_by_index 1 24 (followed []) }
+{
+    let mut rows = [FREED; 24];
+    for i in 0..24u8 {
+        rows[usize::from(i)] = Followed {
+            from: Some(i + 1),
+            written: false,
+        };
+    }
+    rows
+}
+
+/// Follows the rows through one stroke more.
+fn follow(stroke: &Stroke, rows: &mut [Followed; 24])
+    requires valid { IsValidStroke stroke.now }
+    requires rows { length rows.old ≡ 24 }
+    ensures rows { length rows.new ≡ 24 }
+    ensures followed { (r : ℕ) → 1 ≤ r → r ≤ 24
+        → entry freed 1 rows.new r ≡ followed_after stroke.now (entry freed 1 rows.old) r }
+{
+    match stroke {
+        Stroke::Put(place, _) => write_row(place.row(), rows),
+        Stroke::Erase(row, _) => write_row(*row, rows),
+        Stroke::Wipe => write_rows(rows),
+        Stroke::Shift(first, last, way) => *rows = shifted_rows(*first, *last, *way, rows),
+        // These write in no row and move none.
+        Stroke::RowAttr(_, _)
+        | Stroke::ScreenAttr(_)
+        | Stroke::ScreenClear
+        | Stroke::Colour(_, _)
+        | Stroke::Dclut(_, _)
+        | Stroke::ColourDefaults
+        | Stroke::DrcsClear
+        | Stroke::Drcs(_, _)
+        | Stroke::Format(_) => {}
+    }
+}
+
+/// A stroke writes in a row.
+fn write_row(row: u8, rows: &mut [Followed; 24])
+    requires from_top { 1 ≤ row }
+    requires to_bottom { row ≤ 24 }
+    requires rows { length rows.old ≡ 24 }
+    ensures rows { length rows.new ≡ 24 }
+    ensures written { (r : ℕ) → 1 ≤ r → r ≤ 24
+        → entry freed 1 rows.new r ≡ written_if (row == r) (entry freed 1 rows.old r) }
+{
+    rows[usize::from(row) - 1].written = true;
+}
+
+/// A stroke writes in all rows.
+fn write_rows(rows: &mut [Followed; 24])
+    requires rows { length rows.old ≡ 24 }
+    ensures rows { length rows.new ≡ 24 }
+    ensures written { (r : ℕ) → 1 ≤ r → r ≤ 24
+        → entry freed 1 rows.new r ≡ written_if true (entry freed 1 rows.old r) }
+{
+    for i in 0..24usize {
+        rows[i].written = true;
+    }
+}
+
+/// The rows after those of an area went one up or down, with one that was freed.
+fn shifted_rows(first: u8, last: u8, way: Up, rows: &[Followed; 24]) -> [Followed; 24]
+    requires area { IsArea first last }
+    requires rows { length rows.now ≡ 24 }
+    ensures { result ≡ list_by_index 1 24 (shifted way first last freed (entry freed 1 rows.now)) }
+{
+    let mut moved = [FREED; 24];
+    for i in 0..24u8 {
+        moved[usize::from(i)] = shifted_row(first, last, way, rows, i + 1);
+    }
+    moved
+}
+
+/// One of them.
+fn shifted_row(first: u8, last: u8, way: Up, rows: &[Followed; 24], row: u8) -> Followed
+    requires area { IsArea first last }
+    requires rows { length rows.now ≡ 24 }
+    requires from_top { 1 ≤ row }
+    requires to_bottom { row ≤ 24 }
+    ensures { result ≡ shifted way first last freed (entry freed 1 rows.now) row }
+{
+    let index = usize::from(row) - 1;
+    if row < first || last < row {
+        return rows[index];
+    }
+    match way {
+        Up::Up => { if row == last { FREED } else { rows[index + 1] } }
+        Up::Down => { if row == first { FREED } else { rows[index - 1] } }
+    }
+}
+
+/// Whether one of the rows came of another.
+pub(crate) fn one_moved(rows: &[Followed; 24]) -> bool
+    requires rows { length rows.now ≡ 24 }
+    ensures { result ≡ false → (r q : ℕ) → 1 ≤ r → r ≤ 24 → row_from rows.now r ≡ Some q → q ≡ r }
+{
+    for i in 0..24u8 {
+        if is_moved(rows[usize::from(i)].from, i + 1) {
+            return true;
+        }
+    }
+    false
+}
+
+/// Whether a row came of another.
+fn is_moved(from: Option<u8>, row: u8) -> bool
+    ensures { result ≡ false → (q : ℕ) → from ≡ Some q → q ≡ row }
+{
+    match from {
+        Some(from) => from != row,
+        None => false,
+    }
+}
+
+/// Whether one of the strokes sets or clears a colour entry, an entry of the DCLUT or a pattern.
+pub(crate) fn one_defines(strokes: &[Stroke]) -> bool
+    ensures { result ≡ list_any defines strokes.now }
+{
+    for stroke in strokes {
+        if defines(stroke) {
+            return true;
+        }
+    }
+    false
+}
+
+/// Whether a stroke does.
+fn defines(stroke: &Stroke) -> bool
+    ensures { result ≡ defines stroke.now }
+{
+    match stroke {
+        Stroke::Colour(_, _)
+        | Stroke::Dclut(_, _)
+        | Stroke::ColourDefaults
+        | Stroke::Drcs(_, _)
+        | Stroke::DrcsClear => true,
+        // These define nothing.
+        Stroke::Put(_, _)
+        | Stroke::Erase(_, _)
+        | Stroke::Wipe
+        | Stroke::Shift(_, _, _)
+        | Stroke::RowAttr(_, _)
+        | Stroke::ScreenAttr(_)
+        | Stroke::ScreenClear
+        | Stroke::Format(_) => false,
+    }
+}
