@@ -1,9 +1,9 @@
 -- How many strokes of a command move rows: copies of a sign go over the end of a row once in forty columns.
 use Rattle.std.proofs.Common.{◌≡◌, ℕ, ◌+◌, ◌*◌, ◌≤◌, zero, suc, Bool, true, false, cond, leb, Option, Some, None}
-use Rattle.std.proofs.Common.{List, [], ◌∷◌, ◌++◌, length, refl, sym, subst, inl, inr, arith}
+use Rattle.std.proofs.Common.{List, ◌++◌, length, refl, subst, inl, inr, arith}
 use Rattle.std.proofs.Common.{IfSome}
 use Rattle.std.specs.List.{count_by}
-use Rattle.std.proofs.lemmas.Bool.{cond_both, leb-false}
+use Rattle.std.proofs.lemmas.Bool.{leb-false}
 use Rattle.std.proofs.lemmas.List.Sums.{count_by-le-length, sum_by-append}
 use Rattle.cept_codes.specs.declared.attribute.Size.{Size}
 use Rattle.cept_codes.specs.declared.attribute.Size.TheVariants as sizes

@@ -1,13 +1,12 @@
 -- Tiled rows and tables: there is exactly one, and its parts are valid.
-use Rattle.std.proofs.Common.{◌≡◌, ℕ, ◌+◌, ◌-◌, ◌≤◌, ◌==◌, zero, suc, inl, inr, cond, not, Bool, true, false, List}
+use Rattle.std.proofs.Common.{◌≡◌, ℕ, ◌+◌, ◌-◌, ◌≤◌, zero, suc, inl, inr, cond, not, Bool, true, false, List}
 use Rattle.std.proofs.Common.{refl, sym, ap, subst, ◌∙◌, arith}
 use Rattle.std.proofs.lemmas.Bool.{and_parts, cases_Bool, cond-false, cond-true, false≢true}
-use Rattle.std.proofs.lemmas.Bool.Decides.{nat_tests}
 use Rattle.cept_codes.specs.declared.attribute.Size.{Size}
 use Rattle.cept_codes.specs.declared.look.Part.{Part}
 use Rattle.cept_codes.specs.Look.{IsValidPart}
 use Rattle.cept_codes.specs.Place.{OnScreen}
-use Rattle.cept_codes.specs.Table.{IsTable, entry, list_by_index, row_of, table}
+use Rattle.cept_codes.specs.Table.{IsTable, list_by_index, row_of, table}
 use Rattle.cept_codes.proofs.Laws.{IsTable-table, same_indexed, same_lists, table-list_by_index}
 use Rattle.cept_profile.specs.Tiling.{IsTiled, IsTiledAt, IsTiledRow, column_entry, covers_below, covers_right}
 use Rattle.cept_profile.specs.Tiling.{is_covered_from_left, origin_part, part_by, flat_parts, part_at, part_from}

@@ -1,10 +1,9 @@
 -- Rows that a command reaches (own): a row is followed back through the strokes to the row of which it came. It is
 -- reached where it was freed or is written, where its attributes or the screen's become others or it becomes last or is
 -- so no longer, where something that it names is defined anew, or where what covers it from above is other than before.
-use Rattle.std.specs.Prelude.{ℕ, ◌≡◌, Bool, true, false, ◌==◌, ◌-◌, ◌||◌, ◌&&◌, not, Option, Some, None, List, [], ◌∷◌}
+use Rattle.std.specs.Prelude.{ℕ, ◌≡◌, Bool, true, false, ◌==◌, ◌||◌, ◌&&◌, not, Option, Some, None, List, [], ◌∷◌}
 use Rattle.std.specs.List.{AllByRecursion, count_by, list_any, range_with_len}
 use Rattle.cept_codes.specs.declared.command.Command.{Command}
-use Rattle.cept_codes.specs.declared.look.Look.{Look}
 use Rattle.cept_codes.specs.declared.stroke.Stroke.{Stroke}
 use Rattle.cept_codes.specs.declared.stroke.Stroke.TheVariants as strokes
 use Rattle.cept_codes.specs.Same.{same_pen}
