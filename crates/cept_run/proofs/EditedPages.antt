@@ -1,10 +1,10 @@
 -- What stands after a page and the edits of a script, if one was asked for.
-use Rattle.std.proofs.Common.{◌≡◌, ℕ, Bool, true, false, cond, List, [], arith}
+use Rattle.std.proofs.Common.{◌≡◌, Bool, true, false, cond, List, [], arith}
 use Rattle.std.proofs.Common.{Option, Some, None, Result, Ok, Err, refl, sym, ◌∙◌, ap, subst}
 use Rattle.cept_codes.specs.declared.command.Command.{Command}
 use Rattle.cept_codes.specs.declared.item.Item.{Item}
 use Rattle.cept_editor.specs.Events.{Event}
-use Rattle.cept_editor.specs.Kept.{KeptEdits, none_kept, remaining, EditorState, StandsAfter, editor_after}
+use Rattle.cept_editor.specs.Kept.{none_kept, remaining, EditorState, StandsAfter, editor_after}
 use Rattle.cept_editor.specs.Made.{Output, AreMade, AreCutOff}
 use Rattle.cept_editor.specs.Script.{EditLine}
 use Rattle.cept_editor.proofs.Laws.{AreMade-append, AreCutOff-after, remaining-none, states_before-none}
@@ -13,7 +13,7 @@ use Rattle.cept_profile.specs.Valid.{AllValid}
 use Rattle.cept_run.specs.declared.easel.Easel.TheVariants as easels
 use Rattle.cept_run.specs.Events.{history, item_events, script_events, edited_events, kept_of}
 use Rattle.cept_run.specs.Reporting.{Plan, lines_if_any, lines_of, ReporterState, painted_easel, easel_at, screen_of}
-use Rattle.cept_run.specs.Reporting.{HasReported, HasMadeLines, MakesLines, remaining_at_end, StandsAtEnd, HasEdited, EditsOn}
+use Rattle.cept_run.specs.Reporting.{HasReported, HasMadeLines, MakesLines, remaining_at_end, HasEdited, EditsOn}
 use Rattle.cept_run.proofs.EditedLines.{edited_events-none, kept_of-none}
 use Rattle.cept_run.proofs.ReportedItems.{screen_painted, editor_painted, not_idle, editor_with}
 

@@ -1,7 +1,7 @@
 -- How a run ends by its page.
-use Rattle.std.proofs.Common.{◌≡◌, ◌≢◌, ◌⊎◌, inl, inr, ℕ, ◌^◌, ◌<◌, ◌≤◌, Bool, true, false, cond, List, [], ◌∷◌, ◌++◌, take}
+use Rattle.std.proofs.Common.{◌≡◌, ◌⊎◌, inl, inr, ℕ, ◌^◌, ◌<◌, ◌≤◌, Bool, true, false, cond, List, [], ◌∷◌, ◌++◌, take}
 use Rattle.std.proofs.Common.{Option, Some, None, IsSome, Result, Ok, Err, refl, sym, ◌∙◌, ap, subst, arith}
-use Rattle.std.proofs.Common.{append_assoc, length}
+use Rattle.std.proofs.Common.{append_assoc, append-nil, min, take-take, length}
 use Rattle.std.proofs.lemmas.Option.{none-some, same_Some}
 use Rattle.cept_codes.specs.declared.command.Command.{Command}
 use Rattle.cept_codes.specs.declared.item.Item.{Item}
@@ -16,20 +16,19 @@ use Rattle.cept_outside.specs.SinkState.{SinkState, HasPut}
 use Rattle.cept_outside.proofs.Laws.{HasPut-nothing}
 use Rattle.cept_parser.specs.Items.{items, closed_items}
 use Rattle.cept_profile.specs.State.{core}
-use Rattle.cept_profile.specs.Valid.{AllValid}
 use Rattle.cept_writer.specs.PageCommands.{page_text}
 use Rattle.cept_run.specs.declared.page.Stop.{Stop}
 use Rattle.cept_run.specs.declared.page.Stop.TheVariants as stops
 use Rattle.cept_run.specs.declared.run.Status.{Status}
 use Rattle.cept_run.specs.declared.run.Status.TheVariants as statuses
 use Rattle.cept_run.specs.declared.words.Asked.{Asked}
-use Rattle.cept_run.specs.Course.{Course, Source, File, Given, Gives, HasBytes, IsNamed, reporting}
-use Rattle.cept_run.specs.Events.{history, item_events, text_at_end, end_event, edited_events, remaining_of, script_events}
+use Rattle.cept_run.specs.Course.{Course, Source, File, Gives, HasBytes, IsNamed, SelectsNoOther, reporting}
+use Rattle.cept_run.specs.Events.{history, item_events, text_at_end, edited_events, script_events}
 use Rattle.cept_run.specs.Events.{kept_of, has_refusal}
 use Rattle.cept_run.specs.Outside.{Outside, outside_of, output, PutsWhole}
 use Rattle.cept_run.specs.Page.{PageUnput, PageStops, PutsEnd, KeepsShelf}
 use Rattle.cept_run.specs.Reporting.{Plan, lines_if_any, lines_of, remaining_at_end}
-use Rattle.cept_run.specs.Run.{is_flushed, fault_text, Restores, EndsWhole, IsReportCut, HasStopper, PutsAtMost, Ends}
+use Rattle.cept_run.specs.Run.{is_flushed, Restores, EndsWhole, IsReportCut, HasStopper, Ends}
 use Rattle.cept_run.specs.Run.{RunsCourse, status_of, status_at_end}
 use Rattle.cept_run.specs.ScriptReading.{ScriptKnown}
 use Rattle.cept_run.proofs.EditedLines.{edited_events-none}
@@ -87,7 +86,7 @@ module _ (plan : Plan) (name : List ℕ) (script : Source) (told : List ℕ) (be
       name = name;
       named = refl;
       front = [];
-      counted = inl refl;
+      counted = inl (selects.taken, λ chosen is. inl (selects.failed.chosen chosen is));
       front_is = λ page holds is. ap (λ k. take k page) (sym selects.taken);
       reports = reports_nothing asked (File name) script before (outside_of shelf before.sink before.glass) refl;
       unended = selects.ended;
@@ -128,6 +127,9 @@ module _ (plan : Plan) (name : List ℕ) (script : Source) (told : List ℕ) (be
     page_or_none : (chosen : Option (List ℕ)) → after.shelf.selected ≡ Some chosen
         → (chosen ≡ None) ⊎ (chosen ≡ Some name)
     page_or_none chosen is = selected_is ready mid name x sound selects chosen (sym keeps.selected ∙ is)
+
+    selects_page : (other : List ℕ) → course.page ≡ File other → SelectsNoOther other after.shelf
+    selects_page other named = subst (λ n. SelectsNoOther n after.shelf) (name_in name other named) page_or_none
 
     -- the script isn't selected
     script_unselected : (other : List ℕ) → script ≡ File other → after.shelf.selected ≡ Some (Some other) → ⊥
@@ -186,27 +188,75 @@ module _ (plan : Plan) (name : List ℕ) (script : Source) (told : List ℕ) (be
         ∙ ap (λ (es : List Event). es ++ (script_part ++ end)) (item_events-append asked front others)
         ∙ append_assoc (item_events asked front) (events_after asked front others) (script_part ++ end)) off
 
-    -- the page that is told, or the bytes that were taken
-    report_cut : (left : Option (List ℕ)) → mid.left ≡ left → (front : List Item)
-        → AreCutOff (item_events asked front) (output before) (output after)
-        → (bytes : List ℕ) → (others : List Item) × (closed_items bytes ≡ front ++ others)
-        → ((page : List ℕ) → mid.left ≡ Some page → (others : List Item) × (closed_items page ≡ front ++ others))
-        → IsReportCut course before after
-    report_cut (Some page) is front off bytes are there = record {
-      page = page;
-      page_is = λ given gives. same_Some page given (sym is ∙ left_of_given given gives);
-      script = told;
-      script_is = known.has;
-      good = known.good;
-      cut = let others = there page is in inl (cut_in_run page front others.0 others.1 off);
-    }
-    report_cut None is front off bytes are there = record {
-      page = bytes;
+    -- the sink failed at an item
+    runs_cut : (reached : List Item) → AreCutOff (item_events asked reached) (output before) (output after)
+        → after.shelf.faults ≡ mid.faults → IsReportCut course before after
+        → RunsCourse course before after statuses.WriteFault
+    runs_cut reached off stays cut = runs_course statuses.WriteFault
+        (record { write_fault = off.cause; cut = inl cut; shelf_stays = stays ∙ same_faults })
+        (λ idle. cut_untouched (item_events asked reached) (output before) (output after) (still_idle asked reached idle) off)
+        (λ early. put_cut (item_events asked reached) (output before) (output after) off) off.later
+
+    -- in the midst of the page: of the page that is told, or of the bytes that were taken
+    front_cut : (left : Option (List ℕ)) → mid.left ≡ left
+        → PageUnput plan (outside_of mid before.sink before.glass) after → IsReportCut course before after
+    front_cut (Some page) is ends =
+        let known_bytes = ends.known page is in
+        let there = ends.there page is in
+        let size = min after.shelf.taken (2 ^ 24) in
+        record {
+          page = page;
+          page_is = λ given gives. same_Some page given (sym is ∙ left_of_given given gives);
+          script = told;
+          script_is = known.has;
+          good = known.good;
+          script_not_too_long = known.few;
+          cut = inl (cut_in_run page ends.front there.0 there.1 ends.cut);
+          taken = λ other named. (
+            selects_page other named,
+            inr (record {
+              within = known_bytes.0;
+              cut = subst (λ (l : List Item). AreCutOff (item_events asked l) (output before) (output after))
+                  (ends.front_is ∙ ap (λ b. items (take size b)) known_bytes.1
+                  ∙ ap items (take-take size after.shelf.taken page (omega arith))) ends.cut;
+              unended = ends.unended;
+            }),
+          );
+        }
+    front_cut None is ends = record {
+      page = ends.bytes;
       page_is = λ given gives. absurd (none-some given (sym is ∙ left_of_given given gives));
       script = told;
       script_is = known.has;
       good = known.good;
-      cut = inl (cut_in_run bytes front are.0 are.1 off);
+      script_not_too_long = known.few;
+      cut = inl (cut_in_run ends.bytes ends.front ends.are.0 ends.are.1 ends.cut);
+      taken = λ other named. (
+        selects_page other named,
+        inr (record {
+          within = omega (arith, ends.taken);
+          cut = subst (λ (l : List Item). AreCutOff (item_events asked l) (output before) (output after)) ends.front_is
+              ends.cut;
+          unended = ends.unended;
+        }),
+      );
+    }
+
+    -- of a page that was read to its end
+    whole_cut : (bytes : List ℕ) → ((page : List ℕ) → mid.left ≡ Some page → bytes ≡ page)
+        → (after.shelf.taken ≡ length bytes) × (after.shelf.ended ≡ true) × (length bytes ≤ 2 ^ 24)
+        → AreCutOff (the_run asked bytes told after.glass.grid) (output before) (output after)
+        ⊎ AreMade (the_run asked bytes told after.glass.grid) (output before) (output after)
+        → IsReportCut course before after
+    whole_cut bytes read taken cut = record {
+      page = bytes;
+      page_is = λ given gives. read given (left_of_given given gives);
+      script = told;
+      script_is = known.has;
+      good = known.good;
+      script_not_too_long = known.few;
+      cut = cut;
+      taken = λ other named. (selects_page other named, inl taken);
     }
 
     -- the reading stopped
@@ -218,7 +268,7 @@ module _ (plan : Plan) (name : List ℕ) (script : Source) (told : List ℕ) (be
       name = name;
       named = refl;
       front = ends.bytes;
-      counted = inr ends.taken;
+      counted = inl (ends.taken, page_or_none);
       front_is = λ page holds is. ends.known page (left_of_held page holds);
       reports = reports_front asked (File name) script ends.bytes before after ends.made;
       unended = ends.unended;
@@ -231,13 +281,11 @@ module _ (plan : Plan) (name : List ℕ) (script : Source) (told : List ℕ) (be
       script_not_too_long = λ other named is. absurd (script_unselected other named is);
       sink_stays = ends.stays;
     })
-    ends_stopped stops.WriteFault sound_after ends = runs_course statuses.WriteFault (record {
-      write_fault = ends.cut.cause;
-      cut = inl (report_cut mid.left refl ends.items ends.cut ends.bytes ends.are ends.known);
-      shelf_stays = ends.stays ∙ same_faults;
-    }) (λ idle. cut_untouched (item_events asked ends.items) (output before) (output after)
-        (still_idle asked ends.items idle) ends.cut)
-        (λ early. put_cut (item_events asked ends.items) (output before) (output after) ends.cut) ends.cut.later
+    ends_stopped stops.WriteFault sound_after (inl ends) =
+        runs_cut ends.front ends.cut ends.stays (front_cut mid.left refl ends)
+    ends_stopped stops.WriteFault sound_after (inr ends) = runs_cut (closed_items ends.bytes) ends.cut ends.stays
+        (whole_cut ends.bytes ends.known (ends.taken, ends.ended, ends.few) (inl (cut_in_run ends.bytes (closed_items ends.bytes) []
+        (sym (append-nil (closed_items ends.bytes))) ends.cut)))
     ends_stopped stops.TooLong sound_after ends = runs_made statuses.TooLong ends.bytes ends.made ends.sink_stays (record {
       which = inl (record {
         name = name;
@@ -278,17 +326,6 @@ module _ (plan : Plan) (name : List ℕ) (script : Source) (told : List ℕ) (be
           (subst (λ (l : List EditLine). AreStill (edited_events asked (closed_items bytes) l)) (sym (unscripted idle))
           (subst AreStill (sym (edited_events-none asked (closed_items bytes))) (still_idle asked (closed_items bytes) idle)))
 
-      cut_as : AreCutOff shown_run (output before) (output after) ⊎ AreMade shown_run (output before) (output after)
-          → IsReportCut course before after
-      cut_as cut = record {
-        page = bytes;
-        page_is = page_is;
-        script = told;
-        script_is = known.has;
-        good = known.good;
-        cut = cut;
-      }
-
       -- the sink failed at an edit line
       pub ends_unedited : (stop : Stop) → stop ≡ stops.WriteFault
           → AreCutOff (edited_events asked (closed_items bytes) (lines_of plan)) (output before) (output after)
@@ -299,7 +336,7 @@ module _ (plan : Plan) (name : List ℕ) (script : Source) (told : List ℕ) (be
           subst (λ (s : Stop). RunsCourse course before after (status_of s)) (sym is)
           (runs_course statuses.WriteFault (record {
             write_fault = off.cause;
-            cut = inl (cut_as (inl (AreCutOff-longer (edited asked bytes told)
+            cut = inl (whole_cut bytes read (taken.0, taken.1, few) (inl (AreCutOff-longer (edited asked bytes told)
                 (the_end asked bytes told after.glass.grid ∷ []) shown_run (output before) (output after) refl off)));
             shelf_stays = stays ∙ same_faults;
           }) (λ idle. cut_untouched (edited asked bytes told) (output before) (output after) (still_edited idle) off)
@@ -337,8 +374,7 @@ module _ (plan : Plan) (name : List ℕ) (script : Source) (told : List ℕ) (be
           page_not_too_long = few;
           script_not_too_long = known.few;
           taken = λ other named. taken;
-          selected = λ other named chosen is. subst (λ n. (chosen ≡ None) ⊎ (chosen ≡ Some n))
-              (name_in name other named) (page_or_none chosen is);
+          selected = selects_page;
           flushed = puts.flushed;
           shelf_stays = stays ∙ same_faults;
           sink_stays = puts.stays ∙ sink_stays;
@@ -354,7 +390,7 @@ module _ (plan : Plan) (name : List ℕ) (script : Source) (told : List ℕ) (be
             subst (λ (s : Stop). RunsCourse course before after (status_of s)) (sym puts.1)
             (runs_course statuses.WriteFault (record {
               write_fault = subst (λ n. Rose n after.sink.faults) sink_stays puts.0.cause;
-              cut = inl (cut_as (cut_at_end asked bytes told before after sink made sink_stays puts.0));
+              cut = inl (whole_cut bytes read (taken.0, taken.1, few) (cut_at_end asked bytes told before after sink made sink_stays puts.0));
               shelf_stays = stays ∙ same_faults;
             }) idle_run
             (λ early. put_to_end asked bytes told before after sink made sink_stays puts.0)

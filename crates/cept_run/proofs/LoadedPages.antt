@@ -1,6 +1,6 @@
 -- How a run of a generated page ends.
-use Rattle.std.proofs.Common.{◌≡◌, inl, ℕ, ◌^◌, ◌≤◌, Bool, true, false, cond, List, [], ◌∷◌, ◌++◌, Result, Ok, Err, refl, sym}
-use Rattle.std.proofs.Common.{◌∙◌, ap, subst, arith, nat_lt, length, ◌⊎◌, inr}
+use Rattle.std.proofs.Common.{◌≡◌, inl, ℕ, ◌^◌, ◌≤◌, Bool, true, false, List, [], ◌∷◌, ◌++◌, Result, Ok, Err, refl, sym}
+use Rattle.std.proofs.Common.{◌∙◌, ap, subst, arith, length, ◌⊎◌, inr}
 use Rattle.std.specs.Io.KnownBytes.{append_known}
 use Rattle.cept_codes.specs.declared.command.Command.{Command}
 use Rattle.cept_editor.specs.Events.{Event, paints}
@@ -22,15 +22,15 @@ use Rattle.cept_run.specs.declared.page.Stop.TheVariants as stops
 use Rattle.cept_run.specs.declared.run.Status.{Status}
 use Rattle.cept_run.specs.declared.run.Status.TheVariants as statuses
 use Rattle.cept_run.specs.declared.words.Asked.{Asked}
-use Rattle.cept_run.specs.Course.{Course, File, Given, reporting, putting, text_event}
+use Rattle.cept_run.specs.Course.{Course, Given, reporting, putting, text_event}
 use Rattle.cept_run.specs.Events.{history, item_events, text_at_end, edited_events, has_refusal, kept_of}
-use Rattle.cept_run.specs.Outside.{Outside, outside_of, output, PutsWhole, PutsUnflushed}
+use Rattle.cept_run.specs.Outside.{Outside, output, PutsWhole, PutsUnflushed}
 use Rattle.cept_run.specs.Page.{PutsEnd}
 use Rattle.cept_run.specs.Reporting.{Plan, lines_of, remaining_at_end}
-use Rattle.cept_run.specs.Run.{is_flushed, Restores, EndsWhole, IsReportCut, ReportsWhole, Ends, RunsCourse, status_at_end}
+use Rattle.cept_run.specs.Run.{is_flushed, Restores, EndsWhole, IsReportCut, Ends, RunsCourse, status_at_end}
 use Rattle.cept_run.proofs.EditedLines.{edited_events-none}
-use Rattle.cept_run.proofs.PaintedItems.{chained-one, chained_shown, each_shown, still_idle}
-use Rattle.cept_run.proofs.ReportedRuns.{put_cut, put_made, all, edited, the_end, the_run, whole_report, cut_at_end}
+use Rattle.cept_run.proofs.PaintedItems.{chained-one, each_shown, still_idle}
+use Rattle.cept_run.proofs.ReportedRuns.{put_cut, all, edited, the_end, the_run, whole_report, cut_at_end}
 use Rattle.cept_run.proofs.ReportedRuns.{put_to_end}
 use Rattle.cept_run.proofs.Selections.{put_either}
 use Rattle.cept_run.proofs.StoppedScripts.{edits-none, first_fault-none}
@@ -90,7 +90,9 @@ module _ (page : List ℕ) (before after : Outside) (shelf : after.shelf ≡ bef
     script = [];
     script_is = refl;
     good = first_fault-none;
+    script_not_too_long = omega arith;
     cut = by_text puts.put;
+    taken = λ name e. cc;
   }
     where
       by_text : GainsPart before.sink page after.sink ⊎ Gains before.sink page after.sink
@@ -154,7 +156,9 @@ module _ (plan : Plan) (page : List ℕ) (before after : Outside) (shelf : after
     script = [];
     script_is = refl;
     good = first_fault-none;
+    script_not_too_long = omega arith;
     cut = cut;
+    taken = λ name e. cc;
   }
 
   -- the sink failed at an event before the end

@@ -1,28 +1,25 @@
 -- How a reporter stands after one edit line more.
-use Rattle.std.proofs.Common.{◌≡◌, ℕ, ◌==◌, Bool, true, cond, List, [], ◌∷◌, ◌++◌, length, map, take, Result, Ok, Err, refl, sym}
-use Rattle.std.proofs.Common.{ap, ◌∙◌, subst, arith, append_assoc, Some, ◌-◌}
+use Rattle.std.proofs.Common.{◌≡◌, ℕ, ◌==◌, Bool, cond, List, [], ◌∷◌, ◌++◌, length, map, take, Result, Ok, Err, refl, sym}
+use Rattle.std.proofs.Common.{ap, ◌∙◌, subst, arith, ◌-◌}
 use Rattle.std.proofs.lemmas.List.{length-map}
 use Rattle.std.proofs.lemmas.List.FromFn.{length-range_with_len}
 use Rattle.std.specs.List.{range_with_len}
 use Rattle.cept_codes.specs.declared.command.Command.{Command}
-use Rattle.cept_codes.specs.declared.item.Item.{Item}
 use Rattle.cept_editor.specs.declared.editor.Done.{Done}
 use Rattle.cept_editor.specs.declared.editor.Done.TheVariants as answers
 use Rattle.cept_editor.specs.Events.{Event}
-use Rattle.cept_editor.specs.Kept.{KeptEdits, none_kept, kept_after, remaining, states_before, EditorState, editor_after}
+use Rattle.cept_editor.specs.Kept.{KeptEdits, none_kept, kept_after, remaining, states_before, EditorState}
 use Rattle.cept_editor.specs.Kept.{StandsAfter, state_before_last}
 use Rattle.cept_editor.specs.Made.{Output, output_of, IsMade, AreMade, AreCutOff}
 use Rattle.cept_editor.specs.Meaning.{Turn, TakeBack}
 use Rattle.cept_editor.specs.Script.{EditLine}
 use Rattle.cept_editor.specs.Stepping.{nothing_event, event_from, line_events, GoesOn}
 use Rattle.cept_editor.proofs.Laws.{AreMade-none, AreMade-more, AreCutOff-here, AreMade-append, AreCutOff-after}
-use Rattle.cept_editor.proofs.Laws.{AreCutOff-longer, ArePainted-still, remaining-none, states_before-none}
+use Rattle.cept_editor.proofs.Laws.{AreCutOff-longer, ArePainted-still}
 use Rattle.cept_outside.specs.Causes.{HasCause}
 use Rattle.cept_outside.specs.SinkState.{SinkState, PutsText}
-use Rattle.cept_profile.specs.State.{State, state}
-use Rattle.cept_profile.specs.Valid.{AllValid}
 use Rattle.cept_report.specs.Text.{nothing_line}
-use Rattle.cept_run.specs.Events.{history, item_events, script_events, kept_of, events_of_line, edited_events}
+use Rattle.cept_run.specs.Events.{script_events, kept_of, events_of_line}
 use Rattle.cept_run.specs.Reporting.{MakesLine, HasMadeLines}
 use Rattle.cept_run.proofs.EditedLines.{kept_of-none, kept_of-more}
 use Rattle.cept_run.proofs.EditedLines.{script_events-append, script_events-none, script_events-more}

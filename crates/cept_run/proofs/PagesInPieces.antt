@@ -5,7 +5,7 @@ use Rattle.std.proofs.Common.{List, [], ◌∷◌, ◌++◌, length, take, drop,
 use Rattle.std.proofs.Common.{length-append}
 use Rattle.std.specs.Io.KnownBytes.{prepend_known}
 use Rattle.std.proofs.lemmas.List.{length-take-le}
-use Rattle.std.proofs.Math.Seq.{take-add}
+use Rattle.std.proofs.Math.Seq.{take-add, take-append-add}
 use Rattle.cept_codes.specs.declared.item.Item.{Item}
 use Rattle.cept_parser.specs.Items.{items, closed_items, closing_items, reading}
 use Rattle.cept_outside.specs.Causes.{Rose}
@@ -40,6 +40,13 @@ front_with page piece bytes place n m known is e h le =
     let part : take m piece ≡ take m (drop place page) =
     sym (take-take m n piece le) ∙ ap (take m) moved ∙ take-take m n (drop place page) le in
     ap (λ b. b ++ take m piece) is ∙ ap (λ l. take place page ++ l) part ∙ sym (take-add place m page)
+
+-- the front of a piece more, of bytes that were taken with a longer part of it
+pub front_of_piece : (bytes piece : List ℕ) (place n m : ℕ) → length bytes ≡ place → m ≤ n
+    → take (place + m) (bytes ++ take n piece) ≡ bytes ++ take m piece
+front_of_piece bytes piece place n m count le =
+    ap (λ k. take (k + m) (bytes ++ take n piece)) (sym count) ∙ take-append-add bytes (take n piece) m
+    ∙ ap (λ l. bytes ++ l) (take-take m n piece le)
 
 -- what was taken was there
 pub taken_there : (page piece : List ℕ) (place n : ℕ) (known : Option (List ℕ))

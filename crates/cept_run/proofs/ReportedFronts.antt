@@ -1,5 +1,5 @@
 -- What was reported of the front of a page.
-use Rattle.std.proofs.Common.{◌≡◌, ℕ, List, [], take, refl, sym, ◌∙◌, ap, subst, arith}
+use Rattle.std.proofs.Common.{◌≡◌, ℕ, List, [], refl, sym, ◌∙◌, ap, subst, arith}
 use Rattle.cept_editor.specs.Events.{Event, paints}
 use Rattle.cept_editor.specs.Made.{Output, AreMade}
 use Rattle.cept_editor.proofs.Laws.{report-none, AreMade-none}

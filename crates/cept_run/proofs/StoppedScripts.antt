@@ -1,6 +1,6 @@
 -- How a run ends by its script.
 use Rattle.std.proofs.Common.{◌≡◌, ◌≢◌, ◌⊎◌, inl, inr, ℕ, ◌^◌, ◌<◌, ◌≤◌, true, false, List, []}
-use Rattle.std.proofs.Common.{Option, Some, None, is_some, IsSome, Ok, Err, refl, sym, ◌∙◌, ap, subst, arith}
+use Rattle.std.proofs.Common.{Option, Some, None, is_some, IsSome, Err, refl, sym, ◌∙◌, ap, subst, arith}
 use Rattle.std.proofs.Common.{length}
 use Rattle.std.proofs.lemmas.List.{take_all}
 use Rattle.std.proofs.lemmas.Option.{none-some, same_Some}
@@ -15,9 +15,9 @@ use Rattle.cept_run.specs.declared.page.Stop.TheVariants as stops
 use Rattle.cept_run.specs.declared.run.Status.{Status}
 use Rattle.cept_run.specs.declared.run.Status.TheVariants as statuses
 use Rattle.cept_run.specs.declared.words.Asked.{Asked}
-use Rattle.cept_run.specs.Course.{Course, Source, File, Given, Gives, HasBytes, IsNamed, reporting}
-use Rattle.cept_run.specs.Outside.{Outside, outside_of, PutsUnflushed}
-use Rattle.cept_run.specs.Run.{is_early, is_flushed, fault_text, HasBadLine, HasStopper, PutsAtMost, Ends, RunsCourse}
+use Rattle.cept_run.specs.Course.{Course, Source, File, Given, Gives, reporting}
+use Rattle.cept_run.specs.Outside.{Outside, outside_of}
+use Rattle.cept_run.specs.Run.{is_flushed, fault_text, HasBadLine, PutsAtMost, Ends, RunsCourse}
 use Rattle.cept_run.specs.Run.{status_of}
 use Rattle.cept_run.specs.ScriptReading.{ScriptBad, ScriptWhole, ScriptEnds, SelectsScript, ScriptKnown}
 use Rattle.cept_run.proofs.ReportedFronts.{reports_nothing}
@@ -180,7 +180,17 @@ module _ (asked : Asked) (page name : List ℕ) (before : Outside) (shelf : Shel
     name = page;
     named = refl;
     front = [];
-    counted = inl refl;
+    counted = inr (
+      refl,
+      record {
+        name = name;
+        named = refl;
+        selected = selects.selects;
+        few = ends.0.short;
+        unput = ends.1;
+        unpainted = refl;
+      },
+    );
     front_is = λ told holds is. absurd (page_unselected is);
     reports = reports_nothing asked (File page) (File name) before now (ap (λ (s : SinkState). record {
       sink = s;
@@ -194,7 +204,7 @@ module _ (asked : Asked) (page name : List ℕ) (before : Outside) (shelf : Shel
   }) ends.1
   ends_at_script stops.WriteFault sound ends = runs_script statuses.WriteFault (record {
     write_fault = ends.put.cause;
-    cut = inr (record { bad = bad_line ends.bad; put = ends.put; unpainted = refl });
+    cut = inr (record { bad = bad_line ends.bad; put = ends.put; taken = ends.bad.taken; unpainted = refl });
     shelf_stays = ends.bad.stays;
   }) (most_as ends.bad (most_part ends.bad ends.put.put))
       (λ early. put_either (text ends.bad) before.sink sink ends.put.put) ends.put.later

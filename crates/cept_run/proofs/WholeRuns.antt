@@ -1,5 +1,5 @@
 -- A known page, whatever is selected at the end, and the whole run.
-use Rattle.std.proofs.Common.{◌≡◌, ◌≢◌, ◌⊎◌, inl, inr, ℕ, ◌^◌, ◌<◌, ◌≤◌, Bool, true, false, List, [], take}
+use Rattle.std.proofs.Common.{◌≡◌, ◌⊎◌, inl, inr, ℕ, ◌^◌, ◌<◌, ◌≤◌, Bool, true, false, List, [], take}
 use Rattle.std.proofs.Common.{Option, Some, None, is_some, Result, Ok, Err, refl, sym, ◌∙◌, ap, subst, arith}
 use Rattle.std.proofs.Common.{length}
 use Rattle.std.proofs.lemmas.Option.{none-some, same_Some}
@@ -10,9 +10,9 @@ use Rattle.cept_run.specs.declared.page.Stop.{Stop}
 use Rattle.cept_run.specs.declared.page.Stop.TheVariants as stops
 use Rattle.cept_run.specs.declared.run.Status.{Status}
 use Rattle.cept_run.specs.declared.run.Status.TheVariants as statuses
-use Rattle.cept_run.specs.Course.{Course, Source, File, Given, Gives, IsNamed, course_of}
+use Rattle.cept_run.specs.Course.{Course, Source, File, Given, Gives, IsNamed, SelectsNoOther, course_of}
 use Rattle.cept_run.specs.Outside.{Outside}
-use Rattle.cept_run.specs.Run.{is_early, is_whole, EndsAtReadFault, IsPageTooLong, IsScriptTooLong, Ends, ReadsFiles}
+use Rattle.cept_run.specs.Run.{is_early, is_whole, IsScriptUnread, EndsAtReadFault, IsPageTooLong, IsScriptTooLong, Ends, ReadsFiles}
 use Rattle.cept_run.specs.Run.{ReportsFront, TouchesShelf, RunsCourse, IsShortScript, Runs, status_at_end}
 use Rattle.cept_run.specs.Words.{Request, request_of}
 use Rattle.cept_run.proofs.PagesInPieces.{nil_from_length}
@@ -72,9 +72,10 @@ module _ (course : Course) (name own page : List ℕ) (before after : Outside) (
       subst (λ (b : List ℕ). ReportsFront course b before after)
       (by_count ends.counted nothing ∙ sym (ap (λ k. take k page) nothing)) ends.reports
     where
-      by_count : (ends.front ≡ []) ⊎ (after.shelf.taken ≡ length ends.front) → after.shelf.taken ≡ 0 → ends.front ≡ []
-      by_count (inl e) nothing = e
-      by_count (inr e) nothing = nil_from_length ends.front (sym e ∙ nothing)
+      by_count : ((after.shelf.taken ≡ length ends.front) × SelectsNoOther ends.name after.shelf)
+          ⊎ ((ends.front ≡ []) × IsScriptUnread course before after) → after.shelf.taken ≡ 0 → ends.front ≡ []
+      by_count (inl e) nothing = nil_from_length ends.front (sym e.0 ∙ nothing)
+      by_count (inr e) nothing = e.0
 
   too_long_by : IsPageTooLong course before after ⊎ IsScriptTooLong course before after
       → ReportsFront course (take (2 ^ 24) page) before after

@@ -38,6 +38,11 @@ abbrev pub IsNamed : Source → Option (List ℕ) → Type 0
 IsNamed (File name) chosen = chosen ≡ Some name
 IsNamed (Given own) chosen = ⊥
 
+-- no other name than this is selected, where that is told
+abbrev pub SelectsNoOther : List ℕ → ShelfState → Type 0
+SelectsNoOther name shelf =
+    (chosen : Option (List ℕ)) → shelf.selected ≡ Some chosen → (chosen ≡ None) ⊎ (chosen ≡ Some name)
+
 -- ---- courses
 
 pub record Course : Type 0 where

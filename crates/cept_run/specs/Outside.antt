@@ -1,5 +1,5 @@
 -- What a run has from outside: a shelf to read, a sink to put into, and a glass to paint on. This project's own.
-use Rattle.std.specs.Prelude.{◌≡◌, ◌⊎◌, ◌≤◌, ℕ, false, List, []}
+use Rattle.std.specs.Prelude.{◌≡◌, ◌⊎◌, ◌≤◌, ℕ, false, List}
 use Rattle.std.specs.Io.KnownBytes.{append_known}
 use Rattle.cept_outside.specs.ShelfState.{ShelfState}
 use Rattle.cept_outside.specs.Causes.{Rose}

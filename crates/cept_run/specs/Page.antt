@@ -1,6 +1,6 @@
 -- How the reading of a selected page ends, and that of a generated one. The bytes that were read are those of the page,
 -- where the shelf tells it. This project's own. Private clauses alone cite this file.
-use Rattle.std.specs.Prelude.{◌≡◌, ℕ, ◌^◌, ◌<◌, ◌≤◌, Bool, true, false, List, [], ◌++◌, length, take, Some, Result, Ok, Err}
+use Rattle.std.specs.Prelude.{◌≡◌, ◌⊎◌, ℕ, ◌^◌, ◌<◌, ◌≤◌, min, Bool, true, false, List, ◌++◌, length, take, Some, Result, Ok, Err}
 use Rattle.cept_codes.specs.declared.item.Item.{Item}
 use Rattle.cept_outside.specs.Causes.{Rose}
 use Rattle.cept_outside.specs.ShelfState.{ShelfState, KeepsFiles}
@@ -38,15 +38,30 @@ pub record PageUnread (plan : Plan) (before after : Outside) : Type 0 where
   pub few : length bytes ≤ 2 ^ 24
   pub unended : after.shelf.ended ≡ false
 
--- the sink failed
+-- the sink failed at an item of the bytes that were taken, of which 2^24 are reported at most
 pub record PageUnput (plan : Plan) (before after : Outside) : Type 0 where
-  pub items : List Item
-  -- the items begin those of the bytes that were taken, and those of the page, where it is told
   pub bytes : List ℕ
-  pub are : (others : List Item) × (closed_items bytes ≡ items ++ others)
-  pub known : (page : List ℕ) → before.shelf.left ≡ Some page → (others : List Item)
-      × (closed_items page ≡ items ++ others)
-  pub cut : AreCutOff (item_events plan.asked items) (output before) (output after)
+  pub taken : after.shelf.taken ≡ length bytes
+  pub front : List Item
+  pub front_is : front ≡ items (take (min after.shelf.taken (2 ^ 24)) bytes)
+  -- the bytes are those of the page, where it is told; these items begin those of the bytes, and those of the page
+  pub known : (page : List ℕ) → before.shelf.left ≡ Some page
+      → (after.shelf.taken ≤ length page) × (bytes ≡ take after.shelf.taken page)
+  pub are : (others : List Item) × (closed_items bytes ≡ front ++ others)
+  pub there : (page : List ℕ) → before.shelf.left ≡ Some page → (others : List Item)
+      × (closed_items page ≡ front ++ others)
+  pub cut : AreCutOff (item_events plan.asked front) (output before) (output after)
+  pub unended : after.shelf.ended ≡ false
+  pub stays : after.shelf.faults ≡ before.shelf.faults
+
+-- the sink failed at an item that the end of the page closes
+pub record PageUnputAtEnd (plan : Plan) (before after : Outside) : Type 0 where
+  pub bytes : List ℕ
+  pub taken : after.shelf.taken ≡ length bytes
+  pub known : (page : List ℕ) → before.shelf.left ≡ Some page → bytes ≡ page
+  pub few : length bytes ≤ 2 ^ 24
+  pub cut : AreCutOff (item_events plan.asked (closed_items bytes)) (output before) (output after)
+  pub ended : after.shelf.ended ≡ true
   pub stays : after.shelf.faults ≡ before.shelf.faults
 
 -- it has more than 2^24 bytes
@@ -63,7 +78,7 @@ pub record PageTooLong (plan : Plan) (before after : Outside) : Type 0 where
 -- it wasn't read to its end, for this reason
 abbrev pub PageStops : Plan → Outside → Stop → Outside → Type 0
 PageStops plan before stops.ReadFault after = PageUnread plan before after
-PageStops plan before stops.WriteFault after = PageUnput plan before after
+PageStops plan before stops.WriteFault after = PageUnput plan before after ⊎ PageUnputAtEnd plan before after
 PageStops plan before stops.TooLong after = PageTooLong plan before after
 PageStops plan before stops.Script after = ⊥
 PageStops plan before stops.NoMemory after = ⊥

@@ -1,7 +1,7 @@
 -- What stands while a page is reported, and from which items to which it goes on. This project's own. Private clauses
 -- alone cite this file.
 use Rattle.std.specs.Prelude.{◌≡◌, ℕ, ◌+◌, ◌≤◌, Bool, true, false, List, [], ◌∷◌, ◌++◌, length, Option, Some, None}
-use Rattle.std.specs.Prelude.{if◌then◌else◌, Result, OnOk, OnErr, IsOk, IfErr}
+use Rattle.std.specs.Prelude.{if◌then◌else◌, Result, OnOk, OnErr, IsOk}
 use Rattle.cept_codes.specs.declared.command.Command.{Command}
 use Rattle.cept_codes.specs.declared.item.Item.{Item}
 use Rattle.cept_codes.specs.declared.item.Reason.{Reason}
@@ -20,8 +20,6 @@ use Rattle.cept_editor.specs.Script.{EditLine}
 use Rattle.cept_editor.specs.Stepping.{line_events}
 use Rattle.cept_run.specs.declared.easel.Easel.{Easel}
 use Rattle.cept_run.specs.declared.easel.Easel.TheVariants as easels
-use Rattle.cept_run.specs.declared.page.Stop.{Stop}
-use Rattle.cept_run.specs.declared.page.Stop.TheVariants as stops
 use Rattle.cept_run.specs.declared.words.Asked.{Asked}
 use Rattle.cept_run.specs.Words.{is_counted}
 use Rattle.cept_run.specs.Events.{history, item_events, refused_count, painted_at, kept_of, script_events, edited_events}

@@ -1,6 +1,6 @@
 -- The ends of a run, and what a run does by its end. This project's own.
 use Rattle.std.specs.Prelude.{◌≡◌, ◌≢◌, ◌↔◌, ◌⊎◌, ℕ, ◌^◌, ◌<◌, ◌≤◌, Bool, true, false, ◌&&◌, List, [], ◌∷◌, ◌++◌, length, take}
-use Rattle.std.specs.Prelude.{Option, Some, None, IsSome, Result, Ok, Err, if◌then◌else◌}
+use Rattle.std.specs.Prelude.{min, Option, Some, None, IsSome, Result, Ok, Err, if◌then◌else◌}
 use Rattle.std.specs.Io.KnownBytes.{append_known}
 use Rattle.std.specs.List.{AllByRecursion}
 use Rattle.cept_codes.specs.declared.command.Command.{Command}
@@ -19,7 +19,7 @@ use Rattle.cept_run.specs.declared.page.Stop.{Stop}
 use Rattle.cept_run.specs.declared.page.Stop.TheVariants as stops
 use Rattle.cept_run.specs.declared.run.Status.{Status}
 use Rattle.cept_run.specs.declared.run.Status.TheVariants as statuses
-use Rattle.cept_run.specs.Course.{Course, Source, File, Given, Gives, HasBytes, IsNamed, course_of}
+use Rattle.cept_run.specs.Course.{Course, Source, File, Given, Gives, HasBytes, IsNamed, SelectsNoOther, course_of}
 use Rattle.cept_run.specs.Events.{has_refusal}
 use Rattle.cept_run.specs.Outside.{Outside, output, PutsUnflushed}
 use Rattle.cept_run.specs.Words.{Request, request_of}
@@ -94,8 +94,7 @@ pub record EndsWhole (course : Course) (before after : Outside) (refused : Bool)
   -- of a page in a file all bytes were taken, up to where the shelf said that there are no more, and no other is selected
   pub taken : (name : List ℕ) → course.page ≡ File name
       → (after.shelf.taken ≡ length page) × (after.shelf.ended ≡ true)
-  pub selected : (name : List ℕ) → course.page ≡ File name → (chosen : Option (List ℕ))
-      → after.shelf.selected ≡ Some chosen → (chosen ≡ None) ⊎ (chosen ≡ Some name)
+  pub selected : (name : List ℕ) → course.page ≡ File name → SelectsNoOther name after.shelf
   pub flushed : after.sink.unflushed ≡ false
   -- no fault was counted on the way
   pub shelf_stays : after.shelf.faults ≡ before.shelf.faults
@@ -128,15 +127,25 @@ pub record EndsAtBadLine (course : Course) (before after : Outside) : Type 0 whe
   pub shelf_stays : after.shelf.faults ≡ before.shelf.faults
   pub sink_stays : after.sink.faults ≡ before.sink.faults
 
+-- the script, which is in a file, can't be read on: at most 2^20 bytes of it were taken, nothing was put and nothing painted
+pub record IsScriptUnread (course : Course) (before after : Outside) : Type 0 where
+  pub name : List ℕ
+  pub named : course.script ≡ File name
+  pub selected : SelectsNoOther name after.shelf
+  pub few : after.shelf.taken ≤ 2 ^ 20
+  pub unput : after.sink ≡ before.sink
+  pub unpainted : after.glass ≡ before.glass
+
 -- status 4: the script or the page can't be read on
 pub record EndsAtReadFault (course : Course) (before after : Outside) : Type 0 where
   -- the shelf counted a fault
   pub read_fault : Rose before.shelf.faults after.shelf.faults
-  -- the page is in a file. Exactly its bytes that were taken are reported, none where it wasn't selected
+  -- the page is in a file. Exactly its bytes that were taken are reported; or the script can't be read on, and none is
   pub name : List ℕ
   pub named : course.page ≡ File name
   pub front : List ℕ
-  pub counted : (front ≡ []) ⊎ (after.shelf.taken ≡ length front)
+  pub counted : ((after.shelf.taken ≡ length front) × SelectsNoOther name after.shelf)
+      ⊎ ((front ≡ []) × IsScriptUnread course before after)
   pub front_is : (page : List ℕ) → Holds before.shelf name page → after.shelf.selected ≡ Some (Some name)
       → front ≡ take after.shelf.taken page
   pub reports : ReportsFront course front before after
@@ -151,6 +160,12 @@ pub record EndsAtReadFault (course : Course) (before after : Outside) : Type 0 w
   -- the sink counted none
   pub sink_stays : after.sink.faults ≡ before.sink.faults
 
+-- the sink failed at an event of the bytes that were taken, a front of the page; of these 2^24 are reported at most
+pub record IsFrontCut (course : Course) (page : List ℕ) (before after : Outside) : Type 0 where
+  pub within : after.shelf.taken ≤ length page
+  pub cut : AreCutOff (course.front_events (take (min after.shelf.taken (2 ^ 24)) page)) (output before) (output after)
+  pub unended : after.shelf.ended ≡ false
+
 -- the sink failed at the report
 pub record IsReportCut (course : Course) (before after : Outside) : Type 0 where
   pub page : List ℕ
@@ -158,14 +173,20 @@ pub record IsReportCut (course : Course) (before after : Outside) : Type 0 where
   pub script : List ℕ
   pub script_is : HasBytes before.shelf course.script script
   pub good : course.fault script ≡ None
+  pub script_not_too_long : length script ≤ 2 ^ 20
   -- at one event, which was painted and no later one; or the report was put, and not flushed
   pub cut : AreCutOff (course.events page script after.glass.grid) (output before) (output after)
       ⊎ AreMade (course.events page script after.glass.grid) (output before) (output after)
+  -- of a page in a file, beside which none is selected, all was taken, up to where the shelf said that it ends; or a front
+  pub taken : (name : List ℕ) → course.page ≡ File name → SelectsNoOther name after.shelf
+      × (((after.shelf.taken ≡ length page) × (after.shelf.ended ≡ true) × (length page ≤ 2 ^ 24))
+      ⊎ IsFrontCut course page before after)
 
 -- the sink failed at the line of a script's fault
 pub record IsFaultCut (course : Course) (before after : Outside) : Type 0 where
   pub bad : HasBadLine course before.shelf
   pub put : PutsUnflushed (fault_text bad.fault) before.sink after.sink
+  pub taken : after.shelf.taken ≡ length bad.script
   pub unpainted : after.glass ≡ before.glass
 
 -- status 5: the sink failed

@@ -1,12 +1,12 @@
-use Rattle.std.proofs.Common.{◌≡◌, ◌≤◌, refl, sym, ◌∙◌, ap, arith, [], ◌+◌, ◌^◌, take, drop, length}
-use Rattle.std.proofs.Common.{◌++◌, append-nil, take-append-drop, length-append, Some}
+use Rattle.std.proofs.Common.{◌≡◌, ◌≤◌, refl, sym, ◌∙◌, ap, arith, [], ◌+◌, ◌^◌, min, inl, inr, take, drop, length}
+use Rattle.std.proofs.Common.{◌++◌, take-append-drop, length-append, Some}
 use Rattle.std.proofs.lemmas.List.{length-take-le}
 use Rattle.std.proofs.lemmas.Result.{err_from_is_err_and}
-use Rattle.cept_parser.specs.Items.{items, closed_items, closing_items, reading}
+use Rattle.cept_parser.specs.Items.{items}
 use Rattle.cept_outside.proofs.Laws.{all_taken}
 use Rattle.cept_editor.specs.Made.{output_of}
 use Rattle.cept_run.proofs.PagesInPieces.{KeepsShelf-none, keeps_shelf_more, Rose-since, front_with, left_more}
-use Rattle.cept_run.proofs.PagesInPieces.{taken_there, more_items}
+use Rattle.cept_run.proofs.PagesInPieces.{front_of_piece, taken_there, more_items}
 use Rattle.cept_run.proofs.page.read_page.Goals as goal
 
 pub loop-count-init : goal.loop-count-init
@@ -89,17 +89,17 @@ pub returns-in_err-finish-clause-ends : goal.returns-in_err-finish-clause-ends
 returns-in_err-finish-clause-ends g c =
     let come = c.loop-count.invariant.come in
     let p = err_from_is_err_and c.from_residual.result c.from_residual.ensures.1 in
-    rw (p.1, p.2) (record {
-      items = closed_items come.bytes;
+    rw (p.1, p.2) (inr (record {
       bytes = come.bytes;
-      are = ([], sym (append-nil (closed_items come.bytes)));
+      taken = omega (arith, c.in-Ok.ensures.takes.taken, come.count, c.loop-count.invariant.taken, c.if-count-eq0.true, c.loop-count.invariant.few);
       known = λ page is.
           let known = come.known page is in
-          let all = all_taken page c.loop-count.place (c.in-Ok.ensures.takes.end c.if-count-eq0.true _ known.1) in
-          ([], ap closed_items (sym (known.0 ∙ all)) ∙ sym (append-nil (closed_items come.bytes)));
+          known.0 ∙ all_taken page c.loop-count.place (c.in-Ok.ensures.takes.end c.if-count-eq0.true _ known.1);
+      few = omega (arith, come.count, c.loop-count.invariant.few);
       cut = c.in_err-finish.ensures.cut _ come.bytes _ come.read;
+      ended = c.in-Ok.ensures.takes.ended c.if-count-eq0.true;
       stays = c.in-Ok.ensures.cause.stays ∙ c.loop-count.invariant.stays;
-    })
+    }))
 
 pub returns-then-count-eq0-clause-ends : goal.returns-then-count-eq0-clause-ends
 returns-then-count-eq0-clause-ends g c =
@@ -119,24 +119,56 @@ returns-then-count-eq0-clause-ends g c =
 
 pub returns-in_err-read_piece-clause-ends : goal.returns-in_err-read_piece-clause-ends
 returns-in_err-read_piece-clause-ends g c =
-    let come = c.loop-count.invariant.come in
+    let so_far = c.loop-count.invariant in
+    let come = so_far.come in
     let k = c.loop-count.place + c.min-fitting.result in
     let front = come.bytes ++ take c.min-fitting.result c.take.new.into in
+    let bytes = come.bytes ++ take c.in-Ok.count c.take.new.into in
+    let within : c.in-Ok.count ≤ length c.take.new.into = omega (arith, c.in-Ok.ensures.takes.within) in
+    let fits : c.min-fitting.result ≤ c.in-Ok.count = omega arith in
+    let taken : (g.F.Shelf.state c.take.new.self).taken ≡ c.loop-count.place + c.in-Ok.count =
+    omega (arith, c.in-Ok.ensures.takes.taken, within, so_far.taken, so_far.few) in
+    let limit : min (g.F.Shelf.state c.take.new.self).taken (2 ^ 24) ≡ k = omega (arith, taken, so_far.few) in
+    let part : front ≡ take k bytes =
+    sym (front_of_piece come.bytes c.take.new.into c.loop-count.place c.in-Ok.count c.min-fitting.result come.count fits)
+    in
     let p = err_from_is_err_and c.from_residual-in_err-read_piece.result c.from_residual-in_err-read_piece.ensures.1
     in
-    rw (p.1, p.2) (record {
-      items = items front;
-      bytes = front;
-      are = (closing_items (reading front), refl);
+    rw (p.1, p.2) (inl (record {
+      bytes = bytes;
+      taken = omega (
+        arith,
+        taken,
+        length-append come.bytes (take c.in-Ok.count c.take.new.into),
+        come.count,
+        length-take-le c.in-Ok.count c.take.new.into within,
+      );
+      front = items front;
+      front_is = ap items (part ∙ ap (λ m. take m bytes) (sym limit));
+      are = more_items front (drop k bytes) bytes _ (ap (λ b. b ++ drop k bytes) part ∙ take-append-drop k bytes)
+          (c.reading_goes_on.ensures.bytes front (drop k bytes));
       known = λ page is.
           let known = come.known page is in
-          let part = front_with page c.take.new.into come.bytes c.loop-count.place c.in-Ok.count c.min-fitting.result _
-          known.0 (sym known.1 ∙ c.in-Ok.ensures.takes.moved) c.in-Ok.ensures.takes.within (omega arith) in
-          more_items front (drop k page) page _ (ap (λ b. b ++ drop k page) part ∙ take-append-drop k page)
+          let moved = sym known.1 ∙ c.in-Ok.ensures.takes.moved in (
+            omega (
+              arith,
+              taken,
+              taken_there page c.take.new.into c.loop-count.place c.in-Ok.count _ moved c.in-Ok.ensures.takes.within,
+              c.if-count-eq0.false,
+            ),
+            front_with page c.take.new.into come.bytes c.loop-count.place c.in-Ok.count c.in-Ok.count _ known.0 moved
+                c.in-Ok.ensures.takes.within (omega arith) ∙ ap (λ m. take m page) (sym taken),
+          );
+      there = λ page is.
+          let known = come.known page is in
+          let told = front_with page c.take.new.into come.bytes c.loop-count.place c.in-Ok.count c.min-fitting.result _
+          known.0 (sym known.1 ∙ c.in-Ok.ensures.takes.moved) c.in-Ok.ensures.takes.within fits in
+          more_items front (drop k page) page _ (ap (λ b. b ++ drop k page) told ∙ take-append-drop k page)
           (c.reading_goes_on.ensures.bytes front (drop k page));
       cut = c.in_err-read_piece.ensures.cut _ come.bytes _ come.read;
-      stays = c.in-Ok.ensures.cause.stays ∙ c.loop-count.invariant.stays;
-    })
+      unended = c.in-Ok.ensures.takes.goes_on (omega (arith, c.if-count-eq0.false)) ∙ so_far.unended;
+      stays = c.in-Ok.ensures.cause.stays ∙ so_far.stays;
+    }))
 
 pub returns-then-fitting-count-clause-ends : goal.returns-then-fitting-count-clause-ends
 returns-then-fitting-count-clause-ends g c =
