@@ -1,4 +1,4 @@
-use Rattle.std.proofs.Common.{◌≡◌, ◌+◌, ◌-◌, [], false, Some, refl, sym, ap, replicate, arith, ◌∙◌}
+use Rattle.std.proofs.Common.{◌+◌, ◌-◌, [], false, Some, sym, replicate, arith, ◌∙◌}
 use Rattle.std.proofs.lemmas.List.{get_or-replicate, length-replicate}
 use Rattle.cept_codes.proofs.Laws.{HasMadeEntries-all, HasMadeEntries-more, entry_from}
 use Rattle.cept_repaint.specs.declared.followed_rows.Followed.{Followed}

@@ -1,4 +1,4 @@
-use Rattle.std.proofs.Common.{◌+◌, ap, sym, ◌∙◌}
+use Rattle.std.proofs.Common.{◌+◌, ap, ◌∙◌}
 use Rattle.cept_codes.specs.Table.{list_by_index}
 use Rattle.cept_repaint.specs.declared.page.Pens.{Pens}
 use Rattle.cept_repaint.specs.Due.{is_altered, pens_of, rows_due}
