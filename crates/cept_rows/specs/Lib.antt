@@ -4,3 +4,4 @@ pub mod Unshown
 pub mod KeptRows
 pub mod RowsByCell
 pub mod KeptNames
+pub mod Planes

@@ -1,10 +1,12 @@
-ghost use Rattle.std.specs.Prelude.{◌≡◌, ◌≢◌, ℕ, ◌-◌, ◌≤◌, [], slice_index_or};
+ghost use Rattle.std.specs.Prelude.{◌≡◌, ◌≢◌, ℕ, ◌-◌, ◌≤◌, ◌==◌, ◌||◌, [], is_some};
+ghost use Rattle.std.specs.Prelude.{slice_index_or};
 ghost use Rattle.cept_codes.specs.Cell.{IsValidWhat};
 ghost use Rattle.cept_codes.specs.Glyph.{IsValidGlyph};
 ghost use Rattle.cept_codes.specs.Look.{blank_look};
 ghost use Rattle.cept_codes.specs.Place.{OnScreen};
 ghost use Rattle.cept_profile.specs.Look.{looks_of, part_of};
-ghost use Rattle.cept_profile.specs.Names.{code_in_set, code_named, names_at, names_with};
+ghost use Rattle.cept_profile.specs.Names.{code_in_set, code_named, is_code, names_at};
+ghost use Rattle.cept_profile.specs.Names.{names_with, some_place};
 ghost use Rattle.cept_profile.specs.NamesFromAbove.{default_names, names_by, names_from_above};
 ghost use Rattle.cept_profile.specs.NamesFromAbove.{names_in_row};
 ghost use Rattle.cept_profile.specs.PageParts.{row_pen_in};
@@ -47,6 +49,46 @@ impl RowNames {
             back: [0; 40],
             code: [0; 40],
         }
+    }
+
+    /// Whether a place names this colour entry as its foreground or its background.
+    pub fn has_entry(&self, entry: u8) -> bool
+        ensures { result
+            ≡ some_place (λ c. (names_kept self.now c).fore == entry
+            || (names_kept self.now c).back == entry) }
+    {
+        for column in 1..41u8 {
+            let place = self.at(column);
+            if (place.fore == entry) | (place.back == entry) {
+                return true;
+            }
+        }
+        false
+    }
+
+    /// Whether a place names this code of a pattern, 2/1 to 7/14.
+    pub fn has_code(&self, code: u8) -> bool
+        requires { 1 ≤ code }
+        ensures { result ≡ some_place (λ c. is_code (names_kept self.now c).code code) }
+    {
+        for column in 1..41u8 {
+            if self.at(column).code == code {
+                return true;
+            }
+        }
+        false
+    }
+
+    /// Whether a place names a code of a pattern.
+    pub fn has_some_code(&self) -> bool
+        ensures { result ≡ some_place (λ c. is_some (names_kept self.now c).code) }
+    {
+        for column in 1..41u8 {
+            if self.at(column).code != 0 {
+                return true;
+            }
+        }
+        false
     }
 
     /// The names in a column, 1 to 40.

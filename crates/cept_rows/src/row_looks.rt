@@ -8,10 +8,12 @@ ghost use Rattle.cept_codes.specs.Look.{IsValidLook, IsValidPart, blank_look};
 ghost use Rattle.cept_codes.specs.Same.{same_look};
 ghost use Rattle.cept_codes.specs.Table.{row_of};
 ghost use Rattle.cept_profile.specs.Look.{look_of, part_of};
+ghost use Rattle.cept_profile.specs.Names.{pattern_shown, some_place};
 ghost use Rattle.cept_profile.specs.RowsFromAbove.{blank_looks};
 ghost use Rattle.cept_profile.specs.Tiling.{column_entry, covers_below, single_part};
 ghost use Rattle.cept_rows.specs.DrawnWith.{drawn_with};
 ghost use Rattle.cept_rows.specs.KeptRows.{HasNoPatterns};
+ghost use Rattle.cept_rows.specs.Planes.{has_planes};
 ghost use Rattle.cept_rows.specs.SmallLooks.{IsSmallLook, drawing_of, has_pattern, look_kept};
 ghost use Rattle.cept_rows.specs.SmallLooks.{no_drawing, small_of};
 ghost use Rattle.cept_rows.specs.Unshown.{AreWithout};
@@ -107,6 +109,22 @@ impl RowLooks {
         for column in 1..41u8 {
             let look = self.small(column);
             if look.has_pattern() | look.has_tint(&tint) {
+                return true;
+            }
+        }
+        false
+    }
+
+    /// Whether a pattern of so many planes is shown in the row.
+    pub fn shows_planes(&self, planes: u8) -> bool
+        ensures { result ≡ some_place (λ c. has_planes planes
+            (pattern_shown (column_entry blank_look self.now c).shape)) }
+    {
+        if self.is_plain() {
+            return false;
+        }
+        for column in 1..41u8 {
+            if self.small(column).has_pattern() && self.drawing(column).pattern.planes == planes {
                 return true;
             }
         }
