@@ -54,10 +54,10 @@ pen-itself a =
     let n = option-itself beq flag-itself a.invert in
     λ i. f i && (g i && (h i && (j i && (k i && (l i && (m i && n i))))))
 
-same_pen-refl : (a b : Pen) → a ≡ b → not (same_pen a b) ≡ false
+pub same_pen-refl : (a b : Pen) → a ≡ b → not (same_pen a b) ≡ false
 same_pen-refl a b e = ap (λ c. not (same_pen a c)) (sym e) ∙ ap not (pen-itself a)
 
-none_under_one : (edges : Edges) (r : ℕ) → just_one (is_last edges r) (is_last edges r) ≡ false
+pub none_under_one : (edges : Edges) (r : ℕ) → just_one (is_last edges r) (is_last edges r) ≡ false
 none_under_one edges r = grind (arith, nat_tests)
 
 -- ---- a cell that is put

@@ -1,5 +1,5 @@
 -- States by their parts, and what is kept of them at the start and after a command.
-use Rattle.std.proofs.Common.{◌≡◌, ℕ, ◌≤◌, arith, Bool, true, false, List, [], ◌∷◌, refl, sym, ap, subst, ◌∙◌, inl, inr}
+use Rattle.std.proofs.Common.{◌≡◌, ℕ, Bool, true, false, List, [], ◌∷◌, refl, sym, ap, subst, ◌∙◌, inl, inr}
 use Rattle.std.proofs.lemmas.Bool.{cases_Bool}
 use Rattle.cept_codes.specs.declared.command.Command.{Command}
 use Rattle.cept_codes.specs.declared.command.Command.TheVariants as commands
@@ -10,7 +10,6 @@ use Rattle.cept_codes.specs.declared.look.Rgb.{Rgb}
 use Rattle.cept_codes.specs.declared.stroke.Stroke.{Stroke}
 use Rattle.cept_codes.specs.declared.stroke.Stroke.TheVariants as strokes
 use Rattle.cept_codes.specs.Command.{IsValidCommand}
-use Rattle.cept_codes.specs.Table.{list_by_index}
 use Rattle.cept_profile.specs.Changes.{differences}
 use Rattle.cept_profile.specs.Control.{ControlState, control_after}
 use Rattle.cept_profile.specs.Edges.{Edges, edges_of}
@@ -21,11 +20,9 @@ use Rattle.cept_profile.specs.Valid.{IsValidState}
 use Rattle.cept_profile.proofs.Laws.{IsValidState-state_after}
 use Rattle.cept_profile.specs.PageParts.{paint_in}
 use Rattle.cept_repaint.specs.Kept.{AreEdges, AreLooksOn, IsKept, SetsUnshown}
-use Rattle.cept_repaint.specs.Due.{followed, is_altered, pens_of, rows_due}
-use Rattle.cept_repaint.specs.Resolved.{rows_resolved}
+use Rattle.cept_repaint.specs.Resolved.{rows_resolved, rows_resolved_by}
 use Rattle.cept_repaint.specs.Unshown.{IsUnshown}
 use Rattle.cept_repaint.proofs.OnePlace.{page_after-none}
-use Rattle.cept_repaint.proofs.RowsDue.{altered_by, followed_by, rows_due-resolved}
 use Rattle.cept_profile.proofs.Laws.{looks_of-alike}
 use Rattle.cept_repaint.proofs.WalkedRows.{AreLooksOn-one}
 
@@ -69,37 +66,17 @@ pub looks_of-drawn : (q : Page) (d : ControlState) (after : Edges) (next : List 
     → AreLooksOn next q after → next ≡ looks_of (core_of (record { page = q; control = d }))
 looks_of-drawn q d after next ea looks = looks (core_of (record { page = q; control = d })) (sym ea)
 
--- no more rows are due after its strokes than it may resolve
-pub rows_due-resolved_of : {p : Page} {c : ControlState} {kept : List (List Look)}
-    → IsKept (record { page = p; control = c }) kept → (command : Command)
-    → (q : Page) (d : ControlState) (next : List (List Look)) (strokes : List Stroke) (before after : Edges)
-    → strokes ≡ strokes_of c command → before ≡ edges_of c → after ≡ edges_of d
+-- as many rows as its strokes may resolve between two cores a command may in its state
+pub rows_resolved-of : {p : Page} {c : ControlState} (command : Command) (q : Page) (d : ControlState)
+    (strokes : List Stroke) → strokes ≡ strokes_of c command
     → (let s : State = record { page = q; control = d } in s) ≡ state_after (record { page = p; control = c }) command
-    → next ≡ looks_of (core_of (record { page = q; control = d }))
     → (s : State) → (let was : State = record { page = p; control = c } in was) ≡ s
-    → rows_due (list_by_index 1 24 (is_altered strokes (pens_of p) before (pens_of q) after))
-    (list_by_index 1 24 (followed strokes)) kept next
-    ≤ rows_resolved s command
-rows_due-resolved_of {p} {c} {kept} is command q d next strokes before after es eb ea whole looks s e =
-    let was : State = record { page = p; control = c } in
-    let now : State = record { page = q; control = d } in
-    let first : rows_due (list_by_index 1 24 (is_altered strokes (pens_of p) before (pens_of q) after))
-    (list_by_index 1 24 (followed strokes)) kept next
-    ≡ rows_due (list_by_index 1 24 (is_altered (strokes_of c command) (pens_of p) (edges_of c) (pens_of q) (edges_of d)))
-    (list_by_index 1 24 (followed (strokes_of c command))) (looks_of (core_of was)) (looks_of (core_of now)) = λ i.
-    rows_due (list_by_index 1 24 (is_altered (es i) (pens_of p) (eb i) (pens_of q) (ea i)))
-    (list_by_index 1 24 (followed (es i))) (is.looks i) (looks i) in
-    let second : rows_due (list_by_index 1 24 (is_altered (strokes_of c command) (pens_of p) (edges_of c) (pens_of q)
-    (edges_of d))) (list_by_index 1 24 (followed (strokes_of c command))) (looks_of (core_of was))
-    (looks_of (core_of now))
-    ≡ rows_due (altered_by was command) (followed_by was command) (looks_of (core_of was))
-    (looks_of (core_of (state_after was command))) =
-    ap (λ (t : State). rows_due (list_by_index 1 24 (is_altered (strokes_of c command) (pens_of p) (edges_of c)
-    (pens_of t.page) (edges_of t.control))) (list_by_index 1 24 (followed (strokes_of c command)))
-    (looks_of (core_of was)) (looks_of (core_of t))) whole in
-    let third : rows_resolved was command ≡ rows_resolved s command =
-    ap (λ (t : State). rows_resolved t command) e in
-    omega (arith, first, second, third, rows_due-resolved was command)
+    → rows_resolved_by (core_of (record { page = p; control = c })) (core_of (record { page = q; control = d })) strokes
+    ≡ rows_resolved s command
+unfolding rows_resolved
+rows_resolved-of {p} {c} command q d strokes es whole s e =
+    (λ i. rows_resolved_by (core_of (record { page = p; control = c })) (core_of (whole i)) (es i))
+    ∙ ap (λ (t : State). rows_resolved t command) e
 
 -- marks are the differences of two states' looks, where both are kept
 pub marks-kept : (s t u : State) (was now : List (List Look)) (marks : List Bool) → was ≡ looks_of (core_of s) → s ≡ t

@@ -8,10 +8,12 @@ pub mod LooksWritten
 pub mod MarkedDifferences
 pub mod MarkedRows
 pub mod MarkedWithin
+pub mod NamedRows
 pub mod OnePlace
 pub mod PageParts
 pub mod PaintedInOrder
 pub mod Refreshed
+pub mod RedefinedRows
 pub mod RestoredRows
 pub mod RowsOfLooks
 pub mod RowsDue

@@ -1,8 +1,8 @@
 -- Rows that are due: a tick for each, and no more of them than a command may resolve.
-use Rattle.std.proofs.Common.{◌≡◌, ℕ, ◌+◌, ◌-◌, ◌≤◌, ◌==◌, ◌||◌, Bool, true, false, cond, List, [], ◌∷◌, map}
+use Rattle.std.proofs.Common.{◌≡◌, ℕ, ◌+◌, ◌-◌, ◌≤◌, ◌==◌, ◌||◌, ◌&&◌, ◌≢◌, not, Bool, true, false, cond, List, [], ◌∷◌, map}
 use Rattle.std.proofs.Common.{Option, Some, None, get_or, take, inl, inr, refl, sym, ap, ◌∙◌, arith}
 use Rattle.std.specs.List.{count_by, list_any, range_with_len}
-use Rattle.std.proofs.lemmas.Bool.{cases_Bool, or_from, or_left, or_parts, or_right, true≢false}
+use Rattle.std.proofs.lemmas.Bool.{cases_Bool, eqb-true, false_from_ne_true, or_from, or_left, or_parts, or_right, true≢false}
 use Rattle.std.proofs.lemmas.Bool.Decides.{nat_tests}
 use Rattle.std.proofs.lemmas.List.{take_all}
 use Rattle.std.proofs.lemmas.List.FromFn.{get_or-range_with_len, length-range_with_len}
@@ -22,14 +22,15 @@ use Rattle.cept_profile.specs.MovedRows.{row_before}
 use Rattle.cept_profile.specs.Reach.{LeadsTo, has_other_attributes, is_reached, is_reached_from, is_redefined}
 use Rattle.cept_profile.specs.Reach.{is_written, reaches, redefines, rows_in_reach}
 use Rattle.cept_profile.specs.RowsFromAbove.{is_covered_otherwise}
-use Rattle.cept_profile.specs.State.{Core, State, core_of, state_after}
+use Rattle.cept_profile.specs.State.{Core, Page, State, core_of, state_after}
 use Rattle.cept_profile.specs.Strokes.{strokes_of}
 use Rattle.cept_profile.proofs.Laws.{is_reached-by, look-unreached, reaches-by, rows_in_reach-counted}
 use Rattle.cept_repaint.specs.declared.followed_rows.Followed.{Followed}
 use Rattle.cept_repaint.specs.declared.page.Pens.{Pens}
 use Rattle.cept_repaint.specs.Due.{followed, has_others, is_altered, is_altered_from, is_covered_from, is_due, pens_of}
 use Rattle.cept_repaint.specs.Due.{row_from, rows_due}
-use Rattle.cept_repaint.specs.Resolved.{defines, may_resolve, rows_resolved}
+use Rattle.cept_repaint.specs.Resolved.{defines, may_resolve, mixes, one_else, rows_resolved, rows_resolved_by}
+use Rattle.cept_repaint.specs.Kept.{core_on}
 use Rattle.cept_repaint.proofs.FollowedRows.{row_from-followed}
 
 -- ---- a row that isn't altered, nor covered otherwise, keeps the looks of the row of which it came
@@ -137,14 +138,11 @@ fewer f g so =
     same_count (λ r. g r || f r) g (λ r low high. implied (f r) (g r) (so r low high)) in
     omega (arith, more, same)
 
--- the rows that a command alters, and each row followed
-abbrev pub altered_by : State → Command → List Bool
-altered_by s command =
-    list_by_index 1 24 (is_altered (strokes_of s.control command) (pens_of s.page) (edges_of s.control)
-    (pens_of (state_after s command).page) (edges_of (state_after s command).control))
-
-abbrev pub followed_by : State → Command → List Followed
-followed_by s command = list_by_index 1 24 (followed (strokes_of s.control command))
+-- the rows that strokes alter between two cores
+abbrev pub altered_by : Core → Core → List Stroke → List Bool
+altered_by before after xs =
+    list_by_index 1 24 (is_altered xs (pens_of before.page) (edges_of_core before) (pens_of after.page)
+    (edges_of_core after))
 
 -- two ways to say that one of four holds, of which the third does not
 four : (a b c : Bool) → ((a || false || b) || c) ≡ ((a || b || false) || c)
@@ -152,78 +150,120 @@ four true b c = refl
 four false true c = refl
 four false false c = refl
 
--- a row that is due may be resolved
-due_reached : (s : State) (command : Command) (r : ℕ) → list_any defines (strokes_of s.control command) ≡ false
-    → (found : Option ℕ) → row_before (strokes_of s.control command) r ≡ found
-    → (is_altered_from (is_written (strokes_of s.control command) r) (list_any defines (strokes_of s.control command))
-    (pens_of s.page) (edges_of s.control) (pens_of (state_after s command).page)
-    (edges_of (state_after s command).control) found r
-    || is_covered_from (looks_of (core_of s)) found (looks_of (core_of (state_after s command))) r) ≡ true
-    → reaches s command r ≡ true
-due_reached s command r none None came due =
-    reaches-by s command r
-    ∙ is_reached-by (core_of s) (core_of (state_after s command)) (strokes_of s.control command) r
-    ∙ ap (λ found. is_reached_from (core_of s) (core_of (state_after s command)) (strokes_of s.control command) found r) came
-due_reached s command r none (Some q) came due =
-    let xs : List Stroke = strokes_of s.control command in
-    let before : Core = core_of s in
-    let after : Core = core_of (state_after s command) in
+-- a row that is due is reached, where nothing is defined
+due_reached : (before after : Core) (xs : List Stroke) (r : ℕ) → list_any defines xs ≡ false → (found : Option ℕ)
+    → row_before xs r ≡ found
+    → (is_altered_from (is_written xs r) (list_any defines xs) (pens_of before.page) (edges_of_core before)
+    (pens_of after.page) (edges_of_core after) found r
+    || is_covered_from (looks_of before) found (looks_of after) r) ≡ true
+    → is_reached before after xs r ≡ true
+due_reached before after xs r none None came due =
+    is_reached-by before after xs r ∙ ap (λ found. is_reached_from before after xs found r) came
+due_reached before after xs r none (Some q) came due =
     let others : Bool =
-    has_others (pens_of s.page) (edges_of s.control) q (pens_of (state_after s command).page)
-    (edges_of (state_after s command).control) r in
+    has_others (pens_of before.page) (edges_of_core before) q (pens_of after.page) (edges_of_core after) r in
     let covered : Bool = is_covered_otherwise (looks_of before) q (looks_of after) r in
-    reaches-by s command r ∙ is_reached-came before after xs q r came
+    is_reached-came before after xs q r came
     ∙ (λ i. (is_written xs r || has_others-cores before after q r i || none_redefined after xs r none i) || covered)
     ∙ sym (four (is_written xs r) others covered)
     ∙ ap (λ b. (is_written xs r || b || others) || covered) (sym none) ∙ due
 
-due_may : (s : State) (command : Command) (r : ℕ) → 1 ≤ r → r ≤ 24
-    → is_due (altered_by s command) (followed_by s command) (looks_of (core_of s))
-    (looks_of (core_of (state_after s command))) r ≡ true
-    → may_resolve s command r ≡ true
+due_may : (before after : Core) (xs : List Stroke)
+    → (list_any defines xs ≡ true → mixes (edges_of_core before) (edges_of_core after) xs ≡ true) → (r : ℕ) → 1 ≤ r
+    → r ≤ 24
+    → is_due (altered_by before after xs) (list_by_index 1 24 (followed xs)) (looks_of before) (looks_of after) r ≡ true
+    → may_resolve before after xs r ≡ true
 unfolding may_resolve is_altered
-due_may s command r low high due =
-    let xs : List Stroke = strokes_of s.control command in
-    let was : List (List Look) = looks_of (core_of s) in
-    let now : List (List Look) = looks_of (core_of (state_after s command)) in
+due_may before after xs mixed r low high due =
     let altered : ℕ → Bool =
-    is_altered xs (pens_of s.page) (edges_of s.control) (pens_of (state_after s command).page)
-    (edges_of (state_after s command).control) in
+    is_altered xs (pens_of before.page) (edges_of_core before) (pens_of after.page) (edges_of_core after) in
+    let rows : List Followed = list_by_index 1 24 (followed xs) in
+    let both : Bool = mixes (edges_of_core before) (edges_of_core after) xs in
     elim (cases_Bool (list_any defines xs)) [
-      | inl so ↦ or_right (reaches s command r) (list_any defines xs) so
+      | inl so ↦ or_right (is_reached before after xs r) both (mixed so)
       | inr none ↦
-          let flag : entry false 1 (altered_by s command) r ≡ altered r =
+          let flag : entry false 1 (altered_by before after xs) r ≡ altered r =
           entry-list_by_index false 1 24 altered r low (omega (arith, high)) in
-          let from : row_from (followed_by s command) r ≡ row_before xs r =
-          row_from-followed (followed_by s command) xs refl r low high in
-          or_left (reaches s command r) (list_any defines xs)
-          (due_reached s command r none (row_before xs r) refl
-          (sym (λ i. flag i || is_covered_from was (from i) now r) ∙ due))
+          let from : row_from rows r ≡ row_before xs r = row_from-followed rows xs refl r low high in
+          or_left (is_reached before after xs r) both
+          (due_reached before after xs r none (row_before xs r) refl
+          (sym (λ i. flag i || is_covered_from (looks_of before) (from i) (looks_of after) r) ∙ due))
     ]
 
-pub rows_due-resolved : (s : State) (command : Command)
-    → rows_due (altered_by s command) (followed_by s command) (looks_of (core_of s))
-    (looks_of (core_of (state_after s command)))
-    ≤ rows_resolved s command
-unfolding rows_due rows_resolved
-rows_due-resolved s command =
-    fewer (is_due (altered_by s command) (followed_by s command) (looks_of (core_of s))
-    (looks_of (core_of (state_after s command)))) (may_resolve s command) (due_may s command)
+-- as many as may be resolved, where all that are due may
+pub rows_due-fewer : (before after : Core) (xs : List Stroke) (flags : List Bool) (rows : List Followed)
+    → ((r : ℕ) → 1 ≤ r → r ≤ 24 → is_due flags rows (looks_of before) (looks_of after) r ≡ true
+    → may_resolve before after xs r ≡ true)
+    → rows_due flags rows (looks_of before) (looks_of after) ≤ rows_resolved_by before after xs
+unfolding rows_due rows_resolved_by
+rows_due-fewer before after xs flags rows so =
+    fewer (is_due flags rows (looks_of before) (looks_of after)) (may_resolve before after xs) so
+
+-- rows altered between pages with their edges, in the words of cores that have these
+pub rows_due-resolved : (p q : Page) (xs : List Stroke) (before after : Edges) (was now : List (List Look)) (k m : Core)
+    → edges_of_core k ≡ before → edges_of_core m ≡ after → was ≡ looks_of (core_on k p) → now ≡ looks_of (core_on m q)
+    → (list_any defines xs ≡ true → mixes before after xs ≡ true)
+    → rows_due (list_by_index 1 24 (is_altered xs (pens_of p) before (pens_of q) after))
+    (list_by_index 1 24 (followed xs)) was now
+    ≤ rows_resolved_by (core_on k p) (core_on m q) xs
+rows_due-resolved p q xs before after was now k m ek em ew en mixed =
+    let old : Core = core_on k p in
+    let new : Core = core_on m q in
+    let same : rows_due (list_by_index 1 24 (is_altered xs (pens_of p) before (pens_of q) after))
+    (list_by_index 1 24 (followed xs)) was now
+    ≡ rows_due (altered_by old new xs) (list_by_index 1 24 (followed xs)) (looks_of old) (looks_of new) =
+    sym (λ i. rows_due (list_by_index 1 24 (is_altered xs (pens_of p) (ek i) (pens_of q) (em i)))
+    (list_by_index 1 24 (followed xs)) (sym ew i) (sym en i)) in
+    let so : list_any defines xs ≡ true → mixes (edges_of_core old) (edges_of_core new) xs ≡ true =
+    λ some. (λ i. mixes (ek i) (em i) xs) ∙ mixed some in
+    omega (
+      arith,
+      same,
+      rows_due-fewer old new xs (altered_by old new xs) (list_by_index 1 24 (followed xs))
+          (due_may old new xs so),
+    )
 
 -- at most all 24 rows
 pub rows_resolved-le : (s : State) (command : Command) → rows_resolved s command ≤ 24
-unfolding rows_resolved
+unfolding rows_resolved rows_resolved_by
 rows_resolved-le s command =
-    omega (arith, count_by-le-length (may_resolve s command) (range_with_len 1 24), length-range_with_len 1 24)
+    omega (
+      arith,
+      count_by-le-length (may_resolve (core_of s) (core_of (state_after s command))
+          (strokes_of s.control command)) (range_with_len 1 24),
+      length-range_with_len 1 24,
+    )
 
--- of a command that defines nothing those in its reach
+-- of a command that doesn't mix those in its reach
 pub rows_resolved-in_reach : (s : State) (command : Command)
-    → list_any defines (strokes_of s.control command) ≡ false → rows_resolved s command ≡ rows_in_reach s command
-unfolding rows_resolved may_resolve
+    → mixes (edges_of s.control) (edges_of (state_after s command).control) (strokes_of s.control command) ≡ false
+    → rows_resolved s command ≡ rows_in_reach s command
+unfolding rows_resolved rows_resolved_by may_resolve
 rows_resolved-in_reach s command none =
-    same_count (may_resolve s command) (reaches s command) (λ r low high.
-    ap (λ b. reaches s command r || b) none ∙ or_false (reaches s command r))
+    same_count (may_resolve (core_of s) (core_of (state_after s command)) (strokes_of s.control command))
+    (reaches s command) (λ r low high.
+    let reached : Bool = is_reached (core_of s) (core_of (state_after s command)) (strokes_of s.control command) r in
+    ap (λ b. reached || b) none ∙ or_false reached ∙ sym (reaches-by s command r))
     ∙ sym (rows_in_reach-counted s command)
+
+-- what strokes between these edges mix
+pub mixes-else : (before after : Edges) (xs : List Stroke) → one_else xs ≡ true → list_any defines xs ≡ true
+    → mixes before after xs ≡ true
+unfolding mixes
+mixes-else before after xs else some =
+    (λ i. some i && (else i || not (before.rows == after.rows)))
+
+pub mixes-edges : (before after : Edges) (xs : List Stroke) → before ≢ after → list_any defines xs ≡ true
+    → mixes before after xs ≡ true
+unfolding mixes
+mixes-edges before after xs apart some =
+    let no : (before.rows == after.rows) ≡ false =
+    false_from_ne_true (before.rows == after.rows) (λ same. apart (λ i. record { rows = eqb-true before.rows after.rows same i })) in
+    (λ i. some i && (one_else xs || not (no i))) ∙ or_right (one_else xs) true refl
+
+pub put_defines_nothing : (p : Place) (cell : Cell) (xs : List Stroke) → xs ≡ strokes.Put p cell ∷ []
+    → list_any defines xs ≡ false
+put_defines_nothing p cell xs e = ap (λ (l : List Stroke). list_any defines l) e
 
 -- a row that was freed is altered
 pub freed-altered : (flags : List Bool) (rows : List Followed) (xs : List Stroke) (was : Pens) (before : Edges)
@@ -237,28 +277,25 @@ freed-altered flags rows xs was before now after es er r low high none =
     ∙ ap (λ found. is_altered_from (is_written xs r) (list_any defines xs) was before now after found r)
     (sym (row_from-followed rows xs er r low high) ∙ none)
 
--- a cell that is put alters its row
-pub due-put : (p : Place) (cell : Cell) (xs : List Stroke) (before now : Pens) (edges next : Edges)
-    (rows : List Followed) (was looks : List (List Look)) → xs ≡ strokes.Put p cell ∷ [] → OnScreen p.row p.column
-    → 1 ≤ rows_due (list_by_index 1 24 (is_altered xs before edges now next)) rows was looks
-unfolding is_altered is_written row_before rows_due
-due-put p cell xs before now edges next rows was looks e on =
-    let altered : ℕ → Bool = is_altered xs before edges now next in
-    let f : ℕ → Bool = is_due (list_by_index 1 24 altered) rows was looks in
+-- a cell that is put is in reach of its row
+pub put-resolved : (p : Place) (cell : Cell) (xs : List Stroke) (before after : Core) → xs ≡ strokes.Put p cell ∷ []
+    → OnScreen p.row p.column → 1 ≤ rows_resolved_by before after xs
+unfolding is_written row_before may_resolve rows_resolved_by
+put-resolved p cell xs before after e on =
+    let f : ℕ → Bool = may_resolve before after xs in
+    let one : List Stroke = strokes.Put p cell ∷ [] in
     let here : (p.row == p.row) ≡ true = grind (arith, nat_tests) in
     let row : get_or (range_with_len 1 24) (p.row - 1) 0 ≡ p.row =
     get_or-range_with_len 1 24 (p.row - 1) 0 (omega (arith, on)) ∙ omega (arith, on) in
-    let touched : altered p.row ≡ true =
-    ap (λ (l : List Stroke). is_altered l before edges now next p.row) e
-    ∙ or_left _ _ (or_left _ _ (or_left (p.row == p.row) false here)) in
-    let flag : entry false 1 (list_by_index 1 24 altered) p.row ≡ true =
-    entry-list_by_index false 1 24 altered p.row on.from_top (omega (arith, on)) ∙ touched in
-    let yes : f (get_or (range_with_len 1 24) (p.row - 1) 0) ≡ true = ap f row ∙ or_left _ _ flag in
-    let one : cond {A = ℕ} (f (get_or (range_with_len 1 24) (p.row - 1) 0)) 1 0
+    let reached : is_reached before after xs p.row ≡ true =
+    ap (λ (l : List Stroke). is_reached before after l p.row) e ∙ is_reached-by before after one p.row
+    ∙ or_left _ _ (or_left _ _ (or_left _ _ (or_left (p.row == p.row) false here))) in
+    let yes : f (get_or (range_with_len 1 24) (p.row - 1) 0) ≡ true = ap f row ∙ or_left _ _ reached in
+    let counted : cond {A = ℕ} (f (get_or (range_with_len 1 24) (p.row - 1) 0)) 1 0
     ≡ 1 = ap (λ b. cond b 1 0) yes in
     omega (
       arith,
-      one,
+      counted,
       get_or-le-sum_by (λ r. cond (f r) 1 0) (range_with_len 1 24) (p.row - 1) 0
           (omega (arith, on, length-range_with_len 1 24)),
     )

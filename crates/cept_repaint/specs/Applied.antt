@@ -1,15 +1,15 @@
 -- A command applied to a screen, and a change of a screen repainted (this project's own).
 use Rattle.std.specs.Prelude.{ℕ, ◌≡◌, ◌≤◌, ◌+◌, Bool, false, List, [], ◌∷◌, ◌++◌}
-use Rattle.std.specs.List.{list_any}
 use Rattle.cept_codes.specs.declared.command.Command.{Command}
 use Rattle.cept_profile.specs.Changes.{changes_between, differences, grid_with_paints}
+use Rattle.cept_profile.specs.Edges.{edges_of}
 use Rattle.cept_profile.specs.Look.{looks_of}
 use Rattle.cept_profile.specs.Reach.{rows_in_reach}
 use Rattle.cept_profile.specs.State.{State, core_of, state, state_after}
 use Rattle.cept_profile.specs.Strokes.{strokes_of}
 use Rattle.cept_profile.specs.Valid.{AllValid}
 use Rattle.cept_repaint.specs.GlassState.{GlassState, Lists}
-use Rattle.cept_repaint.specs.Resolved.{defines, rows_resolved}
+use Rattle.cept_repaint.specs.Resolved.{mixes, rows_resolved}
 
 -- from one state to another exactly the places whose look changes were marked, and each was painted once, in reading
 -- order, with its new look
@@ -28,7 +28,7 @@ pub record IsApplied (old : State) (command : Command) (new : State) (marked : L
   pub after : new ≡ state_after old command
   pub repainted : IsRepainted old new marked before now
   pub cost : to ≤ from + rows_resolved old command
-  -- where it defines nothing, no more than are in its reach
-  pub in_reach : list_any defines (strokes_of old.control command) ≡ false
+  -- where it defines nothing, or defines and does nothing else, no more than are in its reach
+  pub in_reach : mixes (edges_of old.control) (edges_of new.control) (strokes_of old.control command) ≡ false
       → to ≤ from + rows_in_reach old command
   pub at_most_24 : to ≤ from + 24

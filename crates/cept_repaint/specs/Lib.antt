@@ -7,6 +7,7 @@ pub mod Inside
 pub mod Kept
 pub mod MarkedRows
 pub mod Marks
+pub mod Redefined
 pub mod Resolved
 pub mod Tape
 pub mod TapeGlass

@@ -1,12 +1,13 @@
--- Rows that a command may resolve (this project's own): those that it reaches, and all where it defines a colour or a
--- pattern anew.
-use Rattle.std.specs.Prelude.{ℕ, Bool, true, false, ◌||◌}
+-- Rows that a command may resolve (this project's own): those that it reaches; and all, where it defines a colour or a
+-- pattern and does something else besides, as full defaults do, which wipe every row.
+use Rattle.std.specs.Prelude.{ℕ, Bool, true, false, not, ◌||◌, ◌&&◌, ◌==◌, List}
 use Rattle.std.specs.List.{count_by, list_any, range_with_len}
 use Rattle.cept_codes.specs.declared.command.Command.{Command}
 use Rattle.cept_codes.specs.declared.stroke.Stroke.{Stroke}
 use Rattle.cept_codes.specs.declared.stroke.Stroke.TheVariants as strokes
-use Rattle.cept_profile.specs.Reach.{reaches}
-use Rattle.cept_profile.specs.State.{State}
+use Rattle.cept_profile.specs.Edges.{Edges, edges_of_core}
+use Rattle.cept_profile.specs.Reach.{is_reached}
+use Rattle.cept_profile.specs.State.{Core, State, core_of, state_after}
 use Rattle.cept_profile.specs.Strokes.{strokes_of}
 
 -- the stroke sets or clears a colour entry, an entry of the DCLUT or a pattern
@@ -26,10 +27,24 @@ defines (strokes.ScreenAttr attr) = false
 defines strokes.ScreenClear = false
 defines (strokes.Format rows) = false
 
--- in this state the command may resolve row r: it reaches it, or one of its strokes defines something
-unfoldable pub may_resolve : State → Command → ℕ → Bool
-may_resolve s command r = reaches s command r || list_any defines (strokes_of s.control command)
+-- one of the strokes defines nothing
+unfoldable pub one_else : List Stroke → Bool
+one_else strokes = list_any (λ stroke. not (defines stroke)) strokes
 
--- how many rows of the screen it may resolve
+-- strokes between these edges define something, and do something else besides
+unfoldable pub mixes : Edges → Edges → List Stroke → Bool
+mixes before after strokes = list_any defines strokes && (one_else strokes || not (before.rows == after.rows))
+
+-- strokes that lead from one core to the other may resolve row r
+unfoldable pub may_resolve : Core → Core → List Stroke → ℕ → Bool
+may_resolve before after strokes r =
+    is_reached before after strokes r || mixes (edges_of_core before) (edges_of_core after) strokes
+
+-- how many rows of the screen they may resolve
+unfoldable pub rows_resolved_by : Core → Core → List Stroke → ℕ
+rows_resolved_by before after strokes = count_by (may_resolve before after strokes) (range_with_len 1 24)
+
+-- and how many a command may in this state
 unfoldable pub rows_resolved : State → Command → ℕ
-rows_resolved s command = count_by (may_resolve s command) (range_with_len 1 24)
+rows_resolved s command =
+    rows_resolved_by (core_of s) (core_of (state_after s command)) (strokes_of s.control command)

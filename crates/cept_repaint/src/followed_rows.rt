@@ -5,7 +5,7 @@ ghost use Rattle.cept_codes.specs.Stroke.{IsValidStroke};
 ghost use Rattle.cept_codes.specs.Table.{entry, list_by_index};
 ghost use Rattle.cept_profile.specs.Cells.{shifted};
 ghost use Rattle.cept_repaint.specs.Due.{followed, followed_after, freed, row_from, written_if};
-ghost use Rattle.cept_repaint.specs.Resolved.{defines};
+ghost use Rattle.cept_repaint.specs.Resolved.{defines, one_else};
 
 use cept_codes::{Stroke, Up};
 
@@ -36,7 +36,7 @@ pub(crate) fn follow_rows(strokes: &[Stroke]) -> [Followed; 24]
 }
 
 /// Each row from the top, where no stroke was made.
-fn rows_at_rest() -> [Followed; 24]
+pub(crate) fn rows_at_rest() -> [Followed; 24]
     ensures { result ≡ list_by_index 1 24 (followed []) }
 {
     let mut rows = [FREED; 24];
@@ -151,6 +151,18 @@ fn is_moved(from: Option<u8>, row: u8) -> bool
         Some(from) => from != row,
         None => false,
     }
+}
+
+/// Whether one of the strokes defines nothing.
+pub(crate) fn one_else(strokes: &[Stroke]) -> bool
+    ensures { result ≡ one_else strokes.now }
+{
+    for stroke in strokes {
+        if !defines(stroke) {
+            return true;
+        }
+    }
+    false
 }
 
 /// Whether one of the strokes sets or clears a colour entry, an entry of the DCLUT or a pattern.

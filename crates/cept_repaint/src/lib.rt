@@ -11,6 +11,7 @@ mod marks;
 mod page;
 mod page_parts;
 mod painting;
+mod redefined_rows;
 mod redraw;
 mod redraw_all;
 mod row_flags;

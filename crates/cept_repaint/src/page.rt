@@ -1,16 +1,19 @@
-ghost use Rattle.std.specs.Prelude.{◌≡◌, ◌≤◌, ◌+◌, ℕ, true, [], IfOk, length};
+ghost use Rattle.std.specs.Prelude.{◌≡◌, ◌≤◌, ◌+◌, ◌-◌, ℕ, true, [], IfOk, length};
 ghost use Rattle.std.specs.List.{AllByRecursion};
 ghost use Rattle.cept_codes.specs.Attribute.{IsRowPen, IsScreenPen};
 ghost use Rattle.cept_codes.specs.Cell.{IsValidWhat, blank_cell};
 ghost use Rattle.cept_codes.specs.Stroke.{IsValidStroke};
 ghost use Rattle.cept_codes.specs.Table.{value_at};
 ghost use Rattle.cept_profile.specs.PageParts.{row_pen_in};
-ghost use Rattle.cept_profile.specs.State.{page, page_after};
+ghost use Rattle.cept_profile.specs.Look.{looks_of};
+ghost use Rattle.cept_profile.specs.RowsFromAbove.{looks_in};
+ghost use Rattle.cept_profile.specs.State.{Core, page, page_after};
 ghost use Rattle.cept_profile.specs.Valid.{IsValidPage};
 ghost use Rattle.cept_repaint.specs.Drawn.{IsDrawn};
 ghost use Rattle.cept_repaint.specs.Due.{pens_of};
-ghost use Rattle.cept_repaint.specs.Kept.{row_beneath};
+ghost use Rattle.cept_repaint.specs.Kept.{core_on, row_beneath};
 ghost use Rattle.cept_repaint.specs.MarkedRows.{StandsAlone};
+ghost use Rattle.cept_repaint.specs.Redefined.{AreNamesOf};
 
 use crate::page_parts::{set_colours, set_patterns, set_row_pens, set_screen_pen};
 use crate::row_flags::{flag_put, flag_rows, is_unflagged};
@@ -19,7 +22,7 @@ use cept_codes::{Cell, NoMemory, Pen, Pos, Stroke, What};
 use cept_colours::Colours;
 use cept_drcs::Patterns;
 use cept_outside::Steps;
-use cept_rows::{RowLooks, resolve_cells};
+use cept_rows::{RowLooks, RowNames, name_cells, resolve_cells};
 use std::alloc::Global;
 use std::marker::Model;
 use std::sync::ledger::Ledger;
@@ -166,6 +169,22 @@ impl Page {
             looks,
             steps,
         );
+    }
+
+    /// What a row names, by its looks, beneath a row that names this.
+    pub(crate) fn name_row(&self, row: u8, above: &RowNames, looks: &RowLooks) -> RowNames
+        requires from_top { 1 ≤ row }
+        requires to_bottom { row ≤ 24 }
+        requires valid { IsValidPage self.now }
+        ensures { (k : Core) → looks.now ≡ looks_in (looks_of (core_on k self.now)) row
+            → AreNamesOf above.now (core_on k self.now) (row - 1)
+            → AreNamesOf result (core_on k self.now) row }
+    {
+        let mut names = RowNames::blank();
+        let cells = self.grid.cells(row);
+        let pen = self.row_pen(row);
+        name_cells(cells, pen, &self.screen_pen, above, looks, &mut names);
+        names
     }
 
     /// Changes the page as the strokes do, one after the other.

@@ -42,12 +42,14 @@ ghost use Rattle.cept_repaint.specs.Kept.{HasMarkedRow, IsRefreshedRow, OthersSt
 ghost use Rattle.cept_repaint.specs.Kept.{SetsUnshown};
 ghost use Rattle.cept_repaint.specs.MarkedRows.{StandsAlone};
 ghost use Rattle.cept_repaint.specs.Marks.{no_marks};
+ghost use Rattle.cept_repaint.specs.Resolved.{one_else, rows_resolved_by};
 
 use crate::altered_rows::{only_put, row_alone, rows_altered};
-use crate::followed_rows::{Followed, follow_rows, one_moved};
+use crate::followed_rows::{Followed, follow_rows, one_else, one_moved, rows_at_rest};
 use crate::kept_rows::KeptRows;
 use crate::marks::Marks;
 use crate::page::Page;
+use crate::redefined_rows::rows_redefined;
 use cept_codes::{Paint, Pos, Stroke};
 use cept_control::Edges;
 use cept_outside::Steps;
@@ -77,9 +79,8 @@ pub(crate) fn redraw<L: Ledger>(
     ensures page { page.new ≡ page_after page.old strokes.now }
     ensures kept { AreLooksOn kept.new page.new after.now }
     ensures marks { marks.new ≡ differences kept.old kept.new }
-    ensures cost { steps.new ≤ steps.old + rows_due (list_by_index 1 24
-        (is_altered strokes.now (pens_of page.old) before.now (pens_of page.new) after.now))
-        (list_by_index 1 24 (followed strokes.now)) kept.old kept.new }
+    ensures cost { (k m : Core) → edges_of_core k ≡ before.now → edges_of_core m ≡ after.now
+        → steps.new ≤ steps.old + rows_resolved_by (core_on k page.old) (core_on m page.new) strokes.now }
     ensures unshown { before.now ≡ after.now → SetsUnshown page.old strokes.now kept.old
         → steps.new ≡ steps.old }
 {
@@ -108,10 +109,12 @@ pub(crate) fn redraw<L: Ledger>(
         None => {
             if sets_unshown(page, strokes, kept) {
                 page.draw_all(strokes);
-            } else {
+            } else if one_else(strokes) {
                 redraw_rows(
                     page, strokes, before, after, kept, stood, fresh, marks, steps,
                 );
+            } else {
+                redraw_defined(page, strokes, after, kept, stood, fresh, marks, steps);
             }
         }
     }
@@ -152,6 +155,39 @@ fn redraw_rows<L: Ledger>(
     }
     refresh_rows(
         page, &rows, &altered, after, stood, kept, fresh, marks, steps,
+    );
+}
+
+/// The same of strokes that all define something, where nothing is marked yet: the rows that name it are
+/// resolved. The page has these edges.
+fn redraw_defined<L: Ledger>(
+    page: &mut Page,
+    strokes: &[Stroke],
+    edges: &Edges,
+    kept: &mut KeptRows,
+    stood: &KeptRows,
+    fresh: &mut RowLooks,
+    marks: &mut Marks,
+    steps: &mut Steps<L>,
+)
+    requires none { marks.old ≡ no_marks }
+    requires edges { AreEdges edges.now }
+    requires kept { AreLooksOn kept.old page.old edges.now }
+    requires was_valid { IsValidPage page.old }
+    requires strokes { AllByRecursion IsValidStroke strokes.now }
+    requires valid { IsValidPage (page_after page.old strokes.now) }
+    requires define { one_else strokes.now ≡ false }
+    ensures page { page.new ≡ page_after page.old strokes.now }
+    ensures kept { AreLooksOn kept.new page.new edges.now }
+    ensures marks { marks.new ≡ differences kept.old kept.new }
+    ensures cost { (k m : Core) → edges_of_core k ≡ edges.now → edges_of_core m ≡ edges.now
+        → steps.new ≤ steps.old + rows_resolved_by (core_on k page.old) (core_on m page.new) strokes.now }
+{
+    let redefined = rows_redefined(page, strokes, kept);
+    page.draw_all(strokes);
+    let rows = rows_at_rest();
+    refresh_rows(
+        page, &rows, &redefined, edges, stood, kept, fresh, marks, steps,
     );
 }
 

@@ -1,6 +1,5 @@
 ghost use Rattle.std.specs.Prelude.{◌≡◌, ◌≤◌, ◌<◌, ◌+◌, ℕ, [], true, false};
 ghost use Rattle.std.specs.Prelude.{IfOk, IfSome};
-ghost use Rattle.std.specs.List.{list_any};
 ghost use Rattle.cept_codes.specs.declared.command.Command.TheVariants.{Entry};
 ghost use Rattle.cept_codes.specs.declared.look.Rgb.{Rgb};
 ghost use Rattle.cept_codes.specs.Attribute.{IsEntry, IsRowPen, IsScreenPen};
@@ -9,6 +8,7 @@ ghost use Rattle.cept_codes.specs.Command.{IsValidCommand};
 ghost use Rattle.cept_codes.specs.Look.{IsValidLook, IsValidPattern, blank_look};
 ghost use Rattle.cept_codes.specs.Stroke.{IsPaintOf};
 ghost use Rattle.cept_profile.specs.Changes.{look_at, differences};
+ghost use Rattle.cept_profile.specs.Edges.{edges_of};
 ghost use Rattle.cept_profile.specs.Look.{looks_of, part_of, parts_of};
 ghost use Rattle.cept_profile.specs.PageParts.{dclut_in, paint_in, pattern_in, row_pen_in};
 ghost use Rattle.cept_profile.specs.Reach.{rows_in_reach};
@@ -20,7 +20,7 @@ ghost use Rattle.cept_profile.specs.Valid.{IsValidState};
 ghost use Rattle.cept_repaint.specs.Applied.{IsApplied, IsRepainted};
 ghost use Rattle.cept_repaint.specs.Kept.{cell_at};
 ghost use Rattle.cept_repaint.specs.Marks.{no_marks};
-ghost use Rattle.cept_repaint.specs.Resolved.{defines, rows_resolved};
+ghost use Rattle.cept_repaint.specs.Resolved.{mixes, rows_resolved};
 ghost use Rattle.cept_repaint.specs.Unshown.{IsUnshown};
 
 use crate::glass::Glass;
@@ -168,8 +168,8 @@ impl Screen {
         ensures marks { marks.new
             ≡ differences (looks_of (core_of self.old)) (looks_of (core_of self.new)) }
         ensures cost { steps.new ≤ steps.old + rows_resolved self.old command.now }
-        ensures in_reach { list_any defines (strokes_of self.old.control command.now) ≡ false
-            → steps.new ≤ steps.old + rows_in_reach self.old command.now }
+        ensures in_reach { mixes (edges_of self.old.control) (edges_of self.new.control)
+            (strokes_of self.old.control command.now) ≡ false → steps.new ≤ steps.old + rows_in_reach self.old command.now }
         ensures at_most_24 { steps.new ≤ steps.old + 24 }
         ensures unshown { (i : ℕ) (colour : Rgb) → command.now ≡ Entry i colour
             → IsUnshown (paint_in self.old.page.paints i) (looks_of (core_of self.old))

@@ -1,18 +1,18 @@
 use Rattle.std.proofs.Common.{Bool, List, length, refl, sym, ap, subst, ◌∙◌, arith}
-use Rattle.std.proofs.lemmas.Bool.{eqb-true}
+use Rattle.std.proofs.lemmas.Bool.{eqb-true, true≢false}
 use Rattle.cept_profile.specs.Look.{looks_of}
 use Rattle.cept_profile.specs.State.{Page}
 use Rattle.cept_profile.specs.Valid.{IsValidPage}
 use Rattle.cept_codes.specs.Table.{list_by_index}
 use Rattle.cept_repaint.specs.declared.followed_rows.Followed.{Followed}
-use Rattle.cept_repaint.specs.Due.{followed, is_altered, pens_of, rows_due}
+use Rattle.cept_repaint.specs.Due.{is_altered, pens_of, rows_due}
 use Rattle.cept_repaint.specs.Kept.{core_on}
 use Rattle.cept_repaint.proofs.AloneRows.{OthersStay-put}
 use Rattle.cept_repaint.proofs.OnePlace.{IsPutAlone-drawn, page_after-none, page_after-put_alone}
 use Rattle.cept_repaint.proofs.Refreshed.{differences_none}
 use Rattle.cept_repaint.proofs.AlteredRows.{altered-put}
 use Rattle.cept_repaint.proofs.FollowedRows.{came-followed, still-put}
-use Rattle.cept_repaint.proofs.RowsDue.{due-put, freed-altered}
+use Rattle.cept_repaint.proofs.RowsDue.{freed-altered, mixes-edges, mixes-else, put-resolved, put_defines_nothing, rows_due-resolved}
 use Rattle.cept_repaint.proofs.UnshownPaints.{looks_of-unshown}
 use Rattle.cept_repaint.proofs.WalkedRows.{OtherRowsStay-drawn}
 use Rattle.cept_repaint.proofs.redraw.redraw.Goals as goal
@@ -50,12 +50,13 @@ refresh_rows-requires-clause-others g c =
     c.follow_rows-rows.ensures
 
 pub returns-else-put-clause-cost : goal.returns-else-put-clause-cost
-returns-else-put-clause-cost g c =
+returns-else-put-clause-cost g c k m ek em =
     let drawn = page_after-put_alone c.args.page.now c.put.new.self c.args.strokes.now c.in-Some.put.place
     c.in-Some.put.cell.now c.in-Some.ensures c.put.ensures.drawn in
     let flags = altered-put c.args.page.now c.put.new.self c.args.strokes.now c.in-Some.put.place c.in-Some.put.cell.now
     c.args.before.now c.args.after.now c.row_alone-altered.result c.row.result c.in-Some.ensures drawn
     (c.is_same.ensures.same c.if-not-is_same.false) c.row_alone-altered.ensures c.row.ensures.row in
+    let none = put_defines_nothing c.in-Some.put.place c.in-Some.put.cell.now c.args.strokes.now c.in-Some.ensures in
     omega (
       arith,
       c.refresh_rows.ensures.cost,
@@ -63,7 +64,36 @@ returns-else-put-clause-cost g c =
       ap (λ (l : List Followed). rows_due (list_by_index 1 24 (is_altered c.args.strokes.now (pens_of c.args.page.now)
           c.args.before.now (pens_of c.put.new.self) c.args.after.now)) l c.args.kept.now c.refresh_rows.new.kept)
           c.follow_rows-rows.ensures,
+      rows_due-resolved c.args.page.now c.put.new.self c.args.strokes.now c.args.before.now c.args.after.now
+          c.args.kept.now c.refresh_rows.new.kept k m ek em (c.requires.kept k ek) (c.refresh_rows.ensures.kept m em)
+          (λ some. absurd (true≢false (sym some ∙ none))),
     )
+
+pub returns-then-not-is_same-clause-cost : goal.returns-then-not-is_same-clause-cost
+returns-then-not-is_same-clause-cost g c k m ek em =
+    omega (
+      arith,
+      c.redraw_rows.ensures.cost,
+      rows_due-resolved c.args.page.now c.redraw_rows.new.page c.args.strokes.now c.args.before.now c.args.after.now
+          c.args.kept.now c.redraw_rows.new.kept k m ek em (c.requires.kept k ek) (c.redraw_rows.ensures.kept m em)
+          (mixes-edges c.args.before.now c.args.after.now c.args.strokes.now
+          (c.is_same.ensures.others c.if-not-is_same.true)),
+    )
+
+pub returns-then-one_else-clause-cost : goal.returns-then-one_else-clause-cost
+returns-then-one_else-clause-cost g c k m ek em =
+    omega (
+      arith,
+      c.redraw_rows-then-one_else.ensures.cost,
+      rows_due-resolved c.args.page.now c.redraw_rows-then-one_else.new.page c.args.strokes.now c.args.before.now
+          c.args.after.now c.args.kept.now c.redraw_rows-then-one_else.new.kept k m ek em (c.requires.kept k ek)
+          (c.redraw_rows-then-one_else.ensures.kept m em)
+          (mixes-else c.args.before.now c.args.after.now c.args.strokes.now (sym c.one_else.ensures ∙ c.if-one_else.true)),
+    )
+
+pub redraw_defined-requires-clause-kept : goal.redraw_defined-requires-clause-kept
+redraw_defined-requires-clause-kept g c =
+    λ k same. c.requires.kept k (same ∙ sym (c.is_same.ensures.same c.if-not-is_same.false))
 
 pub refresh_rows-requires-clause-valid : goal.refresh_rows-requires-clause-valid
 refresh_rows-requires-clause-valid g c =
@@ -109,14 +139,12 @@ returns-then-put-clause-kept g c =
     (c.requires.kept k (same ∙ sym (c.is_same.ensures.same c.if-not-is_same.false))) alone)
 
 pub returns-then-put-clause-cost : goal.returns-then-put-clause-cost
-returns-then-put-clause-cost g c =
+returns-then-put-clause-cost g c k m ek em =
     omega (
       arith,
       c.refresh_place.ensures.cost,
-      due-put c.in-Some.put.place c.in-Some.put.cell.now c.args.strokes.now (pens_of c.args.page.now)
-          (pens_of c.put.new.self) c.args.before.now c.args.after.now (list_by_index 1 24 (followed c.args.strokes.now)) c.args.kept.now
-          c.refresh_place.new.kept
-          c.in-Some.ensures c.refresh_place.ensures.on_screen,
+      put-resolved c.in-Some.put.place c.in-Some.put.cell.now c.args.strokes.now (core_on k c.args.page.now)
+          (core_on m c.put.new.self) c.in-Some.ensures c.refresh_place.ensures.on_screen,
     )
 
 pub returns-then-sets_unshown-clause-kept : goal.returns-then-sets_unshown-clause-kept

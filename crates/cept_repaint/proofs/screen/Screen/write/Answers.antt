@@ -1,13 +1,17 @@
-use Rattle.std.proofs.Common.{List, sym, ap, subst, ◌∙◌, arith}
+use Rattle.std.proofs.Common.{◌≡◌, ◌≤◌, ◌+◌, List, sym, ap, subst, ◌∙◌, arith}
 use Rattle.cept_codes.specs.declared.stroke.Stroke.{Stroke}
-use Rattle.cept_profile.specs.Edges.{edges_of}
-use Rattle.cept_profile.specs.State.{State, page_after, state_after}
+use Rattle.cept_profile.specs.Control.{control_after}
+use Rattle.cept_profile.specs.Edges.{Edges, edges_of}
+use Rattle.cept_profile.specs.State.{State, core_of, page_after, state_after}
 use Rattle.cept_profile.specs.Valid.{IsValidPage}
 use Rattle.cept_profile.proofs.Laws.{IsValidState-state_after}
 use Rattle.cept_repaint.specs.Kept.{state_of_parts}
 use Rattle.cept_repaint.proofs.KeptAfter.{AreEdges-state, AreLooksOn-state, IsKept-state_after, looks_of-drawn, marks-kept}
-use Rattle.cept_repaint.proofs.KeptAfter.{SetsUnshown-entry, rows_due-resolved_of, edges-entry, state_after-drawn}
+use Rattle.cept_repaint.proofs.KeptAfter.{SetsUnshown-entry, edges-entry, rows_resolved-of, state_after-drawn}
 use Rattle.cept_repaint.proofs.RowsDue.{rows_resolved-in_reach, rows_resolved-le}
+use Rattle.cept_profile.specs.Strokes.{strokes_of}
+use Rattle.cept_repaint.specs.Resolved.{mixes, rows_resolved}
+use Rattle.cept_repaint.proofs.screen.Screen.write.Given as given
 use Rattle.cept_repaint.proofs.screen.Screen.write.Goals as goal
 
 pub redraw-requires-clause-kept : goal.redraw-requires-clause-kept
@@ -47,52 +51,38 @@ returns-clause-marks g c =
     c.edges-after.ensures c.redraw.ensures.kept)
     c.redraw.ensures.marks
 
-pub returns-clause-cost : goal.returns-clause-cost
-returns-clause-cost g c =
+-- no more rows were resolved than the command may
+resolved : (g : given.Over) (c : goal.After-redraw g)
+    → c.redraw.new.steps ≤ c.args.steps.now + rows_resolved c.args.self.now c.args.command.now
+resolved g c =
+    let was : State = record { page = c.self.inside.page; control = c.self.inside.control } in
+    let next : State = record { page = c.redraw.new.page; control = c.step_into.new.self } in
     let strokes = c.as_slice-strokes.ensures.value ∙ c.step_into.ensures.strokes in
     let whole = state_after-drawn c.self.inside.page c.self.inside.control c.args.command.now c.redraw.new.page
     c.step_into.new.self c.as_slice-strokes.result.now strokes c.redraw.ensures.page c.step_into.ensures.state in
-    let looks = looks_of-drawn c.redraw.new.page c.step_into.new.self c.edges-after.result c.redraw.new.kept
-    c.edges-after.ensures c.redraw.ensures.kept in
     omega (
       arith,
-      c.redraw.ensures.cost,
-      rows_due-resolved_of c.self.invariant c.args.command.now c.redraw.new.page c.step_into.new.self c.redraw.new.kept
-          c.as_slice-strokes.result.now c.edges-before.result c.edges-after.result strokes
-          c.edges-before.ensures c.edges-after.ensures whole looks c.args.self.now c.self.view_is,
+      c.redraw.ensures.cost (core_of was) (core_of next) (sym c.edges-before.ensures) (sym c.edges-after.ensures),
+      rows_resolved-of c.args.command.now c.redraw.new.page c.step_into.new.self c.as_slice-strokes.result.now strokes
+          whole c.args.self.now c.self.view_is,
     )
+
+pub returns-clause-cost : goal.returns-clause-cost
+returns-clause-cost g c = resolved g c
 
 pub returns-clause-at_most_24 : goal.returns-clause-at_most_24
 returns-clause-at_most_24 g c =
-    let strokes = c.as_slice-strokes.ensures.value ∙ c.step_into.ensures.strokes in
-    let whole = state_after-drawn c.self.inside.page c.self.inside.control c.args.command.now c.redraw.new.page
-    c.step_into.new.self c.as_slice-strokes.result.now strokes c.redraw.ensures.page c.step_into.ensures.state in
-    let looks = looks_of-drawn c.redraw.new.page c.step_into.new.self c.edges-after.result c.redraw.new.kept
-    c.edges-after.ensures c.redraw.ensures.kept in
-    omega (
-      arith,
-      c.redraw.ensures.cost,
-      rows_due-resolved_of c.self.invariant c.args.command.now c.redraw.new.page c.step_into.new.self c.redraw.new.kept
-          c.as_slice-strokes.result.now c.edges-before.result c.edges-after.result strokes
-          c.edges-before.ensures c.edges-after.ensures whole looks c.args.self.now c.self.view_is,
-      rows_resolved-le c.args.self.now c.args.command.now,
-    )
+    omega (arith, resolved g c, rows_resolved-le c.args.self.now c.args.command.now)
 
 pub returns-clause-in_reach : goal.returns-clause-in_reach
 returns-clause-in_reach g c none =
-    let strokes = c.as_slice-strokes.ensures.value ∙ c.step_into.ensures.strokes in
-    let whole = state_after-drawn c.self.inside.page c.self.inside.control c.args.command.now c.redraw.new.page
-    c.step_into.new.self c.as_slice-strokes.result.now strokes c.redraw.ensures.page c.step_into.ensures.state in
-    let looks = looks_of-drawn c.redraw.new.page c.step_into.new.self c.edges-after.result c.redraw.new.kept
-    c.edges-after.ensures c.redraw.ensures.kept in
-    omega (
-      arith,
-      c.redraw.ensures.cost,
-      rows_due-resolved_of c.self.invariant c.args.command.now c.redraw.new.page c.step_into.new.self c.redraw.new.kept
-          c.as_slice-strokes.result.now c.edges-before.result c.edges-after.result strokes
-          c.edges-before.ensures c.edges-after.ensures whole looks c.args.self.now c.self.view_is,
-      rows_resolved-in_reach c.args.self.now c.args.command.now none,
-    )
+    let next : edges_of c.step_into.new.self
+    ≡ edges_of (control_after c.args.self.now.control c.args.command.now) =
+    ap edges_of (c.step_into.ensures.state
+    ∙ ap (λ (s : State). control_after s.control c.args.command.now) c.self.view_is) in
+    let apart = ap (λ (e : Edges). mixes (edges_of c.args.self.now.control) e
+    (strokes_of c.args.self.now.control c.args.command.now)) (sym next) ∙ none in
+    omega (arith, resolved g c, rows_resolved-in_reach c.args.self.now c.args.command.now apart)
 
 pub returns-clause-unshown : goal.returns-clause-unshown
 returns-clause-unshown g c i colour entry unshown =

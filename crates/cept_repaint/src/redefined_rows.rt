@@ -1,0 +1,96 @@
+ghost use Rattle.std.specs.Prelude.{◌≡◌, ℕ};
+ghost use Rattle.std.specs.List.{AllByRecursion};
+ghost use Rattle.cept_codes.specs.Stroke.{IsValidStroke};
+ghost use Rattle.cept_codes.specs.Table.{list_by_index};
+ghost use Rattle.cept_profile.specs.Look.{looks_of};
+ghost use Rattle.cept_profile.specs.Names.{names_entry};
+ghost use Rattle.cept_profile.specs.Reach.{is_redefined, redefines};
+ghost use Rattle.cept_profile.specs.State.{Core};
+ghost use Rattle.cept_profile.specs.Valid.{IsValidPage};
+ghost use Rattle.cept_repaint.specs.Kept.{core_on};
+ghost use Rattle.cept_repaint.specs.Redefined.{IsNamedRow, is_ink_in};
+
+use crate::kept_rows::KeptRows;
+use crate::page::Page;
+use cept_codes::Stroke;
+use cept_colours::Colours;
+use cept_rows::{RowLooks, RowNames};
+
+/// For each row from the top, whether one of the strokes sets or clears something that it names,
+/// where these are the looks of the page.
+pub(crate) fn rows_redefined(page: &Page, strokes: &[Stroke], kept: &KeptRows) -> [bool; 24]
+    requires valid { IsValidPage page.now }
+    requires each { AllByRecursion IsValidStroke strokes.now }
+    ensures { (k : Core) → kept.now ≡ looks_of (core_on k page.now)
+        → result ≡ list_by_index 1 24 (is_redefined (core_on k page.now) strokes.now) }
+{
+    let mut redefined = [false; 24];
+    let mut above = RowNames::blank();
+    for i in 0..24u8 {
+        let names = page.name_row(i + 1, &above, kept.row(i + 1));
+        redefined[usize::from(i)] = is_redefined(strokes, &names, kept.row(i + 1), page.colours());
+        above = names;
+    }
+    redefined
+}
+
+/// Whether one of the strokes sets or clears something that a row with these names and looks names.
+fn is_redefined(strokes: &[Stroke], names: &RowNames, looks: &RowLooks, colours: &Colours) -> bool
+    requires each { AllByRecursion IsValidStroke strokes.now }
+    ensures { (k : Core) (r : ℕ) → IsNamedRow k r names.now looks.now colours.now.dclut
+        → result ≡ is_redefined k strokes.now r }
+{
+    for stroke in strokes {
+        if redefines(stroke, names, looks, colours) {
+            return true;
+        }
+    }
+    false
+}
+
+/// Whether a stroke does.
+fn redefines(stroke: &Stroke, names: &RowNames, looks: &RowLooks, colours: &Colours) -> bool
+    requires valid { IsValidStroke stroke.now }
+    ensures { (k : Core) (r : ℕ) → IsNamedRow k r names.now looks.now colours.now.dclut
+        → result ≡ redefines k r stroke.now }
+{
+    match stroke {
+        Stroke::Colour(entry, _) => names_entry(*entry, names, looks, colours),
+        Stroke::Dclut(number, _) => *number < 4 && looks.shows_planes(2),
+        // Each row names some.
+        Stroke::ColourDefaults => true,
+        Stroke::Drcs(code, _) => names.has_code(*code),
+        Stroke::DrcsClear => names.has_some_code(),
+        // These define nothing.
+        Stroke::Put(_, _)
+        | Stroke::Erase(_, _)
+        | Stroke::Wipe
+        | Stroke::Shift(_, _, _)
+        | Stroke::RowAttr(_, _)
+        | Stroke::ScreenAttr(_)
+        | Stroke::ScreenClear
+        | Stroke::Format(_) => false,
+    }
+}
+
+/// Whether a row names a colour entry: as a foreground, as a background, or as an ink of a pattern.
+fn names_entry(entry: u8, names: &RowNames, looks: &RowLooks, colours: &Colours) -> bool
+    ensures { (k : Core) (r : ℕ) → IsNamedRow k r names.now looks.now colours.now.dclut
+        → result ≡ names_entry k r entry }
+{
+    let two = looks.shows_planes(2) & is_ink(entry, colours);
+    let four = looks.shows_planes(4) & (16 <= entry) & (entry < 32);
+    names.has_entry(entry) | two | four
+}
+
+/// Whether an entry of the DCLUT names this colour entry.
+fn is_ink(entry: u8, colours: &Colours) -> bool
+    ensures { result ≡ is_ink_in colours.now.dclut entry }
+{
+    for i in 0..4u8 {
+        if colours.dclut(i) == entry {
+            return true;
+        }
+    }
+    false
+}
