@@ -99,11 +99,8 @@ pub(crate) fn redraw<L: Ledger>(
             if page.put(put.place, put.cell) {
                 refresh_place(page, put.place, kept, marks, steps);
             } else {
-                let rows = follow_rows(strokes);
-                let altered = row_alone(put.place.row());
-                refresh_rows(
-                    page, &rows, &altered, after, stood, kept, fresh, marks, steps,
-                );
+                let row = put.place.row();
+                refresh_put(page, strokes, row, after, stood, kept, fresh, marks, steps);
             }
         }
         None => {
@@ -121,6 +118,8 @@ pub(crate) fn redraw<L: Ledger>(
 }
 
 /// The same of any strokes, where nothing is marked yet.
+// Apart, since most commands write a sign that is resolved by itself, which needs less.
+#[inline(never)]
 fn redraw_rows<L: Ledger>(
     page: &mut Page,
     strokes: &[Stroke],
@@ -160,6 +159,7 @@ fn redraw_rows<L: Ledger>(
 
 /// The same of strokes that all define something, where nothing is marked yet: the rows that name it are
 /// resolved. The page has these edges.
+#[inline(never)]
 fn redraw_defined<L: Ledger>(
     page: &mut Page,
     strokes: &[Stroke],
@@ -188,6 +188,45 @@ fn redraw_defined<L: Ledger>(
     let rows = rows_at_rest();
     refresh_rows(
         page, &rows, &redefined, edges, stood, kept, fresh, marks, steps,
+    );
+}
+
+/// Resolves a row in which the strokes write, and the rows that are covered otherwise than before, where
+/// no row moved.
+#[inline(never)]
+fn refresh_put<L: Ledger>(
+    page: &Page,
+    strokes: &[Stroke],
+    row: u8,
+    edges: &Edges,
+    stood: &KeptRows,
+    kept: &mut KeptRows,
+    fresh: &mut RowLooks,
+    marks: &mut Marks,
+    steps: &mut Steps<L>,
+)
+    requires strokes { AllByRecursion IsValidStroke strokes.now }
+    requires from_top { 1 ≤ row }
+    requires to_bottom { row ≤ 24 }
+    requires none { marks.old ≡ no_marks }
+    requires valid { IsValidPage page.now }
+    requires edges { AreEdges edges.now }
+    requires freed { (r : ℕ) → 1 ≤ r → r ≤ 24 → row_from (list_by_index 1 24 (followed strokes.now)) r ≡ None
+        → entry false 1 (list_by_index 1 24 (λ q. row == q)) r ≡ true }
+    requires still { (r q : ℕ) → 1 ≤ r → r ≤ 24
+        → row_from (list_by_index 1 24 (followed strokes.now)) r ≡ Some q → q ≡ r }
+    requires others { (k : Core) → edges_of_core k ≡ edges.now
+        → OtherRowsStay (list_by_index 1 24 (λ q. row == q)) (list_by_index 1 24 (followed strokes.now))
+        kept.old (core_on k page.now) }
+    ensures kept { AreLooksOn kept.new page.now edges.now }
+    ensures marks { marks.new ≡ differences kept.old kept.new }
+    ensures cost { steps.new ≡ steps.old + rows_due (list_by_index 1 24 (λ q. row == q))
+        (list_by_index 1 24 (followed strokes.now)) kept.old kept.new }
+{
+    let rows = follow_rows(strokes);
+    let altered = row_alone(row);
+    refresh_rows(
+        page, &rows, &altered, edges, stood, kept, fresh, marks, steps,
     );
 }
 

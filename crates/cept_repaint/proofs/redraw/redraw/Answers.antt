@@ -1,71 +1,63 @@
-use Rattle.std.proofs.Common.{Bool, List, length, refl, sym, ap, subst, ◌∙◌, arith}
+use Rattle.std.proofs.Common.{Bool, List, length, refl, sym, ap, subst, ◌∙◌, ◌==◌, arith}
 use Rattle.std.proofs.lemmas.Bool.{eqb-true, true≢false}
 use Rattle.cept_profile.specs.Look.{looks_of}
 use Rattle.cept_profile.specs.State.{Page}
 use Rattle.cept_profile.specs.Valid.{IsValidPage}
 use Rattle.cept_codes.specs.Table.{list_by_index}
-use Rattle.cept_repaint.specs.declared.followed_rows.Followed.{Followed}
-use Rattle.cept_repaint.specs.Due.{is_altered, pens_of, rows_due}
+use Rattle.cept_repaint.specs.Due.{followed, pens_of, rows_due}
 use Rattle.cept_repaint.specs.Kept.{core_on}
 use Rattle.cept_repaint.proofs.AloneRows.{OthersStay-put}
 use Rattle.cept_repaint.proofs.OnePlace.{IsPutAlone-drawn, page_after-none, page_after-put_alone}
 use Rattle.cept_repaint.proofs.Refreshed.{differences_none}
 use Rattle.cept_repaint.proofs.AlteredRows.{altered-put}
-use Rattle.cept_repaint.proofs.FollowedRows.{came-followed, still-put}
+use Rattle.cept_repaint.proofs.FollowedRows.{still-put}
 use Rattle.cept_repaint.proofs.RowsDue.{freed-altered, mixes-edges, mixes-else, put-resolved, put_defines_nothing, rows_due-resolved}
 use Rattle.cept_repaint.proofs.UnshownPaints.{looks_of-unshown}
 use Rattle.cept_repaint.proofs.WalkedRows.{OtherRowsStay-drawn}
 use Rattle.cept_repaint.proofs.redraw.redraw.Goals as goal
 
-pub refresh_rows-requires-clause-came : goal.refresh_rows-requires-clause-came
-refresh_rows-requires-clause-came g c =
-    came-followed c.follow_rows-rows.result c.args.strokes.now c.follow_rows-rows.ensures c.requires.strokes
-
-pub refresh_rows-requires-clause-freed : goal.refresh_rows-requires-clause-freed
-refresh_rows-requires-clause-freed g c =
+pub refresh_put-requires-clause-freed : goal.refresh_put-requires-clause-freed
+refresh_put-requires-clause-freed g c =
     let drawn = page_after-put_alone c.args.page.now c.put.new.self c.args.strokes.now c.in-Some.put.place
     c.in-Some.put.cell.now c.in-Some.ensures c.put.ensures.drawn in
-    freed-altered c.row_alone-altered.result c.follow_rows-rows.result c.args.strokes.now (pens_of c.args.page.now)
+    freed-altered (list_by_index 1 24 (λ q. c.row-row.result == q)) (list_by_index 1 24 (followed c.args.strokes.now)) c.args.strokes.now (pens_of c.args.page.now)
     c.args.before.now (pens_of c.put.new.self) c.args.after.now
     (altered-put c.args.page.now c.put.new.self c.args.strokes.now c.in-Some.put.place c.in-Some.put.cell.now
-    c.args.before.now c.args.after.now c.row_alone-altered.result c.row.result c.in-Some.ensures drawn
-    (c.is_same.ensures.same c.if-not-is_same.false) c.row_alone-altered.ensures c.row.ensures.row)
-    c.follow_rows-rows.ensures
+    c.args.before.now c.args.after.now (list_by_index 1 24 (λ q. c.row-row.result == q)) c.row-row.result c.in-Some.ensures drawn
+    (c.is_same.ensures.same c.if-not-is_same.false) refl c.row-row.ensures.row)
+    refl
 
-pub refresh_rows-requires-clause-stood : goal.refresh_rows-requires-clause-stood
-refresh_rows-requires-clause-stood g c r q low high came away =
-    absurd (away (still-put c.follow_rows-rows.result c.args.strokes.now c.in-Some.put.place c.in-Some.put.cell.now
-    c.follow_rows-rows.ensures c.in-Some.ensures r q low high came))
+pub refresh_put-requires-clause-still : goal.refresh_put-requires-clause-still
+refresh_put-requires-clause-still g c r q low high came =
+    still-put (list_by_index 1 24 (followed c.args.strokes.now)) c.args.strokes.now c.in-Some.put.place
+    c.in-Some.put.cell.now refl c.in-Some.ensures r q low high came
 
-pub refresh_rows-requires-clause-others : goal.refresh_rows-requires-clause-others
-refresh_rows-requires-clause-others g c =
+pub refresh_put-requires-clause-others : goal.refresh_put-requires-clause-others
+refresh_put-requires-clause-others g c =
     let drawn = page_after-put_alone c.args.page.now c.put.new.self c.args.strokes.now c.in-Some.put.place
     c.in-Some.put.cell.now c.in-Some.ensures c.put.ensures.drawn in
     OtherRowsStay-drawn c.args.page.now c.put.new.self c.args.strokes.now c.args.before.now c.args.after.now
-    c.args.kept.now c.row_alone-altered.result c.follow_rows-rows.result c.requires.was_valid c.requires.strokes
+    c.args.kept.now (list_by_index 1 24 (λ q. c.row-row.result == q)) (list_by_index 1 24 (followed c.args.strokes.now)) c.requires.was_valid c.requires.strokes
     c.requires.from c.requires.kept drawn
     (altered-put c.args.page.now c.put.new.self c.args.strokes.now c.in-Some.put.place c.in-Some.put.cell.now
-    c.args.before.now c.args.after.now c.row_alone-altered.result c.row.result c.in-Some.ensures drawn
-    (c.is_same.ensures.same c.if-not-is_same.false) c.row_alone-altered.ensures c.row.ensures.row)
-    c.follow_rows-rows.ensures
+    c.args.before.now c.args.after.now (list_by_index 1 24 (λ q. c.row-row.result == q)) c.row-row.result c.in-Some.ensures drawn
+    (c.is_same.ensures.same c.if-not-is_same.false) refl c.row-row.ensures.row)
+    refl
 
 pub returns-else-put-clause-cost : goal.returns-else-put-clause-cost
 returns-else-put-clause-cost g c k m ek em =
     let drawn = page_after-put_alone c.args.page.now c.put.new.self c.args.strokes.now c.in-Some.put.place
     c.in-Some.put.cell.now c.in-Some.ensures c.put.ensures.drawn in
     let flags = altered-put c.args.page.now c.put.new.self c.args.strokes.now c.in-Some.put.place c.in-Some.put.cell.now
-    c.args.before.now c.args.after.now c.row_alone-altered.result c.row.result c.in-Some.ensures drawn
-    (c.is_same.ensures.same c.if-not-is_same.false) c.row_alone-altered.ensures c.row.ensures.row in
+    c.args.before.now c.args.after.now (list_by_index 1 24 (λ q. c.row-row.result == q)) c.row-row.result c.in-Some.ensures drawn
+    (c.is_same.ensures.same c.if-not-is_same.false) refl c.row-row.ensures.row in
     let none = put_defines_nothing c.in-Some.put.place c.in-Some.put.cell.now c.args.strokes.now c.in-Some.ensures in
     omega (
       arith,
-      c.refresh_rows.ensures.cost,
-      ap (λ (l : List Bool). rows_due l c.follow_rows-rows.result c.args.kept.now c.refresh_rows.new.kept) flags,
-      ap (λ (l : List Followed). rows_due (list_by_index 1 24 (is_altered c.args.strokes.now (pens_of c.args.page.now)
-          c.args.before.now (pens_of c.put.new.self) c.args.after.now)) l c.args.kept.now c.refresh_rows.new.kept)
-          c.follow_rows-rows.ensures,
+      c.refresh_put.ensures.cost,
+      ap (λ (l : List Bool). rows_due l (list_by_index 1 24 (followed c.args.strokes.now)) c.args.kept.now c.refresh_put.new.kept) flags,
       rows_due-resolved c.args.page.now c.put.new.self c.args.strokes.now c.args.before.now c.args.after.now
-          c.args.kept.now c.refresh_rows.new.kept k m ek em (c.requires.kept k ek) (c.refresh_rows.ensures.kept m em)
+          c.args.kept.now c.refresh_put.new.kept k m ek em (c.requires.kept k ek) (c.refresh_put.ensures.kept m em)
           (λ some. absurd (true≢false (sym some ∙ none))),
     )
 
@@ -95,8 +87,8 @@ pub redraw_defined-requires-clause-kept : goal.redraw_defined-requires-clause-ke
 redraw_defined-requires-clause-kept g c =
     λ k same. c.requires.kept k (same ∙ sym (c.is_same.ensures.same c.if-not-is_same.false))
 
-pub refresh_rows-requires-clause-valid : goal.refresh_rows-requires-clause-valid
-refresh_rows-requires-clause-valid g c =
+pub refresh_put-requires-clause-valid : goal.refresh_put-requires-clause-valid
+refresh_put-requires-clause-valid g c =
     subst (λ (p : Page). IsValidPage p)
     (sym (page_after-put_alone c.args.page.now c.put.new.self c.args.strokes.now c.in-Some.put.place
     c.in-Some.put.cell.now
