@@ -12,13 +12,13 @@ use Rattle.cept_outside.specs.SinkState.{SinkState, PutsText}
 use Rattle.cept_outside.proofs.Laws.{Gains-append}
 use Rattle.cept_profile.specs.Changes.{changes_between, marked_looks, differences, grid_with_paints}
 use Rattle.cept_profile.specs.Look.{looks_of}
-use Rattle.cept_repaint.specs.Resolved.{rows_resolved}
+use Rattle.cept_profile.specs.Reach.{rows_in_reach}
 use Rattle.cept_profile.specs.State.{State, state, state_after, core_of}
 use Rattle.cept_profile.specs.Valid.{AllValid}
 use Rattle.cept_repaint.specs.Applied.{IsApplied, IsRepainted}
 use Rattle.cept_repaint.specs.GlassState.{GlassState, Lists}
 use Rattle.cept_report.specs.Text.{change_lines}
-use Rattle.cept_editor.specs.Applying.{state_after_all, rows_resolved_of_all, AppliesOne, HasApplied}
+use Rattle.cept_editor.specs.Applying.{state_after_all, rows_in_reach_of_all, AppliesOne, HasApplied}
 use Rattle.cept_editor.specs.Applying.{AppliesAll, MarksLast}
 use Rattle.cept_editor.specs.Events.{Event, event_changes, report}
 use Rattle.cept_editor.specs.Made.{Output, output_of, IsMade, AreMade}
@@ -78,18 +78,18 @@ state_after_all-more s [] c = refl
 state_after_all-more s (first ∷ cs) c = state_after_all-more (state_after s first) cs c
 
 rows-append : (s : State) (cs ds : List Command)
-    → rows_resolved_of_all s (cs ++ ds) ≡ rows_resolved_of_all s cs + rows_resolved_of_all (state_after_all s cs) ds
-unfolding state_after_all rows_resolved_of_all
+    → rows_in_reach_of_all s (cs ++ ds) ≡ rows_in_reach_of_all s cs + rows_in_reach_of_all (state_after_all s cs) ds
+unfolding state_after_all rows_in_reach_of_all
 rows-append s [] ds = omega arith
 rows-append s (c ∷ cs) ds = let rest = rows-append (state_after s c) cs ds in omega (arith, rest)
 
-rows-one : (s : State) (c : Command) → rows_resolved_of_all s (c ∷ []) ≡ rows_resolved s c
-unfolding rows_resolved_of_all
+rows-one : (s : State) (c : Command) → rows_in_reach_of_all s (c ∷ []) ≡ rows_in_reach s c
+unfolding rows_in_reach_of_all
 rows-one s c = omega arith
 
 rows-first : (s : State) (c : Command) (cs : List Command)
-    → rows_resolved_of_all s (c ∷ cs) ≡ rows_resolved s c + rows_resolved_of_all (state_after s c) cs
-unfolding rows_resolved_of_all
+    → rows_in_reach_of_all s (c ∷ cs) ≡ rows_in_reach s c + rows_in_reach_of_all (state_after s c) cs
+unfolding rows_in_reach_of_all
 rows-first s c cs = refl
 
 -- ---- so far
@@ -105,7 +105,7 @@ pub record HasGone (listed : Bool) (line : ℕ) (whole left : List Command) (old
       → HasApplied listed line history done before new after
   pub faults : after.sink.faults ≡ before.sink.faults
   pub marked : 0 < length done → MarksLast {X = Unit {0}} {E = Unit {0}} done old (Ok tt) new marks
-  pub cost : ticks ≤ start + rows_resolved_of_all old done
+  pub cost : ticks ≤ start + rows_in_reach_of_all old done
   pub at_most : ticks ≤ start + 24 * length done
 
 pub gone_none : (listed : Bool) (line : ℕ) (whole : List Command) (old : State) (before : Output) (marks : List Bool)
@@ -163,7 +163,7 @@ gone_more listed line whole left c old before mid now new after marks marks' sta
         shown = tt;
       };
       cost =
-          let reach = ap (λ s. rows_resolved s c) g.stands in
+          let reach = ap (λ s. rows_in_reach s c) g.stands in
           omega (arith, g.cost, one.applied.cost, reach, rows-append old g.done (c ∷ []), rows-one (state_after_all old g.done) c);
       at_most = omega (arith, g.at_most, one.applied.at_most_24, length-append g.done (c ∷ []));
     }
@@ -216,10 +216,10 @@ all_marked listed line whole old before new after marks start ticks g some =
 pub all_cost : (listed : Bool) (line : ℕ) (whole : List Command) (old : State)
     (before : Output) (new : State) (after : Output) (marks : List Bool) (start ticks : ℕ)
     → HasGone listed line whole [] old before new after marks start ticks
-    → (ticks ≤ start + rows_resolved_of_all old whole) × (ticks ≤ start + 24 * length whole)
+    → (ticks ≤ start + rows_in_reach_of_all old whole) × (ticks ≤ start + 24 * length whole)
 all_cost listed line whole old before new after marks start ticks g =
     let same : g.done ≡ whole = sym (append-nil g.done) ∙ sym g.split in (
-      subst (λ cs. ticks ≤ start + rows_resolved_of_all old cs) same g.cost,
+      subst (λ cs. ticks ≤ start + rows_in_reach_of_all old cs) same g.cost,
       subst (λ cs. ticks ≤ start + 24 * length cs) same g.at_most,
     )
 
@@ -284,10 +284,10 @@ stopped_marked listed line whole left c old before mid now new marks marks' star
 pub stopped_cost : {new : State} {marks' : List Bool} {glass : GlassState} (listed : Bool) (line : ℕ) (whole left : List Command) (c : Command)
     (old : State) (before : Output) (mid : State) (now : Output) (marks : List Bool) (start ticks ticks' : ℕ)
     → HasGone listed line whole (c ∷ left) old before mid now marks start ticks
-    → IsApplied mid c new marks' now.glass glass ticks ticks' → (ticks' ≤ start + rows_resolved_of_all old whole) × (ticks' ≤ start + 24 * length whole)
+    → IsApplied mid c new marks' now.glass glass ticks ticks' → (ticks' ≤ start + rows_in_reach_of_all old whole) × (ticks' ≤ start + 24 * length whole)
 stopped_cost listed line whole left c old before mid now marks start ticks ticks' g one =
-    let reach = ap (λ s. rows_resolved s c) g.stands in
-    let rows = ap (rows_resolved_of_all old) g.split ∙ rows-append old g.done (c ∷ left) in
+    let reach = ap (λ s. rows_in_reach s c) g.stands in
+    let rows = ap (rows_in_reach_of_all old) g.split ∙ rows-append old g.done (c ∷ left) in
     let first = rows-first (state_after_all old g.done) c left in
     let size = ap length g.split ∙ length-append g.done (c ∷ left) in
     (omega (arith, g.cost, one.cost, reach, rows, first), omega (arith, g.at_most, one.at_most_24, size))

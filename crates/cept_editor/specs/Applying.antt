@@ -4,7 +4,7 @@ use Rattle.std.specs.Prelude.{◌≡◌, ◌≢◌, ℕ, ◌+◌, Bool, List, []
 use Rattle.cept_codes.specs.declared.command.Command.{Command}
 use Rattle.cept_profile.specs.Changes.{changes_between, differences}
 use Rattle.cept_profile.specs.Look.{looks_of}
-use Rattle.cept_repaint.specs.Resolved.{rows_resolved}
+use Rattle.cept_profile.specs.Reach.{rows_in_reach}
 use Rattle.cept_profile.specs.State.{State, state, state_after, core_of}
 use Rattle.cept_profile.specs.Valid.{AllValid}
 use Rattle.cept_repaint.specs.Applied.{IsApplied}
@@ -20,14 +20,14 @@ state_after_all s [] = s
 state_after_all s (c ∷ cs) = state_after_all (state_after s c) cs
 
 -- how many rows commands may resolve, each after the ones before it
-unfoldable pub rows_resolved_of_all : State → List Command → ℕ
-rows_resolved_of_all s [] = 0
-rows_resolved_of_all s (c ∷ cs) = rows_resolved s c + rows_resolved_of_all (state_after s c) cs
+unfoldable pub rows_in_reach_of_all : State → List Command → ℕ
+rows_in_reach_of_all s [] = 0
+rows_in_reach_of_all s (c ∷ cs) = rows_in_reach s c + rows_in_reach_of_all (state_after s c) cs
 
 -- how many rows an edit line may resolve: those that its commands may, and all 24 at a turn
 abbrev pub rows_of_step : State → Step → ℕ
 rows_of_step s (Turn turn) = 24
-rows_of_step s (Edit commands) = rows_resolved_of_all s commands
+rows_of_step s (Edit commands) = rows_in_reach_of_all s commands
 
 -- ---- edit lines by the states alone
 

@@ -11,7 +11,7 @@ ghost use Rattle.cept_profile.specs.State.{core_of, state};
 ghost use Rattle.cept_repaint.specs.Applied.{IsApplied};
 ghost use Rattle.cept_undo.specs.Past.{FitsTogether, IsBegun, StaysBegun};
 ghost use Rattle.cept_editor.specs.Applying.{AppliesOne, AppliesAll, HasMade, MarksLast, MarksStep};
-ghost use Rattle.cept_editor.specs.Applying.{rows_resolved_of_all, rows_of_step};
+ghost use Rattle.cept_editor.specs.Applying.{rows_in_reach_of_all, rows_of_step};
 ghost use Rattle.cept_editor.specs.Kept.{none_kept, StandsAfter};
 ghost use Rattle.cept_editor.specs.Made.{output_of};
 ghost use Rattle.cept_editor.specs.Meaning.{Turn, TakeBack, Edit as EditOf, command_count};
@@ -90,7 +90,7 @@ fn apply_commands<G: Glass, T: Sink, L: Ledger>(
     ensures quiet { listed ≡ false → IsOk result × (T.state sink.new ≡ T.state sink.old) }
     ensures marks { 0 < length commands.entry
         → MarksLast commands.entry screen.old result screen.new marks.new }
-    ensures cost { steps.new ≤ steps.old + rows_resolved_of_all screen.old commands.entry }
+    ensures cost { steps.new ≤ steps.old + rows_in_reach_of_all screen.old commands.entry }
     ensures at_most_24 { steps.new ≤ steps.old + 24 * length commands.entry }
 {
     while let Some(command) = commands.next() {
@@ -219,7 +219,7 @@ impl Editor {
         ensures quiet { listed ≡ false → IsOk result × (T.state sink.new ≡ T.state sink.old) }
         ensures marks { MarksLast commands.entry self.old.screen result self.new.screen marks.new }
         ensures cost { steps.new
-            ≤ steps.old + rows_resolved_of_all self.old.screen commands.entry }
+            ≤ steps.old + rows_in_reach_of_all self.old.screen commands.entry }
         ensures at_most_24 { steps.new ≤ steps.old + 24 * length commands.entry }
         ensures done { result ≢ Ok Done.Nothing }
     {

@@ -31,6 +31,5 @@ IsApplied-unseen old command new marked glass ticks good after same none = recor
     told = unchanged_told (looks_of (core_of old)) (looks_of (core_of new)) glass same;
   };
   cost = omega arith;
-  in_reach = λ _. omega arith;
   at_most_24 = omega arith;
 }

@@ -19,9 +19,12 @@ use Rattle.cept_profile.specs.Strokes.{strokes_of}
 use Rattle.cept_profile.specs.Valid.{IsValidState}
 use Rattle.cept_profile.proofs.Laws.{IsValidState-state_after}
 use Rattle.cept_profile.specs.PageParts.{paint_in}
-use Rattle.cept_repaint.specs.Kept.{AreEdges, AreLooksOn, IsKept, SetsUnshown}
-use Rattle.cept_repaint.specs.Resolved.{rows_resolved, rows_resolved_by}
-use Rattle.cept_repaint.specs.Unshown.{IsUnshown}
+use Rattle.cept_profile.specs.Reach.{rows_in_reach}
+use Rattle.cept_repaint.specs.Kept.{AreEdges, AreLooksOn, core_on}
+use Rattle.cept_repaint.specs.Named.{AreNamed, AreNamedOn, IsKept, NamesOfRows}
+use Rattle.cept_repaint.specs.Resolved.{rows_resolved_by}
+use Rattle.cept_repaint.proofs.MixedCommands.{resolved-in_reach}
+use Rattle.cept_repaint.proofs.RedefinedRows.{AreNamed-alike}
 use Rattle.cept_repaint.proofs.OnePlace.{page_after-none}
 use Rattle.cept_profile.proofs.Laws.{looks_of-alike}
 use Rattle.cept_repaint.proofs.WalkedRows.{AreLooksOn-one}
@@ -50,33 +53,47 @@ state_after-drawn p c command q d strokes es eq ed =
 
 -- what is kept after it
 pub IsKept-state_after : {p : Page} {c : ControlState} {kept : List (List Look)}
-    → IsKept (record { page = p; control = c }) kept
+    {names : NamesOfRows} → IsKept (record { page = p; control = c }) kept names
     → (command : Command) → IsValidCommand command
-    → (q : Page) (d : ControlState) (next : List (List Look)) → (let s : State = record { page = q; control = d } in s)
+    → (q : Page) (d : ControlState) (next : List (List Look)) (more : NamesOfRows)
+    → (let s : State = record { page = q; control = d } in s)
     ≡ state_after (record { page = p; control = c }) command
-    → next ≡ looks_of (core_of (record { page = q; control = d })) → IsKept (record { page = q; control = d }) next
-IsKept-state_after {p} {c} {kept} is command valid q d next whole looks = record {
+    → next ≡ looks_of (core_of (record { page = q; control = d }))
+    → AreNamed more (core_of (record { page = q; control = d })) → IsKept (record { page = q; control = d }) next more
+IsKept-state_after {p} {c} {kept} {names} is command valid q d next more whole looks named = record {
   valid = subst (λ (s : State). IsValidState s) (sym whole)
       (IsValidState-state_after (record { page = p; control = c }) command is.valid valid);
   looks = looks;
+  named = named;
 }
+
+-- the names that are known of a state are those of its page and of its edges
+pub AreNamedOn-state : (s : State) (names : NamesOfRows) (edges : Edges) → edges ≡ edges_of s.control
+    → AreNamed names (core_of s) → AreNamedOn names s.page edges
+AreNamedOn-state s names edges same are k also =
+    AreNamed-alike names (core_of s) (core_on k s.page) refl refl refl
+    (ap (λ (e : Edges). e.rows) (also ∙ same)) are
+
+-- and back
+pub AreNamed-drawn : (q : Page) (d : ControlState) (after : Edges) (names : NamesOfRows) → after ≡ edges_of d
+    → AreNamedOn names q after → AreNamed names (core_of (record { page = q; control = d }))
+AreNamed-drawn q d after names ea named = named (core_of (record { page = q; control = d })) (sym ea)
 
 -- the looks after it are those of its page and of its edges
 pub looks_of-drawn : (q : Page) (d : ControlState) (after : Edges) (next : List (List Look)) → after ≡ edges_of d
     → AreLooksOn next q after → next ≡ looks_of (core_of (record { page = q; control = d }))
 looks_of-drawn q d after next ea looks = looks (core_of (record { page = q; control = d })) (sym ea)
 
--- as many rows as its strokes may resolve between two cores a command may in its state
-pub rows_resolved-of : {p : Page} {c : ControlState} (command : Command) (q : Page) (d : ControlState)
+-- as many rows as its strokes may resolve between two cores are in reach of a command in its state
+pub resolved-of : {p : Page} {c : ControlState} (command : Command) (q : Page) (d : ControlState)
     (strokes : List Stroke) → strokes ≡ strokes_of c command
     → (let s : State = record { page = q; control = d } in s) ≡ state_after (record { page = p; control = c }) command
     → (s : State) → (let was : State = record { page = p; control = c } in was) ≡ s
     → rows_resolved_by (core_of (record { page = p; control = c })) (core_of (record { page = q; control = d })) strokes
-    ≡ rows_resolved s command
-unfolding rows_resolved
-rows_resolved-of {p} {c} command q d strokes es whole s e =
+    ≡ rows_in_reach s command
+resolved-of {p} {c} command q d strokes es whole s e =
     (λ i. rows_resolved_by (core_of (record { page = p; control = c })) (core_of (whole i)) (es i))
-    ∙ ap (λ (t : State). rows_resolved t command) e
+    ∙ resolved-in_reach (record { page = p; control = c }) command ∙ ap (λ (t : State). rows_in_reach t command) e
 
 -- marks are the differences of two states' looks, where both are kept
 pub marks-kept : (s t u : State) (was now : List (List Look)) (marks : List Bool) → was ≡ looks_of (core_of s) → s ≡ t
@@ -100,42 +117,16 @@ looks_of-still p c d e =
 
 -- what is kept where a command without strokes is taken or not
 pub IsKept-still : {p : Page} {c : ControlState} {kept : List (List Look)}
-    → IsKept (record { page = p; control = c }) kept
+    {names : NamesOfRows} → IsKept (record { page = p; control = c }) kept names
     → (command : Command) → IsValidCommand command → (d : ControlState) (taken : Bool)
     → (taken ≡ true → d ≡ control_after c command) → (taken ≡ true → strokes_of c command ≡ [])
-    → (taken ≡ false → d ≡ c) → edges_of d ≡ edges_of c → IsKept (record { page = p; control = d }) kept
-IsKept-still {p} {c} {kept} is command valid d taken after none left edges =
+    → (taken ≡ false → d ≡ c) → edges_of d ≡ edges_of c → IsKept (record { page = p; control = d }) kept names
+IsKept-still {p} {c} {kept} {names} is command valid d taken after none left edges =
     elim (cases_Bool taken) [
-      | inl t ↦ IsKept-state_after is command valid p d kept (state_after-still p c command d (after t) (none t))
+      | inl t ↦ IsKept-state_after is command valid p d kept names
+          (state_after-still p c command d (after t) (none t))
           (is.looks ∙ sym (looks_of-still p c d edges))
-      | inr f ↦ subst (λ (e : ControlState). IsKept (record { page = p; control = e }) kept) (sym (left f)) is
+          (AreNamed-alike names (core_of (record { page = p; control = c })) (core_of (record { page = p; control = d }))
+          refl refl refl (ap (λ (e : Edges). e.rows) edges) is.named)
+      | inr f ↦ subst (λ (e : ControlState). IsKept (record { page = p; control = e }) kept names) (sym (left f)) is
     ]
-
--- a command that sets a colour entry leaves the edges
-pub edges-entry : (c : ControlState) (command : Command) (i : ℕ) (colour : Rgb) → command ≡ commands.Entry i colour
-    → edges_of (control_after c command) ≡ edges_of c
-edges-entry c command i colour is = ap (λ (x : Command). edges_of (control_after c x)) is
-
-sets_paint : (p : Page) (xs : List Stroke) (kept : List (List Look)) (i : ℕ) (colour : Rgb)
-    → xs ≡ strokes.Colour i (paints.Ink colour) ∷ [] → (paint : Paint) → paint_in p.paints i ≡ paint
-    → IsUnshown paint kept → SetsUnshown p xs kept
-sets_paint p xs kept i colour only (paints.Ink ink) was unshown = record {
-  entry = i;
-  paint = paints.Ink colour;
-  ink = ink;
-  only = only;
-  was = was;
-  unshown = unshown.each;
-}
-sets_paint p xs kept i colour only paints.Video was unshown = absurd (unshown.colour refl)
-
--- where no look shows the paint that the entry has, its stroke sets one that is unshown
-pub SetsUnshown-entry : {p : Page} {c : ControlState} {kept : List (List Look)}
-    → IsKept (record { page = p; control = c }) kept → (command : Command) (xs : List Stroke)
-    → xs ≡ strokes_of c command → (i : ℕ) (colour : Rgb) → command ≡ commands.Entry i colour → (s : State)
-    → (let was : State = record { page = p; control = c } in was) ≡ s
-    → IsUnshown (paint_in s.page.paints i) (looks_of (core_of s)) → SetsUnshown p xs kept
-SetsUnshown-entry {p} {c} {kept} is command xs strokes i colour entry s e unshown =
-    sets_paint p xs kept i colour (strokes ∙ ap (λ (x : Command). strokes_of c x) entry) (paint_in p.paints i) refl
-    (subst (λ (g : List (List Look)). IsUnshown (paint_in p.paints i) g) (sym is.looks)
-    (subst (λ (t : State). IsUnshown (paint_in t.page.paints i) (looks_of (core_of t))) (sym e) unshown))

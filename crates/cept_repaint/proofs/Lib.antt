@@ -3,12 +3,15 @@ pub mod AloneRows
 pub mod AlteredRows
 pub mod FollowedRows
 pub mod KeptAfter
+pub mod KeptNames
 pub mod LooksSeen
 pub mod LooksWritten
 pub mod MarkedDifferences
 pub mod MarkedRows
 pub mod MarkedWithin
+pub mod MixedCommands
 pub mod NamedRows
+pub mod NamesAfter
 pub mod OnePlace
 pub mod PageParts
 pub mod PaintedInOrder
@@ -18,7 +21,6 @@ pub mod RestoredRows
 pub mod RowsOfLooks
 pub mod RowsDue
 pub mod Unmarked
-pub mod UnshownPaints
 pub mod ValidGrids
 pub mod WalkedRows
 mod Unchanged

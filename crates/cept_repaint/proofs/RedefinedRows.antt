@@ -30,11 +30,13 @@ use Rattle.cept_profile.proofs.Laws.{row_before-still}
 use Rattle.cept_repaint.specs.declared.followed_rows.Followed.{Followed}
 use Rattle.cept_repaint.specs.Due.{followed, freed, is_covered_from, is_due, row_from, rows_due, OtherRowsStay}
 use Rattle.cept_repaint.specs.Kept.{AreLooksOn, core_on}
+use Rattle.cept_repaint.specs.Named.{AreNamed, AreNamedOn, NamesOfRows, names_beneath, row_named}
 use Rattle.cept_repaint.specs.Resolved.{defines, may_resolve, one_else, rows_resolved_by}
 use Rattle.cept_repaint.proofs.AlteredRows.{none_under_one, same_pen-refl}
 use Rattle.cept_repaint.proofs.FollowedRows.{followed-rest}
 use Rattle.cept_repaint.proofs.PageParts.{row_pens_left}
 use Rattle.cept_repaint.proofs.RowsDue.{rows_due-fewer}
+use Rattle.cept_rows.specs.declared.naming.RowNames.{RowNames}
 
 -- ---- one stroke that defines something
 
@@ -211,6 +213,37 @@ others_defined {before} {after} {xs} is r =
     ∙ none_under_one (edges_of_core before) r in
     λ i. pen i || screen i || last i
 
+-- and what a row names beneath another
+beneath-kept : (above : RowNames) (before after : Core) → after.page.cells ≡ before.page.cells
+    → after.page.row_pens ≡ before.page.row_pens → after.page.screen_pen ≡ before.page.screen_pen
+    → after.rows ≡ before.rows → (r c : ℕ) → names_beneath above after r c ≡ names_beneath above before r c
+beneath-kept above before after ec ep es er r c = λ i.
+    let k : Core = record {
+      page = record {
+        cells = ec i;
+        row_pens = ep i;
+        screen_pen = es i;
+        paints = after.page.paints;
+        dclut = after.page.dclut;
+        patterns = after.page.patterns;
+      };
+      rows = er i;
+      wrap = after.wrap;
+      area = after.area;
+      implicit = after.implicit;
+    } in
+    names_beneath above k r c
+
+-- so the names that are known of one are known of the other
+pub AreNamed-alike : (names : NamesOfRows) (before after : Core) → after.page.cells ≡ before.page.cells
+    → after.page.row_pens ≡ before.page.row_pens → after.page.screen_pen ≡ before.page.screen_pen
+    → after.rows ≡ before.rows → AreNamed names before → AreNamed names after
+AreNamed-alike names before after ec ep es er are = record {
+  rows = are.rows;
+  flags = are.flags;
+  known = λ r c on so. are.known r c on so ∙ sym (beneath-kept (row_named names (r - 1)) before after ec ep es er r c);
+}
+
 -- a row that isn't covered otherwise names after them what it named before
 redefined_same : {before after : Core} {xs : List Stroke} → AreDefined before after xs → (r : ℕ) → 1 ≤ r → r ≤ 24
     → is_covered_otherwise (looks_of before) r (looks_of after) r ≡ false
@@ -266,7 +299,7 @@ defined_cores p q xs k m edges valid each drawn all ek em = record {
 pub OtherRowsStay-defined : (p q : Page) (xs : List Stroke) (edges : Edges) (was : List (List Look)) (flags : List Bool)
     (rows : List Followed) → IsValidPage p → AllByRecursion IsValidStroke xs → AreLooksOn was p edges
     → q ≡ page_after p xs → one_else xs ≡ false
-    → ((k : Core) → was ≡ looks_of (core_on k p) → flags ≡ list_by_index 1 24 (is_redefined (core_on k p) xs))
+    → ((k : Core) → edges_of_core k ≡ edges → flags ≡ list_by_index 1 24 (is_redefined (core_on k p) xs))
     → rows ≡ list_by_index 1 24 (followed [])
     → (k : Core) → edges_of_core k ≡ edges → OtherRowsStay flags rows was (core_on k q)
 OtherRowsStay-defined p q xs edges was flags rows valid each looks drawn all redefined er k same r n c on none came =
@@ -277,7 +310,7 @@ OtherRowsStay-defined p q xs edges was flags rows valid each looks drawn all red
     let stays : Some n ≡ Some r = sym came ∙ row_at_rest rows er r on.from_top on.to_bottom in
     let here : n ≡ r = cc in
     let out : is_reached old new xs r ≡ false =
-    sym (due_defined is flags (redefined k e) rows er r on.from_top on.to_bottom)
+    sym (due_defined is flags (redefined k same) rows er r on.from_top on.to_bottom)
     ∙ ap (λ (g : List (List Look)). is_due flags rows g (looks_of new) r) (sym e) ∙ none in
     ap (λ m. value_at blank_look was m c) here
     ∙ ap (λ (t : List (List Look)). value_at blank_look t r c) e ∙ value_at-table (look old) blank_look r c on
@@ -286,7 +319,7 @@ OtherRowsStay-defined p q xs edges was flags rows valid each looks drawn all red
 pub rows_due-defined : (p q : Page) (xs : List Stroke) (edges : Edges) (was now : List (List Look)) (flags : List Bool)
     (rows : List Followed) → IsValidPage p → AllByRecursion IsValidStroke xs → AreLooksOn was p edges
     → AreLooksOn now q edges → q ≡ page_after p xs → one_else xs ≡ false
-    → ((k : Core) → was ≡ looks_of (core_on k p) → flags ≡ list_by_index 1 24 (is_redefined (core_on k p) xs))
+    → ((k : Core) → edges_of_core k ≡ edges → flags ≡ list_by_index 1 24 (is_redefined (core_on k p) xs))
     → rows ≡ list_by_index 1 24 (followed [])
     → (k m : Core) → edges_of_core k ≡ edges → edges_of_core m ≡ edges
     → rows_due flags rows was now ≤ rows_resolved_by (core_on k p) (core_on m q) xs
@@ -301,7 +334,7 @@ rows_due-defined p q xs edges was now flags rows valid each looks after drawn al
       arith,
       same,
       rows_due-fewer old new xs flags rows (λ r low high due.
-          or_left (is_reached old new xs r) _ (sym (due_defined is flags (redefined k (looks k ek)) rows er r low high) ∙ due)),
+          or_left (is_reached old new xs r) _ (sym (due_defined is flags (redefined k ek) rows er r low high) ∙ due)),
     )
 
 -- no row moved
@@ -319,3 +352,11 @@ pub never-freed : (rows : List Followed) → rows ≡ list_by_index 1 24 (follow
     → row_from rows r ≡ None → ⊥
 never-freed rows e r low high none =
     let apart : Some r ≡ None = sym (row_at_rest rows e r low high) ∙ none in cc
+
+-- the names stay
+pub AreNamedOn-defined : (p q : Page) (xs : List Stroke) (edges : Edges) (names : NamesOfRows) → IsValidPage p
+    → AllByRecursion IsValidStroke xs → q ≡ page_after p xs → one_else xs ≡ false → AreNamedOn names p edges
+    → AreNamedOn names q edges
+AreNamedOn-defined p q xs edges names valid each drawn all named k same =
+    let is : AreDefined (core_on k p) (core_on k q) xs = defined_cores p q xs k k edges valid each drawn all same same in
+    AreNamed-alike names (core_on k p) (core_on k q) (cells_same is) (pens_same is) (screen_same is) is.rows (named k same)

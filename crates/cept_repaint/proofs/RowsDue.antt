@@ -29,7 +29,7 @@ use Rattle.cept_repaint.specs.declared.followed_rows.Followed.{Followed}
 use Rattle.cept_repaint.specs.declared.page.Pens.{Pens}
 use Rattle.cept_repaint.specs.Due.{followed, has_others, is_altered, is_altered_from, is_covered_from, is_due, pens_of}
 use Rattle.cept_repaint.specs.Due.{row_from, rows_due}
-use Rattle.cept_repaint.specs.Resolved.{defines, may_resolve, mixes, one_else, rows_resolved, rows_resolved_by}
+use Rattle.cept_repaint.specs.Resolved.{defines, may_resolve, mixes, one_else, rows_resolved_by}
 use Rattle.cept_repaint.specs.Kept.{core_on}
 use Rattle.cept_repaint.proofs.FollowedRows.{row_from-followed}
 
@@ -108,14 +108,14 @@ unfolding list_by_index
 count_by-list_by_index f = count_by-map f (range_with_len 1 24)
 
 -- the rows on the screen that pass two tests alike
-same_count : (f g : ℕ → Bool) → ((r : ℕ) → 1 ≤ r → r ≤ 24 → f r ≡ g r) → count_by f (range_with_len 1 24)
+pub same_count : (f g : ℕ → Bool) → ((r : ℕ) → 1 ≤ r → r ≤ 24 → f r ≡ g r) → count_by f (range_with_len 1 24)
     ≡ count_by g (range_with_len 1 24)
 same_count f g same =
     sym (count_by-list_by_index f)
     ∙ ap (count_by (λ b. b)) (same_indexed 1 24 f g (λ r low high. same r low (omega (arith, high))))
     ∙ count_by-list_by_index g
 
-or_false : (b : Bool) → (b || false) ≡ b
+pub or_false : (b : Bool) → (b || false) ≡ b
 or_false true = refl
 or_false false = refl
 
@@ -222,29 +222,6 @@ rows_due-resolved p q xs before after was now k m ek em ew en mixed =
       rows_due-fewer old new xs (altered_by old new xs) (list_by_index 1 24 (followed xs))
           (due_may old new xs so),
     )
-
--- at most all 24 rows
-pub rows_resolved-le : (s : State) (command : Command) → rows_resolved s command ≤ 24
-unfolding rows_resolved rows_resolved_by
-rows_resolved-le s command =
-    omega (
-      arith,
-      count_by-le-length (may_resolve (core_of s) (core_of (state_after s command))
-          (strokes_of s.control command)) (range_with_len 1 24),
-      length-range_with_len 1 24,
-    )
-
--- of a command that doesn't mix those in its reach
-pub rows_resolved-in_reach : (s : State) (command : Command)
-    → mixes (edges_of s.control) (edges_of (state_after s command).control) (strokes_of s.control command) ≡ false
-    → rows_resolved s command ≡ rows_in_reach s command
-unfolding rows_resolved rows_resolved_by may_resolve
-rows_resolved-in_reach s command none =
-    same_count (may_resolve (core_of s) (core_of (state_after s command)) (strokes_of s.control command))
-    (reaches s command) (λ r low high.
-    let reached : Bool = is_reached (core_of s) (core_of (state_after s command)) (strokes_of s.control command) r in
-    ap (λ b. reached || b) none ∙ or_false reached ∙ sym (reaches-by s command r))
-    ∙ sym (rows_in_reach-counted s command)
 
 -- what strokes between these edges mix
 pub mixes-else : (before after : Edges) (xs : List Stroke) → one_else xs ≡ true → list_any defines xs ≡ true

@@ -1,15 +1,12 @@
 -- A command applied to a screen, and a change of a screen repainted (this project's own).
-use Rattle.std.specs.Prelude.{ℕ, ◌≡◌, ◌≤◌, ◌+◌, Bool, false, List, [], ◌∷◌, ◌++◌}
+use Rattle.std.specs.Prelude.{ℕ, ◌≡◌, ◌≤◌, ◌+◌, Bool, List, [], ◌∷◌, ◌++◌}
 use Rattle.cept_codes.specs.declared.command.Command.{Command}
 use Rattle.cept_profile.specs.Changes.{changes_between, differences, grid_with_paints}
-use Rattle.cept_profile.specs.Edges.{edges_of}
 use Rattle.cept_profile.specs.Look.{looks_of}
 use Rattle.cept_profile.specs.Reach.{rows_in_reach}
 use Rattle.cept_profile.specs.State.{State, core_of, state, state_after}
-use Rattle.cept_profile.specs.Strokes.{strokes_of}
 use Rattle.cept_profile.specs.Valid.{AllValid}
 use Rattle.cept_repaint.specs.GlassState.{GlassState, Lists}
-use Rattle.cept_repaint.specs.Resolved.{mixes, rows_resolved}
 
 -- from one state to another exactly the places whose look changes were marked, and each was painted once, in reading
 -- order, with its new look
@@ -19,7 +16,7 @@ pub record IsRepainted (old new : State) (marked : List Bool) (before now : Glas
       ≡ grid_with_paints before.grid (changes_between (looks_of (core_of old)) (looks_of (core_of new)))
   pub told : Lists before.paints (changes_between (looks_of (core_of old)) (looks_of (core_of new))) now.paints
 
--- a command was applied, what it changes repainted, and no more rows resolved than it may resolve
+-- a command was applied, what it changes repainted, and no more rows resolved than are in its reach
 pub record IsApplied (old : State) (command : Command) (new : State) (marked : List Bool) (before now : GlassState)
     (from to : ℕ) : Type 0 where
   -- after whatever commands the state stood
@@ -27,8 +24,5 @@ pub record IsApplied (old : State) (command : Command) (new : State) (marked : L
       → new ≡ state (history ++ command ∷ [])
   pub after : new ≡ state_after old command
   pub repainted : IsRepainted old new marked before now
-  pub cost : to ≤ from + rows_resolved old command
-  -- where it defines nothing, or defines and does nothing else, no more than are in its reach
-  pub in_reach : mixes (edges_of old.control) (edges_of new.control) (strokes_of old.control command) ≡ false
-      → to ≤ from + rows_in_reach old command
+  pub cost : to ≤ from + rows_in_reach old command
   pub at_most_24 : to ≤ from + 24

@@ -25,7 +25,6 @@ use Rattle.cept_profile.specs.State.{Core, Page, State, core_of, definitions_of}
 use Rattle.cept_profile.specs.Tiling.{column_entry}
 use Rattle.cept_profile.specs.Valid.{IsValidState}
 use Rattle.cept_repaint.specs.Marks.{is_marked}
-use Rattle.cept_rows.specs.Unshown.{IsWithout}
 
 -- the cell of a page at a place
 abbrev pub cell_at : Page → Place → Cell
@@ -67,10 +66,6 @@ looks_differ a b = not (same_look a b)
 abbrev pub state_of_parts : Page → ControlState → State
 state_of_parts p c = record { page = p; control = c }
 
--- the state is valid, and the kept looks are those of its core
-pub record IsKept (s : State) (kept : List (List Look)) : Type 0 where
-  pub valid : IsValidState s
-  pub looks : kept ≡ looks_of (core_of s)
 
 -- what covers the row below is not the same under two lists of looks
 unfoldable pub is_other_above : List Look → List Look → Bool
@@ -81,15 +76,6 @@ is_other_above was fresh =
 -- all places but this one look as they did
 abbrev pub OthersStay : List (List Look) → Core → Place → Type 0
 OthersStay was k place = (r c : ℕ) → OnScreen r c → is_at place r c ≡ false → value_at blank_look was r c ≡ look k r c
-
--- the only stroke sets a colour entry, no look that is kept has the paint that the entry has, and none is a pattern
-pub record SetsUnshown (p : Page) (strokes : List Stroke) (kept : List (List Look)) : Type 0 where
-  pub entry : ℕ
-  pub paint : Paint
-  pub ink : Rgb
-  pub only : strokes ≡ Colour entry paint ∷ []
-  pub was : paint_in p.paints entry ≡ Ink ink
-  pub unshown : (r c : ℕ) → OnScreen r c → IsWithout (Ink ink) (value_at blank_look kept r c)
 
 -- the places of row r in which two lists of looks differ are marked besides, in columns below `end`, and no others
 pub record HasMarkedRow (was fresh : List Look) (r end : ℕ) (before marks : List Bool) : Type 0 where

@@ -7,9 +7,9 @@ pub mod Inside
 pub mod Kept
 pub mod MarkedRows
 pub mod Marks
+pub mod Named
 pub mod Redefined
 pub mod Resolved
 pub mod Tape
 pub mod TapeGlass
 pub mod ValidGrid
-pub mod Unshown

@@ -1,14 +1,13 @@
--- Rows that a command may resolve (this project's own): those that it reaches; and all, where it defines a colour or a
--- pattern and does something else besides, as full defaults do, which wipe every row.
+-- Rows that strokes may resolve (this project's own): those that they reach; and all, where they define a colour or a
+-- pattern and do something else besides. Those of a command do so where they wipe every row, which are all in its reach.
+-- Private clauses alone cite this file.
 use Rattle.std.specs.Prelude.{ℕ, Bool, true, false, not, ◌||◌, ◌&&◌, ◌==◌, List}
 use Rattle.std.specs.List.{count_by, list_any, range_with_len}
-use Rattle.cept_codes.specs.declared.command.Command.{Command}
 use Rattle.cept_codes.specs.declared.stroke.Stroke.{Stroke}
 use Rattle.cept_codes.specs.declared.stroke.Stroke.TheVariants as strokes
 use Rattle.cept_profile.specs.Edges.{Edges, edges_of_core}
 use Rattle.cept_profile.specs.Reach.{is_reached}
-use Rattle.cept_profile.specs.State.{Core, State, core_of, state_after}
-use Rattle.cept_profile.specs.Strokes.{strokes_of}
+use Rattle.cept_profile.specs.State.{Core}
 
 -- the stroke sets or clears a colour entry, an entry of the DCLUT or a pattern
 abbrev pub defines : Stroke → Bool
@@ -43,8 +42,3 @@ may_resolve before after strokes r =
 -- how many rows of the screen they may resolve
 unfoldable pub rows_resolved_by : Core → Core → List Stroke → ℕ
 rows_resolved_by before after strokes = count_by (may_resolve before after strokes) (range_with_len 1 24)
-
--- and how many a command may in this state
-unfoldable pub rows_resolved : State → Command → ℕ
-rows_resolved s command =
-    rows_resolved_by (core_of s) (core_of (state_after s command)) (strokes_of s.control command)

@@ -7,12 +7,11 @@ ghost use Rattle.cept_codes.specs.Table.{table, value_at, IsTable};
 ghost use Rattle.cept_profile.specs.Changes.{look_at, grid_with_paint};
 ghost use Rattle.cept_profile.specs.Look.{look_of};
 ghost use Rattle.cept_rows.specs.DrawnWith.{drawn_with};
-ghost use Rattle.cept_rows.specs.Unshown.{IsWithout};
 ghost use Rattle.cept_profile.specs.RowsFromAbove.{looks_in};
 ghost use Rattle.cept_profile.specs.Tiling.{column_entry};
 ghost use Rattle.cept_repaint.specs.Kept.{looks_differ};
 
-use cept_codes::{Look, NoMemory, Paint, Pen, Pos, What};
+use cept_codes::{Look, NoMemory, Pen, Pos, What};
 use cept_colours::Colours;
 use cept_drcs::Patterns;
 use cept_outside::Steps;
@@ -76,23 +75,6 @@ impl KeptRows {
         } else {
             &self.rows[usize::from(row) - 2]
         }
-    }
-
-    /// Whether a look may show this paint: one is a pattern, or its sign or its background has the
-    /// paint.
-    pub(crate) fn may_show(&self, paint: Paint) -> bool
-        ensures lacks { result ≡ false → (r c : ℕ) → OnScreen r c
-            → IsWithout paint (value_at blank_look self.now r c) }
-        ensures shows { ((r c : ℕ) → OnScreen r c
-            → IsWithout paint (value_at blank_look self.now r c)) → result ≡ false }
-    {
-        self.whole_by_type();
-        for row in 1..25u8 {
-            if self.row(row).may_show(paint) {
-                return true;
-            }
-        }
-        false
     }
 
     /// The look at a place.

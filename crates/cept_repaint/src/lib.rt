@@ -6,6 +6,7 @@ mod altered_rows;
 mod followed_rows;
 mod glass;
 mod grid_glass;
+mod kept_names;
 mod kept_rows;
 mod marks;
 mod page;

@@ -2,6 +2,7 @@ ghost use Rattle.std.specs.Prelude.{◌≡◌, ◌≤◌, ◌+◌, ◌-◌, ℕ,
 ghost use Rattle.std.specs.List.{AllByRecursion};
 ghost use Rattle.cept_codes.specs.Attribute.{IsRowPen, IsScreenPen};
 ghost use Rattle.cept_codes.specs.Cell.{IsValidWhat, blank_cell};
+ghost use Rattle.cept_codes.specs.Place.{OnScreen};
 ghost use Rattle.cept_codes.specs.Stroke.{IsValidStroke};
 ghost use Rattle.cept_codes.specs.Table.{value_at};
 ghost use Rattle.cept_profile.specs.PageParts.{row_pen_in};
@@ -13,7 +14,8 @@ ghost use Rattle.cept_repaint.specs.Drawn.{IsDrawn};
 ghost use Rattle.cept_repaint.specs.Due.{pens_of};
 ghost use Rattle.cept_repaint.specs.Kept.{core_on, row_beneath};
 ghost use Rattle.cept_repaint.specs.MarkedRows.{StandsAlone};
-ghost use Rattle.cept_repaint.specs.Redefined.{AreNamesOf};
+ghost use Rattle.cept_repaint.specs.Named.{names_beneath};
+ghost use Rattle.cept_rows.specs.KeptNames.{names_kept};
 
 use crate::page_parts::{set_colours, set_patterns, set_row_pens, set_screen_pen};
 use crate::row_flags::{flag_put, flag_rows, is_unflagged};
@@ -171,14 +173,14 @@ impl Page {
         );
     }
 
-    /// What a row names, by its looks, beneath a row that names this.
+    /// What a row names, by its looks, beneath a row of which this is kept.
     pub(crate) fn name_row(&self, row: u8, above: &RowNames, looks: &RowLooks) -> RowNames
         requires from_top { 1 ≤ row }
         requires to_bottom { row ≤ 24 }
         requires valid { IsValidPage self.now }
-        ensures { (k : Core) → looks.now ≡ looks_in (looks_of (core_on k self.now)) row
-            → AreNamesOf above.now (core_on k self.now) (row - 1)
-            → AreNamesOf result (core_on k self.now) row }
+        ensures { (k : Core) (c : ℕ) → OnScreen row c
+            → looks.now ≡ looks_in (looks_of (core_on k self.now)) row
+            → names_kept result c ≡ names_beneath above.now (core_on k self.now) row c }
     {
         let mut names = RowNames::blank();
         let cells = self.grid.cells(row);

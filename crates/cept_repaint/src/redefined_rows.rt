@@ -8,8 +8,10 @@ ghost use Rattle.cept_profile.specs.Reach.{is_redefined, redefines};
 ghost use Rattle.cept_profile.specs.State.{Core};
 ghost use Rattle.cept_profile.specs.Valid.{IsValidPage};
 ghost use Rattle.cept_repaint.specs.Kept.{core_on};
+ghost use Rattle.cept_repaint.specs.Named.{AreAllKnown, AreNamed};
 ghost use Rattle.cept_repaint.specs.Redefined.{IsNamedRow, is_ink_in};
 
+use crate::kept_names::KeptNames;
 use crate::kept_rows::KeptRows;
 use crate::page::Page;
 use cept_codes::Stroke;
@@ -17,19 +19,25 @@ use cept_colours::Colours;
 use cept_rows::{RowLooks, RowNames};
 
 /// For each row from the top, whether one of the strokes sets or clears something that it names,
-/// where these are the looks of the page.
-pub(crate) fn rows_redefined(page: &Page, strokes: &[Stroke], kept: &KeptRows) -> [bool; 24]
+/// where these are the looks of the page and all names are known.
+pub(crate) fn rows_redefined(
+    page: &Page,
+    strokes: &[Stroke],
+    kept: &KeptRows,
+    names: &KeptNames,
+) -> [bool; 24]
     requires valid { IsValidPage page.now }
     requires each { AllByRecursion IsValidStroke strokes.now }
+    requires known { AreAllKnown names.now }
     ensures { (k : Core) → kept.now ≡ looks_of (core_on k page.now)
+        → AreNamed names.now (core_on k page.now)
         → result ≡ list_by_index 1 24 (is_redefined (core_on k page.now) strokes.now) }
 {
     let mut redefined = [false; 24];
-    let mut above = RowNames::blank();
     for i in 0..24u8 {
-        let names = page.name_row(i + 1, &above, kept.row(i + 1));
-        redefined[usize::from(i)] = is_redefined(strokes, &names, kept.row(i + 1), page.colours());
-        above = names;
+        let row = i + 1;
+        redefined[usize::from(i)] =
+            is_redefined(strokes, names.row(row), kept.row(row), page.colours());
     }
     redefined
 }

@@ -39,18 +39,19 @@ ghost use Rattle.cept_repaint.specs.Kept.{AreEdges, AreLooksOn, core_on, is_othe
 ghost use Rattle.cept_repaint.specs.Kept.{look_alone, looks_differ};
 ghost use Rattle.cept_repaint.specs.Kept.{row_beneath};
 ghost use Rattle.cept_repaint.specs.Kept.{HasMarkedRow, IsRefreshedRow, OthersStay};
-ghost use Rattle.cept_repaint.specs.Kept.{SetsUnshown};
 ghost use Rattle.cept_repaint.specs.MarkedRows.{StandsAlone};
 ghost use Rattle.cept_repaint.specs.Marks.{no_marks};
+ghost use Rattle.cept_repaint.specs.Named.{AreNamedOn, AreRemembered, IsStill};
 ghost use Rattle.cept_repaint.specs.Resolved.{one_else, rows_resolved_by};
 
 use crate::altered_rows::{only_put, row_alone, rows_altered};
 use crate::followed_rows::{Followed, follow_rows, one_else, one_moved, rows_at_rest};
+use crate::kept_names::KeptNames;
 use crate::kept_rows::KeptRows;
 use crate::marks::Marks;
 use crate::page::Page;
 use crate::redefined_rows::rows_redefined;
-use cept_codes::{Paint, Pos, Stroke};
+use cept_codes::{Pos, Stroke};
 use cept_control::Edges;
 use cept_outside::Steps;
 use cept_rows::RowLooks;
@@ -66,6 +67,7 @@ pub(crate) fn redraw<L: Ledger>(
     after: &Edges,
     kept: &mut KeptRows,
     stood: &mut KeptRows,
+    names: &mut KeptNames,
     fresh: &mut RowLooks,
     marks: &mut Marks,
     steps: &mut Steps<L>,
@@ -73,21 +75,21 @@ pub(crate) fn redraw<L: Ledger>(
     requires from { AreEdges before.now }
     requires to { AreEdges after.now }
     requires kept { AreLooksOn kept.old page.old before.now }
+    requires named { AreNamedOn names.old page.old before.now }
     requires was_valid { IsValidPage page.old }
     requires strokes { AllByRecursion IsValidStroke strokes.now }
     requires valid { IsValidPage (page_after page.old strokes.now) }
     ensures page { page.new ≡ page_after page.old strokes.now }
     ensures kept { AreLooksOn kept.new page.new after.now }
     ensures marks { marks.new ≡ differences kept.old kept.new }
+    ensures named { AreNamedOn names.new page.new after.now }
     ensures cost { (k m : Core) → edges_of_core k ≡ before.now → edges_of_core m ≡ after.now
         → steps.new ≤ steps.old + rows_resolved_by (core_on k page.old) (core_on m page.new) strokes.now }
-    ensures unshown { before.now ≡ after.now → SetsUnshown page.old strokes.now kept.old
-        → steps.new ≡ steps.old }
 {
     marks.clear();
     if !before.is_same(after) {
         redraw_rows(
-            page, strokes, before, after, kept, stood, fresh, marks, steps,
+            page, strokes, before, after, kept, stood, names, fresh, marks, steps,
         );
         return;
     }
@@ -97,21 +99,23 @@ pub(crate) fn redraw<L: Ledger>(
     match only_put(strokes) {
         Some(put) => {
             if page.put(put.place, put.cell) {
-                refresh_place(page, put.place, kept, marks, steps);
+                refresh_place(page, put.place, kept, names, marks, steps);
             } else {
                 let row = put.place.row();
-                refresh_put(page, strokes, row, after, stood, kept, fresh, marks, steps);
+                refresh_put(
+                    page, strokes, row, after, stood, kept, names, fresh, marks, steps,
+                );
             }
         }
         None => {
-            if sets_unshown(page, strokes, kept) {
-                page.draw_all(strokes);
-            } else if one_else(strokes) {
+            if one_else(strokes) {
                 redraw_rows(
-                    page, strokes, before, after, kept, stood, fresh, marks, steps,
+                    page, strokes, before, after, kept, stood, names, fresh, marks, steps,
                 );
             } else {
-                redraw_defined(page, strokes, after, kept, stood, fresh, marks, steps);
+                redraw_defined(
+                    page, strokes, after, kept, stood, names, fresh, marks, steps,
+                );
             }
         }
     }
@@ -127,6 +131,7 @@ fn redraw_rows<L: Ledger>(
     after: &Edges,
     kept: &mut KeptRows,
     stood: &mut KeptRows,
+    names: &mut KeptNames,
     fresh: &mut RowLooks,
     marks: &mut Marks,
     steps: &mut Steps<L>,
@@ -135,11 +140,13 @@ fn redraw_rows<L: Ledger>(
     requires from { AreEdges before.now }
     requires to { AreEdges after.now }
     requires kept { AreLooksOn kept.old page.old before.now }
+    requires named { AreNamedOn names.old page.old before.now }
     requires was_valid { IsValidPage page.old }
     requires strokes { AllByRecursion IsValidStroke strokes.now }
     requires valid { IsValidPage (page_after page.old strokes.now) }
     ensures page { page.new ≡ page_after page.old strokes.now }
     ensures kept { AreLooksOn kept.new page.new after.now }
+    ensures named { AreNamedOn names.new page.new after.now }
     ensures marks { marks.new ≡ differences kept.old kept.new }
     ensures cost { steps.new ≡ steps.old + rows_due (list_by_index 1 24
         (is_altered strokes.now (pens_of page.old) before.now (pens_of page.new) after.now))
@@ -155,6 +162,7 @@ fn redraw_rows<L: Ledger>(
     refresh_rows(
         page, &rows, &altered, after, stood, kept, fresh, marks, steps,
     );
+    names.forget_rows(&altered, &rows, marks);
 }
 
 /// The same of strokes that all define something, where nothing is marked yet: the rows that name it are
@@ -166,6 +174,7 @@ fn redraw_defined<L: Ledger>(
     edges: &Edges,
     kept: &mut KeptRows,
     stood: &KeptRows,
+    names: &mut KeptNames,
     fresh: &mut RowLooks,
     marks: &mut Marks,
     steps: &mut Steps<L>,
@@ -173,17 +182,20 @@ fn redraw_defined<L: Ledger>(
     requires none { marks.old ≡ no_marks }
     requires edges { AreEdges edges.now }
     requires kept { AreLooksOn kept.old page.old edges.now }
+    requires named { AreNamedOn names.old page.old edges.now }
     requires was_valid { IsValidPage page.old }
     requires strokes { AllByRecursion IsValidStroke strokes.now }
     requires valid { IsValidPage (page_after page.old strokes.now) }
     requires define { one_else strokes.now ≡ false }
     ensures page { page.new ≡ page_after page.old strokes.now }
     ensures kept { AreLooksOn kept.new page.new edges.now }
+    ensures named { AreNamedOn names.new page.new edges.now }
     ensures marks { marks.new ≡ differences kept.old kept.new }
     ensures cost { (k m : Core) → edges_of_core k ≡ edges.now → edges_of_core m ≡ edges.now
         → steps.new ≤ steps.old + rows_resolved_by (core_on k page.old) (core_on m page.new) strokes.now }
 {
-    let redefined = rows_redefined(page, strokes, kept);
+    names.find(page, kept);
+    let redefined = rows_redefined(page, strokes, kept, names);
     page.draw_all(strokes);
     let rows = rows_at_rest();
     refresh_rows(
@@ -201,6 +213,7 @@ fn refresh_put<L: Ledger>(
     edges: &Edges,
     stood: &KeptRows,
     kept: &mut KeptRows,
+    names: &mut KeptNames,
     fresh: &mut RowLooks,
     marks: &mut Marks,
     steps: &mut Steps<L>,
@@ -219,6 +232,8 @@ fn refresh_put<L: Ledger>(
         → OtherRowsStay (list_by_index 1 24 (λ q. row == q)) (list_by_index 1 24 (followed strokes.now))
         kept.old (core_on k page.now) }
     ensures kept { AreLooksOn kept.new page.now edges.now }
+    ensures remembered { AreRemembered names.old names.new (λ r.
+        IsStill (list_by_index 1 24 (λ q. row == q)) (list_by_index 1 24 (followed strokes.now)) marks.new r) }
     ensures marks { marks.new ≡ differences kept.old kept.new }
     ensures cost { steps.new ≡ steps.old + rows_due (list_by_index 1 24 (λ q. row == q))
         (list_by_index 1 24 (followed strokes.now)) kept.old kept.new }
@@ -228,22 +243,7 @@ fn refresh_put<L: Ledger>(
     refresh_rows(
         page, &rows, &altered, edges, stood, kept, fresh, marks, steps,
     );
-}
-
-/// Whether the only stroke sets a colour entry whose paint no look shows: then it changes no look.
-// Most entries that a page defines are defined before any sign has their colour.
-fn sets_unshown(page: &Page, strokes: &[Stroke], kept: &KeptRows) -> bool
-    requires { AllByRecursion IsValidStroke strokes.now }
-    ensures sets { result ≡ true → SetsUnshown page.now strokes.now kept.now }
-    ensures told { SetsUnshown page.now strokes.now kept.now → result ≡ true }
-{
-    let [Stroke::Colour(entry, _)] = strokes else {
-        return false;
-    };
-    match page.colours().paint(*entry) {
-        Paint::Ink(ink) => !kept.may_show(Paint::Ink(ink)),
-        Paint::Video => false,
-    }
+    names.forget_rows(&altered, &rows, marks);
 }
 
 /// Resolves one cell by itself: where all other places have the looks that are kept, so has this.
@@ -251,6 +251,7 @@ fn refresh_place<L: Ledger>(
     page: &Page,
     place: Pos,
     kept: &mut KeptRows,
+    names: &mut KeptNames,
     marks: &mut Marks,
     steps: &mut Steps<L>,
 )
@@ -260,11 +261,13 @@ fn refresh_place<L: Ledger>(
     ensures kept { (k : Core) → OthersStay kept.old (core_on k page.now) place
         → kept.new ≡ looks_of (core_on k page.now) }
     ensures marks { marks.new ≡ differences kept.old kept.new }
+    ensures remembered { AreRemembered names.old names.new (λ r. r ≢ place.row) }
     ensures cost { steps.new ≡ steps.old + 1 }
     ensures on_screen { OnScreen place.row place.column }
 {
     kept.whole_by_type();
     marks.places_by_type();
+    names.forget(place.row());
     if resolve_alone(page, place, kept, steps) {
         marks.mark(place);
     }

@@ -1,29 +1,24 @@
 ghost use Rattle.std.specs.Prelude.{◌≡◌, ◌≤◌, ◌<◌, ◌+◌, ℕ, [], true, false};
 ghost use Rattle.std.specs.Prelude.{IfOk, IfSome};
-ghost use Rattle.cept_codes.specs.declared.command.Command.TheVariants.{Entry};
-ghost use Rattle.cept_codes.specs.declared.look.Rgb.{Rgb};
 ghost use Rattle.cept_codes.specs.Attribute.{IsEntry, IsRowPen, IsScreenPen};
 ghost use Rattle.cept_codes.specs.Cell.{IsValidCell};
 ghost use Rattle.cept_codes.specs.Command.{IsValidCommand};
 ghost use Rattle.cept_codes.specs.Look.{IsValidLook, IsValidPattern, blank_look};
 ghost use Rattle.cept_codes.specs.Stroke.{IsPaintOf};
 ghost use Rattle.cept_profile.specs.Changes.{look_at, differences};
-ghost use Rattle.cept_profile.specs.Edges.{edges_of};
 ghost use Rattle.cept_profile.specs.Look.{looks_of, part_of, parts_of};
 ghost use Rattle.cept_profile.specs.PageParts.{dclut_in, paint_in, pattern_in, row_pen_in};
 ghost use Rattle.cept_profile.specs.Reach.{rows_in_reach};
 ghost use Rattle.cept_profile.specs.RowsFromAbove.{looks_in};
 ghost use Rattle.cept_profile.specs.State.{state, state_after, core_of};
-ghost use Rattle.cept_profile.specs.Strokes.{strokes_of};
 ghost use Rattle.cept_profile.specs.Tiling.{column_entry, part_at};
 ghost use Rattle.cept_profile.specs.Valid.{IsValidState};
 ghost use Rattle.cept_repaint.specs.Applied.{IsApplied, IsRepainted};
 ghost use Rattle.cept_repaint.specs.Kept.{cell_at};
 ghost use Rattle.cept_repaint.specs.Marks.{no_marks};
-ghost use Rattle.cept_repaint.specs.Resolved.{mixes, rows_resolved};
-ghost use Rattle.cept_repaint.specs.Unshown.{IsUnshown};
 
 use crate::glass::Glass;
+use crate::kept_names::KeptNames;
 use crate::kept_rows::KeptRows;
 use crate::marks::Marks;
 use crate::page::Page;
@@ -40,28 +35,29 @@ use std::alloc::Global;
 use std::marker::Model;
 use std::sync::ledger::Ledger;
 
-/// A decoder's screen: its page, its control, and the looks of all rows. Beside these there is room
-/// for the looks that stood before rows moved, for a row while it is resolved, and for the strokes of
-/// a command.
+/// A decoder's screen: its page, its control, the looks of all rows, and what they name. Beside these
+/// there is room for the looks that stood before rows moved, for a row while it is resolved, and for
+/// the strokes of a command.
 #[derive(Drop)]
 pub struct Screen {
     page: Page,
     control: Control,
     rows: KeptRows,
     stood: KeptRows,
+    names: KeptNames,
     fresh: RowLooks,
     strokes: ArrayVec<Stroke, 128>,
 }
 
 impl Model for Screen {
     ghost use Rattle.cept_profile.specs.State.{State};
-    ghost use Rattle.cept_repaint.specs.Kept.{IsKept};
+    ghost use Rattle.cept_repaint.specs.Named.{IsKept};
 
     ghost Value = { State };
 
     ghost view = { λ s. record { page = s.page; control = s.control } };
 
-    ghost invariant = { λ s. IsKept (record { page = s.page; control = s.control }) s.rows };
+    ghost invariant = { λ s. IsKept (record { page = s.page; control = s.control }) s.rows s.names };
 }
 
 impl Screen {
@@ -77,6 +73,7 @@ impl Screen {
             control: Control::new(),
             rows,
             stood,
+            names: KeptNames::new(),
             fresh: RowLooks::flat(),
             strokes: ArrayVec::new(),
         })
@@ -94,9 +91,6 @@ impl Screen {
         requires { IsValidCommand command }
         ensures applied { IsApplied self.old command self.new marks.new (G.state glass.old)
             (G.state glass.new) steps.old steps.new }
-        ensures unshown { (i : ℕ) (colour : Rgb) → command ≡ Entry i colour
-            → IsUnshown (paint_in self.old.page.paints i) (looks_of (core_of self.old))
-            → steps.new ≡ steps.old }
     {
         self.apply_from(&command, glass, marks, steps);
     }
@@ -113,9 +107,6 @@ impl Screen {
         requires { IsValidCommand command.now }
         ensures applied { IsApplied self.old command.now self.new marks.new (G.state glass.old)
             (G.state glass.new) steps.old steps.new }
-        ensures unshown { (i : ℕ) (colour : Rgb) → command.now ≡ Entry i colour
-            → IsUnshown (paint_in self.old.page.paints i) (looks_of (core_of self.old))
-            → steps.new ≡ steps.old }
     {
         if self.write_attribute(command, marks) {
             return;
@@ -153,9 +144,6 @@ impl Screen {
         requires { IsValidCommand command.now }
         ensures applied { IsApplied self.old command.now self.new marks.new (G.state glass.old)
             (G.state glass.new) steps.old steps.new }
-        ensures unshown { (i : ℕ) (colour : Rgb) → command.now ≡ Entry i colour
-            → IsUnshown (paint_in self.old.page.paints i) (looks_of (core_of self.old))
-            → steps.new ≡ steps.old }
     {
         self.write(command, marks, steps);
         paint_marked(self, glass, marks);
@@ -167,13 +155,8 @@ impl Screen {
         ensures after { self.new ≡ state_after self.old command.now }
         ensures marks { marks.new
             ≡ differences (looks_of (core_of self.old)) (looks_of (core_of self.new)) }
-        ensures cost { steps.new ≤ steps.old + rows_resolved self.old command.now }
-        ensures in_reach { mixes (edges_of self.old.control) (edges_of self.new.control)
-            (strokes_of self.old.control command.now) ≡ false → steps.new ≤ steps.old + rows_in_reach self.old command.now }
+        ensures cost { steps.new ≤ steps.old + rows_in_reach self.old command.now }
         ensures at_most_24 { steps.new ≤ steps.old + 24 }
-        ensures unshown { (i : ℕ) (colour : Rgb) → command.now ≡ Entry i colour
-            → IsUnshown (paint_in self.old.page.paints i) (looks_of (core_of self.old))
-            → steps.new ≡ steps.old }
     {
         let before = self.control.edges();
         self.control.step_into(command, &mut self.strokes);
@@ -186,6 +169,7 @@ impl Screen {
             &after,
             &mut self.rows,
             &mut self.stood,
+            &mut self.names,
             &mut self.fresh,
             marks,
             steps,
@@ -340,5 +324,6 @@ impl Screen {
             marks,
             steps,
         );
+        self.names.forget_all();
     }
 }

@@ -23,7 +23,7 @@ use cept_codes::{Cell, Full, Glyph, Part, Pen, RowCells, SetId, What};
 
 /// What the places of a row name, from the left: the colour entries of foreground and background,
 /// 0 to 31, and the code of a sign of the downloaded set, or 0 where there is none.
-#[derive(Clone, Copy)]
+#[derive(Clone, Copy, PartialEq, Eq)]
 pub struct RowNames {
     pub fore: [u8; 40],
     pub back: [u8; 40],

@@ -4,11 +4,10 @@ use Rattle.cept_profile.specs.Look.{looks_of}
 use Rattle.cept_profile.specs.Reach.{is_redefined}
 use Rattle.cept_profile.specs.State.{Core}
 use Rattle.cept_repaint.specs.Kept.{core_on}
-use Rattle.cept_repaint.specs.Redefined.{AreNamesOf}
+use Rattle.cept_repaint.specs.Named.{AreNamed}
 use Rattle.cept_repaint.proofs.redefined_rows.rows_redefined.Given as goal
 
 abbrev pub invariant-loop-i : goal.invariant-loop-i
 invariant-loop-i l =
-    (k : Core) → l.kept ≡ looks_of (core_on k l.page)
+    (k : Core) → l.kept ≡ looks_of (core_on k l.page) → AreNamed l.names (core_on k l.page)
     → HasMadeEntries false 1 24 (is_redefined (core_on k l.page) l.strokes) (λ _. false) l.redefined l.i
-    × AreNamesOf l.above (core_on k l.page) l.i

@@ -6,13 +6,15 @@ use Rattle.cept_profile.specs.Valid.{IsValidPage}
 use Rattle.cept_codes.specs.Table.{list_by_index}
 use Rattle.cept_repaint.specs.Due.{followed, pens_of, rows_due}
 use Rattle.cept_repaint.specs.Kept.{core_on}
+use Rattle.cept_repaint.specs.Named.{AreNamedOn}
+use Rattle.cept_profile.specs.Edges.{Edges}
 use Rattle.cept_repaint.proofs.AloneRows.{OthersStay-put}
 use Rattle.cept_repaint.proofs.OnePlace.{IsPutAlone-drawn, page_after-none, page_after-put_alone}
 use Rattle.cept_repaint.proofs.Refreshed.{differences_none}
 use Rattle.cept_repaint.proofs.AlteredRows.{altered-put}
 use Rattle.cept_repaint.proofs.FollowedRows.{still-put}
+use Rattle.cept_repaint.proofs.NamesAfter.{AreNamedOn-drawn, AreNamedOn-put}
 use Rattle.cept_repaint.proofs.RowsDue.{freed-altered, mixes-edges, mixes-else, put-resolved, put_defines_nothing, rows_due-resolved}
-use Rattle.cept_repaint.proofs.UnshownPaints.{looks_of-unshown}
 use Rattle.cept_repaint.proofs.WalkedRows.{OtherRowsStay-drawn}
 use Rattle.cept_repaint.proofs.redraw.redraw.Goals as goal
 
@@ -139,12 +141,43 @@ returns-then-put-clause-cost g c k m ek em =
           (core_on m c.put.new.self) c.in-Some.ensures c.refresh_place.ensures.on_screen,
     )
 
-pub returns-then-sets_unshown-clause-kept : goal.returns-then-sets_unshown-clause-kept
-returns-then-sets_unshown-clause-kept g c =
-    λ k same. looks_of-unshown c.args.page.now c.args.strokes.now k c.args.kept.now c.requires.was_valid
-    (c.requires.kept k (same ∙ sym (c.is_same.ensures.same c.if-not-is_same.false)))
-    (c.sets_unshown.ensures.sets c.if-sets_unshown.true)
-    ∙ ap (λ (p : Page). looks_of (core_on k p)) (sym c.draw_all.ensures)
+pub redraw_defined-requires-clause-named : goal.redraw_defined-requires-clause-named
+redraw_defined-requires-clause-named g c =
+    λ k same. c.requires.named k (same ∙ sym (c.is_same.ensures.same c.if-not-is_same.false))
 
-pub returns-then-sets_unshown-clause-marks : goal.returns-then-sets_unshown-clause-marks
-returns-then-sets_unshown-clause-marks g c = differences_none c.args.kept.now _ c.clear.new.self c.clear.ensures refl
+pub returns-then-is_empty-clause-named : goal.returns-then-is_empty-clause-named
+returns-then-is_empty-clause-named g c =
+    λ k same. c.requires.named k (same ∙ sym (c.is_same.ensures.same c.if-not-is_same.false))
+
+pub returns-then-put-clause-named : goal.returns-then-put-clause-named
+returns-then-put-clause-named g c =
+    let drawn = page_after-put_alone c.args.page.now c.put.new.self c.args.strokes.now c.in-Some.put.place
+    c.in-Some.put.cell.now c.in-Some.ensures c.put.ensures.drawn in
+    let alone =
+    IsPutAlone-drawn c.args.page.now c.put.new.self c.args.strokes.now c.in-Some.put.place c.in-Some.put.cell.now
+    c.in-Some.ensures
+    c.put.ensures.drawn c.refresh_place.ensures.on_screen (c.put.ensures.before c.if-put.true)
+    (c.put.ensures.after c.if-put.true) c.requires.was_valid c.requires.strokes c.requires.valid in
+    subst (λ (e : Edges). AreNamedOn c.refresh_place.new.names c.put.new.self e)
+    (c.is_same.ensures.same c.if-not-is_same.false)
+    (AreNamedOn-put c.args.page.now c.put.new.self c.args.strokes.now c.in-Some.put.place c.in-Some.put.cell.now
+    c.args.before.now c.args.kept.now c.args.names.now c.refresh_place.new.names c.requires.was_valid
+    (subst (λ (p : Page). IsValidPage p) (sym drawn) c.requires.valid) c.requires.strokes c.requires.from
+    c.requires.named c.requires.kept c.in-Some.ensures drawn
+    (λ k same. OthersStay-put c.args.page.now c.put.new.self k c.args.kept.now c.in-Some.put.place
+    (c.requires.kept k same) alone)
+    c.refresh_place.ensures.remembered)
+
+pub returns-else-put-clause-named : goal.returns-else-put-clause-named
+returns-else-put-clause-named g c =
+    let drawn = page_after-put_alone c.args.page.now c.put.new.self c.args.strokes.now c.in-Some.put.place
+    c.in-Some.put.cell.now c.in-Some.ensures c.put.ensures.drawn in
+    AreNamedOn-drawn c.args.page.now c.put.new.self c.args.strokes.now c.args.before.now c.args.after.now
+    c.args.kept.now c.refresh_put.new.kept c.args.names.now c.refresh_put.new.names
+    (list_by_index 1 24 (λ q. c.row-row.result == q)) (list_by_index 1 24 (followed c.args.strokes.now))
+    c.refresh_put.new.marks c.requires.was_valid (subst (λ (p : Page). IsValidPage p) (sym drawn) c.requires.valid)
+    c.requires.strokes c.requires.from c.requires.named c.requires.kept c.refresh_put.ensures.kept drawn
+    (altered-put c.args.page.now c.put.new.self c.args.strokes.now c.in-Some.put.place c.in-Some.put.cell.now
+    c.args.before.now c.args.after.now (list_by_index 1 24 (λ q. c.row-row.result == q)) c.row-row.result
+    c.in-Some.ensures drawn (c.is_same.ensures.same c.if-not-is_same.false) refl c.row-row.ensures.row)
+    refl c.refresh_put.ensures.marks c.refresh_put.ensures.remembered

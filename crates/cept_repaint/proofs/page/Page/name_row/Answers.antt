@@ -5,6 +5,7 @@ use Rattle.cept_codes.specs.Place.{OnScreen}
 use Rattle.cept_profile.specs.Serial.{row_in}
 use Rattle.cept_profile.specs.State.{Page}
 use Rattle.cept_repaint.specs.Kept.{core_on}
+use Rattle.cept_repaint.proofs.KeptNames.{beneath-by}
 use Rattle.cept_repaint.proofs.page.Page.name_row.Goals as goal
 
 pub name_cells-requires : goal.name_cells-requires
@@ -23,7 +24,9 @@ name_cells-requires c = record {
 }
 
 pub returns : goal.returns
-returns c = λ k seen above column on.
-    c.name_cells.ensures.beneath (core_on k c.args.self.now) c.args.row column on
+returns c = λ k column on seen.
+    c.name_cells.ensures.names column on.from_left on.to_right
+    ∙ beneath-by c.args.above.now c.args.looks.now c.cells-cells.result.now c.row_pen-pen.result.now
+    c.self.inside.screen_pen (core_on k c.args.self.now) c.args.row column on.to_bottom
     (c.cells-cells.ensures.cells [] ∙ ap (λ (p : Page). get_or p.cells (c.args.row - 1) []) c.self.view_is)
-    c.row_pen-pen.ensures.pen (ap (λ (p : Page). p.screen_pen) c.self.view_is) seen above
+    c.row_pen-pen.ensures.pen (ap (λ (p : Page). p.screen_pen) c.self.view_is) seen

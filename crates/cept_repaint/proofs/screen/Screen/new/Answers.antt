@@ -15,4 +15,5 @@ invariant_of-result c =
       valid = subst (λ (s : State). IsValidState s) (sym at_start) IsValidState-start;
       looks = c.in_ok-rows.ensures ∙ sym grid-none
           ∙ ap (λ (s : State). looks_of (core_of s)) (sym at_start);
+      named = c.new-5.ensures (core_of (record { page = c.in_ok-page.page; control = c.new-4.result }));
     }

@@ -1,5 +1,5 @@
 use Rattle.std.proofs.Common.{subst}
-use Rattle.cept_profile.specs.State.{State}
+use Rattle.cept_profile.specs.State.{State, core_of}
 use Rattle.cept_profile.specs.Valid.{IsValidState}
 use Rattle.cept_repaint.specs.Kept.{state_of_parts}
 use Rattle.cept_repaint.proofs.KeptAfter.{AreEdges-state, looks_of-drawn, marks-kept}
@@ -23,4 +23,5 @@ invariant_of-self g c = record {
   valid = subst (λ (s : State). IsValidState s) c.copy_to.ensures.state c.copy_to.ensures.valid;
   looks = looks_of-drawn c.copy_to.new.page c.copy_to.new.control c.edges-edges.result c.redraw_all.new.kept
       c.edges-edges.ensures c.redraw_all.ensures.kept;
+  named = c.forget_all.ensures (core_of (state_of_parts c.copy_to.new.page c.copy_to.new.control));
 }

@@ -7,10 +7,9 @@ use Rattle.cept_profile.specs.Valid.{IsValidPage}
 use Rattle.cept_profile.proofs.Laws.{IsValidState-state_after}
 use Rattle.cept_repaint.specs.Kept.{state_of_parts}
 use Rattle.cept_repaint.proofs.KeptAfter.{AreEdges-state, AreLooksOn-state, IsKept-state_after, looks_of-drawn, marks-kept}
-use Rattle.cept_repaint.proofs.KeptAfter.{SetsUnshown-entry, edges-entry, rows_resolved-of, state_after-drawn}
-use Rattle.cept_repaint.proofs.RowsDue.{rows_resolved-in_reach, rows_resolved-le}
+use Rattle.cept_repaint.proofs.KeptAfter.{AreNamed-drawn, AreNamedOn-state, resolved-of, state_after-drawn}
+use Rattle.cept_profile.proofs.Laws.{rows_in_reach-le}
 use Rattle.cept_profile.specs.Strokes.{strokes_of}
-use Rattle.cept_repaint.specs.Resolved.{mixes, rows_resolved}
 use Rattle.cept_repaint.proofs.screen.Screen.write.Given as given
 use Rattle.cept_repaint.proofs.screen.Screen.write.Goals as goal
 
@@ -51,10 +50,9 @@ returns-clause-marks g c =
     c.edges-after.ensures c.redraw.ensures.kept)
     c.redraw.ensures.marks
 
--- no more rows were resolved than the command may
-resolved : (g : given.Over) (c : goal.After-redraw g)
-    → c.redraw.new.steps ≤ c.args.steps.now + rows_resolved c.args.self.now c.args.command.now
-resolved g c =
+-- no more rows were resolved than are in reach
+pub returns-clause-cost : goal.returns-clause-cost
+returns-clause-cost g c =
     let was : State = record { page = c.self.inside.page; control = c.self.inside.control } in
     let next : State = record { page = c.redraw.new.page; control = c.step_into.new.self } in
     let strokes = c.as_slice-strokes.ensures.value ∙ c.step_into.ensures.strokes in
@@ -63,42 +61,27 @@ resolved g c =
     omega (
       arith,
       c.redraw.ensures.cost (core_of was) (core_of next) (sym c.edges-before.ensures) (sym c.edges-after.ensures),
-      rows_resolved-of c.args.command.now c.redraw.new.page c.step_into.new.self c.as_slice-strokes.result.now strokes
+      resolved-of c.args.command.now c.redraw.new.page c.step_into.new.self c.as_slice-strokes.result.now strokes
           whole c.args.self.now c.self.view_is,
     )
 
-pub returns-clause-cost : goal.returns-clause-cost
-returns-clause-cost g c = resolved g c
-
 pub returns-clause-at_most_24 : goal.returns-clause-at_most_24
 returns-clause-at_most_24 g c =
-    omega (arith, resolved g c, rows_resolved-le c.args.self.now c.args.command.now)
+    omega (arith, returns-clause-cost g c, rows_in_reach-le c.args.self.now c.args.command.now)
 
-pub returns-clause-in_reach : goal.returns-clause-in_reach
-returns-clause-in_reach g c none =
-    let next : edges_of c.step_into.new.self
-    ≡ edges_of (control_after c.args.self.now.control c.args.command.now) =
-    ap edges_of (c.step_into.ensures.state
-    ∙ ap (λ (s : State). control_after s.control c.args.command.now) c.self.view_is) in
-    let apart = ap (λ (e : Edges). mixes (edges_of c.args.self.now.control) e
-    (strokes_of c.args.self.now.control c.args.command.now)) (sym next) ∙ none in
-    omega (arith, resolved g c, rows_resolved-in_reach c.args.self.now c.args.command.now apart)
-
-pub returns-clause-unshown : goal.returns-clause-unshown
-returns-clause-unshown g c i colour entry unshown =
-    c.redraw.ensures.unshown
-    (c.edges-before.ensures ∙ sym (c.edges-after.ensures
-    ∙ ap edges_of c.step_into.ensures.state
-    ∙ edges-entry c.self.inside.control c.args.command.now i colour entry))
-    (SetsUnshown-entry c.self.invariant c.args.command.now c.as_slice-strokes.result.now
-    (c.as_slice-strokes.ensures.value ∙ c.step_into.ensures.strokes) i colour entry c.args.self.now c.self.view_is unshown)
+pub redraw-requires-clause-named : goal.redraw-requires-clause-named
+redraw-requires-clause-named g c =
+    AreNamedOn-state (state_of_parts c.self.inside.page c.self.inside.control) c.self.inside.names c.edges-before.result
+    c.edges-before.ensures c.self.invariant.named
 
 pub invariant_of-self : goal.invariant_of-self
 invariant_of-self g c =
     let strokes = c.as_slice-strokes.ensures.value ∙ c.step_into.ensures.strokes in
     IsKept-state_after c.self.invariant c.args.command.now c.requires c.redraw.new.page c.step_into.new.self
-    c.redraw.new.kept
+    c.redraw.new.kept c.redraw.new.names
     (state_after-drawn c.self.inside.page c.self.inside.control c.args.command.now c.redraw.new.page
     c.step_into.new.self c.as_slice-strokes.result.now strokes c.redraw.ensures.page c.step_into.ensures.state)
     (looks_of-drawn c.redraw.new.page c.step_into.new.self c.edges-after.result c.redraw.new.kept
     c.edges-after.ensures c.redraw.ensures.kept)
+    (AreNamed-drawn c.redraw.new.page c.step_into.new.self c.edges-after.result c.redraw.new.names
+    c.edges-after.ensures c.redraw.ensures.named)

@@ -8,9 +8,9 @@ use Rattle.cept_repaint.specs.GlassState.{Lists}
 use Rattle.cept_repaint.proofs.AppliedCommands.{goes_on_after}
 use Rattle.cept_repaint.proofs.screen.Screen.write_and_paint.Goals as goal
 
-pub returns-clause-applied : goal.returns-clause-applied
-returns-clause-applied g c =
-    let new = looks_of (core_of c.write.new.self) in record {
+pub returns : goal.returns
+returns g c =
+    let new = looks_of (core_of c.write.new.self) in record { applied = record {
       goes_on = goes_on_after c.args.self.now c.write.new.self c.args.command.now c.requires c.write.ensures.after;
       after = c.write.ensures.after;
       repainted = record {
@@ -22,6 +22,5 @@ returns-clause-applied g c =
             (ap (λ m. marked_looks m new) c.write.ensures.marks) c.paint_marked.ensures.told;
       };
       cost = c.write.ensures.cost;
-      in_reach = c.write.ensures.in_reach;
       at_most_24 = c.write.ensures.at_most_24;
-    }
+    } }

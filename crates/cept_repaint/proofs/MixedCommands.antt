@@ -1,0 +1,238 @@
+-- Commands that define something and do something else besides: full defaults alone, which wipe all rows. So every command
+-- may resolve the rows in its reach and no others.
+use Rattle.std.proofs.Common.{◌≡◌, ℕ, ◌+◌, ◌≤◌, ◌==◌, ◌||◌, ◌&&◌, not, cond, Bool, true, false, List, [], ◌∷◌, ◌++◌}
+use Rattle.std.proofs.Common.{Option, Some, None, ◌⊎◌, inl, inr, zero, suc, refl, sym, ap, ◌∙◌, arith}
+use Rattle.std.specs.List.{list_any}
+use Rattle.std.proofs.lemmas.Bool.{cases_Bool, or_left, true≢false}
+use Rattle.std.proofs.lemmas.Bool.Decides.{nat_tests}
+use Rattle.cept_codes.specs.declared.attribute.Attr.{Attr}
+use Rattle.cept_codes.specs.declared.cell.Marker.{Marker}
+use Rattle.cept_codes.specs.declared.cell.Marker.TheVariants as markers
+use Rattle.cept_codes.specs.declared.command.C1Set.{C1Set}
+use Rattle.cept_codes.specs.declared.command.C1Set.TheVariants as c1sets
+use Rattle.cept_codes.specs.declared.command.Command.{Command}
+use Rattle.cept_codes.specs.declared.command.Command.TheVariants as commands
+use Rattle.cept_codes.specs.declared.command.Up.{Up}
+use Rattle.cept_codes.specs.declared.command.Up.TheVariants as ways
+use Rattle.cept_codes.specs.declared.glyph.Glyph.{Glyph}
+use Rattle.cept_codes.specs.declared.stroke.Stroke.{Stroke}
+use Rattle.cept_profile.specs.Control.{ControlState, control_after, control_effect, state_for_effect}
+use Rattle.cept_profile.specs.Edges.{edges_of}
+use Rattle.cept_profile.specs.Markers.{marker_of, strokes_of_any_marker, strokes_of_marker}
+use Rattle.cept_profile.specs.Motions.{above_strokes, area_in_force, back_strokes, below_strokes, on_strokes, strokes_of_scroll}
+use Rattle.cept_profile.specs.Motions.{is_first_of, is_last_of, scrolling_area}
+use Rattle.cept_profile.specs.MovedRows.{row_before}
+use Rattle.cept_profile.specs.Pens.{attribute_of, flash_of, strokes_of_attribute, strokes_of_code, strokes_of_flash, strokes_of_reveal}
+use Rattle.cept_profile.specs.Pens.{strokes_of_row_attribute}
+use Rattle.cept_profile.specs.Reach.{is_reached, is_reached_from, is_written, reaches, rows_in_reach}
+use Rattle.cept_codes.specs.declared.glyph.Read.{Read}
+use Rattle.cept_codes.specs.declared.glyph.Read.TheVariants as reads
+use Rattle.cept_profile.specs.State.{Core, State, core_of, state_after}
+use Rattle.cept_profile.specs.Strokes.{strokes_of, strokes_when}
+use Rattle.cept_profile.specs.Writing.{control_after_copies, graphic_result, sign_with_accent, strokes_of_copies, strokes_of_read}
+use Rattle.cept_profile.specs.Writing.{strokes_of_repeat, strokes_of_sign}
+use Rattle.cept_profile.proofs.Laws.{is_reached-by, reaches-by, rows_in_reach-counted, strokes_of_copies-more}
+use Rattle.cept_profile.proofs.Laws.{strokes_of_copies-none}
+use Rattle.cept_repaint.specs.Resolved.{defines, may_resolve, mixes, one_else, rows_resolved_by}
+use Rattle.cept_repaint.proofs.RowsDue.{or_false, same_count}
+
+-- ---- strokes that define nothing
+
+abbrev DefinesNothing : List Stroke → Type 0
+DefinesNothing xs = list_any defines xs ≡ false
+
+none-append : (xs ys : List Stroke) → DefinesNothing xs → DefinesNothing ys → DefinesNothing (xs ++ ys)
+none-append [] ys none more = more
+none-append (x ∷ xs) ys none more =
+    elim (cases_Bool (defines x)) [
+      | inl so ↦ absurd (true≢false (sym (or_left (defines x) (list_any defines xs) so) ∙ none))
+      | inr not_so ↦
+          let rest : DefinesNothing xs = ap (λ b. b || list_any defines xs) (sym not_so) ∙ none in
+          ap (λ b. b || list_any defines (xs ++ ys)) not_so ∙ none-append xs ys rest more
+    ]
+
+none-cond : (b : Bool) (xs ys : List Stroke) → DefinesNothing xs → DefinesNothing ys → DefinesNothing (cond b xs ys)
+none-cond true xs ys first second = first
+none-cond false xs ys first second = second
+
+none-scroll : (s : ControlState) (way : Up) (area : Option (ℕ × ℕ)) → DefinesNothing (strokes_of_scroll s way area)
+none-scroll s way None = refl
+none-scroll s way (Some area) = refl
+
+none-below : (s : ControlState) (r : ℕ) → DefinesNothing (below_strokes s r)
+none-below s r =
+    none-cond (is_last_of (scrolling_area s) r) (strokes_of_scroll s ways.Up (scrolling_area s)) []
+    (none-scroll s ways.Up (scrolling_area s)) refl
+
+none-above : (s : ControlState) (r : ℕ) → DefinesNothing (above_strokes s r)
+none-above s r =
+    none-cond (is_first_of (scrolling_area s) r) (strokes_of_scroll s ways.Down (scrolling_area s)) []
+    (none-scroll s ways.Down (scrolling_area s)) refl
+
+none-on : (s : ControlState) (n : ℕ) → DefinesNothing (on_strokes s n)
+none-on s n =
+    none-cond _ [] (cond s.wrap (below_strokes s s.working.row) []) refl
+    (none-cond s.wrap (below_strokes s s.working.row) [] (none-below s s.working.row) refl)
+
+none-back : (s : ControlState) → DefinesNothing (back_strokes s)
+none-back s =
+    none-cond _ (cond s.wrap (above_strokes s s.working.row) []) []
+    (none-cond s.wrap (above_strokes s s.working.row) [] (none-above s s.working.row) refl) refl
+
+none-sign : (s : ControlState) (g : Glyph) → DefinesNothing (strokes_of_sign s g)
+none-sign s g = none-on s _
+
+none-read : (s : ControlState) (read : Read) → DefinesNothing (strokes_of_read s read)
+none-read s (reads.Accent code) = refl
+none-read s (reads.Glyph g) = none-sign s (sign_with_accent g.set g.code s.working.accent)
+
+none-copies : (n : ℕ) (s : ControlState) (g : Glyph) → DefinesNothing (strokes_of_copies n s g)
+none-copies zero s g = ap (list_any defines) (strokes_of_copies-none s g)
+none-copies (suc n) s g =
+    let next : n + 1 ≡ suc n = omega arith in
+    ap (λ m. list_any defines (strokes_of_copies m s g)) (sym next) ∙ ap (list_any defines) (strokes_of_copies-more n s g)
+    ∙ none-append (strokes_of_copies n s g) (strokes_of_sign (control_after_copies n s g) g) (none-copies n s g)
+    (none-sign (control_after_copies n s g) g)
+
+none-repeat : (n : ℕ) (s : ControlState) (last : Option Glyph) → DefinesNothing (strokes_of_repeat n s last)
+none-repeat n s None = refl
+none-repeat n s (Some g) = none-copies n s g
+
+none-marker : (s : ControlState) (m : Marker) → DefinesNothing (strokes_of_marker s m)
+none-marker s m = none-on s 1
+
+none-any_marker : (s : ControlState) (m : Option Marker) → DefinesNothing (strokes_of_any_marker s m)
+none-any_marker s None = refl
+none-any_marker s (Some m) = none-marker s m
+
+none-code : (c1 : C1Set) (n : ℕ) (s : ControlState) → DefinesNothing (strokes_of_code c1 n s)
+none-code c1sets.Parallel n s = refl
+none-code c1sets.Serial n s = none-any_marker s (marker_of s.working.table n)
+
+none-flash : (c1 : C1Set) (k : ℕ) (s : ControlState) → DefinesNothing (strokes_of_flash c1 k s)
+none-flash c1sets.Parallel k s = refl
+none-flash c1sets.Serial k s = none-marker s (markers.Flash (flash_of k s.working.fast))
+
+none-reveal : (c1 : C1Set) (s : ControlState) → DefinesNothing (strokes_of_reveal c1 s)
+none-reveal c1sets.Parallel s = refl
+none-reveal c1sets.Serial s = none-marker s (markers.Conceal false)
+
+none-screen : (attr : Option Attr) → DefinesNothing (strokes_of_attribute attr)
+none-screen None = refl
+none-screen (Some attr) = refl
+
+none-row : (r : ℕ) (attr : Option Attr) → DefinesNothing (strokes_of_row_attribute r attr)
+none-row r None = refl
+none-row r (Some attr) = refl
+
+-- ---- three kinds of commands
+
+-- its strokes define nothing; or they all define something, and the number of rows stays; or they write in all rows
+abbrev Kind : ControlState → Command → Type 0
+Kind s command =
+    DefinesNothing (strokes_when s command)
+    ⊎ (((one_else (strokes_when s command) ≡ false) × ((control_effect s command).rows ≡ s.rows))
+    ⊎ ((r : ℕ) → is_written (strokes_when s command) r ≡ true))
+
+kind : (s : ControlState) (command : Command) → Kind s command
+unfolding one_else is_written row_before
+kind s commands.Back = inl (none-back s)
+kind s commands.Forward = inl (none-on s 1)
+kind s commands.Down = inl (none-below s s.working.row)
+kind s commands.Up = inl (none-above s s.working.row)
+kind s commands.Clear = inl refl
+kind s (commands.Graphic byte) = inl (none-read s (graphic_result s byte).read)
+kind s (commands.Repeat n) = inl (none-repeat n s s.working.last)
+kind s commands.Cancel = inl refl
+kind s (commands.C1 n) = inl (none-code s.working.c1 n s)
+kind s (commands.FlashMode k) = inl (none-flash s.working.c1 k s)
+kind s commands.StopConceal = inl (none-reveal s.working.c1 s)
+kind s (commands.FullScreen n) = inl (none-screen (attribute_of s.working.table n))
+kind s (commands.FullRow n) = inl (none-row s.working.row (attribute_of s.working.table n))
+kind s commands.ColourDefaults = inr (inl (refl, refl))
+kind s (commands.Entry i colour) = inr (inl (refl, refl))
+kind s (commands.Dclut i entry) = inr (inl (refl, refl))
+kind s (commands.DrcsHeader true form) = inr (inl (refl, refl))
+kind s (commands.DrcsHeader false form) = inl refl
+kind s (commands.DrcsPattern code pattern) = inr (inl (refl, refl))
+kind s commands.ScrollUp = inl (none-scroll s ways.Up (area_in_force s))
+kind s commands.ScrollDown = inl (none-scroll s ways.Down (area_in_force s))
+kind s (commands.Format rows wrap) = inl refl
+kind s (commands.FullDefaults set) = inr (inr (λ r. refl))
+kind s commands.Nul = inl refl
+kind s commands.Skipped = inl refl
+kind s commands.Return = inl refl
+kind s commands.Home = inl refl
+kind s commands.CursorOn = inl refl
+kind s commands.CursorOff = inl refl
+kind s (commands.LockLeft g) = inl refl
+kind s (commands.LockRight g) = inl refl
+kind s (commands.Single g) = inl refl
+kind s (commands.Position r c) = inl refl
+kind s (commands.DesignateC1 set) = inl refl
+kind s (commands.Designate g set) = inl refl
+kind s (commands.Table k) = inl refl
+kind s (commands.Implicit on) = inl refl
+kind s (commands.Protect on) = inl refl
+kind s (commands.Marked on) = inl refl
+kind s (commands.AreaCreate first last) = inl refl
+kind s (commands.AreaDelete first last) = inl refl
+kind s (commands.ColourHeader dclut) = inl refl
+kind s (commands.ColourStart i) = inl refl
+kind s (commands.DrcsStart code) = inl refl
+kind s (commands.ServiceBreak row) = inl refl
+kind s commands.ServiceEnd = inl refl
+kind s (commands.ControlDefaults set) = inl refl
+
+-- ---- a command that mixes writes in all rows
+
+written : (s : ControlState) (command : Command)
+    → mixes (edges_of s) (edges_of (control_after s command)) (strokes_of s command) ≡ true → (r : ℕ)
+    → is_written (strokes_of s command) r ≡ true
+unfolding mixes
+written s command mixed r =
+    let start : ControlState = state_for_effect s command in
+    let xs : List Stroke = strokes_when start command in
+    let after : ℕ = (control_effect start command).rows in
+    elim (kind start command) [
+      | inl none ↦ absurd (true≢false (sym mixed ∙ ap (λ b. b && (one_else xs || not (s.rows == after))) none))
+      | inr (inl same) ↦
+          let equal : (s.rows == after) ≡ true = grind (arith, nat_tests, same.1) in
+          let neither : (one_else xs || not (s.rows == after)) ≡ false = λ i. same.0 i || not (equal i) in
+          absurd (true≢false (sym mixed ∙ ap (λ b. list_any defines xs && b) neither ∙ never (list_any defines xs)))
+      | inr (inr all) ↦ all r
+    ]
+  where
+    never : (b : Bool) → (b && false) ≡ false
+    never true = refl
+    never false = refl
+
+-- a row in which strokes write is reached
+reached : (before after : Core) (xs : List Stroke) (r : ℕ) → is_written xs r ≡ true → is_reached before after xs r ≡ true
+reached before after xs r so = is_reached-by before after xs r ∙ by_row (row_before xs r)
+  where
+    by_row : (found : Option ℕ) → is_reached_from before after xs found r ≡ true
+    by_row None = refl
+    by_row (Some q) = or_left _ _ (or_left _ _ (or_left _ _ so))
+
+-- ---- the bound
+
+-- a command may resolve as many rows between the states before and after it as are in its reach
+pub resolved-in_reach : (s : State) (command : Command)
+    → rows_resolved_by (core_of s) (core_of (state_after s command)) (strokes_of s.control command)
+    ≡ rows_in_reach s command
+unfolding rows_resolved_by may_resolve
+resolved-in_reach s command =
+    let old : Core = core_of s in
+    let new : Core = core_of (state_after s command) in
+    let xs : List Stroke = strokes_of s.control command in
+    let both : Bool = mixes (edges_of s.control) (edges_of (control_after s.control command)) xs in
+    same_count (may_resolve old new xs) (reaches s command) (λ r low high.
+    elim (cases_Bool both) [
+      | inl so ↦
+          let is : is_reached old new xs r ≡ true = reached old new xs r (written s.control command so r) in
+          or_left (is_reached old new xs r) both is ∙ sym is ∙ sym (reaches-by s command r)
+      | inr none ↦
+          ap (λ b. is_reached old new xs r || b) none ∙ or_false (is_reached old new xs r) ∙ sym (reaches-by s command r)
+    ])
+    ∙ sym (rows_in_reach-counted s command)

@@ -1,0 +1,167 @@
+ghost use Rattle.std.specs.Prelude.{◌≡◌, ◌≢◌, ◌≤◌, ◌<◌, ◌-◌, ℕ, true, false, Some, length};
+ghost use Rattle.cept_codes.specs.Place.{OnScreen, number};
+ghost use Rattle.cept_profile.specs.Look.{looks_of};
+ghost use Rattle.cept_profile.specs.RowsFromAbove.{looks_in};
+ghost use Rattle.cept_profile.specs.State.{Core};
+ghost use Rattle.cept_profile.specs.Valid.{IsValidPage};
+ghost use Rattle.cept_repaint.specs.Kept.{core_on};
+ghost use Rattle.cept_repaint.specs.Marks.{is_marked};
+ghost use Rattle.cept_repaint.specs.Named.{AreAllKnown, AreNamed, AreRemembered, IsStill};
+ghost use Rattle.cept_repaint.specs.Named.{is_known, row_named};
+
+use crate::followed_rows::Followed;
+use crate::kept_rows::KeptRows;
+use crate::marks::Marks;
+use crate::page::Page;
+use cept_rows::{RowLooks, RowNames};
+use std::marker::Model;
+
+/// What the rows of the screen name, and of which rows that is known: of a row that was written or
+/// that looks otherwise it is forgotten, and found anew when it is asked for.
+#[derive(Drop)]
+pub(crate) struct KeptNames {
+    above: RowNames,
+    rows: [RowNames; 24],
+    known: [bool; 24],
+}
+
+impl Model for KeptNames {
+    ghost use Rattle.std.specs.Prelude.{◌≡◌, length};
+    ghost use Rattle.cept_repaint.specs.Named.{NamesOfRows};
+
+    ghost Value = { NamesOfRows };
+
+    ghost view = { λ n. record { above = n.above; rows = n.rows; known = n.known } };
+
+    ghost invariant = { λ n. (length n.rows ≡ 24) × (length n.known ≡ 24) };
+}
+
+impl KeptNames {
+    /// Of no row it is known.
+    pub(crate) fn new() -> KeptNames
+        ensures { (k : Core) → AreNamed result k }
+    {
+        KeptNames {
+            above: RowNames::blank(),
+            rows: [RowNames::blank(); 24],
+            known: [false; 24],
+        }
+    }
+
+    /// What is kept as the names of a row, where it stands.
+    pub(crate) fn row(&self, row: u8) -> &RowNames
+        requires from_top { 1 ≤ row }
+        requires to_bottom { row ≤ 24 }
+        ensures { result.now ≡ row_named self.now row }
+    {
+        &self.rows[usize::from(row) - 1]
+    }
+
+    /// The same of the row above a row.
+    fn above(&self, row: u8) -> &RowNames
+        requires from_top { 1 ≤ row }
+        requires to_bottom { row ≤ 24 }
+        ensures { result.now ≡ row_named self.now (row - 1) }
+    {
+        if row == 1 {
+            &self.above
+        } else {
+            &self.rows[usize::from(row) - 2]
+        }
+    }
+
+    /// Finds what each row names of which it isn't known, from the top.
+    pub(crate) fn find(&mut self, page: &Page, kept: &KeptRows)
+        requires valid { IsValidPage page.now }
+        ensures named { (k : Core) → kept.now ≡ looks_of (core_on k page.now)
+            → AreNamed self.old (core_on k page.now) → AreNamed self.new (core_on k page.now) }
+        ensures known { AreAllKnown self.new }
+    {
+        for row in 1..25u8 {
+            if !self.known[usize::from(row) - 1] {
+                self.name(row, page, kept.row(row));
+            }
+        }
+    }
+
+    /// Names a row with these looks. What the row below it names is forgotten, where these aren't
+    /// the names that stood above it.
+    fn name(&mut self, row: u8, page: &Page, looks: &RowLooks)
+        requires from_top { 1 ≤ row }
+        requires to_bottom { row ≤ 24 }
+        requires valid { IsValidPage page.now }
+        ensures named { (k : Core) → looks.now ≡ looks_in (looks_of (core_on k page.now)) row
+            → AreNamed self.old (core_on k page.now) → AreNamed self.new (core_on k page.now) }
+        ensures known { is_known self.new row ≡ true }
+        ensures above { (r : ℕ) → 1 ≤ r → r < row → is_known self.new r ≡ is_known self.old r }
+    {
+        let at = usize::from(row) - 1;
+        let names = page.name_row(row, self.above(row), looks);
+        let same = is_same(&names, &self.rows[at]);
+        self.rows[at] = names;
+        self.known[at] = true;
+        if at < 23 {
+            self.known[at + 1] = self.known[at + 1] & same;
+        }
+    }
+
+    /// Forgets what a row names.
+    #[inline(always)]
+    pub(crate) fn forget(&mut self, row: u8)
+        requires from_top { 1 ≤ row }
+        requires to_bottom { row ≤ 24 }
+        ensures { AreRemembered self.old self.new (λ r. r ≢ row) }
+    {
+        self.known[usize::from(row) - 1] = false;
+    }
+
+    /// Forgets what each row names that is flagged, that came of another one or in which a place is
+    /// marked.
+    pub(crate) fn forget_rows(&mut self, flags: &[bool; 24], rows: &[Followed; 24], marks: &Marks)
+        requires flags { length flags.now ≡ 24 }
+        requires rows { length rows.now ≡ 24 }
+        ensures { AreRemembered self.old self.new (λ r. IsStill flags.now rows.now marks.now r) }
+    {
+        for row in 1..25u8 {
+            let at = usize::from(row) - 1;
+            let stays = !flags[at] & is_still(rows[at].from, row) & !is_marked_in(marks, row);
+            self.known[at] = self.known[at] & stays;
+        }
+    }
+
+    /// Forgets what all rows name.
+    pub(crate) fn forget_all(&mut self)
+        ensures { (k : Core) → AreNamed self.new k }
+    {
+        self.known = [false; 24];
+    }
+}
+
+/// Whether two rows name the same.
+fn is_same(names: &RowNames, others: &RowNames) -> bool
+    ensures { result ≡ true → names.now ≡ others.now }
+{
+    *names == *others
+}
+
+/// Whether a row came of itself.
+fn is_still(from: Option<u8>, row: u8) -> bool
+    ensures { result ≡ true → from ≡ Some row }
+{
+    match from {
+        Some(from) => from == row,
+        None => false,
+    }
+}
+
+/// Whether a place of a row is marked.
+fn is_marked_in(marks: &Marks, row: u8) -> bool
+    requires from_top { 1 ≤ row }
+    requires to_bottom { row ≤ 24 }
+    ensures { result ≡ false → (c : ℕ) → OnScreen row c → is_marked marks.now (number row c) ≡ false }
+{
+    match marks.next_from(40 * (u16::from(row) - 1)) {
+        Some(place) => place.row() == row,
+        None => false,
+    }
+}
