@@ -1,3 +1,4 @@
 mod CellsAfterStrokes
+mod CellsInSlots
 mod ShiftedRows
 pub mod Laws

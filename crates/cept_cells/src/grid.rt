@@ -1,5 +1,5 @@
 ghost use Rattle.std.specs.Prelude.{◌≡◌, ℕ, ◌-◌, ◌<◌, ◌≤◌, Bool, false, not, List, length};
-ghost use Rattle.std.specs.Prelude.{slice_index_or, IfOk};
+ghost use Rattle.std.specs.Prelude.{slice_index_or, slice_set, IfOk};
 ghost use Rattle.std.specs.Prelude.{if◌then◌else◌};
 ghost use Rattle.cept_codes.specs.declared.cell.Cell.{Cell};
 ghost use Rattle.cept_codes.specs.Cell.{blank_cell};
@@ -8,32 +8,36 @@ ghost use Rattle.cept_codes.specs.Place.{OnScreen};
 ghost use Rattle.cept_codes.specs.Stroke.{IsValidStroke};
 ghost use Rattle.cept_codes.specs.Table.{table, value_at, entry, list_by_index, IsTable};
 ghost use Rattle.cept_profile.specs.Cells.{cells_after};
+ghost use Rattle.cept_scroll.specs.Order.{rows_turned};
 ghost use Rattle.cept_cells.specs.Erased.{cell_after_erasing};
 ghost use Rattle.cept_cells.specs.Freed.{cells_freed};
 
 use cept_codes::{Cell, NoMemory, Pos, RowCells, Stroke, Up};
+use cept_scroll::RowOrder;
 use std::alloc::Global;
 use std::marker::Model;
 
 /// A row into which nothing was written.
 const BLANK_ROW: [Cell; 40] = [Cell::BLANK; 40];
 
-/// The cells of the screen: 24 rows of 40.
+/// The cells of the screen: 24 rows of 40. Each row stays in its slot: where rows move, their order
+/// turns and no cell is copied.
 #[derive(Drop)]
 pub struct Grid {
     rows: Vec<[Cell; 40]>,
+    order: RowOrder,
 }
 
 impl Model for Grid {
     ghost use Rattle.std.specs.Prelude.{List};
     ghost use Rattle.cept_codes.specs.declared.cell.Cell.{Cell};
-    ghost use Rattle.cept_codes.specs.Table.{IsTable};
+    ghost use Rattle.cept_scroll.specs.Order.{AreInSlots, rows_in_order};
 
     ghost Value = { List (List Cell) };
 
-    ghost view = { λ g. g.rows.items };
+    ghost view = { λ g. rows_in_order g.order g.rows.items };
 
-    ghost invariant = { λ g. IsTable g.rows.items };
+    ghost invariant = { λ g. AreInSlots g.order g.rows.items };
 }
 
 impl Grid {
@@ -45,7 +49,9 @@ impl Grid {
         for _row in 0..24usize {
             rows.push(BLANK_ROW)?;
         }
-        Ok(Grid { rows })
+        let order = RowOrder::new();
+        order.ordered_by_type();
+        Ok(Grid { rows, order })
     }
 
     /// The cell at a place, where it stands.
@@ -53,14 +59,14 @@ impl Grid {
         ensures cell { result.now ≡ value_at blank_cell self.now place.row place.column }
         ensures on_screen { OnScreen place.row place.column }
     {
-        &self.rows[usize::from(place.row()) - 1][usize::from(place.col()) - 1]
+        &self.rows[self.order.index(place.row())][usize::from(place.col()) - 1]
     }
 
     /// The cell at a place.
     pub fn get(&self, place: Pos) -> Cell
         ensures { result ≡ value_at blank_cell self.now place.row place.column }
     {
-        self.rows[usize::from(place.row()) - 1][usize::from(place.col()) - 1]
+        self.rows[self.order.index(place.row())][usize::from(place.col()) - 1]
     }
 
     /// Writes a cell, unless the cell there is protected. Answers whether it was written.
@@ -70,12 +76,8 @@ impl Grid {
         ensures refused { result ≡ false → self.new ≡ self.old }
         ensures cells { self.new ≡ cells_after self.old (Stroke.Put place cell) }
     {
-        self.whole_by_type();
-        let free = !self.get(place).protected;
-        if free {
-            self.rows[usize::from(place.row()) - 1][usize::from(place.col()) - 1] = cell;
-        }
-        free
+        let row = &mut self.rows[self.order.index(place.row())];
+        put_into(row, place.col(), cell)
     }
 
     /// The cells of a row, from the left.
@@ -97,7 +99,7 @@ impl Grid {
         ensures cells { (d : List Cell) → result.now ≡ slice_index_or self.now (row - 1) d }
         ensures columns { length result.now ≡ 40 }
     {
-        &self.rows[usize::from(row) - 1]
+        &self.rows[self.order.index(row)]
     }
 
     /// Tells the prover that there are 24 rows of 40: reading a field opens the model.
@@ -139,7 +141,7 @@ impl Grid {
         requires to_bottom { row ≤ 24 }
         ensures { self.new ≡ cells_after self.old (Stroke.Erase row from) }
     {
-        erase_from(&mut self.rows[usize::from(row) - 1], from);
+        erase_from(&mut self.rows[self.order.index(row)], from);
     }
 
     /// Makes every cell of a row blank and unprotected.
@@ -148,7 +150,7 @@ impl Grid {
         requires to_bottom { row ≤ 24 }
         ensures { self.new ≡ cells_freed self.old row }
     {
-        self.rows[usize::from(row) - 1] = BLANK_ROW;
+        self.rows[self.order.index(row)] = BLANK_ROW;
     }
 
     /// Makes every cell blank and unprotected.
@@ -163,6 +165,7 @@ impl Grid {
         ensures { self.new ≡ from.now }
     {
         self.rows.copy_from_slice(&from.rows);
+        self.order = from.order;
     }
 
     /// Moves the rows from the first to the last, `1 <= first <= last <= 24`, one row up or down,
@@ -171,19 +174,37 @@ impl Grid {
         requires { IsArea first last }
         ensures { self.new ≡ cells_after self.old (Stroke.Shift first last way) }
     {
-        let top = usize::from(first) - 1;
-        let bottom = usize::from(last) - 1;
+        self.turn(first, last, way);
         match way {
-            Up::Up => {
-                self.rows.copy_within(top + 1..bottom + 1, top);
-                self.rows[bottom] = BLANK_ROW;
-            }
-            Up::Down => {
-                self.rows.copy_within(top..bottom, top + 1);
-                self.rows[top] = BLANK_ROW;
-            }
+            Up::Up => self.free(last),
+            Up::Down => self.free(first),
         }
     }
+
+    /// Moves the rows of an area one row up or down. The one that leaves it stands in the row that
+    /// comes free.
+    fn turn(&mut self, first: u8, last: u8, way: Up)
+        requires { IsArea first last }
+        ensures { self.new ≡ rows_turned way first last self.old }
+    {
+        self.order.turn(first, last, way);
+    }
+}
+
+/// Writes a cell into a row, unless the cell there is protected. Answers whether it was written.
+fn put_into(cells: &mut [Cell; 40], column: u8, cell: Cell) -> bool
+    requires columns { length cells.old ≡ 40 }
+    requires from_left { 1 ≤ column }
+    requires to_right { column ≤ 40 }
+    ensures answer { result ≡ not (entry blank_cell 1 cells.old column).protected }
+    ensures cells { cells.new ≡ (if result then slice_set cells.old (column - 1) cell else cells.old) }
+{
+    let here = &mut cells[usize::from(column) - 1];
+    let free = !here.protected;
+    if free {
+        *here = cell;
+    }
+    free
 }
 
 /// Blanks all cells of these rows.

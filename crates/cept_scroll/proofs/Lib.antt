@@ -1,4 +1,5 @@
 mod Orders
+mod RowsInOrder
 mod SlotsHeld
 mod TurnedSlots
 pub mod Laws

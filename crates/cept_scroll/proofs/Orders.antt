@@ -6,6 +6,7 @@ use Rattle.std.proofs.lemmas.Bool.Decides.{nat_tests}
 use Rattle.cept_codes.specs.declared.command.Up.{Up}
 use Rattle.cept_codes.specs.declared.command.Up.TheVariants as ways
 use Rattle.cept_codes.specs.Command.{IsArea}
+use Rattle.cept_codes.specs.Table.{entry, list_by_index}
 use Rattle.cept_codes.proofs.Laws.{entry-list_by_index, length-list_by_index}
 use Rattle.cept_profile.specs.Cells.{shifted}
 use Rattle.cept_scroll.specs.Order.{IsRowOrder, by_row, first_order, freed_slot, leaving_row, order_after, slot_of, with_slot}
@@ -113,4 +114,22 @@ by_row-turned {X} order kept blank way first last r is area low high =
           let no : (left == from) ≡ false = grind (arith, nat_tests) in
           ap (λ b. cond b blank (by_row order kept from)) no
           ∙ sym (moved way first last r blank (by_row order kept) ne)
+    ]
+
+-- a row after a turn, by the rows before it
+pub by_row-turned_rows : {X : Type 0} (d : X) (order : List ℕ) (kept : ℕ → X) (way : Up) (first last r : ℕ)
+    → IsArea first last → 1 ≤ r → r ≤ 24
+    → by_row (order_after way first last order) kept r
+    ≡ shifted way first last (entry d 1 (list_by_index 1 24 (by_row order kept)) (leaving_row way first last))
+    (entry d 1 (list_by_index 1 24 (by_row order kept))) r
+by_row-turned_rows {X} d order kept way first last r area low high =
+    let from : ℕ = row_of_slot way first last r in
+    let left : ℕ = leaving_row way first last in
+    let rows : ℕ → X = entry d 1 (list_by_index 1 24 (by_row order kept)) in
+    let on : (1 ≤ from) × (from ≤ 24) = on_screen way first last r area low high in
+    ap kept (slot_after way first last r order area low high)
+    ∙ sym (entry-list_by_index d 1 24 (by_row order kept) from on.0 (omega (arith, on.1)))
+    ∙ elim (cases_eq from left) [
+      | inl e ↦ ap rows e ∙ sym (freed way first last r (rows left) rows area e)
+      | inr ne ↦ sym (moved way first last r (rows left) rows ne)
     ]

@@ -1,9 +1,9 @@
 -- Orders of rows (own): which slot holds each row of the screen, what the rows of an area that move make of it, and
 -- what is kept in the slots by the row that each holds.
-use Rattle.std.specs.Prelude.{ℕ, ◌≡◌, ◌≤◌, ◌==◌, if◌then◌else◌, List, length}
+use Rattle.std.specs.Prelude.{ℕ, ◌≡◌, ◌≤◌, ◌==◌, if◌then◌else◌, List, [], length}
 use Rattle.cept_codes.specs.declared.command.Up.{Up}
 use Rattle.cept_codes.specs.declared.command.Up.TheVariants as ways
-use Rattle.cept_codes.specs.Table.{entry, list_by_index}
+use Rattle.cept_codes.specs.Table.{entry, list_by_index, IsTable}
 use Rattle.cept_profile.specs.Cells.{shifted}
 
 -- the slot that holds this row, rows from 1
@@ -46,3 +46,17 @@ by_row order kept r = kept (slot_of order r)
 -- what is kept in the slots after one was written
 abbrev pub with_slot : {X : Type 0} → ℕ → X → (ℕ → X) → ℕ → X
 with_slot slot x kept s = if slot == s then x else kept s
+
+-- rows that are kept in slots, from slot 1, in the order of the screen
+abbrev pub rows_in_order : {X : Type 0} → List ℕ → List (List X) → List (List X)
+rows_in_order order kept = list_by_index 1 24 (by_row order (entry [] 1 kept))
+
+-- rows after those of an area went one up or down: the one that left the area stands in the row that came free
+abbrev pub rows_turned : {X : Type 0} → Up → ℕ → ℕ → List (List X) → List (List X)
+rows_turned way first last rows =
+    list_by_index 1 24 (shifted way first last (entry [] 1 rows (leaving_row way first last)) (entry [] 1 rows))
+
+-- 24 rows of 40, each kept in a slot
+pub record AreInSlots {X : Type 0} (order : List ℕ) (kept : List (List X)) : Type 0 where
+  pub ordered : IsRowOrder order
+  pub table : IsTable kept

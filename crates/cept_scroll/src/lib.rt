@@ -6,5 +6,7 @@ mod row_order;
 #[cfg(test)]
 mod tests;
 
-pub use law::{slots_hold_one_row, turned_rows_are_shifted_rows};
+pub use law::{
+    rows_stand_in_slots, rows_stay_in_slots, slots_hold_one_row, turned_rows_are_shifted_rows,
+};
 pub use row_order::RowOrder;

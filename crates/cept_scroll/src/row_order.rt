@@ -1,4 +1,4 @@
-ghost use Rattle.std.specs.Prelude.{◌≡◌, ◌≢◌, ◌≤◌, ℕ, length};
+ghost use Rattle.std.specs.Prelude.{◌≡◌, ◌≢◌, ◌-◌, ◌<◌, ◌≤◌, ℕ, length};
 ghost use Rattle.cept_codes.specs.Command.{IsArea};
 ghost use Rattle.cept_scroll.specs.Order.{IsRowOrder, first_order, freed_slot, order_after, slot_of};
 
@@ -38,6 +38,7 @@ impl RowOrder {
     }
 
     /// The slot that holds a row, 1 to 24.
+    #[inline(always)]
     pub fn slot(&self, row: u8) -> u8
         requires from_top { 1 ≤ row }
         requires to_bottom { row ≤ 24 }
@@ -46,6 +47,17 @@ impl RowOrder {
         ensures to_last { result ≤ 24 }
     {
         self.slots[usize::from(row) - 1]
+    }
+
+    /// The index of that slot in what is kept, slot 1 first.
+    #[inline(always)]
+    pub fn index(&self, row: u8) -> usize
+        requires from_top { 1 ≤ row }
+        requires to_bottom { row ≤ 24 }
+        ensures index { result ≡ slot_of self.now row - 1 }
+        ensures kept { result < 24 }
+    {
+        usize::from(self.slot(row)) - 1
     }
 
     /// Moves the rows from the first to the last, `1 <= first <= last <= 24`, one row up or down,

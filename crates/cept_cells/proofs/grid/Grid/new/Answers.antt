@@ -3,6 +3,8 @@ use Rattle.cept_codes.specs.declared.cell.Cell.{Cell}
 use Rattle.cept_codes.specs.Cell.{blank_cell}
 use Rattle.cept_codes.specs.Table.{IsTable, list_by_index, row_of, table}
 use Rattle.cept_codes.proofs.Laws.{IsTable-table, indexed_none, indexed_more, table-list_by_index}
+use Rattle.cept_scroll.specs.Order.{rows_in_order}
+use Rattle.cept_scroll.proofs.Laws.{rows_in_order-first}
 use Rattle.cept_cells.proofs.CellsAfterStrokes.{blank_row}
 use Rattle.cept_cells.proofs.grid.Grid.new.Goals as goal
 
@@ -22,11 +24,18 @@ made rows n e whole =
     e ∙ ap (λ k. list_by_index 1 k (λ _. row_of (λ _. blank_cell))) whole
     ∙ sym (table-list_by_index (λ _ _. blank_cell))
 
+whole : (rows : List (List Cell)) → rows ≡ table (λ _ _. blank_cell) → IsTable rows
+whole rows e = subst (λ (t : List (List Cell)). IsTable t) (sym e) (IsTable-table (λ _ _. blank_cell))
+
 pub returns : goal.returns
-returns c = made c.loop-row.rows.items c.loop-row._row c.loop-row.invariant (omega arith)
+returns c =
+    let blank : c.loop-row.rows.items ≡ table (λ _ _. blank_cell) =
+    made c.loop-row.rows.items c.loop-row._row c.loop-row.invariant (omega arith) in
+    ap (λ (order : List ℕ). rows_in_order order c.loop-row.rows.items) c.new-order.ensures
+    ∙ rows_in_order-first c.loop-row.rows.items (whole c.loop-row.rows.items blank) ∙ blank
 
 pub invariant_of-result : goal.invariant_of-result
-invariant_of-result c =
-    subst (λ (t : List (List Cell)). IsTable t)
-    (sym (made c.loop-row.rows.items c.loop-row._row c.loop-row.invariant (omega arith)))
-    (IsTable-table (λ _ _. blank_cell))
+invariant_of-result c = record {
+  ordered = c.ordered_by_type.ensures.order;
+  table = whole c.loop-row.rows.items (made c.loop-row.rows.items c.loop-row._row c.loop-row.invariant (omega arith));
+}

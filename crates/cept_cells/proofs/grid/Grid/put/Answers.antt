@@ -1,21 +1,25 @@
-use Rattle.std.proofs.Common.{◌≡◌, false, true, sym, ap, ◌∙◌, arith}
-use Rattle.std.proofs.lemmas.Bool.{not-true, not-false}
+use Rattle.std.proofs.Common.{◌-◌, not, ap, ◌∙◌, arith}
 use Rattle.cept_codes.specs.declared.cell.Cell.{Cell}
 use Rattle.cept_codes.specs.Cell.{blank_cell}
-use Rattle.cept_codes.specs.Table.{value_at}
-use Rattle.cept_cells.proofs.CellsAfterStrokes.{cells_after-put, cells_after-put_kept}
+use Rattle.cept_codes.proofs.Laws.{entry_from}
+use Rattle.cept_cells.proofs.CellsInSlots.{put_in_slot, value_read}
 use Rattle.cept_cells.proofs.grid.Grid.put.Goals as goal
 
-pub returns-then-free-clause-cells : goal.returns-then-free-clause-cells
-returns-then-free-clause-cells c =
-    let free : (value_at blank_cell c.args.self.now c.args.place.row c.args.place.column).protected
-    ≡ false = ap (λ (x : Cell). x.protected) (sym c.get-free.ensures) ∙ not-true _ c.if-free.true in
-    cells_after-put c.self.invariant c.self.view_is c.args.place c.args.cell _ _ _ _ c.row.ensures.on_screen
-    (omega arith)
-    (omega arith) c.index_mut.ensures.value free
+-- the cell there was free where it is answered so
+answer : goal.returns-clause-answer
+answer c =
+    c.put_into.ensures.answer
+    ∙ ap (λ (x : Cell). not x.protected)
+    (entry_from blank_cell 1 c.index_mut-row.result.now c.col.result (omega (arith, c.col.ensures))
+    ∙ value_read c.self.invariant c.self.view_is c.args.place c.row.result c.index.result
+    (c.col.result - 1) c.index_mut-row.result.now _ c.row.ensures.on_screen c.row.ensures.row c.index.ensures.index
+    (omega (arith, c.col.ensures)) c.index_mut-row.ensures.value)
 
-pub returns-else-free-clause-cells : goal.returns-else-free-clause-cells
-returns-else-free-clause-cells c =
-    let kept : (value_at blank_cell c.args.self.now c.args.place.row c.args.place.column).protected
-    ≡ true = ap (λ (x : Cell). x.protected) (sym c.get-free.ensures) ∙ not-false _ c.if-free.false in
-    cells_after-put_kept c.whole_by_type.ensures c.args.place c.args.cell kept
+pub returns-clause-answer : goal.returns-clause-answer
+returns-clause-answer c = answer c
+
+pub returns-clause-cells : goal.returns-clause-cells
+returns-clause-cells c =
+    put_in_slot c.self.invariant c.self.view_is c.args.place c.args.cell c.put_into.result
+    c.row.result c.col.result c.index.result c.index_mut-row.result.now _ _ c.row.ensures.on_screen c.row.ensures.row
+    c.col.ensures.column c.index.ensures.index c.index_mut-row.ensures.value (answer c) c.put_into.ensures.cells

@@ -1,20 +1,26 @@
-use Rattle.std.proofs.Common.{◌-◌, rules, sym, ap, ◌∙◌, arith}
+use Rattle.std.proofs.Common.{List, sym, ap, ◌∙◌}
+use Rattle.cept_codes.specs.declared.cell.Cell.{Cell}
 use Rattle.cept_codes.specs.declared.command.Up.{Up}
+use Rattle.cept_codes.specs.declared.command.Up.TheVariants as ways
 use Rattle.cept_codes.specs.declared.stroke.Stroke.TheVariants as strokes
 use Rattle.cept_profile.specs.Cells.{cells_after}
-use Rattle.cept_cells.proofs.ShiftedRows.{cells_after-shift_up, cells_after-shift_down}
+use Rattle.cept_scroll.specs.Order.{rows_turned}
+use Rattle.cept_cells.specs.Freed.{cells_freed}
+use Rattle.cept_cells.proofs.ShiftedRows.{cells_after-turned}
 use Rattle.cept_cells.proofs.grid.Grid.shift.Goals as goal
 
 pub returns-in-Up : goal.returns-in-Up
 returns-in-Up c =
-    cells_after-shift_up c.self.invariant c.self.view_is c.copy_within.new.self.items c.args.first c.args.last
-    (c.from-top.result - 1) (c.from-bottom.result - 1) _ c.requires (omega arith) (omega arith) (omega arith)
-    (search rules) c.copy_within.ensures.by_index
+    c.free.ensures
+    ∙ ap (λ (t : List (List Cell)). cells_freed t c.args.last)
+    (c.turn.ensures ∙ ap (λ (way : Up). rows_turned way c.args.first c.args.last c.args.self.now) c.in-Up.is)
+    ∙ cells_after-turned c.args.self.now ways.Up c.args.first c.args.last c.requires
     ∙ ap (λ (way : Up). cells_after c.args.self.now (strokes.Shift c.args.first c.args.last way)) (sym c.in-Up.is)
 
 pub returns-in-Down : goal.returns-in-Down
 returns-in-Down c =
-    cells_after-shift_down c.self.invariant c.self.view_is c.copy_within-in-Down.new.self.items c.args.first c.args.last
-    (c.from-top.result - 1) (c.from-bottom.result - 1) _ c.requires (omega arith) (omega arith) (omega arith)
-    (search rules) c.copy_within-in-Down.ensures.by_index
+    c.free-in-Down.ensures
+    ∙ ap (λ (t : List (List Cell)). cells_freed t c.args.first)
+    (c.turn.ensures ∙ ap (λ (way : Up). rows_turned way c.args.first c.args.last c.args.self.now) c.in-Down.is)
+    ∙ cells_after-turned c.args.self.now ways.Down c.args.first c.args.last c.requires
     ∙ ap (λ (way : Up). cells_after c.args.self.now (strokes.Shift c.args.first c.args.last way)) (sym c.in-Down.is)
