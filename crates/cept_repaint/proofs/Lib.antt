@@ -20,6 +20,7 @@ pub mod RedefinedRows
 pub mod RestoredRows
 pub mod RowsOfLooks
 pub mod RowsDue
+pub mod TurnedLooks
 pub mod Unmarked
 pub mod ValidGrids
 pub mod WalkedRows

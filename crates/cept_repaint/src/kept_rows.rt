@@ -1,43 +1,49 @@
 ghost use Rattle.std.specs.Prelude.{◌≡◌, ℕ, ◌+◌, ◌-◌, ◌≤◌, false, length, slice_set, IfOk};
 ghost use Rattle.cept_codes.specs.Attribute.{IsValidPen};
 ghost use Rattle.cept_codes.specs.Cell.{IsValidWhat};
+ghost use Rattle.cept_codes.specs.Command.{IsArea};
 ghost use Rattle.cept_codes.specs.Look.{IsValidLook, blank_look};
 ghost use Rattle.cept_codes.specs.Place.{OnScreen};
-ghost use Rattle.cept_codes.specs.Table.{table, value_at, IsTable};
+ghost use Rattle.cept_codes.specs.Table.{list_by_index, table, value_at, IsTable};
+ghost use Rattle.cept_profile.specs.Cells.{shifted};
 ghost use Rattle.cept_profile.specs.Changes.{look_at, grid_with_paint};
 ghost use Rattle.cept_profile.specs.Look.{look_of};
 ghost use Rattle.cept_rows.specs.DrawnWith.{drawn_with};
 ghost use Rattle.cept_profile.specs.RowsFromAbove.{looks_in};
 ghost use Rattle.cept_profile.specs.Tiling.{column_entry};
+ghost use Rattle.cept_scroll.specs.Order.{leaving_row};
 ghost use Rattle.cept_repaint.specs.Kept.{looks_differ};
 
-use cept_codes::{Look, NoMemory, Pen, Pos, What};
+use cept_codes::{Look, NoMemory, Pen, Pos, Up, What};
 use cept_colours::Colours;
 use cept_drcs::Patterns;
 use cept_outside::Steps;
 use cept_rows::RowLooks;
+use cept_scroll::RowOrder;
 use std::alloc::Global;
 use std::marker::Model;
 use std::sync::ledger::Ledger;
 
-/// The looks of the screen, as they are kept: 24 rows of 40, and the blank ones above the first.
+/// The looks of the screen, as they are kept: 24 rows of 40, each in its slot, and the blank ones
+/// above the first.
 #[derive(Drop)]
 pub(crate) struct KeptRows {
     rows: Vec<RowLooks>,
+    order: RowOrder,
     flat: RowLooks,
 }
 
 impl Model for KeptRows {
     ghost use Rattle.std.specs.Prelude.{List, ◌≡◌};
     ghost use Rattle.cept_codes.specs.declared.look.Look.{Look};
-    ghost use Rattle.cept_codes.specs.Table.{IsTable};
     ghost use Rattle.cept_profile.specs.RowsFromAbove.{blank_looks};
+    ghost use Rattle.cept_scroll.specs.Order.{AreInSlots, rows_in_order};
 
     ghost Value = { List (List Look) };
 
-    ghost view = { λ l. l.rows.items };
+    ghost view = { λ l. rows_in_order l.order l.rows.items };
 
-    ghost invariant = { λ l. IsTable l.rows.items × (l.flat ≡ blank_looks) };
+    ghost invariant = { λ l. AreInSlots l.order l.rows.items × (l.flat ≡ blank_looks) };
 }
 
 impl KeptRows {
@@ -49,8 +55,11 @@ impl KeptRows {
         for _row in 0..24usize {
             rows.push(RowLooks::flat())?;
         }
+        let order = RowOrder::new();
+        order.ordered_by_type();
         Ok(KeptRows {
             rows,
+            order,
             flat: RowLooks::flat(),
         })
     }
@@ -61,7 +70,7 @@ impl KeptRows {
         requires to_bottom { row ≤ 24 }
         ensures { result.now ≡ looks_in self.now row }
     {
-        &self.rows[usize::from(row) - 1]
+        &self.rows[self.order.index(row)]
     }
 
     /// The looks of the row above a row, where they stand.
@@ -73,7 +82,7 @@ impl KeptRows {
         if row == 1 {
             &self.flat
         } else {
-            &self.rows[usize::from(row) - 2]
+            self.row(row - 1)
         }
     }
 
@@ -83,7 +92,7 @@ impl KeptRows {
         ensures valid { IsValidLook result }
         ensures on_screen { OnScreen place.row place.column }
     {
-        self.rows[usize::from(place.row()) - 1].at(place.col())
+        self.rows[self.order.index(place.row())].at(place.col())
     }
 
     /// Tells the prover that there are 24 rows of 40: reading a field opens the model.
@@ -101,7 +110,7 @@ impl KeptRows {
         ensures columns { length looks.now ≡ 40 }
     {
         looks.columns_by_type();
-        self.rows[usize::from(row) - 1].copy_from(looks);
+        self.rows[self.order.index(row)].copy_from(looks);
     }
 
     /// Takes over all looks.
@@ -115,12 +124,25 @@ impl KeptRows {
         }
     }
 
+    /// The looks of the rows of an area go one row up or down; those of the row that leaves it stand
+    /// in the row that comes free.
+    pub(crate) fn turn(&mut self, first: u8, last: u8, way: Up)
+        requires { IsArea first last }
+        ensures turned { self.new ≡ list_by_index 1 24 (shifted way first last
+            (looks_in self.old (leaving_row way first last)) (looks_in self.old)) }
+        ensures rows { (r : ℕ) → 1 ≤ r → r ≤ 24 → looks_in self.new r ≡ shifted way first last
+            (looks_in self.old (leaving_row way first last)) (looks_in self.old) r }
+        ensures whole { IsTable self.new }
+    {
+        self.order.turn(first, last, way);
+    }
+
     /// Takes over the look at a place from the looks of its row.
     pub(crate) fn copy_at(&mut self, place: Pos, from: &RowLooks)
         ensures { self.new
             ≡ grid_with_paint self.old place (column_entry blank_look from.now place.column) }
     {
-        self.rows[usize::from(place.row()) - 1].copy_at(place.col(), from);
+        self.rows[self.order.index(place.row())].copy_at(place.col(), from);
     }
 
     /// Resolves the cell at a place by itself, and keeps its look. Answers whether it differs from
@@ -145,7 +167,7 @@ impl KeptRows {
         ensures on_screen { OnScreen place.row place.column }
         ensures tick { steps.new ≡ steps.old + 1 }
     {
-        let kept = &mut self.rows[usize::from(place.row()) - 1];
+        let kept = &mut self.rows[self.order.index(place.row())];
         kept.resolve_alone(place.col(), what, row, screen, colours, patterns, steps)
     }
 }
