@@ -20,6 +20,7 @@ use Rattle.cept_profile.specs.MovedRows.{row_before}
 use Rattle.cept_profile.specs.PageParts.{part_after_all, row_pen_after, row_pen_in}
 use Rattle.cept_profile.specs.Reach.{is_written, just_one}
 use Rattle.cept_profile.specs.State.{Page, page_after}
+use Rattle.cept_repaint.specs.declared.page.Pens.{Pens}
 use Rattle.cept_repaint.specs.Due.{has_others, is_altered, pens_of}
 use mathlib.Core.Bool.{beq}
 
@@ -137,3 +138,10 @@ pen-same a b none =
       size = option-same same_size size-same a.size b.size m.0 i;
       invert = option-same beq flag-same a.invert b.invert m.1 i;
     }
+
+-- the flags of altered rows, by the attributes that the page had
+pub altered-pens : (xs : List Stroke) (was : Pens) (p q : Page) (before after : Edges) (flags : List Bool)
+    → flags ≡ list_by_index 1 24 (is_altered xs was before (pens_of q) after) → was ≡ pens_of p
+    → flags ≡ list_by_index 1 24 (is_altered xs (pens_of p) before (pens_of q) after)
+altered-pens xs was p q before after flags e pens =
+    e ∙ ap (λ (w : Pens). list_by_index 1 24 (is_altered xs w before (pens_of q) after)) pens

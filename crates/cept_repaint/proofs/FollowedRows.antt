@@ -23,7 +23,7 @@ use Rattle.cept_repaint.specs.Due.{followed, followed_after, freed, row_from, wr
 -- ---- one stroke more
 
 -- what a function gives where there is something, else the default
-abbrev picked : {X : Type 0} → X → (ℕ → X) → Option ℕ → X
+abbrev pub picked : {X : Type 0} → X → (ℕ → X) → Option ℕ → X
 picked d f None = d
 picked d f (Some q) = f q
 
@@ -40,7 +40,7 @@ shifted-picked ways.Up first last d f r = picked-cond d f (leb first r && leb r 
 shifted-picked ways.Down first last d f r = picked-cond d f (leb first r && leb r last) (eqb r first) (r - 1) r
 
 -- what moved rows bring is what stood in the row of which this one came
-moved-picked : {X : Type 0} (moved : Option MovedRows) (d : X) (f : ℕ → X) (r : ℕ)
+pub moved-picked : {X : Type 0} (moved : Option MovedRows) (d : X) (f : ℕ → X) (r : ℕ)
     → value_after_move moved d f r ≡ picked d f (row_before_move moved r)
 moved-picked None d f r = refl
 moved-picked (Some moved) d f r = shifted-picked moved.way moved.first moved.last d f r
@@ -54,7 +54,7 @@ any_row : (found : Option ℕ) → found ≡ option_and_then (λ q. Some q) foun
 any_row None = refl
 any_row (Some q) = refl
 
-row_before-snoc : (xs : List Stroke) (x : Stroke) (r : ℕ)
+pub row_before-snoc : (xs : List Stroke) (x : Stroke) (r : ℕ)
     → row_before (xs ++ x ∷ []) r ≡ option_and_then (row_before xs) (row_before_move (moved_rows x) r)
 unfolding row_before
 row_before-snoc [] x r = any_row (row_before_move (moved_rows x) r)

@@ -1,14 +1,9 @@
 -- States by their parts, and what is kept of them at the start and after a command.
-use Rattle.std.proofs.Common.{◌≡◌, ℕ, Bool, true, false, List, [], ◌∷◌, refl, sym, ap, subst, ◌∙◌, inl, inr}
+use Rattle.std.proofs.Common.{◌≡◌, Bool, true, false, List, [], refl, sym, ap, subst, ◌∙◌, inl, inr}
 use Rattle.std.proofs.lemmas.Bool.{cases_Bool}
 use Rattle.cept_codes.specs.declared.command.Command.{Command}
-use Rattle.cept_codes.specs.declared.command.Command.TheVariants as commands
 use Rattle.cept_codes.specs.declared.look.Look.{Look}
-use Rattle.cept_codes.specs.declared.look.Paint.{Paint}
-use Rattle.cept_codes.specs.declared.look.Paint.TheVariants as paints
-use Rattle.cept_codes.specs.declared.look.Rgb.{Rgb}
 use Rattle.cept_codes.specs.declared.stroke.Stroke.{Stroke}
-use Rattle.cept_codes.specs.declared.stroke.Stroke.TheVariants as strokes
 use Rattle.cept_codes.specs.Command.{IsValidCommand}
 use Rattle.cept_profile.specs.Changes.{differences}
 use Rattle.cept_profile.specs.Control.{ControlState, control_after}
@@ -18,7 +13,6 @@ use Rattle.cept_profile.specs.State.{Page, State, core_of, page_after, state_aft
 use Rattle.cept_profile.specs.Strokes.{strokes_of}
 use Rattle.cept_profile.specs.Valid.{IsValidState}
 use Rattle.cept_profile.proofs.Laws.{IsValidState-state_after}
-use Rattle.cept_profile.specs.PageParts.{paint_in}
 use Rattle.cept_profile.specs.Reach.{rows_in_reach}
 use Rattle.cept_repaint.specs.Kept.{AreEdges, AreLooksOn, core_on}
 use Rattle.cept_repaint.specs.Named.{AreNamed, AreNamedOn, IsKept, NamesOfRows}

@@ -1,8 +1,8 @@
 -- Names of rows that are kept: one row named anew, rows forgotten, and what is known of all of them.
 use Rattle.std.proofs.Common.{◌≡◌, ◌≢◌, ℕ, ◌+◌, ◌-◌, ◌≤◌, ◌<◌, ◌&&◌, Bool, true, false, List, [], get_or, length, set}
-use Rattle.std.proofs.Common.{Option, Some, inl, inr, zero, suc, refl, sym, ap, subst, ◌∙◌, arith}
+use Rattle.std.proofs.Common.{inl, inr, zero, suc, refl, sym, ap, subst, ◌∙◌, arith}
 use Rattle.std.proofs.lemmas.Bool.{and_parts, cases_eq, true≢false}
-use Rattle.std.proofs.lemmas.List.{get_or-replicate, get_or-set_other, get_or-set_same, length-set, set-get_or}
+use Rattle.std.proofs.lemmas.List.{get_or-set_other, get_or-set_same, length-set}
 use Rattle.cept_codes.specs.declared.attribute.Pen.{Pen}
 use Rattle.cept_codes.specs.declared.cell.Cell.{Cell}
 use Rattle.cept_codes.specs.declared.look.Look.{Look}
@@ -11,16 +11,15 @@ use Rattle.cept_codes.specs.Look.{blank_look}
 use Rattle.cept_codes.specs.Place.{OnScreen}
 use Rattle.cept_codes.specs.Table.{entry, value_at, IsTable}
 use Rattle.cept_codes.proofs.Laws.{entry_below, entry_from, same_lists}
-use Rattle.cept_profile.specs.Look.{look, looks_of, part_of, parts_of}
-use Rattle.cept_profile.specs.Names.{Names, names_at}
+use Rattle.cept_profile.specs.Look.{looks_of, part_of}
+use Rattle.cept_profile.specs.Names.{names_at}
 use Rattle.cept_profile.specs.NamesFromAbove.{names_from_above, names_in_row, own_names}
 use Rattle.cept_profile.specs.PageParts.{row_pen_in}
 use Rattle.cept_profile.specs.RowsFromAbove.{looks_in}
 use Rattle.cept_profile.specs.Serial.{row_in}
-use Rattle.cept_profile.specs.State.{Core, Page}
-use Rattle.cept_profile.specs.Tiling.{column_entry, part_at}
+use Rattle.cept_profile.specs.State.{Core}
+use Rattle.cept_profile.specs.Tiling.{column_entry}
 use Rattle.cept_profile.proofs.Laws.{names_at-covered, part_of-seen}
-use Rattle.cept_repaint.specs.Kept.{core_on}
 use Rattle.cept_repaint.specs.Named.{AreAllKnown, AreNamed, AreRemembered, NamesOfRows}
 use Rattle.cept_repaint.specs.Named.{is_known, names_beneath, row_named}
 use Rattle.cept_rows.specs.declared.naming.RowNames.{RowNames}
@@ -97,10 +96,12 @@ AreNamed-more names k are row low high fresh made known long others below next e
   where
     here : row_named (record { above = names.above; rows = set names.rows (row - 1) fresh; known = known }) row ≡ fresh
     here = set-here names.above fresh names.rows row are.rows low high
+
     there : (r : ℕ) → r ≢ row
         → row_named (record { above = names.above; rows = set names.rows (row - 1) fresh; known = known }) r
         ≡ row_named names r
     there r apart = set-there names.above fresh names.rows row r low apart
+
     -- the row below one that stays the same
     same_above : (r : ℕ) → 1 ≤ r → r ≤ 24 → entry false 1 known r ≡ true → r ≢ row
         → row_named (record { above = names.above; rows = set names.rows (row - 1) fresh; known = known }) (r - 1)
@@ -114,6 +115,7 @@ AreNamed-more names k are row low high fresh made known long others below next e
               ∙ ap (row_named names) (sym is)
           | inr away ↦ there (r - 1) away
         ]
+
     by_row : (r c : ℕ) → OnScreen r c → entry false 1 known r ≡ true
         → names_kept (row_named (record { above = names.above; rows = set names.rows (row - 1) fresh; known = known }) r) c
         ≡ names_beneath (row_named (record { above = names.above; rows = set names.rows (row - 1) fresh; known = known })
@@ -176,9 +178,9 @@ known-stays known long row n en low high stays r so =
             λ _. parts.1,
           )
       | inr other ↦ (
-          sym (set-there false both known row r low other) ∙ ap (λ m. entry false 1 (set known (m - 1) both) r) (sym en) ∙ so,
-          λ is. absurd (other is),
-        )
+        sym (set-there false both known row r low other) ∙ ap (λ m. entry false 1 (set known (m - 1) both) r) (sym en) ∙ so,
+        λ is. absurd (other is),
+      )
     ]
 
 -- no names are known

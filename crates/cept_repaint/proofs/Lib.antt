@@ -10,6 +10,7 @@ pub mod MarkedDifferences
 pub mod MarkedRows
 pub mod MarkedWithin
 pub mod MixedCommands
+pub mod MovedRows
 pub mod NamedRows
 pub mod NamesAfter
 pub mod OnePlace
@@ -17,6 +18,7 @@ pub mod PageParts
 pub mod PaintedInOrder
 pub mod Refreshed
 pub mod RedefinedRows
+pub mod RestingRows
 pub mod RestoredRows
 pub mod RowsOfLooks
 pub mod RowsDue

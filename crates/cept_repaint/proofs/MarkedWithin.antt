@@ -1,5 +1,5 @@
 -- Marks with a range outside of which no place is marked: made, widened, emptied and counted.
-use Rattle.std.proofs.Common.{◌≡◌, ◌≢◌, ℕ, ◌+◌, ◌-◌, ◌<◌, ◌≤◌, suc, Bool, true, false, cond, List, [], ◌∷◌, ◌++◌, set}
+use Rattle.std.proofs.Common.{◌≡◌, ◌≢◌, ℕ, ◌+◌, ◌-◌, ◌<◌, ◌≤◌, ◌||◌, ◌⊎◌, suc, Bool, true, false, cond, List, [], ◌∷◌, ◌++◌, set}
 use Rattle.std.proofs.Common.{get_or, take, drop, length, refl, sym, ap, ◌∙◌, inl, inr, arith}
 use Rattle.std.specs.List.{count_by}
 use Rattle.std.proofs.lemmas.Bool.{cases_eq, cases_lt}
@@ -8,7 +8,9 @@ use Rattle.std.proofs.lemmas.List.{get_or-set_other, get_or-set_same}
 use Rattle.std.proofs.lemmas.List.{get_or_append_left, get_or-take, get_or-drop}
 use Rattle.std.proofs.lemmas.List.Sums.{sum_by-cons, sum_by-take-drop}
 use Rattle.std.proofs.Math.Seq.{get_or-append_right}
-use Rattle.cept_repaint.specs.Marks.{is_marked, no_marks, AreWithin}
+use Rattle.cept_codes.specs.Table.{entry}
+use Rattle.cept_codes.proofs.Laws.{entry_from}
+use Rattle.cept_repaint.specs.Marks.{is_marked, no_marks, AreWithin, HasFlags}
 use Rattle.cept_repaint.proofs.Unmarked.{length-no_marks, is_marked-no_marks}
 
 pub AreWithin-none : AreWithin no_marks 0 0
@@ -136,3 +138,92 @@ count_within {flags} {first} {end} w =
       sum_by-take-drop
           (λ marked. cond marked 1 0) rest (end - first),
     )
+
+-- ---- the places of a row
+
+or_false : (b : Bool) → (b || false) ≡ b
+or_false true = refl
+or_false false = refl
+
+-- the first places of the row are marked besides that are flagged
+pub record HasFlagsBelow (flags : List Bool) (first : ℕ) (before marks : List Bool) (end : ℕ) : Type 0 where
+  pub places : length marks ≡ 960
+  pub row : (i : ℕ) → i < end → is_marked marks (first + i) ≡ (is_marked before (first + i) || get_or flags i false)
+  pub above : (n : ℕ) → n < first → is_marked marks n ≡ is_marked before n
+  pub below : (n : ℕ) → first + end ≤ n → is_marked marks n ≡ is_marked before n
+
+pub HasFlagsBelow-none : (flags : List Bool) (first : ℕ) (marks : List Bool) → length marks ≡ 960
+    → HasFlagsBelow flags first marks marks 0
+HasFlagsBelow-none flags first marks places = record {
+  places = places;
+  row = λ i none. absurd (omega arith);
+  above = λ n up. refl;
+  below = λ n down. refl;
+}
+
+pub HasFlagsBelow-more : {flags : List Bool} {first : ℕ} {before mid : List Bool} {end : ℕ}
+    → HasFlagsBelow flags first before mid end → first + 40 ≤ 960 → end < 40 → (at : ℕ) → at ≡ first + end
+    → (flag : Bool) → flag ≡ (get_or mid at false || get_or flags end false)
+    → HasFlagsBelow flags first before (set mid at flag) (end + 1)
+HasFlagsBelow-more {flags} {first} {before} {mid} {end} has within below at e flag ef =
+    let elsewhere : (n : ℕ) → n ≢ at → is_marked (set mid at flag) n ≡ is_marked mid n =
+    λ n apart. get_or-set_other mid at n flag false apart in
+    record {
+      places = length-set mid at flag ∙ has.places;
+      row = λ i low. elim (cases_eq i end) [
+        | inl here ↦
+            let same : first + i ≡ at = omega (arith, e, here) in
+            ap (is_marked (set mid at flag)) same
+            ∙ get_or-set_same mid at flag false (omega (arith, e, within, below, has.places))
+            ∙ ef ∙ ap (λ b. b || get_or flags end false) (has.below at (omega (arith, e)))
+            ∙ (λ k. is_marked before (sym same k) || get_or flags (sym here k) false)
+        | inr apart ↦
+            elsewhere (first + i) (λ same. apart (omega (arith, e, same))) ∙ has.row i (omega (arith, low, apart))
+      ];
+      above = λ n up. elsewhere n (λ same. omega (arith, e, same, up)) ∙ has.above n up;
+      below = λ n down. elsewhere n (λ same. omega (arith, e, same, down)) ∙ has.below n (omega (arith, down));
+    }
+
+pub HasFlagsBelow-all : {flags : List Bool} {first : ℕ} {before marks : List Bool} {end : ℕ}
+    → HasFlagsBelow flags first before marks end → end ≡ 40 → HasFlags flags first before marks
+HasFlagsBelow-all {flags} {first} {before} {marks} {end} has all = record {
+  places = has.places;
+  row = λ i low. has.row i (omega (arith, low, all));
+  above = has.above;
+  below = λ n down. has.below n (omega (arith, down, all));
+}
+
+-- no flag is set
+pub HasFlags-none : (flags : List Bool) (first : ℕ) (marks : List Bool) → length marks ≡ 960
+    → ((c : ℕ) → 1 ≤ c → c ≤ 40 → entry false 1 flags c ≡ false) → HasFlags flags first marks marks
+HasFlags-none flags first marks places none = record {
+  places = places;
+  row = λ i low.
+      let unset : get_or flags i false ≡ false =
+      ap (λ k. get_or flags k false) (let back : i ≡ i + 1 - 1 = omega arith in back)
+      ∙ sym (entry_from false 1 flags (i + 1) (omega arith)) ∙ none (i + 1) (omega arith) (omega (arith, low)) in
+      sym (or_false (is_marked marks (first + i))) ∙ ap (λ b. is_marked marks (first + i) || b) (sym unset);
+  above = λ n up. refl;
+  below = λ n down. refl;
+}
+
+-- the range with the places of a row besides
+pub AreWithin-row : {marks : List Bool} {first end : ℕ} → AreWithin marks first end → (flags now : List Bool)
+    (row from to : ℕ) → HasFlags flags row marks now → row + 40 ≤ 960 → from ≤ row → row + 40 ≤ to → to ≤ 960
+    → (first ≡ end) ⊎ ((from ≤ first) × (end ≤ to)) → AreWithin now from to
+AreWithin-row {marks} {first} {end} w flags now row from to has within low high last wide =
+    record {
+      in_order = omega (arith, low, high);
+      places = last;
+      before = λ k up. has.above k (omega (arith, up, low)) ∙ outside k (inl up);
+      after = λ k past. has.below k (omega (arith, past, high)) ∙ outside k (inr past);
+    }
+  where
+    outside : (k : ℕ) → (k < from) ⊎ (to ≤ k) → is_marked marks k ≡ false
+    outside k where_ = elim wide [
+      | inl empty ↦ elim (cases_lt k first) [ inl up ↦ w.before k up | inr not_up ↦ w.after k (omega (arith, empty)) ]
+      | inr both ↦ elim where_ [
+        | inl up ↦ w.before k (omega (arith, up, both.0))
+        | inr past ↦ w.after k (omega (arith, past, both.1))
+      ]
+    ]

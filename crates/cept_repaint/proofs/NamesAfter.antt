@@ -1,11 +1,10 @@
 -- Names that are kept after strokes: a row in which nothing changes that names come from is known still.
-use Rattle.std.proofs.Common.{◌≡◌, ◌≢◌, ℕ, ◌-◌, ◌≤◌, ◌==◌, ◌||◌, ◌&&◌, not, Bool, true, false, List, [], ◌∷◌, get_or, length}
-use Rattle.std.proofs.Common.{Option, Some, refl, sym, ap, subst, ◌∙◌, arith}
+use Rattle.std.proofs.Common.{◌≡◌, ◌≢◌, ℕ, ◌≤◌, ◌==◌, ◌||◌, ◌&&◌, not, Bool, true, false, List, [], ◌∷◌}
+use Rattle.std.proofs.Common.{Some, sym, ap, ◌∙◌, arith}
 use Rattle.std.specs.List.{AllByRecursion, list_any}
 use Rattle.std.proofs.lemmas.Bool.{not-false, or_parts}
 use Rattle.std.proofs.lemmas.Bool.Decides.{nat_tests}
 use Rattle.std.proofs.lemmas.List.FromFn.{get_or-map-range_with_len}
-use Rattle.cept_codes.specs.declared.attribute.Pen.{Pen}
 use Rattle.cept_codes.specs.declared.cell.Cell.{Cell}
 use Rattle.cept_codes.specs.declared.look.Look.{Look}
 use Rattle.cept_codes.specs.declared.stroke.Stroke.{Stroke}
@@ -15,27 +14,25 @@ use Rattle.cept_codes.specs.Look.{blank_look}
 use Rattle.cept_codes.specs.Place.{Place, OnScreen, number, place_of}
 use Rattle.cept_codes.specs.Same.{same_look, same_pen}
 use Rattle.cept_codes.specs.Stroke.{IsValidStroke}
-use Rattle.cept_codes.specs.Table.{entry, list_by_index, value_at, IsTable}
+use Rattle.cept_codes.specs.Table.{entry, list_by_index, value_at}
 use Rattle.cept_codes.proofs.Laws.{IsTable-table, entry-list_by_index, look_decides, number-lt, place_of-number, value_at-table}
-use Rattle.cept_profile.specs.Cells.{is_at}
 use Rattle.cept_profile.specs.Changes.{differences, look_at}
 use Rattle.cept_profile.specs.Edges.{Edges, edges_of_core}
 use Rattle.cept_profile.specs.Look.{look, looks_of}
 use Rattle.cept_profile.specs.MovedRows.{row_before}
-use Rattle.cept_profile.specs.Names.{Names}
 use Rattle.cept_profile.specs.PageParts.{row_pen_in}
 use Rattle.cept_profile.specs.Reach.{is_written, just_one}
 use Rattle.cept_profile.specs.RowsFromAbove.{looks_in}
 use Rattle.cept_profile.specs.State.{Core, Page, page_after}
 use Rattle.cept_profile.specs.Edges.{is_last}
 use Rattle.cept_profile.specs.Valid.{IsValidPage}
-use Rattle.cept_profile.proofs.Laws.{cell-from, row_before-still}
+use Rattle.cept_profile.proofs.Laws.{cell-from}
 use Rattle.cept_repaint.specs.declared.followed_rows.Followed.{Followed}
-use Rattle.cept_repaint.specs.Due.{followed, has_others, is_altered, is_altered_from, pens_of, row_from}
+use Rattle.cept_repaint.specs.Due.{followed, has_others, is_altered, is_altered_from, pens_of}
 use Rattle.cept_repaint.specs.Kept.{AreEdges, AreLooksOn, OthersStay, core_on}
 use Rattle.cept_repaint.specs.Marks.{is_marked}
-use Rattle.cept_repaint.specs.Named.{AreNamed, AreNamedOn, AreRemembered, IsStill, NamesOfRows, names_beneath}
-use Rattle.cept_repaint.specs.Resolved.{defines, one_else}
+use Rattle.cept_repaint.specs.Named.{AreNamedOn, AreRemembered, IsStill, NamesOfRows, names_beneath}
+use Rattle.cept_repaint.specs.Resolved.{defines}
 use Rattle.cept_repaint.proofs.AlteredRows.{is_altered-put, pen-same}
 use Rattle.cept_repaint.proofs.FollowedRows.{row_from-followed}
 use Rattle.cept_repaint.proofs.KeptNames.{AreNamed-remembered, beneath-same, cells-same}

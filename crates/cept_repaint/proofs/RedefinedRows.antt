@@ -1,6 +1,6 @@
 -- Strokes that all define something: cells, attributes and names stay, and the rows are due that name what is defined.
-use Rattle.std.proofs.Common.{◌≡◌, ℕ, ◌-◌, ◌≤◌, ◌||◌, not, Bool, true, false, List, [], ◌∷◌, Option, Some, None, IfSome, length}
-use Rattle.std.proofs.Common.{inl, inr, refl, sym, ap, subst, ◌∙◌, arith}
+use Rattle.std.proofs.Common.{◌≡◌, ℕ, ◌-◌, ◌≤◌, ◌||◌, not, Bool, true, false, List, [], ◌∷◌, Some, length}
+use Rattle.std.proofs.Common.{inl, inr, refl, sym, ap, ◌∙◌, arith}
 use Rattle.std.specs.List.{AllByRecursion, list_any}
 use Rattle.std.proofs.lemmas.Bool.{cases_Bool, not-false, or_from, or_left, or_parts, or_right, true≢false}
 use Rattle.cept_codes.specs.declared.attribute.Pen.{Pen}
@@ -11,7 +11,7 @@ use Rattle.cept_codes.specs.declared.stroke.Stroke.TheVariants as strokes
 use Rattle.cept_codes.specs.Cell.{blank_cell}
 use Rattle.cept_codes.specs.Look.{blank_look}
 use Rattle.cept_codes.specs.Same.{same_pen}
-use Rattle.cept_codes.specs.Stroke.{IsRow, IsValidStroke}
+use Rattle.cept_codes.specs.Stroke.{IsValidStroke}
 use Rattle.cept_codes.specs.Table.{entry, list_by_index, value_at, IsTable}
 use Rattle.cept_codes.proofs.Laws.{entry-list_by_index, table-value_at, value_at-table}
 use Rattle.cept_profile.specs.Cells.{cells_after, cells_after_all, moves}
@@ -27,14 +27,13 @@ use Rattle.cept_profile.specs.State.{Core, Page, page_after}
 use Rattle.cept_profile.specs.Valid.{IsValidPage}
 use Rattle.cept_profile.proofs.Laws.{is_reached-by, is_redefined-unreached, is_written-still, look-unreached}
 use Rattle.cept_profile.proofs.Laws.{row_before-still}
-use Rattle.cept_repaint.specs.declared.followed_rows.Followed.{Followed}
-use Rattle.cept_repaint.specs.Due.{followed, freed, is_covered_from, is_due, row_from, rows_due, OtherRowsStay}
+use Rattle.cept_repaint.specs.Due.{at_rest, is_due, rows_due, OtherRowsStay}
 use Rattle.cept_repaint.specs.Kept.{AreLooksOn, core_on}
 use Rattle.cept_repaint.specs.Named.{AreNamed, AreNamedOn, NamesOfRows, names_beneath, row_named}
 use Rattle.cept_repaint.specs.Resolved.{defines, may_resolve, one_else, rows_resolved_by}
 use Rattle.cept_repaint.proofs.AlteredRows.{none_under_one, same_pen-refl}
-use Rattle.cept_repaint.proofs.FollowedRows.{followed-rest}
 use Rattle.cept_repaint.proofs.PageParts.{row_pens_left}
+use Rattle.cept_repaint.proofs.RestingRows.{due-rest, row_from-rest}
 use Rattle.cept_repaint.proofs.RowsDue.{rows_due-fewer}
 use Rattle.cept_rows.specs.declared.naming.RowNames.{RowNames}
 
@@ -268,24 +267,16 @@ reached_defined {before} {after} {xs} is r low high =
 
 -- ---- the walk
 
-row_at_rest : (rows : List Followed) → rows ≡ list_by_index 1 24 (followed []) → (r : ℕ) → 1 ≤ r → r ≤ 24
-    → row_from rows r ≡ Some r
-row_at_rest rows e r low high =
-    ap (λ (l : List Followed). row_from l r) e
-    ∙ ap (λ (f : Followed). f.from) (entry-list_by_index freed 1 24 (followed []) r low (omega (arith, high))
-    ∙ followed-rest r)
-
 -- whether a row is due
 due_defined : {before after : Core} {xs : List Stroke} → AreDefined before after xs → (flags : List Bool)
-    → flags ≡ list_by_index 1 24 (is_redefined before xs) → (rows : List Followed)
-    → rows ≡ list_by_index 1 24 (followed []) → (r : ℕ) → 1 ≤ r → r ≤ 24
-    → is_due flags rows (looks_of before) (looks_of after) r ≡ is_reached before after xs r
-due_defined {before} {after} {xs} is flags ef rows er r low high =
+    → flags ≡ list_by_index 1 24 (is_redefined before xs) → (r : ℕ) → 1 ≤ r → r ≤ 24
+    → is_due flags at_rest (looks_of before) (looks_of after) r ≡ is_reached before after xs r
+due_defined {before} {after} {xs} is flags ef r low high =
     let flag : entry false 1 flags r ≡ is_redefined before xs r =
     ap (λ (l : List Bool). entry false 1 l r) ef
     ∙ entry-list_by_index false 1 24 (is_redefined before xs) r low (omega (arith, high)) in
-    (λ i. flag i || is_covered_from (looks_of before) (row_at_rest rows er r low high i) (looks_of after) r)
-    ∙ sym (reached_defined is r low high)
+    due-rest flags (looks_of before) (looks_of after) r low high
+    ∙ ap (λ b. b || is_covered_otherwise (looks_of before) r (looks_of after) r) flag ∙ sym (reached_defined is r low high)
 
 defined_cores : (p q : Page) (xs : List Stroke) (k m : Core) (edges : Edges) → IsValidPage p
     → AllByRecursion IsValidStroke xs → q ≡ page_after p xs → one_else xs ≡ false → edges_of_core k ≡ edges
@@ -297,61 +288,43 @@ defined_cores p q xs k m edges valid each drawn all ek em = record {
 }
 
 pub OtherRowsStay-defined : (p q : Page) (xs : List Stroke) (edges : Edges) (was : List (List Look)) (flags : List Bool)
-    (rows : List Followed) → IsValidPage p → AllByRecursion IsValidStroke xs → AreLooksOn was p edges
+    → IsValidPage p → AllByRecursion IsValidStroke xs → AreLooksOn was p edges
     → q ≡ page_after p xs → one_else xs ≡ false
     → ((k : Core) → edges_of_core k ≡ edges → flags ≡ list_by_index 1 24 (is_redefined (core_on k p) xs))
-    → rows ≡ list_by_index 1 24 (followed [])
-    → (k : Core) → edges_of_core k ≡ edges → OtherRowsStay flags rows was (core_on k q)
-OtherRowsStay-defined p q xs edges was flags rows valid each looks drawn all redefined er k same r n c on none came =
+    → (k : Core) → edges_of_core k ≡ edges → OtherRowsStay flags at_rest was (core_on k q)
+OtherRowsStay-defined p q xs edges was flags valid each looks drawn all redefined k same r n c on none came =
     let old : Core = core_on k p in
     let new : Core = core_on k q in
     let e : was ≡ looks_of old = looks k same in
     let is : AreDefined old new xs = defined_cores p q xs k k edges valid each drawn all same same in
-    let stays : Some n ≡ Some r = sym came ∙ row_at_rest rows er r on.from_top on.to_bottom in
+    let stays : Some n ≡ Some r = sym came ∙ row_from-rest r on.from_top on.to_bottom in
     let here : n ≡ r = cc in
     let out : is_reached old new xs r ≡ false =
-    sym (due_defined is flags (redefined k same) rows er r on.from_top on.to_bottom)
-    ∙ ap (λ (g : List (List Look)). is_due flags rows g (looks_of new) r) (sym e) ∙ none in
+    sym (due_defined is flags (redefined k same) r on.from_top on.to_bottom)
+    ∙ ap (λ (g : List (List Look)). is_due flags at_rest g (looks_of new) r) (sym e) ∙ none in
     ap (λ m. value_at blank_look was m c) here
     ∙ ap (λ (t : List (List Look)). value_at blank_look t r c) e ∙ value_at-table (look old) blank_look r c on
     ∙ sym (look-unreached old new xs r r c is.leads on (came_defined is r) out)
 
 pub rows_due-defined : (p q : Page) (xs : List Stroke) (edges : Edges) (was now : List (List Look)) (flags : List Bool)
-    (rows : List Followed) → IsValidPage p → AllByRecursion IsValidStroke xs → AreLooksOn was p edges
+    → IsValidPage p → AllByRecursion IsValidStroke xs → AreLooksOn was p edges
     → AreLooksOn now q edges → q ≡ page_after p xs → one_else xs ≡ false
     → ((k : Core) → edges_of_core k ≡ edges → flags ≡ list_by_index 1 24 (is_redefined (core_on k p) xs))
-    → rows ≡ list_by_index 1 24 (followed [])
     → (k m : Core) → edges_of_core k ≡ edges → edges_of_core m ≡ edges
-    → rows_due flags rows was now ≤ rows_resolved_by (core_on k p) (core_on m q) xs
+    → rows_due flags at_rest was now ≤ rows_resolved_by (core_on k p) (core_on m q) xs
 unfolding may_resolve
-rows_due-defined p q xs edges was now flags rows valid each looks after drawn all redefined er k m ek em =
+rows_due-defined p q xs edges was now flags valid each looks after drawn all redefined k m ek em =
     let old : Core = core_on k p in
     let new : Core = core_on m q in
     let is : AreDefined old new xs = defined_cores p q xs k m edges valid each drawn all ek em in
-    let same : rows_due flags rows was now ≡ rows_due flags rows (looks_of old) (looks_of new) =
-    (λ i. rows_due flags rows (looks k ek i) (after m em i)) in
+    let same : rows_due flags at_rest was now ≡ rows_due flags at_rest (looks_of old) (looks_of new) =
+    (λ i. rows_due flags at_rest (looks k ek i) (after m em i)) in
     omega (
       arith,
       same,
-      rows_due-fewer old new xs flags rows (λ r low high due.
-          or_left (is_reached old new xs r) _ (sym (due_defined is flags (redefined k ek) rows er r low high) ∙ due)),
+      rows_due-fewer old new xs flags at_rest (λ r low high due.
+          or_left (is_reached old new xs r) _ (sym (due_defined is flags (redefined k ek) r low high) ∙ due)),
     )
-
--- no row moved
-pub still-rest : (rows : List Followed) → rows ≡ list_by_index 1 24 (followed []) → (r q : ℕ) → 1 ≤ r → r ≤ 24
-    → row_from rows r ≡ Some q → q ≡ r
-still-rest rows e r q low high is =
-    let same : Some r ≡ Some q = sym (row_at_rest rows e r low high) ∙ is in cc
-
-pub came-rest : (rows : List Followed) → rows ≡ list_by_index 1 24 (followed []) → (r : ℕ) → 1 ≤ r → r ≤ 24
-    → IfSome (row_from rows r) IsRow
-came-rest rows e r low high =
-    subst (λ (found : Option ℕ). IfSome found IsRow) (sym (row_at_rest rows e r low high)) (low, high)
-
-pub never-freed : (rows : List Followed) → rows ≡ list_by_index 1 24 (followed []) → (r : ℕ) → 1 ≤ r → r ≤ 24
-    → row_from rows r ≡ None → ⊥
-never-freed rows e r low high none =
-    let apart : Some r ≡ None = sym (row_at_rest rows e r low high) ∙ none in cc
 
 -- the names stay
 pub AreNamedOn-defined : (p q : Page) (xs : List Stroke) (edges : Edges) (names : NamesOfRows) → IsValidPage p

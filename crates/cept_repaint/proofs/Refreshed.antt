@@ -323,7 +323,7 @@ differs_anywhere f was now marks first end m r c on =
       ]
     ]
 
-differences_is : (g h : List (List Look)) (marks : List Bool) → length marks ≡ 960
+pub differences_is : (g h : List (List Look)) (marks : List Bool) → length marks ≡ 960
     → ((k : ℕ) → k < 960 → is_marked marks k ≡ looks_differ (look_at g (place_of k)) (look_at h (place_of k)))
     → marks ≡ differences g h
 unfolding differences looks_differ

@@ -6,25 +6,23 @@ use Rattle.std.proofs.lemmas.Bool.{cases_Bool, eqb-true, false_from_ne_true, or_
 use Rattle.std.proofs.lemmas.Bool.Decides.{nat_tests}
 use Rattle.std.proofs.lemmas.List.{take_all}
 use Rattle.std.proofs.lemmas.List.FromFn.{get_or-range_with_len, length-range_with_len}
-use Rattle.std.proofs.lemmas.List.Sums.{count_by-le-length, count_by_more_no, count_by_more_yes, get_or-le-sum_by}
+use Rattle.std.proofs.lemmas.List.Sums.{count_by_more_no, count_by_more_yes, get_or-le-sum_by}
 use Rattle.std.proofs.lemmas.List.Sums.{sum_by-cons, sum_by-le-sum_by}
 use Rattle.cept_codes.specs.declared.cell.Cell.{Cell}
-use Rattle.cept_codes.specs.declared.command.Command.{Command}
 use Rattle.cept_codes.specs.declared.look.Look.{Look}
 use Rattle.cept_codes.specs.declared.stroke.Stroke.{Stroke}
 use Rattle.cept_codes.specs.declared.stroke.Stroke.TheVariants as strokes
 use Rattle.cept_codes.specs.Place.{Place, OnScreen}
 use Rattle.cept_codes.specs.Table.{entry, list_by_index}
 use Rattle.cept_codes.proofs.Laws.{entry-list_by_index, entry_from, length-list_by_index, same_indexed}
-use Rattle.cept_profile.specs.Edges.{Edges, edges_of, edges_of_core}
+use Rattle.cept_profile.specs.Edges.{Edges, edges_of_core}
 use Rattle.cept_profile.specs.Look.{look, looks_of}
 use Rattle.cept_profile.specs.MovedRows.{row_before}
 use Rattle.cept_profile.specs.Reach.{LeadsTo, has_other_attributes, is_reached, is_reached_from, is_redefined}
-use Rattle.cept_profile.specs.Reach.{is_written, reaches, redefines, rows_in_reach}
+use Rattle.cept_profile.specs.Reach.{is_written, redefines}
 use Rattle.cept_profile.specs.RowsFromAbove.{is_covered_otherwise}
-use Rattle.cept_profile.specs.State.{Core, Page, State, core_of, state_after}
-use Rattle.cept_profile.specs.Strokes.{strokes_of}
-use Rattle.cept_profile.proofs.Laws.{is_reached-by, look-unreached, reaches-by, rows_in_reach-counted}
+use Rattle.cept_profile.specs.State.{Core, Page}
+use Rattle.cept_profile.proofs.Laws.{is_reached-by, look-unreached}
 use Rattle.cept_repaint.specs.declared.followed_rows.Followed.{Followed}
 use Rattle.cept_repaint.specs.declared.page.Pens.{Pens}
 use Rattle.cept_repaint.specs.Due.{followed, has_others, is_altered, is_altered_from, is_covered_from, is_due, pens_of}

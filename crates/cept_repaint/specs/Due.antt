@@ -1,13 +1,13 @@
 -- Rows that are due to be resolved after strokes (this project's own): those that are altered of themselves, and those
 -- that are covered from above otherwise than before. Private clauses alone cite this file.
-use Rattle.std.specs.Prelude.{ℕ, ◌≡◌, ◌||◌, Bool, true, false, not, List, Option, Some, None}
+use Rattle.std.specs.Prelude.{ℕ, ◌≡◌, ◌||◌, Bool, true, false, not, List, [], Option, Some, None}
 use Rattle.std.specs.List.{count_by, list_any, range_with_len}
 use Rattle.cept_codes.specs.declared.look.Look.{Look}
 use Rattle.cept_codes.specs.declared.stroke.Stroke.{Stroke}
 use Rattle.cept_codes.specs.Look.{blank_look}
 use Rattle.cept_codes.specs.Place.{OnScreen}
 use Rattle.cept_codes.specs.Same.{same_pen}
-use Rattle.cept_codes.specs.Table.{entry, value_at}
+use Rattle.cept_codes.specs.Table.{entry, list_by_index, value_at}
 use Rattle.cept_profile.specs.Cells.{value_after_move}
 use Rattle.cept_profile.specs.Edges.{Edges, is_last}
 use Rattle.cept_profile.specs.Look.{look, looks_of}
@@ -37,6 +37,10 @@ written_if writes row = record { from = row.from; written = writes || row.writte
 -- the rows after one stroke more, by what they were before it
 abbrev pub followed_after : Stroke → (ℕ → Followed) → ℕ → Followed
 followed_after stroke was r = written_if (writes stroke r) (value_after_move (moved_rows stroke) freed was r)
+
+-- rows none of which moved and in none of which a stroke writes
+abbrev pub at_rest : List Followed
+at_rest = list_by_index 1 24 (followed [])
 
 -- of which row one of these rows came
 abbrev pub row_from : List Followed → ℕ → Option ℕ

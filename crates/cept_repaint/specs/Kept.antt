@@ -1,15 +1,10 @@
 -- What a screen keeps beside its state (this project's own): the look at each place, and when looks are refreshed.
 -- Private clauses alone cite this file, but for the cell of a page.
-use Rattle.std.specs.Prelude.{ℕ, ◌≡◌, ◌<◌, ◌≤◌, ◌*◌, ◌-◌, ◌||◌, Bool, false, not, List, [], ◌∷◌, length}
+use Rattle.std.specs.Prelude.{ℕ, ◌≡◌, ◌<◌, ◌≤◌, ◌*◌, ◌-◌, ◌||◌, Bool, false, not, List, length}
 use Rattle.std.specs.List.{list_any, range_with_len}
 use Rattle.cept_codes.specs.declared.cell.Cell.{Cell}
 use Rattle.cept_codes.specs.declared.cell.What.{What}
 use Rattle.cept_codes.specs.declared.look.Look.{Look}
-use Rattle.cept_codes.specs.declared.look.Paint.{Paint}
-use Rattle.cept_codes.specs.declared.look.Paint.TheVariants.{Ink}
-use Rattle.cept_codes.specs.declared.look.Rgb.{Rgb}
-use Rattle.cept_codes.specs.declared.stroke.Stroke.{Stroke}
-use Rattle.cept_codes.specs.declared.stroke.Stroke.TheVariants.{Colour}
 use Rattle.cept_codes.specs.Cell.{blank_cell}
 use Rattle.cept_codes.specs.Look.{blank_look}
 use Rattle.cept_codes.specs.Place.{Place, OnScreen, number}
@@ -19,11 +14,10 @@ use Rattle.cept_profile.specs.Cells.{is_at}
 use Rattle.cept_profile.specs.Control.{ControlState}
 use Rattle.cept_profile.specs.Edges.{Edges, edges_of_core}
 use Rattle.cept_profile.specs.Look.{look, look_in_row, look_of, looks_of, size_in_row}
-use Rattle.cept_profile.specs.PageParts.{paint_in, row_pen_in}
+use Rattle.cept_profile.specs.PageParts.{row_pen_in}
 use Rattle.cept_profile.specs.RowsFromAbove.{is_other_covering, row_from_above}
-use Rattle.cept_profile.specs.State.{Core, Page, State, core_of, definitions_of}
+use Rattle.cept_profile.specs.State.{Core, Page, State, definitions_of}
 use Rattle.cept_profile.specs.Tiling.{column_entry}
-use Rattle.cept_profile.specs.Valid.{IsValidState}
 use Rattle.cept_repaint.specs.Marks.{is_marked}
 
 -- the cell of a page at a place
@@ -65,7 +59,6 @@ looks_differ a b = not (same_look a b)
 -- the state with this page and this control
 abbrev pub state_of_parts : Page → ControlState → State
 state_of_parts p c = record { page = p; control = c }
-
 
 -- what covers the row below is not the same under two lists of looks
 unfoldable pub is_other_above : List Look → List Look → Bool

@@ -3,12 +3,14 @@
 #![tactic(auto)]
 
 mod altered_rows;
+mod compared_rows;
 mod followed_rows;
 mod glass;
 mod grid_glass;
 mod kept_names;
 mod kept_rows;
 mod marks;
+mod moved_rows;
 mod page;
 mod page_parts;
 mod painting;

@@ -1,7 +1,8 @@
-ghost use Rattle.std.specs.Prelude.{◌≡◌, ℕ, ◌≤◌, ◌<◌, Bool, true, false, length, slice_set};
+ghost use Rattle.std.specs.Prelude.{◌≡◌, ℕ, ◌≤◌, ◌<◌, ◌+◌, ◌*◌, ◌-◌, Bool, true, false, length, slice_set};
 ghost use Rattle.std.specs.Prelude.{count_by, IsNone, IfSome, ◌↔◌};
 ghost use Rattle.cept_codes.specs.Place.{number, OnScreen};
-ghost use Rattle.cept_repaint.specs.Marks.{is_marked, no_marks, AreWithin, IsFirstFrom};
+ghost use Rattle.cept_codes.specs.Table.{entry};
+ghost use Rattle.cept_repaint.specs.Marks.{is_marked, no_marks, AreWithin, HasFlags, IsFirstFrom};
 
 use cept_codes::Pos;
 use std::marker::Model;
@@ -97,6 +98,53 @@ impl Marks {
             self.first = self.first.min(n);
             self.end = self.end.max(n + 1);
         }
+    }
+
+    /// Marks the places of a row that are flagged, from the left.
+    pub(crate) fn mark_row(&mut self, row: u8, flags: &[bool; 40])
+        requires from_top { 1 ≤ row }
+        requires to_bottom { row ≤ 24 }
+        requires columns { length flags.now ≡ 40 }
+        ensures { HasFlags flags.now (number row 1) self.old self.new }
+    {
+        self.places_by_type();
+        if !has_one(flags) {
+            return;
+        }
+        let first = 40 * (usize::from(row) - 1);
+        add_flags(&mut self.flags, first, flags);
+        if self.end == 0 {
+            self.first = first;
+            self.end = first + 40;
+        } else {
+            self.first = self.first.min(first);
+            self.end = self.end.max(first + 40);
+        }
+    }
+}
+
+/// Whether a flag of a row is set.
+// Without an end before the last one, so that several are asked at once.
+fn has_one(flags: &[bool; 40]) -> bool
+    requires { length flags.now ≡ 40 }
+    ensures { result ≡ false → (c : ℕ) → 1 ≤ c → c ≤ 40 → entry false 1 flags.now c ≡ false }
+{
+    let mut one = false;
+    for i in 0..40usize {
+        one = one | flags[i];
+    }
+    one
+}
+
+/// Sets the flags of a row besides, whose first place has this number.
+fn add_flags(marks: &mut [bool; 960], first: usize, flags: &[bool; 40])
+    requires places { length marks.old ≡ 960 }
+    requires columns { length flags.now ≡ 40 }
+    requires within { first + 40 ≤ 960 }
+    ensures { HasFlags flags.now first marks.old marks.new }
+{
+    for i in 0..40usize {
+        marks[first + i] = marks[first + i] | flags[i];
     }
 }
 

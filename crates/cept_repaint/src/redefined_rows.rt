@@ -36,8 +36,12 @@ pub(crate) fn rows_redefined(
     let mut redefined = [false; 24];
     for i in 0..24u8 {
         let row = i + 1;
-        redefined[usize::from(i)] =
-            is_redefined(strokes, names.row(row), kept.row(row), page.colours());
+        redefined[usize::from(i)] = is_redefined(
+            strokes,
+            names.row(row),
+            kept.row(row),
+            page.colours(),
+        );
     }
     redefined
 }

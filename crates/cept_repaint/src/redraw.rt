@@ -34,7 +34,7 @@ ghost use Rattle.cept_profile.specs.State.{Core, page_after};
 ghost use Rattle.cept_profile.specs.Tiling.{column_entry};
 ghost use Rattle.cept_profile.specs.Valid.{IsValidPage};
 ghost use Rattle.cept_repaint.specs.Due.{came_from, followed, is_altered, is_due, pens_of, row_from, rows_due};
-ghost use Rattle.cept_repaint.specs.Due.{OtherRowsStay};
+ghost use Rattle.cept_repaint.specs.Due.{at_rest, OtherRowsStay};
 ghost use Rattle.cept_repaint.specs.Kept.{AreEdges, AreLooksOn, core_on, is_other_above};
 ghost use Rattle.cept_repaint.specs.Kept.{look_alone, looks_differ};
 ghost use Rattle.cept_repaint.specs.Kept.{row_beneath};
@@ -45,10 +45,12 @@ ghost use Rattle.cept_repaint.specs.Named.{AreNamedOn, AreRemembered, IsStill};
 ghost use Rattle.cept_repaint.specs.Resolved.{one_else, rows_resolved_by};
 
 use crate::altered_rows::{only_put, row_alone, rows_altered};
-use crate::followed_rows::{Followed, follow_rows, one_else, one_moved, rows_at_rest};
+use crate::compared_rows::{covers_otherwise, mark_differences};
+use crate::followed_rows::{follow_rows, one_else, one_moved};
 use crate::kept_names::KeptNames;
 use crate::kept_rows::KeptRows;
 use crate::marks::Marks;
+use crate::moved_rows::{move_rows, turn_rows};
 use crate::page::Page;
 use crate::redefined_rows::rows_redefined;
 use cept_codes::{Pos, Stroke};
@@ -102,9 +104,7 @@ pub(crate) fn redraw<L: Ledger>(
                 refresh_place(page, put.place, kept, names, marks, steps);
             } else {
                 let row = put.place.row();
-                refresh_put(
-                    page, strokes, row, after, stood, kept, names, fresh, marks, steps,
-                );
+                refresh_put(page, strokes, row, after, kept, names, fresh, marks, steps);
             }
         }
         None => {
@@ -113,9 +113,7 @@ pub(crate) fn redraw<L: Ledger>(
                     page, strokes, before, after, kept, stood, names, fresh, marks, steps,
                 );
             } else {
-                redraw_defined(
-                    page, strokes, after, kept, stood, names, fresh, marks, steps,
-                );
+                redraw_defined(page, strokes, after, kept, names, fresh, marks, steps);
             }
         }
     }
@@ -158,10 +156,13 @@ fn redraw_rows<L: Ledger>(
     let altered = rows_altered(strokes, &rows, &was, before, page, after);
     if one_moved(&rows) {
         stood.copy_from(kept);
+        turn_rows(strokes, kept);
+        move_rows(
+            page, &rows, &altered, after, stood, kept, fresh, marks, steps,
+        );
+    } else {
+        refresh_rows(page, &altered, after, kept, fresh, marks, steps);
     }
-    refresh_rows(
-        page, &rows, &altered, after, stood, kept, fresh, marks, steps,
-    );
     names.forget_rows(&altered, &rows, marks);
 }
 
@@ -173,7 +174,6 @@ fn redraw_defined<L: Ledger>(
     strokes: &[Stroke],
     edges: &Edges,
     kept: &mut KeptRows,
-    stood: &KeptRows,
     names: &mut KeptNames,
     fresh: &mut RowLooks,
     marks: &mut Marks,
@@ -197,10 +197,7 @@ fn redraw_defined<L: Ledger>(
     names.find(page, kept);
     let redefined = rows_redefined(page, strokes, kept, names);
     page.draw_all(strokes);
-    let rows = rows_at_rest();
-    refresh_rows(
-        page, &rows, &redefined, edges, stood, kept, fresh, marks, steps,
-    );
+    refresh_rows(page, &redefined, edges, kept, fresh, marks, steps);
 }
 
 /// Resolves a row in which the strokes write, and the rows that are covered otherwise than before, where
@@ -211,7 +208,6 @@ fn refresh_put<L: Ledger>(
     strokes: &[Stroke],
     row: u8,
     edges: &Edges,
-    stood: &KeptRows,
     kept: &mut KeptRows,
     names: &mut KeptNames,
     fresh: &mut RowLooks,
@@ -240,9 +236,7 @@ fn refresh_put<L: Ledger>(
 {
     let rows = follow_rows(strokes);
     let altered = row_alone(row);
-    refresh_rows(
-        page, &rows, &altered, edges, stood, kept, fresh, marks, steps,
-    );
+    refresh_rows(page, &altered, edges, kept, fresh, marks, steps);
     names.forget_rows(&altered, &rows, marks);
 }
 
@@ -300,91 +294,34 @@ fn resolve_alone<L: Ledger>(
     )
 }
 
-/// Resolves the flagged rows and those that are covered otherwise than before, from the top, and
-/// takes over the looks of those that moved as they are, where each looks as the row did of which it
-/// came. Where a row moved, the looks are those that stood before.
+/// Resolves the flagged rows and those that are covered otherwise than before, from the top, where no
+/// row moved.
 fn refresh_rows<L: Ledger>(
     page: &Page,
-    rows: &[Followed; 24],
-    altered: &[bool; 24],
+    flags: &[bool; 24],
     edges: &Edges,
-    stood: &KeptRows,
     kept: &mut KeptRows,
     fresh: &mut RowLooks,
     marks: &mut Marks,
     steps: &mut Steps<L>,
 )
-    requires rows { length rows.now ≡ 24 }
-    requires flags { length altered.now ≡ 24 }
+    requires flags { length flags.now ≡ 24 }
     requires none { marks.old ≡ no_marks }
     requires valid { IsValidPage page.now }
     requires edges { AreEdges edges.now }
-    requires came { (r : ℕ) → 1 ≤ r → r ≤ 24 → IfSome (row_from rows.now r) IsRow }
-    requires freed { (r : ℕ) → 1 ≤ r → r ≤ 24 → row_from rows.now r ≡ None
-        → entry false 1 altered.now r ≡ true }
-    requires stood { (r q : ℕ) → 1 ≤ r → r ≤ 24 → row_from rows.now r ≡ Some q → q ≢ r
-        → stood.now ≡ kept.old }
     requires others { (k : Core) → edges_of_core k ≡ edges.now
-        → OtherRowsStay altered.now rows.now kept.old (core_on k page.now) }
+        → OtherRowsStay flags.now at_rest kept.old (core_on k page.now) }
     ensures kept { AreLooksOn kept.new page.now edges.now }
     ensures marks { marks.new ≡ differences kept.old kept.new }
-    ensures cost { steps.new ≡ steps.old + rows_due altered.now rows.now kept.old kept.new }
+    ensures cost { steps.new ≡ steps.old + rows_due flags.now at_rest kept.old kept.new }
 {
     kept.whole_by_type();
     let mut covered = false;
     for row in 1..25u8 {
-        let at = usize::from(row) - 1;
-        let from = came_from(rows[at].from, row);
-        if altered[at] | is_covered(from, row, covered, stood, kept) {
+        if flags[usize::from(row) - 1] | covered {
             covered = refresh_row(page, row, edges.is_last(row), kept, fresh, marks, steps);
-        } else if from != row {
-            covered = take_row(row, stood.row(from), kept, marks);
         }
     }
-}
-
-/// The row of which one came, or itself where it was freed.
-fn came_from(from: Option<u8>, row: u8) -> u8
-    requires from_top { 1 ≤ row }
-    requires to_bottom { row ≤ 24 }
-    requires came { IfSome from IsRow }
-    ensures row { result ≡ came_from from row }
-    ensures on_screen { IsRow result }
-{
-    match from {
-        Some(from) => from,
-        None => row,
-    }
-}
-
-/// Whether a row is covered otherwise than the row before was of which it came: as is known, where it
-/// stayed, else by the looks that stood above that one and are above it.
-fn is_covered(from: u8, row: u8, covered: bool, stood: &KeptRows, kept: &KeptRows) -> bool
-    requires came { IsRow from }
-    requires from_top { 1 ≤ row }
-    requires to_bottom { row ≤ 24 }
-    ensures { result ≡ (if from == row then covered
-        else is_other_above (looks_in stood.now (from - 1)) (looks_in kept.now (row - 1))) }
-{
-    if from == row {
-        covered
-    } else {
-        covers_otherwise(stood.above(from), kept.above(row))
-    }
-}
-
-/// Whether one of the looks that differ covers the place below it.
-fn covers_otherwise(was: &RowLooks, now: &RowLooks) -> bool
-    ensures { result ≡ is_other_above was.now now.now }
-{
-    let mut from = 1;
-    while let Some(column) = was.next_difference(now, from) {
-        if was.covers_below(column) | now.covers_below(column) {
-            return true;
-        }
-        from = column + 1;
-    }
-    false
 }
 
 /// Resolves a row beneath the looks kept of the row above, keeps its looks, and marks the places at
@@ -419,26 +356,8 @@ fn take_row(row: u8, looks: &RowLooks, kept: &mut KeptRows, marks: &mut Marks) -
     ensures covering { result ≡ is_other_above (looks_in kept.old row) (looks_in kept.new row) }
 {
     kept.whole_by_type();
-    let covered = mark_differences(row, kept.row(row), looks, marks);
+    mark_differences(row, kept.row(row), looks, marks);
+    let covered = covers_otherwise(kept.row(row), looks);
     kept.copy_row(row, looks);
-    covered
-}
-
-/// Marks the places of a row at which two rows of looks differ. Answers whether one of the looks
-/// that differ covers the place below it.
-fn mark_differences(row: u8, was: &RowLooks, fresh: &RowLooks, marks: &mut Marks) -> bool
-    requires from_top { 1 ≤ row }
-    requires to_bottom { row ≤ 24 }
-    ensures marked { HasMarkedRow was.now fresh.now row 41 marks.old marks.new }
-    ensures covering { result ≡ is_other_above was.now fresh.now }
-{
-    marks.places_by_type();
-    let mut covered = false;
-    let mut from = 1;
-    while let Some(column) = was.next_difference(fresh, from) {
-        marks.mark(Pos::new(row, column).unwrap());
-        covered = covered | was.covers_below(column) | fresh.covers_below(column);
-        from = column + 1;
-    }
     covered
 }

@@ -2,7 +2,6 @@ pub mod Columns
 pub mod Drawings
 pub mod KeptLooks
 pub mod KeptRows
-pub mod UnshownPaints
 pub mod Pens
 pub mod RowsAlone
 pub mod RowsByPart

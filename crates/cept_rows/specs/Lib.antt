@@ -1,6 +1,5 @@
 pub mod DrawnWith
 pub mod SmallLooks
-pub mod Unshown
 pub mod KeptRows
 pub mod RowsByCell
 pub mod KeptNames

@@ -6,7 +6,7 @@ ghost use Rattle.cept_codes.specs.Cell.{IsValidWhat};
 ghost use Rattle.cept_codes.specs.declared.look.Look.{Look};
 ghost use Rattle.cept_codes.specs.Look.{IsValidLook, IsValidPart, blank_look};
 ghost use Rattle.cept_codes.specs.Same.{same_look};
-ghost use Rattle.cept_codes.specs.Table.{row_of};
+ghost use Rattle.cept_codes.specs.Table.{list_by_index, row_of};
 ghost use Rattle.cept_profile.specs.Look.{look_of, part_of};
 ghost use Rattle.cept_profile.specs.Names.{pattern_shown, some_place};
 ghost use Rattle.cept_profile.specs.RowsFromAbove.{blank_looks};
@@ -16,13 +16,11 @@ ghost use Rattle.cept_rows.specs.KeptRows.{HasNoPatterns};
 ghost use Rattle.cept_rows.specs.Planes.{has_planes};
 ghost use Rattle.cept_rows.specs.SmallLooks.{IsSmallLook, drawing_of, has_pattern, look_kept};
 ghost use Rattle.cept_rows.specs.SmallLooks.{no_drawing, small_of};
-ghost use Rattle.cept_rows.specs.Unshown.{AreWithout};
 
 use crate::cell_look::{is_downloaded, small_alone, small_of_any};
-use crate::colours::tint_of;
 use crate::drawing::{Drawing, drawing_of, same_drawing};
 use crate::small_look::{SmallLook, look_kept, same};
-use cept_codes::{Look, Paint, Pen, What};
+use cept_codes::{Look, Pen, What};
 use cept_colours::Colours;
 use cept_drcs::Patterns;
 use cept_outside::Steps;
@@ -99,22 +97,6 @@ impl RowLooks {
         part.dy == 0 && part.h == 2
     }
 
-    /// Whether a look may show this paint: one is a pattern, or its sign or its background has the
-    /// paint.
-    pub fn may_show(&self, paint: Paint) -> bool
-        ensures lacks { result ≡ false → AreWithout paint self.now }
-        ensures shows { AreWithout paint self.now → result ≡ false }
-    {
-        let tint = tint_of(paint);
-        for column in 1..41u8 {
-            let look = self.small(column);
-            if look.has_pattern() | look.has_tint(&tint) {
-                return true;
-            }
-        }
-        false
-    }
-
     /// Whether a pattern of so many planes is shown in the row.
     pub fn shows_planes(&self, planes: u8) -> bool
         ensures { result ≡ some_place (λ c. has_planes planes
@@ -129,6 +111,45 @@ impl RowLooks {
             }
         }
         false
+    }
+
+    /// For each column from the left, whether two rows have different looks in it.
+    pub fn differences(&self, other: &RowLooks) -> [bool; 40]
+        ensures { result ≡ list_by_index 1 40 (λ c. not (same_look
+            (column_entry blank_look self.now c) (column_entry blank_look other.now c))) }
+    {
+        if self.is_plain() || other.is_plain() {
+            self.small_differences(other)
+        } else {
+            self.drawn_differences(other)
+        }
+    }
+
+    /// The same where one of the rows has no pattern.
+    fn small_differences(&self, other: &RowLooks) -> [bool; 40]
+        requires plain { HasNoPatterns self.now ⊎ HasNoPatterns other.now }
+        ensures { result ≡ list_by_index 1 40 (λ c. not (same_look
+            (column_entry blank_look self.now c) (column_entry blank_look other.now c))) }
+    {
+        let mut differ = [false; 40];
+        for i in 0..40u8 {
+            differ[usize::from(i)] = !self.same_small_at(other, i + 1);
+        }
+        differ
+    }
+
+    /// The same of any rows.
+    // A call of its own: rows without patterns need less.
+    #[inline(never)]
+    fn drawn_differences(&self, other: &RowLooks) -> [bool; 40]
+        ensures { result ≡ list_by_index 1 40 (λ c. not (same_look
+            (column_entry blank_look self.now c) (column_entry blank_look other.now c))) }
+    {
+        let mut differ = [false; 40];
+        for i in 0..40u8 {
+            differ[usize::from(i)] = !self.same_at(other, i + 1);
+        }
+        differ
     }
 
     /// The first column from `from` on in which two rows have different looks.
@@ -348,7 +369,7 @@ impl RowLooks {
 
     /// Whether no look is known to cover the place below it.
     #[inline(always)]
-    pub(crate) fn covers_nothing(&self) -> bool
+    pub fn covers_nothing(&self) -> bool
         ensures { result ≡ true → (c : ℕ)
             → covers_below (part_of (column_entry blank_look self.now c)) ≡ false }
     {

@@ -105,15 +105,6 @@ impl SmallLook {
     {
         matches!(self.sign.kind, Kind::Drcs)
     }
-
-    /// Whether the sign or the background has this tint.
-    #[inline(always)]
-    pub(crate) fn has_tint(&self, tint: &Tint) -> bool
-        ensures lacks { result ≡ false → (self.now.fore ≢ tint.now) × (self.now.back ≢ tint.now) }
-        ensures has { result ≡ true → (self.now.fore ≡ tint.now) ⊎ (self.now.back ≡ tint.now) }
-    {
-        same_tint(&self.fore, tint) | same_tint(&self.back, tint)
-    }
 }
 
 /// Whether two small looks are the same.

@@ -1,6 +1,5 @@
 use Rattle.std.proofs.Common.{Bool, List, length, refl, sym, ap, subst, ◌∙◌, ◌==◌, arith}
 use Rattle.std.proofs.lemmas.Bool.{eqb-true, true≢false}
-use Rattle.cept_profile.specs.Look.{looks_of}
 use Rattle.cept_profile.specs.State.{Page}
 use Rattle.cept_profile.specs.Valid.{IsValidPage}
 use Rattle.cept_codes.specs.Table.{list_by_index}

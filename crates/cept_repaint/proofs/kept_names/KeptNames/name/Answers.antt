@@ -1,4 +1,4 @@
-use Rattle.std.proofs.Common.{◌≡◌, ◌-◌, get_or, ap, sym, ◌∙◌, arith}
+use Rattle.std.proofs.Common.{◌-◌, get_or, ap, sym, ◌∙◌, arith}
 use Rattle.std.proofs.lemmas.List.{get_or_default}
 use Rattle.cept_codes.proofs.Laws.{entry_from}
 use Rattle.cept_repaint.specs.Kept.{core_on}

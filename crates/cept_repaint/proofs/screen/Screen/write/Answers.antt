@@ -1,7 +1,5 @@
-use Rattle.std.proofs.Common.{◌≡◌, ◌≤◌, ◌+◌, List, sym, ap, subst, ◌∙◌, arith}
+use Rattle.std.proofs.Common.{List, sym, ap, subst, ◌∙◌, arith}
 use Rattle.cept_codes.specs.declared.stroke.Stroke.{Stroke}
-use Rattle.cept_profile.specs.Control.{control_after}
-use Rattle.cept_profile.specs.Edges.{Edges, edges_of}
 use Rattle.cept_profile.specs.State.{State, core_of, page_after, state_after}
 use Rattle.cept_profile.specs.Valid.{IsValidPage}
 use Rattle.cept_profile.proofs.Laws.{IsValidState-state_after}
@@ -9,8 +7,6 @@ use Rattle.cept_repaint.specs.Kept.{state_of_parts}
 use Rattle.cept_repaint.proofs.KeptAfter.{AreEdges-state, AreLooksOn-state, IsKept-state_after, looks_of-drawn, marks-kept}
 use Rattle.cept_repaint.proofs.KeptAfter.{AreNamed-drawn, AreNamedOn-state, resolved-of, state_after-drawn}
 use Rattle.cept_profile.proofs.Laws.{rows_in_reach-le}
-use Rattle.cept_profile.specs.Strokes.{strokes_of}
-use Rattle.cept_repaint.proofs.screen.Screen.write.Given as given
 use Rattle.cept_repaint.proofs.screen.Screen.write.Goals as goal
 
 pub redraw-requires-clause-kept : goal.redraw-requires-clause-kept

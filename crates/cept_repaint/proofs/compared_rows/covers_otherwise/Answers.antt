@@ -1,6 +1,7 @@
 use Rattle.std.proofs.Common.{◌≡◌, ◌||◌, true, false, refl, ◌∙◌, sym, arith}
-use Rattle.cept_repaint.proofs.MarkedDifferences.{UncoveredSoFar-all, UncoveredSoFar-more, is_covered_below, other_above-found}
-use Rattle.cept_repaint.proofs.redraw.covers_otherwise.Goals as goal
+use Rattle.std.proofs.lemmas.Bool.{and_parts}
+use Rattle.cept_repaint.proofs.MarkedDifferences.{UncoveredSoFar-all, UncoveredSoFar-more, is_covered_below, other_above-found, uncovered}
+use Rattle.cept_repaint.proofs.compared_rows.covers_otherwise.Goals as goal
 
 pub loop-column-preserved : goal.loop-column-preserved
 loop-column-preserved c =
@@ -18,3 +19,10 @@ returns-then-covers_below c =
 
 pub returns : goal.returns
 returns c = sym (UncoveredSoFar-all c.loop-column.invariant (c.in_default.ensures.none refl))
+
+pub returns-then-covers_nothing : goal.returns-then-covers_nothing
+returns-then-covers_nothing c =
+    sym (uncovered c.args.was.now c.args.now.now
+    (c.covers_nothing.ensures (and_parts c.covers_nothing.result c.covers_nothing-2.result c.if-covers_nothing.true).0)
+    (c.covers_nothing-2.ensures
+    (and_parts c.covers_nothing.result c.covers_nothing-2.result c.if-covers_nothing.true).1))
