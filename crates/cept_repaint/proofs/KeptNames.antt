@@ -1,16 +1,17 @@
 -- Names of rows that are kept: one row named anew, rows forgotten, and what is known of all of them.
-use Rattle.std.proofs.Common.{◌≡◌, ◌≢◌, ℕ, ◌+◌, ◌-◌, ◌≤◌, ◌<◌, ◌&&◌, Bool, true, false, List, [], get_or, length, set}
+use Rattle.std.proofs.Common.{◌≡◌, ◌≢◌, ℕ, ◌+◌, ◌-◌, ◌*◌, ◌≤◌, ◌<◌, ◌&&◌, Bool, true, false, List, [], get_or, length, set}
+use Rattle.std.proofs.Common.{Option, Some, None}
 use Rattle.std.proofs.Common.{inl, inr, zero, suc, refl, sym, ap, subst, ◌∙◌, arith}
-use Rattle.std.proofs.lemmas.Bool.{and_parts, cases_eq, true≢false}
+use Rattle.std.proofs.lemmas.Bool.{and_parts, cases_eq, cases_lt, true≢false}
 use Rattle.std.proofs.lemmas.List.{get_or-set_other, get_or-set_same, length-set}
 use Rattle.cept_codes.specs.declared.attribute.Pen.{Pen}
 use Rattle.cept_codes.specs.declared.cell.Cell.{Cell}
 use Rattle.cept_codes.specs.declared.look.Look.{Look}
 use Rattle.cept_codes.specs.Cell.{blank_cell}
 use Rattle.cept_codes.specs.Look.{blank_look}
-use Rattle.cept_codes.specs.Place.{OnScreen}
+use Rattle.cept_codes.specs.Place.{Place, OnScreen, number}
 use Rattle.cept_codes.specs.Table.{entry, value_at, IsTable}
-use Rattle.cept_codes.proofs.Laws.{entry_below, entry_from, same_lists}
+use Rattle.cept_codes.proofs.Laws.{entry_below, entry_from, number-lt, same_lists}
 use Rattle.cept_profile.specs.Look.{looks_of, part_of}
 use Rattle.cept_profile.specs.Names.{names_at}
 use Rattle.cept_profile.specs.NamesFromAbove.{names_from_above, names_in_row, own_names}
@@ -20,7 +21,10 @@ use Rattle.cept_profile.specs.Serial.{row_in}
 use Rattle.cept_profile.specs.State.{Core}
 use Rattle.cept_profile.specs.Tiling.{column_entry}
 use Rattle.cept_profile.proofs.Laws.{names_at-covered, part_of-seen}
-use Rattle.cept_repaint.specs.Named.{AreAllKnown, AreNamed, AreRemembered, NamesOfRows}
+use Rattle.cept_repaint.specs.declared.followed_rows.Followed.{Followed}
+use Rattle.cept_repaint.specs.Due.{row_from}
+use Rattle.cept_repaint.specs.Marks.{is_marked, IsFirstFrom}
+use Rattle.cept_repaint.specs.Named.{AreAllKnown, AreNamed, AreRemembered, IsStill, IsUnmarkedBelow, NamesOfRows}
 use Rattle.cept_repaint.specs.Named.{is_known, names_beneath, row_named}
 use Rattle.cept_rows.specs.declared.naming.RowNames.{RowNames}
 use Rattle.cept_rows.specs.KeptNames.{names_kept}
@@ -266,3 +270,90 @@ AreNamed-above above rows known was e k are row n en low below fresh made same s
     (sym row_below ∙ ap (λ (l : List Bool). entry false 1 l (row + 1)) (sym next) ∙ so)).1)
     (record { above = above; rows = set rows (n - 1) fresh; known = set first (n - 1 + 1) second })
     (λ i. record { above = (e i).above; rows = set (e i).rows (en i - 1) fresh; known = set first (n - 1 + 1) second })
+
+-- ---- rows in which a place is marked are forgotten, row by row
+
+pub forgotten-first : (was now : NamesOfRows) (marks : List Bool) (row : ℕ) → AreRemembered was now (λ r. r ≢ row)
+    → AreRemembered was now (λ r. (r ≢ row) × IsUnmarkedBelow marks 0 r)
+forgotten-first was now marks row left = record {
+  above = left.above;
+  rows = left.rows;
+  flags = left.flags;
+  known = λ r low high so.
+      let before = left.known r low high so in
+      (before.0, (before.1, λ c on below. absurd (omega (arith, below))));
+}
+
+-- the next row in which one is
+pub forgotten-more : {was mid now : NamesOfRows} (marks : List Bool) (row from : ℕ)
+    → AreRemembered was mid (λ r. (r ≢ row) × IsUnmarkedBelow marks from r) → (place : Place)
+    → IsFirstFrom marks from place → AreRemembered mid now (λ r. r ≢ place.row)
+    → AreRemembered was now (λ r. (r ≢ row) × IsUnmarkedBelow marks (40 * place.row) r)
+forgotten-more {was} {mid} {now} marks row from left place first more = record {
+  above = more.above ∙ left.above;
+  rows = more.rows ∙ left.rows;
+  flags = more.flags;
+  known = λ r low high so.
+      let now_ = more.known r low high so in
+      let before = left.known r low high now_.0 in (
+        before.0,
+        (
+          before.1.0,
+          λ c on below. elim (cases_lt (number r c) from) [
+            | inl earlier ↦ before.1.1 c on earlier
+            | inr later ↦ elim (cases_lt (number r c) (number place.row place.column)) [
+              | inl between ↦ first.first (number r c) later between
+              | inr past ↦ absurd (now_.1 (omega (arith, on, first.on_screen, past, below)))
+            ]
+          ],
+        ),
+      );
+}
+
+-- no place is left that is marked
+pub forgotten-all : {was now : NamesOfRows} (marks : List Bool) (row from : ℕ)
+    → AreRemembered was now (λ r. (r ≢ row) × IsUnmarkedBelow marks from r)
+    → ((n : ℕ) → from ≤ n → is_marked marks n ≡ false)
+    → AreRemembered was now (λ r. (r ≢ row) × IsUnmarkedBelow marks 960 r)
+forgotten-all {was} {now} marks row from left none = record {
+  above = left.above;
+  rows = left.rows;
+  flags = left.flags;
+  known = λ r low high so.
+      let before = left.known r low high so in (
+        before.0,
+        (
+          before.1.0,
+          λ c on below. elim (cases_lt (number r c) from) [
+            | inl earlier ↦ before.1.1 c on earlier
+            | inr later ↦ none (number r c) later
+          ],
+        ),
+      );
+}
+
+-- where none of these rows moved, each that is left is still
+pub forgotten-still : {was now : NamesOfRows} (marks : List Bool) (row : ℕ) (flags : List Bool) (rows : List Followed)
+    → AreRemembered was now (λ r. (r ≢ row) × IsUnmarkedBelow marks 960 r)
+    → ((r : ℕ) → 1 ≤ r → r ≤ 24 → r ≢ row → entry false 1 flags r ≡ false)
+    → ((r : ℕ) → 1 ≤ r → r ≤ 24 → row_from rows r ≡ None → entry false 1 flags r ≡ true)
+    → ((r q : ℕ) → 1 ≤ r → r ≤ 24 → row_from rows r ≡ Some q → q ≡ r)
+    → AreRemembered was now (λ r. IsStill flags rows marks r)
+forgotten-still {was} {now} marks row flags rows left unflagged freed still = record {
+  above = left.above;
+  rows = left.rows;
+  flags = left.flags;
+  known = λ r low high so.
+      let before = left.known r low high so in
+      let flag = unflagged r low high before.1.0 in (
+        before.0,
+        (flag, came r low high flag, λ c on. before.1.1 c on (number-lt r c on)),
+      );
+}
+  where
+    came : (r : ℕ) → 1 ≤ r → r ≤ 24 → entry false 1 flags r ≡ false → row_from rows r ≡ Some r
+    came r low high flag = by_row (row_from rows r) refl
+      where
+        by_row : (found : Option ℕ) → row_from rows r ≡ found → row_from rows r ≡ Some r
+        by_row None e = absurd (true≢false (sym (freed r low high e) ∙ flag))
+        by_row (Some q) e = e ∙ ap (λ n. Some n) (still r q low high e)

@@ -1,7 +1,7 @@
 -- Names of rows as a screen keeps them (this project's own): what each row names, and of which rows that is known. Names
 -- that are known come from the row's own cells and parts and from what is kept as the names of the row above. Private
 -- clauses alone cite this file.
-use Rattle.std.specs.Prelude.{ℕ, ◌≡◌, ◌≤◌, ◌-◌, Bool, true, false, List, length, Some}
+use Rattle.std.specs.Prelude.{ℕ, ◌≡◌, ◌≤◌, ◌<◌, ◌-◌, Bool, true, false, List, length, Some}
 use Rattle.cept_codes.specs.declared.look.Look.{Look}
 use Rattle.cept_codes.specs.Place.{OnScreen, number}
 use Rattle.cept_codes.specs.Table.{entry}
@@ -60,6 +60,10 @@ pub record AreRemembered (was now : NamesOfRows) (IsSo : ℕ → Type 0) : Type 
   pub rows : now.rows ≡ was.rows
   pub flags : length now.known ≡ 24
   pub known : (r : ℕ) → 1 ≤ r → r ≤ 24 → is_known now r ≡ true → (is_known was r ≡ true) × IsSo r
+
+-- no place of row r with a number below this one is marked
+abbrev pub IsUnmarkedBelow : List Bool → ℕ → ℕ → Type 0
+IsUnmarkedBelow marks end r = (c : ℕ) → OnScreen r c → number r c < end → is_marked marks (number r c) ≡ false
 
 -- row r isn't flagged, came of itself, and no place of it is marked
 abbrev pub IsStill : List Bool → List Followed → List Bool → ℕ → Type 0

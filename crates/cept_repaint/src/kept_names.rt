@@ -6,7 +6,7 @@ ghost use Rattle.cept_profile.specs.State.{Core};
 ghost use Rattle.cept_profile.specs.Valid.{IsValidPage};
 ghost use Rattle.cept_repaint.specs.Kept.{core_on};
 ghost use Rattle.cept_repaint.specs.Marks.{is_marked};
-ghost use Rattle.cept_repaint.specs.Named.{AreAllKnown, AreNamed, AreRemembered, IsStill};
+ghost use Rattle.cept_repaint.specs.Named.{AreAllKnown, AreNamed, AreRemembered, IsStill, IsUnmarkedBelow};
 ghost use Rattle.cept_repaint.specs.Named.{is_known, row_named};
 
 use crate::followed_rows::Followed;
@@ -113,6 +113,21 @@ impl KeptNames {
         ensures { AreRemembered self.old self.new (λ r. r ≢ row) }
     {
         self.known[usize::from(row) - 1] = false;
+    }
+
+    /// Forgets what a row names, and each row in which a place is marked.
+    pub(crate) fn forget_marked(&mut self, row: u8, marks: &Marks)
+        requires from_top { 1 ≤ row }
+        requires to_bottom { row ≤ 24 }
+        ensures { AreRemembered self.old self.new (λ r. (r ≢ row)
+            × IsUnmarkedBelow marks.now 960 r) }
+    {
+        self.forget(row);
+        let mut from = 0;
+        while let Some(place) = marks.next_from(from) {
+            self.forget(place.row());
+            from = 40 * u16::from(place.row());
+        }
     }
 
     /// Forgets what each row names that is flagged, that came of another one or in which a place is

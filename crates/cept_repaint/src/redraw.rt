@@ -234,10 +234,9 @@ fn refresh_put<L: Ledger>(
     ensures cost { steps.new ≡ steps.old + rows_due (list_by_index 1 24 (λ q. row == q))
         (list_by_index 1 24 (followed strokes.now)) kept.old kept.new }
 {
-    let rows = follow_rows(strokes);
     let altered = row_alone(row);
     refresh_rows(page, &altered, edges, kept, fresh, marks, steps);
-    names.forget_rows(&altered, &rows, marks);
+    names.forget_marked(row, marks);
 }
 
 /// Resolves one cell by itself: where all other places have the looks that are kept, so has this.

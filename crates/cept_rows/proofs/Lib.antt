@@ -9,3 +9,4 @@ pub mod RowsOfCores
 pub mod Signs
 pub mod NamesKept
 pub mod RowsSearched
+pub mod RowsCompared

@@ -1,8 +1,11 @@
-use Rattle.std.proofs.Common.{List, Bool, sym, subst, ap, arith}
+use Rattle.std.proofs.Common.{◌≡◌, false, List, Bool, sym, subst, ap, ◌∙◌, arith}
 use Rattle.std.specs.Prelude.{◌==◌}
 use Rattle.cept_codes.specs.Table.{list_by_index}
 use Rattle.cept_repaint.specs.Due.{at_rest, followed, rows_due, OtherRowsStay}
 use Rattle.cept_repaint.specs.Kept.{core_on}
+use Rattle.std.proofs.lemmas.Bool.Decides.{nat_tests}
+use Rattle.cept_codes.proofs.Laws.{entry-list_by_index}
+use Rattle.cept_repaint.proofs.KeptNames.{forgotten-still}
 use Rattle.cept_repaint.proofs.RestingRows.{AreStill, OtherRowsStay-still, rows_due-still}
 use Rattle.cept_repaint.proofs.redraw.refresh_put.Goals as goal
 
@@ -24,3 +27,11 @@ returns-clause-cost g c =
       ap (λ (l : List Bool). rows_due l at_rest c.args.kept.now c.refresh_rows.new.kept) c.row_alone-altered.ensures,
       rows_due-still are c.args.kept.now c.refresh_rows.new.kept,
     )
+
+pub returns-clause-remembered : goal.returns-clause-remembered
+returns-clause-remembered g c =
+    forgotten-still c.refresh_rows.new.marks c.args.row (list_by_index 1 24 (λ q. c.args.row == q)) (list_by_index 1 24 (followed c.args.strokes.now))
+    c.forget_marked.ensures (λ r low high apart.
+    let no : (c.args.row == r) ≡ false = grind (arith, nat_tests, apart) in
+    entry-list_by_index false 1 24 (λ q. c.args.row == q) r low (omega (arith, high)) ∙ no)
+    c.requires.freed c.requires.still
