@@ -9,9 +9,10 @@ use Rattle.cept_codes.specs.declared.stroke.Stroke.TheVariants as strokes
 use Rattle.cept_codes.specs.Cell.{blank_cell}
 use Rattle.cept_codes.specs.Place.{Place, OnScreen}
 use Rattle.cept_codes.specs.Table.{value_at, entry, list_by_index, row_of, table}
-use Rattle.cept_codes.proofs.Laws.{entry-list_by_index, same_indexed, table-list_by_index}
+use Rattle.cept_codes.proofs.Laws.{entry-list_by_index, same_indexed, set_is, table-list_by_index}
 use Rattle.cept_scroll.specs.Order.{AreInSlots, IsRowOrder, rows_in_order, slot_of}
 use Rattle.cept_scroll.proofs.Laws.{IsTable-rows, row_read, row_written}
+use Rattle.cept_cells.specs.Replaced.{cells_with}
 use Rattle.cept_profile.specs.Cells.{cells_after}
 use Rattle.cept_cells.proofs.CellsAfterStrokes.{cells_after-put, cells_after-put_kept}
 
@@ -59,3 +60,15 @@ blank_in_slots order is =
     let slot : (1 ≤ slot_of order r) × (slot_of order r ≤ 24) = is.slots r low (omega (arith, high)) in
     entry-list_by_index [] 1 24 blank (slot_of order r) slot.0 (omega (arith, slot.1)))
     ∙ sym (table-list_by_index (λ _ _. blank_cell))
+
+-- a cell replaced in the slot of its row
+pub set_in_slot : {order : List ℕ} {kept now : List (List Cell)} → AreInSlots order kept → rows_in_order order kept ≡ now
+    → (p : Place) (cell : Cell) (q k i : ℕ) (row e : List Cell) → OnScreen p.row p.column → q ≡ p.row → k ≡ p.column
+    → i ≡ slot_of order q - 1 → row ≡ get_or kept i e
+    → rows_in_order order (set kept i (set row (k - 1) cell)) ≡ cells_with now p cell
+set_in_slot {order} {kept} {now} are view p cell q k i row e on eq ek at read =
+    let low : 1 ≤ q = omega (arith, on) in
+    let high : q ≤ 24 = omega (arith, on) in
+    row_written are view q i (set row (k - 1) cell) low high at
+    ∙ set_is now blank_cell cell (q - 1) (k - 1) p.row p.column row e (IsTable-rows are view) on (omega (arith, low))
+    (omega (arith, on)) (read ∙ row_read are view q i e e low high at)

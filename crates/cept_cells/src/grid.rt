@@ -11,6 +11,7 @@ ghost use Rattle.cept_profile.specs.Cells.{cells_after};
 ghost use Rattle.cept_scroll.specs.Order.{rows_turned};
 ghost use Rattle.cept_cells.specs.Erased.{cell_after_erasing};
 ghost use Rattle.cept_cells.specs.Freed.{cells_freed};
+ghost use Rattle.cept_cells.specs.Replaced.{cells_with};
 
 use cept_codes::{Cell, NoMemory, Pos, RowCells, Stroke, Up};
 use cept_scroll::RowOrder;
@@ -78,6 +79,13 @@ impl Grid {
     {
         let row = &mut self.rows[self.order.index(place.row())];
         put_into(row, place.col(), cell)
+    }
+
+    /// Replaces the cell at a place, also a protected one.
+    pub fn set(&mut self, at: Pos, cell: Cell)
+        ensures { self.new ≡ cells_with self.old at cell }
+    {
+        self.rows[self.order.index(at.row())][usize::from(at.col()) - 1] = cell;
     }
 
     /// The cells of a row, from the left.
