@@ -1,7 +1,7 @@
 -- Lists of the patterns of codes.
-use Rattle.std.proofs.Common.{◌≡◌, ℕ, ◌+◌, ◌-◌, ◌==◌, cond, List, length, get_or, set, sym, ap}
+use Rattle.std.proofs.Common.{◌≡◌, ℕ, ◌+◌, ◌-◌, ◌==◌, cond, List, length, set, sym, ap}
 use Rattle.std.proofs.Common.{subst, ◌∙◌, arith, refl}
-use Rattle.std.proofs.Common.{[], ◌∷◌, ◌++◌, take, drop, append-nil, inl, inr, Option, None, Some, IfSome}
+use Rattle.std.proofs.Common.{[], ◌∷◌, ◌++◌, take, drop, append-nil, inl, inr, Option, None, IfSome}
 use Rattle.std.proofs.lemmas.Bool.{cases_lt}
 use Rattle.std.proofs.lemmas.List.{drop_all, take_all}
 use Rattle.cept_codes.specs.declared.look.Pattern.{Pattern}
@@ -12,12 +12,12 @@ use Rattle.cept_codes.proofs.Laws.{entry_below}
 use Rattle.cept_drcs.specs.Patterns.{IsPatternCode, pattern_in, list_of_codes, HasValidPatterns}
 
 -- one written
-pub pattern_written : (ps now : List (Option Pattern)) (i code : ℕ) (p : Pattern) → length ps ≡ 94 → ps ≡ now
-    → IsPatternCode code → i ≡ code → set ps (i - 0x21) (Some p)
-    ≡ list_of_codes (λ d. cond (code == d) (Some p) (pattern_in now d))
+pub pattern_written : (ps now : List (Option Pattern)) (i code : ℕ) (p : Option Pattern) → length ps ≡ 94 → ps ≡ now
+    → IsPatternCode code → i ≡ code → set ps (i - 0x21) p
+    ≡ list_of_codes (λ d. cond (code == d) p (pattern_in now d))
 pattern_written ps now i code p long same is e =
-    set-entry None (Some p) 0x21 94 (i - 0x21) code ps long (omega (arith, is.0, is.1)) (omega (arith, is.0))
-    ∙ ap (λ (l : List (Option Pattern)). list_of_codes (λ d. cond (code == d) (Some p) (pattern_in l d))) same
+    set-entry None p 0x21 94 (i - 0x21) code ps long (omega (arith, is.0, is.1)) (omega (arith, is.0))
+    ∙ ap (λ (l : List (Option Pattern)). list_of_codes (λ d. cond (code == d) p (pattern_in l d))) same
 
 -- where no code has a pattern, none is found, whatever the code
 none_in : (code : ℕ) → pattern_in (list_of_codes (λ _. None)) code ≡ None

@@ -49,6 +49,16 @@ impl Patterns {
         self.patterns[usize::from(code) - 0x21] = Some(pattern);
     }
 
+    /// Gives a code, 0x21 to 0x7E, this pattern, or none, in place of what it has.
+    pub fn set(&mut self, code: u8, pattern: Option<Pattern>)
+        requires code { IsPatternCode code }
+        requires valid { IfSome pattern IsValidPattern }
+        ensures { self.new
+            ≡ list_of_codes (λ d. if code == d then pattern else pattern_in self.old d) }
+    {
+        self.patterns[usize::from(code) - 0x21] = pattern;
+    }
+
     /// The pattern of a code, where it stands; `None` where the code has none, as each below 0x21 and
     /// past 0x7E.
     #[inline(always)]
