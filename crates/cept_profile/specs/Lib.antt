@@ -25,3 +25,5 @@ pub mod Edges
 pub mod MovedRows
 pub mod Names
 pub mod NamesFromAbove
+pub mod OldValues
+pub mod NotedStrokes

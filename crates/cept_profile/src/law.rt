@@ -7,6 +7,7 @@ mod first_grid;
 mod looks_in_rows;
 mod motions;
 mod names_of_rows;
+mod old_values;
 mod one_more;
 mod painting;
 mod protected_cells;
@@ -26,6 +27,10 @@ pub use first_grid::{clearing_blanks_the_cells, the_first_grid};
 pub use looks_in_rows::{looks_hang_on_cells_to_the_left, the_page_and_the_edges_are_seen};
 pub use motions::motions_go_round_the_places;
 pub use names_of_rows::{looks_show_the_parts, names_come_from_above_or_the_left, the_first_names};
+pub use old_values::{
+    noted_strokes_leave_what_is_unwound_to, nothing_noted_unwinds_nothing,
+    noting_leaves_what_is_unwound_to,
+};
 pub use one_more::{looking_back_is_drawing, one_more_command, one_more_command_by_parts};
 pub use painting::{each_command_is_shown, marked_places_in_order, painting_the_changes};
 pub use protected_cells::protection;

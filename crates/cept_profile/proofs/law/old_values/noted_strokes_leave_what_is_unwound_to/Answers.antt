@@ -1,0 +1,9 @@
+use Rattle.cept_profile.proofs.NotedStrokes.{page_unwound-with_one, page_unwound-with_strokes, unwound-with_command}
+use Rattle.cept_profile.proofs.law.old_values.noted_strokes_leave_what_is_unwound_to.Goals as goal
+
+pub returns : goal.returns
+returns c = record {
+  stroke = page_unwound-with_one;
+  strokes = page_unwound-with_strokes;
+  command = unwound-with_command;
+}
