@@ -1,6 +1,6 @@
 -- Each spelling is a whole unit that says its command, and grows only where it is a header of colours. Patterns have
 -- lemmas of their own.
-use Rattle.std.proofs.Common.{◌≡◌, ℕ, ◌+◌, ◌*◌, ◌/◌, ◌%◌, ◌≤◌, Bool, true, false, cond, eqb, ltb, leb}
+use Rattle.std.proofs.Common.{◌≡◌, ℕ, ◌+◌, ◌-◌, ◌*◌, ◌/◌, ◌%◌, ◌≤◌, Bool, true, false, cond, eqb, ltb, leb}
 use Rattle.std.proofs.Common.{[], ◌∷◌, Some, refl, sym, subst, arith, inl, inr, ◌⊎◌, IsTrue}
 use Rattle.std.proofs.lemmas.Bool.{cases_Bool, eqb-true, le-leb}
 use Rattle.std.proofs.lemmas.Bool.Decides.{nat_tests}
@@ -25,7 +25,7 @@ use Rattle.cept_parser.specs.Controls.{one_byte}
 use Rattle.cept_parser.specs.Csi.{csi, csi_1, csi_2, area, area_to, area_from}
 use Rattle.cept_parser.specs.Escape.{escape, escape_2, escape_3, designation, designation_of_c1, full_screen}
 use Rattle.cept_parser.specs.Escape.{full_row, designation_of_drcs}
-use Rattle.cept_parser.specs.Grammar.{unit, grows, csi_unit, escape_unit}
+use Rattle.cept_parser.specs.Grammar.{unit, grows, csi_unit, escape_unit, repetition}
 use Rattle.cept_parser.specs.Runs.{bit, colour, table_entry, dclut_value, has_six_bits}
 use Rattle.cept_parser.specs.Spelling.{spelling, context_after, may_grow, tens_byte, ones_byte, colour_byte}
 use Rattle.cept_parser.specs.Units.{us_unit, us_grows, us_position, drcs_unit, drcs_header, drcs_width, drcs_height}
@@ -86,6 +86,14 @@ single_spelled x g h = let l = h.0 in let m = h.1 in grind (arith, nat_tests)
 pub single_grown : (x : Context) (g : ℕ) → GrowsAsSaid x (command.Single g)
 unfolding grows us_grows spelling
 single_grown x g = grind (arith, nat_tests)
+
+pub repeat_spelled : (x : Context) (n : ℕ) → n ≤ 63 → Spells x (command.Repeat n)
+unfolding unit repetition spelling context_after
+repeat_spelled x n h =
+    let p : is_plain (0x40 + n) ≡ true = grind (arith, nat_tests) in
+    let q : leb 0x40 (0x40 + n) ≡ true = grind (arith, nat_tests) in
+    let r : 0x40 + n - 0x40 ≡ n = omega arith in
+    rw (p, q, r) refl
 
 pub lock_spelled : (x : Context) (g : ℕ) → g ≤ 1 → Spells x (command.LockLeft g)
 unfolding unit one_byte spelling context_after

@@ -146,6 +146,7 @@ spelling_bytes x (command.Graphic b) h = let l = h.2 in (omega arith, tt)
 spelling_bytes x (command.LockLeft g) h = one_are (eqb g 0) 0x0F 0x0E (omega arith) (omega arith)
 spelling_bytes x (command.Designate g s) h = (omega arith, (omega arith, set_are s))
 spelling_bytes x (command.Single g) h = one_are (eqb g 2) 0x19 0x1D (omega arith) (omega arith)
+spelling_bytes x (command.Repeat n) h = (omega arith, (omega arith, tt))
 spelling_bytes x (command.AreaCreate a b) h = area_are a b h
 spelling_bytes x (command.Implicit true) h = tested (0x9B ∷ 0x32 ∷ 0x60 ∷ []) refl
 spelling_bytes x (command.Implicit false) h = tested (0x9B ∷ 0x33 ∷ 0x60 ∷ []) refl

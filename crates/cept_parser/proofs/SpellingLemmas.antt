@@ -15,7 +15,7 @@ use Rattle.cept_parser.proofs.SpelledLemmas.{implicit_spelled, stop_spelled, for
 use Rattle.cept_parser.proofs.SpelledLemmas.{defaults_spelled, defaults_grown, c1_set_spelled, header_spelled}
 use Rattle.cept_parser.proofs.SpelledLemmas.{header_grown, start_spelled, start_grown, entry_spelled, entry_grown}
 use Rattle.cept_parser.proofs.SpelledLemmas.{dclut_spelled, dclut_grown, patterns_spelled, patterns_grown}
-use Rattle.cept_parser.proofs.SpelledLemmas.{code_spelled, code_grown}
+use Rattle.cept_parser.proofs.SpelledLemmas.{repeat_spelled, code_spelled, code_grown}
 
 pub spelled : (x : Context) (c : Command) → IsSpelled x c → Spells x c
 unfolding IsSpelled
@@ -41,6 +41,7 @@ spelled x (command.Graphic b) h = graphic_spelled x b h.0 h.1 h.2
 spelled x (command.LockLeft g) h = lock_spelled x g h
 spelled x (command.Designate g set) h = designate_spelled x g set h
 spelled x (command.Single g) h = single_spelled x g h
+spelled x (command.Repeat n) h = repeat_spelled x n h
 spelled x (command.AreaCreate a b) h = area_spelled x a b h
 spelled x (command.Implicit on) h = implicit_spelled x on
 spelled x _ h = absurd h
@@ -69,6 +70,7 @@ grown x (command.Graphic b) h = graphic_grown x b h.0 h.1 h.2
 grown x (command.LockLeft g) h = lock_grown x g
 grown x (command.Designate g set) h = refl
 grown x (command.Single g) h = single_grown x g
+grown x (command.Repeat n) h = refl
 grown x (command.AreaCreate a b) h = refl
 grown x (command.Implicit on) h = refl
 grown x _ h = absurd h

@@ -51,6 +51,11 @@ pub area_2_to_15 : spelling (command.AreaCreate 2 15) ≡ 0x9B ∷ 0x30 ∷ 0x32
 unfolding spelling
 area_2_to_15 = refl
 
+-- the last sign 39 times more
+pub repeated : spelling (command.Repeat 39) ≡ 0x12 ∷ 0x67 ∷ []
+unfolding spelling
+repeated = refl
+
 -- the head of a page, and one sign of the downloaded set
 pub downloaded_sign : spellings (command.FullDefaults c1_set.Parallel ∷ command.Designate 0 set.D ∷ command.Graphic 0x21
     ∷ command.Designate 0 set.P ∷ [])

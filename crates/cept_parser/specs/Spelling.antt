@@ -117,6 +117,7 @@ spelling (command.Graphic b) = b ∷ []
 spelling (command.LockLeft g) = (if g == 0 then 0x0F else 0x0E) ∷ []
 spelling (command.Designate g set) = 0x1B ∷ (0x28 + g) ∷ set_bytes set
 spelling (command.Single g) = (if g == 2 then 0x19 else 0x1D) ∷ []
+spelling (command.Repeat n) = 0x12 ∷ (0x40 + n) ∷ []
 spelling (command.AreaCreate a b) =
     0x9B ∷ tens_byte a ∷ ones_byte a ∷ 0x3B ∷ tens_byte b ∷ ones_byte b ∷ 0x55 ∷ []
 spelling (command.Implicit on) = 0x9B ∷ (if on then 0x32 else 0x33) ∷ 0x60 ∷ []
@@ -160,6 +161,7 @@ IsSpelled x (command.Graphic b) = (x.mode ≡ Text) × (0x20 ≤ b) × (b ≤ 0x
 IsSpelled x (command.LockLeft g) = g ≤ 1
 IsSpelled x (command.Designate g set) = g ≤ 3
 IsSpelled x (command.Single g) = IsValidCommand (command.Single g)
+IsSpelled x (command.Repeat n) = IsValidCommand (command.Repeat n)
 IsSpelled x (command.AreaCreate a b) = IsValidCommand (command.AreaCreate a b)
 IsSpelled x (command.Implicit on) = Unit {0}
 IsSpelled x _ = ⊥
@@ -209,6 +211,7 @@ IsTextual (command.Graphic b) = (0x20 ≤ b) × (b ≤ 0x7F)
 IsTextual (command.LockLeft g) = g ≤ 1
 IsTextual (command.Designate g set) = g ≤ 3
 IsTextual (command.Single g) = IsValidCommand (command.Single g)
+IsTextual (command.Repeat n) = IsValidCommand (command.Repeat n)
 IsTextual (command.AreaCreate a b) = IsValidCommand (command.AreaCreate a b)
 IsTextual (command.Implicit on) = Unit {0}
 IsTextual _ = ⊥

@@ -1,6 +1,8 @@
 mod AttributesSet
 mod CellsRestored
+mod ChainLemmas
 mod ColoursPut
+mod CompactShorter
 mod CellsWritten
 mod Drawing
 mod MarkersLeft
@@ -19,4 +21,6 @@ mod StrokesByPart
 mod TextsPut
 mod Worked
 mod WorkedBytes
+mod WorkedCompact
+mod WorkedCompactPages
 mod WrittenInTurn

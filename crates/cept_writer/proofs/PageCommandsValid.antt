@@ -39,7 +39,7 @@ use Rattle.cept_writer.specs.AttributeCommands.{flash_commands, pen_commands, si
 use Rattle.cept_writer.specs.CellCommands.{accent_commands, cell_commands, content_commands, glyph_commands, marker_commands}
 use Rattle.cept_writer.specs.CellCommands.{protected_commands, sign_commands}
 use Rattle.cept_writer.specs.PageCommands.{area_commands, at_row, cell_numbered, cells_below, dclut_commands, entries_below}
-use Rattle.cept_writer.specs.PageCommands.{entry_commands, implicit_commands, is_default_dclut, page_commands, pattern_commands}
+use Rattle.cept_writer.specs.PageCommands.{entry_commands, implicit_commands, is_default_dclut, plain_commands, pattern_commands}
 use Rattle.cept_writer.specs.PageCommands.{patterns_below, rows_below, with_colour_header}
 use Rattle.cept_writer.proofs.StrokesByPart.{all_append, all_range}
 
@@ -294,9 +294,9 @@ pub implicit_valid : (on : Bool) → AllValid (implicit_commands on)
 implicit_valid true = (tt, tt)
 implicit_valid false = tt
 
-pub page_commands_valid : (k : Core) → IsValidCore k → AllValid (page_commands k)
-unfolding page_commands
-page_commands_valid k is = (
+pub plain_commands_valid : (k : Core) → IsValidCore k → AllValid (plain_commands k)
+unfolding plain_commands
+plain_commands_valid k is = (
   tt,
   (
     is.rows,

@@ -26,7 +26,7 @@ use Rattle.cept_profile.specs.State.{Core}
 use Rattle.cept_profile.specs.Valid.{IsValidCore}
 use Rattle.cept_writer.specs.AttributeCommands.{attributes_of, class_attributes, pen_commands}
 use Rattle.cept_writer.specs.PageCommands.{area_commands, at_row, dclut_commands, entries_below, entry_commands}
-use Rattle.cept_writer.specs.PageCommands.{implicit_commands, is_default_dclut, page_commands, pattern_commands}
+use Rattle.cept_writer.specs.PageCommands.{implicit_commands, is_default_dclut, plain_commands, pattern_commands}
 use Rattle.cept_writer.specs.PageCommands.{patterns_below, row_commands, rows_below, screen_commands, with_colour_header}
 use Rattle.cept_writer.proofs.AttributesSet.{HasCode, Strikes, row_strikes, screen_strikes}
 use Rattle.cept_writer.proofs.CellsWritten.{AreValidCells, cells_rest, hand_at, position-hand_at, puts_below}
@@ -205,7 +205,7 @@ settles k v (Some area) true = record { control = refl; strokes = refl }
 
 pub record PageDraws (k : Core) : Type 0 where
   pub hand : Hand
-  pub draws : Draws initial_control (page_commands k) (page_strokes k) (control_with_settings k hand)
+  pub draws : Draws initial_control (plain_commands k) (page_strokes k) (control_with_settings k hand)
 
 -- the hand after the reset and the format
 abbrev first_hand : Hand
@@ -228,7 +228,7 @@ ends s t u cs ds p a b =
     subst (λ (q : List Stroke). Draws s (cs ++ ds) q u) (append-nil p) (draws_joined s t u cs ds p [] a b)
 
 pub page_draws : (k : Core) → IsValidCore k → PageDraws k
-unfolding page_commands page_strokes
+unfolding plain_commands page_strokes
 page_draws k is =
     let cells : AreValidCells k.rows k.page.cells = record { valid = is.page.cells; past = is.past } in
     let a = headed k.rows k.wrap (entries_below k.page.paints 32) (entries_strokes k.page.paints 32)

@@ -12,7 +12,7 @@ use Rattle.cept_parser.specs.Spelling.{spellings}
 use Rattle.cept_profile.specs.State.{Core}
 use Rattle.cept_writer.specs.CellCommands.{cell_commands}
 use Rattle.cept_writer.specs.PageCommands.{area_commands, cell_numbered, cells_below, dclut_commands, entries_below}
-use Rattle.cept_writer.specs.PageCommands.{implicit_commands, page_commands, page_text, patterns_below, rows_below}
+use Rattle.cept_writer.specs.PageCommands.{implicit_commands, plain_commands, page_text, patterns_below, rows_below}
 use Rattle.cept_writer.specs.PageCommands.{screen_commands, with_colour_header}
 use Rattle.cept_writer.proofs.TextsPut.{PutsText-next_failed, spellings_append}
 
@@ -92,7 +92,7 @@ nine a b c d e f g h i =
     (spellings_append g (h ++ i) ∙ ap (λ l. spellings g ++ l) (spellings_append h i)))))))
 
 page_parts : (k : Core) → page_text k ≡ spellings (beginning k) ++ from_colours k
-unfolding page_commands
+unfolding plain_commands
 page_parts k =
     nine (beginning k) (with_colour_header (entries_below k.page.paints 32)) (dclut_commands k.page.dclut)
     (patterns_below k.page.patterns 94) (screen_commands k.page.screen_pen) (rows_below k.page.row_pens 24)

@@ -57,7 +57,7 @@ use Rattle.cept_writer.specs.CellCommands.{content_commands, protected_commands,
 use Rattle.cept_writer.specs.PageCommands.{entry_commands, entries_below, with_colour_header, is_default_dclut}
 use Rattle.cept_writer.specs.PageCommands.{dclut_commands, pattern_commands, patterns_below, screen_commands}
 use Rattle.cept_writer.specs.PageCommands.{at_row, row_commands, rows_below, cell_numbered, cells_below, area_commands}
-use Rattle.cept_writer.specs.PageCommands.{implicit_commands, page_commands}
+use Rattle.cept_writer.specs.PageCommands.{implicit_commands, plain_commands}
 
 -- ---- commands that are spelled in any context
 
@@ -472,8 +472,8 @@ head_anywhere : (rows : ℕ) (wrap : Bool) → (rows ≡ 24) ⊎ (rows ≡ 20)
 unfolding IsSpelled context_after
 head_anywhere rows wrap h x = (tt, refl, (h, refl, tt))
 
-pub page_anywhere : (k : Core) → IsValidCore k → Anywhere (page_commands k)
-unfolding page_commands
+pub page_anywhere : (k : Core) → IsValidCore k → Anywhere (plain_commands k)
+unfolding plain_commands
 page_anywhere k v =
     let head = command.FullDefaults c1_set.Parallel ∷ command.Format k.rows k.wrap ∷ [] in
     let colours = with_colour_header (entries_below k.page.paints 32) in
@@ -493,19 +493,19 @@ page_anywhere k v =
     (anywhere-append (cells_below k.page.cells 960) (area ++ implicit) (cells_anywhere k v)
     (anywhere-append area implicit (area_anywhere k.area v.area) (implicit_anywhere k.implicit))))))))
 
-pub page_spelled : (k : Core) → IsValidCore k → AreSpelled start_context (page_commands k)
+pub page_spelled : (k : Core) → IsValidCore k → AreSpelled start_context (plain_commands k)
 page_spelled k v = page_anywhere k v start_context
 
 -- ---- its bytes
 
 page_reads : (k : Core) → IsValidCore k
-    → Reads start_context (spellings (page_commands k)) (page_commands k)
-    (context_after_all start_context (page_commands k))
-page_reads k v = reads_list start_context (page_commands k) (page_spelled k v)
+    → Reads start_context (spellings (plain_commands k)) (plain_commands k)
+    (context_after_all start_context (plain_commands k))
+page_reads k v = reads_list start_context (plain_commands k) (page_spelled k v)
 
-pub page_commands_read : (k : Core) → IsValidCore k → commands (spellings (page_commands k)) ≡ page_commands k
-page_commands_read k v = commands_are (spellings (page_commands k)) (page_commands k) _ (page_reads k v)
+pub plain_commands_read : (k : Core) → IsValidCore k → commands (spellings (plain_commands k)) ≡ plain_commands k
+plain_commands_read k v = commands_are (spellings (plain_commands k)) (plain_commands k) _ (page_reads k v)
 
 pub page_unrefused : (k : Core) → IsValidCore k
-    → AllByRecursion (λ i. is_refusal i.what ≡ false) (closed_items (spellings (page_commands k)))
-page_unrefused k v = no_refusals (spellings (page_commands k)) (page_commands k) _ (page_reads k v)
+    → AllByRecursion (λ i. is_refusal i.what ≡ false) (closed_items (spellings (plain_commands k)))
+page_unrefused k v = no_refusals (spellings (plain_commands k)) (plain_commands k) _ (page_reads k v)

@@ -19,7 +19,7 @@ use Rattle.cept_profile.specs.PageParts.{screen_pen_back}
 use Rattle.cept_profile.specs.Colours.{default_paint}
 use Rattle.cept_profile.specs.State.{Core, core_of, page, page_back, state}
 use Rattle.cept_profile.specs.Valid.{IsValidCore}
-use Rattle.cept_writer.specs.PageCommands.{page_commands}
+use Rattle.cept_writer.specs.PageCommands.{plain_commands}
 use Rattle.cept_writer.proofs.CellsRestored.{cell_left, cell_more, cell_step, cells_made, puts_cell}
 use Rattle.cept_writer.proofs.CellsWritten.{puts_below}
 use Rattle.cept_writer.proofs.Drawing.{control_of_drawn, strokes_of_drawn}
@@ -144,19 +144,19 @@ drawn_page decides k is i =
     }
 
 restored_page : ((a b : Paint) → IsTrue (same_paint a b) ↔ (a ≡ b)) → (k : Core) → IsValidCore k
-    → page (page_commands k) ≡ k.page
+    → page (plain_commands k) ≡ k.page
 restored_page decides k is =
     let there = page_draws k is in
-    ap page_back (strokes_of_drawn (page_commands k) (page_strokes k) (control_with_settings k there.hand) there.draws
+    ap page_back (strokes_of_drawn (plain_commands k) (page_strokes k) (control_with_settings k there.hand) there.draws
     ∙ ap reverse (strokes_are k))
     ∙ drawn_page decides k is
 
 pub core_restored : ((a b : Paint) → IsTrue (same_paint a b) ↔ (a ≡ b)) → (k : Core) → IsValidCore k
-    → core_of (state (page_commands k)) ≡ k
+    → core_of (state (plain_commands k)) ≡ k
 core_restored decides k is i =
     let there = page_draws k is in
-    let left : control (page_commands k) ≡ control_with_settings k there.hand =
-    control_of_drawn (page_commands k) (page_strokes k) (control_with_settings k there.hand) there.draws in
+    let left : control (plain_commands k) ≡ control_with_settings k there.hand =
+    control_of_drawn (plain_commands k) (page_strokes k) (control_with_settings k there.hand) there.draws in
     record {
       page = restored_page decides k is i;
       rows = (left i).rows;

@@ -18,7 +18,7 @@ use Rattle.cept_profile.specs.Sets.{read_as, set_of}
 use Rattle.cept_profile.specs.State.{blank_page, core}
 use Rattle.cept_writer.specs.AttributeCommands.{attributes_of}
 use Rattle.cept_writer.specs.CellCommands.{cell_commands}
-use Rattle.cept_writer.specs.PageCommands.{cells_below, dclut_commands, entries_below, entry_commands, page_commands}
+use Rattle.cept_writer.specs.PageCommands.{cells_below, dclut_commands, entries_below, entry_commands, plain_commands}
 use Rattle.cept_writer.specs.PageCommands.{pattern_commands, patterns_below, row_commands, rows_below}
 
 abbrev at_third : Place
@@ -84,8 +84,8 @@ pub exchanged_names : dclut_commands (0 ∷ 1 ∷ 3 ∷ 2 ∷ [])
 exchanged_names = refl
 
 -- the page of the start is a reset and its format, and with an area and implicit scrolling these come last
-pub page_of_the_start : page_commands (core []) ≡ commands.FullDefaults c1sets.Parallel ∷ commands.Format 24 true ∷ []
-unfolding page_commands entries_below patterns_below rows_below cells_below attributes_of cell_back default_paints table row_of list_by_index
+pub page_of_the_start : plain_commands (core []) ≡ commands.FullDefaults c1sets.Parallel ∷ commands.Format 24 true ∷ []
+unfolding plain_commands entries_below patterns_below rows_below cells_below attributes_of cell_back default_paints table row_of list_by_index
 page_of_the_start = refl
 
 -- a pattern of one plane
@@ -101,7 +101,7 @@ pub undefined_pattern : pattern_commands 0x41 None ≡ []
 undefined_pattern = refl
 
 -- a page of twenty rows without wrap, with a screen attribute, an area and implicit scrolling
-pub settings_of_a_page : page_commands (record {
+pub settings_of_a_page : plain_commands (record {
   page = record blank_page { screen_pen = record unset_pen { back = Some 4 } };
   rows = 20;
   wrap = false;
@@ -110,7 +110,7 @@ pub settings_of_a_page : page_commands (record {
 })
     ≡ commands.FullDefaults c1sets.Parallel ∷ commands.Format 20 false ∷ commands.Table 0 ∷ commands.FullScreen 20
     ∷ commands.AreaCreate 2 5 ∷ commands.Implicit true ∷ []
-unfolding page_commands entries_below patterns_below rows_below cells_below attributes_of default_paints table row_of list_by_index
+unfolding plain_commands entries_below patterns_below rows_below cells_below attributes_of default_paints table row_of list_by_index
 settings_of_a_page = refl
 
 -- the space under a flash that only signs have, and a marker of it
@@ -131,7 +131,7 @@ pub sign_of_n : cell_commands at_third false (whats.Serial (record { set = sets.
 sign_of_n = refl
 
 -- a red sign in the second row, a protected marker over a row with a background, a pattern, and another red
-pub page_of_some_parts : page_commands (core (commands.Position 2 3 ∷ commands.C1 1 ∷ commands.Graphic 0x41
+pub page_of_some_parts : plain_commands (core (commands.Position 2 3 ∷ commands.C1 1 ∷ commands.Graphic 0x41
     ∷ commands.FullRow 20 ∷ commands.Protect true ∷ commands.DesignateC1 c1sets.Serial ∷ commands.C1 30
     ∷ commands.DrcsPattern 0x22 dots ∷ commands.Entry 1 (record { r = 9; g = 0; b = 0 }) ∷ commands.Dclut 2 9 ∷ []))
     ≡ commands.FullDefaults c1sets.Parallel ∷ commands.Format 24 true
@@ -145,5 +145,5 @@ pub page_of_some_parts : page_commands (core (commands.Position 2 3 ∷ commands
     ∷ commands.Graphic 0x41
     ∷ commands.Position 2 4 ∷ commands.Protect true ∷ commands.DesignateC1 c1sets.Serial ∷ commands.C1 30
     ∷ commands.Protect false ∷ []
-unfolding page_commands entries_below patterns_below rows_below cells_below attributes_of cell_back default_paints table row_of list_by_index set_of read_as
+unfolding plain_commands entries_below patterns_below rows_below cells_below attributes_of cell_back default_paints table row_of list_by_index set_of read_as
 page_of_some_parts = refl

@@ -15,7 +15,7 @@ use Rattle.cept_profile.specs.Colours.{default_paints}
 use Rattle.cept_profile.specs.State.{Core, blank_page}
 use Rattle.cept_writer.specs.AttributeCommands.{attributes_of}
 use Rattle.cept_writer.specs.CellCommands.{cell_commands}
-use Rattle.cept_writer.specs.PageCommands.{cells_below, dclut_commands, entries_below, entry_commands, page_commands}
+use Rattle.cept_writer.specs.PageCommands.{cells_below, dclut_commands, entries_below, entry_commands, plain_commands}
 use Rattle.cept_writer.specs.PageCommands.{pattern_commands, patterns_below, row_commands, rows_below, screen_commands}
 use Rattle.cept_writer.specs.PageCommands.{with_colour_header}
 
@@ -101,8 +101,8 @@ row = refl
 abbrev scrolled : Core
 scrolled = record { page = blank_page; rows = 20; wrap = false; area = Some (3, 18); implicit = true }
 
-pub scrolled_page : spellings (page_commands scrolled)
+pub scrolled_page : spellings (plain_commands scrolled)
     ≡ 0x1F ∷ 0x2F ∷ 0x42 ∷ 0x1F ∷ 0x2D ∷ 0x42 ∷ 0x71 ∷ 0x9B ∷ 0x30 ∷ 0x33 ∷ 0x3B ∷ 0x31 ∷ 0x38 ∷ 0x55 ∷ 0x9B ∷ 0x32
     ∷ 0x60 ∷ []
-unfolding spelling page_commands entries_below patterns_below rows_below cells_below attributes_of table row_of list_by_index default_paints
+unfolding spelling plain_commands entries_below patterns_below rows_below cells_below attributes_of table row_of list_by_index default_paints
 scrolled_page = refl

@@ -111,13 +111,17 @@ implicit_commands false = []
 -- ---- the page
 
 -- the area and implicit scrolling come last, so that no cell that is written moves a row
-unfoldable pub page_commands : Core → List Command
-page_commands k =
+unfoldable pub plain_commands : Core → List Command
+plain_commands k =
     (commands.FullDefaults c1sets.Parallel ∷ commands.Format k.rows k.wrap ∷ [])
     ++ (with_colour_header (entries_below k.page.paints 32) ++ (dclut_commands k.page.dclut
     ++ (patterns_below k.page.patterns 94 ++ (screen_commands k.page.screen_pen ++ (rows_below k.page.row_pens 24
     ++ (cells_below k.page.cells 960 ++ (area_commands k.area ++ implicit_commands k.implicit)))))))
 
+-- the bytes of the plain text of a page
+abbrev pub plain_text : Core → List ℕ
+plain_text k = spellings (plain_commands k)
+
 -- the bytes of a written page
 abbrev pub page_text : Core → List ℕ
-page_text k = spellings (page_commands k)
+page_text k = plain_text k

@@ -1,9 +1,13 @@
 //! The laws of written pages, each the contract of a function that computes nothing.
+mod chains;
+mod compact;
 mod pages;
 mod pens;
 mod spelled;
 mod turns;
 
+pub use chains::chains_cut_where_none_goes_on;
+pub use compact::compact_texts_are_no_longer_than_plain_ones;
 pub use pages::pages_are_restored;
 pub use pens::attributes_make_the_pen;
 pub use spelled::{bytes_of_pages_bring_them_back, pages_are_spelled};

@@ -156,6 +156,7 @@ pub fn add_spelling(text: &mut Text, command: &Command)
         Command::Designate(g, set) => add_designation(text, *g, *set),
         Command::Single(2) => add_bytes(text, &[0x19]),
         Command::Single(_) => add_bytes(text, &[0x1D]),
+        Command::Repeat(n) => add_bytes(text, &[0x12, 0x40 + *n]),
         Command::AreaCreate(first, last) => add_area(text, *first, *last),
         Command::Implicit(true) => add_bytes(text, &[0x9B, 0x32, 0x60]),
         Command::Implicit(false) => add_bytes(text, &[0x9B, 0x33, 0x60]),
@@ -174,7 +175,6 @@ pub fn add_spelling(text: &mut Text, command: &Command)
         | Command::CursorOff
         | Command::Cancel
         | Command::LockRight(_)
-        | Command::Repeat(_)
         | Command::ScrollUp
         | Command::ScrollDown
         | Command::Marked(_)

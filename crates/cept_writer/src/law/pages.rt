@@ -3,7 +3,7 @@ ghost use Rattle.std.specs.Prelude.{◌≡◌, List};
 ghost use Rattle.cept_codes.specs.declared.command.Command.{Command};
 ghost use Rattle.cept_profile.specs.State.{Core, core, core_of, state};
 ghost use Rattle.cept_profile.specs.Valid.{AllValid, IsValidCore};
-ghost use Rattle.cept_writer.specs.PageCommands.{page_commands};
+ghost use Rattle.cept_writer.specs.PageCommands.{plain_commands};
 
 use cept_codes::looks_compare_by_their_fields;
 use cept_profile::validity_is_kept;
@@ -14,10 +14,10 @@ use cept_profile::validity_is_kept;
 /// screen, the format, wrapping, the area and implicit scrolling. So the core after any valid
 /// commands comes back.
 pub fn pages_are_restored()
-    ensures core { (k : Core) → IsValidCore k → core_of (state (page_commands k)) ≡ k }
+    ensures core { (k : Core) → IsValidCore k → core_of (state (plain_commands k)) ≡ k }
     ensures always { (history : List Command) → AllValid history
-        → core (page_commands (core history)) ≡ core history }
-    ensures valid { (k : Core) → IsValidCore k → AllValid (page_commands k) }
+        → core (plain_commands (core history)) ≡ core history }
+    ensures valid { (k : Core) → IsValidCore k → AllValid (plain_commands k) }
 {
     looks_compare_by_their_fields();
     validity_is_kept();

@@ -3,11 +3,11 @@ ghost use Rattle.std.specs.Prelude.{◌≡◌, false, List};
 ghost use Rattle.std.specs.List.{AllByRecursion};
 ghost use Rattle.cept_parser.specs.Context.{start_context};
 ghost use Rattle.cept_parser.specs.Items.{closed_items, commands, is_refusal};
-ghost use Rattle.cept_parser.specs.Spelling.{AreSpelled, spellings};
+ghost use Rattle.cept_parser.specs.Spelling.{AreSpelled};
 ghost use Rattle.cept_codes.specs.declared.command.Command.{Command};
 ghost use Rattle.cept_profile.specs.State.{Core, core, core_of, state};
 ghost use Rattle.cept_profile.specs.Valid.{AllValid, IsValidCore};
-ghost use Rattle.cept_writer.specs.PageCommands.{page_commands, page_text};
+ghost use Rattle.cept_writer.specs.PageCommands.{plain_commands, plain_text, page_text};
 
 use crate::law::pages::pages_are_restored;
 use cept_profile::validity_is_kept;
@@ -15,12 +15,11 @@ use cept_profile::validity_is_kept;
 /// The commands of a valid core are spelled from the start on, so that their bytes read as these
 /// commands, none refused.
 pub fn pages_are_spelled()
-    ensures spelled { (k : Core) → IsValidCore k → AreSpelled start_context (page_commands k) }
+    ensures spelled { (k : Core) → IsValidCore k → AreSpelled start_context (plain_commands k) }
     ensures commands { (k : Core) → IsValidCore k
-        → commands (spellings (page_commands k)) ≡ page_commands k }
+        → commands (plain_text k) ≡ plain_commands k }
     ensures none { (k : Core) → IsValidCore k
-        → AllByRecursion (λ i. is_refusal i.what ≡ false)
-        (closed_items (spellings (page_commands k))) }
+        → AllByRecursion (λ i. is_refusal i.what ≡ false) (closed_items (plain_text k)) }
 {}
 
 /// The bytes of the page of a valid core bring the core back on a decoder that starts anew. So the

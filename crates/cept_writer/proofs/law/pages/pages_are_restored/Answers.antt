@@ -1,5 +1,5 @@
 use Rattle.cept_profile.specs.State.{state}
-use Rattle.cept_writer.proofs.PageCommandsValid.{page_commands_valid}
+use Rattle.cept_writer.proofs.PageCommandsValid.{plain_commands_valid}
 use Rattle.cept_writer.proofs.PagesRestored.{core_restored}
 use Rattle.cept_writer.proofs.law.pages.pages_are_restored.Goals as goal
 
@@ -10,5 +10,5 @@ returns c =
       core = restored;
       always = λ history all. restored _
           (c.validity_is_kept.ensures.core (state history) (c.validity_is_kept.ensures.always history all));
-      valid = page_commands_valid;
+      valid = plain_commands_valid;
     }
