@@ -1,6 +1,7 @@
 -- The chains of a list are its longest pieces in which each entry goes on from the one before it.
 use Rattle.std.proofs.Common.{◌≡◌, ℕ, zero, suc, ◌+◌, Bool, true, false, cond, List, [], ◌∷◌, ◌++◌, refl, sym, ap, ◌∙◌}
-use Rattle.std.proofs.Common.{subst}
+use Rattle.std.proofs.Common.{subst, length, ◌≤◌, arith}
+use Rattle.std.proofs.lemmas.List.{length-append}
 use Rattle.std.proofs.lemmas.Grind.{flat_map-append}
 use Rattle.std.specs.List.{AllByRecursion, flat_map, range_with_len}
 use Rattle.cept_writer.specs.Chains.{AreLongest, Chain, GoOnFrom, alone, chains, chains_after}
@@ -84,3 +85,24 @@ module _ {X : Type 0} (goes_on : X → X → Bool) where
             → AllByRecursion (λ c. AllByRecursion P (members c)) cs → AllByRecursion Q cs
         each_of [] a b = tt
         each_of (c ∷ cs) a b = (holds c a.0 b.0, each_of cs a.1 b.1)
+
+  within_all : (cs : List (Chain X)) (n : ℕ) → length (flat_map members cs) ≤ n
+      → AllByRecursion (λ c. length (members c) ≤ n) cs
+  within_all [] n few = tt
+  within_all (c ∷ cs) n few =
+      let both = length-append (members c) (flat_map members cs) in
+      (omega (arith, few, both), within_all cs n (omega (arith, few, both)))
+
+  -- the same, where a chain is known to be no longer than the list
+  pub each_short_chain : (P : X → Type 0) (Q : Chain X → Type 0) (n : ℕ)
+      → ((c : Chain X) → GoOnFrom goes_on c.first c.more → AllByRecursion P (members c) → length (members c) ≤ n → Q c)
+      → (list : List X) → AllByRecursion P list → length list ≤ n → AllByRecursion Q (chains goes_on list)
+  each_short_chain P Q n holds list all few =
+      let same = ap length (chains_joined list) in
+      each_of (chains goes_on list) (chains_linked list) (all_in_chains P list all)
+      (within_all (chains goes_on list) n (omega (arith, few, same))) where
+        each_of : (cs : List (Chain X)) → AllByRecursion (λ c. GoOnFrom goes_on c.first c.more) cs
+            → AllByRecursion (λ c. AllByRecursion P (members c)) cs → AllByRecursion (λ c. length (members c) ≤ n) cs
+            → AllByRecursion Q cs
+        each_of [] a b d = tt
+        each_of (c ∷ cs) a b d = (holds c a.0 b.0 d.0, each_of cs a.1 b.1 d.1)

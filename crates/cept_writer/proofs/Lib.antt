@@ -2,7 +2,9 @@ mod AttributesSet
 mod CellsRestored
 mod ChainLemmas
 mod ColoursPut
+mod CompactDrawn
 mod CompactShorter
+mod CompactSpelled
 mod CellsWritten
 mod Drawing
 mod MarkersLeft
@@ -16,6 +18,8 @@ mod PatternsSpelled
 mod PenAttributes
 mod PensAdded
 mod Resting
+mod SegmentSigns
+mod SegmentsDrawn
 mod SignsWritten
 mod StrokesByPart
 mod TextsPut

@@ -1,6 +1,7 @@
 -- The commands of a marker leave it once.
-use Rattle.std.proofs.Common.{◌≡◌, ℕ, ◌+◌, ◌-◌, ◌*◌, ◌/◌, ◌%◌, ◌≤◌, ◌<◌, Bool, true, false, eqb, ltb}
+use Rattle.std.proofs.Common.{◌≡◌, ℕ, ◌+◌, ◌-◌, ◌*◌, ◌/◌, ◌%◌, ◌≤◌, ◌<◌, Bool, true, false, eqb, leb, ltb}
 use Rattle.std.proofs.Common.{Option, None, Some, List, [], ◌∷◌, refl, ap, ◌∙◌, arith}
+use Rattle.std.proofs.lemmas.Bool.{le-leb}
 use Rattle.std.proofs.lemmas.Bool.Decides.{nat_tests}
 use Rattle.cept_codes.specs.declared.attribute.Flash.{Flash}
 use Rattle.cept_codes.specs.declared.attribute.Flash.TheVariants as flashes
@@ -31,6 +32,12 @@ pub record Leaves (rows : ℕ) (wrap : Bool) (protect : Bool) (v : Hand) (m : Ma
   pub draws : Draws (control_in_cell rows wrap initial_sets None protect (hand_under_serial v)) cs
       (strokes.Put (record { row = v.row; column = v.column })
       (record { what = whats.Marker m; protected = protect }) ∷ []) (control_in_cell rows wrap initial_sets None protect hand)
+  pub row : v.column + 1 ≤ 40 → hand.row ≡ v.row
+  pub column : v.column + 1 ≤ 40 → hand.column ≡ v.column + 1
+  pub c1 : hand.c1 ≡ c1sets.Serial
+  pub pen : hand.pen ≡ v.pen
+  pub run : hand.run ≡ run_after m v.run
+  pub step : hand.step ≡ step_after m v.step
 
 -- ---- colours by their table and their code
 
@@ -67,9 +74,19 @@ mosaic_entry e =
 -- ---- one marker
 
 module _ (rows : ℕ) (wrap : Bool) (protect : Bool) where
+  -- one column on within the row
+  on_in_row : (v : Hand) → v.column + 1 ≤ 40 → (hand_ahead rows wrap (hand_under_serial v) 1).row ≡ v.row
+  unfolding hand_ahead
+  on_in_row v within = let is : leb (v.column + 1) 40 ≡ true = le-leb (v.column + 1) 40 within in rw is refl
+
+  on_by_one : (v : Hand) → v.column + 1 ≤ 40 → (hand_ahead rows wrap (hand_under_serial v) 1).column ≡ v.column + 1
+  unfolding hand_ahead
+  on_by_one v within = let is : leb (v.column + 1) 40 ≡ true = le-leb (v.column + 1) 40 within in rw is refl
+
   -- a code that leaves it
   coded : (v : Hand) (n : ℕ) (m : Marker) → marker_of v.table n ≡ Some m
       → Leaves rows wrap protect v m (commands.C1 n ∷ [])
+  unfolding hand_ahead
   coded v n m is =
       let s : ControlState = control_in_cell rows wrap initial_sets None protect (hand_under_serial v) in
       record {
@@ -88,6 +105,12 @@ module _ (rows : ℕ) (wrap : Bool) (protect : Bool) where
             ∙ ap (λ (more : List Stroke). strokes.Put (record { row = v.row; column = v.column })
             (record { what = whats.Marker m; protected = protect }) ∷ more)
             (stays rows wrap initial_sets None protect (hand_under_serial v) 1));
+        row = on_in_row v;
+        column = on_by_one v;
+        c1 = refl;
+        pen = refl;
+        run = refl;
+        step = refl;
       }
 
   -- a colour by its table
@@ -99,6 +122,12 @@ module _ (rows : ℕ) (wrap : Bool) (protect : Bool) where
         hand = there.hand;
         draws = draws_silent _ (control_in_cell rows wrap initial_sets None protect (hand_under_serial (record v { table = t }))) _
             (commands.Table t) _ _ refl refl there.draws;
+        row = there.row;
+        column = there.column;
+        c1 = there.c1;
+        pen = there.pen;
+        run = there.run;
+        step = there.step;
       }
 
   -- a flash mode
@@ -118,6 +147,12 @@ module _ (rows : ℕ) (wrap : Bool) (protect : Bool) where
             ∙ ap (λ (more : List Stroke). strokes.Put (record { row = v.row; column = v.column })
             (record { what = whats.Marker (markers.Flash f); protected = protect }) ∷ more)
             (stays rows wrap initial_sets None protect (hand_under_serial v) 1));
+        row = on_in_row v;
+        column = on_by_one v;
+        c1 = refl;
+        pen = refl;
+        run = refl;
+        step = refl;
       }
 
   -- the end of concealing
@@ -133,6 +168,12 @@ module _ (rows : ℕ) (wrap : Bool) (protect : Bool) where
             (ap (λ (more : List Stroke). strokes.Put (record { row = v.row; column = v.column })
             (record { what = whats.Marker (markers.Conceal false); protected = protect }) ∷ more)
             (stays rows wrap initial_sets None protect (hand_under_serial v) 1));
+        row = on_in_row v;
+        column = on_by_one v;
+        c1 = refl;
+        pen = refl;
+        run = refl;
+        step = refl;
       }
 
   pub marker_leaves : (v : Hand) (m : Marker) → Leaves rows wrap protect v m (marker_commands m)

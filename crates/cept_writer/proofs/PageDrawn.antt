@@ -117,7 +117,7 @@ module _ (rows : ℕ) (wrap : Bool) where
       rests_range rows wrap (λ i. entry_commands i (paint_in defined i)) (λ i. entry_strokes i (paint_in defined i)) 0 32
       (λ j low high. entry_rests j (paint_in defined j)) 0 32 (omega arith) (omega arith)
 
-  headed : (cs : List Command) (made : List Stroke) → AlwaysRests rows wrap cs made
+  pub headed : (cs : List Command) (made : List Stroke) → AlwaysRests rows wrap cs made
       → AlwaysRests rows wrap (with_colour_header cs) made
   headed [] made rests v = rests v
   headed (c ∷ cs) made rests v =
@@ -127,7 +127,7 @@ module _ (rows : ℕ) (wrap : Bool) where
         draws = draws_silent _ (control_at_rest rows wrap v) _ (commands.ColourHeader false) (c ∷ cs) _ refl refl there.draws;
       }
 
-  dclut_rests : (dclut : List ℕ) → AlwaysRests rows wrap (dclut_commands dclut) (dclut_strokes dclut)
+  pub dclut_rests : (dclut : List ℕ) → AlwaysRests rows wrap (dclut_commands dclut) (dclut_strokes dclut)
   dclut_rests dclut v = by_test (is_default_dclut dclut) where
     by_test : (same : Bool) → Rests rows wrap v (cond same [] (commands.ColourHeader true ∷ commands.ColourStart 0
         ∷ commands.Dclut 0 (dclut_in dclut 0) ∷ commands.Dclut 1 (dclut_in dclut 1)
@@ -149,7 +149,7 @@ module _ (rows : ℕ) (wrap : Bool) where
       (λ code. pattern_strokes code (pattern_in patterns code)) 0x21 127
       (λ j low high. pattern_rests j (pattern_in patterns j)) 0x21 94 (omega arith) (omega arith)
 
-  screen_rests : (pen : Pen) → IsRowPen pen → AlwaysRests rows wrap (screen_commands pen) (screen_strokes pen)
+  pub screen_rests : (pen : Pen) → IsRowPen pen → AlwaysRests rows wrap (screen_commands pen) (screen_strokes pen)
   screen_rests pen is v =
       let there = screen_strikes rows wrap v (attributes_of pen) (attributes_coded pen is) in
       record { hand = record v { table = there.table }; draws = there.draws }
@@ -179,7 +179,7 @@ module _ (rows : ℕ) (wrap : Bool) where
   row_rests r pen (inr unset) is =
       subst (λ (p : Pen). AlwaysRests rows wrap (row_commands r p) (row_strokes_of r p)) (sym unset) (unset_rests r)
 
-  rows_rest : (pens : List Pen) → ((r : ℕ) → 1 ≤ r → r ≤ 24 → IsRowPen (row_pen_in pens r))
+  pub rows_rest : (pens : List Pen) → ((r : ℕ) → 1 ≤ r → r ≤ 24 → IsRowPen (row_pen_in pens r))
       → ((r : ℕ) → 1 ≤ r → r ≤ 24 → rows < r → row_pen_in pens r ≡ unset_pen)
       → AlwaysRests rows wrap (rows_below pens 24) (rows_strokes pens 24)
   unfolding rows_below rows_strokes
@@ -195,7 +195,7 @@ module _ (rows : ℕ) (wrap : Bool) where
 abbrev pub control_with_settings : Core → Hand → ControlState
 control_with_settings k v = record (control_at_rest k.rows k.wrap v) { area = k.area; implicit = k.implicit }
 
-settles : (k : Core) (v : Hand) (area : Option (ℕ × ℕ)) (implicit : Bool)
+pub settles : (k : Core) (v : Hand) (area : Option (ℕ × ℕ)) (implicit : Bool)
     → Draws (control_at_rest k.rows k.wrap v) (area_commands area ++ implicit_commands implicit) []
     (record (control_at_rest k.rows k.wrap v) { area = area; implicit = implicit })
 settles k v None false = record { control = refl; strokes = refl }
@@ -203,12 +203,13 @@ settles k v None true = record { control = refl; strokes = refl }
 settles k v (Some area) false = record { control = refl; strokes = refl }
 settles k v (Some area) true = record { control = refl; strokes = refl }
 
-pub record PageDraws (k : Core) : Type 0 where
+-- from the start the commands make the strokes of the page and leave its settings
+pub record PageDraws (k : Core) (cs : List Command) : Type 0 where
   pub hand : Hand
-  pub draws : Draws initial_control (plain_commands k) (page_strokes k) (control_with_settings k hand)
+  pub draws : Draws initial_control cs (page_strokes k) (control_with_settings k hand)
 
 -- the hand after the reset and the format
-abbrev first_hand : Hand
+abbrev pub first_hand : Hand
 first_hand = record {
   row = 1;
   column = 1;
@@ -222,12 +223,12 @@ first_hand = record {
 }
 
 -- commands that make no stroke come last
-ends : (s t u : ControlState) (cs ds : List Command) (p : List Stroke) → Draws s cs p t → Draws t ds [] u
+pub ends : (s t u : ControlState) (cs ds : List Command) (p : List Stroke) → Draws s cs p t → Draws t ds [] u
     → Draws s (cs ++ ds) p u
 ends s t u cs ds p a b =
     subst (λ (q : List Stroke). Draws s (cs ++ ds) q u) (append-nil p) (draws_joined s t u cs ds p [] a b)
 
-pub page_draws : (k : Core) → IsValidCore k → PageDraws k
+pub page_draws : (k : Core) → IsValidCore k → PageDraws k (plain_commands k)
 unfolding plain_commands page_strokes
 page_draws k is =
     let cells : AreValidCells k.rows k.page.cells = record { valid = is.page.cells; past = is.past } in

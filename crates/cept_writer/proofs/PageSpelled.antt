@@ -61,14 +61,14 @@ use Rattle.cept_writer.specs.PageCommands.{implicit_commands, plain_commands}
 
 -- ---- commands that are spelled in any context
 
-abbrev Anywhere : List Command → Type 0
+abbrev pub Anywhere : List Command → Type 0
 Anywhere cs = (x : Context) → AreSpelled x cs
 
 -- there are none, or they begin with a breaker
-abbrev AnewOrNone : List Command → Type 0
+abbrev pub AnewOrNone : List Command → Type 0
 AnewOrNone cs = (cs ≡ []) ⊎ (begins_anew (spellings cs) ≡ true)
 
-anywhere-append : (a b : List Command) → Anywhere a → Anywhere b → Anywhere (a ++ b)
+pub anywhere-append : (a b : List Command) → Anywhere a → Anywhere b → Anywhere (a ++ b)
 anywhere-append a b h k x = spelled-append x a b (h x) (k (context_after_all x a))
 
 anywhere_each : (f : ℕ → List Command) (from n : ℕ) → ((i : ℕ) → from ≤ i → i < from + n → Anywhere (f i))
@@ -78,7 +78,7 @@ anywhere_each f from (suc n) h x =
     anywhere-append (f from) (flat_map f (range_with_len (from + 1) n)) (h from (omega arith) (omega arith))
     (anywhere_each f (from + 1) n (λ i l m. h i (omega arith) (omega arith))) x
 
-anew-append : (a b : List Command) → AnewOrNone a → AnewOrNone b → AnewOrNone (a ++ b)
+pub anew-append : (a b : List Command) → AnewOrNone a → AnewOrNone b → AnewOrNone (a ++ b)
 anew-append a b (inl e) k = subst (λ (c : List Command). AnewOrNone (c ++ b)) (sym e) k
 anew-append a b (inr h) k =
     inr (ap begins_anew (spellings-append a b) ∙ anew_more (spellings a) (spellings b) h)
@@ -89,7 +89,7 @@ anew_each f from zero h = inl refl
 anew_each f from (suc n) h =
     anew-append (f from) (flat_map f (range_with_len (from + 1) n)) (h from) (anew_each f (from + 1) n h)
 
-textual_anywhere : (cs : List Command) → AreTextual cs → AnewOrNone cs → Anywhere cs
+pub textual_anywhere : (cs : List Command) → AreTextual cs → AnewOrNone cs → Anywhere cs
 textual_anywhere cs h (inl e) x = subst (AreSpelled x) (sym e) tt
 textual_anywhere cs h (inr e) x = textual_spelled x cs h (inr e)
 
@@ -104,7 +104,7 @@ abbrev Stands : (ℕ → Command) → Attr → Type 0
 Stands code attr = IsValidAttr attr × SizeStands code attr
 
 -- codes that may stand for the screen stand here
-abbrev IsCoded : (ℕ → Command) → Type 0
+abbrev pub IsCoded : (ℕ → Command) → Type 0
 IsCoded code = (n : ℕ) → IsScreenC1 n → IsTextual (code n)
 
 colour_textual : (code : ℕ → Command) (first e : ℕ) → IsCoded code → (first ≡ 0) ⊎ (first ≡ 16) → e < 32
@@ -168,7 +168,7 @@ class_all : {X : Type 0} (P : Attr → Type 0) (attr : X → Attr) (o : Option X
 class_all P attr None h = tt
 class_all P attr (Some v) h = (h, tt)
 
-if_any : {X : Type 0} (R : X → Type 0) (o : Option X) → ((v : X) → R v) → IfSome o R
+pub if_any : {X : Type 0} (R : X → Type 0) (o : Option X) → ((v : X) → R v) → IfSome o R
 if_any R None h = tt
 if_any R (Some v) h = h v
 
@@ -190,11 +190,11 @@ pen_stands code p v s =
     (all-append P _ _ (class_all P (λ z. attrs.Size z) p.size (if_valid _ _ p.size (λ z h. (tt, h)) s))
     (class_all P (λ b. attrs.Invert b) p.invert (if_any _ p.invert (λ b. (tt, tt))))))))))
 
-pen_textual : (code : ℕ → Command) (p : Pen) → IsCoded code → IsValidPen p
+pub pen_textual : (code : ℕ → Command) (p : Pen) → IsCoded code → IsValidPen p
     → IfSome p.size (λ s. IsTextual (code (size_code s))) → AreTextual (pen_commands code p)
 pen_textual code p h v s = attributes_textual code (attributes_of p) h (pen_stands code p v s)
 
-size_c1 : (s : Size) → IsC1 (size_code s)
+pub size_c1 : (s : Size) → IsC1 (size_code s)
 size_c1 sizes.Normal = (omega arith, λ q. omega arith)
 size_c1 sizes.High = (omega arith, λ q. omega arith)
 size_c1 sizes.Wide = (omega arith, λ q. omega arith)
@@ -202,16 +202,16 @@ size_c1 sizes.Both = (omega arith, λ q. omega arith)
 
 -- ---- cells
 
-signs_coded : IsCoded (λ n. command.C1 n)
+pub signs_coded : IsCoded (λ n. command.C1 n)
 signs_coded n h = h.0
 
-rows_coded : IsCoded (λ n. command.FullRow n)
+pub rows_coded : IsCoded (λ n. command.FullRow n)
 rows_coded n h = h.0
 
 screen_coded : IsCoded (λ n. command.FullScreen n)
 screen_coded n h = h
 
-accent_textual : (accent : ℕ) → (accent ≡ 0) ⊎ ((0x40 ≤ accent) × (accent ≤ 0x4F)) → AreTextual (accent_commands accent)
+pub accent_textual : (accent : ℕ) → (accent ≡ 0) ⊎ ((0x40 ≤ accent) × (accent ≤ 0x4F)) → AreTextual (accent_commands accent)
 accent_textual accent (inl e) = subst (λ (n : ℕ). AreTextual (accent_commands n)) (sym e) tt
 accent_textual accent (inr h) =
     let some : eqb accent 0 ≡ false = above_zero accent h.0 in
@@ -229,7 +229,7 @@ sign_textual set.M code accent h k = (omega arith, ((omega (arith, h.0), h.1), (
 sign_textual set.N code accent h k = ((omega arith, omega arith), ((omega (arith, h.0), h.1), tt))
 sign_textual set.D code accent h k = (omega arith, ((omega (arith, h.0), h.1), (omega arith, tt)))
 
-marker_textual : (m : Marker) → IsValidMarker m → AreTextual (marker_commands m)
+pub marker_textual : (m : Marker) → IsValidMarker m → AreTextual (marker_commands m)
 marker_textual (markers.Alpha e) h = colour_textual (λ n. command.C1 n) 0 e signs_coded (inl refl) h
 marker_textual (markers.Mosaic e) h = colour_textual (λ n. command.C1 n) 16 e signs_coded (inr refl) h
 marker_textual markers.BlackBack h = ((omega arith, λ q. omega arith), tt)
@@ -256,12 +256,12 @@ content_textual (whats.Parallel g pen) h = (
 )
 content_textual (whats.Marker m) h = (tt, marker_textual m h)
 
-protected_textual : (b : Bool) (cs : List Command) → AreTextual cs → AreTextual (protected_commands b cs)
+pub protected_textual : (b : Bool) (cs : List Command) → AreTextual cs → AreTextual (protected_commands b cs)
 protected_textual true cs h = (tt, textual-append cs (command.Protect false ∷ []) h (tt, tt))
 protected_textual false cs h = h
 
 -- commands at a place are spelled anywhere
-placed_anywhere : (r c : ℕ) (cs : List Command) → OnScreen r c → AreTextual cs → Anywhere (command.Position r c ∷ cs)
+pub placed_anywhere : (r c : ℕ) (cs : List Command) → OnScreen r c → AreTextual cs → Anywhere (command.Position r c ∷ cs)
 unfolding spelling
 placed_anywhere r c cs on h = textual_anywhere (command.Position r c ∷ cs) (on, h) (inr refl)
 
@@ -293,7 +293,7 @@ at_row_anywhere r (c ∷ cs) l m h x =
     placed_anywhere r 1 (c ∷ cs)
     (record { from_top = l; to_bottom = m; from_left = omega arith; to_right = omega arith }) h x
 
-rows_anywhere : (k : Core) → IsValidCore k → Anywhere (rows_below k.page.row_pens 24)
+pub rows_anywhere : (k : Core) → IsValidCore k → Anywhere (rows_below k.page.row_pens 24)
 unfolding rows_below
 rows_anywhere k v =
     anywhere_each (λ r. row_commands r (row_pen_in k.page.row_pens r)) 1 24 (λ r l m.
@@ -331,7 +331,7 @@ attributes_anew (a ∷ more) =
 no_size : (o : Option Size) → o ≡ None → IfSome o (λ s. IsTextual (command.FullScreen (size_code s)))
 no_size o e = subst (λ (q : Option Size). IfSome q (λ s. IsTextual (command.FullScreen (size_code s)))) (sym e) tt
 
-screen_anywhere : (p : Pen) → IsScreenPen p → Anywhere (screen_commands p)
+pub screen_anywhere : (p : Pen) → IsScreenPen p → Anywhere (screen_commands p)
 screen_anywhere p v =
     textual_anywhere (screen_commands p)
     (pen_textual (λ n. command.FullScreen n) p screen_coded v.row.valid (no_size p.size v.size))
@@ -340,19 +340,19 @@ screen_anywhere p v =
 -- ---- colours
 
 -- a context in which entries of the table come
-abbrev in_table : Mode → Form → Context
+abbrev pub in_table : Mode → Form → Context
 in_table m f = record { mode = m; kind = ColourTable; form = f }
 
 -- commands that are spelled there, and after which there still is one
-record InTable (cs : List Command) : Type 0 where
-  mode : Mode → Mode
-  spelled : (m : Mode) (f : Form) → AreSpelled (in_table m f) cs
-  leads : (m : Mode) (f : Form) → context_after_all (in_table m f) cs ≡ in_table (mode m) f
+pub record InTable (cs : List Command) : Type 0 where
+  pub mode : Mode → Mode
+  pub spelled : (m : Mode) (f : Form) → AreSpelled (in_table m f) cs
+  pub leads : (m : Mode) (f : Form) → context_after_all (in_table m f) cs ≡ in_table (mode m) f
 
-in_table-none : InTable []
+pub in_table-none : InTable []
 in_table-none = record { mode = λ m. m; spelled = λ m f. tt; leads = λ m f. refl }
 
-in_table-append : (a b : List Command) → InTable a → InTable b → InTable (a ++ b)
+pub in_table-append : (a b : List Command) → InTable a → InTable b → InTable (a ++ b)
 in_table-append a b p q =
     record {
       mode = λ m. q.mode (p.mode m);
@@ -394,7 +394,7 @@ entry_anew i (paints.Ink c) = each_choice (same_paint (paints.Ink c) (default_pa
     each_choice true p q = p
     each_choice false p q = q
 
-header_anywhere : (cs : List Command) → InTable cs → AnewOrNone cs → Anywhere (with_colour_header cs)
+pub header_anywhere : (cs : List Command) → InTable cs → AnewOrNone cs → Anywhere (with_colour_header cs)
 unfolding IsSpelled context_after
 header_anywhere [] p h x = tt
 header_anywhere (c ∷ cs) p (inl e) x = absurd cc
@@ -431,7 +431,7 @@ dclut_spelled x a b c d k l m n = (
   ),
 )
 
-dclut_anywhere : (d : List ℕ) → ((i : ℕ) → i < 4 → dclut_in d i < 32) → Anywhere (dclut_commands d)
+pub dclut_anywhere : (d : List ℕ) → ((i : ℕ) → i < 4 → dclut_in d i < 32) → Anywhere (dclut_commands d)
 dclut_anywhere d h x =
     elim (cases_Bool (is_default_dclut d)) [
       | inl e ↦ rw e tt
@@ -457,17 +457,17 @@ patterns_anywhere k v =
 
 -- ---- the page
 
-area_anywhere : (a : Option (ℕ × ℕ)) → IfSome a (λ b. IsArea b.0 b.1) → Anywhere (area_commands a)
+pub area_anywhere : (a : Option (ℕ × ℕ)) → IfSome a (λ b. IsArea b.0 b.1) → Anywhere (area_commands a)
 unfolding spelling
 area_anywhere None h x = tt
 area_anywhere (Some a) h x = textual_anywhere (area_commands (Some a)) (h, tt) (inr refl) x
 
-implicit_anywhere : (b : Bool) → Anywhere (implicit_commands b)
+pub implicit_anywhere : (b : Bool) → Anywhere (implicit_commands b)
 unfolding spelling
 implicit_anywhere true x = textual_anywhere (implicit_commands true) (tt, tt) (inr refl) x
 implicit_anywhere false x = tt
 
-head_anywhere : (rows : ℕ) (wrap : Bool) → (rows ≡ 24) ⊎ (rows ≡ 20)
+pub head_anywhere : (rows : ℕ) (wrap : Bool) → (rows ≡ 24) ⊎ (rows ≡ 20)
     → Anywhere (command.FullDefaults c1_set.Parallel ∷ command.Format rows wrap ∷ [])
 unfolding IsSpelled context_after
 head_anywhere rows wrap h x = (tt, refl, (h, refl, tt))

@@ -2,6 +2,7 @@
 use Rattle.std.proofs.Common.{◌≡◌, ℕ, ◌+◌, ◌≤◌, ◌<◌, None, List, ◌++◌, reverse, refl, ap, ◌∙◌}
 use Rattle.std.specs.Prelude.{IsTrue, ◌↔◌}
 use Rattle.std.specs.List.{AllByRecursion}
+use Rattle.cept_codes.specs.declared.command.Command.{Command}
 use Rattle.cept_codes.specs.declared.look.Paint.{Paint}
 use Rattle.cept_codes.specs.declared.stroke.Stroke.{Stroke}
 use Rattle.cept_codes.specs.Attribute.{unset_pen}
@@ -23,7 +24,7 @@ use Rattle.cept_writer.specs.PageCommands.{plain_commands}
 use Rattle.cept_writer.proofs.CellsRestored.{cell_left, cell_more, cell_step, cells_made, puts_cell}
 use Rattle.cept_writer.proofs.CellsWritten.{puts_below}
 use Rattle.cept_writer.proofs.Drawing.{control_of_drawn, strokes_of_drawn}
-use Rattle.cept_writer.proofs.PageDrawn.{dclut_strokes, entries_strokes, first_strokes, page_draws, page_strokes}
+use Rattle.cept_writer.proofs.PageDrawn.{PageDraws, dclut_strokes, entries_strokes, first_strokes, page_draws, page_strokes}
 use Rattle.cept_writer.proofs.PageDrawn.{patterns_strokes, rows_strokes, screen_strokes, control_with_settings}
 use Rattle.cept_writer.proofs.PartsRestored.{dclut_left, dclut_made, dclut_more, dclut_names, dclut_step, entries_colour}
 use Rattle.cept_writer.proofs.PartsRestored.{entries_made, paint_left, paint_more, paint_step, pattern_left, pattern_more}
@@ -143,24 +144,27 @@ drawn_page decides k is i =
           ∙ list_by_index-entry None 0x21 94 k.page.patterns is.page.codes) i;
     }
 
-restored_page : ((a b : Paint) → IsTrue (same_paint a b) ↔ (a ≡ b)) → (k : Core) → IsValidCore k
-    → page (plain_commands k) ≡ k.page
-restored_page decides k is =
-    let there = page_draws k is in
-    ap page_back (strokes_of_drawn (plain_commands k) (page_strokes k) (control_with_settings k there.hand) there.draws
+restored_page : ((a b : Paint) → IsTrue (same_paint a b) ↔ (a ≡ b)) → (k : Core) → IsValidCore k → (cs : List Command)
+    → PageDraws k cs → page cs ≡ k.page
+restored_page decides k is cs there =
+    ap page_back (strokes_of_drawn cs (page_strokes k) (control_with_settings k there.hand) there.draws
     ∙ ap reverse (strokes_are k))
     ∙ drawn_page decides k is
 
-pub core_restored : ((a b : Paint) → IsTrue (same_paint a b) ↔ (a ≡ b)) → (k : Core) → IsValidCore k
-    → core_of (state (plain_commands k)) ≡ k
-core_restored decides k is i =
-    let there = page_draws k is in
-    let left : control (plain_commands k) ≡ control_with_settings k there.hand =
-    control_of_drawn (plain_commands k) (page_strokes k) (control_with_settings k there.hand) there.draws in
+-- commands that draw the page bring its core back
+pub core_drawn : ((a b : Paint) → IsTrue (same_paint a b) ↔ (a ≡ b)) → (k : Core) → IsValidCore k → (cs : List Command)
+    → PageDraws k cs → core_of (state cs) ≡ k
+core_drawn decides k is cs there i =
+    let left : control cs ≡ control_with_settings k there.hand =
+    control_of_drawn cs (page_strokes k) (control_with_settings k there.hand) there.draws in
     record {
-      page = restored_page decides k is i;
+      page = restored_page decides k is cs there i;
       rows = (left i).rows;
       wrap = (left i).wrap;
       area = (left i).area;
       implicit = (left i).implicit;
     }
+
+pub core_restored : ((a b : Paint) → IsTrue (same_paint a b) ↔ (a ≡ b)) → (k : Core) → IsValidCore k
+    → core_of (state (plain_commands k)) ≡ k
+core_restored decides k is = core_drawn decides k is (plain_commands k) (page_draws k is)

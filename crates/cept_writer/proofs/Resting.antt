@@ -1,7 +1,8 @@
 -- Control at rest: as at the start but for what a written cell leaves, so that the next part of a page may follow.
 use Rattle.std.proofs.Common.{◌≡◌, ℕ, zero, suc, ◌+◌, ◌≤◌, ◌<◌, Bool, true, false, cond, eqb, leb, Option, None}
-use Rattle.std.proofs.Common.{List, [], ◌++◌, flat_map, refl, arith}
-use Rattle.std.specs.List.{range_with_len}
+use Rattle.std.proofs.Common.{List, [], ◌∷◌, ◌++◌, flat_map, refl, sym, subst, arith}
+use Rattle.std.proofs.lemmas.Grind.{flat_map-append}
+use Rattle.std.specs.List.{AllByRecursion, range_with_len}
 use Rattle.cept_codes.specs.declared.attribute.Pen.{Pen}
 use Rattle.cept_codes.specs.declared.command.C1Set.{C1Set}
 use Rattle.cept_codes.specs.declared.command.Command.{Command}
@@ -9,6 +10,7 @@ use Rattle.cept_codes.specs.declared.glyph.Glyph.{Glyph}
 use Rattle.cept_codes.specs.declared.stroke.Stroke.{Stroke}
 use Rattle.cept_profile.specs.Control.{ControlState, Sets, initial_sets}
 use Rattle.cept_profile.specs.Motions.{on_strokes, working_ahead}
+use Rattle.cept_writer.specs.Chains.{Chain, members}
 use Rattle.cept_writer.proofs.Drawing.{Draws, draws_joined, draws_none}
 
 -- what cells leave as they please
@@ -83,6 +85,17 @@ rests_range rows wrap f g low bound each from (suc n) above below v =
     rests_joined rows wrap (f from) (flat_map f (range_with_len (from + 1) n)) (g from)
     (flat_map g (range_with_len (from + 1) n)) (each from above (omega (arith, below)))
     (rests_range rows wrap f g low bound each (from + 1) n (omega (arith, above)) (omega (arith, below))) v
+
+-- chains of entries, of which each entry has its strokes
+pub rests_in_chains : {X : Type 0} (rows : ℕ) (wrap : Bool) (text : Chain X → List Command) (made : X → List Stroke)
+    (cs : List (Chain X)) → AllByRecursion (λ c. AlwaysRests rows wrap (text c) (flat_map made (members c))) cs
+    → AlwaysRests rows wrap (flat_map text cs) (flat_map made (flat_map members cs))
+rests_in_chains rows wrap text made [] each v = rests_none rows wrap v
+rests_in_chains rows wrap text made (c ∷ cs) each v =
+    subst (λ (l : List Stroke). Rests rows wrap v (text c ++ flat_map text cs) l)
+    (sym (flat_map-append made (members c) (flat_map members cs)))
+    (rests_joined rows wrap (text c) (flat_map text cs) (flat_map made (members c)) (flat_map made (flat_map members cs))
+    each.0 (rests_in_chains rows wrap text made cs each.1) v)
 
 -- ---- moving on
 

@@ -24,11 +24,11 @@ use Rattle.cept_writer.proofs.Resting.{Hand, hand_ahead, control_in_cell, moves_
 
 -- ---- what a byte gives
 
-abbrev graphic_result_of : Read → Sets → GraphicResult
+abbrev pub graphic_result_of : Read → Sets → GraphicResult
 graphic_result_of read s = record { read = read; sets = s }
 
 -- a byte of the left half by the set that is taken for it
-byte_reads : (s : Sets) (run : Bool) (set : SetId) (code : ℕ) (read : Read) → code ≤ 0x7F → set_of s code run ≡ set
+pub byte_reads : (s : Sets) (run : Bool) (set : SetId) (code : ℕ) (read : Read) → code ≤ 0x7F → set_of s code run ≡ set
     → read_as set code ≡ read → graphic s code run ≡ graphic_result_of read (sets_without_single s)
 byte_reads s run set code read below taken reads =
     let same : code % 0x80 ≡ code = omega arith in
@@ -37,13 +37,13 @@ byte_reads s run set code read below taken reads =
     ∙ ap (λ (r : Read). graphic_result_of r (sets_without_single s)) reads
 
 -- a code that is no space and no accent is a sign
-sign_reads : (set : SetId) (code : ℕ) → eqb code 0x20 ≡ false → is_accent set code ≡ false
+pub sign_reads : (set : SetId) (code : ℕ) → eqb code 0x20 ≡ false → is_accent set code ≡ false
     → read_as set code ≡ reads.Glyph (sign set code)
 unfolding read_as
 sign_reads set code no_space no_accent = rw (no_space, no_accent) refl
 
 -- each code of set P is a sign
-first_sign_reads : (code : ℕ) → read_as sets.P code ≡ reads.Glyph (sign sets.P code)
+pub first_sign_reads : (code : ℕ) → read_as sets.P code ≡ reads.Glyph (sign sets.P code)
 unfolding read_as
 first_sign_reads code = by_test (eqb code 0x20) refl where
   by_test : (space : Bool) → eqb code 0x20 ≡ space
@@ -54,7 +54,7 @@ first_sign_reads code = by_test (eqb code 0x20) refl where
   by_test false is = refl
 
 -- a code of an accent is one
-accent_reads : (code : ℕ) → 0x40 ≤ code → code ≤ 0x4F → read_as sets.S code ≡ reads.Accent code
+pub accent_reads : (code : ℕ) → 0x40 ≤ code → code ≤ 0x4F → read_as sets.S code ≡ reads.Accent code
 unfolding read_as
 accent_reads code low high =
     let no_space : eqb code 0x20 ≡ false = grind (arith, nat_tests) in
@@ -64,7 +64,7 @@ accent_reads code low high =
 -- ---- one byte
 
 -- a byte that gives a sign
-sign_control : (rows : ℕ) (wrap : Bool) (s t : Sets) (accent : Option ℕ) (protect : Bool) (v : Hand) (code : ℕ) (g : Glyph)
+pub sign_control : (rows : ℕ) (wrap : Bool) (s t : Sets) (accent : Option ℕ) (protect : Bool) (v : Hand) (code : ℕ) (g : Glyph)
     → graphic s code v.run ≡ graphic_result_of (reads.Glyph g) t
     → control_after (control_in_cell rows wrap s accent protect v) (commands.Graphic code)
     ≡ control_in_cell rows wrap t None protect (record (hand_ahead rows wrap v (columns_of_sign (control_in_cell rows wrap t accent protect v)))
@@ -76,7 +76,7 @@ sign_control rows wrap s t accent protect v code g gives =
     ∙ ap (λ (w : Working). control_with from (record w { last = Some (sign_with_accent g.set g.code accent); accent = None }))
     (moves_on rows wrap t accent protect v (columns_of_sign (control_in_cell rows wrap t accent protect v)))
 
-sign_strokes : (rows : ℕ) (wrap : Bool) (s t : Sets) (accent : Option ℕ) (protect : Bool) (v : Hand) (code : ℕ) (g : Glyph)
+pub sign_strokes : (rows : ℕ) (wrap : Bool) (s t : Sets) (accent : Option ℕ) (protect : Bool) (v : Hand) (code : ℕ) (g : Glyph)
     → graphic s code v.run ≡ graphic_result_of (reads.Glyph g) t
     → strokes_of (control_in_cell rows wrap s accent protect v) (commands.Graphic code)
     ≡ strokes.Put (record { row = v.row; column = v.column })

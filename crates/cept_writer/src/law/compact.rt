@@ -1,14 +1,62 @@
 //! Laws of the compact text of a page.
-ghost use Rattle.std.specs.Prelude.{◌≤◌, length};
-ghost use Rattle.cept_profile.specs.State.{Core};
-ghost use Rattle.cept_writer.specs.CompactCommands.{compact_text};
+ghost use Rattle.std.specs.Prelude.{◌≡◌, ◌≤◌, false, length, List};
+ghost use Rattle.std.specs.List.{AllByRecursion};
+ghost use Rattle.cept_codes.specs.declared.command.Command.{Command};
+ghost use Rattle.cept_parser.specs.Context.{start_context};
+ghost use Rattle.cept_parser.specs.Items.{closed_items, commands, is_refusal};
+ghost use Rattle.cept_parser.specs.Spelling.{AreSpelled};
+ghost use Rattle.cept_profile.specs.State.{Core, core, core_of, state};
+ghost use Rattle.cept_profile.specs.Valid.{AllValid, IsValidCore};
+ghost use Rattle.cept_writer.specs.CompactCommands.{compact_commands, compact_text};
 ghost use Rattle.cept_writer.specs.PageCommands.{plain_text};
 
-use cept_codes::cells_compare_by_their_fields;
+use cept_codes::{
+    cells_compare_by_their_fields, commands_compare_by_their_fields, looks_compare_by_their_fields,
+    pens_compare_by_their_fields,
+};
+use cept_profile::validity_is_kept;
 
 /// The compact text of a page is at most as long as its plain text.
 pub fn compact_texts_are_no_longer_than_plain_ones()
     ensures { (k : Core) → length (compact_text k) ≤ length (plain_text k) }
 {
     cells_compare_by_their_fields();
+}
+
+/// After the commands of the compact text of a valid core a decoder that starts anew has just this
+/// core.
+pub fn compact_pages_are_restored()
+    ensures { (k : Core) → IsValidCore k → core_of (state (compact_commands k)) ≡ k }
+{
+    cells_compare_by_their_fields();
+    looks_compare_by_their_fields();
+    pens_compare_by_their_fields();
+}
+
+/// The commands of the compact text of a valid core are spelled from the start on, so that its bytes
+/// read as these commands, none refused.
+pub fn compact_pages_are_spelled()
+    ensures spelled { (k : Core) → IsValidCore k → AreSpelled start_context (compact_commands k) }
+    ensures commands { (k : Core) → IsValidCore k
+        → commands (compact_text k) ≡ compact_commands k }
+    ensures none { (k : Core) → IsValidCore k
+        → AllByRecursion (λ i. is_refusal i.what ≡ false) (closed_items (compact_text k)) }
+{
+    cells_compare_by_their_fields();
+    commands_compare_by_their_fields();
+    pens_compare_by_their_fields();
+}
+
+/// The compact text of a valid core brings the core back on a decoder that starts anew. So the core
+/// after any valid commands comes back by bytes, and writing what was read back gives the same bytes.
+pub fn compact_texts_bring_pages_back()
+    ensures core { (k : Core) → IsValidCore k → core (commands (compact_text k)) ≡ k }
+    ensures always { (history : List Command) → AllValid history
+        → core (commands (compact_text (core history))) ≡ core history }
+    ensures same { (k : Core) → IsValidCore k
+        → compact_text (core (commands (compact_text k))) ≡ compact_text k }
+{
+    compact_pages_are_restored();
+    compact_pages_are_spelled();
+    validity_is_kept();
 }
