@@ -1,0 +1,5 @@
+mod Onto
+mod SaysLemmas
+mod BackLemmas
+mod PushLemmas
+mod Worked

@@ -1,0 +1,13 @@
+//! The seven-bit form of a page: bytes for a path that carries seven bits, and back. It knows no
+//! command, no screen and no file.
+#![tactic(auto)]
+
+mod from_seven;
+mod law;
+#[cfg(test)]
+mod tests;
+mod to_seven;
+
+pub use from_seven::{FromSeven, Heard};
+pub use law::seven_bits_say_the_same;
+pub use to_seven::ToSeven;
