@@ -5,8 +5,8 @@ Codes are those of docs/PROFILE.md. Nothing here is run by the program or by the
 
 BLACK, RED, GREEN, YELLOW, BLUE, MAGENTA, CYAN, WHITE = range(8)
 
-HOME_SERIAL = b"\x1f\x2f\x41"
-HOME_PARALLEL = b"\x1f\x2f\x42"
+FULL_DEFAULTS_SERIAL = b"\x1f\x2f\x41"
+FULL_DEFAULTS_PARALLEL = b"\x1f\x2f\x42"
 RETURN, DOWN, ERASE = b"\x0d", b"\x0a", b"\x18"
 
 FLASH, STEADY = b"\x88", b"\x89"

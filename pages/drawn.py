@@ -3,7 +3,7 @@ from codes import *  # noqa: F403
 
 
 def title():
-    page = HOME_PARALLEL + at(1, 2) + fore(CYAN) + words("Tamligub") + at(1, 32) + fore(CYAN) + words("Seite 0a")
+    page = FULL_DEFAULTS_PARALLEL + at(1, 2) + fore(CYAN) + words("Tamligub") + at(1, 32) + fore(CYAN) + words("Seite 0a")
     for row in range(2, 6):
         page += at(row, 1) + of_row(back(BLUE))
     page += at(3, 7) + fore(YELLOW) + BOTH + words("BILDSCHIRMTEXT")
@@ -28,7 +28,7 @@ def title():
 
 
 def timetable():
-    page = HOME_PARALLEL + at(1, 2) + fore(YELLOW) + HIGH + words("Abfahrt in Ulm")
+    page = FULL_DEFAULTS_PARALLEL + at(1, 2) + fore(YELLOW) + HIGH + words("Abfahrt in Ulm")
     page += at(4, 1) + lines("┌──────┬───────┬─────────────────┬─────┐")
     page += at(5, 1) + lines("│") + LINED + words(" Zeit ") + UNLINED + lines("│") + LINED + words(" Zug   ") + UNLINED
     page += lines("│") + LINED + words(" Nach            ") + UNLINED + lines("│") + LINED + words(" Gl. ") + UNLINED + lines("│")
@@ -78,7 +78,7 @@ HOUSE = (
 
 
 def house():
-    page = HOME_SERIAL + at(1, 2) + words("Haus mit Baum")
+    page = FULL_DEFAULTS_SERIAL + at(1, 2) + words("Haus mit Baum")
     for row, column, colour, picture in HOUSE:
         page += at(row, column - 1) + mosaic_colour(colour) + block_codes(picture)
     page += at(18, 2) + fore(CYAN) + words("Jede Farbe steht als Marke in einer")
@@ -89,7 +89,7 @@ def house():
 
 
 def boat():
-    page = HOME_PARALLEL + at(1, 2) + words("Segelboot")
+    page = FULL_DEFAULTS_PARALLEL + at(1, 2) + words("Segelboot")
     for row in range(2, 14):
         page += at(row, 1) + back(CYAN) + words(" ") + repeat(39)
     for row, picture in ((3, "/##\\"), (4, "####"), (5, "L##J")):
@@ -116,7 +116,7 @@ def boat():
 
 def hold():
     runs = ((GREEN, "####"), (YELLOW, "/##\\"), (CYAN, "xxxx"))
-    page = HOME_SERIAL + at(1, 2) + words("Halten")
+    page = FULL_DEFAULTS_SERIAL + at(1, 2) + words("Halten")
     page += at(4, 2) + words("ohne") + at(4, 8) + mosaic_colour(RED) + RELEASE + block_codes("####")
     for colour, picture in runs:
         page += mosaic_colour(colour) + block_codes(picture)
@@ -168,7 +168,7 @@ SQUARES = tuple("".join("%X" % (line // 3 * 4 + column // 3) for column in range
 
 
 def patterns():
-    page = HOME_PARALLEL
+    page = FULL_DEFAULTS_PARALLEL
     page += download(0x21, 1, SMILE) + download(0x22, 1, ARROW) + download(0x23, 1, CHECK)
     page += download(0x24, 2, APPLE) + download(0x25, 2, FLOWER) + download(0x26, 4, RAINBOW) + download(0x27, 4, SQUARES)
     page += dclut((0, 1, 2, 7))
@@ -194,7 +194,7 @@ def patterns():
 
 
 def colours():
-    page = HOME_PARALLEL + at(1, 2) + words("32 Farben in vier Tabellen")
+    page = FULL_DEFAULTS_PARALLEL + at(1, 2) + words("32 Farben in vier Tabellen")
     for number in range(4):
         page += at(3 + 4 * number, 2) + words(f"Tabelle {number}")
         for row in (4 + 4 * number, 5 + 4 * number):
@@ -210,7 +210,7 @@ def colours():
 
 
 def ticker():
-    page = HOME_PARALLEL + at(1, 2) + fore(YELLOW) + HIGH + words("Kurz gemeldet")
+    page = FULL_DEFAULTS_PARALLEL + at(1, 2) + fore(YELLOW) + HIGH + words("Kurz gemeldet")
     page += at(5, 1) + of_row(back(BLUE)) + words("Neues von heute") + at(12, 1) + of_row(back(BLUE))
     page += at(12, 1) + words("Alle Angaben ohne Gewähr")
     page += area(6, 11) + IMPLICIT + at(6, 1)
@@ -234,7 +234,7 @@ def ticker():
 
 
 def form():
-    page = HOME_PARALLEL + at(1, 2) + fore(YELLOW) + HIGH + words("Bestellung")
+    page = FULL_DEFAULTS_PARALLEL + at(1, 2) + fore(YELLOW) + HIGH + words("Bestellung")
     for row, label in ((4, "Name:"), (6, "Straße:"), (8, "Ort:"), (10, "Menge:")):
         page += at(row, 1) + of_row(back(BLUE)) + PROTECT + fore(CYAN) + words(f" {label:<10}") + UNPROTECT
     for row in (4, 6, 8, 10):
@@ -251,7 +251,7 @@ def form():
 
 
 def rows():
-    page = HOME_PARALLEL + at(1, 1) + table(1) + of_screen(back(0)) + table(0)
+    page = FULL_DEFAULTS_PARALLEL + at(1, 1) + table(1) + of_screen(back(0)) + table(0)
     page += at(2, 3) + fore(YELLOW) + BOTH + words("Durchsicht")
     page += at(5, 3) + words("Der Schirm hat keine Farbe: Hinter ihm")
     page += at(6, 3) + words("scheint ein Bild durch.")
@@ -264,7 +264,7 @@ def rows():
 
 
 def answers():
-    page = HOME_PARALLEL + at(1, 2) + fore(YELLOW) + HIGH + words("Rätsel")
+    page = FULL_DEFAULTS_PARALLEL + at(1, 2) + fore(YELLOW) + HIGH + words("Rätsel")
     riddles = (
         (4, "Welcher Fluss fließt durch Ulm?", "Die Donau"),
         (7, "Wie viele Zellen hat der Schirm?", "960"),
@@ -293,7 +293,7 @@ def service():
 
 
 def flashing():
-    page = HOME_PARALLEL + at(1, 2) + words("Blinken und andere Arten")
+    page = FULL_DEFAULTS_PARALLEL + at(1, 2) + words("Blinken und andere Arten")
     for row, label, code in (
         (3, "einfach", FLASH),
         (4, "umgekehrt", flash_mode(0)),
@@ -322,7 +322,7 @@ def signs():
     def right(first, count=0x20):
         return bytes(range(first, first + count))
 
-    page = HOME_PARALLEL + at(1, 2) + fore(YELLOW) + words("Zeichen der fünf Vorräte")
+    page = FULL_DEFAULTS_PARALLEL + at(1, 2) + fore(YELLOW) + words("Zeichen der fünf Vorräte")
     for row, first in ((3, 0x20), (4, 0x40), (5, 0x60)):
         page += at(row, 2) + words("P") + at(row, 5) + run(first)
     for row, codes in ((7, right(0xA0)), (8, right(0xD0, 0x10)), (9, right(0xE0))):
@@ -343,7 +343,7 @@ def signs():
 
 
 def refused():
-    page = HOME_PARALLEL + at(1, 2) + fore(YELLOW) + words("Eine gestörte Übertragung")
+    page = FULL_DEFAULTS_PARALLEL + at(1, 2) + fore(YELLOW) + words("Eine gestörte Übertragung")
     broken = (
         ("ein Zeichen, das keines ist", b"\x07"),
         ("eine unbekannte Folge", b"\x1b\x22\x55"),

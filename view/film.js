@@ -4,6 +4,13 @@
 
   const BITS_OF_A_BYTE = 10;
 
+  // The numbers of the looks that all cells have after the last change line.
+  function lastGrid({ cells, numbers, count }) {
+    const grid = new Uint32Array(tamligub.CELLS);
+    for (let line = 0; line < count; line++) grid[cells[line]] = numbers[line];
+    return grid;
+  }
+
   class Film {
     // `changes` as readChanges gives it; the bytes of the stored page where they are known.
     constructor(changes, bytes) {
@@ -104,5 +111,5 @@
     }
   }
 
-  Object.assign(tamligub, { Film, BITS_OF_A_BYTE });
+  Object.assign(tamligub, { Film, lastGrid, BITS_OF_A_BYTE });
 })((window.Tamligub = window.Tamligub || {}));

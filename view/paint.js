@@ -91,14 +91,14 @@
 
     shape(look, box) {
       const mosaic = look.set === "M" || look.set === "N" ? tamligub.mosaicOf(look.set, look.code) : null;
-      const parted = look.lined && mosaic !== null && mosaic.blocks !== undefined;
+      const parted = look.lined && mosaic !== null && mosaic.kind === "blocks";
       if (look.kind === "pattern") this.pattern(look, box);
       else if (look.kind === "sign") this.sign(look, mosaic, box, parted);
       if (look.lined && !parted) this.bar(box, 0, box.height - this.thin, box.width, box.height);
     }
 
     sign(look, mosaic, box, parted) {
-      if (mosaic && mosaic.blocks !== undefined) {
+      if (mosaic && mosaic.kind === "blocks") {
         this.blocks(mosaic.blocks, box, parted);
         return;
       }
@@ -196,14 +196,18 @@
     }
 
     mosaic(mosaic, box) {
-      if (mosaic.edge) this.fill([tamligub.polygonOf(mosaic.edge, mosaic.corner)], box);
-      else if (mosaic.quarters) this.fill(mosaic.quarters.map(tamligub.quarterOf), box);
-      else if (mosaic.lines) this.lines(mosaic.lines, box);
-      else if (mosaic.slants) this.slants(mosaic.slants, box);
-      else if (mosaic.dot) this.dot(mosaic, box);
-      else if (mosaic.sign) this.letter(mosaic.sign, { wide: box.width / this.width, high: box.height / this.height }, box);
-      else if (mosaic.bar !== undefined) this.bar(box, (mosaic.bar * box.width) / 8, 0, ((mosaic.bar + 1) * box.width) / 8, box.height);
-      else this.checks(mosaic.checks, box);
+      const size = { wide: box.width / this.width, high: box.height / this.height };
+      switch (mosaic.kind) {
+        case "slope": return this.fill([tamligub.polygonOf(mosaic.edge, mosaic.corner)], box);
+        case "quarters": return this.fill(mosaic.quarters.map(tamligub.quarterOf), box);
+        case "lines": return this.lines(mosaic.path, box);
+        case "slants": return this.slants(mosaic.path, box);
+        case "dot": return this.dot(mosaic, box);
+        case "sign": return this.letter(mosaic.sign, size, box);
+        case "bar": return this.bar(box, (mosaic.eighth * box.width) / 8, 0, ((mosaic.eighth + 1) * box.width) / 8, box.height);
+        case "checks": return this.checks(mosaic.count, box);
+        default: throw new Error(`no mosaic is of kind ${mosaic.kind}`);
+      }
     }
 
     // Polygons whose points are parts of the sign's width and height, filled at once so that no seam is between them.
@@ -246,7 +250,7 @@
     }
 
     dot(mosaic, box) {
-      const radius = mosaic.dot * Math.min(box.width, box.height);
+      const radius = mosaic.radius * Math.min(box.width, box.height);
       this.brush.lineWidth = this.thin;
       this.brush.beginPath();
       this.brush.arc(box.left + box.width / 2, box.top + box.height / 2, radius, 0, 2 * Math.PI);

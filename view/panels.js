@@ -48,7 +48,8 @@
 
   // The line of a cell, and the bytes that made it.
   function showCell(film, cell) {
-    const place = `Row ${Math.floor(cell / COLUMNS) + 1}, column ${(cell % COLUMNS) + 1}`;
+    const [row, column] = [Math.floor(cell / COLUMNS) + 1, (cell % COLUMNS) + 1];
+    const place = `Row ${row}, column ${column}`;
     const line = film.lineOf(cell);
     if (line < 0) {
       say("cell-line", `${place}: no command has changed it; it is blank.`);
@@ -57,9 +58,9 @@
     }
     const moment = film.momentOf(line);
     const at = film.moments[moment].place;
-    const text = `${at} ${place.replace("Row ", "").replace(", column", "")} ${film.changes.looks[film.changes.numbers[line]].text}`;
+    const look = film.changes.looks[film.changes.numbers[line]];
     const bytes = film.bytesOf(moment);
-    say("cell-line", `${place}: ${text}`);
+    say("cell-line", `${place}: ${at} ${row} ${column} ${look.text}`);
     say("cell-bytes", bytes ? `Bytes from ${at} up to the next change: ${hexadecimal(bytes)}` : `Its command is at byte ${at}.`);
   }
 

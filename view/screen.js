@@ -102,5 +102,13 @@
     }
   }
 
-  Object.assign(tamligub, { Screen, TALL });
+  // Paints a grid of looks into a canvas once, in the first phase of the flash.
+  function paintStill(canvas, { looks, grid }, cellWidth, ratio, revealed) {
+    const screen = new Screen(canvas, document.createElement("canvas"));
+    [screen.looks, screen.revealed] = [looks, revealed];
+    screen.lay(cellWidth, ratio);
+    screen.show(grid);
+  }
+
+  Object.assign(tamligub, { Screen, paintStill, TALL });
 })((window.Tamligub = window.Tamligub || {}));

@@ -51,22 +51,24 @@
     return String.fromCharCode(look.code) + (MARKS[look.accent] || "");
   }
 
-  // The shape of a mosaic: { blocks }, a number whose bits are the six blocks by rows; or { edge, corner }; or { quarters };
-  // or { lines }, { slants }, { dot }, { sign }, { bar }, { checks }; or null where the code has no shape.
+  // The shape of a mosaic: its kind by name, and what that kind needs; or null where the code has no shape.
+  //   blocks: a number whose bits are the six blocks by rows      slope: an edge, and the corner on its filled side
+  //   quarters: the corners of each        lines, slants: a path        dot: a radius, and whether it is hollow
+  //   sign: one of Unicode        bar: which eighth        checks: how many in a row
   function mosaicOf(set, code) {
-    if (set === "M" && (code < 0x40 || code >= 0x60)) return { blocks: (code & 0x1f) | ((code & 0x40) >> 1) };
+    if (set === "M" && (code < 0x40 || code >= 0x60)) return { kind: "blocks", blocks: (code & 0x1f) | ((code & 0x40) >> 1) };
     const smooth = set === "M" ? code - 0x20 : code;
     if (smooth >= 0x40 && smooth < 0x60) return lineOf(smooth);
     return slopeOf(smooth);
   }
 
   function lineOf(code) {
-    if (LINES[code]) return { lines: LINES[code] };
-    if (SLANTS[code]) return { slants: SLANTS[code] };
-    if (ARROWS[code]) return { sign: ARROWS[code] };
-    if (code === 0x4d) return { dot: 0.2 };
-    if (code === 0x4e) return { dot: 0.45 };
-    if (code === 0x4f) return { dot: 0.45, hollow: true };
+    if (LINES[code]) return { kind: "lines", path: LINES[code] };
+    if (SLANTS[code]) return { kind: "slants", path: SLANTS[code] };
+    if (ARROWS[code]) return { kind: "sign", sign: ARROWS[code] };
+    if (code === 0x4d) return { kind: "dot", radius: 0.2, hollow: false };
+    if (code === 0x4e) return { kind: "dot", radius: 0.45, hollow: false };
+    if (code === 0x4f) return { kind: "dot", radius: 0.45, hollow: true };
     return null;
   }
 
@@ -75,21 +77,21 @@
     const low = code & 0x1f;
     const [row, index] = [low >> 4, low & 0x0f];
     if (index < 6) {
-      return { edge: (row ? RIGHT_LOW : LOW_LEFT)[index], corner: upper ? (row ? "l0" : "r0") : row ? "r3" : "l3" };
+      return { kind: "slope", edge: (row ? RIGHT_LOW : LOW_LEFT)[index], corner: upper ? (row ? "l0" : "r0") : row ? "r3" : "l3" };
     }
     if (index < 12) {
-      return { edge: (row ? LEFT_LOW : LOW_RIGHT)[index - 6], corner: upper ? (row ? "r0" : "l0") : row ? "l3" : "r3" };
+      return { kind: "slope", edge: (row ? LEFT_LOW : LOW_RIGHT)[index - 6], corner: upper ? (row ? "r0" : "l0") : row ? "l3" : "r3" };
     }
     if (index < 14) return quartersOf(row, index, upper);
     if (upper) return null;
-    if (index === 14) return { bar: row ? 6 : 1 };
-    return row ? { blocks: 63 } : { checks: 4 };
+    if (index === 14) return { kind: "bar", eighth: row ? 6 : 1 };
+    return row ? { kind: "blocks", blocks: 63 } : { kind: "checks", count: 4 };
   }
 
   function quartersOf(row, index, upper) {
     const named = index === 12 ? (row ? "right" : "left") : row ? "lower" : "upper";
     const names = upper ? [named] : Object.keys(QUARTERS).filter((name) => name !== named);
-    return { quarters: names.map((name) => QUARTERS[name]) };
+    return { kind: "quarters", quarters: names.map((name) => QUARTERS[name]) };
   }
 
   // A point of the edges, in parts of the width and the height.

@@ -185,6 +185,21 @@
     return course;
   }
 
+  // The text of `cells`: looks, and a grid of their numbers.
+  function readCells(text) {
+    const known = new Looks();
+    const grid = new Uint32Array(CELLS);
+    linesOf(text).forEach((line, index) => {
+      const reader = new Reader(line);
+      const [row, column] = [reader.number(), reader.number()];
+      const inside = row >= 1 && row <= ROWS && column >= 1 && column <= COLUMNS;
+      const look = inside ? known.number(line.slice(reader.at)) : -1;
+      if (look < 0) throw new LineFault(index + 1, line, "a cell line");
+      grid[(row - 1) * COLUMNS + column - 1] = look;
+    });
+    return { looks: known.list, grid };
+  }
+
   // The text of `check`: its refusals and the numbers of its last line.
   function readCheck(text) {
     const lines = linesOf(text);
@@ -199,6 +214,6 @@
   }
 
   Object.assign(tamligub, {
-    COLUMNS, ROWS, CELLS, LineFault, readLook, readChanges, readCheck, pixelsOf,
+    COLUMNS, ROWS, CELLS, LineFault, readLook, readChanges, readCells, readCheck, pixelsOf,
   });
 })((window.Tamligub = window.Tamligub || {}));

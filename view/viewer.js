@@ -17,9 +17,15 @@
       this.flashing = 0;
     }
 
+    // The text of a page as it is read, once for its picture and its film.
+    courseOf(page) {
+      if (!page.course) page.course = tamligub.readChanges(page.changes);
+      return page.course;
+    }
+
     // The film of a page, made at its first use.
     filmOf(page) {
-      if (!page.film) page.film = new tamligub.Film(tamligub.readChanges(page.changes), page.page);
+      if (!page.film) page.film = new tamligub.Film(this.courseOf(page), page.page);
       return page.film;
     }
 
@@ -129,12 +135,8 @@
     // Paints the end of a page into a small canvas of the index.
     small(page, canvas) {
       try {
-        const film = new tamligub.Film(tamligub.readChanges(page.changes), page.page);
-        const screen = new tamligub.Screen(canvas, document.createElement("canvas"));
-        film.go(film.moments.length);
-        screen.looks = film.changes.looks;
-        screen.lay(SMALL_CELL, 2);
-        screen.show(film.grid);
+        const course = this.courseOf(page);
+        tamligub.paintStill(canvas, { looks: course.looks, grid: tamligub.lastGrid(course) }, SMALL_CELL, 2, false);
       } catch (fault) {
         if (!(fault instanceof tamligub.LineFault)) throw fault;
       }

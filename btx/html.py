@@ -1,0 +1,89 @@
+"""Writes one file that shows stored pages being built, with viewer and data in it, to open or to send. With several pages it has an
+index with small pictures. Nothing in it is fetched from elsewhere, and no script runs in it but the viewer's own."""
+import base64
+import contextlib
+import hashlib
+import json
+import os
+import re
+import sys
+
+from btx import program
+
+SUMMARY = "a file that shows pages being built, in a browser"
+VIEW = os.path.join(program.ROOT, "view")
+SCRIPT = re.compile(r'<script src="([\w.]+)"></script>\n?')
+DATA = '<script type="application/json" id="pages">[]</script>'
+
+
+def arguments(parser):
+    parser.add_argument("pages", metavar="PAGE", nargs="+")
+    parser.add_argument("-o", "--output", metavar="FILE", help="where to write it; without this to standard output")
+
+
+def names_of(paths):
+    """A name for each page: its file's, or its path where two files have the same."""
+    files = [os.path.basename(path).removesuffix(".btx") for path in paths]
+    return [shown_name(file if files.count(file) == 1 else path) for file, path in zip(files, paths)]
+
+
+def shown_name(name):
+    """A file's name as text that can be written, also where its bytes are no UTF-8."""
+    return os.fsencode(name).decode("utf-8", "replace")
+
+
+def page_of(path, name, page):
+    """What the viewer needs of a page."""
+    changes, check = (program.text_put(path, word, page) for word in ("changes", "check"))
+    with open(page, "rb") as file:
+        stored = base64.b64encode(file.read()).decode("ascii")
+    return {"name": name, "changes": changes, "check": check, "page": stored}
+
+
+def text_of(name):
+    with open(os.path.join(VIEW, name), encoding="utf-8") as file:
+        return file.read()
+
+
+def sum_of(text):
+    return "'sha256-" + base64.b64encode(hashlib.sha256(text.encode("utf-8")).digest()).decode("ascii") + "'"
+
+
+def data_of(value):
+    """A value as JSON that may stand in a script of a document."""
+    return json.dumps(value, ensure_ascii=True, separators=(",", ":")).replace("<", "\\u003c")
+
+
+def with_policy(html, policy):
+    meta = f'<meta charset="utf-8">\n<meta http-equiv="Content-Security-Policy" content="{policy}">'
+    return html.replace('<meta charset="utf-8">', meta, 1)
+
+
+def html_of(pages):
+    """The viewer's document with its style, scripts and pages inside. Its policy lets no other style or script in."""
+    html, style = text_of("index.html"), text_of("style.css")
+    scripts = [text_of(name) for name in SCRIPT.findall(html)]
+    policy = f"default-src 'none'; img-src blob: data:; style-src {sum_of(style)}; script-src " + " ".join(map(sum_of, scripts))
+    head, tail = SCRIPT.sub("", with_policy(html, policy)).split(DATA)
+    head = head.replace('<link rel="stylesheet" href="style.css">', f"<style>{style}</style>")
+    inside = "\n".join(f"<script>{script}</script>" for script in scripts)
+    return f'{head}<script type="application/json" id="pages">{data_of(pages)}</script>\n{inside}\n{tail.lstrip()}'
+
+
+@contextlib.contextmanager
+def output(path):
+    """The file of a path, or standard output."""
+    if path is None:
+        yield sys.stdout.buffer
+        sys.stdout.buffer.flush()
+    else:
+        with open(path, "wb") as file:
+            yield file
+
+
+def run(path, options):
+    names = names_of(options.pages)
+    pages = [page_of(path, name, page) for name, page in zip(names, options.pages)]
+    with output(options.output) as file:
+        file.write(html_of(pages).encode("utf-8"))
+    return 0

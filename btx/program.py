@@ -1,0 +1,70 @@
+"""The proved program: where it is, its words, and running it."""
+import os
+import shutil
+import subprocess
+
+ROOT = os.path.dirname(os.path.dirname(os.path.abspath(__file__)))
+CRATE = os.path.join(ROOT, "crates", "cept_tool")
+NAME = "cept_tool"
+
+# Each word of the program: what stands after it, and what it puts.
+WORDS = {
+    "changes": ("PAGE", "for each item a line for each cell that it changes, or the line of its refusal"),
+    "check": ("PAGE", "the line of each refused item, then how many items there are and how many are refused"),
+    "show": ("PAGE", "the screen at the end of the page as text"),
+    "cells": ("PAGE", "a line for each cell of that screen whose look isn't the blank look"),
+    "write": ("PAGE", "the page at its end as bytes, which bring it back"),
+    "trace": ("PAGE SCRIPT", "for each edit of a script a line for each cell that it changes"),
+    "edit": ("PAGE SCRIPT", "the page after the edits of a script, as bytes"),
+    "gen": ("NUMBER", "the generated page of a number, 0 to 4294967295, as bytes"),
+    "load": ("NUMBER", "how many bytes, items and paints that page has"),
+}
+READ_TO_THE_END, WITH_REFUSALS = 0, 1
+
+
+class Missing(Exception):
+    """The program isn't where it was looked for; the text says what helps."""
+
+
+class Ended(Exception):
+    """A run that people asked for by another word ended without what is needed."""
+
+    def __init__(self, word, words, status):
+        super().__init__(f"{word} ended with status {status}")
+        self.word, self.words, self.status = word, words, status
+
+
+def found(beside):
+    """The program's path: BTX_PROGRAM, or beside this command, or in the checkout."""
+    named = os.environ.get("BTX_PROGRAM")
+    if named:
+        path = shutil.which(named)
+        if path:
+            return os.path.abspath(path)
+        raise Missing(f"BTX_PROGRAM is {named}, and no program is there")
+    for path in (os.path.join(beside, NAME), os.path.join(CRATE, "out", NAME)):
+        if os.access(path, os.X_OK) and os.path.isfile(path):
+            return path
+    if os.path.isdir(CRATE):
+        raise Missing(f"the proved program isn't built; this builds it:\n    (cd {CRATE} && rt run -- show data/welcome)")
+    raise Missing(f"the proved program isn't beside this command, in {beside}; BTX_PROGRAM can name it")
+
+
+def put(program, word, *words):
+    """What the program puts, and its status."""
+    done = subprocess.run([program, word, *words], stdin=subprocess.DEVNULL, stdout=subprocess.PIPE)
+    return done.stdout, done.returncode
+
+
+def text_put(program, word, page):
+    """The text that the program puts for a page that is read to its end; else the run's end is raised."""
+    output, status = put(program, word, page)
+    if status not in (READ_TO_THE_END, WITH_REFUSALS):
+        raise Ended(word, [page], status)
+    return output.decode("utf-8")
+
+
+def counts_in(text):
+    """How many items there are and how many are refused, of a text of check."""
+    items, refused = text.splitlines()[-1].split(" ")[1::2]
+    return int(items), int(refused)

@@ -1,0 +1,128 @@
+"""What btx says of each status. The statuses, limits and reasons are those of the man page of cept_tool."""
+import os
+import shutil
+import signal
+import subprocess
+
+import stand
+
+
+class Messages(stand.Case):
+    def ends(self, words, status, *said, **more):
+        """A run of btx that ends with a status and says some words on standard error, and nothing where none are given."""
+        done = stand.btx(*words, **more)
+        error = done.stderr.decode()
+        self.assertEqual(done.returncode, status, error)
+        for part in said:
+            self.assertIn(part, error)
+        self.assertEqual(bool(error), bool(said), error)
+        return done
+
+    def stub(self, status):
+        """A program that ends with a status and does nothing else."""
+        path = self.written("stub", b"#!/bin/sh\nexit %d\n" % status)
+        os.chmod(path, 0o755)
+        return stand.environment(BTX_PROGRAM=path)
+
+    def test_words_of_the_program_pass_through(self):
+        script = self.written("script", b"at 1 2\ntext XY\nundo\n")
+        requests = [[word, stand.page("title")] for word in ("changes", "check", "show", "cells", "write")]
+        requests += [[word, stand.page("title"), script] for word in ("trace", "edit")]
+        for request in [*requests, ["gen", "1"]]:
+            self.assertEqual(self.ends(request, 0).stdout, stand.put(*request), request)
+
+    def test_refused_items_are_counted(self):
+        page = self.written("broken", b"\x9b1\rB")
+        for word, said in (("show", f"1 of 3 items is refused; btx check {page} names it"), ("check", "1 of 3 items is refused\n")):
+            self.assertEqual(self.ends([word, page], 1, said).stdout, stand.put(word, page))
+
+    def test_a_page_that_can_be_read_once_is_not_read_again(self):
+        page = self.path("pipe")
+        os.mkfifo(page)
+        run = subprocess.Popen([stand.BTX, "check", page], stdout=subprocess.PIPE, stderr=subprocess.PIPE, env=stand.environment())
+        with open(page, "wb") as file:
+            file.write(b"\x9b1\rB")
+        output, error = run.communicate(timeout=60)
+        self.assertEqual(output, b"! 0 2 6 Interrupted\nitems 3 refused 1\n")
+        self.assertEqual((run.returncode, error), (1, b"btx: some items of the page are refused\n"))
+
+    def test_words_that_are_no_request(self):
+        page = stand.page("title")
+        for words, said in (
+            (["show"], "usage: btx show PAGE"), (["show", page, page], "and not 2"), (["show", ""], "a name is empty"),
+            (["edit", page], "usage: btx edit PAGE SCRIPT"), (["trace", page, page], "the same name"),
+            (["gen", "4294967296"], "4294967296 is no number"), (["load", "00000000001"], "usage: btx load NUMBER"),
+        ):
+            self.assertEqual(self.ends(words, 2, said).stdout, b"")
+
+    def test_unknown_words_are_answered_with_the_nearest(self):
+        for word, nearest in (("shwo", "show"), ("Check", "check"), ("terminl", "terminal"), ("htm", "html")):
+            self.ends([word, "x"], 2, f"{word} is none of its words; the nearest is {nearest}\n")
+        self.ends(["qqqq"], 2, "qqqq is none of its words\n")
+
+    def test_a_line_of_a_script_is_named_with_its_reason(self):
+        for line, said in (
+            (b"jump 1", "line 2: its first word is no word of scripts: jump 1"), (b"at 1", "more or fewer words"),
+            (b"at 25 1", "a number"), (b"text \xff", "a sign of its text"), (b"raw 1", "hexadecimal"), (b"raw 1F", "an item of its bytes"),
+        ):
+            script = self.written("script", b"at 1 1\n" + line + b"\n")
+            done = self.ends(["edit", stand.page("title"), script], 3, said)
+            self.assertEqual(done.stdout, stand.put("edit", stand.page("title"), script))
+
+    def test_files_that_cannot_be_read(self):
+        self.ends(["show", "nowhere"], 4, "btx: show: nowhere: no such file\n", cwd=self.folder)
+        self.ends(["show", self.folder], 4, "is a directory")
+        self.ends(["edit", stand.page("title"), self.path("none")], 4, f"{self.path('none')}: no such file")
+
+    def test_a_full_disk(self):
+        with open("/dev/full", "wb") as full:
+            self.ends(["show", stand.page("title")], 5, "the output failed", stdout=full)
+
+    def test_memory_and_limits(self):
+        self.ends(["show", "page"], 6, "not enough memory", env=self.stub(6))
+        page, script = self.written("page", b""), self.written("script", b"")
+        os.truncate(script, 2**20 + 1)
+        self.ends(["edit", stand.page("title"), script], 7, f"{script}: the script has more than 1,048,576 bytes")
+        os.truncate(script, 2**20)
+        os.truncate(page, 2**24 + 1)
+        self.ends(["edit", page, script], 7, f"{page}: the page has more than 16,777,216 bytes", env=self.stub(7))
+
+    def test_a_broken_pipe_ends_quietly(self):
+        run = subprocess.Popen([stand.BTX, "gen", "1"], stdout=subprocess.PIPE, stderr=subprocess.PIPE, env=stand.environment())
+        run.stdout.read(1)
+        run.stdout.close()
+        self.assertEqual((run.stderr.read(), run.wait(60)), (b"", -signal.SIGPIPE))
+        run.stderr.close()
+        shell = f"{stand.BTX} terminal {stand.page('title')} | head -n 1 > /dev/null; echo ${{PIPESTATUS[0]}}"
+        done = subprocess.run(["bash", "-c", shell], stdout=subprocess.PIPE, stderr=subprocess.PIPE, env=stand.environment())
+        self.assertIn(done.stdout, (b"0\n", b"141\n"))
+        self.assertEqual(done.stderr, b"")
+
+    def test_an_interrupt_ends_quietly(self):
+        page = self.path("pipe")
+        os.mkfifo(page)
+        keys = {"stdout": subprocess.PIPE, "stderr": subprocess.PIPE, "env": stand.environment(), "start_new_session": True}
+        run = subprocess.Popen([stand.BTX, "show", page], **keys)
+        # The program has begun once the pipe has a reader.
+        with open(page, "wb"):
+            os.killpg(run.pid, signal.SIGINT)
+            output, error = run.communicate(timeout=60)
+        self.assertEqual((run.returncode, output, error), (-signal.SIGINT, b"", b""))
+
+    def test_a_program_that_is_not_built(self):
+        # A tree without the program, as a fresh clone is.
+        tree = self.path("clone")
+        for part in ("bin", "btx"):
+            shutil.copytree(os.path.join(stand.ROOT, part), os.path.join(tree, part))
+        os.makedirs(os.path.join(tree, "crates", "cept_tool"))
+        command = os.path.join(tree, "bin", "btx")
+        environment = {name: value for name, value in stand.environment().items() if name != "BTX_PROGRAM"}
+        self.ends(["show", "x"], 127, f"(cd {tree}/crates/cept_tool && rt run -- show data/welcome)", command=command, env=environment)
+        self.ends(["show", "x"], 127, "BTX_PROGRAM is nowhere", env={**environment, "BTX_PROGRAM": "nowhere"})
+
+    def test_help_and_version(self):
+        for word in ("changes", "check", "show", "cells", "write", "trace", "edit", "gen", "load", "terminal", "html", "png"):
+            self.assertIn(f"usage: btx {word}".encode(), self.ends([word, "--help"], 0).stdout)
+            self.assertIn(f"\n    {word} ".encode(), self.ends(["--help"], 0).stdout)
+        self.assertRegex(self.ends(["--version"], 0).stdout.decode(), r"^btx \d+\.\d+\n$")
+        self.ends([], 2, "usage: btx")
