@@ -9,7 +9,6 @@ ROOT = os.path.dirname(os.path.dirname(os.path.abspath(__file__)))
 PAGES = os.path.join(ROOT, "pages")
 BTX = os.path.join(ROOT, "bin", "btx")
 program = os.path.join(ROOT, "crates", "cept_tool", "out", "cept_tool")
-SHOWS = ("show", "terminal")
 
 
 def page(name):
@@ -18,6 +17,11 @@ def page(name):
 
 def all_pages():
     return sorted(file[: -len(".btx")] for file in os.listdir(PAGES) if file.endswith(".btx"))
+
+
+def there(name):
+    """The path of a program of this machine, or None."""
+    return shutil.which(name, path=os.environ.get("PATH", "") + ":/usr/sbin:/sbin")
 
 
 def put(*words):
@@ -56,7 +60,7 @@ class Case(unittest.TestCase):
 
     def needs(self, *names):
         """The paths of programs that this test needs; it is skipped where one is absent."""
-        paths = [shutil.which(name, path=os.environ.get("PATH", "") + ":/usr/sbin:/sbin") for name in names]
+        paths = [there(name) for name in names]
         for name, path in zip(names, paths):
             if not path:
                 self.skipTest(f"{name} is not on this machine")
