@@ -6,9 +6,9 @@ import signal
 import subprocess
 import sys
 
-from btx import VERSION, html, messages, picture, program, terminal
+from btx import VERSION, archive, html, messages, picture, program, terminal
 
-OWN = {"terminal": terminal, "html": html, "png": picture}
+OWN = {"terminal": terminal, "html": html, "png": picture, "archive": archive}
 NOT_THERE = 127
 EPILOG = """The words of the program pass through with its output and its status; what a status means is said on standard error.
 man btx and man cept_tool say more. BTX_PROGRAM can name another program."""
@@ -88,7 +88,10 @@ def run(words, beside):
         return pass_through(program.found(beside), word, rest)
     if not word.startswith("-") and word not in program.WORDS and word not in OWN:
         return unknown(word)
+    if words == archive.WORKER:
+        return archive.work(program.found(beside))
     options = parser.parse_args(words)
+    options.beside = beside
     return own(program.found(beside), OWN[options.word], options)
 
 

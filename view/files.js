@@ -58,15 +58,22 @@
     };
   }
 
-  // The pages that page_to_html put into this file.
+  const bytesIn = (letters) => Uint8Array.from(atob(letters), (sign) => sign.charCodeAt(0));
+
+  // The pages that `btx html` or `btx archive` put into this file.
   function embedded() {
-    return JSON.parse(tamligub.part("pages").textContent).map((page) => ({
-      name: page.name,
-      changes: page.changes,
-      check: page.check,
-      page: Uint8Array.from(atob(page.page), (sign) => sign.charCodeAt(0)),
-    }));
+    return JSON.parse(tamligub.part("pages").textContent).map((page) => ({ ...page, page: bytesIn(page.page) }));
   }
 
-  Object.assign(tamligub, { sorted, dropped, chosen, embedded });
+  // The same pages; of one whose text of changes is packed, as in an archive, it is unpacked.
+  async function unpacked(pages) {
+    for (const page of pages.filter((one) => one.deflated !== undefined)) {
+      const stream = new Blob([bytesIn(page.deflated)]).stream().pipeThrough(new DecompressionStream("deflate"));
+      page.changes = await new Response(stream).text();
+      delete page.deflated;
+    }
+    return pages;
+  }
+
+  Object.assign(tamligub, { sorted, dropped, chosen, embedded, unpacked });
 })((window.Tamligub = window.Tamligub || {}));

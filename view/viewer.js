@@ -265,7 +265,7 @@
     now.addEventListener("change", () => { act(); onDensity(act); }, { once: true });
   }
 
-  function begin() {
+  async function begin() {
     const viewer = new Viewer();
     tamligub.viewer = viewer;
     part("flash").checked = !window.matchMedia("(prefers-reduced-motion: reduce)").matches;
@@ -275,7 +275,7 @@
     window.addEventListener("resize", () => viewer.lay());
     onDensity(() => viewer.lay());
     window.addEventListener("hashchange", () => viewer.follow());
-    viewer.take(tamligub.embedded());
+    viewer.take(await tamligub.unpacked(tamligub.embedded()));
     viewer.follow();
     part("open-part").open = !viewer.pages.length;
   }

@@ -1,0 +1,214 @@
+"""Archives: each page with the viewer, the index, the report, going on after a stop, and over GNU parallel."""
+import base64
+import csv
+import json
+import os
+import re
+import shutil
+import signal
+import subprocess
+import sys
+import time
+import urllib.parse
+import zlib
+
+import stand
+
+sys.path.insert(0, os.path.join(stand.ROOT, "view", "tests"))
+import browser  # noqa: E402
+
+ODD = "odd #1 & 50% ü.btx"
+
+
+def data_in(path, kind):
+    with open(path, encoding="utf-8") as file:
+        return json.loads(re.search(rf'<script type="application/json" id="{kind}">(.*?)</script>', file.read(), re.DOTALL)[1])
+
+
+class Archive(stand.Case):
+    def setUp(self):
+        super().setUp()
+        self.source, self.out = self.path("collection"), self.path("out")
+        shutil.copytree(stand.PAGES, self.source, ignore=lambda place, names: [name for name in names if not name.endswith(".btx")])
+        os.mkdir(os.path.join(self.source, "folder"))
+        shutil.copy(stand.page("title"), os.path.join(self.source, "folder", ODD))
+
+    def add_bad(self):
+        """A page that is too long, one that isn't there, and one that is no file."""
+        with open(os.path.join(self.source, "long.btx"), "wb") as file:
+            file.truncate(2**24 + 1)
+        os.symlink("nowhere", os.path.join(self.source, "lost.btx"))
+        os.mkfifo(os.path.join(self.source, "pipe.btx"))
+
+    def archive(self, *words, status=0, **more):
+        done = stand.btx("archive", self.source, "-o", self.out, *words, **more)
+        self.assertEqual(done.returncode, status, done.stderr.decode())
+        return done
+
+    def report(self):
+        with open(os.path.join(self.out, "report.csv"), encoding="utf-8", newline="") as file:
+            return {row.pop("path"): row for row in csv.DictReader(file)}
+
+    def is_whole(self):
+        """Whether report, index and viewers have what the program puts for each page."""
+        report = self.report()
+        entries = {entry[0]: entry[1:] for entry in data_in(os.path.join(self.out, "index.html"), "entries")}
+        self.assertEqual(sorted(report), sorted(entries))
+        names = [name + ".btx" for name in stand.all_pages()] + ["folder/" + ODD]
+        for name in names:
+            path = os.path.join(self.source, name)
+            check = stand.put("check", path).decode()
+            items, refused = re.fullmatch(r"items (\d+) refused (\d+)", check.splitlines()[-1]).groups()
+            status = "0" if refused == "0" else "1"
+            row = report[name]
+            self.assertEqual([row[one] for one in ("bytes", "status", "items", "refused")], [str(os.path.getsize(path)), status, items, refused])
+            self.assertEqual([str(one) for one in entries[name][1:5]], [str(os.path.getsize(path)), status, items, refused])
+            address = urllib.parse.unquote(entries[name][0])
+            page, = data_in(os.path.join(self.out, "pages", address + ".html"), "pages")
+            self.assertEqual(zlib.decompress(base64.b64decode(page["deflated"])), stand.put("changes", path))
+            self.assertEqual(page["check"], check)
+            with open(path, "rb") as file:
+                self.assertEqual(base64.b64decode(page["page"]), file.read())
+            with open(os.path.join(self.out, "pictures", address + ".js"), encoding="utf-8") as file:
+                self.assertEqual(json.loads(file.read()[len("Tamligub.picture(") : -len(");\n")]), stand.put("cells", path).decode())
+        return report, names
+
+    def test_each_page_has_its_viewer_and_its_line(self):
+        self.add_bad()
+        done = self.archive()
+        report, names = self.is_whole()
+        self.assertEqual(len(report), len(names) + 3)
+        bad = [(name, report[name]["status"], report[name]["meaning"]) for name in ("long.btx", "lost.btx", "pipe.btx")]
+        self.assertEqual(bad, [
+            ("long.btx", "7", "too long: more than 16,777,216 bytes"), ("lost.btx", "4", "can't be read: no such file"),
+            ("pipe.btx", "4", "can't be read: it is no plain file"),
+        ])
+        self.assertIn(b"19 pages, 1 with refused items, 3 not read", done.stdout)
+
+    def test_what_is_there_and_newer_is_not_made_again(self):
+        self.archive()
+        made = os.path.join(self.out, "pages", "boat.btx.html")
+        for path in (made, os.path.join(self.out, "pages", "title.btx.html")):
+            os.utime(path, (1, 1))
+        # One page is newer than what was made of it, and another has lost it.
+        later = time.time() + 5
+        shutil.copy(stand.page("house"), os.path.join(self.source, "title.btx"))
+        os.utime(os.path.join(self.source, "title.btx"), (later, later))
+        os.remove(os.path.join(self.out, "made", "form.btx.json"))
+        done = self.archive()
+        self.assertIn(b"; 14 were there", done.stdout)
+        self.assertEqual(os.path.getmtime(made), 1)
+        self.assertGreater(os.path.getmtime(os.path.join(self.out, "pages", "title.btx.html")), 1)
+        self.assertEqual(self.report()["title.btx"]["bytes"], str(os.path.getsize(stand.page("house"))))
+        self.archive("--again")
+        self.assertGreater(os.path.getmtime(made), 1)
+
+    def test_a_stop_leaves_what_goes_on(self):
+        # A program that is interrupted with btx at its fourth page.
+        slow = self.written("slow", f'#!/bin/sh\necho x >> {self.path("runs")}\n[ $(wc -l < {self.path("runs")}) -lt 16 ] || sleep 30\nexec {stand.program} "$@"\n'.encode())
+        os.chmod(slow, 0o755)
+        words = [stand.BTX, "archive", self.source, "-o", self.out, "--jobs", "1"]
+        run = subprocess.Popen(words, stdout=subprocess.PIPE, stderr=subprocess.PIPE, start_new_session=True, env=stand.environment(BTX_PROGRAM=slow))
+        end = time.monotonic() + 60
+        while not (os.path.exists(self.path("runs")) and os.path.getsize(self.path("runs")) >= 32) and time.monotonic() < end:
+            time.sleep(0.05)
+        os.killpg(run.pid, signal.SIGINT)
+        output, error = run.communicate(timeout=60)
+        self.assertEqual((run.returncode, output, error), (-signal.SIGINT, b"", b""))
+        done = self.archive()
+        self.assertRegex(done.stdout, rb"; [1-9]\d* were there")
+        self.is_whole()
+
+    def test_a_folder_that_is_not_there(self):
+        self.source = self.path("nowhere")
+        self.assertIn(b"archive: " + self.source.encode() + b": No such file", self.archive(status=4).stderr)
+
+    def test_over_parallel(self):
+        self.needs("parallel")
+        self.add_bad()
+        self.archive("--jobs-by", "parallel", "--jobs", "2")
+        report, names = self.is_whole()
+        self.assertEqual(len(report), len(names) + 3)
+
+    def test_without_parallel_it_says_so(self):
+        folder = self.path("bin")
+        os.mkdir(folder)
+        os.symlink(sys.executable, os.path.join(folder, "python3"))
+        done = self.archive("--jobs-by", "parallel", status=127, env=stand.environment(PATH=folder))
+        self.assertIn(b"GNU parallel isn't on this machine (Debian: apt-get install parallel)", done.stderr)
+
+    def test_pages_that_no_machine_made_are_told(self):
+        self.needs("parallel")
+        done = self.archive("--jobs-by", "parallel", "--remote", "false", status=5)
+        self.assertIn(b"16 pages were not made", done.stderr)
+
+    def test_over_ssh_on_this_machine(self):
+        self.needs("parallel", "sshd", "ssh", "ssh-keygen")
+        done = subprocess.run([os.path.join(stand.ROOT, "btx_tests", "over_ssh"), self.source, self.out], stdout=subprocess.PIPE, stderr=subprocess.STDOUT,
+                              env=stand.environment(), timeout=120)
+        if done.returncode == 77:
+            self.skipTest(done.stdout.decode().strip())
+        self.assertEqual(done.returncode, 0, done.stdout.decode())
+        self.is_whole()
+
+
+class Index(stand.Case):
+    def setUp(self):
+        super().setUp()
+        found = browser.found()
+        if not found:
+            self.skipTest("Chromium is not on this machine (Debian: chromium)")
+        self.tab = browser.Browser(found)
+        self.addCleanup(self.tab.close)
+
+    def archive(self, source):
+        out = self.path("out")
+        self.assertEqual(stand.btx("archive", source, "-o", out).returncode, 0)
+        return out
+
+    def open(self, path):
+        self.tab.size(1280, 900)
+        self.tab.call("Page.navigate", url="file://" + urllib.parse.quote(path))
+        self.tab.until("document.readyState === 'complete' && window.Tamligub !== undefined")
+
+    def names(self):
+        return self.tab.value("[...document.querySelectorAll('#tiles .name')].map((one) => one.textContent)")
+
+    def choose(self, name, value):
+        self.tab.value(f"(({{ id, value }}) => {{ const part = document.getElementById(id); part.value = value; "
+                       f"part.dispatchEvent(new Event(id === 'search' ? 'input' : 'change')); }})({json.dumps({'id': name, 'value': value})})")
+
+    def test_index_filters_searches_and_leads_to_the_viewer(self):
+        source = self.path("source")
+        os.mkdir(source)
+        for name in ("title", "boat", "refused"):
+            shutil.copy(stand.page(name), source)
+        shutil.copy(stand.page("title"), os.path.join(source, ODD))
+        with open(os.path.join(source, "long<b>.btx"), "wb") as file:
+            file.truncate(2**24 + 1)
+        out = self.archive(source)
+        self.open(os.path.join(out, "index.html"))
+        everything = sorted(["title.btx", "boat.btx", "refused.btx", ODD, "long<b>.btx"])
+        self.assertEqual(self.names(), everything)
+        for choice, wanted in (("unread", ["long<b>.btx"]), ("refused", ["refused.btx"]), ("whole", ["boat.btx", ODD, "title.btx"])):
+            self.choose("filter", choice)
+            self.assertEqual(self.names(), wanted)
+        self.choose("filter", "all")
+        for search, wanted in (("50%", [ODD]), ("bildschirmtext größe", [ODD, "title.btx"]), ("segelboot zelle", ["boat.btx"]), ("nowhere", [])):
+            self.choose("search", search)
+            self.tab.until(f"JSON.stringify([...document.querySelectorAll('#tiles .name')].map((one) => one.textContent)) === {json.dumps(json.dumps(wanted, ensure_ascii=False, separators=(',', ':')))}")
+        self.choose("search", "")
+        self.choose("order", "refused")
+        self.assertEqual(self.names()[0], "refused.btx")
+        # The boat's water is blue and its sky cyan, once its picture has come into sight and is made.
+        self.choose("search", "boat.btx")
+        pixel = "(([canvas]) => [...canvas.getContext('2d').getImageData(PLACE, 1, 1).data].join())(document.querySelectorAll('#tiles canvas'))"
+        self.tab.until(f"document.querySelector('#tiles canvas').width === 240 && {pixel.replace('PLACE', '3, 20')} === '0,255,255,255'")
+        self.assertEqual(self.tab.value(pixel.replace("PLACE", "3, 130")), "0,0,255,255")
+        self.choose("search", "50%")
+        self.tab.value("document.querySelector('#tiles a').click()")
+        self.tab.until("window.Tamligub !== undefined && Tamligub.viewer !== undefined && Tamligub.viewer.film() !== null")
+        shown = stand.put("show", stand.page("title")).decode()
+        self.assertEqual(self.tab.value("Tamligub.viewer.film().text(false)"), shown)
+        self.assertEqual(self.tab.value("document.querySelector('h1 a').href"), "file://" + os.path.join(out, "index.html"))
+        self.assertEqual(self.tab.faults, [])
