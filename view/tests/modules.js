@@ -1,0 +1,126 @@
+// Tests the viewer's scripts that need no browser, under Node: node modules.js TEXTS, where TEXTS is a file of JSON that has for each
+// page what the program puts. The other values are those of the man page and of docs/PROFILE.md.
+"use strict";
+const assert = require("node:assert");
+const { test } = require("node:test");
+const fs = require("node:fs");
+const path = require("node:path");
+const vm = require("node:vm");
+
+const folder = path.dirname(__dirname);
+const context = vm.createContext({ window: {} });
+for (const file of ["text.js", "signs.js", "film.js"]) {
+  vm.runInContext(fs.readFileSync(path.join(folder, file), "utf8"), context, { filename: file });
+}
+const tamligub = context.window.Tamligub;
+const pages = JSON.parse(fs.readFileSync(process.argv[2], "utf8"));
+const GOOD = "0 1 1 P41 11.00 FFF 000 S---\n";
+
+const look = (text) => tamligub.readLook(text);
+const looksOf = (grid, looks) => Array.from(grid, (number) => looks[number].text);
+const filmOf = (page) => new tamligub.Film(tamligub.readChanges(page.changes), null);
+
+test("a film ends with the screen that the program shows", () => {
+  for (const [name, page] of Object.entries(pages)) {
+    const film = filmOf(page);
+    film.go(film.moments.length);
+    const text = film.text(false).split("\n");
+    assert.deepStrictEqual(text.slice(0, page.show.split("\n").length - 1), page.show.split("\n").slice(0, -1), name);
+  }
+});
+
+test("a film, its last grid and the cells of the program have the same looks", () => {
+  for (const [name, page] of Object.entries(pages)) {
+    const film = filmOf(page);
+    film.go(film.moments.length);
+    const cells = tamligub.readCells(page.cells);
+    assert.deepStrictEqual(looksOf(tamligub.lastGrid(film.changes), film.changes.looks), looksOf(film.grid, film.changes.looks), name);
+    if (page.show.split("\n").length === 25) assert.deepStrictEqual(looksOf(cells.grid, cells.looks), looksOf(film.grid, film.changes.looks), name);
+  }
+});
+
+test("back gives what was there before", () => {
+  const film = filmOf(pages.ticker);
+  const grids = [];
+  for (let moment = 0; moment <= film.moments.length; moment++) {
+    film.go(moment);
+    grids.push(Array.from(film.grid));
+  }
+  for (let moment = film.moments.length; moment >= 0; moment--) {
+    film.go(moment);
+    assert.deepStrictEqual(Array.from(film.grid), grids[moment]);
+  }
+});
+
+test("a moment comes with the byte at its place", () => {
+  const film = filmOf({ changes: "3 1 1 P41 11.00 FFF 000 S---\n3 1 2 P41 11.00 FFF 000 S---\n! 5 2 6 Interrupted\n9 1 3 P41 11.00 FFF 000 S---\n" });
+  assert.deepStrictEqual([0, 3, 4, 5, 6, 9, 10].map((bytes) => film.momentsWithin(bytes)), [0, 0, 1, 1, 2, 2, 3]);
+  assert.strictEqual(film.length, 10);
+});
+
+test("looks are read field by field", () => {
+  const read = look("P61+48 22.01 F0F --- 1clb");
+  const fields = ["kind", "set", "code", "accent", "high", "wide", "down", "right", "fore", "back", "flash", "concealed", "lined", "boxed"];
+  assert.deepStrictEqual(fields.map((field) => read[field]), ["sign", "P", 0x61, 0x48, 2, 2, 0, 1, "F0F", "---", "1", true, true, true]);
+  for (const text of ["P41 11.00 FFF 000 S--", "Q41 11.00 FFF 000 S---", "P41 31.00 FFF 000 S---", "P41 11.00 fff 000 S---", "%12x10x1/FF 11.00 FFF 000 S---", ""]) {
+    assert.strictEqual(look(text), null, text);
+  }
+});
+
+test("the pixel of plane p, line y and column x is bit (p * height + y) * width + x", () => {
+  const { pattern } = look("%6x6x2/0000000FFFFFFFFF0000000000000000/000F000F0FF0 11.00 FFF 000 S---");
+  const pixels = Array.from(tamligub.pixelsOf(pattern.width, pattern.height, pattern.planes, pattern.words));
+  assert.deepStrictEqual(pixels, Array(36).fill(1));
+  assert.deepStrictEqual(Array.from(pattern.inks), ["000", "F00", "0F0", "FF0"]);
+  assert.deepStrictEqual(Array.from(tamligub.pixelsOf(6, 6, 1, "0000000800000041")).flatMap((pixel, at) => (pixel ? [at] : [])), [0, 6, 35]);
+});
+
+test("a text names the first line that is not understood", () => {
+  for (const [text, number] of [["hello\n", 1], [GOOD + GOOD.replace("0 1 1", "0 25 1"), 2], [GOOD.replace("0", "5") + GOOD, 2], [GOOD + "\n", 2]]) {
+    assert.throws(() => tamligub.readChanges(text), (fault) => fault.number === number, text);
+  }
+  for (const [text, number] of [["0 1 P41 11.00 FFF 000 S---\n", 1], ["1 1 P41 11.00 FFF 000 S---\n1 41 P41 11.00 FFF 000 S---\n", 2], ["1 1 P41\n", 1]]) {
+    assert.throws(() => tamligub.readCells(text), (fault) => fault.number === number, text);
+  }
+  const check = tamligub.readCheck("! 0 2 6 Interrupted\nitems 3 refused 1\n");
+  assert.deepStrictEqual([check.items, check.refused, check.refusals.length, check.refusals[0].name], [3, 1, 1, "Interrupted"]);
+  assert.throws(() => tamligub.readCheck("items 3\n"), (fault) => fault.number === 1);
+});
+
+test("each mosaic is of a kind that has a name", () => {
+  const kinds = ["blocks", "slope", "quarters", "lines", "slants", "dot", "sign", "bar", "checks"];
+  const seen = new Set();
+  for (const set of ["M", "N"]) {
+    for (let code = 0x21; code < 0x80; code++) {
+      const mosaic = tamligub.mosaicOf(set, code);
+      if (mosaic === null) continue;
+      assert.ok(kinds.includes(mosaic.kind), `${set}${code.toString(16)}`);
+      seen.add(mosaic.kind);
+    }
+  }
+  assert.deepStrictEqual([...seen].sort(), [...kinds].sort());
+});
+
+test("the blocks of a mosaic are bits 1, 2, 4, 8, 16 and 64 of its code", () => {
+  for (const code of [0x21, 0x22, 0x24, 0x28, 0x30, 0x60, 0x7f, 0x35]) {
+    const blocks = [1, 2, 4, 8, 16, 64].reduce((sum, bit, at) => sum | (code & bit ? 1 << at : 0), 0);
+    assert.deepStrictEqual({ ...tamligub.mosaicOf("M", code) }, { kind: "blocks", blocks });
+  }
+});
+
+test("a slope fills the side of its corner", () => {
+  const area = (polygon) => Math.abs(polygon.reduce((sum, [x, y], at) => {
+    const [u, v] = polygon[(at + 1) % polygon.length];
+    return sum + x * v - u * y;
+  }, 0)) / 2;
+  const close = (one, other) => assert.ok(Math.abs(one - other) < 1e-9, `${one}, not ${other}`);
+  close(area(tamligub.polygonOf("l0 r3", "l3")), 0.5);
+  close(area(tamligub.polygonOf("l2 c3", "l3")), 1 / 12);
+  close(area(tamligub.polygonOf("l2 c3", "r0")), 11 / 12);
+});
+
+test("signs are those of the profile's table", () => {
+  const unicode = (shape) => tamligub.unicodeOf(look(`${shape} 11.00 FFF 000 S---`));
+  const wanted = { P41: "A", P7F: "\u25a0", "P61+48": "a\u0308", "P61+40": "a", S21: "¡", S3F: "¿", S55: "♪", S65: "\ufffd", S7E: "ŋ", M21: "\u2592", N50: "\u2592", D41: "\u25a1" };
+  for (const [shape, sign] of Object.entries(wanted)) assert.strictEqual(unicode(shape), sign, shape);
+});
