@@ -3,10 +3,9 @@ import base64
 import os
 import re
 import tempfile
-import unicodedata
 import zlib
 
-from btx import html, messages, program
+from btx import html, looks, messages, program, signs
 
 # Parts are packed quickly: the text of changes is long, and much of it the same.
 LEVEL = 1
@@ -50,18 +49,20 @@ def packed(data):
     return base64.b64encode(zlib.compress(data, LEVEL)).decode("ascii")
 
 
-def words_of(text):
-    """The text of a screen as it is searched: composed, words of double width joined, and single spaces."""
-    text = unicodedata.normalize("NFC", text)
-    return " ".join(WIDE.sub(lambda found: found[0].replace(" ", ""), text).split())
+def words_of(cells):
+    """The text of a screen as it is searched: signs of text alone, words of double width joined, and single spaces."""
+    shown = {place: signs.shown(look, False)[0] for place, look in looks.cells_of(cells).items() if look.shape[0] in "PS"}
+    rows = ("".join(shown.get((row, column), " ") for column in range(1, looks.COLUMNS + 1)) for row in range(1, looks.ROWS + 1))
+    return " ".join(WIDE.sub(lambda found: found[0].replace(" ", ""), "\n".join(rows)).split())
 
 
 def parts_of(path, source):
     """The parts of a page that is read to its end."""
-    changes, check, cells, shown = (program.text_put(path, word, source) for word in ("changes", "check", "cells", "show"))
+    check, cells = (program.text_put(path, word, source) for word in ("check", "cells"))
+    changes = program.bytes_put(path, "changes", source)
     with open(source, "rb") as file:
         stored = base64.b64encode(file.read()).decode("ascii")
-    return {"deflated": packed(changes.encode("ascii")), "check": check, "page": stored, "cells": cells, "words": words_of(shown)}
+    return {"deflated": packed(changes), "check": check, "page": stored, "cells": cells, "words": words_of(cells)}
 
 
 def made(path, source):

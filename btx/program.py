@@ -56,12 +56,17 @@ def put(program, word, *words):
     return done.stdout, done.returncode
 
 
-def text_put(program, word, page):
-    """The text that the program puts for a page that is read to its end; else the run's end is raised."""
+def bytes_put(program, word, page):
+    """What the program puts for a page that is read to its end; else the run's end is raised."""
     output, status = put(program, word, page)
     if status not in (READ_TO_THE_END, WITH_REFUSALS):
         raise Ended(word, [page], status)
-    return output.decode("utf-8")
+    return output
+
+
+def text_put(program, word, page):
+    """The same as text."""
+    return bytes_put(program, word, page).decode("utf-8")
 
 
 def counts_in(text):

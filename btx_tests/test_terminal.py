@@ -182,11 +182,13 @@ class Terminal(stand.Case):
         socket = self.path("socket")
 
         def ask(*words):
-            return subprocess.run([tmux, "-f", "/dev/null", "-S", socket, *words], stdout=subprocess.PIPE, timeout=60, env=env).stdout.decode()
+            done = subprocess.run([tmux, "-f", "/dev/null", "-S", socket, *words], stdout=subprocess.PIPE, stderr=subprocess.STDOUT, timeout=60, env=env)
+            self.assertEqual(done.returncode, 0, done.stdout.decode())
+            return done.stdout.decode()
 
         env = {**FULL, "LANG": "C.UTF-8", "LC_ALL": "C.UTF-8", "TERM": "xterm-256color"}
         env.pop("TMUX", None)
-        # Letters alone here: tmux shows what its own table of widths knows, and older ones lack the newest signs.
+        # Pages whose signs every tmux knows the widths of.
         for words in ([stand.page("timetable")], [stand.page("title"), "--replay", "10000000"]):
             command = shlex.join([stand.BTX, "terminal", *words]) + "; echo ready; exec cat"
             ask("-u", "new-session", "-d", "-x", "80", "-y", "30", command)
