@@ -73,6 +73,12 @@ pub use Rattle.cept_profile.proofs.LooksInRows.{look_in_row-alike, size_in_row-a
 pub use Rattle.cept_profile.proofs.LooksInRows.{size_in_row-single, looks_of-alike}
 -- ---- codes_give_signs_or_accents
 pub use Rattle.cept_profile.proofs.CodesRead.{IsCode-code_of, IsValidRead-read_as, read_as-accent}
+-- ---- nothing_noted_unwinds_nothing
+pub use Rattle.cept_profile.proofs.OldValues.{unwound-begun, unwound-none}
+-- ---- noting_leaves_what_is_unwound_to
+pub use Rattle.cept_profile.proofs.OldValues.{page_unwound-differ, unwound-with_control}
+-- ---- noted_strokes_leave_what_is_unwound_to
+pub use Rattle.cept_profile.proofs.NotedStrokes.{IsAfter, page_unwound-stroke, unwound-with_command}
 
 -- what a function that reads a code needs
 pub ruleset readings = (IsCode-code_of, IsValidRead-read_as, read_as-accent)

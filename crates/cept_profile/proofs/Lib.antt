@@ -65,6 +65,6 @@ mod NamesOfRows
 mod WorkedNames
 mod NamesFromAbove
 mod FirstNames
-pub mod OldValues
-pub mod NotedStrokes
+mod OldValues
+mod NotedStrokes
 mod WorkedOldValues
