@@ -1,3 +1,8 @@
+pub mod PutBack
+pub mod NotedPages
+pub mod KeptDelta
+pub mod NotedInTurn
+pub mod NotedValues
 pub mod AppliedCommands
 pub mod AloneRows
 pub mod AlteredRows

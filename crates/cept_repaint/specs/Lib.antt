@@ -1,4 +1,5 @@
 pub mod Applied
+pub mod Delta
 pub mod Drawn
 pub mod Due
 pub mod GlassState
@@ -8,8 +9,10 @@ pub mod Kept
 pub mod MarkedRows
 pub mod Marks
 pub mod Named
+pub mod Noter
 pub mod Redefined
 pub mod Resolved
 pub mod Tape
 pub mod TapeGlass
 pub mod ValidGrid
+pub mod PutBack

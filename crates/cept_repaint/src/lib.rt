@@ -4,6 +4,7 @@
 
 mod altered_rows;
 mod compared_rows;
+mod delta;
 mod followed_rows;
 mod glass;
 mod grid_glass;
@@ -11,6 +12,7 @@ mod kept_names;
 mod kept_rows;
 mod marks;
 mod moved_rows;
+mod noter;
 mod page;
 mod page_parts;
 mod painting;
@@ -24,6 +26,7 @@ mod tape_glass;
 #[cfg(test)]
 mod tests;
 
+pub use delta::Delta;
 pub use glass::Glass;
 pub use grid_glass::GridGlass;
 pub use marks::Marks;

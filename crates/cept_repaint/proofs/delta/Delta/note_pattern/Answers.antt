@@ -1,0 +1,8 @@
+use Rattle.std.proofs.Common.{◌-◌, arith}
+use Rattle.cept_repaint.proofs.NotedValues.{pattern_of_values}
+use Rattle.cept_repaint.proofs.delta.Delta.note_pattern.Goals as goal
+
+pub returns : goal.returns
+returns c =
+    pattern_of_values c.self.invariant.places c.self.view_is (c.from.result - 0x21) c.args.code c.args.pattern.now _ _
+    c.note.new.place c.requires.from_first c.requires.to_last (omega arith) c.index_mut.ensures.value c.note.ensures

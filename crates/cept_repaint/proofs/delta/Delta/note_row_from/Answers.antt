@@ -1,0 +1,19 @@
+use Rattle.std.proofs.Common.{◌==◌, ◌-◌, ◌&&◌, nat_le, List, [], get_or, refl, ap, ◌∙◌}
+use Rattle.std.proofs.lemmas.Bool.{and_parts, eqb-true}
+use Rattle.cept_codes.specs.declared.cell.Cell.{Cell}
+use Rattle.cept_codes.specs.Cell.{blank_cell}
+use Rattle.cept_codes.specs.Table.{entry, value_at}
+use Rattle.cept_codes.proofs.Laws.{entry_from}
+use Rattle.cept_repaint.proofs.NotedInTurn.{cells_alike}
+use Rattle.cept_repaint.proofs.delta.Delta.note_row_from.Goals as goal
+
+pub returns : goal.returns
+returns c =
+    c.note_row.ensures
+    ∙ cells_alike (λ r k. c.args.row == r && nat_le c.args.from k) (λ r k. c.args.row == r && nat_le c.args.from k)
+    (λ _ k. entry blank_cell 1 c.cells.result.now k) (value_at blank_cell c.args.grid.now) c.args.self.now
+    (λ r k on. refl) (λ r k on here.
+    let parts = and_parts (c.args.row == r) (nat_le c.args.from k) here in
+    entry_from blank_cell 1 c.cells.result.now k on.from_left
+    ∙ ap (λ (l : List Cell). get_or l (k - 1) blank_cell) (c.cells.ensures.cells [])
+    ∙ ap (λ q. value_at blank_cell c.args.grid.now q k) (eqb-true c.args.row r parts.0))

@@ -1,0 +1,41 @@
+use Rattle.std.proofs.Common.{sym, ap, ◌∙◌}
+use Rattle.cept_codes.specs.declared.stroke.Stroke.{Stroke}
+use Rattle.cept_profile.specs.NotedStrokes.{with_stroke}
+use Rattle.cept_repaint.specs.Noter.{page_with}
+use Rattle.cept_repaint.proofs.delta.Delta.note_stroke.Goals as goal
+
+pub returns-in-Erase : goal.returns-in-Erase
+returns-in-Erase c =
+    c.note_row_from.ensures
+    ∙ ap (λ (s : Stroke). with_stroke (page_with c.args.grid.now c.args.row_pens.now c.args.screen_pen.now
+    c.args.colours.now c.args.patterns.now) s c.args.self.now) (sym c.in-Erase.is)
+
+pub returns-in-Shift : goal.returns-in-Shift
+returns-in-Shift c =
+    c.note_rows.ensures
+    ∙ ap (λ (s : Stroke). with_stroke (page_with c.args.grid.now c.args.row_pens.now c.args.screen_pen.now
+    c.args.colours.now c.args.patterns.now) s c.args.self.now) (sym c.in-Shift.is)
+
+pub returns-in-RowAttr : goal.returns-in-RowAttr
+returns-in-RowAttr c =
+    c.note_row_pen_in.ensures
+    ∙ ap (λ (s : Stroke). with_stroke (page_with c.args.grid.now c.args.row_pens.now c.args.screen_pen.now
+    c.args.colours.now c.args.patterns.now) s c.args.self.now) (sym c.in-RowAttr.is)
+
+pub returns-in-Colour : goal.returns-in-Colour
+returns-in-Colour c =
+    c.note_paint_in.ensures
+    ∙ ap (λ (s : Stroke). with_stroke (page_with c.args.grid.now c.args.row_pens.now c.args.screen_pen.now
+    c.args.colours.now c.args.patterns.now) s c.args.self.now) (sym c.in-Colour.is)
+
+pub returns-in-Dclut : goal.returns-in-Dclut
+returns-in-Dclut c =
+    c.note_dclut_in.ensures
+    ∙ ap (λ (s : Stroke). with_stroke (page_with c.args.grid.now c.args.row_pens.now c.args.screen_pen.now
+    c.args.colours.now c.args.patterns.now) s c.args.self.now) (sym c.in-Dclut.is)
+
+pub returns-in-Drcs : goal.returns-in-Drcs
+returns-in-Drcs c =
+    c.note_pattern_in.ensures
+    ∙ ap (λ (s : Stroke). with_stroke (page_with c.args.grid.now c.args.row_pens.now c.args.screen_pen.now
+    c.args.colours.now c.args.patterns.now) s c.args.self.now) (sym c.in-Drcs.is)

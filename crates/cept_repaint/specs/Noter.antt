@@ -1,0 +1,28 @@
+-- What a noter makes of values (this project's own): one that notes none has none, and no state behind. Private clauses
+-- alone cite this file.
+use Rattle.std.specs.Prelude.{Option, List, option_map}
+use Rattle.cept_codes.specs.declared.attribute.Pen.{Pen}
+use Rattle.cept_codes.specs.declared.cell.Cell.{Cell}
+use Rattle.cept_codes.specs.declared.look.Pattern.{Pattern}
+use Rattle.cept_colours.specs.Colours.{ColourTables}
+use Rattle.cept_profile.specs.OldValues.{OldValues, page_unwound, unwound}
+use Rattle.cept_profile.specs.State.{Page, State}
+
+-- the page of these parts
+abbrev pub page_with : List (List Cell) → List Pen → Pen → ColourTables → List (Option Pattern) → Page
+page_with cells row_pens screen_pen colours patterns = record {
+  cells = cells;
+  row_pens = row_pens;
+  screen_pen = screen_pen;
+  paints = colours.paints;
+  dclut = colours.dclut;
+  patterns = patterns;
+}
+
+-- the page to which this one unwinds by what is noted, where anything may be noted
+abbrev pub page_behind : Option OldValues → Page → Option Page
+page_behind noted p = option_map (page_unwound p) noted
+
+-- the state to which this one unwinds
+abbrev pub state_behind : Option OldValues → State → Option State
+state_behind noted s = option_map (unwound s) noted
