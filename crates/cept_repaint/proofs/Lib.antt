@@ -1,3 +1,4 @@
+pub mod UnwoundPages
 pub mod PutBack
 pub mod NotedPages
 pub mod KeptDelta

@@ -25,6 +25,7 @@ mod snapshot;
 mod tape_glass;
 #[cfg(test)]
 mod tests;
+mod unwinding;
 
 pub use delta::Delta;
 pub use glass::Glass;
