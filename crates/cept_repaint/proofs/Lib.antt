@@ -1,3 +1,4 @@
+pub mod FlagsAnew
 pub mod UnwoundPages
 pub mod PutBack
 pub mod NotedPages

@@ -16,3 +16,4 @@ pub mod Tape
 pub mod TapeGlass
 pub mod ValidGrid
 pub mod PutBack
+pub mod FlagsAnew

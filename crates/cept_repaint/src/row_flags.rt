@@ -158,7 +158,7 @@ fn flag_row(row: u8, so: bool, rows: &mut [bool; 24])
 }
 
 /// Whether a marker stands there.
-fn is_marker(what: &What) -> bool
+pub(crate) fn is_marker(what: &What) -> bool
     ensures { result ≡ is_marker what.now }
 {
     match what {
@@ -168,7 +168,7 @@ fn is_marker(what: &What) -> bool
 }
 
 /// Whether what stands there sets a double size.
-fn sets_double_size(what: &What) -> bool
+pub(crate) fn sets_double_size(what: &What) -> bool
     ensures { result ≡ sets_double_size what.now }
 {
     match what {
@@ -192,7 +192,7 @@ fn gives_size(attr: &Attr) -> bool
 }
 
 /// A size other than the single one.
-fn is_double(size: Size) -> bool
+pub(crate) fn is_double(size: Size) -> bool
     ensures { result ≡ is_double size }
 {
     match size {

@@ -1,0 +1,139 @@
+-- Flags of rows after old values were put back.
+use Rattle.std.proofs.Common.{◌≡◌, ◌≢◌, ℕ, ◌+◌, ◌≤◌, Bool, false, inl, inr, None, Option, List}
+use Rattle.std.proofs.Common.{length, unwrap_or, refl, sym, ap, subst, ◌∙◌, arith}
+use Rattle.std.proofs.lemmas.Bool.{cases_eq}
+use Rattle.cept_codes.specs.declared.attribute.Pen.{Pen}
+use Rattle.cept_codes.specs.declared.cell.Cell.{Cell}
+use Rattle.cept_codes.specs.declared.cell.What.{What}
+use Rattle.cept_codes.specs.Attribute.{unset_pen}
+use Rattle.cept_codes.specs.Cell.{blank_cell}
+use Rattle.cept_codes.specs.Place.{OnScreen}
+use Rattle.cept_codes.specs.Table.{entry, value_at}
+use Rattle.cept_codes.proofs.Laws.{entry-list_by_index, entry_from, length-list_by_index, value_at-table}
+use Rattle.cept_profile.specs.Look.{is_double_set, sets_double_size}
+use Rattle.cept_profile.specs.OldValues.{OldValues, no_old_values, old_cell, old_row_pen, page_unwound}
+use Rattle.cept_profile.specs.PageParts.{row_pen_in}
+use Rattle.cept_profile.specs.Serial.{is_marker}
+use Rattle.cept_profile.specs.State.{Page}
+use Rattle.cept_repaint.specs.FlagsAnew.{AreFlagsMade, IsFlagMade, IsRowUnnoted, IsSingleRowAnew, IsSoOrStays}
+use Rattle.cept_repaint.specs.FlagsAnew.{IsUnmarkedRow, RowHasNone, row_in_table}
+use Rattle.cept_repaint.specs.MarkedRows.{HasNone, IsKeptPage, IsSingleRow}
+
+-- ---- one row after the other
+
+pub AreFlagsMade-none : (IsSo : ℕ → Type 0) (was : List Bool) → length was ≡ 24 → AreFlagsMade IsSo 1 was was
+AreFlagsMade-none IsSo was long =
+    record { rows = long; made = λ r low high before unset. absurd (omega arith); left = λ r low high from. refl }
+
+-- what is so, or is as it was just before, is so or as it was at first
+stays_longer : (IsSo : Type 0) (old : OldValues) (was then : List Bool) (r : ℕ)
+    → entry false 1 then r ≡ entry false 1 was r → IsSoOrStays IsSo old then r → IsSoOrStays IsSo old was r
+stays_longer IsSo old was then r same (inl so) = inl so
+stays_longer IsSo old was then r same (inr stays) = inr (sym same ∙ stays.0, stays.1)
+
+pub AreFlagsMade-more : (IsSo : ℕ → Type 0) (old : OldValues) (was then now : List Bool) (k m : ℕ)
+    → AreFlagsMade (λ r. IsSoOrStays (IsSo r) old was r) k was then
+    → IsFlagMade (IsSoOrStays (IsSo k) old then k) k then now → m ≡ k + 1 → 1 ≤ k → k ≤ 24
+    → AreFlagsMade (λ r. IsSoOrStays (IsSo r) old was r) m was now
+AreFlagsMade-more IsSo old was then now k m before one next low high = record {
+  rows = one.rows;
+  made = λ r from to below unset.
+      elim (cases_eq k r) [
+        | inl e ↦
+            let at : entry false 1 now k ≡ false = subst (λ n. entry false 1 now n ≡ false) (sym e) unset in
+            subst (λ n. IsSoOrStays (IsSo n) old was n) e
+            (stays_longer (IsSo k) old was then k (before.left k low high (omega arith)) (one.here at))
+        | inr ne ↦ before.made r from to (omega (arith, ne, below, next)) (sym (one.others r from to ne) ∙ unset)
+      ];
+  left = λ r from to past.
+      let ne : k ≢ r = λ e. omega arith in
+      one.others r from to ne ∙ before.left r from to (omega arith);
+}
+
+-- flags that stay, where the row isn't noted
+pub IsFlagMade-stays : (IsSo : Type 0) (old : OldValues) (k : ℕ) (was : List Bool) → length was ≡ 24
+    → IsRowUnnoted old k → IsFlagMade (IsSoOrStays IsSo old was k) k was was
+IsFlagMade-stays IsSo old k was long none =
+    record { rows = long; others = λ r low high ne. refl; here = λ unset. inr (unset, none) }
+
+pub IsRowUnnoted-by : (old : OldValues) (r : ℕ) → 1 ≤ r → r ≤ 24 → ((c : ℕ) → OnScreen r c → old_cell old r c ≡ None)
+    → old.row_pens ≡ no_old_values.row_pens → IsRowUnnoted old r
+IsRowUnnoted-by old r low high cells pens = record {
+  cells = cells;
+  pen = ap (λ (l : List (Option Pen)). entry None 1 l r) pens
+      ∙ entry-list_by_index None 1 24 (λ _. None) r low (omega (arith, high));
+}
+
+-- ---- the page afterwards
+
+-- the cells of a row that isn't noted stay
+cell_stays : (p : Page) (old : OldValues) (r c : ℕ) → OnScreen r c → IsRowUnnoted old r
+    → value_at blank_cell (page_unwound p old).cells r c ≡ value_at blank_cell p.cells r c
+cell_stays p old r c on none =
+    value_at-table (λ q k. unwrap_or (old_cell old q k) (value_at blank_cell p.cells q k)) blank_cell r c on
+    ∙ ap (λ (o : Option Cell). unwrap_or o (value_at blank_cell p.cells r c)) (none.cells c on)
+
+pen_stays : (p : Page) (old : OldValues) (r : ℕ) → 1 ≤ r → r ≤ 24 → IsRowUnnoted old r
+    → row_pen_in (page_unwound p old).row_pens r ≡ row_pen_in p.row_pens r
+pen_stays p old r low high none =
+    entry-list_by_index unset_pen 1 24 (λ q. unwrap_or (old_row_pen old q) (row_pen_in p.row_pens q)) r low
+    (omega (arith, high))
+    ∙ ap (λ (o : Option Pen). unwrap_or o (row_pen_in p.row_pens r)) none.pen
+
+-- nothing such stands in a row of the page
+row_none : (is_such : What → Bool) (cells : List (List Cell)) (r : ℕ) → RowHasNone is_such (row_in_table cells r)
+    → HasNone is_such cells r
+row_none is_such cells r none c on =
+    ap (λ (x : Cell). is_such x.what) (sym (entry_from blank_cell 1 (row_in_table cells r) c on.from_left))
+    ∙ none c on.from_left on.to_right
+
+unmarked : (p : Page) (old : OldValues) (was : List Bool) (r : ℕ) → 1 ≤ r → r ≤ 24
+    → (entry false 1 was r ≡ false → HasNone is_marker p.cells r)
+    → IsUnmarkedRow (page_unwound p old).cells old was r → HasNone is_marker (page_unwound p old).cells r
+unmarked p old was r low high before (inl none) = row_none is_marker (page_unwound p old).cells r none
+unmarked p old was r low high before (inr stays) = λ c on.
+    ap (λ (x : Cell). is_marker x.what) (cell_stays p old r c on stays.1) ∙ before stays.0 c on
+
+single : (p : Page) (old : OldValues) (was : List Bool) (r : ℕ) → 1 ≤ r → r ≤ 24
+    → (entry false 1 was r ≡ false → IsSingleRow p r)
+    → IsSingleRowAnew (page_unwound p old).cells (page_unwound p old).row_pens old was r
+    → IsSingleRow (page_unwound p old) r
+single p old was r low high before (inl so) =
+    record { cells = row_none sets_double_size (page_unwound p old).cells r so.0; pen = so.1 }
+single p old was r low high before (inr stays) = record {
+  cells = λ c on. ap (λ (x : Cell). sets_double_size x.what) (cell_stays p old r c on stays.1)
+      ∙ (before stays.0).cells c on;
+  pen = ap (λ (x : Pen). is_double_set x.size) (pen_stays p old r low high stays.1) ∙ (before stays.0).pen;
+}
+
+pub IsKeptPage-unwound : (p q : Page) (old : OldValues) (marked sized new_marked new_sized : List Bool)
+    (cells : List (List Cell)) (pens : List Pen) (n : ℕ) → IsKeptPage p marked sized → q ≡ page_unwound p old
+    → q.cells ≡ cells → q.row_pens ≡ pens → 25 ≤ n
+    → AreFlagsMade (λ r. IsUnmarkedRow cells old marked r) n marked new_marked
+    → AreFlagsMade (λ r. IsSingleRowAnew cells pens old sized r) n sized new_sized
+    → IsKeptPage q new_marked new_sized
+IsKeptPage-unwound p q old marked sized new_marked new_sized cells pens n kept is same_cells same_pens all ms ss =
+    let u : Page = page_unwound p old in
+    let at : u.cells ≡ cells = ap (λ (x : Page). x.cells) (sym is) ∙ same_cells in
+    let pens_at : u.row_pens ≡ pens = ap (λ (x : Page). x.row_pens) (sym is) ∙ same_pens in
+    subst (λ (x : Page). IsKeptPage x new_marked new_sized) (sym is) (record {
+      rows = length-list_by_index 1 24 _;
+      colours = length-list_by_index 0 32 _;
+      names = length-list_by_index 0 4 _;
+      codes = length-list_by_index 0x21 94 _;
+      markers = record {
+        rows = ms.rows;
+        none = λ r low high unset.
+            unmarked p old marked r low high (kept.markers.none r low high)
+            (subst (λ (t : List (List Cell)). IsUnmarkedRow t old marked r) (sym at)
+            (ms.made r low high (omega arith) unset));
+      };
+      sizes = record {
+        rows = ss.rows;
+        none = λ r low high unset.
+            single p old sized r low high (kept.sizes.none r low high)
+            (subst (λ (t : List (List Cell)). IsSingleRowAnew t u.row_pens old sized r) (sym at)
+            (subst (λ (l : List Pen). IsSingleRowAnew cells l old sized r) (sym pens_at)
+            (ss.made r low high (omega arith) unset)));
+      };
+    })

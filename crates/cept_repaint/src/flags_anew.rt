@@ -1,0 +1,130 @@
+ghost use Rattle.std.specs.Prelude.{◌≡◌, ◌≤◌, ◌<◌, ℕ, false, length};
+ghost use Rattle.cept_codes.specs.Cell.{blank_cell};
+ghost use Rattle.cept_codes.specs.Table.{entry};
+ghost use Rattle.cept_profile.specs.Look.{is_double_set, sets_double_size};
+ghost use Rattle.cept_profile.specs.Serial.{is_marker};
+ghost use Rattle.cept_profile.specs.OldValues.{page_unwound};
+ghost use Rattle.cept_profile.specs.State.{Page};
+ghost use Rattle.cept_repaint.specs.FlagsAnew.{IsFlagMade, IsSingle, IsSingleRowAnew, IsUnmarkedRow, RowHasNone};
+ghost use Rattle.cept_repaint.specs.MarkedRows.{IsKeptPage};
+
+use crate::delta::Delta;
+use crate::row_flags::{is_double, is_marker, sets_double_size};
+use cept_cells::Grid;
+use cept_codes::{Cell, Pen};
+
+/// Makes the flags of all rows anew of which old values may have been put back.
+pub(crate) fn flag_unwound(
+    delta: &Delta,
+    grid: &Grid,
+    row_pens: &[Pen; 24],
+    marked: &mut [bool; 24],
+    sized: &mut [bool; 24],
+)
+    requires rows { length row_pens.now ≡ 24 }
+    requires marked_rows { length marked.old ≡ 24 }
+    requires sized_rows { length sized.old ≡ 24 }
+    ensures { (p q : Page) → IsKeptPage p marked.old sized.old → q ≡ page_unwound p delta.now
+        → q.cells ≡ grid.now → q.row_pens ≡ row_pens.now → IsKeptPage q marked.new sized.new }
+{
+    for row in 1..25u8 {
+        flag_row_unwound(row, delta, grid, row_pens, marked, sized);
+    }
+}
+
+/// Makes the flags of a row anew, where old values of it may have been put back.
+fn flag_row_unwound(
+    row: u8,
+    delta: &Delta,
+    grid: &Grid,
+    row_pens: &[Pen; 24],
+    marked: &mut [bool; 24],
+    sized: &mut [bool; 24],
+)
+    requires from_top { 1 ≤ row }
+    requires to_bottom { row ≤ 24 }
+    requires rows { length row_pens.now ≡ 24 }
+    requires marked_rows { length marked.old ≡ 24 }
+    requires sized_rows { length sized.old ≡ 24 }
+    ensures marked { IsFlagMade (IsUnmarkedRow grid.now delta.now marked.old row) row marked.old marked.new }
+    ensures sized { IsFlagMade (IsSingleRowAnew grid.now row_pens.now delta.now sized.old row) row
+        sized.old sized.new }
+{
+    if delta.has_row(row) || delta.has_row_pens() {
+        flag_anew(
+            row,
+            grid.cells(row),
+            &row_pens[usize::from(row) - 1],
+            marked,
+            sized,
+        );
+    }
+}
+
+/// Makes the flags of a row anew, by its cells and its attributes.
+pub(crate) fn flag_anew(
+    row: u8,
+    cells: &[Cell; 40],
+    pen: &Pen,
+    marked: &mut [bool; 24],
+    sized: &mut [bool; 24],
+)
+    requires from_top { 1 ≤ row }
+    requires to_bottom { row ≤ 24 }
+    requires columns { length cells.now ≡ 40 }
+    requires marked_rows { length marked.old ≡ 24 }
+    requires sized_rows { length sized.old ≡ 24 }
+    ensures marked { IsFlagMade (RowHasNone is_marker cells.now) row marked.old marked.new }
+    ensures sized { IsFlagMade (IsSingle cells.now pen.now) row sized.old sized.new }
+{
+    let marker = has_marker(cells);
+    let double = has_double(cells) || gives_double(pen);
+    set_flag(row, marker, marked);
+    set_flag(row, double, sized);
+}
+
+/// Sets or unsets the flag of a row.
+fn set_flag(row: u8, flag: bool, rows: &mut [bool; 24])
+    requires from_top { 1 ≤ row }
+    requires to_bottom { row ≤ 24 }
+    requires rows { length rows.old ≡ 24 }
+    ensures made { IsFlagMade (flag ≡ false) row rows.old rows.new }
+{
+    rows[usize::from(row) - 1] = flag;
+}
+
+/// Whether a marker stands in one of the cells.
+fn has_marker(cells: &[Cell; 40]) -> bool
+    requires { length cells.now ≡ 40 }
+    ensures { result ≡ false → RowHasNone is_marker cells.now }
+{
+    for i in 0..40usize {
+        if is_marker(&cells[i].what) {
+            return true;
+        }
+    }
+    false
+}
+
+/// Whether one of the cells sets a double size.
+fn has_double(cells: &[Cell; 40]) -> bool
+    requires { length cells.now ≡ 40 }
+    ensures { result ≡ false → RowHasNone sets_double_size cells.now }
+{
+    for i in 0..40usize {
+        if sets_double_size(&cells[i].what) {
+            return true;
+        }
+    }
+    false
+}
+
+/// Whether these attributes of a row set a double size.
+fn gives_double(pen: &Pen) -> bool
+    ensures { result ≡ is_double_set pen.now.size }
+{
+    match pen.size {
+        Some(size) => is_double(size),
+        None => false,
+    }
+}
