@@ -7,6 +7,7 @@ mod CompactShorter
 mod CompactSpelled
 mod CellsWritten
 mod Drawing
+mod EntriesInTurn
 mod MarkersLeft
 mod PageCommandsValid
 mod PageDrawn
@@ -19,6 +20,7 @@ mod PenAttributes
 mod PensAdded
 mod Resting
 mod SegmentSigns
+mod SegmentsByCell
 mod SegmentsDrawn
 mod SignsWritten
 mod StrokesByPart

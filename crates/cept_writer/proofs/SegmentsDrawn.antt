@@ -395,18 +395,18 @@ module _ (same_pens : (a b : Pen) → IsTrue (same_pen a b) ↔ (a ≡ b)) (c1 :
   next_belongs (whats.Parallel g own) (whats.Marker m) is on valid = absurd cc
 
 -- what a cell that continues another says
-record Continues (a b : PlacedCell) : Type 0 where
-  row : b.place.row ≡ a.place.row
-  column : b.place.column ≡ a.place.column + 1
-  protected : b.cell.protected ≡ a.cell.protected
-  on : is_written_on a.cell.what b.cell.what ≡ true
+pub record Continues (a b : PlacedCell) : Type 0 where
+  pub row : b.place.row ≡ a.place.row
+  pub column : b.place.column ≡ a.place.column + 1
+  pub protected : b.cell.protected ≡ a.cell.protected
+  pub on : is_written_on a.cell.what b.cell.what ≡ true
 
 same_protection : (p q : Bool) → is_same_protection p q ≡ true → q ≡ p
 same_protection true q e = e
 same_protection false true e = absurd cc
 same_protection false false e = refl
 
-parts_of_continues : (a b : PlacedCell) → continues a b ≡ true → Continues a b
+pub parts_of_continues : (a b : PlacedCell) → continues a b ≡ true → Continues a b
 parts_of_continues a b e =
     let both = and_parts (is_next_place a.place b.place)
     (is_same_protection a.cell.protected b.cell.protected && is_written_on a.cell.what b.cell.what) e in

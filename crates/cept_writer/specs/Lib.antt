@@ -4,4 +4,6 @@ pub mod PageCommands
 pub mod Codes
 pub mod Chains
 pub mod SegmentCommands
+pub mod SegmentPieces
+pub mod EntryPieces
 pub mod CompactCommands

@@ -8,7 +8,7 @@ mod turns;
 
 pub use chains::chains_cut_where_none_goes_on;
 pub use compact::{
-    compact_pages_are_restored, compact_pages_are_spelled,
+    compact_pages_are_restored, compact_pages_are_spelled, compact_parts_are_written_in_turn,
     compact_texts_are_no_longer_than_plain_ones, compact_texts_bring_pages_back,
 };
 pub use pages::pages_are_restored;

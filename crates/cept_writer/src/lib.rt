@@ -6,6 +6,7 @@ mod attributes;
 mod cells;
 mod colours;
 mod law;
+mod link;
 mod list;
 mod page;
 mod pattern;
@@ -17,7 +18,7 @@ mod text;
 
 pub use law::{
     attributes_make_the_pen, bytes_of_pages_bring_them_back, chains_cut_where_none_goes_on,
-    compact_pages_are_restored, compact_pages_are_spelled,
+    compact_pages_are_restored, compact_pages_are_spelled, compact_parts_are_written_in_turn,
     compact_texts_are_no_longer_than_plain_ones, compact_texts_bring_pages_back,
     pages_are_restored, pages_are_spelled, parts_are_written_in_turn,
 };
