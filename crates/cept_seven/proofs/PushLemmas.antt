@@ -1,12 +1,12 @@
 -- One byte more: what it adds to a seven-bit form, and what it gives of one.
-use Rattle.std.proofs.Common.{◌≡◌, ℕ, ◌+◌, ◌-◌, Bool, true, false, not, ◌&&◌, cond, List, [], ◌∷◌, ◌++◌, reverse}
-use Rattle.std.proofs.Common.{refl, sym, ap, ◌∙◌, inl, inr, subst}
+use Rattle.std.proofs.Common.{◌≡◌, ℕ, ◌+◌, ◌-◌, Bool, true, false, ◌&&◌, cond, List, [], ◌∷◌, ◌++◌, reverse}
+use Rattle.std.proofs.Common.{refl, sym, ap, ◌∙◌, inl, inr}
 use Rattle.std.proofs.lemmas.Bool.{cases_Bool}
 use Rattle.std.proofs.lemmas.List.{append_assoc, append-nil, reverse-append}
 use Rattle.cept_parser.specs.Bytes.{is_plain}
-use Rattle.cept_seven.specs.Seven.{is_right, is_c1, is_quotable, text, begins_right, ends_right, texts, seven, unclosed}
+use Rattle.cept_seven.specs.Seven.{is_right, is_quotable, text, begins_right, ends_right, texts, seven, unclosed}
 use Rattle.cept_seven.specs.Seven.{text_added, text_at_end}
-use Rattle.cept_seven.specs.Eight.{is_shifted, is_quoted, ShiftState, state_after, state_with, is_refused, heard}
+use Rattle.cept_seven.specs.Eight.{is_shifted, ShiftState, state_after, state_with, is_refused, heard}
 use Rattle.cept_seven.specs.Eight.{bytes_heard, eight_after, eight, accepted_after, accepted, Leads}
 use Rattle.cept_seven.proofs.Onto.{onto}
 use Rattle.cept_seven.specs.declared.from_seven.Heard.{Heard}

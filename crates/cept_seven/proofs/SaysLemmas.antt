@@ -1,12 +1,12 @@
 -- Bytes say the same with each C1 code in two bytes.
-use Rattle.std.proofs.Common.{◌≡◌, ◌⊎◌, ℕ, zero, suc, ◌+◌, ◌-◌, ◌≤◌, Bool, true, false, eqb, cond, List, [], ◌∷◌, ◌++◌}
+use Rattle.std.proofs.Common.{◌≡◌, ℕ, zero, suc, ◌+◌, ◌-◌, ◌≤◌, true, false, eqb, List, [], ◌∷◌, ◌++◌}
 use Rattle.std.proofs.Common.{length, Option, Some, None, refl, sym, ap, ◌∙◌, subst, arith, inl, inr}
 use Rattle.std.proofs.lemmas.Bool.{cases_Bool, both_ways, eqb-true}
 use Rattle.std.proofs.lemmas.Bool.Decides.{nat_tests}
 use Rattle.std.proofs.lemmas.List.{append_assoc, append-nil, length-append, drop_at}
 use Rattle.std.proofs.lemmas.List.Concat.{flat_map-append}
 use Rattle.cept_codes.specs.declared.command.Command.TheVariants as command
-use Rattle.cept_codes.specs.declared.item.Reason.TheVariants.{Interrupted, Truncated}
+use Rattle.cept_codes.specs.declared.item.Reason.TheVariants.{Interrupted}
 use Rattle.cept_codes.specs.declared.item.Said.{Said}
 use Rattle.cept_codes.specs.declared.item.Said.TheVariants.{Command as Says, Refused}
 use Rattle.cept_parser.specs.declared.context.Context.{Context}
@@ -20,7 +20,7 @@ use Rattle.cept_parser.specs.declared.fit.Fit.TheVariants.{Open}
 use Rattle.cept_parser.specs.Fit.{fit}
 use Rattle.cept_parser.specs.Waits.{outcome_at_misfit}
 use Rattle.cept_parser.specs.Grammar.{unit, fits, grows, escape_unit, begins_escape}
-use Rattle.cept_parser.specs.Items.{Front, Reading, front, front_of, reading_at, reading_with_items, waiting_reading}
+use Rattle.cept_parser.specs.Items.{Front, front, front_of, waiting_reading}
 use Rattle.cept_parser.specs.Items.{closing_items, said_at_end}
 use Rattle.cept_parser.specs.ReadsAs.{said_from, said_with_end}
 use Rattle.cept_parser.proofs.BreakerLemmas.{breaker_fails}

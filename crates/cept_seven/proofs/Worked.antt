@@ -1,10 +1,8 @@
 -- Worked cases, from the rules by hand.
 use Rattle.std.proofs.Common.{◌≡◌, [], ◌∷◌, true, false, reverse, refl}
-use Rattle.cept_codes.specs.declared.command.Command.TheVariants as command
-use Rattle.cept_codes.specs.declared.item.Said.TheVariants.{Command as Says}
 use Rattle.cept_seven.specs.Seven.{texts, seven, unclosed}
 use Rattle.cept_seven.specs.Eight.{eight, eight_after, is_shifted, is_refused, is_quoted, state_after}
-use Rattle.cept_seven.specs.Wide.{wide, says}
+use Rattle.cept_seven.specs.Wide.{wide}
 
 -- ---- to seven bits
 

@@ -9,5 +9,5 @@ mod tests;
 mod to_seven;
 
 pub use from_seven::{FromSeven, Heard};
-pub use law::seven_bits_say_the_same;
+pub use law::{forms_go_on, seven_bits_say_the_same};
 pub use to_seven::ToSeven;

@@ -1,4 +1,4 @@
-use Rattle.std.proofs.Common.{◌∙◌, ap, sym}
+use Rattle.std.proofs.Common.{◌∙◌, ap}
 use Rattle.cept_seven.specs.Eight.{ShiftState}
 use Rattle.cept_seven.proofs.from_seven.FromSeven.open_quote.Goals as goal
 
