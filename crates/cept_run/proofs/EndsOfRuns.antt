@@ -88,6 +88,7 @@ module _ (plan : Plan) (name : List ℕ) (script : Source) (told : List ℕ) (be
       front = [];
       counted = inl (selects.taken, λ chosen is. inl (selects.failed.chosen chosen is));
       front_is = λ page holds is. ap (λ k. take k page) (sym selects.taken);
+      readable = refl;
       reports = reports_nothing asked (File name) script before (outside_of shelf before.sink before.glass) refl;
       unended = selects.ended;
       early = λ chosen is other. (refl, refl);
@@ -270,6 +271,7 @@ module _ (plan : Plan) (name : List ℕ) (script : Source) (told : List ℕ) (be
       front = ends.bytes;
       counted = inl (ends.taken, page_or_none);
       front_is = λ page holds is. ends.known page (left_of_held page holds);
+      readable = refl;
       reports = reports_front asked (File name) script ends.bytes before after ends.made;
       unended = ends.unended;
       early = λ chosen is other.
@@ -297,6 +299,7 @@ module _ (plan : Plan) (name : List ℕ) (script : Source) (told : List ℕ) (be
         front = ends.bytes;
         counted = ends.count;
         front_is = λ page given. (ends.known page (left_of_given page given)).1;
+        readable = refl;
         reports = reports_front asked (File name) script ends.bytes before after ends.made;
       });
       shelf_stays = ends.shelf_stays ∙ same_faults;
@@ -304,6 +307,7 @@ module _ (plan : Plan) (name : List ℕ) (script : Source) (told : List ℕ) (be
     })
     ends_stopped stops.Script sound_after ends = elim ends [ ]
     ends_stopped stops.NoMemory sound_after ends = elim ends [ ]
+    ends_stopped stops.NotSeven sound_after ends = elim ends [ ]
 
     -- ---- the page was read to its end
 
@@ -370,6 +374,8 @@ module _ (plan : Plan) (name : List ℕ) (script : Source) (told : List ℕ) (be
           reports = whole_report asked bytes told before after sink made sink_stays (File name) script
               (subst (λ (h : List Command). Restores (page_text (core h)) h) all_is restores) puts;
           refusals = is;
+          readable = refl;
+          can_end = refl;
           good = known.good;
           page_not_too_long = few;
           script_not_too_long = known.few;

@@ -19,6 +19,8 @@ pub mod EndsOfRuns
 pub mod GeneratedPages
 pub mod LoadedPages
 pub mod WholeRuns
+mod TurnedPieces
+mod TurnedPages
 pub mod PutEnds
 pub mod EndTexts
 pub mod Numbers

@@ -73,6 +73,8 @@ module _ (page : List ℕ) (before after : Outside) (shelf : after.shelf ≡ bef
       written = λ e. cc;
     };
     refusals = refl;
+    readable = refl;
+    can_end = refl;
     good = first_fault-none;
     page_not_too_long = short;
     script_not_too_long = omega arith;
@@ -214,6 +216,8 @@ module _ (plan : Plan) (page : List ℕ) (before after : Outside) (shelf : after
       reports = whole_report asked page [] before after sink made stays (Given page) (Given [])
           (subst (λ (h : List Command). Restores (page_text (core h)) h) all_is restores) puts;
       refusals = is;
+      readable = refl;
+      can_end = refl;
       good = first_fault-none;
       page_not_too_long = short;
       script_not_too_long = omega arith;

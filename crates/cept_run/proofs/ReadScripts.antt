@@ -65,6 +65,7 @@ module _ {X E : Type 0} (name : List ℕ) (before mid after : ShelfState) (x : X
   )
   script_untaken stops.Script old ends = elim ends [ ]
   script_untaken stops.NoMemory old ends = (refl, ends ∙ selected)
+  script_untaken stops.NotSeven old ends = elim ends [ ]
 
   module _ (bytes : List ℕ) (taken : TakenWhole bytes mid after) where
     known_bytes : (script : List ℕ) → Gives before name script → bytes ≡ script
@@ -104,6 +105,7 @@ module _ {X E : Type 0} (name : List ℕ) (before mid after : ShelfState) (x : X
     script_bad fault stops.TooLong old new found refuses = elim refuses [ ]
     script_bad fault stops.Script old new found refuses = record { bad = bad_line fault found; put = refuses }
     script_bad fault stops.NoMemory old new found refuses = elim refuses [ ]
+    script_bad fault stops.NotSeven old new found refuses = elim refuses [ ]
 
     -- by what its reading answers
     pub script_faulty : (fault : ScriptFault) (stop : Stop) (old new : SinkState) → SaysFault (first_fault bytes) fault

@@ -38,7 +38,7 @@ reports_nothing asked page script before after same =
     (subst (λ (es : List Event). AreMade es (output before) (output before)) (sym (no_events asked))
     (AreMade-none (output before))))
 
-same_sink : (s t : SinkState) → Gains s [] t → t.faults ≡ s.faults → t ≡ s
+pub same_sink : (s t : SinkState) → Gains s [] t → t.faults ≡ s.faults → t ≡ s
 same_sink s t gains stays =
     same_parts s t (gains.bytes ∙ sym (append_known-nil s.bytes)) (gains.unflushed_stays refl) stays
   where

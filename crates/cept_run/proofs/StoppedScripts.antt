@@ -192,6 +192,7 @@ module _ (asked : Asked) (page name : List ℕ) (before : Outside) (shelf : Shel
       },
     );
     front_is = λ told holds is. absurd (page_unselected is);
+    readable = refl;
     reports = reports_nothing asked (File page) (File name) before now (ap (λ (s : SinkState). record {
       sink = s;
       glass = before.glass;
@@ -239,3 +240,4 @@ module _ (asked : Asked) (page name : List ℕ) (before : Outside) (shelf : Shel
     early = inr (λ chosen is. selects.selects chosen is);
     shelf_stays = ends.1;
   }) ends.0
+  ends_at_script stops.NotSeven sound ends = elim ends [ ]

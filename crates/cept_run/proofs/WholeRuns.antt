@@ -13,7 +13,8 @@ use Rattle.cept_run.specs.declared.run.Status.TheVariants as statuses
 use Rattle.cept_run.specs.Course.{Course, Source, File, Given, Gives, IsNamed, SelectsNoOther, course_of}
 use Rattle.cept_run.specs.Outside.{Outside}
 use Rattle.cept_run.specs.Run.{is_early, is_whole, IsScriptUnread, EndsAtReadFault, IsPageTooLong, IsScriptTooLong, Ends, ReadsFiles}
-use Rattle.cept_run.specs.Run.{ReportsFront, TouchesShelf, RunsCourse, IsShortScript, Runs, status_at_end}
+use Rattle.cept_run.specs.Run.{ReportsFront, TouchesShelf, RunsCourse, IsShortScript, IsUnreadable, Runs}
+use Rattle.cept_run.specs.Run.{status_at_end}
 use Rattle.cept_run.specs.Words.{Request, request_of}
 use Rattle.cept_run.proofs.PagesInPieces.{nil_from_length}
 use Rattle.cept_run.proofs.StoppedScripts.{name_in}
@@ -141,6 +142,7 @@ completes_by : (course : Course) (name page : List ℕ) (before after : Outside)
     → (Rose before.shelf.faults after.shelf.faults → ⊥) → (Rose before.sink.faults after.sink.faults → ⊥)
     → (is_whole status ≡ true) ⊎ (status ≡ statuses.Script)
     ⊎ ((status ≡ statuses.NoMemory) × (course.painting ≡ true))
+    ⊎ ((status ≡ statuses.NotSeven) × IsUnreadable course page)
 completes_by course name page before after statuses.Done paged ends given few short shelf sink = inl refl
 completes_by course name page before after statuses.Refusals paged ends given few short shelf sink = inl refl
 completes_by course name page before after statuses.Usage paged ends given few short shelf sink = elim ends [ ]
@@ -150,9 +152,12 @@ completes_by course name page before after statuses.ReadFault paged ends given f
 completes_by course name page before after statuses.WriteFault paged ends given few short shelf sink =
     absurd (sink ends.write_fault)
 completes_by course name page before after statuses.NoMemory paged ends given few short shelf sink =
-    inr (inr (refl, ends.memory))
+    inr (inr (inl (refl, ends.memory)))
 completes_by course name page before after statuses.TooLong paged ends given few short shelf sink =
     absurd (not_too_long course name page before after paged ends.which given few short)
+completes_by course name page before after statuses.NotSeven paged ends given few short shelf sink =
+    let same = name_in name ends.name (sym paged ∙ ends.named) in
+    inr (inr (inr (refl, ends.unreadable page (subst (λ n. Gives before.shelf n page) same given))))
 
 runs_by : (words : List (List ℕ)) (request : Request) (before after : Outside) (status : Status)
     → request_of words ≡ Some request → (status ≡ statuses.Usage → ⊥)
@@ -197,6 +202,8 @@ runs_at_end words request before after (Err stops.Script) is run =
     runs_by words request before after statuses.Script is (λ e. cc) run
 runs_at_end words request before after (Err stops.NoMemory) is run =
     runs_by words request before after statuses.NoMemory is (λ e. cc) run
+runs_at_end words request before after (Err stops.NotSeven) is run =
+    runs_by words request before after statuses.NotSeven is (λ e. cc) run
 
 -- what a run that isn't of status 2 ended by
 pub ended : (words : List (List ℕ)) (before after : Outside) (status : Status) (P : Type 0)

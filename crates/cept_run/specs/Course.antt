@@ -9,12 +9,14 @@ use Rattle.cept_generator.specs.Generated.{generated}
 use Rattle.cept_outside.specs.ShelfState.{ShelfState, Holds, Lacks}
 use Rattle.cept_parser.specs.Items.{items}
 use Rattle.cept_run.specs.declared.words.Asked.{Asked}
+use Rattle.cept_run.specs.declared.words.BytesAction.{BytesAction}
 use Rattle.cept_run.specs.declared.words.End.{End}
 use Rattle.cept_run.specs.declared.words.End.TheVariants as ends
 use Rattle.cept_run.specs.declared.words.NumberAction.{NumberAction}
 use Rattle.cept_run.specs.declared.words.NumberAction.TheVariants as numbers
 use Rattle.cept_run.specs.Events.{history, item_events, run_events, remaining_of}
-use Rattle.cept_run.specs.Words.{Request, Page, Script, Number, asked_of_page, asked_of_script, asked_to_load}
+use Rattle.cept_run.specs.Turned.{turned, turned_front, readable_front, can_end_there}
+use Rattle.cept_run.specs.Words.{Request, Page, Bytes, Script, Number, asked_of_page, asked_of_script, asked_to_load}
 
 -- ---- what is read
 
@@ -58,6 +60,9 @@ pub record Course : Type 0 where
   -- commands that remain after them
   pub events : List ℕ → List ℕ → List (List Look) → List Event
   pub remaining : List ℕ → List ℕ → List Command
+  -- the longest front of a page that can be read, and whether a page can end there
+  pub readable_front : List ℕ → List ℕ
+  pub can_end : List ℕ → Bool
   -- the page's items decide the status: one that is refused makes it 1
   pub judged : Bool
   -- the glass is painted, which takes memory
@@ -85,6 +90,8 @@ reporting asked page script = record {
   front_remaining = λ bytes. history asked (items bytes);
   events = λ bytes lines shown. run_events asked bytes (edits lines) shown;
   remaining = λ bytes lines. remaining_of asked bytes (edits lines);
+  readable_front = λ bytes. bytes;
+  can_end = λ bytes. true;
   judged = true;
   painting = asked.painting;
   written = puts_page asked;
@@ -104,6 +111,25 @@ putting page = record {
   front_remaining = λ bytes. [];
   events = λ bytes lines shown. text_event bytes ∷ [];
   remaining = λ bytes lines. [];
+  readable_front = λ bytes. bytes;
+  can_end = λ bytes. true;
+  judged = false;
+  painting = false;
+  written = false;
+}
+
+-- a page of a file is put in seven bits, or in eight again
+abbrev pub turning : BytesAction → List ℕ → Course
+turning action page = record {
+  page = File page;
+  script = Given [];
+  fault = first_fault;
+  front_events = λ bytes. text_event (turned_front action bytes) ∷ [];
+  front_remaining = λ bytes. [];
+  events = λ bytes lines shown. text_event (turned action bytes) ∷ [];
+  remaining = λ bytes lines. [];
+  readable_front = readable_front action;
+  can_end = can_end_there action;
   judged = false;
   painting = false;
   written = false;
@@ -117,5 +143,6 @@ course_of_number numbers.Load number = reporting asked_to_load (Given (generated
 -- the course of each request
 abbrev pub course_of : Request → Course
 course_of (Page action page) = reporting (asked_of_page action) (File page) (Given [])
+course_of (Bytes action page) = turning action page
 course_of (Script action page script) = reporting (asked_of_script action) (File page) (File script)
 course_of (Number action number) = course_of_number action number

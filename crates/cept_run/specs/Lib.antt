@@ -1,8 +1,10 @@
 pub mod Words
+pub mod Turned
 pub mod Events
 pub mod Outside
 pub mod Course
 pub mod Run
 pub mod Reporting
 pub mod Page
+pub mod Turning
 pub mod ScriptReading

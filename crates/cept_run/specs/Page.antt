@@ -82,6 +82,7 @@ PageStops plan before stops.WriteFault after = PageUnput plan before after ⊎ P
 PageStops plan before stops.TooLong after = PageTooLong plan before after
 PageStops plan before stops.Script after = ⊥
 PageStops plan before stops.NoMemory after = ⊥
+PageStops plan before stops.NotSeven after = ⊥
 
 -- how its reading ends
 abbrev pub PageEnds : Plan → Outside → Result ℕ Stop → ReporterState → Outside → Type 0

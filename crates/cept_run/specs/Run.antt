@@ -87,6 +87,9 @@ pub record EndsWhole (course : Course) (before after : Outside) (refused : Bool)
   -- text
   pub reports : ReportsWhole course page script before after
   pub refusals : refused ≡ (course.judged && has_refusal (closed_items page))
+  -- it can be read, and end there
+  pub readable : course.readable_front page ≡ page
+  pub can_end : course.can_end page ≡ true
   -- no line of the script is outside the grammar
   pub good : course.fault script ≡ None
   pub page_not_too_long : length page ≤ 2 ^ 24
@@ -148,6 +151,7 @@ pub record EndsAtReadFault (course : Course) (before after : Outside) : Type 0 w
       ⊎ ((front ≡ []) × IsScriptUnread course before after)
   pub front_is : (page : List ℕ) → Holds before.shelf name page → after.shelf.selected ≡ Some (Some name)
       → front ≡ take after.shelf.taken page
+  pub readable : course.readable_front front ≡ front
   pub reports : ReportsFront course front before after
   -- no take had answered that there are no more bytes
   pub unended : after.shelf.ended ≡ false
@@ -224,6 +228,7 @@ pub record IsPageTooLong (course : Course) (before after : Outside) : Type 0 whe
   pub front : List ℕ
   pub counted : length front ≡ 2 ^ 24
   pub front_is : (page : List ℕ) → Gives before.shelf name page → front ≡ take (2 ^ 24) page
+  pub readable : course.readable_front front ≡ front
   pub reports : ReportsFront course front before after
 
 -- status 7, at the script: it has more than 2^20 bytes
@@ -245,6 +250,36 @@ pub record EndsTooLong (course : Course) (before after : Outside) : Type 0 where
   pub shelf_stays : after.shelf.faults ≡ before.shelf.faults
   pub sink_stays : after.sink.faults ≡ before.sink.faults
 
+-- the whole page was read, and it can't end where it does
+pub record IsEndOpen (course : Course) (page : List ℕ) (shelf : ShelfState) : Type 0 where
+  pub readable : course.readable_front page ≡ page
+  pub unclosed : course.can_end page ≡ false
+  pub taken : shelf.taken ≡ length page
+  pub ended : shelf.ended ≡ true
+
+-- a page can't be read to its end, or can't end there
+abbrev pub IsUnreadable : Course → List ℕ → Type 0
+IsUnreadable course page = (course.readable_front page ≢ page) ⊎ (course.can_end page ≡ false)
+
+-- status 8: a byte of the page can't be read from seven bits, or the page can't end where it does
+pub record EndsNotSeven (course : Course) (before after : Outside) : Type 0 where
+  pub name : List ℕ
+  pub named : course.page ≡ File name
+  -- the bytes of the page that were taken, but 2^24 at most
+  pub front : List ℕ
+  pub counted : length front ≡ min after.shelf.taken (2 ^ 24)
+  pub front_is : (page : List ℕ) → Gives before.shelf name page → front ≡ take (min after.shelf.taken (2 ^ 24)) page
+  -- one of these can't be read, or they are the whole page, which can't end there
+  pub cause : (course.readable_front front ≢ front) ⊎ IsEndOpen course front after.shelf
+  -- so a page that can be read, and is told, never ends so
+  pub unreadable : (page : List ℕ) → Gives before.shelf name page → IsUnreadable course page
+  -- exactly what comes before is reported
+  pub reports : ReportsFront course front before after
+  pub selected : SelectsNoOther name after.shelf
+  -- no fault was counted on the way
+  pub shelf_stays : after.shelf.faults ≡ before.shelf.faults
+  pub sink_stays : after.sink.faults ≡ before.sink.faults
+
 -- how a run ends, by its status
 abbrev pub Ends : Course → Outside → Outside → Status → Type 0
 Ends course before after statuses.Done = EndsWhole course before after false
@@ -255,6 +290,7 @@ Ends course before after statuses.ReadFault = EndsAtReadFault course before afte
 Ends course before after statuses.WriteFault = EndsAtWriteFault course before after
 Ends course before after statuses.NoMemory = EndsWithoutMemory course before after
 Ends course before after statuses.TooLong = EndsTooLong course before after
+Ends course before after statuses.NotSeven = EndsNotSeven course before after
 
 -- ---- however a run ends
 
@@ -328,13 +364,14 @@ pub record Runs (words : List (List ℕ)) (before after : Outside) (status : Sta
   pub request : (request : Request) → request_of words ≡ Some request
       → RunsCourse (course_of request) before after status
   -- a known page of at most 2^24 bytes is read to its end, after a known script of at most 2^20 bytes, unless a line of
-  -- that is outside the grammar, a fault is counted or there is no memory
+  -- that is outside the grammar, a fault is counted, there is no memory, or it can't be read from seven bits
   pub completes : (request : Request) (page : List ℕ) → Asks words before.shelf request page → length page ≤ 2 ^ 24
       → IsShortScript before.shelf (course_of request).script
       → (Rose before.shelf.faults after.shelf.faults → ⊥)
       → (Rose before.sink.faults after.sink.faults → ⊥)
       → (is_whole status ≡ true) ⊎ (status ≡ statuses.Script)
       ⊎ ((status ≡ statuses.NoMemory) × ((course_of request).painting ≡ true))
+      ⊎ ((status ≡ statuses.NotSeven) × IsUnreadable (course_of request) page)
 
 -- ---- statuses
 
@@ -348,6 +385,7 @@ status_number statuses.ReadFault = 4
 status_number statuses.WriteFault = 5
 status_number statuses.NoMemory = 6
 status_number statuses.TooLong = 7
+status_number statuses.NotSeven = 8
 
 -- the status of a run that stopped
 abbrev pub status_of : Stop → Status
@@ -356,6 +394,7 @@ status_of stops.WriteFault = statuses.WriteFault
 status_of stops.TooLong = statuses.TooLong
 status_of stops.Script = statuses.Script
 status_of stops.NoMemory = statuses.NoMemory
+status_of stops.NotSeven = statuses.NotSeven
 
 -- the status of what was answered: whether an item was refused, or why the run stopped
 abbrev pub status_at_end : Result Bool Stop → Status

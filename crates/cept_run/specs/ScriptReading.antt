@@ -43,6 +43,7 @@ TakingStops before stops.WriteFault after = ⊥
 TakingStops before stops.TooLong after = TakenTooLong before after
 TakingStops before stops.Script after = ⊥
 TakingStops before stops.NoMemory after = after.faults ≡ before.faults
+TakingStops before stops.NotSeven after = ⊥
 
 -- ---- a script of this name is read
 
@@ -84,6 +85,7 @@ Refuses text old stops.WriteFault new = PutsUnflushed text old new
 Refuses text old stops.TooLong new = ⊥
 Refuses text old stops.Script new = PutsWhole text old new
 Refuses text old stops.NoMemory new = ⊥
+Refuses text old stops.NotSeven new = ⊥
 
 -- what is answered and put by the fault of a script
 abbrev pub StopsAt : ScriptFault → SinkState → Stop → SinkState → Type 0
@@ -108,6 +110,7 @@ ScriptEnds name before old (Err stops.WriteFault) after new = ScriptUnput name b
 ScriptEnds name before old (Err stops.TooLong) after new = ScriptTooLong name before after × (new ≡ old)
 ScriptEnds name before old (Err stops.Script) after new = ScriptRefused name before after old new
 ScriptEnds name before old (Err stops.NoMemory) after new = (new ≡ old) × (after.faults ≡ before.faults)
+ScriptEnds name before old (Err stops.NotSeven) after new = ⊥
 
 -- however it ends, no other name is selected, the files stay, no count of faults falls, and where the shelf has the
 -- script no file is missed

@@ -7,6 +7,8 @@ use Rattle.std.specs.Option.{option_map, option_and_then}
 use Rattle.std.specs.Str.{bytes_eq}
 use Rattle.std.specs.Str.Parse.{digits_value}
 use Rattle.cept_run.specs.declared.words.Asked.{Asked}
+use Rattle.cept_run.specs.declared.words.BytesAction.{BytesAction}
+use Rattle.cept_run.specs.declared.words.BytesAction.TheVariants as bytes
 use Rattle.cept_run.specs.declared.words.End.{End}
 use Rattle.cept_run.specs.declared.words.End.TheVariants as ends
 use Rattle.cept_run.specs.declared.words.NumberAction.{NumberAction}
@@ -22,16 +24,18 @@ use Rattle.cept_run.specs.declared.words.Word.TheVariants as words
 
 -- ---- requests
 
--- what the program is asked for: of the page of this name; of the page of the first name and the script of the second; of
--- the generated page of this number
+-- what the program is asked for: of the page of this name; of the bytes of the page of this name; of the page of the first
+-- name and the script of the second; of the generated page of this number
 pub data Request : Type 0 where
   Page : PageAction → List ℕ → Request
+  Bytes : BytesAction → List ℕ → Request
   Script : ScriptAction → List ℕ → List ℕ → Request
   Number : NumberAction → ℕ → Request
 
 -- a request by its names' bytes
 abbrev pub request_by : NamedRequest → Request
 request_by (named.Page action page) = Page action (string_bytes page.now)
+request_by (named.Bytes action page) = Bytes action (string_bytes page.now)
 request_by (named.Script action page script) = Script action (string_bytes page.now) (string_bytes script.now)
 request_by (named.Number action number) = Number action number
 
@@ -47,6 +51,8 @@ word_of word =
     if bytes_eq word (codes "edit") then Some (words.Script scripts.Edit) else
     if bytes_eq word (codes "gen") then Some (words.Number numbers.Generate) else
     if bytes_eq word (codes "load") then Some (words.Number numbers.Load) else
+    if bytes_eq word (codes "seven") then Some (words.Bytes bytes.Seven) else
+    if bytes_eq word (codes "eight") then Some (words.Bytes bytes.Eight) else
     None
 
 -- the value in decimal of a word of one to ten digits, where it is at most 2^32 - 1
@@ -60,6 +66,11 @@ number_of word =
 abbrev pub page_request : PageAction → List (List ℕ) → Option Request
 page_request action ((a ∷ name) ∷ []) = Some (Page action (a ∷ name))
 page_request action _ = None
+
+-- the same, of whose bytes it is asked
+abbrev pub bytes_request : BytesAction → List (List ℕ) → Option Request
+bytes_request action ((a ∷ name) ∷ []) = Some (Bytes action (a ∷ name))
+bytes_request action _ = None
 
 -- the names of a page and of a script: neither is empty, and the two differ
 abbrev pub script_request : ScriptAction → List (List ℕ) → Option Request
@@ -75,6 +86,7 @@ number_request action _ = None
 -- what a first word asks for with the words after it
 abbrev pub request_with : Word → List (List ℕ) → Option Request
 request_with (words.Page action) after = page_request action after
+request_with (words.Bytes action) after = bytes_request action after
 request_with (words.Script action) after = script_request action after
 request_with (words.Number action) after = number_request action after
 
@@ -86,6 +98,7 @@ request_of (word ∷ after) = option_and_then (λ w. request_with w after) (word
 -- the names of two files differ
 abbrev pub HasTwoNames : Request → Type 0
 HasTwoNames (Page action page) = Unit {0}
+HasTwoNames (Bytes action page) = Unit {0}
 HasTwoNames (Script action page script) = script ≢ page
 HasTwoNames (Number action number) = Unit {0}
 

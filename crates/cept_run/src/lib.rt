@@ -13,4 +13,5 @@ pub mod run;
 mod script;
 #[cfg(test)]
 mod tests;
+mod turning;
 mod words;

@@ -14,10 +14,10 @@ use cept_repaint::Glass;
 use std::sync::ledger::Ledger;
 
 /// The greatest number of bytes of a page.
-const LIMIT: u64 = 1 << 24;
+pub(crate) const LIMIT: u64 = 1 << 24;
 
 /// The number of bytes that are taken at once at most.
-const PIECE: usize = 4096;
+pub(crate) const PIECE: usize = 4096;
 
 /// Why a run stops before its end.
 #[derive(Clone, Copy, Debug, PartialEq, Eq)]
@@ -32,6 +32,8 @@ pub enum Stop {
     Script,
     /// There is no memory.
     NoMemory,
+    /// A byte of the page can't be read from seven bits, or the page can't end where it does.
+    NotSeven,
 }
 
 impl From<NoMemory> for Stop {

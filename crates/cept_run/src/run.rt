@@ -24,7 +24,10 @@ use crate::easel::Easel;
 use crate::generated::{put_generated, read_generated};
 use crate::page::{Stop, read_page};
 use crate::script::read_script;
-use crate::words::{LOADED, NumberAction, PageAction, Request, ScriptAction, request_of};
+use crate::turning::put_bytes;
+use crate::words::{
+    BytesAction, LOADED, NumberAction, PageAction, Request, ScriptAction, request_of,
+};
 use cept_editor::Editor;
 use cept_generator::{generated_pages_are_read, generated_pages_are_short};
 use cept_outside::{QuietShelf, QuietSink, Shelf, Sink, Steps};
@@ -54,6 +57,8 @@ pub enum Status {
     NoMemory,
     /// The page has more than 2^24 bytes, or the script more than 2^20.
     TooLong,
+    /// A byte of the page can't be read from seven bits, or the page can't end where it does.
+    NotSeven,
 }
 
 impl Status {
@@ -70,6 +75,7 @@ impl Status {
             Status::WriteFault => 5,
             Status::NoMemory => 6,
             Status::TooLong => 7,
+            Status::NotSeven => 8,
         }
     }
 
@@ -94,6 +100,7 @@ impl Status {
             Stop::TooLong => Status::TooLong,
             Stop::Script => Status::Script,
             Stop::NoMemory => Status::NoMemory,
+            Stop::NotSeven => Status::NotSeven,
         }
     }
 
@@ -301,6 +308,7 @@ fn report_request<F: Shelf, T: Sink, G: Glass>(
 {
     match request {
         Request::Page(action, page) => report_page(alloc, action, page, shelf, sink, glass),
+        Request::Bytes(action, page) => put_bytes(action, page, shelf, sink),
         Request::Script(action, page, script) => {
             report_edited(alloc, action, page, script, shelf, sink, glass)
         }
@@ -325,6 +333,9 @@ fn report_request<F: Shelf, T: Sink, G: Glass>(
 /// `gen NUMBER` puts the generated page of the number, and paints nothing. `load NUMBER` reads and
 /// paints it as `show` does a stored page, and puts how many bytes and items it has, and how many
 /// cells were painted. Both take the page piece by piece, and leave the shelf.
+///
+/// `seven PAGE` puts the bytes of the page in seven bits, and `eight PAGE` puts them back in eight,
+/// as far as they can be read. Both paint nothing, and no item decides the status.
 pub fn run<F: Shelf, T: Sink, G: Glass>(
     alloc: Global,
     words: &Vec<String>,

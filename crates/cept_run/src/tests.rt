@@ -675,3 +675,83 @@ fn paints_a_display_of_ones_own(rt: HostRuntime) -> Result<(), Fail> {
     }
     Ok(())
 }
+
+/// What a word puts of a page, and the status, with ample memory.
+fn put_of(alloc: Global, word: &str, page: &[u8]) -> Result<(Vec<u8>, Status), Fail> {
+    let request = words(alloc, &[word, "page"])?;
+    let mut shelf = MemShelf::new(alloc);
+    shelf.add("page", page)?;
+    let mut sink = MemSink::new(alloc, 4096)?;
+    let mut glass = GridGlass::new(alloc)?;
+    let ended = run(alloc, &request, &mut shelf, &mut sink, &mut glass);
+    Ok((Vec::from_slice(alloc, sink.bytes())?, ended))
+}
+
+#[test]
+fn turns_bytes_to_seven_bits_and_back(rt: HostRuntime) -> Result<(), Fail> {
+    let pages = [
+        (
+            "seven",
+            b"A\xC8a\x94\x0E".as_slice(),
+            b"A\x0EH\x0Fa\x1BT\x10N".as_slice(),
+            Status::Done,
+        ),
+        ("seven", b"a\xC8\xE1", b"a\x0EHa\x0F", Status::Done),
+        ("seven", b"\x07\x1FG\x1B", b"\x07\x1FG\x1B", Status::Done),
+        (
+            "eight",
+            b"A\x0EH\x0Fa\x1BT\x10N",
+            b"A\xC8a\x1BT\x0E",
+            Status::Done,
+        ),
+        ("eight", b"\x0EH\x0Da", b"\xC8\x0Da", Status::Done),
+        ("eight", b"A\x80", b"A", Status::NotSeven),
+        ("eight", b"A\x10AB", b"A", Status::NotSeven),
+        ("eight", b"\x10N\x10", b"\x0E", Status::NotSeven),
+        ("eight", b"\x10", b"", Status::NotSeven),
+    ];
+    for (word, page, want, status) in pages {
+        let put = put_of(rt.alloc(), word, page)?;
+        assert_eq!(rt; put.0.as_slice(), want, "{word} of {page:?}");
+        assert_eq!(rt; put.1, status, "{word} of {page:?}");
+    }
+    Ok(())
+}
+
+#[test]
+fn a_page_shows_the_same_after_a_path_of_seven_bits(rt: HostRuntime) -> Result<(), Fail> {
+    let page = b"\x95A\x9EB\x9DC\x1FBA\xC8a\x0Es\x0F\x9B1\x0D\x8DD";
+    let sent = put_of(rt.alloc(), "seven", page)?;
+    assert!(rt; sent.0.iter().all(|byte| *byte < 0x80));
+    let received = put_of(rt.alloc(), "eight", sent.0.as_slice())?;
+    let want = put_of(rt.alloc(), "cells", page)?;
+    let shown = put_of(rt.alloc(), "cells", received.0.as_slice())?;
+    assert_eq!(rt; shown.0.as_slice(), want.0.as_slice());
+    assert_eq!(rt; shown.1, Status::Refusals);
+    Ok(())
+}
+
+#[test]
+fn turns_a_page_that_is_too_long_as_far_as_it_may(rt: HostRuntime) -> Result<(), Fail> {
+    let alloc = rt.alloc();
+    let mut page = Vec::from_elem(alloc, 0xC8u8, (1 << 24) + 1)?;
+    for (word, byte, length, status) in [
+        ("seven", 0xC8u8, (1 << 24) + 1, Status::TooLong),
+        ("eight", b'A', 1 << 24, Status::TooLong),
+        ("eight", 0x80, (1 << 24) - 1, Status::NotSeven),
+    ] {
+        let request = words(alloc, &[word, "page"])?;
+        if word == "eight" {
+            page.as_mut_slice().fill(b'A');
+            page[(1 << 24) - 1] = byte;
+        }
+        let mut shelf = QuietShelf::new(alloc);
+        shelf.add("page", page.as_slice())?;
+        let mut sink = MemSink::new(alloc, 1 << 25)?;
+        let mut glass = GridGlass::new(alloc)?;
+        let ended = run(alloc, &request, &mut shelf, &mut sink, &mut glass);
+        assert_eq!(rt; ended, status, "{word} {byte}");
+        assert_eq!(rt; sink.bytes().len(), length, "{word} {byte}");
+    }
+    Ok(())
+}

@@ -5,7 +5,8 @@ ghost use Rattle.std.specs.Char.{is_ascii_digit};
 ghost use Rattle.std.specs.List.{list_all};
 ghost use Rattle.std.specs.Option.{option_map};
 ghost use Rattle.cept_run.specs.Words.{asked_of_page, asked_of_script, asked_to_load, number_of};
-ghost use Rattle.cept_run.specs.Words.{is_counted, request_by, request_of, page_request, script_request};
+ghost use Rattle.cept_run.specs.Words.{bytes_request, is_counted, request_by, request_of, page_request};
+ghost use Rattle.cept_run.specs.Words.{script_request};
 ghost use Rattle.cept_run.specs.Words.{number_request, word_of, HasTwoNames};
 
 /// What is asked for of a page.
@@ -30,6 +31,15 @@ pub enum ScriptAction {
     Trace,
     /// `edit PAGE SCRIPT`: the page after the edits, as bytes that bring it back.
     Edit,
+}
+
+/// What is asked for of the bytes of a page, whatever they say.
+#[derive(Clone, Copy, Debug, PartialEq, Eq)]
+pub enum BytesAction {
+    /// `seven PAGE`: they are put in seven bits.
+    Seven,
+    /// `eight PAGE`: from seven bits, they are put in eight again.
+    Eight,
 }
 
 /// What is asked for of a generated page.
@@ -157,6 +167,8 @@ pub const LOADED: Asked = Asked {
 pub enum Word {
     /// The name of a page.
     Page(PageAction),
+    /// The name of a page, of whose bytes it is asked.
+    Bytes(BytesAction),
     /// The names of a page and of a script.
     Script(ScriptAction),
     /// The number of a generated page.
@@ -185,6 +197,10 @@ fn word_of(word: &str) -> Option<Word>
         Some(Word::Number(NumberAction::Generate))
     } else if word == "load" {
         Some(Word::Number(NumberAction::Load))
+    } else if word == "seven" {
+        Some(Word::Bytes(BytesAction::Seven))
+    } else if word == "eight" {
+        Some(Word::Bytes(BytesAction::Eight))
     } else {
         None
     }
@@ -195,6 +211,8 @@ fn word_of(word: &str) -> Option<Word>
 pub enum Request<'a> {
     /// Of the page of this name.
     Page(PageAction, &'a String),
+    /// Of the bytes of the page of this name.
+    Bytes(BytesAction, &'a String),
     /// Of the page of the first name and the script of the second.
     Script(ScriptAction, &'a String, &'a String),
     /// Of the generated page of this number.
@@ -224,6 +242,16 @@ fn page_request(action: PageAction, words: &[String]) -> Option<Request<'_>>
 {
     match words {
         [page] if !page.is_empty() => Some(Request::Page(action, page)),
+        _ => None,
+    }
+}
+
+/// An action and the one word after it, the name of a page.
+fn bytes_request(action: BytesAction, words: &[String]) -> Option<Request<'_>>
+    ensures { option_map request_by result ≡ bytes_request action (map string_bytes words.now) }
+{
+    match words {
+        [page] if !page.is_empty() => Some(Request::Bytes(action, page)),
         _ => None,
     }
 }
@@ -263,6 +291,7 @@ pub fn request_of(words: &[String]) -> Option<Request<'_>>
     };
     match word_of(word.as_str())? {
         Word::Page(action) => page_request(action, after),
+        Word::Bytes(action) => bytes_request(action, after),
         Word::Script(action) => script_request(action, after),
         Word::Number(action) => number_request(action, after),
     }

@@ -1,0 +1,33 @@
+use Rattle.std.proofs.Common.{◌++◌, ◌∙◌, ap, sym, refl, inl, inr, not}
+use Rattle.std.proofs.lemmas.Bool.{not-true}
+use Rattle.cept_run.specs.Turned.{turned_front}
+use Rattle.cept_run.proofs.TurnedPieces.{all_put, part_put, fault_since, later_since, can_end, cannot_end}
+use Rattle.cept_run.proofs.turning.put_end.Goals as goal
+
+pub returns-then-is_open : goal.returns-then-is_open
+returns-then-is_open g c = λ action b start has.
+    (has.put, has.stays, cannot_end _ _ (c.is_open.ensures action b has.stands) c.if-is_open.true)
+
+pub returns-in_default : goal.returns-in_default
+returns-in_default g c = λ action b start has.
+    let is = c.finish.ensures action b has.stands ∙ ap (λ w. turned_front action b ++ w) (sym c.as_slice.ensures.value) in
+    let puts = c.in_default.ensures.puts in
+    record {
+      cause = fault_since _ _ _ has.stays puts.cause.failed;
+      later = later_since _ _ _ has.stays puts.cause.later;
+      put = inl (part_put start _ _ _ _ _ is has.put puts.part);
+    }
+
+pub returns : goal.returns
+returns g c = λ action b start has.
+    let is = c.finish.ensures action b has.stands ∙ ap (λ w. turned_front action b ++ w) (sym c.as_slice.ensures.value) in
+    let puts = c.in-Ok.ensures.puts in
+    let put = all_put start _ _ _ _ _ is has.put puts.whole in (
+      record {
+        put = c.in-Ok-flush.ensures.flushes.bytes ∙ put.bytes;
+        flushed = c.in-Ok-flush.ensures.flushes.flushed;
+        stays = c.in-Ok-flush.ensures.cause.stays ∙ puts.cause.stays ∙ has.stays;
+      },
+      can_end _ _ (c.is_open.ensures action b has.stands) c.if-is_open.false,
+      refl,
+    )
