@@ -76,20 +76,26 @@ def paints_of(look, pattern):
     return [inks[number] for number in pattern.numbers]
 
 
+def share(paints, fore, back):
+    """Which part of the paints that are one of two is the first."""
+    count = paints.count(fore)
+    return count / ((count + paints.count(back)) or 1)
+
+
 def pattern_sign(look):
-    """A pattern in six blocks: the sign, and the two paints that it has most of, the upper left one as the background."""
+    """A pattern in six blocks: the sign, and the two paints that it has most of. A block is seen where it has at least the share
+    of the foreground that the whole pattern has, so that thin lines are seen too."""
     pattern = looks.pattern_of(look.shape)
     paints = paints_of(look, pattern)
     often = [paint for paint, _ in collections.Counter(paints).most_common(2)]
-    back = look.back if look.back in often else often[0]
+    back = look.back if look.back in often or len(often) == 1 else often[0]
     fore = next((paint for paint in often if paint != back), look.fore)
-    blocks = 0
+    half, blocks = pattern.width // 2, 0
     for block in range(6):
         lines = range(block // 2 * pattern.height // 3, (block // 2 + 1) * pattern.height // 3)
-        half = pattern.width // 2
         columns = range(block % 2 * half, block % 2 * half + half)
-        counts = collections.Counter(paints[line * pattern.width + column] for line in lines for column in columns)
-        blocks |= (counts[fore] > counts[back]) << block
+        here = [paints[line * pattern.width + column] for line in lines for column in columns]
+        blocks |= (fore in here and share(here, fore, back) >= share(paints, fore, back)) << block
     return sextant(blocks), fore, back
 
 

@@ -157,6 +157,18 @@ class Terminal(stand.Case):
             sign = Reading(self.run_of(self.written("page", unit))).rows(1)[0][0]
             self.assertEqual(unicodedata.name(sign), name, unit)
 
+    def test_patterns_are_shown_by_their_blocks(self):
+        # A form of 6x6 with one plane; lines of six pixels, the left one in the highest of six bits. The code 2/1 is shown by G0.
+        head, end = b"\x1f\x23\x20\x20\x40\x3f\x41\x1f\x23\x21\x30", b"\x0f\x1b\x28\x20\x40\x21"
+        upper, lower, left, none = 0x40 + 0b111000, 0x40 + 0b000111, 0x40 + 0b111000, 0x40
+        for lines, name in (
+            ([upper, upper, none, none, none, none], "BLOCK SEXTANT-1"), ([none, none, none, none, lower, lower], "BLOCK SEXTANT-6"),
+            ([left] * 6, "LEFT HALF BLOCK"), ([0x7F] * 6, "FULL BLOCK"), ([0x60] + [none] * 5, "BLOCK SEXTANT-1"),
+        ):
+            reading = Reading(self.run_of(self.written("page", head + bytes(lines) + end)))
+            self.assertEqual(unicodedata.name(reading.signs[1, 1]), name, lines)
+            self.assertEqual(reading.styles[1, 1], "0;38;2;255;255;255;48;2;0;0;0")
+
     def test_large_signs_stand_at_their_origin(self):
         page = self.written("page", b"\x0a\x8fX")
         rows = Reading(self.run_of(page)).rows(3)
