@@ -198,7 +198,7 @@ def run(path, options):
     if by_gnu:
         results = by_parallel(website, options.folder, wanted, parallel_words(options, options.beside)) if wanted else ()
     else:
-        results = by_threads(path, website, options.folder, wanted, options.jobs or os.cpu_count())
+        results = by_threads(path, website, options.folder, wanted, options.jobs or len(os.sched_getaffinity(0)))
     for name, made in results:
         facts[name] = made
         progress.step(made)

@@ -51,7 +51,7 @@ def unknown(word):
 
 def pass_through(path, word, words):
     """Runs the program with its words, and says on standard error what its status means."""
-    status = subprocess.run([path, word, *words]).returncode
+    status = subprocess.run([path, word, *words], close_fds=False).returncode
     if status < 0:
         end_by(-status)
     if status == 5 and messages.reader_is_gone():
@@ -98,7 +98,8 @@ def run(words, beside):
 def main(words, beside):
     try:
         status = run(words, beside)
-        sys.stdout.flush()
+        if sys.stdout:
+            sys.stdout.flush()
     except program.Missing as fault:
         say(fault)
         status = NOT_THERE

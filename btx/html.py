@@ -34,9 +34,10 @@ def shown_name(name):
 
 def page_of(path, name, page):
     """What the viewer needs of a page."""
-    changes, check = (program.text_put(path, word, page) for word in ("changes", "check"))
-    with open(page, "rb") as file:
-        stored = base64.b64encode(file.read()).decode("ascii")
+    with program.read_again(page) as again:
+        changes, check = (program.text_put(path, word, again) for word in ("changes", "check"))
+        with open(again, "rb") as file:
+            stored = base64.b64encode(file.read()).decode("ascii")
     return {"name": name, "changes": changes, "check": check, "page": stored}
 
 

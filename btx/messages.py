@@ -3,7 +3,6 @@ import os
 import select
 import shlex
 import stat
-import sys
 
 from btx import program
 
@@ -16,6 +15,7 @@ FAULTS = {
     5: "its word isn't an even number of hexadecimal digits, at least two",
     6: "an item of its bytes is refused",
 }
+OUTPUT = 1
 COUNTS = {1: "one", 2: "two"}
 
 
@@ -106,7 +106,7 @@ def too_long(word, words):
 def reader_is_gone():
     """Whether standard output is a pipe that nobody reads any more."""
     watch = select.poll()
-    watch.register(sys.stdout.fileno(), 0)
+    watch.register(OUTPUT, 0)
     return any(event & select.POLLERR for _, event in watch.poll(0))
 
 

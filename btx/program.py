@@ -1,7 +1,10 @@
 """The proved program: where it is, its words, and running it."""
+import contextlib
 import os
 import shutil
+import stat
 import subprocess
+import tempfile
 
 ROOT = os.path.dirname(os.path.dirname(os.path.abspath(__file__)))
 CRATE = os.path.join(ROOT, "crates", "cept_tool")
@@ -52,8 +55,21 @@ def found(beside):
 
 def put(program, word, *words):
     """What the program puts, and its status."""
-    done = subprocess.run([program, word, *words], stdin=subprocess.DEVNULL, stdout=subprocess.PIPE)
+    done = subprocess.run([program, word, *words], stdin=subprocess.DEVNULL, stdout=subprocess.PIPE, close_fds=False)
     return done.stdout, done.returncode
+
+
+@contextlib.contextmanager
+def read_again(page):
+    """A name by which a page can be read several times: of what can be read once, as a pipe, that of a copy."""
+    if not os.path.exists(page) or stat.S_ISREG(os.stat(page).st_mode) or os.path.isdir(page):
+        yield page
+    else:
+        with tempfile.NamedTemporaryFile(prefix="btx-") as copy:
+            with open(page, "rb") as source:
+                shutil.copyfileobj(source, copy)
+            copy.flush()
+            yield copy.name
 
 
 def bytes_put(program, word, page):

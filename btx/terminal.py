@@ -136,18 +136,24 @@ def play(painter, moments, length, bits, stream):
         stream.flush()
 
 
-def run(path, options):
-    sys.stdout.reconfigure(encoding="utf-8", newline="\n")
+def show(path, page, options):
+    """Shows a page that can be read again, and answers the program's status."""
     painter = Painter(depth_of(os.environ), options.reveal)
     if options.replay:
-        moments = looks.moments_of(program.text_put(path, "changes", options.page))
-        play(painter, moments, os.path.getsize(options.page), options.replay, sys.stdout)
+        moments = looks.moments_of(program.text_put(path, "changes", page))
+        play(painter, moments, os.path.getsize(page), options.replay, sys.stdout)
     else:
-        cells = looks.cells_of(program.text_put(path, "cells", options.page))
-        rows = program.text_put(path, "show", options.page).count("\n")
+        cells = looks.cells_of(program.text_put(path, "cells", page))
+        rows = program.text_put(path, "show", page).count("\n")
         sys.stdout.writelines(still(painter, cells, rows))
         sys.stdout.flush()
-    status = program.put(path, "check", options.page)[1]
+    return program.put(path, "check", page)[1]
+
+
+def run(path, options):
+    sys.stdout.reconfigure(encoding="utf-8", newline="\n")
+    with program.read_again(options.page) as page:
+        status = show(path, page, options)
     if status:
         print(f"btx: {messages.sentence(path, 'show', [options.page], status)}", file=sys.stderr)
     return status

@@ -119,6 +119,16 @@ class Archive(stand.Case):
         self.assertRegex(done.stdout, rb"; [1-9]\d* were there")
         self.is_whole()
 
+    def test_the_progress_is_told_on_a_terminal(self):
+        master, slave = os.openpty()
+        done = stand.btx("archive", self.source, "-o", self.out, "--jobs", "1", stderr=slave, env=stand.environment(TERM="xterm"))
+        os.close(slave)
+        said = os.read(master, 1 << 16).decode()
+        os.close(master)
+        self.assertEqual(done.returncode, 0)
+        self.assertRegex(said, r"\r\x1b\[K16 of 16 pages, 1 with refused items, 0 not read\r?\n$")
+        self.assertEqual(self.archive().stderr, b"")
+
     def test_a_folder_that_is_not_there(self):
         self.source = self.path("nowhere")
         self.assertIn(b"archive: " + self.source.encode() + b": No such file", self.archive(status=4).stderr)
@@ -177,6 +187,25 @@ class Index(stand.Case):
     def choose(self, name, value):
         self.tab.value(f"(({{ id, value }}) => {{ const part = document.getElementById(id); part.value = value; "
                        f"part.dispatchEvent(new Event(id === 'search' ? 'input' : 'change')); }})({json.dumps({'id': name, 'value': value})})")
+
+    def test_an_index_of_2000_pages_opens_quickly(self):
+        source = self.path("source")
+        os.mkdir(source)
+        shutil.copy(stand.page("boat"), source)
+        out = self.archive(source)
+        index = os.path.join(out, "index.html")
+        entry, = data_in(index, "entries")
+        with open(index, encoding="utf-8") as file:
+            text = file.read()
+        many = json.dumps([[f"{number}.btx", *entry[1:]] for number in range(2000)])
+        with open(index, "w", encoding="utf-8") as file:
+            file.write(text.replace(json.dumps([entry], separators=(",", ":")), many))
+        self.open(index)
+        self.tab.until("document.querySelector('#tiles canvas').width === 240")
+        self.assertEqual(self.tab.value("document.getElementById('count').textContent"), "2,000 of 2,000 pages")
+        self.assertLess(self.tab.value("performance.getEntriesByType('navigation')[0].loadEventEnd"), 2000)
+        made = self.tab.value("[...document.querySelectorAll('#tiles canvas')].filter((canvas) => canvas.width === 240).length")
+        self.assertTrue(0 < made < 100, made)
 
     def test_index_filters_searches_and_leads_to_the_viewer(self):
         source = self.path("source")

@@ -30,8 +30,6 @@ class Install(stand.Case):
         self.assertIn(b"no such file", self.run_of(command, "show", "nowhere").stderr)
 
     def reads_manual(self, prefix):
-        if not stand.there("man"):
-            return
         for name, said in (("btx", b"Bildschirmtext"), ("cept_tool", b"EXIT STATUS")):
             manual = self.run_of("man", "-M", os.path.join(prefix, "share/man"), name, env={**self.bare(), "MANWIDTH": "80", "LC_ALL": "C.UTF-8"})
             self.assertIn(said, self.is_right(manual))
@@ -40,10 +38,14 @@ class Install(stand.Case):
         prefix = self.path("prefix")
         self.is_right(self.run_of(INSTALL, prefix, env=stand.environment()))
         self.works(prefix)
-        self.reads_manual(prefix)
         # Once more over itself.
         self.is_right(self.run_of(INSTALL, prefix, env=stand.environment()))
         self.works(prefix)
+
+    def test_the_manual(self):
+        self.needs("man")
+        self.is_right(self.run_of(INSTALL, self.path("prefix"), env=stand.environment()))
+        self.reads_manual(self.path("prefix"))
 
     def test_without_the_program_it_says_what_to_do(self):
         done = self.run_of(INSTALL, self.path("prefix"), env={**self.bare(), "BTX_PROGRAM": "nowhere"})
@@ -62,7 +64,8 @@ class Install(stand.Case):
         self.is_right(self.run_of(*dpkg, "--install", path))
         usr = os.path.join(system, "usr")
         self.works(usr)
-        self.reads_manual(usr)
+        if stand.there("man"):
+            self.reads_manual(usr)
         self.is_right(self.run_of(*dpkg, "--remove", "tamligub"))
         left = [name for _, _, names in os.walk(usr) for name in names]
         self.assertEqual(left, [])

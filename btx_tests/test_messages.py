@@ -46,6 +46,13 @@ class Messages(stand.Case):
         self.assertEqual(output, b"! 0 2 6 Interrupted\nitems 3 refused 1\n")
         self.assertEqual((run.returncode, error), (1, b"btx: some items of the page are refused\n"))
 
+    def test_a_page_that_a_shell_hands_over(self):
+        for word in ("show", "terminal", "html"):
+            line = f"{stand.BTX} {word} <(cat {stand.page('title')})"
+            done = subprocess.run(["bash", "-c", line], stdout=subprocess.PIPE, stderr=subprocess.PIPE, env=stand.environment(), timeout=60)
+            self.assertEqual((done.returncode, done.stderr), (0, b""))
+            self.assertIn(b"Guten Tag!" if word != "html" else b"items 315 refused 0", done.stdout)
+
     def test_words_that_are_no_request(self):
         page = stand.page("title")
         for words, said in (
