@@ -6,6 +6,7 @@ import tempfile
 import unittest
 
 ROOT = os.path.dirname(os.path.dirname(os.path.abspath(__file__)))
+PACKAGES = {"sshd": "openssh-server", "ssh": "openssh-client", "ssh-keygen": "openssh-client", "man": "man-db", "dpkg-deb": "dpkg"}
 PAGES = os.path.join(ROOT, "pages")
 BTX = os.path.join(ROOT, "bin", "btx")
 program = os.path.join(ROOT, "crates", "cept_tool", "out", "cept_tool")
@@ -63,5 +64,5 @@ class Case(unittest.TestCase):
         paths = [there(name) for name in names]
         for name, path in zip(names, paths):
             if not path:
-                self.skipTest(f"{name} is not on this machine")
+                self.skipTest(f"{name} is not on this machine (Debian: {PACKAGES.get(name, name)})")
         return paths
