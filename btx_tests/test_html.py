@@ -74,6 +74,15 @@ class Html(stand.Case):
         self.assertEqual(re.findall(rb'(?:src|href)="(?!#)([^"]*)"', document), [])
         self.assertIn(b"default-src 'none'", document)
 
+    def test_no_name_is_markup(self):
+        os.mkdir(self.path("<"))
+        name = "<\u002fscript><b>bold.btx"
+        with open(self.path(*name.split("/")), "wb") as file:
+            file.write(b"A")
+        document = stand.btx("html", name, name, cwd=self.folder).stdout
+        self.assertNotIn(b"script><b>", document)
+        self.assertEqual([page["name"] for page in self.data_in(document)], [name, name])
+
     def test_page_to_html_is_the_same(self):
         words = [os.path.join(stand.ROOT, "view", "page_to_html"), "--program", stand.program, stand.page("title")]
         document = subprocess.run(words, stdout=subprocess.PIPE, timeout=60).stdout

@@ -108,12 +108,29 @@ class Terminal(stand.Case):
         self.assertEqual([sign for sign in Reading(after).signs.values()], ["A", "B", "C"])
         self.assertEqual(re.findall("\x1b\\[(\\d+;\\d+)H", after)[:2], ["3;5", "3;6"])
 
-    def test_a_replay_takes_the_time_of_its_line(self):
+    def test_neighbours_that_change_together_have_one_position(self):
+        page = self.written("page", b"\x1f\x43\x45BCD\x1f\x43\x45\x18")
+        after = self.run_of(page, "--replay", "10000000").split("D", 1)[1]
+        self.assertEqual(re.findall("\x1b\\[(\\d+;\\d+)H", after), ["3;5", "25;1"])
+
+    def test_a_replay_shows_each_byte_when_it_has_come(self):
+        # At 1,200 bits a second the bytes 60 and 120 have come after 0.5 and 1 second.
         page = self.written("page", b"A" * 120)
-        begun = time.monotonic()
-        self.run_of(page, "--replay", "1200")
-        taken = time.monotonic() - begun
-        self.assertTrue(1.0 <= taken < 4.0, taken)
+        run = subprocess.Popen([stand.BTX, "terminal", page, "--replay", "1200"], stdout=subprocess.PIPE, env=FULL)
+        text, begun, times = b"", None, {}
+        while True:
+            piece = os.read(run.stdout.fileno(), 1 << 16)
+            now = time.monotonic()
+            begun = begun or now
+            text += piece
+            for count in (60, 120):
+                if text.count(b"mA") + text.count(b"AA") >= count:
+                    times.setdefault(count, now - begun)
+            if not piece:
+                break
+        run.stdout.close()
+        self.assertEqual(run.wait(60), 0)
+        self.assertTrue(0.45 <= times[60] < 3.0 and 0.95 <= times[120] < 4.0, times)
 
     def test_colours_are_those_of_the_cells(self):
         for name in ("title", "boat", "colours", "rows"):
