@@ -207,6 +207,13 @@ class Terminal(stand.Case):
                     self.assertEqual([cell.fg, cell.bg], [rgb(look[2]), rgb(look[3])], (name, row, column))
 
     def test_tmux_holds_the_page(self):
+        self.in_tmux(stand.page("timetable"))
+
+    def test_tmux_holds_the_end_of_a_replay(self):
+        self.in_tmux(stand.page("title"), "--replay", "10000000")
+
+    def in_tmux(self, page, *options):
+        """Runs a terminal in tmux, and compares its pane with what the program shows. Every tmux knows the widths of these signs."""
         tmux, = self.needs("tmux")
         socket = self.path("socket")
 
@@ -217,18 +224,16 @@ class Terminal(stand.Case):
 
         env = {**FULL, "LANG": "C.UTF-8", "LC_ALL": "C.UTF-8", "TERM": "xterm-256color"}
         env.pop("TMUX", None)
-        # Pages whose signs every tmux knows the widths of.
-        for words in ([stand.page("timetable")], [stand.page("title"), "--replay", "10000000"]):
-            command = shlex.join([stand.BTX, "terminal", *words]) + "; echo ready; exec cat"
-            ask("-u", "new-session", "-d", "-x", "80", "-y", "30", command)
-            try:
-                self.assertTrue(self.comes(lambda: "ready" in ask("capture-pane", "-p")), words)
-                found = ask("capture-pane", "-p").split("\n")
-            finally:
-                ask("kill-server")
-            name = os.path.basename(words[0])[: -len(".btx")]
-            want = shown(name)
-            self.is_shown([signs_of(row.ljust(40))[:40] for row in found[: len(want)]], name)
+        command = shlex.join([stand.BTX, "terminal", page, *options]) + "; echo ready; exec cat"
+        ask("-u", "new-session", "-d", "-x", "80", "-y", "30", command)
+        try:
+            self.assertTrue(self.comes(lambda: "ready" in ask("capture-pane", "-p")), page)
+            found = ask("capture-pane", "-p").split("\n")
+        finally:
+            ask("kill-server")
+        name = os.path.basename(page)[: -len(".btx")]
+        want = shown(name)
+        self.is_shown([signs_of(row.ljust(40))[:40] for row in found[: len(want)]], name)
 
     def comes(self, condition):
         end = time.monotonic() + 30
