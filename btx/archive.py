@@ -91,7 +91,8 @@ class Progress:
             left = (now - self.begun) / self.done * (self.total - self.done)
             end = "\n" if self.done == self.total else ""
             about = f", about {left:.0f} s more" if not end else ""
-            sys.stderr.write(f"\r\x1b[K{self.done:,} of {self.total:,} pages, {self.refused:,} with refused items, {self.unread:,} not read{about}{end}")
+            counts = f"{self.done:,} of {self.total:,} pages, {self.refused:,} with refused items, {self.unread:,} not read"
+            sys.stderr.write(f"\r\x1b[K{counts}{about}{end}")
             sys.stderr.flush()
 
 

@@ -5,9 +5,10 @@ import unicodedata
 
 from btx import looks
 
-MARKS = dict(zip((*range(0x41, 0x49), 0x4A, 0x4B, 0x4D, 0x4E, 0x4F), (
-    "\u0300", "\u0301", "\u0302", "\u0303", "\u0304", "\u0306", "\u0307", "\u0308", "\u030a", "\u0327", "\u030b", "\u0328", "\u030c",
-)))
+MARKS = {
+    0x41: "\u0300", 0x42: "\u0301", 0x43: "\u0302", 0x44: "\u0303", 0x45: "\u0304", 0x46: "\u0306", 0x47: "\u0307",
+    0x48: "\u0308", 0x4A: "\u030a", 0x4B: "\u0327", 0x4D: "\u030b", 0x4E: "\u0328", 0x4F: "\u030c",
+}
 SUPPLEMENTARY = {
     first + index: sign
     for first, signs in (

@@ -17,6 +17,7 @@ import stand
 sys.path.insert(0, os.path.join(stand.ROOT, "view", "tests"))
 import browser  # noqa: E402
 
+NAMES = "[...document.querySelectorAll('#tiles .name')].map((one) => one.textContent)"
 ODD = "odd #1 & 50% ü.btx"
 
 
@@ -105,7 +106,9 @@ class Archive(stand.Case):
 
     def test_a_stop_leaves_what_goes_on(self):
         # A program that is interrupted with btx at its fourth page.
-        slow = self.written("slow", f'#!/bin/sh\necho x >> {self.path("runs")}\n[ $(wc -l < {self.path("runs")}) -lt 16 ] || sleep 30\nexec {stand.program} "$@"\n'.encode())
+        runs = self.path("runs")
+        lines = ["#!/bin/sh", f"echo x >> {runs}", f"[ $(wc -l < {runs}) -lt 16 ] || sleep 30", f'exec {stand.program} "$@"', ""]
+        slow = self.written("slow", "\n".join(lines).encode())
         os.chmod(slow, 0o755)
         words = [stand.BTX, "archive", self.source, "-o", self.out, "--jobs", "1"]
         run = subprocess.Popen(words, stdout=subprocess.PIPE, stderr=subprocess.PIPE, start_new_session=True, env=stand.environment(BTX_PROGRAM=slow))
@@ -154,8 +157,9 @@ class Archive(stand.Case):
 
     def test_over_ssh_on_this_machine(self):
         self.needs("parallel", "sshd", "ssh", "ssh-keygen")
-        done = subprocess.run([os.path.join(stand.ROOT, "btx_tests", "over_ssh"), self.source, self.out], stdout=subprocess.PIPE, stderr=subprocess.STDOUT,
-                              env=stand.environment(), timeout=120)
+        words = [os.path.join(stand.ROOT, "btx_tests", "over_ssh"), self.source, self.out]
+        keys = {"stdout": subprocess.PIPE, "stderr": subprocess.STDOUT, "env": stand.environment(), "timeout": 120}
+        done = subprocess.run(words, **keys)
         if done.returncode == 77:
             self.skipTest(done.stdout.decode().strip())
         self.assertEqual(done.returncode, 0, done.stdout.decode())
@@ -182,7 +186,7 @@ class Index(stand.Case):
         self.tab.until("document.readyState === 'complete' && window.Tamligub !== undefined")
 
     def names(self):
-        return self.tab.value("[...document.querySelectorAll('#tiles .name')].map((one) => one.textContent)")
+        return self.tab.value(NAMES)
 
     def choose(self, name, value):
         self.tab.value(f"(({{ id, value }}) => {{ const part = document.getElementById(id); part.value = value; "
@@ -225,7 +229,8 @@ class Index(stand.Case):
         self.choose("filter", "all")
         for search, wanted in (("50%", [ODD]), ("bildschirmtext größe", [ODD, "title.btx"]), ("segelboot zelle", ["boat.btx"]), ("nowhere", [])):
             self.choose("search", search)
-            self.tab.until(f"JSON.stringify([...document.querySelectorAll('#tiles .name')].map((one) => one.textContent)) === {json.dumps(json.dumps(wanted, ensure_ascii=False, separators=(',', ':')))}")
+            text = json.dumps(wanted, ensure_ascii=False, separators=(",", ":"))
+            self.tab.until(f"JSON.stringify({NAMES}) === {json.dumps(text)}")
         self.choose("search", "")
         self.choose("order", "refused")
         self.assertEqual(self.names()[0], "refused.btx")

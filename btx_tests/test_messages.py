@@ -95,7 +95,9 @@ class Messages(stand.Case):
         self.ends(["edit", page, script], 7, f"{page}: the page has more than 16,777,216 bytes", env=self.stub(7))
 
     def test_a_broken_pipe_ends_quietly(self):
-        run = subprocess.Popen([stand.BTX, "gen", "1"], stdout=subprocess.PIPE, stderr=subprocess.PIPE, env=stand.environment())
+        # The changes of a generated page are far more than a pipe holds.
+        words = [stand.BTX, "changes", self.written("page", stand.put("gen", "1"))]
+        run = subprocess.Popen(words, stdout=subprocess.PIPE, stderr=subprocess.PIPE, env=stand.environment())
         run.stdout.read(1)
         run.stdout.close()
         self.assertEqual((run.stderr.read(), run.wait(60)), (b"", -signal.SIGPIPE))
