@@ -128,4 +128,6 @@ def sentence(path, word, words, status):
         return f"{word}: there is not enough memory; nothing was put"
     if status == 7:
         return too_long(word, words)
+    if status == 8:
+        return f"{word}: {words[0]}: this is no page in seven bits; only what stands before its first wrong byte was put"
     return f"{word}: the program ended with status {status}, which it doesn't have"

@@ -17,6 +17,8 @@ WORDS = {
     "show": ("PAGE", "the screen at the end of the page as text"),
     "cells": ("PAGE", "a line for each cell of that screen whose look isn't the blank look"),
     "write": ("PAGE", "the page at its end as bytes, which bring it back"),
+    "seven": ("PAGE", "the bytes of the page in seven bits, for a path that carries no more"),
+    "eight": ("PAGE", "such bytes back in eight"),
     "trace": ("PAGE SCRIPT", "for each edit of a script a line for each cell that it changes"),
     "edit": ("PAGE SCRIPT", "the page after the edits of a script, as bytes"),
     "gen": ("NUMBER", "the generated page of a number, 0 to 4294967295, as bytes"),

@@ -26,10 +26,14 @@ class Messages(stand.Case):
 
     def test_words_of_the_program_pass_through(self):
         script = self.written("script", b"at 1 2\ntext XY\nundo\n")
-        requests = [[word, stand.page("title")] for word in ("changes", "check", "show", "cells", "write")]
+        requests = [[word, stand.page("title")] for word in ("changes", "check", "show", "cells", "write", "seven")]
         requests += [[word, stand.page("title"), script] for word in ("trace", "edit")]
         for request in [*requests, ["gen", "1"]]:
             self.assertEqual(self.ends(request, 0).stdout, stand.put(*request), request)
+
+    def test_what_is_no_page_in_seven_bits(self):
+        page = self.written("wide", b"A\x80B")
+        self.assertEqual(self.ends(["eight", page], 8, f"eight: {page}: this is no page in seven bits").stdout, b"A")
 
     def test_refused_items_are_counted(self):
         page = self.written("broken", b"\x9b1\rB")
