@@ -1,6 +1,6 @@
 -- How a run ends that puts the bytes of a page in another form.
-use Rattle.std.proofs.Common.{◌≡◌, ◌≢◌, ◌⊎◌, inl, inr, ℕ, ◌^◌, ◌<◌, ◌≤◌, Bool, true, false, List, [], ◌∷◌, ◌++◌, take, drop}
-use Rattle.std.proofs.Common.{Option, Some, None, IsSome, Result, Ok, Err, refl, sym, ◌∙◌, ap, subst, arith, min, length}
+use Rattle.std.proofs.Common.{◌≡◌, ◌≢◌, ◌⊎◌, inl, inr, ℕ, ◌^◌, ◌≤◌, Bool, true, false, List, [], ◌∷◌, ◌++◌, take, drop}
+use Rattle.std.proofs.Common.{Option, Some, None, Result, Ok, Err, refl, sym, ◌∙◌, ap, subst, arith, min, length}
 use Rattle.std.proofs.Common.{take-take, take-append-drop, length-append}
 use Rattle.std.proofs.lemmas.List.{take-append-le}
 use Rattle.std.proofs.lemmas.Option.{none-some, same_Some}
@@ -24,12 +24,12 @@ use Rattle.cept_run.specs.declared.run.Status.TheVariants as statuses
 use Rattle.cept_run.specs.declared.words.BytesAction.{BytesAction}
 use Rattle.cept_run.specs.declared.words.BytesAction.TheVariants as actions
 use Rattle.cept_run.specs.Course.{Course, File, Gives, SelectsNoOther, turning, text_event}
-use Rattle.cept_run.specs.Outside.{Outside, outside_of, output, PutsWhole, PutsUnflushed}
+use Rattle.cept_run.specs.Outside.{Outside, outside_of, output, PutsUnflushed}
 use Rattle.cept_run.specs.Page.{KeepsShelf}
 use Rattle.cept_run.specs.Run.{is_flushed, EndsWhole, IsReportCut, IsUnreadable, IsEndOpen, Ends, ReportsFront, RunsCourse}
 use Rattle.cept_run.specs.Run.{status_at_end}
 use Rattle.cept_run.specs.Turned.{turned, turned_front, readable_front, can_end_there}
-use Rattle.cept_run.specs.Turning.{TurnsWhole, TurnsPart, TurnsCut, TurnsNot, EndsOpen, PageTurned}
+use Rattle.cept_run.specs.Turning.{TurnsWhole, TurnsPart, TurnsCut, TurnsNot, PageTurned}
 use Rattle.cept_run.proofs.PagesInPieces.{KeepsFiles-more, nil_from_length}
 use Rattle.cept_run.proofs.PaintedItems.{chained-one, each_shown}
 use Rattle.cept_run.proofs.ReportedFronts.{same_sink}

@@ -36,6 +36,7 @@ pub enum Path {
 }
 
 /// Turns a piece to seven bits.
+#[inline(never)]
 fn to_seven(form: &mut ToSeven, piece: &[u8], text: &mut Text)
     requires { length piece.now ≤ 4096 }
     ensures { (b : List ℕ) → form.old ≡ ends_right b
@@ -48,6 +49,7 @@ fn to_seven(form: &mut ToSeven, piece: &[u8], text: &mut Text)
 }
 
 /// Turns a piece back to eight bits. Answers whether all of it could be read.
+#[inline(never)]
 fn from_seven(form: &mut FromSeven, piece: &[u8], text: &mut Text) -> bool
     requires { length piece.now ≤ 4096 }
     ensures { (b : List ℕ) → Leads b form.old

@@ -1,4 +1,4 @@
-use Rattle.std.proofs.Common.{◌++◌, ◌∙◌, arith, length, take, append-nil, sym, ap, ◌≡◌, ◌≤◌, ◌+◌, List, ℕ}
+use Rattle.std.proofs.Common.{◌++◌, ◌∙◌, arith, length, take, append-nil, sym, ap, ◌≡◌, ℕ}
 use Rattle.std.proofs.Common.{◌∷◌, [], length-append}
 use Rattle.cept_seven.specs.Eight.{eight, bytes_heard}
 use Rattle.cept_run.proofs.TurnedPieces.{byte_kept, silent_kept, eight_starts, eight_goes_on, eight_turned, eight_refused}

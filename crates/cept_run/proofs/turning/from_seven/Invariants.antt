@@ -1,4 +1,4 @@
-use Rattle.std.proofs.Common.{◌≡◌, ◌≤◌, ℕ, List, take}
+use Rattle.std.proofs.Common.{◌≤◌, ℕ, List, take}
 use Rattle.arrayvec.specs.ArrayVec.{array_vec_len}
 use Rattle.cept_seven.specs.Eight.{Leads}
 use Rattle.cept_run.proofs.TurnedPieces.{FromSevenCome}

@@ -1,5 +1,4 @@
-use Rattle.std.proofs.Common.{◌++◌, ◌∙◌, ap, sym, refl, inl, inr, not}
-use Rattle.std.proofs.lemmas.Bool.{not-true}
+use Rattle.std.proofs.Common.{◌++◌, ◌∙◌, ap, sym, refl, inl}
 use Rattle.cept_run.specs.Turned.{turned_front}
 use Rattle.cept_run.proofs.TurnedPieces.{all_put, part_put, fault_since, later_since, can_end, cannot_end}
 use Rattle.cept_run.proofs.turning.put_end.Goals as goal

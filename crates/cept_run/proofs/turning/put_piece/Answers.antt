@@ -1,4 +1,4 @@
-use Rattle.std.proofs.Common.{◌++◌, ◌∙◌, ap, sym, refl}
+use Rattle.std.proofs.Common.{◌++◌, ◌∙◌, ap, sym}
 use Rattle.cept_run.specs.Turned.{turned_front}
 use Rattle.cept_run.proofs.TurnedPieces.{all_put, part_put, fault_since, later_since}
 use Rattle.cept_run.proofs.turning.put_piece.Goals as goal
