@@ -246,21 +246,21 @@ texts_textual text [] all = tt
 texts_textual text (x ∷ xs) all =
     textual-append (text x) (flat_map text xs) all.0 (texts_textual text xs all.1)
 
-opening_textual : (s : SetId) → AreTextual (opening_commands s)
+pub opening_textual : (s : SetId) → AreTextual (opening_commands s)
 opening_textual set.P = tt
 opening_textual set.S = tt
 opening_textual set.M = (omega arith, tt)
 opening_textual set.N = tt
 opening_textual set.D = (omega arith, tt)
 
-closing_textual : (s : SetId) → AreTextual (closing_commands s)
+pub closing_textual : (s : SetId) → AreTextual (closing_commands s)
 closing_textual set.P = tt
 closing_textual set.S = tt
 closing_textual set.M = (omega arith, tt)
 closing_textual set.N = tt
 closing_textual set.D = (omega arith, tt)
 
-unit_textual : (s : SetId) (code accent : ℕ) → IsCodeOf s code → IsValidAccent s accent
+pub unit_textual : (s : SetId) (code accent : ℕ) → IsCodeOf s code → IsValidAccent s accent
     → AreTextual (unit_of_set s code accent)
 unit_textual set.P code accent h k =
     textual-append (accent_commands accent) (command.Graphic code ∷ []) (accent_textual accent k) ((h.0, h.1), tt)
@@ -331,7 +331,7 @@ contents_textual list all few =
     (each_short_chain is_of_same_set IsValidWhat (λ c. AreTextual (stretch_commands c)) 64
     (λ c linked valid short. stretch_textual c valid short) list all few)
 
-manner_textual : (w : What) → IsValidWhat w → AreTextual (manner_commands w)
+pub manner_textual : (w : What) → IsValidWhat w → AreTextual (manner_commands w)
 manner_textual whats.Blank h = tt
 manner_textual (whats.Serial g) h = (tt, tt)
 manner_textual (whats.Parallel g pen) h =

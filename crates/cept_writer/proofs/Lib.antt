@@ -18,6 +18,7 @@ mod PartsRestored
 mod PatternsSpelled
 mod PenAttributes
 mod PensAdded
+mod PiecesValid
 mod Resting
 mod SegmentSigns
 mod SegmentsByCell

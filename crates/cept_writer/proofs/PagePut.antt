@@ -107,3 +107,9 @@ page_put k r s u puts = subst (λ (l : List ℕ). PutsText s l r u) (sym (page_p
 pub handed_on : {X E : Type 0} {e : E} (r : Result X E) (s u : SinkState) (text : List ℕ) → r ≡ Err e
     → PutsText {X = X} {E = E} s text (Err e) u → PutsText s text r u
 handed_on {X} {E} r s u text is puts = subst (λ (q : Result X E). PutsText {X = X} {E = E} s text q u) (sym is) puts
+
+-- a text that was put in part, by other commands that are the same
+pub part_is : {X E : Type 0} {e : E} {cs ds : List Command} → cs ≡ ds → (s u : SinkState)
+    → PutsText {X = X} {E = E} s (spellings cs) (Err e) u → PutsText {X = X} {E = E} s (spellings ds) (Err e) u
+part_is {X} {E} {e} same s u puts =
+    subst (λ (l : List Command). PutsText {X = X} {E = E} s (spellings l) (Err e) u) same puts

@@ -32,7 +32,7 @@ fn add_between(list: &mut Commands, before: Command, code: u8, after: Command)
 }
 
 /// Adds a sign after a single shift.
-fn add_single(list: &mut Commands, g: u8, code: u8)
+pub fn add_single(list: &mut Commands, g: u8, code: u8)
     requires { length list.old + 2 ≤ 72 }
     ensures commands { list.new ≡ list.old ++ commands.Single g ∷ commands.Graphic code ∷ [] }
     ensures len { length list.new ≡ length list.old + 2 }
@@ -42,7 +42,7 @@ fn add_single(list: &mut Commands, g: u8, code: u8)
 }
 
 /// Adds a sign with its accent.
-fn add_accented(list: &mut Commands, code: u8, accent: u8)
+pub fn add_accented(list: &mut Commands, code: u8, accent: u8)
     requires { length list.old + 3 ≤ 72 }
     ensures commands { list.new
         ≡ list.old ++ accent_commands accent ++ commands.Graphic code ∷ [] }
@@ -73,7 +73,7 @@ fn add_glyph(list: &mut Commands, glyph: &Glyph)
 }
 
 /// Adds what leaves a marker.
-fn add_marker(list: &mut Commands, marker: &Marker)
+pub fn add_marker(list: &mut Commands, marker: &Marker)
     requires { length list.old + 2 ≤ 72 }
     ensures commands { list.new ≡ list.old ++ marker_commands marker.now }
     ensures len { length list.new ≤ length list.old + 2 }

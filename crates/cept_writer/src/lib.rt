@@ -11,10 +11,12 @@ mod list;
 mod page;
 mod pattern;
 mod put;
+mod segments;
 mod spelling;
 #[cfg(test)]
 mod tests;
 mod text;
+mod walk;
 
 pub use law::{
     attributes_make_the_pen, bytes_of_pages_bring_them_back, chains_cut_where_none_goes_on,
