@@ -1,5 +1,4 @@
 use crate::{FromSeven, Heard, ToSeven, seven_bits_say_the_same};
-use arrayvec::ArrayVec;
 use std::test::Fail;
 
 /// A sign of each half, a C1 code, and a shift of the page's own.
@@ -10,10 +9,9 @@ const SEVEN: [u8; 9] = [0x41, 0x0E, 0x48, 0x0F, 0x61, 0x1B, 0x54, 0x10, 0x4E];
 #[test]
 fn a_page_goes_to_seven_bits(rt: HostRuntime) -> Result<(), Fail> {
     let mut form = ToSeven::new();
-    let mut put = ArrayVec::<u8, 16>::new();
+    let mut put = Vec::new(rt.alloc());
     for byte in PAGE {
-        put.try_extend_from_slice(form.push(byte).as_slice())
-            .unwrap();
+        put.extend_from_slice(form.push(byte).as_slice())?;
     }
     assert_eq!(rt; put.as_slice(), SEVEN.as_slice());
     assert!(rt; form.finish().is_empty());
@@ -33,10 +31,10 @@ fn the_end_shifts_back(rt: HostRuntime) -> Result<(), Fail> {
 fn seven_bits_come_back(rt: HostRuntime) -> Result<(), Fail> {
     seven_bits_say_the_same();
     let mut form = FromSeven::new();
-    let mut put = ArrayVec::<u8, 16>::new();
+    let mut put = Vec::new(rt.alloc());
     for byte in SEVEN {
         match form.push(byte) {
-            Heard::Byte(given) => put.push(given),
+            Heard::Byte(given) => put.push(given)?,
             Heard::Silent => {}
             Heard::Refused => return Err("a byte is refused".into()),
         }
