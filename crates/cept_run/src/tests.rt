@@ -730,3 +730,26 @@ fn a_page_shows_the_same_after_a_path_of_seven_bits(rt: HostRuntime) -> Result<(
     assert_eq!(rt; shown.1, Status::Refusals);
     Ok(())
 }
+
+#[test]
+fn turns_a_page_that_is_too_long_as_far_as_it_may(rt: HostRuntime) -> Result<(), Fail> {
+    let alloc = rt.alloc();
+    for (word, byte, last, length, status) in [
+        ("seven", 0xC8u8, 0xC8u8, (1 << 24) + 1, Status::TooLong),
+        ("eight", b'A', b'A', 1 << 24, Status::TooLong),
+        ("eight", b'A', 0x80, (1 << 24) - 1, Status::NotSeven),
+    ] {
+        let request = words(alloc, &[word, "page"])?;
+        let mut page = Vec::from_elem(alloc, byte, (1 << 24) - 1)?;
+        page.push(last)?;
+        page.push(byte)?;
+        let mut shelf = QuietShelf::new(alloc);
+        shelf.add("page", page.as_slice())?;
+        let mut sink = MemSink::new(alloc, 1 << 25)?;
+        let mut glass = GridGlass::new(alloc)?;
+        let ended = run(alloc, &request, &mut shelf, &mut sink, &mut glass);
+        assert_eq!(rt; ended, status, "{word} {byte}");
+        assert_eq!(rt; sink.bytes().len(), length, "{word} {byte}");
+    }
+    Ok(())
+}
