@@ -148,7 +148,8 @@ impl Editor {
         ensures applied { IsApplied self.old.screen command.now self.new.screen marks.new
             (G.state glass.old) (G.state glass.new) steps.old steps.new }
     {
-        self.screen.apply_from(command, glass, marks, steps);
+        self.undo
+            .apply_outside(&mut self.screen, command, glass, marks, steps);
     }
 
     /// Makes edit k of a script, counted from 0. The commands of an edit are applied one after the

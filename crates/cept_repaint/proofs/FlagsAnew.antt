@@ -1,5 +1,5 @@
 -- Flags of rows after old values were put back.
-use Rattle.std.proofs.Common.{◌≡◌, ◌≢◌, ℕ, ◌+◌, ◌≤◌, Bool, false, inl, inr, None, Option, List}
+use Rattle.std.proofs.Common.{◌≡◌, ◌≢◌, ℕ, ◌+◌, ◌≤◌, Bool, false, inl, inr, Option, List}
 use Rattle.std.proofs.Common.{length, unwrap_or, refl, sym, ap, subst, ◌∙◌, arith}
 use Rattle.std.proofs.lemmas.Bool.{cases_eq}
 use Rattle.cept_codes.specs.declared.attribute.Pen.{Pen}
@@ -11,7 +11,7 @@ use Rattle.cept_codes.specs.Place.{OnScreen}
 use Rattle.cept_codes.specs.Table.{entry, value_at}
 use Rattle.cept_codes.proofs.Laws.{entry-list_by_index, entry_from, length-list_by_index, value_at-table}
 use Rattle.cept_profile.specs.Look.{is_double_set, sets_double_size}
-use Rattle.cept_profile.specs.OldValues.{OldValues, no_old_values, old_cell, old_row_pen, page_unwound}
+use Rattle.cept_profile.specs.OldValues.{OldValues, old_cell, old_row_pen, page_unwound}
 use Rattle.cept_profile.specs.PageParts.{row_pen_in}
 use Rattle.cept_profile.specs.Serial.{is_marker}
 use Rattle.cept_profile.specs.State.{Page}
@@ -56,24 +56,16 @@ pub IsFlagMade-stays : (IsSo : Type 0) (old : OldValues) (k : ℕ) (was : List B
 IsFlagMade-stays IsSo old k was long none =
     record { rows = long; others = λ r low high ne. refl; here = λ unset. inr (unset, none) }
 
-pub IsRowUnnoted-by : (old : OldValues) (r : ℕ) → 1 ≤ r → r ≤ 24 → ((c : ℕ) → OnScreen r c → old_cell old r c ≡ None)
-    → old.row_pens ≡ no_old_values.row_pens → IsRowUnnoted old r
-IsRowUnnoted-by old r low high cells pens = record {
-  cells = cells;
-  pen = ap (λ (l : List (Option Pen)). entry None 1 l r) pens
-      ∙ entry-list_by_index None 1 24 (λ _. None) r low (omega (arith, high));
-}
-
 -- ---- the page afterwards
 
 -- the cells of a row that isn't noted stay
-cell_stays : (p : Page) (old : OldValues) (r c : ℕ) → OnScreen r c → IsRowUnnoted old r
+pub cell_stays : (p : Page) (old : OldValues) (r c : ℕ) → OnScreen r c → IsRowUnnoted old r
     → value_at blank_cell (page_unwound p old).cells r c ≡ value_at blank_cell p.cells r c
 cell_stays p old r c on none =
     value_at-table (λ q k. unwrap_or (old_cell old q k) (value_at blank_cell p.cells q k)) blank_cell r c on
     ∙ ap (λ (o : Option Cell). unwrap_or o (value_at blank_cell p.cells r c)) (none.cells c on)
 
-pen_stays : (p : Page) (old : OldValues) (r : ℕ) → 1 ≤ r → r ≤ 24 → IsRowUnnoted old r
+pub pen_stays : (p : Page) (old : OldValues) (r : ℕ) → 1 ≤ r → r ≤ 24 → IsRowUnnoted old r
     → row_pen_in (page_unwound p old).row_pens r ≡ row_pen_in p.row_pens r
 pen_stays p old r low high none =
     entry-list_by_index unset_pen 1 24 (λ q. unwrap_or (old_row_pen old q) (row_pen_in p.row_pens q)) r low

@@ -26,7 +26,6 @@ pub mod PaintedInOrder
 pub mod Refreshed
 pub mod RedefinedRows
 pub mod RestingRows
-pub mod RestoredRows
 pub mod RowsOfLooks
 pub mod RowsDue
 pub mod TurnedLooks
@@ -34,3 +33,6 @@ pub mod Unmarked
 pub mod ValidGrids
 pub mod WalkedRows
 mod Unchanged
+pub mod UnwoundStates
+pub mod UnwoundRows
+pub mod NoneNoted

@@ -1,19 +1,44 @@
 -- What is noted before a stroke or a command leaves the page and the state to which it unwinds.
-use Rattle.std.proofs.Common.{◌≡◌, Option, Some, None, refl, ap}
+use Rattle.std.proofs.Common.{◌≡◌, Option, Some, None, unwrap_or, refl, ap, ◌∙◌}
 use Rattle.std.specs.Prelude.{option_map}
 use Rattle.cept_codes.specs.declared.stroke.Stroke.{Stroke}
+use Rattle.cept_codes.specs.declared.stroke.Stroke.TheVariants as strokes
+use Rattle.cept_profile.specs.Control.{ControlState}
 use Rattle.cept_profile.specs.NotedStrokes.{with_stroke}
-use Rattle.cept_profile.specs.OldValues.{OldValues, with_control}
+use Rattle.cept_profile.specs.OldValues.{OldValues, first_noted, page_unwound, unwound, with_control}
 use Rattle.cept_profile.specs.State.{Page, State}
-use Rattle.cept_profile.proofs.Laws.{page_unwound-stroke, unwound-with_control}
+use Rattle.cept_profile.proofs.Laws.{page_unwound-stroke}
 use Rattle.cept_repaint.specs.Drawn.{IsDrawn}
-use Rattle.cept_repaint.specs.Noter.{page_behind, state_behind}
+use Rattle.cept_repaint.specs.Noter.{PageBehind, page_behind, state_behind}
 
-pub page_behind-stroke : (noted : Option OldValues) (p : Page) (stroke : Stroke) (q : Page) → IsDrawn p stroke q
-    → page_behind (option_map (with_stroke p stroke) noted) q ≡ page_behind noted p
-page_behind-stroke None p stroke q is = refl
-page_behind-stroke (Some old) p stroke q is =
-    ap Some (page_unwound-stroke p stroke q old (record {
+-- what a stroke changes isn't control
+control-with_stroke : (p : Page) (stroke : Stroke) (old : OldValues) → (with_stroke p stroke old).control ≡ old.control
+control-with_stroke p (strokes.Put place cell) old = refl
+control-with_stroke p (strokes.Erase row from) old = refl
+control-with_stroke p strokes.Wipe old = refl
+control-with_stroke p (strokes.Shift first last way) old = refl
+control-with_stroke p (strokes.RowAttr row attr) old = refl
+control-with_stroke p (strokes.ScreenAttr attr) old = refl
+control-with_stroke p strokes.ScreenClear old = refl
+control-with_stroke p (strokes.Colour i paint) old = refl
+control-with_stroke p (strokes.Dclut i v) old = refl
+control-with_stroke p strokes.ColourDefaults old = refl
+control-with_stroke p strokes.DrcsClear old = refl
+control-with_stroke p (strokes.Drcs code pattern) old = refl
+control-with_stroke p (strokes.Format rows) old = refl
+
+abbrev behind_with : Page → Option ControlState → PageBehind
+behind_with p k = record { page = p; control = k }
+
+-- what a stroke changes is noted before it is drawn: to what the page unwinds stays
+pub page_behind-stroke : (before after : Option OldValues) (p : Page) (stroke : Stroke) (q : Page) → IsDrawn p stroke q
+    → after ≡ option_map (with_stroke p stroke) before → page_behind after q ≡ page_behind before p
+unfolding page_behind
+page_behind-stroke None after p stroke q is noted = ap (λ o. page_behind o q) noted
+page_behind-stroke (Some old) after p stroke q is noted =
+    ap (λ o. page_behind o q) noted
+    ∙ ap (λ (b : Page). Some (behind_with b (with_stroke p stroke old).control))
+    (page_unwound-stroke p stroke q old (record {
       cells = is.cells;
       row_pens = is.row_pens;
       screen_pen = is.screen_pen;
@@ -21,8 +46,40 @@ page_behind-stroke (Some old) p stroke q is =
       dclut = is.dclut;
       patterns = is.patterns;
     }))
+    ∙ ap (λ (k : Option ControlState). Some (behind_with (page_unwound p old) k))
+    (control-with_stroke p stroke old)
 
-pub state_behind-control : (noted : Option OldValues) (s : State)
-    → state_behind (option_map (with_control s.control) noted) s ≡ state_behind noted s
-state_behind-control None s = refl
-state_behind-control (Some old) s = ap Some (unwound-with_control s old)
+-- a control that is noted comes back in place of any other
+control_back : (noted : Option ControlState) (was now : ControlState)
+    → unwrap_or (first_noted noted was) now ≡ unwrap_or noted was
+control_back None was now = refl
+control_back (Some first) was now = refl
+
+same_value : {X : Type 0} {x y : X} → Some x ≡ Some y → x ≡ y
+same_value same = cc
+
+-- the control is noted first: to what the page unwinds stays, and so does the state
+pub state_behind-control : (before first after : Option OldValues) (s t : State)
+    → first ≡ option_map (with_control s.control) before → page_behind after t.page ≡ page_behind first s.page
+    → state_behind after t ≡ state_behind before s
+unfolding page_behind state_behind
+state_behind-control None first None s t noted behind = refl
+state_behind-control None first (Some new) s t noted behind = absurd (cc)
+state_behind-control (Some old) first None s t noted behind = absurd (cc)
+state_behind-control (Some old) first (Some new) s t noted behind =
+    let same : behind_with (page_unwound t.page new) new.control
+    ≡ behind_with (page_unwound s.page old) (first_noted old.control s.control) =
+    same_value (behind ∙ ap (λ o. page_behind o s.page) noted) in
+    let page : page_unwound t.page new ≡ page_unwound s.page old = ap (λ (b : PageBehind). b.page) same in
+    let control : new.control ≡ first_noted old.control s.control = ap (λ (b : PageBehind). b.control) same in
+    λ i. Some (record {
+      page = page i;
+      control = (ap (λ (k : Option ControlState). unwrap_or k t.control) control
+          ∙ control_back old.control s.control t.control) i;
+    })
+
+-- the same, where values may be noted
+pub unwound-behind : (new old : OldValues) (s t : State) → state_behind (Some new) t ≡ state_behind (Some old) s
+    → unwound t new ≡ unwound s old
+unfolding state_behind
+unwound-behind new old s t behind = cc

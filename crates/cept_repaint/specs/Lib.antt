@@ -17,3 +17,4 @@ pub mod TapeGlass
 pub mod ValidGrid
 pub mod PutBack
 pub mod FlagsAnew
+pub mod Restored

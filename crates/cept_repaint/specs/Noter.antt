@@ -5,6 +5,7 @@ use Rattle.cept_codes.specs.declared.attribute.Pen.{Pen}
 use Rattle.cept_codes.specs.declared.cell.Cell.{Cell}
 use Rattle.cept_codes.specs.declared.look.Pattern.{Pattern}
 use Rattle.cept_colours.specs.Colours.{ColourTables}
+use Rattle.cept_profile.specs.Control.{ControlState}
 use Rattle.cept_profile.specs.OldValues.{OldValues, page_unwound, unwound}
 use Rattle.cept_profile.specs.State.{Page, State}
 
@@ -19,10 +20,15 @@ page_with cells row_pens screen_pen colours patterns = record {
   patterns = patterns;
 }
 
--- the page to which this one unwinds by what is noted, where anything may be noted
-abbrev pub page_behind : Option OldValues → Page → Option Page
-page_behind noted p = option_map (page_unwound p) noted
+-- a page to which another unwinds, and what is noted of control
+pub record PageBehind : Type 0 where
+  pub page : Page
+  pub control : Option ControlState
+
+-- to what this page unwinds by what is noted, where anything may be noted
+unfoldable pub page_behind : Option OldValues → Page → Option PageBehind
+page_behind noted p = option_map (λ old. record { page = page_unwound p old; control = old.control }) noted
 
 -- the state to which this one unwinds
-abbrev pub state_behind : Option OldValues → State → Option State
+unfoldable pub state_behind : Option OldValues → State → Option State
 state_behind noted s = option_map (unwound s) noted

@@ -143,7 +143,7 @@ fn has_others(
 }
 
 /// Whether just one of two rows is last.
-fn is_last_under_one(before: &Edges, from: u8, after: &Edges, row: u8) -> bool
+pub(crate) fn is_last_under_one(before: &Edges, from: u8, after: &Edges, row: u8) -> bool
     ensures { result ≡ just_one (is_last before.now from) (is_last after.now row) }
 {
     before.is_last(from) != after.is_last(row)

@@ -1,5 +1,6 @@
 ghost use Rattle.std.specs.Prelude.{◌≡◌, ◌≤◌, ◌<◌, ◌-◌, ◌==◌, ◌&&◌, ℕ, Bool, true, false, nat_le, if◌then◌else◌};
-ghost use Rattle.std.specs.Prelude.{IfOk, IfSome, List, Option, None, [], length, slice_index_or};
+ghost use Rattle.std.specs.Prelude.{IfOk, IfSome, List, Option, None, [], is_some, length, slice_index_or};
+ghost use Rattle.std.specs.List.{list_any};
 ghost use Rattle.cept_codes.specs.declared.cell.Cell.{Cell};
 ghost use Rattle.cept_codes.specs.Attribute.{IsEntry};
 ghost use Rattle.cept_codes.specs.Cell.{blank_cell};
@@ -10,12 +11,16 @@ ghost use Rattle.cept_codes.specs.Table.{IsTable, entry, list_by_index, table, v
 ghost use Rattle.cept_profile.specs.Cells.{is_at};
 ghost use Rattle.cept_profile.specs.NotedStrokes.{with_stroke};
 ghost use Rattle.cept_profile.specs.OldValues.{old_cell, old_dclut, old_paint, old_pattern, old_row_pen};
-ghost use Rattle.cept_profile.specs.OldValues.{first_noted, no_old_values, noted_where, with_cells, with_control};
+ghost use Rattle.cept_profile.specs.OldValues.{first_noted, no_old_values, noted_where, unwound, with_cells};
 ghost use Rattle.cept_profile.specs.OldValues.{with_dclut, with_paints, with_patterns, with_row_pens, with_screen_pen};
+ghost use Rattle.cept_profile.specs.OldValues.{with_control};
 ghost use Rattle.cept_profile.specs.PageParts.{dclut_in, list_of_codes, paint_in, pattern_in, row_pen_in};
+ghost use Rattle.cept_profile.specs.Valid.{IsValidState};
 ghost use Rattle.cept_repaint.specs.Delta.{HasPlaces};
 ghost use Rattle.cept_repaint.specs.Noter.{page_with};
+ghost use Rattle.cept_repaint.specs.Restored.{notes_cells, notes_row, notes_screen};
 
+use crate::screen::Screen;
 use cept_cells::Grid;
 use cept_codes::{Cell, NoMemory, Paint, Pattern, Pen, Pos, Stroke};
 use cept_colours::Colours;
@@ -95,6 +100,15 @@ impl Delta {
             coloured: false,
             patterned: false,
         })
+    }
+
+    /// Forgets all old values, and notes the control of a screen: its state unwinds to itself.
+    pub fn reset(&mut self, screen: &Screen)
+        ensures values { self.new ≡ with_control screen.now.control no_old_values }
+        ensures unwound { unwound screen.now self.new ≡ screen.now }
+        ensures valid { IsValidState screen.now }
+    {
+        self.restart(screen.control());
     }
 
     /// Forgets all old values, and notes this control.
@@ -503,4 +517,75 @@ fn first_noted<X: Copy>(noted: Option<X>, value: X) -> Option<X>
     ensures { result ≡ first_noted noted value }
 {
     if noted.is_none() { Some(value) } else { noted }
+}
+
+impl Delta {
+    /// Whether a cell of a row is noted, or its attributes are.
+    #[tactic(auto, unfolding(crate::specs::Restored::notes_row))]
+    pub(crate) fn notes_row(&self, row: u8) -> bool
+        requires from_top { 1 ≤ row }
+        requires to_bottom { row ≤ 24 }
+        ensures { result ≡ notes_row self.now row }
+    {
+        self.notes_cells(row) || self.notes_row_pen(row)
+    }
+
+    /// Whether a cell of a row is noted.
+    fn notes_cells(&self, row: u8) -> bool
+        requires from_top { 1 ≤ row }
+        requires to_bottom { row ≤ 24 }
+        ensures { result ≡ notes_cells self.now row }
+    {
+        let index = usize::from(row) - 1;
+        self.rows[index] && one_noted(&self.cells[index])
+    }
+
+    /// Whether attributes of a row are noted.
+    fn notes_row_pen(&self, row: u8) -> bool
+        requires from_top { 1 ≤ row }
+        requires to_bottom { row ≤ 24 }
+        ensures { result ≡ is_some (old_row_pen self.now row) }
+    {
+        self.row_pens[usize::from(row) - 1].is_some()
+    }
+
+    /// Whether something is noted by which any row may look: attributes of the screen, a colour
+    /// entry, an entry of the DCLUT or a pattern.
+    #[tactic(auto, unfolding(crate::specs::Restored::notes_screen))]
+    pub(crate) fn notes_screen(&self) -> bool
+        ensures { result ≡ notes_screen self.now }
+    {
+        self.screen_pen.is_some()
+            || self.notes_paints()
+            || self.notes_dclut()
+            || self.notes_patterns()
+    }
+
+    /// Whether a colour entry is noted.
+    fn notes_paints(&self) -> bool
+        ensures { result ≡ list_any is_some self.now.paints }
+    {
+        self.coloured && one_noted(&self.paints)
+    }
+
+    /// Whether an entry of the DCLUT is noted.
+    fn notes_dclut(&self) -> bool
+        ensures { result ≡ list_any is_some self.now.dclut }
+    {
+        self.coloured && one_noted(&self.dclut)
+    }
+
+    /// Whether a pattern is noted.
+    fn notes_patterns(&self) -> bool
+        ensures { result ≡ list_any is_some self.now.patterns }
+    {
+        self.patterned && one_noted(&self.patterns)
+    }
+}
+
+/// Whether one of the places has an old value.
+fn one_noted<X: Copy>(places: &[Option<X>]) -> bool
+    ensures { result ≡ list_any is_some places.now }
+{
+    places.iter().any(|place| place.is_some())
 }

@@ -13,7 +13,7 @@ use crate::row_flags::{is_double, is_marker, sets_double_size};
 use cept_cells::Grid;
 use cept_codes::{Cell, Pen};
 
-/// Makes the flags of all rows anew of which old values may have been put back.
+/// Makes the flags of all rows anew of which old values were put back.
 pub(crate) fn flag_unwound(
     delta: &Delta,
     grid: &Grid,
@@ -32,7 +32,7 @@ pub(crate) fn flag_unwound(
     }
 }
 
-/// Makes the flags of a row anew, where old values of it may have been put back.
+/// Makes the flags of a row anew, where old values of it were put back.
 fn flag_row_unwound(
     row: u8,
     delta: &Delta,
@@ -50,7 +50,7 @@ fn flag_row_unwound(
     ensures sized { IsFlagMade (IsSingleRowAnew grid.now row_pens.now delta.now sized.old row) row
         sized.old sized.new }
 {
-    if delta.has_row(row) || delta.has_row_pens() {
+    if delta.notes_row(row) {
         flag_anew(
             row,
             grid.cells(row),

@@ -19,10 +19,9 @@ mod page_parts;
 mod painting;
 mod redefined_rows;
 mod redraw;
-mod redraw_all;
+mod restoring;
 mod row_flags;
 mod screen;
-mod snapshot;
 mod tape_glass;
 #[cfg(test)]
 mod tests;
@@ -33,5 +32,4 @@ pub use glass::Glass;
 pub use grid_glass::GridGlass;
 pub use marks::Marks;
 pub use screen::Screen;
-pub use snapshot::Snapshot;
 pub use tape_glass::TapeGlass;

@@ -74,7 +74,7 @@ impl Marks {
     }
 
     /// Unmarks all places.
-    pub(crate) fn clear(&mut self)
+    pub fn clear(&mut self)
         ensures { self.new ≡ no_marks }
     {
         if self.end == 0 {
@@ -86,7 +86,7 @@ impl Marks {
     }
 
     /// Marks a place.
-    pub(crate) fn mark(&mut self, at: Pos)
+    pub fn mark(&mut self, at: Pos)
         ensures { self.new ≡ slice_set self.old (number at.row at.column) true }
     {
         let n = usize::from(at.number());

@@ -7,6 +7,7 @@ ghost use Rattle.cept_codes.specs.Stroke.{IsValidStroke};
 ghost use Rattle.cept_codes.specs.Table.{value_at};
 ghost use Rattle.cept_profile.specs.PageParts.{row_pen_in};
 ghost use Rattle.cept_profile.specs.Look.{looks_of};
+ghost use Rattle.cept_profile.specs.OldValues.{page_unwound};
 ghost use Rattle.cept_profile.specs.RowsFromAbove.{looks_in};
 ghost use Rattle.cept_profile.specs.State.{Core, page, page_after};
 ghost use Rattle.cept_profile.specs.Valid.{IsValidPage};
@@ -15,10 +16,15 @@ ghost use Rattle.cept_repaint.specs.Due.{pens_of};
 ghost use Rattle.cept_repaint.specs.Kept.{core_on, row_beneath};
 ghost use Rattle.cept_repaint.specs.MarkedRows.{StandsAlone};
 ghost use Rattle.cept_repaint.specs.Named.{names_beneath};
+ghost use Rattle.cept_repaint.specs.Noter.{page_behind};
 ghost use Rattle.cept_rows.specs.KeptNames.{names_kept};
 
+use crate::delta::Delta;
+use crate::flags_anew::flag_unwound;
+use crate::noter::Noter;
 use crate::page_parts::{set_colours, set_patterns, set_row_pens, set_screen_pen};
 use crate::row_flags::{flag_put, flag_rows, is_unflagged};
+use crate::unwinding::unwind_page;
 use cept_cells::Grid;
 use cept_codes::{Cell, NoMemory, Pen, Pos, Stroke, What};
 use cept_colours::Colours;
@@ -189,53 +195,75 @@ impl Page {
         names
     }
 
-    /// Changes the page as the strokes do, one after the other.
-    pub(crate) fn draw_all(&mut self, strokes: &[Stroke])
+    /// Changes the page as the strokes do, one after the other, and notes what each changes.
+    pub(crate) fn draw_all<N: Noter>(&mut self, strokes: &[Stroke], noter: &mut N)
         requires { AllByRecursion IsValidStroke strokes.now }
-        ensures { self.new ≡ page_after self.old strokes.now }
+        ensures drawn { self.new ≡ page_after self.old strokes.now }
+        ensures unwound { page_behind (N.noted noter.new) self.new ≡ page_behind (N.noted noter.old) self.old }
     {
         for stroke in strokes {
-            self.draw(stroke);
+            self.draw(stroke, noter);
         }
     }
 
-    /// Puts a cell, unless the one there is protected. Answers whether each cell of its row looks
-    /// as it does by itself, before and after: no marker stands in the row, and neither in it nor
-    /// in the row above is a double size set. Where one was before, the answer may be no until all
-    /// is wiped.
-    pub(crate) fn put(&mut self, place: Pos, cell: &Cell) -> bool
+    /// Puts a cell, unless the one there is protected, and notes the one there. Answers whether each
+    /// cell of its row looks as it does by itself, before and after: no marker stands in the row, and
+    /// neither in it nor in the row above is a double size set. Where one was before, the answer may
+    /// be no until all is wiped.
+    pub(crate) fn put<N: Noter>(&mut self, place: Pos, cell: &Cell, noter: &mut N) -> bool
         ensures drawn { IsDrawn self.old (Stroke.Put place cell.now) self.new }
         ensures before { result ≡ true → StandsAlone self.old place.row }
         ensures after { result ≡ true → StandsAlone self.new place.row }
+        ensures unwound { page_behind (N.noted noter.new) self.new ≡ page_behind (N.noted noter.old) self.old }
     {
+        noter.note_put(place, &self.grid);
         let _ = self.grid.put(place, *cell);
         flag_put(place, cell, &mut self.marked, &mut self.sized);
         is_unflagged(place.row(), &self.marked, &self.sized)
     }
 
-    /// Takes over all of another page.
-    pub(crate) fn copy_from(&mut self, from: &Page)
-        ensures { self.new ≡ from.now }
-    {
-        self.grid.copy_from(&from.grid);
-        self.row_pens = from.row_pens;
-        self.screen_pen = from.screen_pen;
-        self.colours = from.colours;
-        self.patterns.copy_from(&from.patterns);
-        self.marked = from.marked;
-        self.sized = from.sized;
-    }
-
-    /// Changes the page as a stroke does.
-    fn draw(&mut self, stroke: &Stroke)
+    /// Changes the page as a stroke does, and notes what it changes.
+    fn draw<N: Noter>(&mut self, stroke: &Stroke, noter: &mut N)
         requires { IsValidStroke stroke.now }
-        ensures { IsDrawn self.old stroke.now self.new }
+        ensures drawn { IsDrawn self.old stroke.now self.new }
+        ensures unwound { page_behind (N.noted noter.new) self.new ≡ page_behind (N.noted noter.old) self.old }
     {
+        noter.note_stroke(
+            stroke,
+            &self.grid,
+            &self.row_pens,
+            &self.screen_pen,
+            &self.colours,
+            &self.patterns,
+        );
         self.grid.strike(stroke);
         set_row_pens(stroke, &mut self.row_pens);
         set_screen_pen(stroke, &mut self.screen_pen);
         set_colours(stroke, &mut self.colours);
         set_patterns(stroke, &mut self.patterns);
         flag_rows(stroke, &mut self.marked, &mut self.sized);
+    }
+
+    /// Puts old values back in place of its own, where there are such.
+    pub(crate) fn unwind(&mut self, delta: &Delta)
+        requires was_valid { IsValidPage self.old }
+        requires valid { IsValidPage (page_unwound self.old delta.now) }
+        ensures { self.new ≡ page_unwound self.old delta.now }
+    {
+        unwind_page(
+            delta,
+            &mut self.grid,
+            &mut self.row_pens,
+            &mut self.screen_pen,
+            &mut self.colours,
+            &mut self.patterns,
+        );
+        flag_unwound(
+            delta,
+            &self.grid,
+            &self.row_pens,
+            &mut self.marked,
+            &mut self.sized,
+        );
     }
 }

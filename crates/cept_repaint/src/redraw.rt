@@ -42,6 +42,7 @@ ghost use Rattle.cept_repaint.specs.Kept.{HasMarkedRow, IsRefreshedRow, OthersSt
 ghost use Rattle.cept_repaint.specs.MarkedRows.{StandsAlone};
 ghost use Rattle.cept_repaint.specs.Marks.{no_marks};
 ghost use Rattle.cept_repaint.specs.Named.{AreNamedOn, AreRemembered, IsStill};
+ghost use Rattle.cept_repaint.specs.Noter.{page_behind};
 ghost use Rattle.cept_repaint.specs.Resolved.{one_else, rows_resolved_by};
 
 use crate::altered_rows::{only_put, row_alone, rows_altered};
@@ -51,6 +52,7 @@ use crate::kept_names::KeptNames;
 use crate::kept_rows::KeptRows;
 use crate::marks::Marks;
 use crate::moved_rows::{move_rows, turn_rows};
+use crate::noter::Noter;
 use crate::page::Page;
 use crate::redefined_rows::rows_redefined;
 use cept_codes::{Pos, Stroke};
@@ -61,8 +63,9 @@ use std::sync::ledger::Ledger;
 
 /// Draws the strokes on the page, resolves the rows that they alter or cover otherwise and no others,
 /// takes over the looks of those that moved, and keeps all looks. Marks the places at which these
-/// differ from those before, and no others. The page has these edges before and those after.
-pub(crate) fn redraw<L: Ledger>(
+/// differ from those before, and no others. The page has these edges before and those after. Notes
+/// what the strokes change.
+pub(crate) fn redraw<N: Noter, L: Ledger>(
     page: &mut Page,
     strokes: &[Stroke],
     before: &Edges,
@@ -72,6 +75,7 @@ pub(crate) fn redraw<L: Ledger>(
     names: &mut KeptNames,
     fresh: &mut RowLooks,
     marks: &mut Marks,
+    noter: &mut N,
     steps: &mut Steps<L>,
 )
     requires from { AreEdges before.now }
@@ -82,6 +86,7 @@ pub(crate) fn redraw<L: Ledger>(
     requires strokes { AllByRecursion IsValidStroke strokes.now }
     requires valid { IsValidPage (page_after page.old strokes.now) }
     ensures page { page.new ≡ page_after page.old strokes.now }
+    ensures unwound { page_behind (N.noted noter.new) page.new ≡ page_behind (N.noted noter.old) page.old }
     ensures kept { AreLooksOn kept.new page.new after.now }
     ensures marks { marks.new ≡ differences kept.old kept.new }
     ensures named { AreNamedOn names.new page.new after.now }
@@ -91,7 +96,7 @@ pub(crate) fn redraw<L: Ledger>(
     marks.clear();
     if !before.is_same(after) {
         redraw_rows(
-            page, strokes, before, after, kept, stood, names, fresh, marks, steps,
+            page, strokes, before, after, kept, stood, names, fresh, marks, noter, steps,
         );
         return;
     }
@@ -100,7 +105,7 @@ pub(crate) fn redraw<L: Ledger>(
     }
     match only_put(strokes) {
         Some(put) => {
-            if page.put(put.place, put.cell) {
+            if page.put(put.place, put.cell, noter) {
                 refresh_place(page, put.place, kept, names, marks, steps);
             } else {
                 let row = put.place.row();
@@ -110,10 +115,12 @@ pub(crate) fn redraw<L: Ledger>(
         None => {
             if one_else(strokes) {
                 redraw_rows(
-                    page, strokes, before, after, kept, stood, names, fresh, marks, steps,
+                    page, strokes, before, after, kept, stood, names, fresh, marks, noter, steps,
                 );
             } else {
-                redraw_defined(page, strokes, after, kept, names, fresh, marks, steps);
+                redraw_defined(
+                    page, strokes, after, kept, names, fresh, marks, noter, steps,
+                );
             }
         }
     }
@@ -122,7 +129,7 @@ pub(crate) fn redraw<L: Ledger>(
 /// The same of any strokes, where nothing is marked yet.
 // Apart, since most commands write a sign that is resolved by itself, which needs less.
 #[inline(never)]
-fn redraw_rows<L: Ledger>(
+fn redraw_rows<N: Noter, L: Ledger>(
     page: &mut Page,
     strokes: &[Stroke],
     before: &Edges,
@@ -132,6 +139,7 @@ fn redraw_rows<L: Ledger>(
     names: &mut KeptNames,
     fresh: &mut RowLooks,
     marks: &mut Marks,
+    noter: &mut N,
     steps: &mut Steps<L>,
 )
     requires none { marks.old ≡ no_marks }
@@ -143,6 +151,7 @@ fn redraw_rows<L: Ledger>(
     requires strokes { AllByRecursion IsValidStroke strokes.now }
     requires valid { IsValidPage (page_after page.old strokes.now) }
     ensures page { page.new ≡ page_after page.old strokes.now }
+    ensures unwound { page_behind (N.noted noter.new) page.new ≡ page_behind (N.noted noter.old) page.old }
     ensures kept { AreLooksOn kept.new page.new after.now }
     ensures named { AreNamedOn names.new page.new after.now }
     ensures marks { marks.new ≡ differences kept.old kept.new }
@@ -151,7 +160,7 @@ fn redraw_rows<L: Ledger>(
         (list_by_index 1 24 (followed strokes.now)) kept.old kept.new }
 {
     let was = page.pens();
-    page.draw_all(strokes);
+    page.draw_all(strokes, noter);
     let rows = follow_rows(strokes);
     let altered = rows_altered(strokes, &rows, &was, before, page, after);
     if one_moved(&rows) {
@@ -169,7 +178,7 @@ fn redraw_rows<L: Ledger>(
 /// The same of strokes that all define something, where nothing is marked yet: the rows that name it are
 /// resolved. The page has these edges.
 #[inline(never)]
-fn redraw_defined<L: Ledger>(
+fn redraw_defined<N: Noter, L: Ledger>(
     page: &mut Page,
     strokes: &[Stroke],
     edges: &Edges,
@@ -177,6 +186,7 @@ fn redraw_defined<L: Ledger>(
     names: &mut KeptNames,
     fresh: &mut RowLooks,
     marks: &mut Marks,
+    noter: &mut N,
     steps: &mut Steps<L>,
 )
     requires none { marks.old ≡ no_marks }
@@ -188,6 +198,7 @@ fn redraw_defined<L: Ledger>(
     requires valid { IsValidPage (page_after page.old strokes.now) }
     requires define { one_else strokes.now ≡ false }
     ensures page { page.new ≡ page_after page.old strokes.now }
+    ensures unwound { page_behind (N.noted noter.new) page.new ≡ page_behind (N.noted noter.old) page.old }
     ensures kept { AreLooksOn kept.new page.new edges.now }
     ensures named { AreNamedOn names.new page.new edges.now }
     ensures marks { marks.new ≡ differences kept.old kept.new }
@@ -196,7 +207,7 @@ fn redraw_defined<L: Ledger>(
 {
     names.find(page, kept);
     let redefined = rows_redefined(page, strokes, kept, names);
-    page.draw_all(strokes);
+    page.draw_all(strokes, noter);
     refresh_rows(page, &redefined, edges, kept, fresh, marks, steps);
 }
 
@@ -295,7 +306,7 @@ fn resolve_alone<L: Ledger>(
 
 /// Resolves the flagged rows and those that are covered otherwise than before, from the top, where no
 /// row moved.
-fn refresh_rows<L: Ledger>(
+pub(crate) fn refresh_rows<L: Ledger>(
     page: &Page,
     flags: &[bool; 24],
     edges: &Edges,
@@ -325,7 +336,7 @@ fn refresh_rows<L: Ledger>(
 
 /// Resolves a row beneath the looks kept of the row above, keeps its looks, and marks the places at
 /// which they differ from those before. Answers whether what covers the row below differs.
-pub(crate) fn refresh_row<L: Ledger>(
+fn refresh_row<L: Ledger>(
     page: &Page,
     row: u8,
     last: bool,

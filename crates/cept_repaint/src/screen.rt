@@ -7,6 +7,7 @@ ghost use Rattle.cept_codes.specs.Look.{IsValidLook, IsValidPattern, blank_look}
 ghost use Rattle.cept_codes.specs.Stroke.{IsPaintOf};
 ghost use Rattle.cept_profile.specs.Changes.{look_at, differences};
 ghost use Rattle.cept_profile.specs.Look.{looks_of, part_of, parts_of};
+ghost use Rattle.cept_profile.specs.OldValues.{unwound};
 ghost use Rattle.cept_profile.specs.PageParts.{dclut_in, paint_in, pattern_in, row_pen_in};
 ghost use Rattle.cept_profile.specs.Reach.{rows_in_reach};
 ghost use Rattle.cept_profile.specs.RowsFromAbove.{looks_in};
@@ -16,16 +17,19 @@ ghost use Rattle.cept_profile.specs.Valid.{IsValidState};
 ghost use Rattle.cept_repaint.specs.Applied.{IsApplied, IsRepainted};
 ghost use Rattle.cept_repaint.specs.Kept.{cell_at};
 ghost use Rattle.cept_repaint.specs.Marks.{no_marks};
+ghost use Rattle.cept_repaint.specs.Noter.{page_behind, state_behind};
+ghost use Rattle.cept_repaint.specs.Restored.{rows_restored};
 
+use crate::delta::Delta;
 use crate::glass::Glass;
 use crate::kept_names::KeptNames;
 use crate::kept_rows::KeptRows;
 use crate::marks::Marks;
+use crate::noter::{NoNotes, Noter};
 use crate::page::Page;
 use crate::painting::paint_marked;
 use crate::redraw::redraw;
-use crate::redraw_all::redraw_all;
-use crate::snapshot::Snapshot;
+use crate::restoring::unwind;
 use arrayvec::ArrayVec;
 use cept_codes::{Cell, Command, Look, NoMemory, Paint, Pattern, Pen, Pos, Stroke};
 use cept_control::Control;
@@ -108,10 +112,48 @@ impl Screen {
         ensures applied { IsApplied self.old command.now self.new marks.new (G.state glass.old)
             (G.state glass.new) steps.old steps.new }
     {
+        self.apply_with(command, glass, marks, &mut NoNotes, steps);
+    }
+
+    /// Applies a command in the same way, and notes in a delta the old value of each location that
+    /// it changes, unless one is noted already: the state to which the delta unwinds stays.
+    pub fn apply_noting<G: Glass, L: Ledger>(
+        &mut self,
+        command: Command,
+        glass: &mut G,
+        marks: &mut Marks,
+        delta: &mut Delta,
+        steps: &mut Steps<L>,
+    )
+        requires { IsValidCommand command }
+        ensures applied { IsApplied self.old command self.new marks.new (G.state glass.old)
+            (G.state glass.new) steps.old steps.new }
+        ensures unwound { unwound self.new delta.new ≡ unwound self.old delta.old }
+    {
+        self.apply_with(&command, glass, marks, delta, steps);
+    }
+
+    /// Applies a command, of which a noter takes note.
+    #[inline(always)]
+    fn apply_with<G: Glass, N: Noter, L: Ledger>(
+        &mut self,
+        command: &Command,
+        glass: &mut G,
+        marks: &mut Marks,
+        noter: &mut N,
+        steps: &mut Steps<L>,
+    )
+        requires { IsValidCommand command.now }
+        ensures applied { IsApplied self.old command.now self.new marks.new (G.state glass.old)
+            (G.state glass.new) steps.old steps.new }
+        ensures unwound { state_behind (N.noted noter.new) self.new
+            ≡ state_behind (N.noted noter.old) self.old }
+    {
+        noter.note_control(&self.control);
         if self.write_attribute(command, marks) {
             return;
         }
-        self.write_and_paint(command, glass, marks, steps);
+        self.write_and_paint(command, glass, marks, noter, steps);
     }
 
     /// Takes a command that sets an attribute for the signs after it, if it is known as one: no
@@ -122,6 +164,7 @@ impl Screen {
         ensures after { result ≡ true → self.new ≡ state_after self.old command.now }
         ensures looks { looks_of (core_of self.new) ≡ looks_of (core_of self.old) }
         ensures marks { result ≡ true → marks.new ≡ no_marks }
+        ensures page { self.new.page ≡ self.old.page }
         ensures left { result ≡ false → self.new ≡ self.old }
     {
         if !self.control.step_attribute(command) {
@@ -134,29 +177,40 @@ impl Screen {
     /// Applies any command.
     // Apart, since most commands are attributes, which need less.
     #[inline(never)]
-    fn write_and_paint<G: Glass, L: Ledger>(
+    fn write_and_paint<G: Glass, N: Noter, L: Ledger>(
         &mut self,
         command: &Command,
         glass: &mut G,
         marks: &mut Marks,
+        noter: &mut N,
         steps: &mut Steps<L>,
     )
         requires { IsValidCommand command.now }
         ensures applied { IsApplied self.old command.now self.new marks.new (G.state glass.old)
             (G.state glass.new) steps.old steps.new }
+        ensures unwound { page_behind (N.noted noter.new) self.new.page
+            ≡ page_behind (N.noted noter.old) self.old.page }
     {
-        self.write(command, marks, steps);
+        self.write(command, marks, noter, steps);
         paint_marked(self, glass, marks);
     }
 
     /// Makes the strokes of a command, and marks the places whose look changes.
-    fn write<L: Ledger>(&mut self, command: &Command, marks: &mut Marks, steps: &mut Steps<L>)
+    fn write<N: Noter, L: Ledger>(
+        &mut self,
+        command: &Command,
+        marks: &mut Marks,
+        noter: &mut N,
+        steps: &mut Steps<L>,
+    )
         requires { IsValidCommand command.now }
         ensures after { self.new ≡ state_after self.old command.now }
         ensures marks { marks.new
             ≡ differences (looks_of (core_of self.old)) (looks_of (core_of self.new)) }
         ensures cost { steps.new ≤ steps.old + rows_in_reach self.old command.now }
         ensures at_most_24 { steps.new ≤ steps.old + 24 }
+        ensures unwound { page_behind (N.noted noter.new) self.new.page
+            ≡ page_behind (N.noted noter.old) self.old.page }
     {
         let before = self.control.edges();
         self.control.step_into(command, &mut self.strokes);
@@ -172,6 +226,7 @@ impl Screen {
             &mut self.names,
             &mut self.fresh,
             marks,
+            noter,
             steps,
         );
     }
@@ -251,6 +306,14 @@ impl Screen {
         self.page.patterns().get(code)
     }
 
+    /// The control, where it stands.
+    pub(crate) fn control(&self) -> &Control
+        ensures control { result.now ≡ self.now.control }
+        ensures valid { IsValidState self.now }
+    {
+        &self.control
+    }
+
     /// How many rows the page has, 24 or 20.
     pub fn rows(&self) -> u8
         ensures rows { result ≡ self.now.control.rows }
@@ -281,49 +344,50 @@ impl Screen {
         self.control.implicit()
     }
 
-    /// Saves its state.
-    pub fn save(&self, into: &mut Snapshot)
-        ensures state { into.new ≡ self.now }
-        ensures valid { IsValidState self.now }
-    {
-        into.copy_from(&self.page, &self.control);
-    }
-
-    /// Brings a saved state back, all of it: marks exactly the places whose look changes, and paints
-    /// each of them once, in reading order, with its new look. Takes no memory.
-    pub fn bring_back<G: Glass, L: Ledger>(
+    /// Puts the old values of a delta back, control included: marks exactly the places whose look
+    /// changes, and paints each of them once, in reading order, with its new look. Takes no memory.
+    pub fn restore<G: Glass, L: Ledger>(
         &mut self,
-        from: &Snapshot,
+        delta: &Delta,
         glass: &mut G,
         marks: &mut Marks,
         steps: &mut Steps<L>,
     )
-        ensures state { self.new ≡ from.now }
+        requires { IsValidState (unwound self.old delta.now) }
+        ensures state { self.new ≡ unwound self.old delta.now }
         ensures repainted { IsRepainted self.old self.new marks.new (G.state glass.old)
             (G.state glass.new) }
+        ensures cost { steps.new
+            ≤ steps.old + rows_restored delta.now (core_of self.old) (core_of self.new) }
         ensures at_most_24 { steps.new ≤ steps.old + 24 }
     {
-        self.take_over(from, marks, steps);
+        self.unwind(delta, marks, steps);
         paint_marked(self, glass, marks);
     }
 
-    /// Takes over a saved state, and marks the places whose look changes.
-    fn take_over<L: Ledger>(&mut self, from: &Snapshot, marks: &mut Marks, steps: &mut Steps<L>)
-        ensures state { self.new ≡ from.now }
+    /// Puts the old values back, and marks the places whose look changes.
+    fn unwind<L: Ledger>(&mut self, delta: &Delta, marks: &mut Marks, steps: &mut Steps<L>)
+        requires { IsValidState (unwound self.old delta.now) }
+        ensures state { self.new ≡ unwound self.old delta.now }
         ensures marks { marks.new
             ≡ differences (looks_of (core_of self.old)) (looks_of (core_of self.new)) }
+        ensures cost { steps.new
+            ≤ steps.old + rows_restored delta.now (core_of self.old) (core_of self.new) }
         ensures at_most_24 { steps.new ≤ steps.old + 24 }
     {
-        from.copy_to(&mut self.page, &mut self.control);
-        let edges = self.control.edges();
-        redraw_all(
-            &self.page,
-            &edges,
+        let before = self.control.edges();
+        self.control = delta.old_control().unwrap_or(self.control);
+        let after = self.control.edges();
+        unwind(
+            &mut self.page,
+            delta,
+            &before,
+            &after,
             &mut self.rows,
+            &mut self.names,
             &mut self.fresh,
             marks,
             steps,
         );
-        self.names.forget_all();
     }
 }

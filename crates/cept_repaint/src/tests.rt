@@ -1,7 +1,7 @@
 ghost use Rattle.std.specs.Prelude.{◌≡◌, ◌<◌};
 
-use crate::{Glass, GridGlass, Marks, Screen, TapeGlass};
-use cept_codes::{C1Set, Command, Glyph, Look, NoMemory, Paint, Pos, Rgb, SetId, Shape};
+use crate::{Delta, Glass, GridGlass, Marks, Screen, TapeGlass};
+use cept_codes::{C1Set, Cell, Command, Glyph, Look, NoMemory, Paint, Pos, Rgb, SetId, Shape};
 use cept_outside::Steps;
 use std::alloc::Global;
 use std::marker::Brand;
@@ -118,5 +118,85 @@ fn markers_colour_their_row_to_its_end(rt: HostRuntime) -> Result<(), Fail> {
         assert!(rt; shown == wanted);
     }
     assert!(rt; screen.look(Pos::new(2, 1).ok_or("no place")?) == Look::BLANK);
+    Ok(())
+}
+
+/// What is left of a sign that was written over twice, each noted.
+#[derive(Drop)]
+struct Noted {
+    screen: Screen,
+    delta: Delta,
+    was: Cell,
+}
+
+/// An A, and then a B and a C over it, which are noted.
+fn written_over<L: Ledger>(alloc: Global, blank: Blank, first: Pos) -> Result<Noted, NoMemory>
+    requires name { blank.name ≡ L.name }
+    requires parts { blank.parts ≡ L.parts }
+    requires some { 0 < blank.parts }
+{
+    let mut screen = Screen::new(alloc)?;
+    let mut delta = Delta::new(alloc)?;
+    let mut glass = GridGlass::new(alloc)?;
+    let mut marks = Marks::new();
+    let mut steps = Steps::<L>::new(blank);
+    screen.apply(Command::Graphic(0x41), &mut glass, &mut marks, &mut steps);
+    let was = screen.cell(first);
+    delta.reset(&screen);
+    let to_first = Command::Position(1, 1);
+    screen.apply_noting(to_first, &mut glass, &mut marks, &mut delta, &mut steps);
+    let over = Command::Graphic(0x42);
+    screen.apply_noting(over, &mut glass, &mut marks, &mut delta, &mut steps);
+    screen.apply_noting(to_first, &mut glass, &mut marks, &mut delta, &mut steps);
+    let again = Command::Graphic(0x43);
+    screen.apply_noting(again, &mut glass, &mut marks, &mut delta, &mut steps);
+    Ok(Noted { screen, delta, was })
+}
+
+#[test]
+fn the_first_of_two_old_signs_is_noted(rt: HostRuntime) -> Result<(), Fail> {
+    let first = Pos::new(1, 1).ok_or("no place")?;
+    let left = written_over::<Brand>(rt.alloc(), Blank::new(1), first)?;
+    assert!(rt; left.screen.look(first) == sign(0x43));
+    assert!(rt; left.delta.old_cells(1)[0] == Some(left.was));
+    assert!(rt; left.delta.old_cells(1)[1] == None);
+    assert!(rt; left.delta.old_control().is_some());
+    Ok(())
+}
+
+/// An A that is cleared away and a B in its place, both noted and taken back, and then a C.
+fn taken_back<L: Ledger>(alloc: Global, blank: Blank) -> Result<TapeGlass, NoMemory>
+    requires name { blank.name ≡ L.name }
+    requires parts { blank.parts ≡ L.parts }
+    requires some { 0 < blank.parts }
+{
+    let mut screen = Screen::new(alloc)?;
+    let mut delta = Delta::new(alloc)?;
+    let mut glass = TapeGlass::new(alloc, 16)?;
+    let mut marks = Marks::new();
+    let mut steps = Steps::<L>::new(blank);
+    screen.apply(Command::Graphic(0x41), &mut glass, &mut marks, &mut steps);
+    delta.reset(&screen);
+    let clear = Command::Clear;
+    screen.apply_noting(clear, &mut glass, &mut marks, &mut delta, &mut steps);
+    let over = Command::Graphic(0x42);
+    screen.apply_noting(over, &mut glass, &mut marks, &mut delta, &mut steps);
+    screen.restore(&delta, &mut glass, &mut marks, &mut steps);
+    screen.apply(Command::Graphic(0x43), &mut glass, &mut marks, &mut steps);
+    Ok(glass)
+}
+
+#[test]
+fn what_was_noted_is_taken_back(rt: HostRuntime) -> Result<(), Fail> {
+    let glass = taken_back::<Brand>(rt.alloc(), Blank::new(1))?;
+    let paints = told(rt.alloc(), &glass)?;
+    let wanted = [
+        (1, 1, sign(0x41)),
+        (1, 1, Look::BLANK),
+        (1, 1, sign(0x42)),
+        (1, 1, sign(0x41)),
+        (1, 2, sign(0x43)),
+    ];
+    assert!(rt; paints.as_slice() == wanted.as_slice());
     Ok(())
 }

@@ -1,7 +1,9 @@
 -- The states that taking edits back leads to (own). Clauses speak of a past by the edits that are kept and the state of the
 -- screen.
-use Rattle.std.specs.Prelude.{ℕ, ◌≡◌, ◌≤◌, ◌+◌, Option, Some, None, IsSome, IsNone, IfSome, List, [], ◌∷◌, length}
+use Rattle.std.specs.Prelude.{ℕ, ◌≡◌, ◌≤◌, ◌+◌, Option, Some, None, IsSome, IsNone, IfSome, List, [], ◌∷◌, length, unwrap_or}
 use Rattle.std.specs.List.{AllByRecursion}
+use Rattle.std.specs.Option.{option_map}
+use Rattle.cept_profile.specs.OldValues.{OldValues, unwound}
 use Rattle.cept_profile.specs.State.{State}
 use Rattle.cept_profile.specs.Valid.{IsValidState}
 
@@ -9,10 +11,10 @@ use Rattle.cept_profile.specs.Valid.{IsValidState}
 abbrev pub most_kept : ℕ
 most_kept = 32
 
--- the states before the edits that are kept, the latest first, and the state at which an edit is begun
+-- the old values of each edit that is kept, those of the latest first, and the old values of the edit that is begun
 pub record Edits : Type 0 where
-  pub kept : List State
-  pub begun : Option State
+  pub kept : List OldValues
+  pub begun : Option OldValues
 
 -- an edit is begun
 abbrev pub IsBegun : Edits → Type 0
@@ -22,14 +24,19 @@ IsBegun edits = IsSome edits.begun
 abbrev pub IsNotBegun : Edits → Type 0
 IsNotBegun edits = IsNone edits.begun
 
+-- the states that come from this one by unwinding these old values one after the other
+unfoldable pub unwound_in_turn : State → List OldValues → List State
+unwound_in_turn now [] = []
+unwound_in_turn now (old ∷ older) = unwound now old ∷ unwound_in_turn (unwound now old) older
+
+-- the state at which an edit is begun, if one is, where the screen stands at this one
+unfoldable pub at_begin : Edits → State → Option State
+at_begin edits screen = option_map (unwound screen) edits.begun
+
 -- the states that taking back leads to, the latest first, where the screen stands at this one; while an edit is begun,
 -- those before it
 unfoldable pub past : Edits → State → List State
-past edits screen = edits.kept
-
--- the state at which an edit is begun, if one is
-unfoldable pub at_begin : Edits → State → Option State
-at_begin edits screen = edits.begun
+past edits screen = unwound_in_turn (unwrap_or (at_begin edits screen) screen) edits.kept
 
 -- edits and the state of their screen: every state of the past is valid, and so is that at which an edit is begun
 pub record FitsTogether (edits : Edits) (screen : State) : Type 0 where
@@ -49,15 +56,15 @@ state_before_latest [] now = now
 state_before_latest (before ∷ _) now = before
 
 -- how many there are, 0 or 1
-abbrev pub count_begun : Option State → ℕ
+abbrev pub count_begun : Option OldValues → ℕ
 count_begun None = 0
 count_begun (Some _) = 1
 
--- places for all edits that may be kept, and as many states as make one more with those that are kept and begun, for which
+-- places for all edits that may be kept, and as many deltas as make one more with those that are kept and begun, for which
 -- there are places
-pub record HasRoom (kept : List State) (places : ℕ) (begun : Option State) (spare : List State)
+pub record HasRoom (kept : List OldValues) (places : ℕ) (begun : Option OldValues) (spare : List OldValues)
     (spare_places : ℕ) : Type 0 where
   pub edits : places ≡ most_kept
-  pub states : spare_places ≡ most_kept + 1
+  pub deltas : spare_places ≡ most_kept + 1
   pub few : length kept ≤ most_kept
   pub all : length kept + count_begun begun + length spare ≡ most_kept + 1

@@ -56,6 +56,34 @@ fn ink_taken_back<L: Ledger>(alloc: Global, blank: Blank) -> Result<GridGlass, N
     Ok(glass)
 }
 
+/// A C outside all edits; an edit that writes an A, a B outside after it, and an undo.
+fn taken_back_with_a_later_command<L: Ledger>(
+    alloc: Global,
+    blank: Blank,
+) -> Result<GridGlass, NoMemory>
+    requires name { blank.name ≡ L.name }
+    requires parts { blank.parts ≡ L.parts }
+    requires some { 0 < blank.parts }
+{
+    let mut screen = Screen::new(alloc)?;
+    let mut glass = GridGlass::new(alloc)?;
+    let mut marks = Marks::new();
+    let mut steps = Steps::<L>::new(blank);
+    let mut undo = Undo::new(alloc)?;
+    let (a, b, c) = (
+        Command::Graphic(0x41),
+        Command::Graphic(0x42),
+        Command::Graphic(0x43),
+    );
+    undo.apply_outside(&mut screen, &c, &mut glass, &mut marks, &mut steps);
+    undo.begin(&screen);
+    undo.apply(&mut screen, a, &mut glass, &mut marks, &mut steps);
+    undo.commit();
+    undo.apply_outside(&mut screen, &b, &mut glass, &mut marks, &mut steps);
+    let _ = undo.undo(&mut screen, &mut glass, &mut marks, &mut steps);
+    Ok(glass)
+}
+
 /// An edit that writes an A, and 32 more, each of which writes a B; and 33 undos.
 fn all_taken_back<L: Ledger>(alloc: Global, blank: Blank) -> Result<Left, NoMemory>
     requires name { blank.name ≡ L.name }
@@ -93,6 +121,16 @@ fn all_taken_back<L: Ledger>(alloc: Global, blank: Blank) -> Result<Left, NoMemo
 fn an_undo_brings_back_the_pen(rt: HostRuntime) -> Result<(), Fail> {
     let glass = ink_taken_back::<Brand>(rt.alloc(), Blank::new(1))?;
     assert!(rt; glass.shown(Pos::new(1, 1).ok_or("no place")?) == sign(0x41));
+    Ok(())
+}
+
+#[test]
+fn an_undo_takes_a_later_command_back(rt: HostRuntime) -> Result<(), Fail> {
+    let glass = taken_back_with_a_later_command::<Brand>(rt.alloc(), Blank::new(1))?;
+    for (column, want) in [(1, sign(0x43)), (2, Look::BLANK), (3, Look::BLANK)] {
+        let place = Pos::new(1, column).ok_or("no place")?;
+        assert!(rt; glass.shown(place) == want, "in column {column}");
+    }
     Ok(())
 }
 

@@ -1,4 +1,4 @@
-ghost use Rattle.std.specs.Prelude.{◌≡◌, ◌≤◌, ◌+◌, ◌↔◌, [], ◌∷◌, Some, IfOk, length, take, drop};
+ghost use Rattle.std.specs.Prelude.{◌≡◌, ◌≢◌, ◌≤◌, ◌+◌, ◌↔◌, [], ◌∷◌, Some, IfOk, length, take, drop};
 ghost use Rattle.cept_codes.specs.Command.{IsValidCommand};
 ghost use Rattle.cept_profile.specs.State.{State};
 ghost use Rattle.cept_profile.specs.Valid.{IsValidState};
@@ -9,7 +9,7 @@ ghost use Rattle.cept_undo.specs.Past.{most_kept, past, state_before_latest};
 
 use cept_codes::{Command, NoMemory};
 use cept_outside::Steps;
-use cept_repaint::{Glass, Marks, Screen, Snapshot};
+use cept_repaint::{Delta, Glass, Marks, Screen};
 use circular_buffer::HeapCircularBuffer;
 use std::alloc::Global;
 use std::marker::Model;
@@ -27,13 +27,13 @@ pub enum Undone {
     Nothing,
 }
 
-/// The last 32 edits of a screen, each by the state before it, and the state at which an edit is
-/// begun. Room for all of them is made at the start.
+/// The last 32 edits of a screen and the edit that is begun, each by the old values of what it
+/// changed. Room for all of them is made at the start.
 #[derive(Drop)]
 pub struct Undo {
-    kept: HeapCircularBuffer<Snapshot>,
-    begun: Option<Snapshot>,
-    spare: HeapCircularBuffer<Snapshot>,
+    kept: HeapCircularBuffer<Delta>,
+    begun: Option<Delta>,
+    spare: HeapCircularBuffer<Delta>,
 }
 
 impl Model for Undo {
@@ -47,7 +47,6 @@ impl Model for Undo {
         u.spare.capacity };
 }
 
-#[tactic(auto, unfolding(crate::specs::Past::past, crate::specs::Past::at_begin))]
 impl Undo {
     /// No edit is kept, and none is begun. It fits every screen.
     pub fn new(alloc: Global) -> Result<Undo, NoMemory>
@@ -59,7 +58,7 @@ impl Undo {
         let kept = HeapCircularBuffer::with_capacity(alloc, MOST_KEPT)?;
         let mut spare = HeapCircularBuffer::with_capacity(alloc, MOST_KEPT + 1)?;
         for _place in 0..MOST_KEPT + 1 {
-            let _ = spare.push_front(Snapshot::new(alloc)?);
+            let _ = spare.push_front(Delta::new(alloc)?);
         }
         Ok(Undo {
             kept,
@@ -77,9 +76,9 @@ impl Undo {
         ensures at_begin { at_begin self.new screen.now ≡ Some screen.now }
         ensures fits { FitsTogether self.new screen.now }
     {
-        let mut room = self.spare.pop_front().unwrap();
-        screen.save(&mut room);
-        self.begun = Some(room);
+        let mut delta = self.spare.pop_front().unwrap();
+        delta.reset(screen);
+        self.begun = Some(delta);
     }
 
     /// Applies a command of the edit, marks and paints as the screen does.
@@ -98,7 +97,65 @@ impl Undo {
         ensures applied { IsApplied screen.old command screen.new marks.new
             (G.state glass.old) (G.state glass.new) steps.old steps.new }
     {
-        screen.apply(command, glass, marks, steps);
+        if let Some(delta) = &mut self.begun {
+            screen.apply_noting(command, glass, marks, delta, steps);
+        } else {
+            unreachable!()
+        }
+    }
+
+    /// Applies a command outside all edits, marks and paints as the screen does. The latest kept edit
+    /// takes it up, so that it is taken back with that edit; where none is kept, no undo takes it
+    /// back.
+    #[inline(always)]
+    pub fn apply_outside<G: Glass, L: Ledger>(
+        &mut self,
+        screen: &mut Screen,
+        command: &Command,
+        glass: &mut G,
+        marks: &mut Marks,
+        steps: &mut Steps<L>,
+    )
+        requires none_begun { IsNotBegun self.old }
+        requires fits { FitsTogether self.old screen.old }
+        requires valid { IsValidCommand command.now }
+        ensures past { past self.new screen.new ≡ past self.old screen.old }
+        ensures none_begun { IsNotBegun self.new }
+        ensures fits { FitsTogether self.new screen.new }
+        ensures applied { IsApplied screen.old command.now screen.new marks.new
+            (G.state glass.old) (G.state glass.new) steps.old steps.new }
+    {
+        if self.kept.is_empty() {
+            screen.apply_from(command, glass, marks, steps);
+        } else {
+            self.apply_to_latest(screen, *command, glass, marks, steps);
+        }
+    }
+
+    /// The same where an edit is kept.
+    // Apart, since most often none is.
+    #[inline(never)]
+    fn apply_to_latest<G: Glass, L: Ledger>(
+        &mut self,
+        screen: &mut Screen,
+        command: Command,
+        glass: &mut G,
+        marks: &mut Marks,
+        steps: &mut Steps<L>,
+    )
+        requires some { self.old.kept ≢ [] }
+        requires none_begun { IsNotBegun self.old }
+        requires fits { FitsTogether self.old screen.old }
+        requires valid { IsValidCommand command }
+        ensures past { past self.new screen.new ≡ past self.old screen.old }
+        ensures none_begun { IsNotBegun self.new }
+        ensures fits { FitsTogether self.new screen.new }
+        ensures applied { IsApplied screen.old command screen.new marks.new
+            (G.state glass.old) (G.state glass.new) steps.old steps.new }
+    {
+        let mut latest = self.kept.pop_front().unwrap();
+        screen.apply_noting(command, glass, marks, &mut latest, steps);
+        let _ = self.kept.push_front(latest);
     }
 
     /// Keeps the edit. Where 32 are kept, the oldest is dropped whole.
@@ -110,8 +167,8 @@ impl Undo {
         ensures fits { (screen : State) → FitsTogether self.old screen
             → FitsTogether self.new screen }
     {
-        let before = self.begun.take().unwrap();
-        if let Some(oldest) = self.kept.push_front(before) {
+        let delta = self.begun.take().unwrap();
+        if let Some(oldest) = self.kept.push_front(delta) {
             let _ = self.spare.push_front(oldest);
         }
     }
@@ -145,9 +202,9 @@ impl Undo {
         ensures unticked { result ≡ Undone.Nothing → steps.new ≡ steps.old }
     {
         match self.kept.pop_front() {
-            Some(before) => {
-                screen.bring_back(&before, glass, marks, steps);
-                let _ = self.spare.push_front(before);
+            Some(delta) => {
+                screen.restore(&delta, glass, marks, steps);
+                let _ = self.spare.push_front(delta);
                 Undone::Undone
             }
             None => {

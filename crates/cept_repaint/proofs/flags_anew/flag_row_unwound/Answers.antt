@@ -1,18 +1,19 @@
 use Rattle.cept_profile.specs.Serial.{is_marker}
 use Rattle.cept_repaint.specs.FlagsAnew.{IsSingle, RowHasNone, row_in_table}
 use Rattle.cept_profile.specs.PageParts.{row_pen_in}
-use Rattle.cept_repaint.proofs.FlagsAnew.{IsFlagMade-stays, IsRowUnnoted-by}
+use Rattle.std.proofs.Common.{sym, ◌∙◌}
+use Rattle.cept_repaint.proofs.FlagsAnew.{IsFlagMade-stays}
+use Rattle.cept_repaint.proofs.NoneNoted.{unnoted}
 use Rattle.cept_repaint.proofs.flags_anew.flag_row_unwound.Goals as goal
 
-pub returns-else-has_row_pens-clause-marked : goal.returns-else-has_row_pens-clause-marked
-returns-else-has_row_pens-clause-marked c =
+pub returns-else-notes_row-clause-marked : goal.returns-else-notes_row-clause-marked
+returns-else-notes_row-clause-marked c =
     IsFlagMade-stays (RowHasNone is_marker (row_in_table c.args.grid.now c.args.row)) c.args.delta.now c.args.row
-    c.args.marked.now c.requires.marked_rows (IsRowUnnoted-by c.args.delta.now c.args.row c.requires.from_top
-    c.requires.to_bottom (c.has_row.ensures c.if-has_row.false) (c.has_row_pens.ensures c.if-has_row_pens.false))
+    c.args.marked.now c.requires.marked_rows (unnoted c.args.delta.now c.args.row c.requires.from_top
+    (sym c.notes_row.ensures ∙ c.if-notes_row.false))
 
-pub returns-else-has_row_pens-clause-sized : goal.returns-else-has_row_pens-clause-sized
-returns-else-has_row_pens-clause-sized c =
+pub returns-else-notes_row-clause-sized : goal.returns-else-notes_row-clause-sized
+returns-else-notes_row-clause-sized c =
     IsFlagMade-stays (IsSingle (row_in_table c.args.grid.now c.args.row) (row_pen_in c.args.row_pens.now c.args.row))
     c.args.delta.now c.args.row c.args.sized.now c.requires.sized_rows
-    (IsRowUnnoted-by c.args.delta.now c.args.row c.requires.from_top c.requires.to_bottom
-    (c.has_row.ensures c.if-has_row.false) (c.has_row_pens.ensures c.if-has_row_pens.false))
+    (unnoted c.args.delta.now c.args.row c.requires.from_top (sym c.notes_row.ensures ∙ c.if-notes_row.false))

@@ -5,13 +5,13 @@ use Rattle.cept_repaint.proofs.redraw.redraw_defined.Goals as goal
 pub returns-clause-named : goal.returns-clause-named
 returns-clause-named g c =
     AreNamedOn-defined c.args.page.now c.draw_all.new.self c.args.strokes.now c.args.edges.now c.find.new.self
-    c.requires.was_valid c.requires.strokes c.draw_all.ensures c.requires.define (λ k same. c.find.ensures.named k (c.requires.kept k same) (c.requires.named k same))
+    c.requires.was_valid c.requires.strokes c.draw_all.ensures.drawn c.requires.define (λ k same. c.find.ensures.named k (c.requires.kept k same) (c.requires.named k same))
 
 pub refresh_rows-requires-clause-others : goal.refresh_rows-requires-clause-others
 refresh_rows-requires-clause-others g c =
     OtherRowsStay-defined c.args.page.now c.draw_all.new.self c.args.strokes.now c.args.edges.now c.args.kept.now
     c.rows_redefined-redefined.result c.requires.was_valid c.requires.strokes
-    c.requires.kept c.draw_all.ensures c.requires.define (λ k same. c.rows_redefined-redefined.ensures k (c.requires.kept k same)
+    c.requires.kept c.draw_all.ensures.drawn c.requires.define (λ k same. c.rows_redefined-redefined.ensures k (c.requires.kept k same)
     (c.find.ensures.named k (c.requires.kept k same) (c.requires.named k same)))
 
 pub returns-clause-cost : goal.returns-clause-cost
@@ -21,7 +21,7 @@ returns-clause-cost g c k m ek em =
       c.refresh_rows.ensures.cost,
       rows_due-defined c.args.page.now c.draw_all.new.self c.args.strokes.now c.args.edges.now c.args.kept.now
           c.refresh_rows.new.kept c.rows_redefined-redefined.result c.requires.was_valid
-          c.requires.strokes c.requires.kept c.refresh_rows.ensures.kept c.draw_all.ensures c.requires.define
+          c.requires.strokes c.requires.kept c.refresh_rows.ensures.kept c.draw_all.ensures.drawn c.requires.define
           (λ k same. c.rows_redefined-redefined.ensures k (c.requires.kept k same)
           (c.find.ensures.named k (c.requires.kept k same) (c.requires.named k same))) k m ek em,
     )

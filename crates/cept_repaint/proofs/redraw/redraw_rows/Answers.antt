@@ -37,7 +37,7 @@ move_rows-requires-clause-others g c k same =
     (core_on k c.draw_all.new.self)) (sym c.copy_from.ensures)
     (OtherRowsStay-drawn c.args.page.now c.draw_all.new.self c.args.strokes.now c.args.before.now c.args.after.now
     c.args.kept.now c.rows_altered-altered.result c.follow_rows-rows.result c.requires.was_valid c.requires.strokes
-    c.requires.from c.requires.kept c.draw_all.ensures
+    c.requires.from c.requires.kept c.draw_all.ensures.drawn
     (altered-pens c.args.strokes.now c.pens-was.result c.args.page.now c.draw_all.new.self c.args.before.now
     c.args.after.now c.rows_altered-altered.result c.rows_altered-altered.ensures c.pens-was.ensures.pens)
     c.follow_rows-rows.ensures k same)
@@ -53,7 +53,7 @@ refresh_rows-requires-clause-others g c k same =
     OtherRowsStay-still are c.args.kept.now (core_on k c.draw_all.new.self)
     (OtherRowsStay-drawn c.args.page.now c.draw_all.new.self c.args.strokes.now c.args.before.now c.args.after.now
     c.args.kept.now c.rows_altered-altered.result c.follow_rows-rows.result c.requires.was_valid c.requires.strokes
-    c.requires.from c.requires.kept c.draw_all.ensures
+    c.requires.from c.requires.kept c.draw_all.ensures.drawn
     (altered-pens c.args.strokes.now c.pens-was.result c.args.page.now c.draw_all.new.self c.args.before.now
     c.args.after.now c.rows_altered-altered.result c.rows_altered-altered.ensures c.pens-was.ensures.pens)
     c.follow_rows-rows.ensures k same)
@@ -79,8 +79,8 @@ returns-clause-named g c =
     AreNamedOn-drawn c.args.page.now c.draw_all.new.self c.args.strokes.now c.args.before.now c.args.after.now
     c.args.kept.now c.if-one_moved.kept c.args.names.now c.forget_rows.new.self c.rows_altered-altered.result
     c.follow_rows-rows.result c.if-one_moved.marks c.requires.was_valid
-    (subst (λ (p : Page). IsValidPage p) (sym c.draw_all.ensures) c.requires.valid) c.requires.strokes c.requires.from
-    c.requires.named c.requires.kept (returns-clause-kept g c) c.draw_all.ensures
+    (subst (λ (p : Page). IsValidPage p) (sym c.draw_all.ensures.drawn) c.requires.valid) c.requires.strokes c.requires.from
+    c.requires.named c.requires.kept (returns-clause-kept g c) c.draw_all.ensures.drawn
     (altered-pens c.args.strokes.now c.pens-was.result c.args.page.now c.draw_all.new.self c.args.before.now
     c.args.after.now c.rows_altered-altered.result c.rows_altered-altered.ensures c.pens-was.ensures.pens)
     c.follow_rows-rows.ensures (returns-clause-marks g c) c.forget_rows.ensures

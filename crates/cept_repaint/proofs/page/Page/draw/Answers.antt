@@ -1,8 +1,13 @@
+use Rattle.std.proofs.Common.{◌≡◌, subst}
+use Rattle.cept_profile.specs.State.{Page}
+use Rattle.cept_repaint.specs.Inside.{page_of}
+use Rattle.cept_repaint.specs.Noter.{page_behind}
 use Rattle.cept_repaint.proofs.MarkedRows.{IsAreaOf-valid, IsKeptPage-after}
+use Rattle.cept_repaint.proofs.NotedPages.{page_behind-stroke}
 use Rattle.cept_repaint.proofs.page.Page.draw.Goals as goal
 
 pub invariant_of-self : goal.invariant_of-self
-invariant_of-self c =
+invariant_of-self g c =
     IsKeptPage-after {stroke = c.args.stroke.now} (IsAreaOf-valid c.args.stroke.now c.requires) c.self.invariant (record {
       cells = c.strike.ensures;
       row_pens = c.set_row_pens.ensures;
@@ -12,3 +17,25 @@ invariant_of-self c =
       patterns = c.set_patterns.ensures;
     }) c.flag_rows.ensures.marked_rows c.flag_rows.ensures.sized_rows c.flag_rows.ensures.marked
     c.flag_rows.ensures.sized
+
+pub returns-clause-unwound : goal.returns-clause-unwound
+returns-clause-unwound g c =
+    let q : Page = record {
+      cells = c.strike.new.self;
+      row_pens = c.set_row_pens.new.pens;
+      screen_pen = c.set_screen_pen.new.pen;
+      paints = c.set_colours.new.colours.paints;
+      dclut = c.set_colours.new.colours.dclut;
+      patterns = c.set_patterns.new.patterns;
+    } in
+    subst (λ (p : Page). page_behind (g.N.Noter.noted c.note_stroke.new.self) q
+    ≡ page_behind (g.N.Noter.noted c.args.noter.now) p) c.self.view_is
+    (page_behind-stroke (g.N.Noter.noted c.args.noter.now) (g.N.Noter.noted c.note_stroke.new.self)
+    (page_of c.self.inside) c.args.stroke.now q (record {
+      cells = c.strike.ensures;
+      row_pens = c.set_row_pens.ensures;
+      screen_pen = c.set_screen_pen.ensures;
+      paints = c.set_colours.ensures.paints;
+      dclut = c.set_colours.ensures.dclut;
+      patterns = c.set_patterns.ensures;
+    }) c.note_stroke.ensures)

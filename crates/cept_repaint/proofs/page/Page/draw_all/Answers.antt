@@ -3,16 +3,18 @@ use Rattle.cept_repaint.proofs.PageParts.{page_after-drop, page_after-drop_all, 
 use Rattle.cept_repaint.proofs.page.Page.draw_all.Goals as goal
 
 pub draw-requires : goal.draw-requires
-draw-requires c =
+draw-requires g c =
     valid_item c.args.strokes.now c.requires c.loop-stroke.stroke-index c.stroke-item.result c.loop-stroke-test.true
     c.stroke-item.is
 
 pub loop-stroke-preserved : goal.loop-stroke-preserved
-loop-stroke-preserved c =
-    page_after-drop c.loop-stroke.self c.draw.new.self c.args.strokes.now c.loop-stroke.stroke-index
-    c.stroke-item.result c.loop-stroke-test.true c.stroke-item.is c.draw.ensures ∙ c.loop-stroke.invariant
+loop-stroke-preserved g c = record {
+  drawn = page_after-drop c.loop-stroke.self c.draw.new.self c.args.strokes.now c.loop-stroke.stroke-index
+      c.stroke-item.result c.loop-stroke-test.true c.stroke-item.is c.draw.ensures.drawn ∙ c.loop-stroke.invariant.drawn;
+  unwound = c.draw.ensures.unwound ∙ c.loop-stroke.invariant.unwound;
+}
 
-pub returns : goal.returns
-returns c =
+pub returns-clause-drawn : goal.returns-clause-drawn
+returns-clause-drawn g c =
     sym (page_after-drop_all c.loop-stroke.self c.args.strokes.now c.loop-stroke.stroke-index (omega arith))
-    ∙ c.loop-stroke.invariant
+    ∙ c.loop-stroke.invariant.drawn

@@ -1,6 +1,10 @@
 use Rattle.std.proofs.Common.{◌≡◌, drop}
 use Rattle.cept_profile.specs.State.{page_after}
+use Rattle.cept_repaint.specs.Noter.{page_behind}
 use Rattle.cept_repaint.proofs.page.Page.draw_all.Given as goal
 
 abbrev pub invariant-loop-stroke : goal.invariant-loop-stroke
-invariant-loop-stroke l = page_after l.self (drop l.stroke-index l.strokes) ≡ page_after l.fn.self l.strokes
+invariant-loop-stroke g l = record {
+  drawn : page_after l.self (drop l.stroke-index l.strokes) ≡ page_after l.fn.self l.strokes;
+  unwound : page_behind (g.N.Noter.noted l.noter) l.self ≡ page_behind (g.N.Noter.noted l.fn.noter) l.fn.self;
+}

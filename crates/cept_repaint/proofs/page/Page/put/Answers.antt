@@ -1,22 +1,24 @@
-use Rattle.std.proofs.Common.{subst}
+use Rattle.std.proofs.Common.{◌≡◌, subst}
 use Rattle.cept_codes.specs.declared.stroke.Stroke.TheVariants as strokes
 use Rattle.cept_profile.specs.State.{Page}
 use Rattle.cept_repaint.specs.Drawn.{IsDrawn}
 use Rattle.cept_repaint.specs.Inside.{page_of}
 use Rattle.cept_repaint.specs.MarkedRows.{IsUnflagged, StandsAlone}
+use Rattle.cept_repaint.specs.Noter.{page_behind}
 use Rattle.cept_repaint.proofs.MarkedRows.{IsKeptPage-after, IsUnflagged-before, StandsAlone-unflagged}
+use Rattle.cept_repaint.proofs.NotedPages.{page_behind-stroke}
 use Rattle.cept_repaint.proofs.PageParts.{IsDrawn-put}
 use Rattle.cept_repaint.proofs.page.Page.put.Goals as goal
 
 pub returns-clause-drawn : goal.returns-clause-drawn
-returns-clause-drawn c =
+returns-clause-drawn g c =
     subst (λ (p : Page). IsDrawn p (strokes.Put c.args.place c.args.cell.now)
     (record (page_of c.self.inside) { cells = c.put.new.self })) c.self.view_is
     (IsDrawn-put (page_of c.self.inside) c.args.place c.args.cell.now c.put.new.self c.self.invariant.rows
     c.self.invariant.colours c.self.invariant.names c.self.invariant.codes c.put.ensures.cells)
 
 pub returns-clause-before : goal.returns-clause-before
-returns-clause-before c = λ yes.
+returns-clause-before g c = λ yes.
     subst (λ (p : Page). StandsAlone p c.args.place.row) c.self.view_is
     (StandsAlone-unflagged c.self.invariant c.args.place.row c.row.ensures.on_screen.from_top
     c.row.ensures.on_screen.to_bottom (IsUnflagged-before c.args.place c.args.cell.now c.row.ensures.on_screen
@@ -25,7 +27,7 @@ returns-clause-before c = λ yes.
     (c.is_unflagged.ensures yes))))
 
 pub returns-clause-after : goal.returns-clause-after
-returns-clause-after c = λ yes.
+returns-clause-after g c = λ yes.
     StandsAlone-unflagged (IsKeptPage-after tt c.self.invariant
     (IsDrawn-put (page_of c.self.inside) c.args.place c.args.cell.now c.put.new.self c.self.invariant.rows
     c.self.invariant.colours c.self.invariant.names c.self.invariant.codes c.put.ensures.cells)
@@ -35,8 +37,18 @@ returns-clause-after c = λ yes.
     (c.is_unflagged.ensures yes))
 
 pub invariant_of-self : goal.invariant_of-self
-invariant_of-self c =
+invariant_of-self g c =
     IsKeptPage-after tt c.self.invariant
     (IsDrawn-put (page_of c.self.inside) c.args.place c.args.cell.now c.put.new.self c.self.invariant.rows
     c.self.invariant.colours c.self.invariant.names c.self.invariant.codes c.put.ensures.cells)
     c.flag_put.ensures.marked_rows c.flag_put.ensures.sized_rows c.flag_put.ensures.marked c.flag_put.ensures.sized
+
+pub returns-clause-unwound : goal.returns-clause-unwound
+returns-clause-unwound g c =
+    let q : Page = record (page_of c.self.inside) { cells = c.put.new.self } in
+    subst (λ (p : Page). page_behind (g.N.Noter.noted c.note_put.new.self) q
+    ≡ page_behind (g.N.Noter.noted c.args.noter.now) p) c.self.view_is
+    (page_behind-stroke (g.N.Noter.noted c.args.noter.now) (g.N.Noter.noted c.note_put.new.self) (page_of c.self.inside)
+    (strokes.Put c.args.place c.args.cell.now) q
+    (IsDrawn-put (page_of c.self.inside) c.args.place c.args.cell.now c.put.new.self c.self.invariant.rows
+    c.self.invariant.colours c.self.invariant.names c.self.invariant.codes c.put.ensures.cells) c.note_put.ensures)

@@ -1,14 +1,17 @@
-use Rattle.std.proofs.Common.{sym, subst}
-use Rattle.cept_undo.specs.Past.{Edits, IsNotBegun}
-use Rattle.cept_undo.proofs.Room.{HasRoom-begun, HasRoom-spare}
+use Rattle.std.proofs.Common.{refl, ap}
+use Rattle.cept_undo.specs.Past.{Edits}
+use Rattle.cept_undo.proofs.TakenBack.{FitsTogether-begin, at_begin-begin, past-begin}
 use Rattle.cept_undo.proofs.undo.Undo.begin.Goals as goal
 
-pub unwrap-room-requires : goal.unwrap-room-requires
-unwrap-room-requires c =
-    HasRoom-spare c.self.invariant (subst (λ (u : Edits). IsNotBegun u) (sym c.self.view_is) c.requires.none_begun)
-    c.pop_front.result c.pop_front.ensures.value
+pub returns-clause-past : goal.returns-clause-past
+returns-clause-past c =
+    past-begin c.args.self.now _ c.args.screen.now c.reset.new.self c.requires.none_begun
+    (ap (λ (u : Edits). u.kept) c.self.view_is) refl c.reset.ensures.unwound
 
-pub invariant_of-self : goal.invariant_of-self
-invariant_of-self c =
-    HasRoom-begun c.self.invariant (subst (λ (u : Edits). IsNotBegun u) (sym c.self.view_is) c.requires.none_begun)
-    c.save.new.into c.pop_front.new.self c.pop_front.ensures.items
+pub returns-clause-at_begin : goal.returns-clause-at_begin
+returns-clause-at_begin c = at_begin-begin _ c.args.screen.now c.reset.new.self refl c.reset.ensures.unwound
+
+pub returns-clause-fits : goal.returns-clause-fits
+returns-clause-fits c =
+    FitsTogether-begin c.args.self.now _ c.args.screen.now (returns-clause-past c) (returns-clause-at_begin c)
+    c.requires.fits c.reset.ensures.valid

@@ -1,33 +1,47 @@
-use Rattle.std.proofs.Common.{◌∷◌, Option, sym, ap, subst, take, refl, ◌∙◌}
+use Rattle.std.proofs.Common.{◌≡◌, ◌∷◌, Option, take, refl, sym, ap, subst}
 use Rattle.std.specs.Prelude.{IsNone}
-use Rattle.cept_profile.specs.State.{State}
-use Rattle.circular_buffer.specs.Buffer.{Buffer}
-use Rattle.cept_undo.specs.Past.{Edits, FitsTogether, most_kept}
-use Rattle.cept_undo.proofs.TakenBack.{FitsTogether-more}
+use Rattle.cept_profile.specs.OldValues.{OldValues}
+use Rattle.cept_undo.specs.Past.{Edits, FitsTogether, most_kept, past}
+use Rattle.cept_undo.proofs.Room.{kept_more}
+use Rattle.cept_undo.proofs.TakenBack.{FitsTogether-commit, past-commit}
 use Rattle.cept_undo.proofs.undo.Undo.commit.Goals as goal
 use Rattle.cept_undo.proofs.undo.Undo.commit.Goals.{in-Some-1, in-None-1}
 
+pub returns-in_default-clause-past : goal.returns-in_default-clause-past
+returns-in_default-clause-past c =
+    past-commit c.args.self.now _ c.unwrap-delta.result most_kept (cc)
+    (kept_more c.args.self.now c.self.inside.kept.items c.self.inside.kept.capacity c.unwrap-delta.result
+    c.push_front.new.self (ap (λ (u : Edits). u.kept) c.self.view_is) c.self.invariant.edits c.push_front.ensures.items)
+    (subst (λ (o : Option OldValues). IsNone o) (sym c.take.ensures.after) refl)
+
 pub returns-in_default-clause-fits : goal.returns-in_default-clause-fits
-returns-in_default-clause-fits c = λ screen fits.
-    let kept = ap (λ (u : Edits). u.kept) c.self.view_is in
-    let begun = ap (λ (u : Edits). u.begun) c.self.view_is in
-    FitsTogether-more c.args.self.now _ screen c.unwrap-before.result most_kept fits (cc)
-    (ap (λ (b : Buffer State). b.items) c.push_front.ensures.items
-    ∙ ap (λ n. take n (c.unwrap-before.result ∷ c.self.inside.kept.items)) c.self.invariant.edits
-    ∙ ap (λ l. take most_kept (c.unwrap-before.result ∷ l)) kept)
-    (subst (λ (o : Option State). IsNone o) (sym c.take.ensures.after) refl)
+returns-in_default-clause-fits c =
+    FitsTogether-commit c.args.self.now _ c.unwrap-delta.result most_kept (cc)
+    (kept_more c.args.self.now c.self.inside.kept.items c.self.inside.kept.capacity c.unwrap-delta.result
+    c.push_front.new.self (ap (λ (u : Edits). u.kept) c.self.view_is) c.self.invariant.edits c.push_front.ensures.items)
+    (subst (λ (o : Option OldValues). IsNone o) (sym c.take.ensures.after) refl)
+
+pub returns-in-Some-clause-past : goal.returns-in-Some-clause-past
+returns-in-Some-clause-past c = λ screen before at.
+    let edits : Edits = record { kept = c.push_front.new.self.items; begun = c.take.new.self } in
+    let more : past edits screen ≡ take most_kept (before ∷ past c.args.self.now screen) =
+    past-commit c.args.self.now edits c.unwrap-delta.result most_kept (cc)
+    (kept_more c.args.self.now c.self.inside.kept.items c.self.inside.kept.capacity c.unwrap-delta.result
+    c.push_front.new.self (ap (λ (u : Edits). u.kept) c.self.view_is) c.self.invariant.edits c.push_front.ensures.items)
+    (subst (λ (o : Option OldValues). IsNone o) (sym c.take.ensures.after) refl) screen before at in
+    elim c.match-push_front-2.branch [
+      | in-Some-1 w ↦ rw w.self-is more
+      | in-None-1 w ↦ rw w.self-is more
+    ]
 
 pub returns-in-Some-clause-fits : goal.returns-in-Some-clause-fits
 returns-in-Some-clause-fits c = λ screen fits.
-    let kept = ap (λ (u : Edits). u.kept) c.self.view_is in
-    let begun = ap (λ (u : Edits). u.begun) c.self.view_is in
     let edits : Edits = record { kept = c.push_front.new.self.items; begun = c.take.new.self } in
     let more : FitsTogether edits screen =
-    FitsTogether-more c.args.self.now edits screen c.unwrap-before.result most_kept fits (cc)
-    (ap (λ (b : Buffer State). b.items) c.push_front.ensures.items
-    ∙ ap (λ n. take n (c.unwrap-before.result ∷ c.self.inside.kept.items)) c.self.invariant.edits
-    ∙ ap (λ l. take most_kept (c.unwrap-before.result ∷ l)) kept)
-    (subst (λ (o : Option State). IsNone o) (sym c.take.ensures.after) refl) in
+    FitsTogether-commit c.args.self.now edits c.unwrap-delta.result most_kept (cc)
+    (kept_more c.args.self.now c.self.inside.kept.items c.self.inside.kept.capacity c.unwrap-delta.result
+    c.push_front.new.self (ap (λ (u : Edits). u.kept) c.self.view_is) c.self.invariant.edits c.push_front.ensures.items)
+    (subst (λ (o : Option OldValues). IsNone o) (sym c.take.ensures.after) refl) screen fits in
     elim c.match-push_front-2.branch [
       | in-Some-1 w ↦ rw w.self-is more
       | in-None-1 w ↦ rw w.self-is more

@@ -1,0 +1,7 @@
+use Rattle.cept_repaint.proofs.NotedPages.{unwound-behind}
+use Rattle.cept_repaint.proofs.screen.Screen.apply_noting.Goals as goal
+
+pub returns-clause-unwound : goal.returns-clause-unwound
+returns-clause-unwound g c =
+    unwound-behind c.apply_with.new.noter c.args.delta.now c.args.self.now c.apply_with.new.self
+    c.apply_with.ensures.unwound
