@@ -16,7 +16,7 @@ use Rattle.cept_outside.specs.SinkState.{SinkState, HasPut}
 use Rattle.cept_outside.proofs.Laws.{HasPut-nothing}
 use Rattle.cept_parser.specs.Items.{items, closed_items}
 use Rattle.cept_profile.specs.State.{core}
-use Rattle.cept_writer.specs.PageCommands.{page_text}
+use Rattle.cept_writer.specs.CompactCommands.{page_text}
 use Rattle.cept_run.specs.declared.page.Stop.{Stop}
 use Rattle.cept_run.specs.declared.page.Stop.TheVariants as stops
 use Rattle.cept_run.specs.declared.run.Status.{Status}

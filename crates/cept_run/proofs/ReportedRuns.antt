@@ -14,7 +14,7 @@ use Rattle.cept_parser.specs.Items.{closed_items}
 use Rattle.cept_profile.specs.Changes.{grid_with_paints}
 use Rattle.cept_profile.specs.Look.{grid}
 use Rattle.cept_profile.specs.State.{core}
-use Rattle.cept_writer.specs.PageCommands.{page_text}
+use Rattle.cept_writer.specs.CompactCommands.{page_text}
 use Rattle.cept_run.specs.declared.words.Asked.{Asked}
 use Rattle.cept_run.specs.Events.{text_at_end, painted_end, end_event, edited_events, run_events, remaining_of, refused_count}
 use Rattle.cept_run.specs.Outside.{Outside, output, PutsWhole, PutsUnflushed}

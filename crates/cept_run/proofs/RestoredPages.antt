@@ -5,7 +5,7 @@ use Rattle.cept_codes.specs.declared.command.Command.{Command}
 use Rattle.cept_parser.specs.Items.{closed_items, commands, is_refusal}
 use Rattle.cept_profile.specs.Look.{looks_of}
 use Rattle.cept_profile.specs.State.{core}
-use Rattle.cept_writer.specs.PageCommands.{page_text}
+use Rattle.cept_writer.specs.CompactCommands.{page_text}
 use Rattle.cept_run.specs.Run.{Restores}
 
 -- by the laws of the writer

@@ -16,7 +16,7 @@ use Rattle.cept_profile.specs.Look.{grid}
 use Rattle.cept_report.specs.Screen.{screen_text, cells_text}
 use Rattle.cept_report.specs.Text.{change_lines, refusal_line, check_line, load_line}
 use Rattle.cept_profile.specs.State.{core}
-use Rattle.cept_writer.specs.PageCommands.{page_text}
+use Rattle.cept_writer.specs.CompactCommands.{page_text}
 use Rattle.cept_editor.specs.Events.{Event, paints}
 use Rattle.cept_editor.specs.Kept.{KeptEdits, kept, remaining}
 use Rattle.cept_editor.specs.Script.{EditLine}

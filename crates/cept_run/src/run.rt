@@ -33,7 +33,7 @@ use cept_generator::{generated_pages_are_read, generated_pages_are_short};
 use cept_outside::{QuietShelf, QuietSink, Shelf, Sink, Steps};
 use cept_profile::validity_is_kept;
 use cept_repaint::Glass;
-use cept_writer::{bytes_of_pages_bring_them_back, pages_are_spelled};
+use cept_writer::{compact_pages_are_spelled, compact_texts_bring_pages_back};
 use std::alloc::Global;
 use std::marker::Brand;
 use std::sync::ledger::{Blank, Ledger};
@@ -162,8 +162,8 @@ fn report_stored<F: Shelf, T: Sink, G: Glass, L: Ledger>(
         (status_at_end result) }
 {
     // Laws: the bytes of a written page bring its core back, and none of them is refused.
-    bytes_of_pages_bring_them_back();
-    pages_are_spelled();
+    compact_pages_are_spelled();
+    compact_texts_bring_pages_back();
     validity_is_kept();
     let Ok(()) = shelf.select(page.as_str()) else {
         return Err(Stop::ReadFault);
@@ -245,8 +245,8 @@ fn report_generated<T: Sink, G: Glass, L: Ledger>(
     // core back, and none of them is refused.
     generated_pages_are_read();
     generated_pages_are_short();
-    bytes_of_pages_bring_them_back();
-    pages_are_spelled();
+    compact_pages_are_spelled();
+    compact_texts_bring_pages_back();
     validity_is_kept();
     let mut steps = Steps::<L>::new(blank);
     let bytes = read_generated(decoder, number, sink, glass, &mut steps)?;

@@ -320,9 +320,7 @@ fn shows_a_whole_page(rt: HostRuntime) -> Result<(), Fail> {
 const WRITTEN_PAGE: &[u8] =
     b"\x1F/B\x1F-Ap\x1F&  \x1F&16dd\x1F#  @7A\x1F#!0\x7F\x7F\x7F\x7F\x7F\x7F\x7F\x7F\x7F\
     \x7F\x7F\x7F\x7F\x7F\x7F\x7F\x7F\x7F\x7F\x7F\x9B0@\x1B# T\x1FCA\x9B0@\x1B#!Q\x1FAA\
-    \x1B\x22A\x9B0@\x87\x8DB\x1FAB\x1B\x22A\x9B0@\x87\x8DT\x1FAC\x1B\x22A\x9B0@\x87\x8DX\
-    \x1FCA\x1B\x22A\x1B( @!\x1B(@\x1FCB\x1B\x22AA\x1FXA\x1B\x22AS\x1FXB\x1B\x22AY\x1FXC\
-    \x1B\x22AS";
+    \x1B\x22A\x9B0@\x87\x8DBTX\x1FCA\x1B\x22A\x1B( @!\x1B(@A\x1FXA\x1B\x22ASYS";
 
 /// Writes a page, with ample memory, and compares the bytes.
 fn compare_written(rt: &impl Abort, alloc: Global, page: &[u8], want: &[u8]) -> Result<(), Fail> {
@@ -342,9 +340,18 @@ fn writes_pages_back(rt: HostRuntime) -> Result<(), Fail> {
     let pages = [
         (b"".as_slice(), b"\x1F/B\x1F-Ap".as_slice()),
         (b"A", b"\x1F/B\x1F-Ap\x1FAA\x1B\x22AA"),
+        (
+            b"\x0E\x7F\x12\x67",
+            b"\x1F/B\x1F-Ap\x1FAA\x1B\x22A\x0E\x7F\x12\x67\x0F",
+        ),
+        (
+            b"\x19\x48a\x19\x48a",
+            b"\x1F/B\x1F-Ap\x1FAA\x1B\x22A\x19\x48a\x12\x41",
+        ),
         (WHOLE_PAGE, WRITTEN_PAGE),
         (WRITTEN_PAGE, WRITTEN_PAGE),
     ];
+    assert_eq!(rt; WRITTEN_PAGE.len(), 103);
     for (page, want) in pages {
         compare_written(&rt, rt.alloc(), page, want)?;
     }
@@ -450,6 +457,59 @@ fn takes_back_32_edits(rt: HostRuntime) -> Result<(), Fail> {
     let second = Pos::new(1, 2).ok_or("no place")?;
     assert!(rt; glass.shown(second) == cept_codes::Look::BLANK);
     Ok(())
+}
+
+/// One edit of raw bytes on the whole page: rows 1 to 10 become an area, which scrolls up; row 3 gets
+/// another ground, the entry 16 another colour, and the sign 2/1 another pattern, which is put in
+/// row 5 besides.
+const RAW_EDIT: &[u8] = b"raw 9B30313B3130559B30601F43419B30401B2321521F2620201F2631364142\
+    1F2320204037411F2321304040404040404040404040404040404040404040\
+    1F45411B282040211B2840\n";
+
+/// What `trace` puts of the whole page with a script, and what the glass shows.
+fn traced(alloc: Global, script: &[u8]) -> Result<(Vec<u8>, GridGlass), Fail> {
+    let request = words(alloc, &["trace", "page", "script"])?;
+    let mut shelf = MemShelf::new(alloc);
+    shelf.add("page", WHOLE_PAGE)?;
+    shelf.add("script", script)?;
+    let mut sink = MemSink::new(alloc, 1 << 17)?;
+    let mut glass = GridGlass::new(alloc)?;
+    let _ = run(alloc, &request, &mut shelf, &mut sink, &mut glass);
+    Ok((Vec::from_slice(alloc, sink.bytes())?, glass))
+}
+
+#[test]
+fn takes_back_an_edit_of_raw_bytes(rt: HostRuntime) -> Result<(), Fail> {
+    let alloc = rt.alloc();
+    let before = traced(alloc, b"")?;
+    let edited = traced(alloc, RAW_EDIT)?;
+    let mut script = Vec::from_slice(alloc, RAW_EDIT)?;
+    script.extend_from_slice(b"undo\n")?;
+    let undone = traced(alloc, script.as_slice())?;
+    let mut changed = 0u16;
+    for row in 1..25u8 {
+        for column in 1..41u8 {
+            let place = Pos::new(row, column).ok_or("no place")?;
+            assert!(rt;
+                undone.1.shown(place) == before.1.shown(place),
+                "in row {row}"
+            );
+            if edited.1.shown(place) != before.1.shown(place) {
+                changed = changed.saturating_add(1);
+            }
+        }
+    }
+    assert!(rt; changed > 40, "{changed} places changed");
+    assert!(rt; undone.0.starts_with(edited.0.as_slice()));
+    compare_script(
+        &rt,
+        alloc,
+        "edit",
+        WHOLE_PAGE,
+        script.as_slice(),
+        WRITTEN_PAGE,
+        Status::Done,
+    )
 }
 
 #[test]

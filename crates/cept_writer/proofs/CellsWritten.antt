@@ -2,7 +2,6 @@
 use Rattle.std.proofs.Common.{◌≡◌, ℕ, ◌≤◌, ◌<◌, ◌⊎◌, Bool, true, false, None, List, [], ◌∷◌, ◌++◌, flat_map, min}
 use Rattle.std.proofs.Common.{refl, ap, subst, inl, inr, arith}
 use Rattle.std.specs.List.{range_with_len}
-use Rattle.std.proofs.lemmas.Bool.{cases_lt}
 use Rattle.cept_codes.specs.declared.attribute.Pen.{Pen}
 use Rattle.cept_codes.specs.declared.cell.Cell.{Cell}
 use Rattle.cept_codes.specs.declared.cell.What.{What}
@@ -15,17 +14,16 @@ use Rattle.cept_codes.specs.Attribute.{unset_pen}
 use Rattle.cept_codes.specs.Cell.{IsValidWhat, blank_cell}
 use Rattle.cept_codes.specs.Place.{Place, OnScreen, place_of}
 use Rattle.cept_codes.specs.Table.{value_at}
-use Rattle.cept_codes.proofs.Laws.{OnScreen-place_of}
 use Rattle.cept_profile.specs.Control.{control_after, initial_sets}
 use Rattle.cept_writer.specs.AttributeCommands.{attributes_of, pen_commands}
 use Rattle.cept_writer.specs.CellCommands.{cell_commands, content_commands, glyph_commands, marker_commands}
 use Rattle.cept_writer.specs.CellCommands.{protected_commands}
-use Rattle.cept_writer.specs.PageCommands.{cell_numbered, cells_below}
+use Rattle.cept_writer.specs.PageCommands.{cell_numbered}
 use Rattle.cept_writer.proofs.AttributesSet.{attributes_take, hand_under_parallel}
 use Rattle.cept_writer.proofs.Drawing.{Draws, draws_joined, draws_one, draws_silent}
 use Rattle.cept_writer.proofs.MarkersLeft.{marker_leaves, hand_under_serial}
 use Rattle.cept_writer.proofs.PenAttributes.{attributes-all}
-use Rattle.cept_writer.proofs.Resting.{AlwaysRests, Hand, Rests, control_in_cell, rests_none, rests_range, control_at_rest}
+use Rattle.cept_writer.proofs.Resting.{AlwaysRests, Hand, Rests, control_in_cell, rests_none, control_at_rest}
 use Rattle.cept_writer.proofs.SignsWritten.{glyph_puts, hand_without_run}
 
 -- the strokes of a cell
@@ -130,15 +128,3 @@ puts_below cells n =
 pub record AreValidCells (rows : ℕ) (cells : List (List Cell)) : Type 0 where
   pub valid : (r c : ℕ) → OnScreen r c → IsValidWhat (value_at blank_cell cells r c).what
   pub past : (r c : ℕ) → OnScreen r c → rows < r → value_at blank_cell cells r c ≡ blank_cell
-
-pub cells_rest : (rows : ℕ) (wrap : Bool) (cells : List (List Cell)) → AreValidCells rows cells
-    → AlwaysRests rows wrap (cells_below cells 960) (puts_below cells 960)
-unfolding cells_below puts_below
-cells_rest rows wrap cells are =
-    rests_range rows wrap _ _ 0 960 (λ j low high.
-    let on : OnScreen (place_of j).row (place_of j).column = OnScreen-place_of j high in
-    cell_rests rows wrap (place_of j) (cell_numbered cells j).protected (cell_numbered cells j).what
-    (elim (cases_lt rows (place_of j).row) [
-      | inl past ↦ inr (ap (λ (c : Cell). c.what) (are.past (place_of j).row (place_of j).column on past))
-      | inr within ↦ inl within
-    ]) (are.valid (place_of j).row (place_of j).column on)) 0 960 (omega arith) (omega arith)

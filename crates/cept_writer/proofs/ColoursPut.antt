@@ -1,14 +1,14 @@
 -- Colour entries and the DCLUT in a written page.
-use Rattle.std.proofs.Common.{◌≡◌, ℕ, ◌<◌, true, false, List, [], ◌∷◌, refl, arith}
+use Rattle.std.proofs.Common.{◌≡◌, ℕ, ◌<◌, false, List, [], ◌∷◌, refl, arith}
 use Rattle.cept_codes.specs.declared.command.Command.{Command}
 use Rattle.cept_codes.specs.declared.command.Command.TheVariants as commands
 use Rattle.cept_codes.specs.Look.{black_paint}
 use Rattle.cept_codes.proofs.Laws.{entry-list_by_index}
 use Rattle.cept_colours.specs.Colours.{default_colours}
 use Rattle.cept_profile.specs.Colours.{default_paint}
-use Rattle.cept_profile.specs.PageParts.{dclut_in, paint_in}
+use Rattle.cept_profile.specs.PageParts.{paint_in}
 use Rattle.cept_writer.specs.Codes.{after_header}
-use Rattle.cept_writer.specs.PageCommands.{at_row, dclut_commands, is_default_dclut, with_colour_header}
+use Rattle.cept_writer.specs.PageCommands.{at_row, with_colour_header}
 
 -- the defaults are the default paints
 pub default_is : (i : ℕ) → i < 32 → paint_in default_colours.paints i ≡ default_paint i
@@ -21,12 +21,3 @@ colours_headed (c ∷ cs) = refl
 pub row_headed : (r : ℕ) (cs : List Command) → after_header (commands.Position r 1 ∷ cs) ≡ at_row r cs
 row_headed r [] = refl
 row_headed r (c ∷ cs) = refl
-
-pub no_dclut : (d : List ℕ) → is_default_dclut d ≡ true → dclut_commands d ≡ []
-no_dclut d is = rw is refl
-
-pub written_dclut : (d : List ℕ) → is_default_dclut d ≡ false
-    → dclut_commands d ≡ commands.ColourHeader true ∷ commands.ColourStart 0
-    ∷ commands.Dclut 0 (dclut_in d 0) ∷ commands.Dclut 1 (dclut_in d 1)
-    ∷ commands.Dclut 2 (dclut_in d 2) ∷ commands.Dclut 3 (dclut_in d 3) ∷ []
-written_dclut d is = rw is refl

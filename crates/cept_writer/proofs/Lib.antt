@@ -8,6 +8,7 @@ mod CompactSpelled
 mod CellsWritten
 mod Drawing
 mod EntriesInTurn
+mod EntriesPut
 mod MarkersLeft
 mod PageCommandsValid
 mod PageDrawn

@@ -23,13 +23,12 @@ use Rattle.cept_profile.specs.Colours.{default_paint}
 use Rattle.cept_profile.specs.Control.{ControlState, initial_control}
 use Rattle.cept_profile.specs.PageParts.{dclut_in, paint_in, pattern_in, row_pen_in}
 use Rattle.cept_profile.specs.State.{Core}
-use Rattle.cept_profile.specs.Valid.{IsValidCore}
 use Rattle.cept_writer.specs.AttributeCommands.{attributes_of, class_attributes, pen_commands}
-use Rattle.cept_writer.specs.PageCommands.{area_commands, at_row, dclut_commands, entries_below, entry_commands}
-use Rattle.cept_writer.specs.PageCommands.{implicit_commands, is_default_dclut, plain_commands, pattern_commands}
-use Rattle.cept_writer.specs.PageCommands.{patterns_below, row_commands, rows_below, screen_commands, with_colour_header}
+use Rattle.cept_writer.specs.PageCommands.{area_commands, at_row, dclut_commands}
+use Rattle.cept_writer.specs.PageCommands.{implicit_commands, is_default_dclut}
+use Rattle.cept_writer.specs.PageCommands.{row_commands, rows_below, screen_commands, with_colour_header}
 use Rattle.cept_writer.proofs.AttributesSet.{HasCode, Strikes, row_strikes, screen_strikes}
-use Rattle.cept_writer.proofs.CellsWritten.{AreValidCells, cells_rest, hand_at, position-hand_at, puts_below}
+use Rattle.cept_writer.proofs.CellsWritten.{hand_at, position-hand_at, puts_below}
 use Rattle.cept_writer.proofs.Drawing.{Draws, draws_joined, draws_silent}
 use Rattle.cept_writer.proofs.StrokesByPart.{all_append}
 use Rattle.cept_writer.proofs.Resting.{AlwaysRests, Hand, Rests, rests_none, rests_range, control_at_rest}
@@ -103,20 +102,6 @@ attributes_coded p is =
 -- ---- each part
 
 module _ (rows : ℕ) (wrap : Bool) where
-  entry_rests : (i : ℕ) (paint : Paint) → AlwaysRests rows wrap (entry_commands i paint) (entry_strokes i paint)
-  entry_rests i paints.Video v = rests_none rows wrap v
-  entry_rests i (paints.Ink c) v = by_test (same_paint (paints.Ink c) (default_paint i)) where
-    by_test : (same : Bool) → Rests rows wrap v (cond same [] (commands.ColourStart i ∷ commands.Entry i c ∷ []))
-        (cond same [] (strokes.Colour i (paints.Ink c) ∷ []))
-    by_test true = rests_none rows wrap v
-    by_test false = record { hand = v; draws = record { control = refl; strokes = refl } }
-
-  entries_rest : (defined : List Paint) → AlwaysRests rows wrap (entries_below defined 32) (entries_strokes defined 32)
-  unfolding entries_below entries_strokes
-  entries_rest defined =
-      rests_range rows wrap (λ i. entry_commands i (paint_in defined i)) (λ i. entry_strokes i (paint_in defined i)) 0 32
-      (λ j low high. entry_rests j (paint_in defined j)) 0 32 (omega arith) (omega arith)
-
   pub headed : (cs : List Command) (made : List Stroke) → AlwaysRests rows wrap cs made
       → AlwaysRests rows wrap (with_colour_header cs) made
   headed [] made rests v = rests v
@@ -136,18 +121,6 @@ module _ (rows : ℕ) (wrap : Bool) where
         ∷ strokes.Dclut 2 (dclut_in dclut 2) ∷ strokes.Dclut 3 (dclut_in dclut 3) ∷ []))
     by_test true = rests_none rows wrap v
     by_test false = record { hand = v; draws = record { control = refl; strokes = refl } }
-
-  pattern_rests : (code : ℕ) (o : Option Pattern) → AlwaysRests rows wrap (pattern_commands code o) (pattern_strokes code o)
-  pattern_rests code None v = rests_none rows wrap v
-  pattern_rests code (Some pattern) v = record { hand = v; draws = record { control = refl; strokes = refl } }
-
-  patterns_rest : (patterns : List (Option Pattern))
-      → AlwaysRests rows wrap (patterns_below patterns 94) (patterns_strokes patterns 94)
-  unfolding patterns_below patterns_strokes
-  patterns_rest patterns =
-      rests_range rows wrap (λ code. pattern_commands code (pattern_in patterns code))
-      (λ code. pattern_strokes code (pattern_in patterns code)) 0x21 127
-      (λ j low high. pattern_rests j (pattern_in patterns j)) 0x21 94 (omega arith) (omega arith)
 
   pub screen_rests : (pen : Pen) → IsRowPen pen → AlwaysRests rows wrap (screen_commands pen) (screen_strokes pen)
   screen_rests pen is v =
@@ -227,24 +200,3 @@ pub ends : (s t u : ControlState) (cs ds : List Command) (p : List Stroke) → D
     → Draws s (cs ++ ds) p u
 ends s t u cs ds p a b =
     subst (λ (q : List Stroke). Draws s (cs ++ ds) q u) (append-nil p) (draws_joined s t u cs ds p [] a b)
-
-pub page_draws : (k : Core) → IsValidCore k → PageDraws k (plain_commands k)
-unfolding plain_commands page_strokes
-page_draws k is =
-    let cells : AreValidCells k.rows k.page.cells = record { valid = is.page.cells; past = is.past } in
-    let a = headed k.rows k.wrap (entries_below k.page.paints 32) (entries_strokes k.page.paints 32)
-    (entries_rest k.rows k.wrap k.page.paints) first_hand in
-    let b = dclut_rests k.rows k.wrap k.page.dclut a.hand in
-    let c = patterns_rest k.rows k.wrap k.page.patterns b.hand in
-    let d = screen_rests k.rows k.wrap k.page.screen_pen is.page.screen_pen.row c.hand in
-    let e = rows_rest k.rows k.wrap k.page.row_pens is.page.row_pens is.unset d.hand in
-    let f = cells_rest k.rows k.wrap k.page.cells cells e.hand in
-    let last = settles k f.hand k.area k.implicit in
-    let first : Draws initial_control (commands.FullDefaults c1sets.Parallel ∷ commands.Format k.rows k.wrap ∷ [])
-    (first_strokes k.rows) (control_at_rest k.rows k.wrap first_hand) = record { control = refl; strokes = refl } in
-    record {
-      hand = f.hand;
-      draws = draws_joined _ _ _ _ _ _ _ first (draws_joined _ _ _ _ _ _ _ a.draws (draws_joined _ _ _ _ _ _ _ b.draws
-          (draws_joined _ _ _ _ _ _ _ c.draws (draws_joined _ _ _ _ _ _ _ d.draws (draws_joined _ _ _ _ _ _ _ e.draws
-          (ends _ _ _ _ _ _ f.draws last))))));
-    }

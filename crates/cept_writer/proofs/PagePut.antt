@@ -1,45 +1,30 @@
 -- The text of a page, put part by part.
-use Rattle.std.proofs.Common.{◌≡◌, ℕ, ◌+◌, ◌<◌, List, [], ◌∷◌, ◌++◌, sym, ◌∙◌, ap, subst, arith, Err, Result}
-use Rattle.cept_codes.specs.declared.cell.Cell.{Cell}
+use Rattle.std.proofs.Common.{◌≡◌, ℕ, List, [], ◌∷◌, ◌++◌, sym, ◌∙◌, ap, subst, Err, Result}
 use Rattle.cept_codes.specs.declared.command.C1Set.TheVariants as c1sets
 use Rattle.cept_codes.specs.declared.command.Command.{Command}
 use Rattle.cept_codes.specs.declared.command.Command.TheVariants as commands
-use Rattle.cept_codes.specs.Cell.{blank_cell}
-use Rattle.cept_codes.specs.Place.{Place, place_of}
-use Rattle.cept_codes.specs.Table.{value_at}
-use Rattle.cept_outside.specs.SinkState.{SinkState, Gains, PutsText}
+use Rattle.cept_outside.specs.SinkState.{SinkState, PutsText}
 use Rattle.cept_parser.specs.Spelling.{spellings}
 use Rattle.cept_profile.specs.State.{Core}
-use Rattle.cept_writer.specs.CellCommands.{cell_commands}
-use Rattle.cept_writer.specs.PageCommands.{area_commands, cell_numbered, cells_below, dclut_commands, entries_below}
-use Rattle.cept_writer.specs.PageCommands.{implicit_commands, plain_commands, page_text, patterns_below, rows_below}
-use Rattle.cept_writer.specs.PageCommands.{screen_commands, with_colour_header}
-use Rattle.cept_writer.proofs.TextsPut.{PutsText-next_failed, spellings_append}
+use Rattle.cept_writer.specs.CompactCommands.{changed_commands, compact_commands, defined_commands, page_text}
+use Rattle.cept_writer.specs.EntryPieces.{entry_numbered, entry_piece, pattern_numbered, pattern_piece, pieces_in_turn}
+use Rattle.cept_writer.specs.PageCommands.{area_commands, dclut_commands, implicit_commands, rows_below, screen_commands}
+use Rattle.cept_writer.specs.PageCommands.{with_colour_header}
+use Rattle.cept_writer.specs.SegmentCommands.{segments_commands}
+use Rattle.cept_writer.specs.SegmentPieces.{pieces_below}
+use Rattle.cept_writer.proofs.EntriesInTurn.{entries_are_pieces, patterns_are_pieces}
+use Rattle.cept_writer.proofs.TextsPut.{spellings_append}
 
--- ---- a cell
+-- ---- the parts that are put in turn
 
--- a cell that was read at its place
-pub cell_is : (cells : List (List Cell)) (n : ℕ) (p : Place) (x : Cell) → p ≡ place_of n
-    → x ≡ value_at blank_cell cells p.row p.column
-    → cell_commands p x.protected x.what
-    ≡ cell_commands (place_of n) (cell_numbered cells n).protected (cell_numbered cells n).what
-cell_is cells n p x at is =
-    ap (λ (y : Cell). cell_commands p y.protected y.what) is
-    ∙ ap (λ (q : Place). cell_commands q (value_at blank_cell cells q.row q.column).protected
-    (value_at blank_cell cells q.row q.column).what) at
+abbrev pub entry_pieces : Core → List Command
+entry_pieces k = pieces_in_turn entry_piece (entry_numbered k.page.paints) 32
 
--- the next cell was put in part
-pub cells_failed : {X Y E : Type 0} {e g : E} (cells : List (List Cell)) (n m : ℕ) (r : Result Y E) (s t u : SinkState)
-    → r ≡ Err g → n < m → t.faults ≡ s.faults → Gains s (spellings (cells_below cells n)) t
-    → PutsText {X = X} {E = E} t
-    (spellings (cell_commands (place_of n) (cell_numbered cells n).protected (cell_numbered cells n).what)) (Err e) u
-    → PutsText {X = Y} {E = E} s (spellings (cells_below cells m)) r u
-unfolding cells_below
-cells_failed {X} {Y} {E} {e} {g} cells n m r s t u is within stays before part =
-    subst (λ (q : Result Y E). PutsText {X = Y} {E = E} s (spellings (cells_below cells m)) q u) (sym is)
-    (PutsText-next_failed
-    (λ j. cell_commands (place_of j) (cell_numbered cells j).protected (cell_numbered cells j).what) 0 n m n s t u
-    (let zero_first : 0 + n ≡ n = omega arith in zero_first) within stays before part)
+abbrev pub pattern_pieces : Core → List Command
+pattern_pieces k = pieces_in_turn pattern_piece (pattern_numbered k.page.patterns) 94
+
+abbrev pub cell_pieces : Core → List Command
+cell_pieces k = pieces_below k.page.cells 960
 
 -- ---- the page
 
@@ -53,7 +38,7 @@ from_area k = spellings (area_commands k.area) ++ from_implicit k
 
 -- from the part cells on
 abbrev pub from_cells : Core → List ℕ
-from_cells k = spellings (cells_below k.page.cells 960) ++ from_area k
+from_cells k = spellings (cell_pieces k) ++ from_area k
 
 -- from the part rows on
 abbrev pub from_rows : Core → List ℕ
@@ -65,7 +50,7 @@ from_screen_pen k = spellings (screen_commands k.page.screen_pen) ++ from_rows k
 
 -- from the part patterns on
 abbrev pub from_patterns : Core → List ℕ
-from_patterns k = spellings (patterns_below k.page.patterns 94) ++ from_screen_pen k
+from_patterns k = spellings (pattern_pieces k) ++ from_screen_pen k
 
 -- from the part dclut on
 abbrev pub from_dclut : Core → List ℕ
@@ -73,7 +58,7 @@ from_dclut k = spellings (dclut_commands k.page.dclut) ++ from_patterns k
 
 -- from the part colours on
 abbrev pub from_colours : Core → List ℕ
-from_colours k = spellings (with_colour_header (entries_below k.page.paints 32)) ++ from_dclut k
+from_colours k = spellings (with_colour_header (entry_pieces k)) ++ from_dclut k
 
 -- a reset and the format
 abbrev pub beginning : Core → List Command
@@ -91,22 +76,45 @@ nine a b c d e f g h i =
     (spellings_append f (g ++ (h ++ i)) ∙ ap (λ l. spellings f ++ l)
     (spellings_append g (h ++ i) ∙ ap (λ l. spellings g ++ l) (spellings_append h i)))))))
 
-page_parts : (k : Core) → page_text k ≡ spellings (beginning k) ++ from_colours k
-unfolding plain_commands
-page_parts k =
-    nine (beginning k) (with_colour_header (entries_below k.page.paints 32)) (dclut_commands k.page.dclut)
-    (patterns_below k.page.patterns 94) (screen_commands k.page.screen_pen) (rows_below k.page.row_pens 24)
-    (cells_below k.page.cells 960) (area_commands k.area) (implicit_commands k.implicit)
+-- the text of a page with these entries, patterns and cells
+abbrev text_with : Core → List Command → List Command → List Command → List ℕ
+text_with k entries patterns cells =
+    spellings (beginning k) ++ (spellings (with_colour_header entries) ++ (spellings (dclut_commands k.page.dclut)
+    ++ (spellings patterns ++ (spellings (screen_commands k.page.screen_pen) ++ (spellings (rows_below k.page.row_pens 24)
+    ++ (spellings cells ++ (spellings (area_commands k.area) ++ spellings (implicit_commands k.implicit))))))))
+
+page_parts : (k : Core) → cell_pieces k ≡ segments_commands k.page.cells
+    → page_text k ≡ spellings (beginning k) ++ from_colours k
+unfolding compact_commands
+page_parts k cells =
+    let entries = changed_commands k.page.paints in
+    let patterns = defined_commands k.page.patterns in
+    let segments = segments_commands k.page.cells in
+    nine (beginning k) (with_colour_header entries) (dclut_commands k.page.dclut) patterns
+    (screen_commands k.page.screen_pen) (rows_below k.page.row_pens 24) segments (area_commands k.area)
+    (implicit_commands k.implicit)
+    ∙ ap (λ (l : List Command). text_with k l patterns segments) (sym (entries_are_pieces k.page.paints))
+    ∙ ap (λ (l : List Command). text_with k (entry_pieces k) l segments) (sym (patterns_are_pieces k.page.patterns))
+    ∙ ap (λ (l : List Command). text_with k (entry_pieces k) (pattern_pieces k) l) (sym cells)
 
 -- the parts of a page were put
-pub page_put : {X E : Type 0} (k : Core) (r : Result X E) (s u : SinkState)
+pub page_put : {X E : Type 0} (k : Core) → cell_pieces k ≡ segments_commands k.page.cells
+    → (r : Result X E) (s u : SinkState)
     → PutsText s (spellings (beginning k) ++ from_colours k) r u → PutsText s (page_text k) r u
-page_put k r s u puts = subst (λ (l : List ℕ). PutsText s l r u) (sym (page_parts k)) puts
+page_put k cells r s u puts = subst (λ (l : List ℕ). PutsText s l r u) (sym (page_parts k cells)) puts
 
 -- a failure that is handed on
 pub handed_on : {X E : Type 0} {e : E} (r : Result X E) (s u : SinkState) (text : List ℕ) → r ≡ Err e
     → PutsText {X = X} {E = E} s text (Err e) u → PutsText s text r u
 handed_on {X} {E} r s u text is puts = subst (λ (q : Result X E). PutsText {X = X} {E = E} s text q u) (sym is) puts
+
+-- a part of a page failed, and that is handed on
+pub page_failed : {X E : Type 0} {e : E} (k : Core) → cell_pieces k ≡ segments_commands k.page.cells
+    → (r : Result X E) (s u : SinkState) → r ≡ Err e
+    → PutsText {X = X} {E = E} s (spellings (beginning k) ++ from_colours k) (Err e) u
+    → PutsText s (page_text k) r u
+page_failed k cells r s u is puts =
+    page_put k cells r s u (handed_on r s u (spellings (beginning k) ++ from_colours k) is puts)
 
 -- a text that was put in part, by other commands that are the same
 pub part_is : {X E : Type 0} {e : E} {cs ds : List Command} → cs ≡ ds → (s u : SinkState)

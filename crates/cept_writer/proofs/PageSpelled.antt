@@ -1,5 +1,5 @@
 -- The commands of a written page are spelled from the start on.
-use Rattle.std.proofs.Common.{◌≡◌, ◌⊎◌, ℕ, zero, suc, ◌+◌, ◌%◌, ◌<◌, ◌≤◌, Bool, true, false, cond, eqb}
+use Rattle.std.proofs.Common.{◌≡◌, ◌⊎◌, ℕ, zero, suc, ◌+◌, ◌%◌, ◌<◌, ◌≤◌, Bool, true, false, eqb}
 use Rattle.std.proofs.Common.{List, [], ◌∷◌, ◌++◌, Option, Some, None, IfSome, refl, sym, ap, ◌∙◌, subst, arith, inl}
 use Rattle.std.proofs.Common.{inr}
 use Rattle.std.proofs.lemmas.Bool.{cases_Bool}
@@ -14,50 +14,34 @@ use Rattle.cept_codes.specs.declared.attribute.Size.{Size}
 use Rattle.cept_codes.specs.declared.attribute.Size.TheVariants as sizes
 use Rattle.cept_codes.specs.declared.cell.Marker.{Marker}
 use Rattle.cept_codes.specs.declared.cell.Marker.TheVariants as markers
-use Rattle.cept_codes.specs.declared.cell.What.{What}
-use Rattle.cept_codes.specs.declared.cell.What.TheVariants as whats
 use Rattle.cept_codes.specs.declared.command.C1Set.TheVariants as c1_set
 use Rattle.cept_codes.specs.declared.command.Command.{Command}
 use Rattle.cept_codes.specs.declared.command.Command.TheVariants as command
 use Rattle.cept_codes.specs.declared.command.Form.{Form}
-use Rattle.cept_codes.specs.declared.glyph.SetId.{SetId}
-use Rattle.cept_codes.specs.declared.glyph.SetId.TheVariants as set
-use Rattle.cept_codes.specs.declared.look.Paint.{Paint}
-use Rattle.cept_codes.specs.declared.look.Paint.TheVariants as paints
-use Rattle.cept_codes.specs.declared.look.Pattern.{Pattern}
 use Rattle.cept_codes.specs.Attribute.{IsValidAttr, IsValidPen, IsScreenPen}
-use Rattle.cept_codes.specs.Cell.{IsValidMarker, IsValidWhat}
+use Rattle.cept_codes.specs.Cell.{IsValidMarker}
 use Rattle.cept_codes.specs.Command.{IsArea, IsC1, IsScreenC1}
-use Rattle.cept_codes.specs.Glyph.{IsCodeOf, IsValidAccent}
-use Rattle.cept_codes.specs.Look.{IsValidPattern}
-use Rattle.cept_codes.specs.Place.{OnScreen, place_of}
-use Rattle.cept_codes.specs.Same.{same_paint}
-use Rattle.cept_codes.specs.Stroke.{IsPaintOf}
-use Rattle.cept_codes.proofs.Laws.{OnScreen-place_of}
+use Rattle.cept_codes.specs.Place.{OnScreen}
 use Rattle.cept_parser.specs.declared.context.ColourKind.TheVariants.{ColourTable}
 use Rattle.cept_parser.specs.declared.context.Context.{Context}
 use Rattle.cept_parser.specs.declared.context.Mode.{Mode}
-use Rattle.cept_parser.specs.declared.context.Mode.TheVariants.{TableRun, Skip}
-use Rattle.cept_parser.specs.Context.{start_context}
-use Rattle.cept_parser.specs.Items.{closed_items, commands, is_refusal}
-use Rattle.cept_parser.specs.ReadsAs.{begins_anew, Reads}
+use Rattle.cept_parser.specs.declared.context.Mode.TheVariants.{Skip}
+use Rattle.cept_parser.specs.ReadsAs.{begins_anew}
 use Rattle.cept_parser.specs.Spelling.{spelling, spellings, context_after, context_after_all, IsSpelled, AreSpelled}
 use Rattle.cept_parser.specs.Spelling.{IsTextual, AreTextual}
 use Rattle.cept_parser.proofs.ReadsLemmas.{anew_more, spelled-append, spellings-append, context_after_all-append}
-use Rattle.cept_parser.proofs.ReadsLemmas.{reads_list, no_refusals, commands_are}
 use Rattle.cept_parser.proofs.TextualLemmas.{textual_spelled, textual-append}
-use Rattle.cept_profile.specs.Colours.{default_paint}
-use Rattle.cept_profile.specs.PageParts.{dclut_in, paint_in, pattern_in, row_pen_in}
+use Rattle.cept_profile.specs.PageParts.{dclut_in, row_pen_in}
 use Rattle.cept_profile.specs.State.{Core}
 use Rattle.cept_profile.specs.Valid.{IsValidCore}
 use Rattle.cept_writer.specs.AttributeCommands.{class_attributes, attributes_of, colour_commands, flash_commands}
 use Rattle.cept_writer.specs.AttributeCommands.{size_code, attribute_commands, attributes_commands, pen_commands}
-use Rattle.cept_writer.specs.CellCommands.{accent_commands, sign_commands, glyph_commands, marker_commands}
-use Rattle.cept_writer.specs.CellCommands.{content_commands, protected_commands, cell_commands}
-use Rattle.cept_writer.specs.PageCommands.{entry_commands, entries_below, with_colour_header, is_default_dclut}
-use Rattle.cept_writer.specs.PageCommands.{dclut_commands, pattern_commands, patterns_below, screen_commands}
-use Rattle.cept_writer.specs.PageCommands.{at_row, row_commands, rows_below, cell_numbered, cells_below, area_commands}
-use Rattle.cept_writer.specs.PageCommands.{implicit_commands, plain_commands}
+use Rattle.cept_writer.specs.CellCommands.{accent_commands, marker_commands}
+use Rattle.cept_writer.specs.CellCommands.{protected_commands}
+use Rattle.cept_writer.specs.PageCommands.{with_colour_header, is_default_dclut}
+use Rattle.cept_writer.specs.PageCommands.{dclut_commands, screen_commands}
+use Rattle.cept_writer.specs.PageCommands.{at_row, row_commands, rows_below, area_commands}
+use Rattle.cept_writer.specs.PageCommands.{implicit_commands}
 
 -- ---- commands that are spelled in any context
 
@@ -82,12 +66,6 @@ pub anew-append : (a b : List Command) → AnewOrNone a → AnewOrNone b → Ane
 anew-append a b (inl e) k = subst (λ (c : List Command). AnewOrNone (c ++ b)) (sym e) k
 anew-append a b (inr h) k =
     inr (ap begins_anew (spellings-append a b) ∙ anew_more (spellings a) (spellings b) h)
-
-anew_each : (f : ℕ → List Command) (from n : ℕ) → ((i : ℕ) → AnewOrNone (f i))
-    → AnewOrNone (flat_map f (range_with_len from n))
-anew_each f from zero h = inl refl
-anew_each f from (suc n) h =
-    anew-append (f from) (flat_map f (range_with_len (from + 1) n)) (h from) (anew_each f (from + 1) n h)
 
 pub textual_anywhere : (cs : List Command) → AreTextual cs → AnewOrNone cs → Anywhere cs
 textual_anywhere cs h (inl e) x = subst (AreSpelled x) (sym e) tt
@@ -220,15 +198,6 @@ accent_textual accent (inr h) =
     above_zero : (n : ℕ) → 0x40 ≤ n → eqb n 0 ≡ false
     above_zero n l = grind (arith, nat_tests)
 
-sign_textual : (s : SetId) (code accent : ℕ) → IsCodeOf s code → IsValidAccent s accent
-    → AreTextual (sign_commands s code accent)
-sign_textual set.P code accent h k =
-    textual-append (accent_commands accent) (command.Graphic code ∷ []) (accent_textual accent k) ((h.0, h.1), tt)
-sign_textual set.S code accent h k = ((omega arith, omega arith), ((omega (arith, h.0), h.1), tt))
-sign_textual set.M code accent h k = (omega arith, ((omega (arith, h.0), h.1), (omega arith, tt)))
-sign_textual set.N code accent h k = ((omega arith, omega arith), ((omega (arith, h.0), h.1), tt))
-sign_textual set.D code accent h k = (omega arith, ((omega (arith, h.0), h.1), (omega arith, tt)))
-
 pub marker_textual : (m : Marker) → IsValidMarker m → AreTextual (marker_commands m)
 marker_textual (markers.Alpha e) h = colour_textual (λ n. command.C1 n) 0 e signs_coded (inl refl) h
 marker_textual (markers.Mosaic e) h = colour_textual (λ n. command.C1 n) 16 e signs_coded (inr refl) h
@@ -245,17 +214,6 @@ marker_textual (markers.Boxed true) h = ((omega arith, λ q. omega arith), tt)
 marker_textual (markers.Boxed false) h = ((omega arith, λ q. omega arith), tt)
 marker_textual (markers.Size s) h = (size_c1 s, tt)
 
-content_textual : (w : What) → IsValidWhat w → AreTextual (content_commands w)
-content_textual whats.Blank h = tt
-content_textual (whats.Serial g) h = (tt, sign_textual g.set g.code g.accent h.code h.accent)
-content_textual (whats.Parallel g pen) h = (
-  tt,
-  textual-append (pen_commands (λ n. command.C1 n) pen) (glyph_commands g)
-      (pen_textual (λ n. command.C1 n) pen signs_coded h.1
-      (if_any _ pen.size size_c1)) (sign_textual g.set g.code g.accent h.0.code h.0.accent),
-)
-content_textual (whats.Marker m) h = (tt, marker_textual m h)
-
 pub protected_textual : (b : Bool) (cs : List Command) → AreTextual cs → AreTextual (protected_commands b cs)
 protected_textual true cs h = (tt, textual-append cs (command.Protect false ∷ []) h (tt, tt))
 protected_textual false cs h = h
@@ -264,26 +222,6 @@ protected_textual false cs h = h
 pub placed_anywhere : (r c : ℕ) (cs : List Command) → OnScreen r c → AreTextual cs → Anywhere (command.Position r c ∷ cs)
 unfolding spelling
 placed_anywhere r c cs on h = textual_anywhere (command.Position r c ∷ cs) (on, h) (inr refl)
-
-cell_anywhere : (r c : ℕ) (b : Bool) (w : What) → OnScreen r c → IsValidWhat w
-    → Anywhere (cell_commands (record { row = r; column = c }) b w)
-cell_anywhere r c b whats.Blank on h x = tt
-cell_anywhere r c b (whats.Serial g) on h x =
-    placed_anywhere r c _ on (protected_textual b _ (content_textual (whats.Serial g) h)) x
-cell_anywhere r c b (whats.Parallel g pen) on h x =
-    placed_anywhere r c _ on (protected_textual b _ (content_textual (whats.Parallel g pen) h)) x
-cell_anywhere r c b (whats.Marker m) on h x =
-    placed_anywhere r c _ on (protected_textual b _ (content_textual (whats.Marker m) h)) x
-
-cells_anywhere : (k : Core) → IsValidCore k → Anywhere (cells_below k.page.cells 960)
-unfolding cells_below
-cells_anywhere k v =
-    anywhere_each
-    (λ m. cell_commands (place_of m) (cell_numbered k.page.cells m).protected (cell_numbered k.page.cells m).what)
-    0 960 (λ m l n.
-    let on = OnScreen-place_of m n in
-    cell_anywhere (place_of m).row (place_of m).column (cell_numbered k.page.cells m).protected
-    (cell_numbered k.page.cells m).what on (v.page.cells (place_of m).row (place_of m).column on))
 
 -- ---- attributes of rows and of the screen
 
@@ -364,49 +302,11 @@ in_table-append a b p q =
           ∙ q.leads (p.mode m) f;
     }
 
-in_table_each : (g : ℕ → List Command) (from n : ℕ) → ((i : ℕ) → from ≤ i → i < from + n → InTable (g i))
-    → InTable (flat_map g (range_with_len from n))
-in_table_each g from zero h = in_table-none
-in_table_each g from (suc n) h =
-    in_table-append (g from) (flat_map g (range_with_len (from + 1) n)) (h from (omega arith) (omega arith))
-    (in_table_each g (from + 1) n (λ i l m. h i (omega arith) (omega arith)))
-
-entry_in_table : (i : ℕ) (p : Paint) → i < 32 → IsPaintOf i p → InTable (entry_commands i p)
-unfolding IsSpelled context_after
-entry_in_table i paints.Video l h = in_table-none
-entry_in_table i (paints.Ink c) l h =
-    each_choice (same_paint (paints.Ink c) (default_paint i)) in_table-none (record {
-      mode = λ m. TableRun (i + 1);
-      spelled = λ m f. (omega arith, refl, ((refl, (omega arith, h)), refl, tt));
-      leads = λ m f. refl;
-    })
-  where
-    each_choice : (b : Bool) {s t : List Command} → InTable s → InTable t → InTable (cond b s t)
-    each_choice true p q = p
-    each_choice false p q = q
-
-entry_anew : (i : ℕ) (p : Paint) → AnewOrNone (entry_commands i p)
-unfolding spelling
-entry_anew i paints.Video = inl refl
-entry_anew i (paints.Ink c) = each_choice (same_paint (paints.Ink c) (default_paint i)) (inl refl) (inr refl)
-  where
-    each_choice : (b : Bool) {s t : List Command} → AnewOrNone s → AnewOrNone t → AnewOrNone (cond b s t)
-    each_choice true p q = p
-    each_choice false p q = q
-
 pub header_anywhere : (cs : List Command) → InTable cs → AnewOrNone cs → Anywhere (with_colour_header cs)
 unfolding IsSpelled context_after
 header_anywhere [] p h x = tt
 header_anywhere (c ∷ cs) p (inl e) x = absurd cc
 header_anywhere (c ∷ cs) p (inr h) x = (tt, h, p.spelled Skip x.form)
-
-colours_anywhere : (k : Core) → IsValidCore k → Anywhere (with_colour_header (entries_below k.page.paints 32))
-unfolding entries_below
-colours_anywhere k v =
-    let g : ℕ → List Command = λ i. entry_commands i (paint_in k.page.paints i) in
-    header_anywhere (entries_below k.page.paints 32)
-    (in_table_each g 0 32 (λ i l m. entry_in_table i (paint_in k.page.paints i) m (v.page.paints i m)))
-    (anew_each g 0 32 (λ i. entry_anew i (paint_in k.page.paints i)))
 
 -- the four entries of the DCLUT stand behind their header
 dclut_spelled : (x : Context) (a b c d : ℕ) → a < 32 → b < 32 → c < 32 → d < 32
@@ -441,20 +341,6 @@ dclut_anywhere d h x =
 
 -- ---- patterns
 
-pattern_anywhere : (code : ℕ) (o : Option Pattern) → 0x21 ≤ code → code ≤ 0x7E → IfSome o IsValidPattern
-    → Anywhere (pattern_commands code o)
-unfolding IsSpelled context_after
-pattern_anywhere code None l m h x = tt
-pattern_anywhere code (Some p) l m h x =
-    (record { size = h.size; planes = h.planes }, refl, ((l, m), refl, ((refl, refl, m, h), refl, tt)))
-
-patterns_anywhere : (k : Core) → IsValidCore k → Anywhere (patterns_below k.page.patterns 94)
-unfolding patterns_below
-patterns_anywhere k v =
-    anywhere_each (λ code. pattern_commands code (pattern_in k.page.patterns code)) 0x21 94 (λ code l m.
-    let small : code ≤ 0x7E = omega arith in
-    pattern_anywhere code (pattern_in k.page.patterns code) l small (v.page.patterns code l small))
-
 -- ---- the page
 
 pub area_anywhere : (a : Option (ℕ × ℕ)) → IfSome a (λ b. IsArea b.0 b.1) → Anywhere (area_commands a)
@@ -472,40 +358,4 @@ pub head_anywhere : (rows : ℕ) (wrap : Bool) → (rows ≡ 24) ⊎ (rows ≡ 2
 unfolding IsSpelled context_after
 head_anywhere rows wrap h x = (tt, refl, (h, refl, tt))
 
-pub page_anywhere : (k : Core) → IsValidCore k → Anywhere (plain_commands k)
-unfolding plain_commands
-page_anywhere k v =
-    let head = command.FullDefaults c1_set.Parallel ∷ command.Format k.rows k.wrap ∷ [] in
-    let colours = with_colour_header (entries_below k.page.paints 32) in
-    let area = area_commands k.area in
-    let implicit = implicit_commands k.implicit in
-    let cells = cells_below k.page.cells 960 ++ (area ++ implicit) in
-    let rows = rows_below k.page.row_pens 24 ++ cells in
-    let screen = screen_commands k.page.screen_pen ++ rows in
-    let patterns = patterns_below k.page.patterns 94 ++ screen in
-    let dclut = dclut_commands k.page.dclut ++ patterns in
-    anywhere-append head (colours ++ dclut) (head_anywhere k.rows k.wrap v.rows)
-    (anywhere-append colours dclut (colours_anywhere k v)
-    (anywhere-append (dclut_commands k.page.dclut) patterns (dclut_anywhere k.page.dclut v.page.dclut)
-    (anywhere-append (patterns_below k.page.patterns 94) screen (patterns_anywhere k v)
-    (anywhere-append (screen_commands k.page.screen_pen) rows (screen_anywhere k.page.screen_pen v.page.screen_pen)
-    (anywhere-append (rows_below k.page.row_pens 24) cells (rows_anywhere k v)
-    (anywhere-append (cells_below k.page.cells 960) (area ++ implicit) (cells_anywhere k v)
-    (anywhere-append area implicit (area_anywhere k.area v.area) (implicit_anywhere k.implicit))))))))
-
-pub page_spelled : (k : Core) → IsValidCore k → AreSpelled start_context (plain_commands k)
-page_spelled k v = page_anywhere k v start_context
-
 -- ---- its bytes
-
-page_reads : (k : Core) → IsValidCore k
-    → Reads start_context (spellings (plain_commands k)) (plain_commands k)
-    (context_after_all start_context (plain_commands k))
-page_reads k v = reads_list start_context (plain_commands k) (page_spelled k v)
-
-pub plain_commands_read : (k : Core) → IsValidCore k → commands (spellings (plain_commands k)) ≡ plain_commands k
-plain_commands_read k v = commands_are (spellings (plain_commands k)) (plain_commands k) _ (page_reads k v)
-
-pub page_unrefused : (k : Core) → IsValidCore k
-    → AllByRecursion (λ i. is_refusal i.what ≡ false) (closed_items (spellings (plain_commands k)))
-page_unrefused k v = no_refusals (spellings (plain_commands k)) (plain_commands k) _ (page_reads k v)

@@ -20,11 +20,10 @@ use Rattle.cept_profile.specs.PageParts.{screen_pen_back}
 use Rattle.cept_profile.specs.Colours.{default_paint}
 use Rattle.cept_profile.specs.State.{Core, core_of, page, page_back, state}
 use Rattle.cept_profile.specs.Valid.{IsValidCore}
-use Rattle.cept_writer.specs.PageCommands.{plain_commands}
 use Rattle.cept_writer.proofs.CellsRestored.{cell_left, cell_more, cell_step, cells_made, puts_cell}
 use Rattle.cept_writer.proofs.CellsWritten.{puts_below}
 use Rattle.cept_writer.proofs.Drawing.{control_of_drawn, strokes_of_drawn}
-use Rattle.cept_writer.proofs.PageDrawn.{PageDraws, dclut_strokes, entries_strokes, first_strokes, page_draws, page_strokes}
+use Rattle.cept_writer.proofs.PageDrawn.{PageDraws, dclut_strokes, entries_strokes, first_strokes, page_strokes}
 use Rattle.cept_writer.proofs.PageDrawn.{patterns_strokes, rows_strokes, screen_strokes, control_with_settings}
 use Rattle.cept_writer.proofs.PartsRestored.{dclut_left, dclut_made, dclut_more, dclut_names, dclut_step, entries_colour}
 use Rattle.cept_writer.proofs.PartsRestored.{entries_made, paint_left, paint_more, paint_step, pattern_left, pattern_more}
@@ -164,7 +163,3 @@ core_drawn decides k is cs there i =
       area = (left i).area;
       implicit = (left i).implicit;
     }
-
-pub core_restored : ((a b : Paint) → IsTrue (same_paint a b) ↔ (a ≡ b)) → (k : Core) → IsValidCore k
-    → core_of (state (plain_commands k)) ≡ k
-core_restored decides k is = core_drawn decides k is (plain_commands k) (page_draws k is)

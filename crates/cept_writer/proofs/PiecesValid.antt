@@ -1,8 +1,7 @@
 -- The commands of a piece are valid, and equal signs before a cell are fewer than its column.
-use Rattle.std.proofs.Common.{◌≡◌, ◌⊎◌, ℕ, zero, suc, ◌+◌, ◌/◌, ◌%◌, ◌<◌, ◌≤◌, Bool, true, false, cond, eqb, ◌&&◌, List, [], ◌∷◌}
-use Rattle.std.proofs.Common.{◌++◌, refl, sym, ap, ◌∙◌, subst, arith, inl, inr}
+use Rattle.std.proofs.Common.{◌≡◌, ℕ, zero, suc, ◌+◌, ◌/◌, ◌%◌, ◌≤◌, Bool, true, false, cond, eqb, ◌&&◌, List, [], ◌∷◌}
+use Rattle.std.proofs.Common.{◌++◌, ap, ◌∙◌, arith, inl, inr}
 use Rattle.std.proofs.lemmas.Bool.{and_parts, cases_Bool, eqb-true}
-use Rattle.std.specs.List.{AllByRecursion}
 use Rattle.cept_codes.specs.declared.cell.Cell.{Cell}
 use Rattle.cept_codes.specs.declared.cell.What.{What}
 use Rattle.cept_codes.specs.declared.cell.What.TheVariants as whats
@@ -18,9 +17,9 @@ use Rattle.cept_parser.proofs.TextualLemmas.{textual-append}
 use Rattle.cept_profile.specs.Valid.{AllValid}
 use Rattle.cept_writer.specs.declared.link.Link.{Link}
 use Rattle.cept_writer.specs.declared.link.Link.TheVariants as links
-use Rattle.cept_writer.specs.SegmentCommands.{PlacedCell, continues, is_next_place, is_same_protection, is_shorter_repeated}
+use Rattle.cept_writer.specs.SegmentCommands.{PlacedCell, is_next_place, is_same_protection, is_shorter_repeated}
 use Rattle.cept_writer.specs.SegmentCommands.{is_written_on, manner_commands, unit_commands}
-use Rattle.cept_writer.specs.SegmentPieces.{beginning_of, closing_before, copies_after, copies_before, ending_of, link_of}
+use Rattle.cept_writer.specs.SegmentPieces.{beginning_of, closing_before, copies_after, copies_before, ending_of}
 use Rattle.cept_writer.specs.PageCommands.{cell_numbered}
 use Rattle.cept_writer.specs.SegmentPieces.{link_to, link_within, opening_after, piece_numbered, piece_of, piece_with, placed}
 use Rattle.cept_writer.specs.SegmentPieces.{protection_off, protection_on, run_before, run_in, run_of, units_of}

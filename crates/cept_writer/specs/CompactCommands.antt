@@ -103,3 +103,7 @@ compact_commands k =
 -- the bytes of the compact text
 abbrev pub compact_text : Core → List ℕ
 compact_text k = spellings (compact_commands k)
+
+-- the bytes of a written page
+abbrev pub page_text : Core → List ℕ
+page_text k = compact_text k

@@ -121,7 +121,3 @@ plain_commands k =
 -- the bytes of the plain text of a page
 abbrev pub plain_text : Core → List ℕ
 plain_text k = spellings (plain_commands k)
-
--- the bytes of a written page
-abbrev pub page_text : Core → List ℕ
-page_text k = plain_text k

@@ -1,48 +1,91 @@
-ghost use Rattle.std.specs.Prelude.{◌≡◌, ◌+◌, ◌≤◌, ◌++◌, ◌==◌, ◌&&◌, length};
+ghost use Rattle.std.specs.Prelude.{◌≡◌, ◌+◌, ◌≤◌, ◌<◌, ◌++◌, ◌==◌, ◌&&◌, length};
 ghost use Rattle.cept_outside.specs.SinkState.{PutsText};
 ghost use Rattle.cept_parser.specs.Spelling.{spellings};
 ghost use Rattle.cept_profile.specs.Colours.{default_paint};
-ghost use Rattle.cept_writer.specs.PageCommands.{dclut_commands, entries_below, entry_commands};
-ghost use Rattle.cept_writer.specs.PageCommands.{with_colour_header};
+ghost use Rattle.cept_writer.specs.CompactCommands.{changed_entry};
+ghost use Rattle.cept_writer.specs.EntryPieces.{entries_after, entry_after, entry_numbered};
+ghost use Rattle.cept_writer.specs.EntryPieces.{entry_piece, is_next_number, number_then};
+ghost use Rattle.cept_writer.specs.EntryPieces.{pieces_in_turn};
+ghost use Rattle.cept_writer.specs.PageCommands.{dclut_commands, with_colour_header};
 
 use crate::list::Commands;
 use crate::put::{put_commands, put_headed};
-use cept_codes::{Command, Paint};
+use cept_codes::{Command, Paint, Rgb};
 use cept_colours::Colours;
 use cept_outside::{Sink, WriteFault};
 use cept_profile::validity_is_kept;
 use cept_repaint::Screen;
 
-/// Adds a colour entry, nothing where it is its default.
-fn add_entry(list: &mut Commands, i: u8, paint: Paint, default: Paint)
+/// Whether this number comes after that of the last entry.
+fn is_next_number(next: Option<u8>, i: u8) -> bool
+    ensures { result ≡ is_next_number next i }
+{
+    match next {
+        None => false,
+        Some(number) => number == i,
+    }
+}
+
+/// Adds a colour entry, after its number where that isn't the next one.
+fn add_entry(list: &mut Commands, next: Option<u8>, i: u8, colour: Rgb)
+    requires { length list.old + 2 ≤ 72 }
+    ensures commands { list.new
+        ≡ list.old ++ entry_after next (record {
+          number = i;
+          colour = colour;
+        }) }
+    ensures len { length list.new ≤ length list.old + 2 }
+{
+    if !is_next_number(next, i) {
+        list.add(Command::ColourStart(i));
+    }
+    list.add(Command::Entry(i, colour));
+}
+
+/// Adds a colour entry where it differs from its default, and answers the number after the last
+/// one then.
+fn add_changed(
+    list: &mut Commands,
+    next: Option<u8>,
+    i: u8,
+    paint: Paint,
+    default: Paint,
+) -> Option<u8>
     requires room { length list.old + 2 ≤ 72 }
+    requires entry { i < 32 }
     requires default { default ≡ default_paint i }
-    ensures commands { list.new ≡ list.old ++ entry_commands i paint }
+    ensures commands { list.new ≡ list.old ++ entries_after next (changed_entry i paint) }
+    ensures next { result ≡ number_then next (changed_entry i paint) }
     ensures len { length list.new ≤ length list.old + 2 }
 {
     if let Paint::Ink(colour) = paint {
         if paint == default {
-            return;
+            return next;
         }
-        list.add(Command::ColourStart(i));
-        list.add(Command::Entry(i, colour));
+        add_entry(list, next, i, colour);
+        return Some(i + 1);
     }
+    next
 }
 
-/// Adds all colour entries.
+/// Adds all colour entries that differ.
 fn add_entries(list: &mut Commands, screen: &Screen)
     requires { length list.old ≤ 8 }
-    ensures { list.new ≡ list.old ++ entries_below screen.now.page.paints 32 }
+    ensures { list.new
+        ≡ list.old ++ pieces_in_turn entry_piece (entry_numbered screen.now.page.paints) 32 }
 {
     let defaults = Colours::new();
+    let mut next = None;
     for i in 0..32u8 {
-        add_entry(list, i, screen.colour(i), defaults.paint(i));
+        next = add_changed(list, next, i, screen.colour(i), defaults.paint(i));
     }
 }
 
 /// Puts the colour entries after their header, nothing where all are their defaults.
 pub fn put_colours<T: Sink>(sink: &mut T, screen: &Screen) -> Result<(), WriteFault>
-    ensures { let text = spellings (with_colour_header (entries_below screen.now.page.paints 32)) in
+    ensures { let entries =
+        pieces_in_turn entry_piece (entry_numbered screen.now.page.paints) 32 in
+        let text = spellings (with_colour_header entries) in
         PutsText (T.state sink.old) text result (T.state sink.new) }
 {
     validity_is_kept();

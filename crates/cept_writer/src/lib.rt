@@ -5,11 +5,13 @@
 mod attributes;
 mod cells;
 mod colours;
+mod last;
 mod law;
 mod link;
 mod list;
 mod page;
 mod pattern;
+mod patterns;
 mod put;
 mod segments;
 mod spelling;
@@ -19,9 +21,8 @@ mod text;
 mod walk;
 
 pub use law::{
-    attributes_make_the_pen, bytes_of_pages_bring_them_back, chains_cut_where_none_goes_on,
-    compact_pages_are_restored, compact_pages_are_spelled, compact_parts_are_written_in_turn,
+    attributes_make_the_pen, chains_cut_where_none_goes_on, compact_pages_are_restored,
+    compact_pages_are_spelled, compact_parts_are_written_in_turn,
     compact_texts_are_no_longer_than_plain_ones, compact_texts_bring_pages_back,
-    pages_are_restored, pages_are_spelled, parts_are_written_in_turn,
 };
 pub use page::write_page;

@@ -42,6 +42,13 @@ impl Commands {
         }
     }
 
+    /// Takes all commands away.
+    pub fn clear(&mut self)
+        ensures { self.new ≡ [] }
+    {
+        self.len = 0;
+    }
+
     /// Adds one command.
     pub fn add(&mut self, command: Command)
         requires { length self.old < 72 }

@@ -1,23 +1,22 @@
-ghost use Rattle.std.specs.Prelude.{◌≡◌, ◌+◌, ◌≤◌, ◌<◌, ◌++◌, ◌∷◌, [], length};
+ghost use Rattle.std.specs.Prelude.{◌≡◌, ◌≤◌, ◌++◌, ◌∷◌, [], length};
 ghost use Rattle.cept_codes.specs.declared.command.C1Set.TheVariants as c1sets;
 ghost use Rattle.cept_codes.specs.declared.command.Command.TheVariants as commands;
-ghost use Rattle.cept_codes.specs.Place.{place_of};
 ghost use Rattle.cept_outside.specs.SinkState.{PutsText};
 ghost use Rattle.cept_parser.specs.Spelling.{spellings};
-ghost use Rattle.cept_profile.specs.PageParts.{pattern_in, row_pen_in};
+ghost use Rattle.cept_profile.specs.PageParts.{row_pen_in};
 ghost use Rattle.cept_profile.specs.State.{core_of};
-ghost use Rattle.cept_writer.specs.CellCommands.{cell_commands};
-ghost use Rattle.cept_writer.specs.PageCommands.{area_commands, cell_numbered, cells_below};
-ghost use Rattle.cept_writer.specs.PageCommands.{implicit_commands, page_text};
-ghost use Rattle.cept_writer.specs.PageCommands.{pattern_commands, patterns_below, row_commands};
+ghost use Rattle.cept_writer.specs.CompactCommands.{page_text};
+ghost use Rattle.cept_writer.specs.PageCommands.{area_commands, implicit_commands, row_commands};
 ghost use Rattle.cept_writer.specs.PageCommands.{rows_below, screen_commands};
 
 use crate::attributes::add_pen;
-use crate::cells::add_cell;
 use crate::colours::{put_colours, put_dclut};
+use crate::law::compact_parts_are_written_in_turn;
 use crate::list::{Commands, Reach};
+use crate::patterns::put_patterns;
 use crate::put::{put_commands, put_headed};
-use cept_codes::{C1Set, Command, Form, Pos};
+use crate::walk::put_segments;
+use cept_codes::{C1Set, Command};
 use cept_outside::{Sink, WriteFault};
 use cept_repaint::Screen;
 
@@ -32,43 +31,6 @@ fn put_beginning<T: Sink>(sink: &mut T, screen: &Screen) -> Result<(), WriteFaul
         Command::Format(screen.rows(), screen.wrap()),
     ];
     put_commands(sink, &list)
-}
-
-/// Puts the pattern of a code, nothing where none is defined.
-fn put_pattern<T: Sink>(sink: &mut T, screen: &Screen, code: u8) -> Result<(), WriteFault>
-    requires from_first { 0x21 ≤ code }
-    requires to_last { code ≤ 0x7E }
-    ensures { let text =
-        spellings (pattern_commands code (pattern_in screen.now.page.patterns code)) in
-        PutsText (T.state sink.old) text result (T.state sink.new) }
-{
-    match screen.pattern(code) {
-        None => Ok(()),
-        Some(pattern) => {
-            let form = Form {
-                w: pattern.w,
-                h: pattern.h,
-                planes: pattern.planes,
-            };
-            let list = [
-                Command::DrcsHeader(false, form),
-                Command::DrcsStart(code),
-                Command::DrcsPattern(code, pattern),
-            ];
-            put_commands(sink, &list)
-        }
-    }
-}
-
-/// Puts the patterns of all codes.
-fn put_patterns<T: Sink>(sink: &mut T, screen: &Screen) -> Result<(), WriteFault>
-    ensures { let text = spellings (patterns_below screen.now.page.patterns 94) in
-        PutsText (T.state sink.old) text result (T.state sink.new) }
-{
-    for i in 0..94u8 {
-        put_pattern(sink, screen, 0x21 + i)?;
-    }
-    Ok(())
 }
 
 /// Puts the attributes of the screen.
@@ -105,30 +67,6 @@ fn put_rows<T: Sink>(sink: &mut T, screen: &Screen) -> Result<(), WriteFault>
     Ok(())
 }
 
-/// Puts the cell with this number, nothing where nothing stands in it.
-fn put_cell<T: Sink>(sink: &mut T, screen: &Screen, n: u16) -> Result<(), WriteFault>
-    requires { n < 960 }
-    ensures { let cell = cell_numbered screen.now.page.cells n in
-        let text = spellings (cell_commands (place_of n) cell.protected cell.what) in
-        PutsText (T.state sink.old) text result (T.state sink.new) }
-{
-    let at = Pos::from_number(n).unwrap();
-    let mut list = Commands::new();
-    add_cell(&mut list, at, &screen.cell(at));
-    put_commands(sink, list.as_slice())
-}
-
-/// Puts all cells in reading order.
-fn put_cells<T: Sink>(sink: &mut T, screen: &Screen) -> Result<(), WriteFault>
-    ensures { let text = spellings (cells_below screen.now.page.cells 960) in
-        PutsText (T.state sink.old) text result (T.state sink.new) }
-{
-    for n in 0..960u16 {
-        put_cell(sink, screen, n)?;
-    }
-    Ok(())
-}
-
 /// Puts the area, nothing where there is none.
 fn put_area<T: Sink>(sink: &mut T, screen: &Screen) -> Result<(), WriteFault>
     ensures { let text = spellings (area_commands screen.now.control.area) in
@@ -159,13 +97,14 @@ pub fn write_page<T: Sink>(screen: &Screen, sink: &mut T) -> Result<(), WriteFau
     ensures { PutsText (T.state sink.old) (page_text (core_of screen.now)) result
         (T.state sink.new) }
 {
+    compact_parts_are_written_in_turn();
     put_beginning(sink, screen)?;
     put_colours(sink, screen)?;
     put_dclut(sink, screen)?;
     put_patterns(sink, screen)?;
     put_screen_pen(sink, screen)?;
     put_rows(sink, screen)?;
-    put_cells(sink, screen)?;
+    put_segments(sink, screen)?;
     put_area(sink, screen)?;
     put_implicit(sink, screen)
 }

@@ -6,10 +6,28 @@ ghost use Rattle.cept_parser.specs.Spelling.{spelling, spellings};
 ghost use Rattle.cept_profile.specs.Valid.{AllValid};
 ghost use Rattle.cept_writer.specs.Codes.{after_header};
 
+use crate::list::Commands;
 use crate::spelling::add_spelling;
 use crate::text::Text;
 use cept_codes::Command;
 use cept_outside::{Sink, WriteFault, put_all};
+
+/// Room in which commands and their bytes are made, of which the old ones count for nothing.
+#[derive(Drop)]
+pub struct Room {
+    pub list: Commands,
+    pub text: Text,
+}
+
+impl Room {
+    /// Room that is empty.
+    pub fn new() -> Room {
+        Room {
+            list: Commands::new(),
+            text: Text::new(),
+        }
+    }
+}
 
 /// Adds the bytes of commands one after the other.
 fn add_spellings(text: &mut Text, commands: &[Command])
@@ -23,15 +41,28 @@ fn add_spellings(text: &mut Text, commands: &[Command])
     }
 }
 
+/// Puts the bytes of commands, in one piece, made in a text whose old bytes count for nothing.
+pub fn put_commands_in<T: Sink>(
+    sink: &mut T,
+    text: &mut Text,
+    commands: &[Command],
+) -> Result<(), WriteFault>
+    requires few { length commands.now ≤ 72 }
+    requires valid { AllValid commands.now }
+    ensures { PutsText (T.state sink.old) (spellings commands.now) result (T.state sink.new) }
+{
+    text.clear();
+    add_spellings(text, commands);
+    put_all(sink, text.as_slice())
+}
+
 /// Puts the bytes of commands, in one piece.
 pub fn put_commands<T: Sink>(sink: &mut T, commands: &[Command]) -> Result<(), WriteFault>
     requires few { length commands.now ≤ 72 }
     requires valid { AllValid commands.now }
     ensures { PutsText (T.state sink.old) (spellings commands.now) result (T.state sink.new) }
 {
-    let mut text = Text::new();
-    add_spellings(&mut text, commands);
-    put_all(sink, text.as_slice())
+    put_commands_in(sink, &mut Text::new(), commands)
 }
 
 /// Puts the bytes of commands behind their header, nothing where it stands alone.

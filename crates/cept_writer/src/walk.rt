@@ -7,8 +7,7 @@ ghost use Rattle.cept_writer.specs.PageCommands.{cell_numbered};
 ghost use Rattle.cept_writer.specs.SegmentPieces.{copies_after, link_to, piece_with, pieces_below};
 
 use crate::link::Link;
-use crate::list::Commands;
-use crate::put::put_commands;
+use crate::put::{Room, put_commands_in};
 use crate::segments::{add_piece, link};
 use cept_codes::{Cell, Pos};
 use cept_outside::{Sink, WriteFault};
@@ -17,6 +16,7 @@ use cept_repaint::Screen;
 /// Puts the piece of the cell with this number.
 fn put_piece<T: Sink>(
     sink: &mut T,
+    room: &mut Room,
     before: Link,
     copies: u8,
     n: u16,
@@ -34,9 +34,9 @@ fn put_piece<T: Sink>(
         PutsText (T.state sink.old) text result (T.state sink.new) }
 {
     let at = Pos::from_number(n).unwrap();
-    let mut list = Commands::new();
-    add_piece(&mut list, before, copies, at, cell, after);
-    put_commands(sink, list.as_slice())
+    room.list.clear();
+    add_piece(&mut room.list, before, copies, at, cell, after);
+    put_commands_in(sink, &mut room.text, room.list.as_slice())
 }
 
 /// The cell after the one with this number, and how it goes on from it; none does after the last.
@@ -76,9 +76,10 @@ pub fn put_segments<T: Sink>(sink: &mut T, screen: &Screen) -> Result<(), WriteF
     let mut cell = screen.cell(Pos::from_number(0).unwrap());
     let mut before = Link::Apart;
     let mut copies = 0u8;
+    let mut room = Room::new();
     for n in 0..960u16 {
         let (next, after) = next_cell(screen, n, &cell);
-        put_piece(sink, before, copies, n, &cell, after)?;
+        put_piece(sink, &mut room, before, copies, n, &cell, after)?;
         copies = copies_after(copies, after);
         before = after;
         cell = next;

@@ -35,6 +35,6 @@ returns g c = λ shelf.
     let h = remaining_at_end plan (closed_items page) in
     loads_read plan page _ _ refl (omega (arith, c.generated_pages_are_short.ensures.bytes c.args.number))
     c.requires.alone _ edited.made edited.stays
-    (restores h (c.pages_are_spelled.ensures.none (core h) (c.validity_is_kept.ensures.core (state h)
-    (c.validity_is_kept.ensures.always h edited.valid))) (c.bytes_of_pages_bring_them_back.ensures.always h edited.valid))
+    (restores h (c.compact_pages_are_spelled.ensures.none (core h) (c.validity_is_kept.ensures.core (state h)
+    (c.validity_is_kept.ensures.always h edited.valid))) (c.compact_texts_bring_pages_back.ensures.always h edited.valid))
     c.end_report.result (c.end_report.ensures plan page edited.stands c.in_ok-bytes.ensures.0)

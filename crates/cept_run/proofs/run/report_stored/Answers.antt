@@ -44,6 +44,6 @@ returns g c = λ script bytes start known lines.
     (g.met.F.Shelf.sound c.args.shelf.now) (rw c.as_str.ensures.value at c.in-Ok.ensures.selects)
     c.in-Ok.ensures.cause.stays c.read_page.ensures.shelf read.bytes read.known (read.taken, read.ended) read.stays read.few lines _
     edited.made edited.stays
-    (restores h (c.pages_are_spelled.ensures.none (core h) (c.validity_is_kept.ensures.core (state h)
-    (c.validity_is_kept.ensures.always h edited.valid))) (c.bytes_of_pages_bring_them_back.ensures.always h edited.valid))
+    (restores h (c.compact_pages_are_spelled.ensures.none (core h) (c.validity_is_kept.ensures.core (state h)
+    (c.validity_is_kept.ensures.always h edited.valid))) (c.compact_texts_bring_pages_back.ensures.always h edited.valid))
     c.end_report.result (c.end_report.ensures plan read.bytes edited.stands read.count_is)

@@ -2,14 +2,14 @@ use Rattle.std.proofs.Common.{false, ◌++◌, ◌∷◌, [], ◌∙◌, ap, sym
 use Rattle.cept_codes.specs.declared.command.Command.TheVariants as commands
 use Rattle.cept_profile.specs.State.{core_of}
 use Rattle.cept_profile.specs.Valid.{AllValid}
-use Rattle.cept_writer.specs.PageCommands.{entries_below}
+use Rattle.cept_writer.specs.EntryPieces.{entry_numbered, entry_piece, pieces_in_turn}
 use Rattle.cept_writer.proofs.ColoursPut.{colours_headed}
-use Rattle.cept_writer.proofs.PageCommandsValid.{entries_valid}
+use Rattle.cept_writer.proofs.EntriesPut.{entries_valid}
 use Rattle.cept_writer.proofs.colours.put_colours.Goals as goal
 
 pub put_headed-requires-clause-valid : goal.put_headed-requires-clause-valid
 put_headed-requires-clause-valid g c =
-    let entries = entries_below c.args.screen.now.page.paints 32 in
+    let entries = pieces_in_turn entry_piece (entry_numbered c.args.screen.now.page.paints) 32 in
     let is = c.as_slice.ensures.commands ∙ c.add_entries.ensures
     ∙ ap (λ l. l ++ entries) (c.add.ensures.commands ∙ ap (λ l. l ++ commands.ColourHeader false ∷ []) c.new-list.ensures) in
     subst AllValid (sym is)
@@ -17,7 +17,7 @@ put_headed-requires-clause-valid g c =
 
 pub returns : goal.returns
 returns g c =
-    let entries = entries_below c.args.screen.now.page.paints 32 in
+    let entries = pieces_in_turn entry_piece (entry_numbered c.args.screen.now.page.paints) 32 in
     let is = c.as_slice.ensures.commands ∙ c.add_entries.ensures
     ∙ ap (λ l. l ++ entries) (c.add.ensures.commands ∙ ap (λ l. l ++ commands.ColourHeader false ∷ []) c.new-list.ensures) in
     rw (sym (colours_headed entries)) (rw is at c.put_headed.ensures)

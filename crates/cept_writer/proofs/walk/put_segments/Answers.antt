@@ -1,14 +1,11 @@
-use Rattle.std.proofs.Common.{◌≡◌, ℕ, suc, ◌+◌, ◌∙◌, ap, sym, subst, refl, arith}
+use Rattle.std.proofs.Common.{◌≡◌, ℕ, suc, ◌+◌, ◌∙◌, ap, sym, refl, arith}
 use Rattle.std.proofs.lemmas.Option.{MatchOption-at_some}
 use Rattle.std.proofs.lemmas.Result.{err_from_is_err_and}
-use Rattle.cept_codes.specs.declared.cell.Cell.{Cell}
 use Rattle.cept_codes.specs.Cell.{blank_cell}
-use Rattle.cept_codes.specs.Place.{Place, place_of}
+use Rattle.cept_codes.specs.Place.{Place}
 use Rattle.cept_codes.specs.Table.{value_at}
-use Rattle.cept_outside.specs.SinkState.{PutsText}
 use Rattle.cept_parser.specs.Spelling.{spellings}
-use Rattle.cept_writer.specs.declared.link.Link.{Link}
-use Rattle.cept_writer.specs.SegmentPieces.{copies_after, copies_before, link_to, piece_numbered, piece_with, pieces_below}
+use Rattle.cept_writer.specs.SegmentPieces.{copies_after, copies_before, link_to, piece_numbered, pieces_below}
 use Rattle.cept_writer.proofs.PiecesValid.{copies_low, piece_is}
 use Rattle.cept_writer.proofs.PagePut.{handed_on, part_is}
 use Rattle.cept_writer.proofs.TextsPut.{Gains-next, Gains-none, PutsText-all, PutsText-next_failed}

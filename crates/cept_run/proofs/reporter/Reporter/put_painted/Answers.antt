@@ -4,7 +4,7 @@ use Rattle.cept_parser.specs.Items.{closed_items}
 use Rattle.cept_profile.specs.State.{State, core_of}
 use Rattle.cept_report.specs.Screen.{screen_text, cells_text}
 use Rattle.cept_report.specs.Text.{load_line}
-use Rattle.cept_writer.specs.PageCommands.{page_text}
+use Rattle.cept_writer.specs.CompactCommands.{page_text}
 use Rattle.cept_run.specs.declared.words.Asked.{Asked}
 use Rattle.cept_run.specs.declared.words.End.TheVariants as ends
 use Rattle.cept_run.specs.Events.{painted_at}
