@@ -3,7 +3,5 @@
 #![tactic(auto)]
 
 mod grid;
-#[cfg(test)]
-mod tests;
 
 pub use grid::Grid;

@@ -24,16 +24,3 @@ impl<T: Drop> From<AllocFailed<T>> for NoMemory {
         NoMemory
     }
 }
-
-#[cfg(test)]
-mod tests {
-    use super::*;
-    use std::test::Fail;
-
-    #[test]
-    fn prints_out_of_memory(rt: HostRuntime) -> Result<(), Fail> {
-        let text = format!(in rt.alloc(); "{}", NoMemory)?;
-        assert_eq!(rt; text.as_str(), "out of memory");
-        Ok(())
-    }
-}

@@ -12,8 +12,6 @@ mod motion;
 mod pen;
 mod service;
 mod shift;
-#[cfg(test)]
-mod tests;
 mod working;
 
 pub use cept_codes::Stroke;

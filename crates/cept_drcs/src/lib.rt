@@ -8,8 +8,6 @@ mod lines;
 mod loader;
 mod patterns;
 mod strips;
-#[cfg(test)]
-mod tests;
 mod words;
 
 pub use law::{

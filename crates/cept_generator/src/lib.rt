@@ -5,8 +5,6 @@
 mod draws;
 mod generator;
 mod law;
-#[cfg(test)]
-mod tests;
 mod units;
 
 pub use generator::Generator;

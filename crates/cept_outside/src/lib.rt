@@ -17,8 +17,6 @@ mod shelf;
 mod sink;
 mod std_sink;
 mod steps;
-#[cfg(test)]
-mod tests;
 
 pub use fault::{Failed, WriteFault};
 pub use file_shelf::FileShelf;

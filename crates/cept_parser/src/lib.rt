@@ -15,12 +15,6 @@ mod pending;
 mod reader;
 mod runs;
 pub mod spelling_laws;
-#[cfg(test)]
-mod sweep;
-#[cfg(test)]
-mod tables;
-#[cfg(test)]
-mod tests;
 mod units;
 
 pub use closed::Closed;

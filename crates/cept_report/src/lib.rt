@@ -13,6 +13,6 @@ mod signs;
 mod tests;
 
 pub use put::{
-    put_cells, put_changes, put_changes_if, put_check, put_load, put_nothing, put_refusal,
-    put_screen, put_script_fault,
+    put_cells, put_changes, put_changes_if, put_check, put_line, put_load, put_nothing,
+    put_refusal, put_screen, put_script_fault,
 };

@@ -1,4 +1,5 @@
 ghost use Rattle.std.specs.Prelude.{◌≡◌, ◌≤◌, [], false, IsOk, if◌then◌else◌};
+ghost use Rattle.cept_codes.specs.Look.{IsValidLook};
 ghost use Rattle.cept_codes.specs.Place.{number};
 ghost use Rattle.cept_outside.specs.SinkState.{PutsText};
 ghost use Rattle.cept_profile.specs.Changes.{look_at, marked_looks};
@@ -14,7 +15,7 @@ use crate::lines::{
     script_fault_line,
 };
 use crate::signs::row_line;
-use cept_codes::{LineReason, Pos, Reason};
+use cept_codes::{LineReason, Look, Pos, Reason};
 use cept_outside::{Sink, WriteFault, put_all};
 use cept_repaint::{Glass, Marks, Screen};
 
@@ -82,8 +83,17 @@ fn put_change<T: Sink>(sink: &mut T, label: u64, at: Pos, screen: &Screen) -> Re
     ensures { let text = change_line label at (look_at (looks_of (core_of screen.now)) at) in
         PutsText (T.state sink.old) text result (T.state sink.new) }
 {
+    put_line(sink, label, at, &screen.look(at))
+}
+
+/// Puts the line of a place: the label, the place, and this look. After `WriteFault` a part of it was
+/// put, from its front on, and not the whole.
+pub fn put_line<T: Sink>(sink: &mut T, label: u64, at: Pos, look: &Look) -> Result<(), WriteFault>
+    requires { IsValidLook look.now }
+    ensures { PutsText (T.state sink.old) (change_line label at look.now) result (T.state sink.new) }
+{
     let mut line = Line::new();
-    add_change_line(&mut line, label, at, &screen.look(at));
+    add_change_line(&mut line, label, at, look);
     put_all(sink, line.as_slice())
 }
 

@@ -3,8 +3,6 @@
 
 mod law;
 mod row_order;
-#[cfg(test)]
-mod tests;
 
 pub use law::{
     rows_stand_in_slots, rows_stay_in_slots, slots_hold_one_row, turned_rows_are_shifted_rows,

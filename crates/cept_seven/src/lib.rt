@@ -4,8 +4,6 @@
 
 mod from_seven;
 mod law;
-#[cfg(test)]
-mod tests;
 mod to_seven;
 
 pub use from_seven::{FromSeven, Heard};

@@ -3,8 +3,6 @@
 
 mod part;
 mod row;
-#[cfg(test)]
-mod tests;
 
 pub use cept_codes::Part;
 pub use row::{Parts, Wants, tile_row};

@@ -1,0 +1,6 @@
+mod FoundFlashing
+mod LooksKept
+mod MarkedInTurn
+mod ShownPlaces
+mod TurnedPlaces
+mod TurningLooks

@@ -1,0 +1,3 @@
+pub mod Flashing
+pub mod Phases
+pub mod SeenFlashing

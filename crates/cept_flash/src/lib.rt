@@ -1,0 +1,10 @@
+//! A screen whose signs flash: its looks at each of six phases, and which places change from one phase to the next. It
+//! knows no commands, no bytes and no clock.
+#![tactic(auto)]
+
+mod blink;
+mod phases;
+#[cfg(test)]
+mod tests;
+
+pub use blink::Blink;
