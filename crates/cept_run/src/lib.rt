@@ -11,7 +11,5 @@ mod page;
 mod reporter;
 pub mod run;
 mod script;
-#[cfg(test)]
-mod tests;
 mod turning;
 mod words;

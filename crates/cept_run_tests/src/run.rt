@@ -1,13 +1,13 @@
-use crate::run::{Status, run, run_quietly};
 use cept_codes::{Look, Pos, Shape};
 use cept_outside::{MemShelf, MemSink, QuietShelf, QuietSink};
 use cept_repaint::{Glass, GridGlass, Screen};
+use cept_run::run::{Status, run, run_quietly};
 use std::alloc::{AllocError, Global};
 use std::process::Abort;
 use std::test::Fail;
 
 /// These words, as a program is given them.
-fn words(alloc: Global, all: &[&str]) -> Result<Vec<String>, AllocError> {
+pub(crate) fn words(alloc: Global, all: &[&str]) -> Result<Vec<String>, AllocError> {
     let mut words = Vec::new(alloc);
     for word in all {
         words.push(String::from_str(alloc, word)?)?;

@@ -1,0 +1,8 @@
+//! Tests of whole runs: worked pages and scripts, an outside that fails, and hostile pages. Nothing
+//! calls it.
+#![tactic(auto)]
+
+#[cfg(test)]
+mod hostile;
+#[cfg(test)]
+mod run;
