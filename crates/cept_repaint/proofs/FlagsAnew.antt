@@ -1,7 +1,7 @@
 -- Flags of rows after old values were put back.
 use Rattle.std.proofs.Common.{◌≡◌, ◌≢◌, ℕ, ◌+◌, ◌≤◌, Bool, false, inl, inr, Option, List}
-use Rattle.std.proofs.Common.{length, unwrap_or, refl, sym, ap, subst, ◌∙◌, arith}
-use Rattle.std.proofs.lemmas.Bool.{cases_eq}
+use Rattle.std.proofs.Common.{length, is_some, None, Some, unwrap_or, refl, sym, ap, subst, ◌∙◌, arith}
+use Rattle.std.proofs.lemmas.Bool.{cases_eq, true≢false}
 use Rattle.cept_codes.specs.declared.attribute.Pen.{Pen}
 use Rattle.cept_codes.specs.declared.cell.Cell.{Cell}
 use Rattle.cept_codes.specs.declared.cell.What.{What}
@@ -15,7 +15,8 @@ use Rattle.cept_profile.specs.OldValues.{OldValues, old_cell, old_row_pen, page_
 use Rattle.cept_profile.specs.PageParts.{row_pen_in}
 use Rattle.cept_profile.specs.Serial.{is_marker}
 use Rattle.cept_profile.specs.State.{Page}
-use Rattle.cept_repaint.specs.FlagsAnew.{AreFlagsMade, IsFlagMade, IsRowUnnoted, IsSingleRowAnew, IsSoOrStays}
+use Rattle.cept_repaint.specs.Exchanged.{HasSameLocations}
+use Rattle.cept_repaint.specs.FlagsAnew.{AreFlagsMade, IsFlagMade, IsRowUnnoted, IsSingle, IsSingleRowAnew, IsSoOrStays}
 use Rattle.cept_repaint.specs.FlagsAnew.{IsUnmarkedRow, RowHasNone, row_in_table}
 use Rattle.cept_repaint.specs.MarkedRows.{HasNone, IsKeptPage, IsSingleRow}
 
@@ -98,7 +99,42 @@ single p old was r low high before (inr stays) = record {
   pen = ap (λ (x : Pen). is_double_set x.size) (pen_stays p old r low high stays.1) ∙ (before stays.0).pen;
 }
 
-pub IsKeptPage-unwound : (p q : Page) (old : OldValues) (marked sized new_marked new_sized : List Bool)
+-- nothing is noted of a row where nothing is of the same locations
+none_there : (o : Option Cell) → is_some o ≡ false → o ≡ None
+none_there None none = refl
+none_there (Some x) none = absurd (true≢false none)
+
+no_pen_there : (o : Option Pen) → is_some o ≡ false → o ≡ None
+no_pen_there None none = refl
+no_pen_there (Some x) none = absurd (true≢false none)
+
+unnoted_before : (old noted : OldValues) (r : ℕ) → HasSameLocations old noted → 1 ≤ r → r ≤ 24
+    → IsRowUnnoted noted r → IsRowUnnoted old r
+unnoted_before old noted r same low high none = record {
+  cells = λ c on.
+      none_there (old_cell old r c) (sym (same.cells r c on) ∙ ap (λ (o : Option Cell). is_some o) (none.cells c on));
+  pen = no_pen_there (old_row_pen old r)
+      (sym (same.row_pens r low high) ∙ ap (λ (o : Option Pen). is_some o) none.pen);
+}
+
+-- what is so, or is as it was where nothing is noted, by other values of the same locations
+so_or_stays : (IsSo : Type 0) (old noted : OldValues) (was : List Bool) (r : ℕ) → HasSameLocations old noted → 1 ≤ r
+    → r ≤ 24 → IsSoOrStays IsSo noted was r → IsSoOrStays IsSo old was r
+so_or_stays IsSo old noted was r same low high (inl so) = inl so
+so_or_stays IsSo old noted was r same low high (inr stays) =
+    inr (stays.0, unnoted_before old noted r same low high stays.1)
+
+AreFlagsMade-same : (IsSo : ℕ → Type 0) (old noted : OldValues) (n : ℕ) (was now : List Bool)
+    → HasSameLocations old noted → AreFlagsMade (λ r. IsSoOrStays (IsSo r) noted was r) n was now
+    → AreFlagsMade (λ r. IsSoOrStays (IsSo r) old was r) n was now
+AreFlagsMade-same IsSo old noted n was now same m = record {
+  rows = m.rows;
+  made = λ r low high below unset.
+      so_or_stays (IsSo r) old noted was r same low high (m.made r low high below unset);
+  left = m.left;
+}
+
+IsKeptPage-unwound : (p q : Page) (old : OldValues) (marked sized new_marked new_sized : List Bool)
     (cells : List (List Cell)) (pens : List Pen) (n : ℕ) → IsKeptPage p marked sized → q ≡ page_unwound p old
     → q.cells ≡ cells → q.row_pens ≡ pens → 25 ≤ n
     → AreFlagsMade (λ r. IsUnmarkedRow cells old marked r) n marked new_marked
@@ -129,3 +165,14 @@ IsKeptPage-unwound p q old marked sized new_marked new_sized cells pens n kept i
             (ss.made r low high (omega arith) unset)));
       };
     })
+
+pub IsKeptPage-noted : (p q : Page) (old noted : OldValues) (marked sized new_marked new_sized : List Bool)
+    (cells : List (List Cell)) (pens : List Pen) (n : ℕ) → HasSameLocations old noted → IsKeptPage p marked sized
+    → q ≡ page_unwound p old → q.cells ≡ cells → q.row_pens ≡ pens → 25 ≤ n
+    → AreFlagsMade (λ r. IsUnmarkedRow cells noted marked r) n marked new_marked
+    → AreFlagsMade (λ r. IsSingleRowAnew cells pens noted sized r) n sized new_sized
+    → IsKeptPage q new_marked new_sized
+IsKeptPage-noted p q old noted marked sized new_marked new_sized cells pens n same kept is same_cells same_pens all ms ss =
+    IsKeptPage-unwound p q old marked sized new_marked new_sized cells pens n kept is same_cells same_pens all
+    (AreFlagsMade-same (λ r. RowHasNone is_marker (row_in_table cells r)) old noted n marked new_marked same ms)
+    (AreFlagsMade-same (λ r. IsSingle (row_in_table cells r) (row_pen_in pens r)) old noted n sized new_sized same ss)

@@ -1,3 +1,5 @@
+pub mod ExchangedStates
+pub mod ExchangedValues
 pub mod FlagsAnew
 pub mod UnwoundPages
 pub mod PutBack

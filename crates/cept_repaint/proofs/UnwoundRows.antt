@@ -14,6 +14,7 @@ use Rattle.cept_codes.specs.Place.{OnScreen}
 use Rattle.cept_codes.specs.Table.{entry, list_by_index, value_at}
 use Rattle.cept_codes.proofs.Laws.{IsTable-table, entry-list_by_index, entry_from, list_by_index-entry, same_indexed}
 use Rattle.cept_codes.proofs.Laws.{value_at-table}
+use Rattle.cept_profile.specs.Control.{ControlState}
 use Rattle.cept_profile.specs.Edges.{Edges, edges_of_core, is_last}
 use Rattle.cept_profile.specs.Look.{contents_of_row, look, look_in_row, looks_of, own_look, own_size, size_in_row}
 use Rattle.cept_profile.specs.OldValues.{OldValues, page_unwound}
@@ -196,3 +197,11 @@ rows_unwound-le old before after was now =
       count_by-le-length (λ r. is_unwound old before after r || is_covered_otherwise was r now r) (range_with_len 1 24),
       length-range_with_len 1 24,
     )
+
+-- as many whatever is noted of control
+pub rows_unwound-control : (old : OldValues) (control : Option ControlState) (noted : OldValues) (before after : Edges)
+    (was now : List (List Look)) → noted ≡ record old { control = control }
+    → rows_unwound noted before after was now ≡ rows_unwound old before after was now
+unfolding rows_unwound is_unwound notes_row notes_screen
+rows_unwound-control old control noted before after was now is =
+    ap (λ (v : OldValues). rows_unwound v before after was now) is

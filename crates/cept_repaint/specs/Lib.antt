@@ -18,3 +18,4 @@ pub mod ValidGrid
 pub mod PutBack
 pub mod FlagsAnew
 pub mod Restored
+pub mod Exchanged

@@ -1,5 +1,5 @@
 ghost use Rattle.std.specs.Prelude.{◌≡◌, ◌≤◌, ◌<◌, ◌-◌, ◌==◌, ◌&&◌, ℕ, Bool, true, false, nat_le, if◌then◌else◌};
-ghost use Rattle.std.specs.Prelude.{IfOk, IfSome, List, Option, None, [], is_some, length, slice_index_or};
+ghost use Rattle.std.specs.Prelude.{IfOk, IfSome, List, Option, None, [], is_some, length, slice_index_or, unwrap_or};
 ghost use Rattle.std.specs.List.{list_any};
 ghost use Rattle.cept_codes.specs.declared.cell.Cell.{Cell};
 ghost use Rattle.cept_codes.specs.Attribute.{IsEntry};
@@ -13,13 +13,17 @@ ghost use Rattle.cept_profile.specs.NotedStrokes.{with_stroke};
 ghost use Rattle.cept_profile.specs.OldValues.{old_cell, old_dclut, old_paint, old_pattern, old_row_pen};
 ghost use Rattle.cept_profile.specs.OldValues.{first_noted, no_old_values, noted_where, unwound, with_cells};
 ghost use Rattle.cept_profile.specs.OldValues.{with_dclut, with_paints, with_patterns, with_row_pens, with_screen_pen};
-ghost use Rattle.cept_profile.specs.OldValues.{with_control};
+ghost use Rattle.cept_profile.specs.OldValues.{page_unwound, with_control};
 ghost use Rattle.cept_profile.specs.PageParts.{dclut_in, list_of_codes, paint_in, pattern_in, row_pen_in};
-ghost use Rattle.cept_profile.specs.Valid.{IsValidState};
+ghost use Rattle.cept_profile.specs.Valid.{IsValidPage, IsValidState};
 ghost use Rattle.cept_repaint.specs.Delta.{HasPlaces};
+ghost use Rattle.cept_repaint.specs.Exchanged.{noted_instead, page_exchanged};
 ghost use Rattle.cept_repaint.specs.Noter.{page_with};
 ghost use Rattle.cept_repaint.specs.Restored.{notes_cells, notes_row, notes_screen};
 
+use crate::exchanging::{
+    exchange_cells, exchange_colours, exchange_patterns, exchange_row_pens, exchange_value,
+};
 use crate::screen::Screen;
 use cept_cells::Grid;
 use cept_codes::{Cell, NoMemory, Paint, Pattern, Pen, Pos, Stroke};
@@ -442,6 +446,44 @@ impl Delta {
         ensures { result ≡ self.now.control }
     {
         self.control
+    }
+
+    /// Exchanges the old values of a page with those of the page of these parts.
+    pub(crate) fn exchange_page(
+        &mut self,
+        grid: &mut Grid,
+        row_pens: &mut [Pen; 24],
+        screen_pen: &mut Pen,
+        colours: &mut Colours,
+        patterns: &mut Patterns,
+    )
+        requires is { IsTable grid.old }
+        requires rows { length row_pens.old ≡ 24 }
+        requires entries { length colours.old.paints ≡ 32 }
+        requires names { length colours.old.dclut ≡ 4 }
+        requires valid { IsValidPage (page_unwound (page_with grid.old row_pens.old screen_pen.old
+            colours.old patterns.old) self.old) }
+        ensures page { page_with grid.new row_pens.new screen_pen.new colours.new patterns.new
+            ≡ page_unwound (page_with grid.old row_pens.old screen_pen.old colours.old
+            patterns.old) self.old }
+        ensures noted { self.new
+            ≡ page_exchanged (page_with grid.old row_pens.old screen_pen.old colours.old
+            patterns.old) self.old }
+    {
+        exchange_cells(&mut self.cells, &self.rows, grid);
+        exchange_row_pens(&mut self.row_pens, self.penned, row_pens);
+        *screen_pen = exchange_value(&mut self.screen_pen, *screen_pen);
+        exchange_colours(&mut self.paints, &mut self.dclut, self.coloured, colours);
+        exchange_patterns(&mut self.patterns, self.patterned, patterns);
+    }
+
+    /// Exchanges the old control with this one.
+    pub(crate) fn exchange_control(&mut self, control: &mut Control)
+        ensures control { control.new ≡ unwrap_or self.old.control control.old }
+        ensures noted { self.new
+            ≡ record self.old { control = noted_instead self.old.control control.old } }
+    {
+        *control = exchange_value(&mut self.control, *control);
     }
 
     /// Notes the control.

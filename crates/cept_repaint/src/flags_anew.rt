@@ -3,8 +3,9 @@ ghost use Rattle.cept_codes.specs.Cell.{blank_cell};
 ghost use Rattle.cept_codes.specs.Table.{entry};
 ghost use Rattle.cept_profile.specs.Look.{is_double_set, sets_double_size};
 ghost use Rattle.cept_profile.specs.Serial.{is_marker};
-ghost use Rattle.cept_profile.specs.OldValues.{page_unwound};
+ghost use Rattle.cept_profile.specs.OldValues.{OldValues, page_unwound};
 ghost use Rattle.cept_profile.specs.State.{Page};
+ghost use Rattle.cept_repaint.specs.Exchanged.{HasSameLocations};
 ghost use Rattle.cept_repaint.specs.FlagsAnew.{IsFlagMade, IsSingle, IsSingleRowAnew, IsUnmarkedRow, RowHasNone};
 ghost use Rattle.cept_repaint.specs.MarkedRows.{IsKeptPage};
 
@@ -13,7 +14,8 @@ use crate::row_flags::{is_double, is_marker, sets_double_size};
 use cept_cells::Grid;
 use cept_codes::{Cell, Pen};
 
-/// Makes the flags of all rows anew of which old values were put back.
+/// Makes the flags of all rows anew of which old values were put back. The delta notes the same
+/// locations as these.
 pub(crate) fn flag_unwound(
     delta: &Delta,
     grid: &Grid,
@@ -24,7 +26,8 @@ pub(crate) fn flag_unwound(
     requires rows { length row_pens.now ≡ 24 }
     requires marked_rows { length marked.old ≡ 24 }
     requires sized_rows { length sized.old ≡ 24 }
-    ensures { (p q : Page) → IsKeptPage p marked.old sized.old → q ≡ page_unwound p delta.now
+    ensures { (p q : Page) (old : OldValues) → HasSameLocations old delta.now
+        → IsKeptPage p marked.old sized.old → q ≡ page_unwound p old
         → q.cells ≡ grid.now → q.row_pens ≡ row_pens.now → IsKeptPage q marked.new sized.new }
 {
     for row in 1..25u8 {

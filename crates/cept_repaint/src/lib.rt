@@ -5,6 +5,7 @@
 mod altered_rows;
 mod compared_rows;
 mod delta;
+mod exchanging;
 mod flags_anew;
 mod followed_rows;
 mod glass;

@@ -13,6 +13,7 @@ ghost use Rattle.cept_profile.specs.State.{Core, page, page_after};
 ghost use Rattle.cept_profile.specs.Valid.{IsValidPage};
 ghost use Rattle.cept_repaint.specs.Drawn.{IsDrawn};
 ghost use Rattle.cept_repaint.specs.Due.{pens_of};
+ghost use Rattle.cept_repaint.specs.Exchanged.{page_exchanged};
 ghost use Rattle.cept_repaint.specs.Kept.{core_on, row_beneath};
 ghost use Rattle.cept_repaint.specs.MarkedRows.{StandsAlone};
 ghost use Rattle.cept_repaint.specs.Named.{names_beneath};
@@ -252,6 +253,28 @@ impl Page {
     {
         unwind_page(
             delta,
+            &mut self.grid,
+            &mut self.row_pens,
+            &mut self.screen_pen,
+            &mut self.colours,
+            &mut self.patterns,
+        );
+        flag_unwound(
+            delta,
+            &self.grid,
+            &self.row_pens,
+            &mut self.marked,
+            &mut self.sized,
+        );
+    }
+    /// Exchanges old values with its own, where there are such.
+    pub(crate) fn exchange(&mut self, delta: &mut Delta)
+        requires was_valid { IsValidPage self.old }
+        requires valid { IsValidPage (page_unwound self.old delta.old) }
+        ensures page { self.new ≡ page_unwound self.old delta.old }
+        ensures noted { delta.new ≡ page_exchanged self.old delta.old }
+    {
+        delta.exchange_page(
             &mut self.grid,
             &mut self.row_pens,
             &mut self.screen_pen,

@@ -1,9 +1,13 @@
-ghost use Rattle.std.specs.Prelude.{◌≡◌, ◌≤◌, ◌+◌};
+ghost use Rattle.std.specs.Prelude.{◌≡◌, ◌≤◌, ◌+◌, length};
 ghost use Rattle.cept_codes.specs.Table.{list_by_index};
 ghost use Rattle.cept_profile.specs.Changes.{differences};
 ghost use Rattle.cept_profile.specs.OldValues.{page_unwound};
+ghost use Rattle.cept_profile.specs.Edges.{edges_of_core};
+ghost use Rattle.cept_profile.specs.State.{Core};
 ghost use Rattle.cept_profile.specs.Valid.{IsValidPage};
-ghost use Rattle.cept_repaint.specs.Kept.{AreEdges, AreLooksOn};
+ghost use Rattle.cept_repaint.specs.Due.{at_rest, OtherRowsStay, rows_due};
+ghost use Rattle.cept_repaint.specs.Exchanged.{page_exchanged};
+ghost use Rattle.cept_repaint.specs.Kept.{AreEdges, AreLooksOn, core_on};
 ghost use Rattle.cept_repaint.specs.Named.{AreNamedOn};
 ghost use Rattle.cept_repaint.specs.Restored.{is_unwound, notes_screen, rows_unwound};
 
@@ -45,10 +49,65 @@ pub(crate) fn unwind<L: Ledger>(
     ensures cost { steps.new
         ≡ steps.old + rows_unwound delta.now before.now after.now kept.old kept.new }
 {
-    marks.clear();
-    page.unwind(delta);
     let rows = rows_unwound(delta, before, after);
-    refresh_rows(page, &rows, after, kept, fresh, marks, steps);
+    page.unwind(delta);
+    refresh_unwound(page, &rows, after, kept, names, fresh, marks, steps);
+}
+
+/// Exchanges old values with those of the page, and does the same otherwise.
+pub(crate) fn exchange<L: Ledger>(
+    page: &mut Page,
+    delta: &mut Delta,
+    before: &Edges,
+    after: &Edges,
+    kept: &mut KeptRows,
+    names: &mut KeptNames,
+    fresh: &mut RowLooks,
+    marks: &mut Marks,
+    steps: &mut Steps<L>,
+)
+    requires from { AreEdges before.now }
+    requires to { AreEdges after.now }
+    requires kept { AreLooksOn kept.old page.old before.now }
+    requires was_valid { IsValidPage page.old }
+    requires valid { IsValidPage (page_unwound page.old delta.old) }
+    ensures page { page.new ≡ page_unwound page.old delta.old }
+    ensures noted { delta.new ≡ page_exchanged page.old delta.old }
+    ensures kept { AreLooksOn kept.new page.new after.now }
+    ensures named { AreNamedOn names.new page.new after.now }
+    ensures marks { marks.new ≡ differences kept.old kept.new }
+    ensures cost { steps.new
+        ≡ steps.old + rows_unwound delta.old before.now after.now kept.old kept.new }
+{
+    let rows = rows_unwound(delta, before, after);
+    page.exchange(delta);
+    refresh_unwound(page, &rows, after, kept, names, fresh, marks, steps);
+}
+
+/// Resolves the flagged rows of a page and those that are covered otherwise than before, and keeps
+/// all looks. Marks the places at which these differ from those before, and no others.
+fn refresh_unwound<L: Ledger>(
+    page: &Page,
+    flags: &[bool; 24],
+    edges: &Edges,
+    kept: &mut KeptRows,
+    names: &mut KeptNames,
+    fresh: &mut RowLooks,
+    marks: &mut Marks,
+    steps: &mut Steps<L>,
+)
+    requires flags { length flags.now ≡ 24 }
+    requires valid { IsValidPage page.now }
+    requires edges { AreEdges edges.now }
+    requires others { (k : Core) → edges_of_core k ≡ edges.now
+        → OtherRowsStay flags.now at_rest kept.old (core_on k page.now) }
+    ensures kept { AreLooksOn kept.new page.now edges.now }
+    ensures named { AreNamedOn names.new page.now edges.now }
+    ensures marks { marks.new ≡ differences kept.old kept.new }
+    ensures cost { steps.new ≡ steps.old + rows_due flags.now at_rest kept.old kept.new }
+{
+    marks.clear();
+    refresh_rows(page, flags, edges, kept, fresh, marks, steps);
     names.forget_all();
 }
 

@@ -15,6 +15,7 @@ ghost use Rattle.cept_profile.specs.State.{state, state_after, core_of};
 ghost use Rattle.cept_profile.specs.Tiling.{column_entry, part_at};
 ghost use Rattle.cept_profile.specs.Valid.{IsValidState};
 ghost use Rattle.cept_repaint.specs.Applied.{IsApplied, IsRepainted};
+ghost use Rattle.cept_repaint.specs.Exchanged.{HasSameLocations, exchanged};
 ghost use Rattle.cept_repaint.specs.Kept.{cell_at};
 ghost use Rattle.cept_repaint.specs.Marks.{no_marks};
 ghost use Rattle.cept_repaint.specs.Noter.{page_behind, state_behind};
@@ -29,7 +30,7 @@ use crate::noter::{NoNotes, Noter};
 use crate::page::Page;
 use crate::painting::paint_marked;
 use crate::redraw::redraw;
-use crate::restoring::unwind;
+use crate::restoring::{exchange, unwind};
 use arrayvec::ArrayVec;
 use cept_codes::{Cell, Command, Look, NoMemory, Paint, Pattern, Pen, Pos, Stroke};
 use cept_control::Control;
@@ -379,6 +380,66 @@ impl Screen {
         self.control = delta.old_control().unwrap_or(self.control);
         let after = self.control.edges();
         unwind(
+            &mut self.page,
+            delta,
+            &before,
+            &after,
+            &mut self.rows,
+            &mut self.names,
+            &mut self.fresh,
+            marks,
+            steps,
+        );
+    }
+    /// Puts the old values of a delta back as `restore` does, and notes in their places in the delta
+    /// the values that stood there: at the same locations the delta then unwinds the new state to
+    /// the old one.
+    pub fn exchange<G: Glass, L: Ledger>(
+        &mut self,
+        delta: &mut Delta,
+        glass: &mut G,
+        marks: &mut Marks,
+        steps: &mut Steps<L>,
+    )
+        requires { IsValidState (unwound self.old delta.old) }
+        ensures state { self.new ≡ unwound self.old delta.old }
+        ensures exchanged { delta.new ≡ exchanged self.old delta.old }
+        ensures unwound { unwound self.new delta.new ≡ self.old }
+        ensures again { exchanged self.new delta.new ≡ delta.old }
+        ensures was_valid { IsValidState self.old }
+        ensures locations { HasSameLocations delta.old delta.new }
+        ensures repainted { IsRepainted self.old self.new marks.new (G.state glass.old)
+            (G.state glass.new) }
+        ensures cost { steps.new
+            ≤ steps.old + rows_restored delta.old (core_of self.old) (core_of self.new) }
+        ensures at_most_24 { steps.new ≤ steps.old + 24 }
+    {
+        delta.places_by_type();
+        self.exchange_values(delta, marks, steps);
+        paint_marked(self, glass, marks);
+    }
+
+    /// Exchanges the old values with those of the screen, and marks the places whose look changes.
+    fn exchange_values<L: Ledger>(
+        &mut self,
+        delta: &mut Delta,
+        marks: &mut Marks,
+        steps: &mut Steps<L>,
+    )
+        requires { IsValidState (unwound self.old delta.old) }
+        ensures state { self.new ≡ unwound self.old delta.old }
+        ensures exchanged { delta.new ≡ exchanged self.old delta.old }
+        ensures was_valid { IsValidState self.old }
+        ensures marks { marks.new
+            ≡ differences (looks_of (core_of self.old)) (looks_of (core_of self.new)) }
+        ensures cost { steps.new
+            ≤ steps.old + rows_restored delta.old (core_of self.old) (core_of self.new) }
+        ensures at_most_24 { steps.new ≤ steps.old + 24 }
+    {
+        let before = self.control.edges();
+        delta.exchange_control(&mut self.control);
+        let after = self.control.edges();
+        exchange(
             &mut self.page,
             delta,
             &before,

@@ -2,7 +2,7 @@ use Rattle.std.proofs.Common.{◌+◌, refl, arith}
 use Rattle.cept_profile.specs.PageParts.{row_pen_in}
 use Rattle.cept_profile.specs.Serial.{is_marker}
 use Rattle.cept_repaint.specs.FlagsAnew.{IsSingle, IsSingleRowAnew, IsUnmarkedRow, RowHasNone, row_in_table}
-use Rattle.cept_repaint.proofs.FlagsAnew.{AreFlagsMade-more, AreFlagsMade-none, IsKeptPage-unwound}
+use Rattle.cept_repaint.proofs.FlagsAnew.{AreFlagsMade-more, AreFlagsMade-none, IsKeptPage-noted}
 use Rattle.cept_repaint.proofs.flags_anew.flag_unwound.Goals as goal
 
 pub loop-row-init : goal.loop-row-init
@@ -25,7 +25,7 @@ loop-row-preserved c = (
 )
 
 pub returns : goal.returns
-returns c = λ p q kept is cells pens.
-    IsKeptPage-unwound p q c.args.delta.now c.args.marked.now c.args.sized.now c.loop-row.marked c.loop-row.sized
-    c.args.grid.now c.args.row_pens.now c.loop-row.row kept is cells pens (omega arith) c.loop-row.invariant.0
+returns c = λ p q old same kept is cells pens.
+    IsKeptPage-noted p q old c.args.delta.now c.args.marked.now c.args.sized.now c.loop-row.marked c.loop-row.sized
+    c.args.grid.now c.args.row_pens.now c.loop-row.row same kept is cells pens (omega arith) c.loop-row.invariant.0
     c.loop-row.invariant.1

@@ -4,6 +4,7 @@ use Rattle.cept_profile.specs.State.{Page}
 use Rattle.cept_profile.specs.Valid.{IsValidPage}
 use Rattle.cept_repaint.specs.Inside.{page_of}
 use Rattle.cept_repaint.specs.Noter.{page_with}
+use Rattle.cept_repaint.proofs.ExchangedStates.{HasSameLocations-refl}
 use Rattle.cept_repaint.proofs.page.Page.unwind.Goals as goal
 
 pub unwind_page-requires-clause-is : goal.unwind_page-requires-clause-is
@@ -22,4 +23,5 @@ pub invariant_of-self : goal.invariant_of-self
 invariant_of-self c =
     c.flag_unwound.ensures (page_of c.self.inside)
     (page_with c.unwind_page.new.grid c.unwind_page.new.row_pens c.unwind_page.new.screen_pen
-    c.unwind_page.new.colours c.unwind_page.new.patterns) c.self.invariant c.unwind_page.ensures refl refl
+    c.unwind_page.new.colours c.unwind_page.new.patterns) c.args.delta.now (HasSameLocations-refl c.args.delta.now)
+    c.self.invariant c.unwind_page.ensures refl refl
