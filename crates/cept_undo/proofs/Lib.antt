@@ -1,3 +1,4 @@
+pub mod InTurn
 pub mod Unchanged
 pub mod Room
 pub mod TakenBack

@@ -1,15 +1,11 @@
--- The old values that are kept, begun and spare make one more than may be kept at all times.
-use Rattle.std.proofs.Common.{◌≡◌, ℕ, ◌≤◌, Option, Some, List, [], ◌∷◌, take, drop, length, ap, ◌∙◌, arith}
-use Rattle.std.specs.Prelude.{is_some, slice_get}
-use Rattle.std.proofs.lemmas.Bool.{true≢false}
-use Rattle.std.proofs.lemmas.List.{length-drop, length-take, take_all}
+-- The old values of an edit that is kept come first.
+use Rattle.std.proofs.Common.{◌≡◌, ℕ, ◌≤◌, ◌+◌, Option, Some, List, [], ◌∷◌, take, drop, length, ap, ◌∙◌, arith}
+use Rattle.std.specs.Prelude.{IsNone, slice_get}
+use Rattle.std.proofs.lemmas.List.{length-drop, take_all}
 use Rattle.cept_profile.specs.OldValues.{OldValues}
 use Rattle.circular_buffer.specs.Buffer.{Buffer, buffer}
 use Rattle.cept_undo.specs.Past.{Edits, HasRoom, most_kept}
-
-some_by_first : (xs : List OldValues) (old : OldValues) → Some old ≡ slice_get xs 0 → 1 ≤ length xs
-some_by_first [] old first = absurd (true≢false (ap is_some first))
-some_by_first (x ∷ xs) old first = omega arith
+use Rattle.cept_undo.proofs.InTurn.{some_by_first}
 
 -- those of an edit that is kept come first, and of all as many stay as may be kept
 pub kept_more : (edits : Edits) (kept : List OldValues) (places : ℕ) (old : OldValues) (more : Buffer OldValues)
@@ -21,41 +17,17 @@ kept_more edits kept places old more same all e =
     ∙ ap (λ (l : List OldValues). take most_kept (old ∷ l)) same
 
 -- those of the latest edit that is kept become others
-pub HasRoom-noted : {kept spare : List OldValues} {begun : Option OldValues} {places spare_places : ℕ}
-    → HasRoom kept places begun spare spare_places → (old : OldValues) → Some old ≡ slice_get kept 0
-    → (noted : OldValues) (rest more : Buffer OldValues) → rest ≡ buffer (drop 1 kept) places
+pub latest_noted : (kept : List OldValues) (places : ℕ) (old noted : OldValues) (rest more : Buffer OldValues)
+    → length kept ≤ places → Some old ≡ slice_get kept 0 → rest ≡ buffer (drop 1 kept) places
     → more ≡ buffer (take rest.capacity (noted ∷ rest.items)) rest.capacity
-    → HasRoom more.items more.capacity begun spare spare_places
-HasRoom-noted {kept} {spare} {begun} {places} m old first noted rest more e f =
-    let some : 1 ≤ length kept = some_by_first kept old first in
-    let places_same : rest.capacity ≡ most_kept = ap (λ (b : Buffer OldValues). b.capacity) e ∙ m.edits in
-    let length_same : length more.items ≡ length kept =
-    omega (
-      arith,
-      m.few,
-      some,
-      places_same,
-      ap (λ (b : Buffer OldValues). length b.items) e,
-      length-drop 1 kept,
-      ap (λ (b : Buffer OldValues). length b.items) f,
-      length-take rest.capacity (noted ∷ rest.items),
-    ) in record {
-      edits = ap (λ (b : Buffer OldValues). b.capacity) f ∙ places_same;
-      deltas = m.deltas;
-      few = omega (arith, m.few, length_same);
-      all = omega (arith, m.all, length_same);
-    }
-
-pub latest_noted : {kept spare : List OldValues} {begun : Option OldValues} {places spare_places : ℕ}
-    → HasRoom kept places begun spare spare_places → (noted : OldValues) (rest more : Buffer OldValues)
-    → rest ≡ buffer (drop 1 kept) places → more ≡ buffer (take rest.capacity (noted ∷ rest.items)) rest.capacity
     → more.items ≡ noted ∷ drop 1 kept
-latest_noted {kept} {spare} {begun} {places} m noted rest more e f =
+latest_noted kept places old noted rest more few first e f =
+    let some : 1 ≤ length kept = some_by_first kept old first in
     let fits : length (noted ∷ rest.items) ≤ rest.capacity =
     omega (
       arith,
-      m.few,
-      m.edits,
+      few,
+      some,
       ap (λ (b : Buffer OldValues). b.capacity) e,
       ap (λ (b : Buffer OldValues). length b.items) e,
       length-drop 1 kept,
@@ -63,3 +35,24 @@ latest_noted {kept} {spare} {begun} {places} m noted rest more e f =
     ap (λ (b : Buffer OldValues). b.items) f
     ∙ take_all rest.capacity (noted ∷ rest.items) fits
     ∙ ap (λ (b : Buffer OldValues). noted ∷ b.items) e
+
+pub HasRoom-noted : {kept undone spare no_more back : List OldValues} {begun : Option OldValues}
+    {places undone_places spare_places new_places back_places : ℕ}
+    → HasRoom kept places undone undone_places begun spare spare_places → IsNone begun → (old : OldValues)
+    → Some old ≡ slice_get kept 0 → (noted : OldValues) (rest more : Buffer OldValues) → rest ≡ buffer (drop 1 kept) places
+    → more ≡ buffer (take rest.capacity (noted ∷ rest.items)) rest.capacity → no_more ≡ []
+    → new_places ≡ undone_places → length back ≡ length undone + length spare → back_places ≡ spare_places
+    → HasRoom more.items more.capacity no_more new_places begun back back_places
+HasRoom-noted {kept} {undone} {spare} {no_more} {back} {begun} {places} m none old first noted rest more e f empty same_places given same_back =
+    let within : length kept ≤ places = omega (arith, m.few, m.edits) in
+    let items = latest_noted kept places old noted rest more within first e f in
+    let long : length more.items ≡ length kept =
+    omega (arith, some_by_first kept old first, ap (λ (l : List OldValues). length l) items, length-drop 1 kept) in
+    record {
+      edits = ap (λ (b : Buffer OldValues). b.capacity) f ∙ ap (λ (b : Buffer OldValues). b.capacity) e ∙ m.edits;
+      turned = same_places ∙ m.turned;
+      deltas = same_back ∙ m.deltas;
+      few = omega (arith, m.few, long, ap (λ (l : List OldValues). length l) empty);
+      all = omega (arith, m.all, given, long, ap (λ (l : List OldValues). length l) empty);
+      alone = λ begun. empty;
+    }

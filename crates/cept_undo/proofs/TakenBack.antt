@@ -1,39 +1,16 @@
--- Edits that are begun, noted in, kept and taken back: the past, the state at the begin, and that both stay valid.
-use Rattle.std.proofs.Common.{◌≡◌, ℕ, zero, suc, Option, Some, None, List, [], ◌∷◌, take, drop, length}
-use Rattle.std.proofs.Common.{refl, sym, ap, subst, ◌∙◌, ◌==◌, true, arith}
+-- Edits that are begun, noted in, kept, taken back and made again: the past, the future, the state at the begin, and that all
+-- of them stay valid.
+use Rattle.std.proofs.Common.{◌≡◌, ℕ, Option, Some, None, List, [], ◌∷◌, take, length}
+use Rattle.std.proofs.Common.{refl, sym, ap, subst, ◌∙◌}
 use Rattle.std.specs.List.{AllByRecursion}
 use Rattle.std.specs.Option.{option_map, unwrap_or}
-use Rattle.std.specs.Prelude.{IsNone, IfSome, is_some, slice_get}
-use Rattle.std.proofs.lemmas.Bool.{true≢false, eqb-true}
+use Rattle.std.specs.Prelude.{IsNone, IfSome, is_some}
+use Rattle.std.proofs.lemmas.Bool.{true≢false}
 use Rattle.cept_profile.specs.OldValues.{OldValues, unwound}
 use Rattle.cept_profile.specs.State.{State}
 use Rattle.cept_profile.specs.Valid.{IsValidState}
-use Rattle.cept_undo.specs.Past.{Edits, FitsTogether, StaysBegun, at_begin, past, state_before_latest, unwound_in_turn}
-
--- ---- states that are unwound in turn
-
-take_in_turn : (n : ℕ) (now : State) (olds : List OldValues)
-    → unwound_in_turn now (take n olds) ≡ take n (unwound_in_turn now olds)
-unfolding unwound_in_turn
-take_in_turn zero now olds = refl
-take_in_turn (suc n) now [] = refl
-take_in_turn (suc n) now (old ∷ older) =
-    ap (λ (l : List State). unwound now old ∷ l) (take_in_turn n (unwound now old) older)
-
-length_in_turn : (now : State) (olds : List OldValues) → length (unwound_in_turn now olds) ≡ length olds
-unfolding unwound_in_turn
-length_in_turn now [] = refl
-length_in_turn now (old ∷ older) = ap suc (length_in_turn (unwound now old) older)
-
-first_in_turn : (now : State) (old : OldValues) (older : List OldValues)
-    → unwound_in_turn now (old ∷ older) ≡ unwound now old ∷ unwound_in_turn (unwound now old) older
-unfolding unwound_in_turn
-first_in_turn now old older = refl
-
-none_in_turn : (now : State) (olds : List OldValues) → unwound_in_turn now olds ≡ [] → olds ≡ []
-unfolding unwound_in_turn
-none_in_turn now [] none = refl
-none_in_turn now (old ∷ older) none = absurd cc
+use Rattle.cept_undo.specs.Past.{Edits, FitsTogether, StaysBegun, at_begin, future, past, unwound_in_turn}
+use Rattle.cept_undo.proofs.InTurn.{empty_in_turn, first_in_turn, length_in_turn, take_in_turn, take_valid}
 
 -- ---- the past by the edits
 
@@ -58,7 +35,7 @@ at_begin-none : (edits : Edits) (screen : State) → IsNone edits.begun → at_b
 unfolding at_begin
 at_begin-none edits screen none = ap (option_map (unwound screen)) (none_of edits.begun none)
 
-past-unbegun : (edits : Edits) (screen : State) → IsNone edits.begun
+pub past-unbegun : (edits : Edits) (screen : State) → IsNone edits.begun
     → past edits screen ≡ unwound_in_turn screen edits.kept
 unfolding past at_begin
 past-unbegun edits screen none =
@@ -71,46 +48,61 @@ unfolding past unwound_in_turn
 past-none edits screen none =
     ap (λ (l : List OldValues). unwound_in_turn (unwrap_or (at_begin edits screen) screen) l) none
 
-pub kept-none : (edits : Edits) (screen : State) → past edits screen ≡ [] → edits.kept ≡ []
-unfolding past
-kept-none edits screen none = none_in_turn (unwrap_or (at_begin edits screen) screen) edits.kept none
-
 pub length-past : (edits : Edits) (screen : State) → length (past edits screen) ≡ length edits.kept
 unfolding past
 length-past edits screen = length_in_turn (unwrap_or (at_begin edits screen) screen) edits.kept
 
+-- ---- the future
+
+pub future-of : (edits : Edits) (screen : State) → future edits screen ≡ unwound_in_turn screen edits.undone
+unfolding future
+future-of edits screen = refl
+
+pub future-none : (edits : Edits) (screen : State) → edits.undone ≡ [] → future edits screen ≡ []
+future-none edits screen none = future-of edits screen ∙ empty_in_turn screen edits.undone none
+
+pub length-future : (edits : Edits) (screen : State) → length (future edits screen) ≡ length edits.undone
+length-future edits screen =
+    ap (λ (l : List State). length l) (future-of edits screen) ∙ length_in_turn screen edits.undone
+
+no_future : (edits : Edits) (screen : State) → future edits screen ≡ []
+    → AllByRecursion IsValidState (future edits screen)
+no_future edits screen none = subst (λ (l : List State). AllByRecursion IsValidState l) (sym none) tt
+
 -- ---- edits that fit a screen
 
-take_valid : (n : ℕ) (states : List State) → AllByRecursion IsValidState states
-    → AllByRecursion IsValidState (take n states)
-take_valid zero states valid = tt
-take_valid (suc n) [] valid = tt
-take_valid (suc n) (s ∷ states) valid = (valid.0, take_valid n states valid.1)
-
-less_valid : (states : List State) → AllByRecursion IsValidState states → AllByRecursion IsValidState (drop 1 states)
-less_valid [] valid = tt
-less_valid (s ∷ states) valid = valid.1
-
--- where none is begun, the past alone matters
+-- where none is begun, past and future matter
 pub FitsTogether-unbegun : (edits : Edits) (screen : State) → IsNone edits.begun
-    → AllByRecursion IsValidState (past edits screen) → FitsTogether edits screen
-FitsTogether-unbegun edits screen none valid = record {
+    → AllByRecursion IsValidState (past edits screen) → AllByRecursion IsValidState (future edits screen)
+    → FitsTogether edits screen
+FitsTogether-unbegun edits screen none valid ahead = record {
   past = valid;
   at_begin = subst (λ (o : Option State). IfSome o IsValidState) (sym (at_begin-none edits screen none)) tt;
+  future = ahead;
 }
 
--- the same past fits as well
+-- the same past fits as well, without a future
 pub FitsTogether-same : (edits new : Edits) (before after : State) → IsNone new.begun
-    → past new after ≡ past edits before → FitsTogether edits before → FitsTogether new after
-FitsTogether-same edits new before after none same fits =
+    → past new after ≡ past edits before → future new after ≡ [] → FitsTogether edits before → FitsTogether new after
+FitsTogether-same edits new before after none same ahead fits =
     FitsTogether-unbegun new after none
-    (subst (λ (l : List State). AllByRecursion IsValidState l) (sym same) fits.past)
+    (subst (λ (l : List State). AllByRecursion IsValidState l) (sym same) fits.past) (no_future new after ahead)
 
-pub FitsTogether-none : (edits : Edits) (screen : State) → IsNone edits.begun → edits.kept ≡ []
+pub FitsTogether-none : (edits : Edits) (screen : State) → IsNone edits.begun → edits.kept ≡ [] → edits.undone ≡ []
     → FitsTogether edits screen
-FitsTogether-none edits screen none empty =
+FitsTogether-none edits screen none empty no_more =
     FitsTogether-unbegun edits screen none
     (subst (λ (l : List State). AllByRecursion IsValidState l) (sym (past-none edits screen empty)) tt)
+    (no_future edits screen (future-none edits screen no_more))
+
+-- by the states of each side
+pub FitsTogether-sides : (edits : Edits) (screen : State) → IsNone edits.begun
+    → AllByRecursion IsValidState (unwound_in_turn screen edits.kept)
+    → AllByRecursion IsValidState (unwound_in_turn screen edits.undone) → FitsTogether edits screen
+FitsTogether-sides edits screen none behind ahead =
+    FitsTogether-unbegun edits screen none
+    (subst (λ (l : List State). AllByRecursion IsValidState l) (sym (past-unbegun edits screen none)) behind)
+    (subst (λ (l : List State). AllByRecursion IsValidState l) (sym (future-of edits screen)) ahead)
 
 -- ---- an edit begun
 
@@ -128,18 +120,20 @@ past-begin edits new screen old none kept begun same =
     ∙ sym (past-unbegun edits screen none)
 
 pub FitsTogether-begin : (edits new : Edits) (screen : State) → past new screen ≡ past edits screen
-    → at_begin new screen ≡ Some screen → FitsTogether edits screen → IsValidState screen → FitsTogether new screen
-FitsTogether-begin edits new screen same begun fits valid = record {
+    → at_begin new screen ≡ Some screen → future new screen ≡ [] → FitsTogether edits screen → IsValidState screen
+    → FitsTogether new screen
+FitsTogether-begin edits new screen same begun ahead fits valid = record {
   past = subst (λ (l : List State). AllByRecursion IsValidState l) (sym same) fits.past;
   at_begin = subst (λ (o : Option State). IfSome o IsValidState) (sym begun) valid;
+  future = no_future new screen ahead;
 }
 
 -- ---- a change noted in the edit that is begun
 
 pub StaysBegun-noted : (edits new : Edits) (before after : State) (old noted : OldValues) → edits.begun ≡ Some old
-    → new.begun ≡ Some noted → new.kept ≡ edits.kept → unwound after noted ≡ unwound before old
+    → new.begun ≡ Some noted → new.kept ≡ edits.kept → new.undone ≡ [] → unwound after noted ≡ unwound before old
     → FitsTogether edits before → StaysBegun edits before new after
-StaysBegun-noted edits new before after old noted begun still kept same fits =
+StaysBegun-noted edits new before after old noted begun still kept none same fits =
     let past_same : past new after ≡ past edits before =
     past-of new after noted still
     ∙ ap (λ (s : State). unwound_in_turn s new.kept) same
@@ -152,10 +146,12 @@ StaysBegun-noted edits new before after old noted begun still kept same fits =
     record {
       past = past_same;
       at_begin = begin_same;
+      future = future-none new after none;
       begun = ap is_some still;
       fits = record {
         past = subst (λ (l : List State). AllByRecursion IsValidState l) (sym past_same) fits.past;
         at_begin = subst (λ (o : Option State). IfSome o IsValidState) (sym begin_same) fits.at_begin;
+        future = no_future new after (future-none new after none);
       };
     }
 
@@ -189,63 +185,38 @@ past-commit edits new old n begun more none screen before at =
     ∙ ap (λ (s : State). take n (s ∷ past edits screen)) is
 
 pub FitsTogether-commit : (edits new : Edits) (old : OldValues) (n : ℕ) → edits.begun ≡ Some old
-    → new.kept ≡ take n (old ∷ edits.kept) → IsNone new.begun → (screen : State)
+    → new.kept ≡ take n (old ∷ edits.kept) → IsNone new.begun → new.undone ≡ [] → (screen : State)
     → FitsTogether edits screen → FitsTogether new screen
-FitsTogether-commit edits new old n begun more none screen fits =
+FitsTogether-commit edits new old n begun more none no_more screen fits =
     let at = at_begin-of edits screen old begun in
     FitsTogether-unbegun new screen none
     (subst (λ (l : List State). AllByRecursion IsValidState l)
     (sym (past-commit edits new old n begun more none screen (unwound screen old) at))
     (take_valid n (unwound screen old ∷ past edits screen)
     (subst (λ (o : Option State). IfSome o IsValidState) at fits.at_begin, fits.past)))
+    (no_future new screen (future-none new screen no_more))
 
--- ---- the latest edit taken back
+-- ---- both sides as the code holds them
 
-pub none_by_length : {X : Type 0} (xs : List X) → (length xs == 0) ≡ true → xs ≡ []
-none_by_length [] none = refl
-none_by_length (x ∷ xs) none = absurd (omega (arith, eqb-true (length (x ∷ xs)) 0 none))
+pub held_past : (held now : Edits) (screen : State) → held ≡ now → IsNone now.begun
+    → unwound_in_turn screen held.kept ≡ past now screen
+held_past held now screen view none =
+    ap (λ (u : Edits). unwound_in_turn screen u.kept) view ∙ sym (past-unbegun now screen none)
 
-pub first_and_rest : (olds : List OldValues) (old : OldValues) → Some old ≡ slice_get olds 0 → olds ≡ old ∷ drop 1 olds
-first_and_rest [] old first = absurd (true≢false (ap is_some first))
-first_and_rest (x ∷ xs) old first = cc
+pub held_future : (held now : Edits) (screen : State) → held ≡ now
+    → unwound_in_turn screen held.undone ≡ future now screen
+held_future held now screen view =
+    ap (λ (u : Edits). unwound_in_turn screen u.undone) view ∙ sym (future-of now screen)
 
-pub none_first : (olds : List OldValues) → None ≡ slice_get olds 0 → olds ≡ []
-none_first [] none = refl
-none_first (x ∷ xs) none = absurd (true≢false (sym (ap is_some none)))
+pub held_past_valid : (held now : Edits) (screen : State) → held ≡ now → IsNone now.begun → FitsTogether now screen
+    → AllByRecursion IsValidState (unwound_in_turn screen held.kept)
+held_past_valid held now screen view none fits =
+    subst (λ (l : List State). AllByRecursion IsValidState l) (sym (held_past held now screen view none)) fits.past
 
--- the past with an edit more than older ones
-pub past-latest : (edits : Edits) (screen : State) (old : OldValues) (older : List OldValues) → IsNone edits.begun
-    → edits.kept ≡ old ∷ older → past edits screen ≡ unwound screen old ∷ unwound_in_turn (unwound screen old) older
-past-latest edits screen old older none kept =
-    past-unbegun edits screen none ∙ ap (unwound_in_turn screen) kept ∙ first_in_turn screen old older
+pub held_future_valid : (held now : Edits) (screen : State) → held ≡ now → FitsTogether now screen
+    → AllByRecursion IsValidState (unwound_in_turn screen held.undone)
+held_future_valid held now screen view fits =
+    subst (λ (l : List State). AllByRecursion IsValidState l) (sym (held_future held now screen view)) fits.future
 
-pub past-undo : (edits new : Edits) (screen now : State) (old : OldValues) (older : List OldValues)
-    → IsNone edits.begun → edits.kept ≡ old ∷ older → new.kept ≡ older → IsNone new.begun
-    → now ≡ unwound screen old → past new now ≡ drop 1 (past edits screen)
-past-undo edits new screen now old older none kept less still is =
-    past-unbegun new now still
-    ∙ ap (unwound_in_turn now) less
-    ∙ ap (λ (s : State). unwound_in_turn s older) is
-    ∙ sym (ap (drop 1) (past-latest edits screen old older none kept))
-
-pub latest_is : (edits : Edits) (screen : State) (old : OldValues) (older : List OldValues) → IsNone edits.begun
-    → edits.kept ≡ old ∷ older → unwound screen old ≡ state_before_latest (past edits screen) screen
-latest_is edits screen old older none kept =
-    sym (ap (λ (l : List State). state_before_latest l screen) (past-latest edits screen old older none kept))
-
-pub some_kept : {X : Type 0} (edits : Edits) (screen : State) (old : OldValues) (older : List OldValues)
-    → IsNone edits.begun → edits.kept ≡ old ∷ older → past edits screen ≡ [] → X
-some_kept edits screen old older none kept empty =
-    let states = past-latest edits screen old older none kept in absurd cc
-
-pub latest_valid : (edits : Edits) (screen : State) (old : OldValues) (older : List OldValues) → IsNone edits.begun
-    → edits.kept ≡ old ∷ older → FitsTogether edits screen → IsValidState (unwound screen old)
-latest_valid edits screen old older none kept fits =
-    (subst (λ (l : List State). AllByRecursion IsValidState l) (past-latest edits screen old older none kept) fits.past).0
-
--- with an edit less
-pub FitsTogether-undo : (edits new : Edits) (screen now : State) → FitsTogether edits screen → IsNone new.begun
-    → past new now ≡ drop 1 (past edits screen) → FitsTogether new now
-FitsTogether-undo edits new screen now fits none less =
-    FitsTogether-unbegun new now none
-    (subst (λ (l : List State). AllByRecursion IsValidState l) (sym less) (less_valid (past edits screen) fits.past))
+pub still_none : (held now : Edits) → held ≡ now → IsNone now.begun → IsNone held.begun
+still_none held now view none = subst (λ (u : Edits). IsNone u.begun) (sym view) none

@@ -1,5 +1,5 @@
--- The states that taking edits back leads to (own). Clauses speak of a past by the edits that are kept and the state of the
--- screen.
+-- The states that taking edits back leads to, and those that making them again leads to (own). Clauses speak of a past and
+-- a future by the edits that are kept and undone and the state of the screen.
 use Rattle.std.specs.Prelude.{ℕ, ◌≡◌, ◌≤◌, ◌+◌, Option, Some, None, IsSome, IsNone, IfSome, List, [], ◌∷◌, length, unwrap_or}
 use Rattle.std.specs.List.{AllByRecursion}
 use Rattle.std.specs.Option.{option_map}
@@ -7,13 +7,15 @@ use Rattle.cept_profile.specs.OldValues.{OldValues, unwound}
 use Rattle.cept_profile.specs.State.{State}
 use Rattle.cept_profile.specs.Valid.{IsValidState}
 
--- how many edits are kept at most
+-- how many edits are kept at most, and undone and kept together
 abbrev pub most_kept : ℕ
-most_kept = 32
+most_kept = 64
 
--- the old values of each edit that is kept, those of the latest first, and the old values of the edit that is begun
+-- the old values of each edit that is kept, those of the latest first, those of each edit that was taken back and not made
+-- again, the last taken back first, and those of the edit that is begun
 pub record Edits : Type 0 where
   pub kept : List OldValues
+  pub undone : List OldValues
   pub begun : Option OldValues
 
 -- an edit is begun
@@ -38,33 +40,48 @@ at_begin edits screen = option_map (unwound screen) edits.begun
 unfoldable pub past : Edits → State → List State
 past edits screen = unwound_in_turn (unwrap_or (at_begin edits screen) screen) edits.kept
 
--- edits and the state of their screen: every state of the past is valid, and so is that at which an edit is begun
+-- the states that making again leads to, the nearest first, where the screen stands at this one
+unfoldable pub future : Edits → State → List State
+future edits screen = unwound_in_turn screen edits.undone
+
+-- edits and the state of their screen: every state of the past and of the future is valid, and so is that at which an edit
+-- is begun
 pub record FitsTogether (edits : Edits) (screen : State) : Type 0 where
   pub past : AllByRecursion IsValidState (past edits screen)
   pub at_begin : IfSome (at_begin edits screen) IsValidState
+  pub future : AllByRecursion IsValidState (future edits screen)
 
--- while an edit is begun and the state of the screen changes, the past stays, and so does the state at its begin
+-- while an edit is begun and the state of the screen changes, the past stays, and so does the state at its begin; there is
+-- no future
 pub record StaysBegun (old : Edits) (before : State) (new : Edits) (after : State) : Type 0 where
   pub past : past new after ≡ past old before
   pub at_begin : at_begin new after ≡ at_begin old before
+  pub future : future new after ≡ []
   pub begun : IsBegun new
   pub fits : FitsTogether new after
 
--- the latest state of a past; where there is none, this one
-abbrev pub state_before_latest : List State → State → State
-state_before_latest [] now = now
-state_before_latest (before ∷ _) now = before
+-- the first of these states; where there is none, this one
+abbrev pub nearest : List State → State → State
+nearest [] now = now
+nearest (state ∷ _) now = state
+
+-- the states on the other side after a turn to the first of these, if there is one: the state before it is the nearest
+abbrev pub handed_on : List State → State → List State → List State
+handed_on [] now other = other
+handed_on (_ ∷ _) now other = now ∷ other
 
 -- how many there are, 0 or 1
 abbrev pub count_begun : Option OldValues → ℕ
 count_begun None = 0
 count_begun (Some _) = 1
 
--- places for all edits that may be kept, and as many deltas as make one more with those that are kept and begun, for which
--- there are places
-pub record HasRoom (kept : List OldValues) (places : ℕ) (begun : Option OldValues) (spare : List OldValues)
-    (spare_places : ℕ) : Type 0 where
+-- places for all edits that may be kept or undone, and as many deltas as make one more with those that are kept, undone
+-- and begun, for which there are places; while an edit is begun none is undone
+pub record HasRoom (kept : List OldValues) (places : ℕ) (undone : List OldValues) (undone_places : ℕ)
+    (begun : Option OldValues) (spare : List OldValues) (spare_places : ℕ) : Type 0 where
   pub edits : places ≡ most_kept
+  pub turned : undone_places ≡ most_kept
   pub deltas : spare_places ≡ most_kept + 1
-  pub few : length kept ≤ most_kept
-  pub all : length kept + count_begun begun + length spare ≡ most_kept + 1
+  pub few : length kept + length undone ≤ most_kept
+  pub all : length kept + length undone + count_begun begun + length spare ≡ most_kept + 1
+  pub alone : IsSome begun → undone ≡ []

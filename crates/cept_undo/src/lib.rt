@@ -1,8 +1,10 @@
-//! Edits of a screen that can be taken back. It knows no bytes, no scripts and no lines.
+//! Edits of a screen that can be taken back and made again. It knows no bytes, no scripts and no
+//! lines.
 #![tactic(auto)]
 
 #[cfg(test)]
 mod tests;
+mod turn;
 mod undo;
 
-pub use undo::{Undo, Undone};
+pub use undo::{Redone, Undo, Undone};

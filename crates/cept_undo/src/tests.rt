@@ -1,7 +1,7 @@
 ghost use Rattle.std.specs.Prelude.{◌≡◌, ◌<◌, ◌≤◌};
 ghost use Rattle.cept_codes.specs.Command.{IsValidCommand};
 
-use crate::{Undo, Undone};
+use crate::{Redone, Undo, Undone};
 use cept_codes::{Command, Glyph, Look, NoMemory, Pos, SetId, Shape};
 use cept_outside::Steps;
 use cept_repaint::{Glass, GridGlass, Marks, Screen};
@@ -84,7 +84,7 @@ fn taken_back_with_a_later_command<L: Ledger>(
     Ok(glass)
 }
 
-/// An edit that writes an A, and 32 more, each of which writes a B; and 33 undos.
+/// An edit that writes an A, and 64 more, each of which writes a B; and 65 undos.
 fn all_taken_back<L: Ledger>(alloc: Global, blank: Blank) -> Result<Left, NoMemory>
     requires name { blank.name ≡ L.name }
     requires parts { blank.parts ≡ L.parts }
@@ -95,7 +95,7 @@ fn all_taken_back<L: Ledger>(alloc: Global, blank: Blank) -> Result<Left, NoMemo
     let mut marks = Marks::new();
     let mut steps = Steps::<L>::new(blank);
     let mut undo = Undo::new(alloc)?;
-    for edit in 0..33u8 {
+    for edit in 0..65u8 {
         let command = Command::Graphic(if edit == 0 { 0x41 } else { 0x42 });
         undo.begin(&screen);
         undo.apply(&mut screen, command, &mut glass, &mut marks, &mut steps);
@@ -103,7 +103,7 @@ fn all_taken_back<L: Ledger>(alloc: Global, blank: Blank) -> Result<Left, NoMemo
     }
     let mut undone = 0u8;
     let mut last = Undone::Undone;
-    for _ in 0..33u8 {
+    for _ in 0..65u8 {
         last = undo.undo(&mut screen, &mut glass, &mut marks, &mut steps);
         if last == Undone::Undone {
             undone = undone.saturating_add(1);
@@ -115,6 +115,39 @@ fn all_taken_back<L: Ledger>(alloc: Global, blank: Blank) -> Result<Left, NoMemo
         undone,
         last,
     })
+}
+
+/// An edit that writes an A, which is taken back and made again, and one more redo.
+fn made_again<L: Ledger>(
+    alloc: Global,
+    blank: Blank,
+) -> Result<(GridGlass, Redone, Redone), NoMemory>
+    requires name { blank.name ≡ L.name }
+    requires parts { blank.parts ≡ L.parts }
+    requires some { 0 < blank.parts }
+{
+    let mut screen = Screen::new(alloc)?;
+    let mut glass = GridGlass::new(alloc)?;
+    let mut marks = Marks::new();
+    let mut steps = Steps::<L>::new(blank);
+    let mut undo = Undo::new(alloc)?;
+    let a = Command::Graphic(0x41);
+    undo.begin(&screen);
+    undo.apply(&mut screen, a, &mut glass, &mut marks, &mut steps);
+    undo.commit();
+    let _ = undo.undo(&mut screen, &mut glass, &mut marks, &mut steps);
+    let first = undo.redo(&mut screen, &mut glass, &mut marks, &mut steps);
+    let second = undo.redo(&mut screen, &mut glass, &mut marks, &mut steps);
+    Ok((glass, first, second))
+}
+
+#[test]
+fn a_redo_makes_an_edit_again(rt: HostRuntime) -> Result<(), Fail> {
+    let (glass, first, second) = made_again::<Brand>(rt.alloc(), Blank::new(1))?;
+    assert!(rt; first == Redone::Redone);
+    assert!(rt; second == Redone::Nothing);
+    assert!(rt; glass.shown(Pos::new(1, 1).ok_or("no place")?) == sign(0x41));
+    Ok(())
 }
 
 #[test]
@@ -135,11 +168,11 @@ fn an_undo_takes_a_later_command_back(rt: HostRuntime) -> Result<(), Fail> {
 }
 
 #[test]
-fn of_33_edits_the_first_stays(rt: HostRuntime) -> Result<(), Fail> {
+fn of_65_edits_the_first_stays(rt: HostRuntime) -> Result<(), Fail> {
     let left = all_taken_back::<Brand>(rt.alloc(), Blank::new(1))?;
     let first = Pos::new(1, 1).ok_or("no place")?;
     let second = Pos::new(1, 2).ok_or("no place")?;
-    assert_eq!(rt; left.undone, 32);
+    assert_eq!(rt; left.undone, 64);
     assert!(rt; left.last == Undone::Nothing);
     assert!(rt; left.screen.look(first) == sign(0x41));
     assert!(rt; left.glass.shown(first) == sign(0x41));

@@ -1,12 +1,13 @@
-ghost use Rattle.std.specs.Prelude.{◌≡◌, ◌≢◌, ◌≤◌, ◌+◌, ◌↔◌, [], ◌∷◌, Some, IfOk, length, take, drop};
+ghost use Rattle.std.specs.Prelude.{◌≡◌, ◌≤◌, ◌+◌, ◌↔◌, true, [], ◌∷◌, Some, IfOk, length, take, drop};
 ghost use Rattle.cept_codes.specs.Command.{IsValidCommand};
 ghost use Rattle.cept_profile.specs.State.{State};
 ghost use Rattle.cept_profile.specs.Valid.{IsValidState};
 ghost use Rattle.cept_repaint.specs.Applied.{IsApplied, IsRepainted};
 ghost use Rattle.cept_repaint.specs.Marks.{no_marks};
 ghost use Rattle.cept_undo.specs.Past.{FitsTogether, IsBegun, IsNotBegun, StaysBegun, at_begin};
-ghost use Rattle.cept_undo.specs.Past.{most_kept, past, state_before_latest};
+ghost use Rattle.cept_undo.specs.Past.{future, handed_on, most_kept, nearest, past};
 
+use crate::turn::{give_back, turn};
 use cept_codes::{Command, NoMemory};
 use cept_outside::Steps;
 use cept_repaint::{Delta, Glass, Marks, Screen};
@@ -16,7 +17,7 @@ use std::marker::Model;
 use std::sync::ledger::Ledger;
 
 /// How many edits are kept at most.
-const MOST_KEPT: usize = 32;
+const MOST_KEPT: usize = 64;
 
 /// Whether an edit was taken back, or none was kept.
 #[derive(Clone, Copy, PartialEq, Eq, Debug)]
@@ -27,11 +28,22 @@ pub enum Undone {
     Nothing,
 }
 
-/// The last 32 edits of a screen and the edit that is begun, each by the old values of what it
-/// changed. Room for all of them is made at the start.
+/// Whether an edit was made again, or none was undone.
+#[derive(Clone, Copy, PartialEq, Eq, Debug)]
+pub enum Redone {
+    /// The edit that was taken back last was made again.
+    Redone,
+    /// No edit was undone.
+    Nothing,
+}
+
+/// The last 64 edits of a screen, those of them that were taken back and may be made again, and the
+/// edit that is begun, each by the values of what it changed: a kept edit by the old ones, an undone
+/// one by the new ones. Room for all of them is made at the start.
 #[derive(Drop)]
 pub struct Undo {
     kept: HeapCircularBuffer<Delta>,
+    undone: HeapCircularBuffer<Delta>,
     begun: Option<Delta>,
     spare: HeapCircularBuffer<Delta>,
 }
@@ -41,41 +53,46 @@ impl Model for Undo {
 
     ghost Value = { Edits };
 
-    ghost view = { λ u. record { kept = u.kept.items; begun = u.begun } };
+    ghost view = { λ u. record { kept = u.kept.items; undone = u.undone.items; begun = u.begun } };
 
-    ghost invariant = { λ u. HasRoom u.kept.items u.kept.capacity u.begun u.spare.items
-        u.spare.capacity };
+    ghost invariant = { λ u. HasRoom u.kept.items u.kept.capacity u.undone.items u.undone.capacity
+        u.begun u.spare.items u.spare.capacity };
 }
 
 impl Undo {
-    /// No edit is kept, and none is begun. It fits every screen.
+    /// No edit is kept, none is undone, and none is begun. It fits every screen.
     pub fn new(alloc: Global) -> Result<Undo, NoMemory>
         ensures past { IfOk result (λ undo. (screen : State) → past undo screen ≡ []) }
+        ensures future { IfOk result (λ undo. (screen : State) → future undo screen ≡ []) }
         ensures none_begun { IfOk result IsNotBegun }
         ensures fits { IfOk result (λ undo. (screen : State) → IsValidState screen
             → FitsTogether undo screen) }
     {
         let kept = HeapCircularBuffer::with_capacity(alloc, MOST_KEPT)?;
+        let undone = HeapCircularBuffer::with_capacity(alloc, MOST_KEPT)?;
         let mut spare = HeapCircularBuffer::with_capacity(alloc, MOST_KEPT + 1)?;
         for _place in 0..MOST_KEPT + 1 {
             let _ = spare.push_front(Delta::new(alloc)?);
         }
         Ok(Undo {
             kept,
+            undone,
             begun: None,
             spare,
         })
     }
 
-    /// Begins an edit at the screen's state.
+    /// Begins an edit at the screen's state. What was undone can't be made again.
     pub fn begin(&mut self, screen: &Screen)
         requires none_begun { IsNotBegun self.old }
         requires fits { FitsTogether self.old screen.now }
         ensures past { past self.new screen.now ≡ past self.old screen.now }
+        ensures future { future self.new screen.now ≡ [] }
         ensures begun { IsBegun self.new }
         ensures at_begin { at_begin self.new screen.now ≡ Some screen.now }
         ensures fits { FitsTogether self.new screen.now }
     {
+        give_back(&mut self.undone, &mut self.spare);
         let mut delta = self.spare.pop_front().unwrap();
         delta.reset(screen);
         self.begun = Some(delta);
@@ -106,7 +123,7 @@ impl Undo {
 
     /// Applies a command outside all edits, marks and paints as the screen does. The latest kept edit
     /// takes it up, so that it is taken back with that edit; where none is kept, no undo takes it
-    /// back.
+    /// back. What was undone can't be made again, as after a new edit.
     #[inline(always)]
     pub fn apply_outside<G: Glass, L: Ledger>(
         &mut self,
@@ -120,49 +137,65 @@ impl Undo {
         requires fits { FitsTogether self.old screen.old }
         requires valid { IsValidCommand command.now }
         ensures past { past self.new screen.new ≡ past self.old screen.old }
+        ensures future { future self.new screen.new ≡ [] }
         ensures none_begun { IsNotBegun self.new }
         ensures fits { FitsTogether self.new screen.new }
         ensures applied { IsApplied screen.old command.now screen.new marks.new
             (G.state glass.old) (G.state glass.new) steps.old steps.new }
     {
-        if self.kept.is_empty() {
+        if self.holds_none() {
             screen.apply_from(command, glass, marks, steps);
         } else {
-            self.apply_to_latest(screen, *command, glass, marks, steps);
+            self.apply_to_latest(screen, command, glass, marks, steps);
         }
     }
 
-    /// The same where an edit is kept.
+    /// Whether no edit is kept and none is undone.
+    #[inline(always)]
+    fn holds_none(&self) -> bool
+        ensures kept { result ≡ true → self.now.kept ≡ [] }
+        ensures undone { result ≡ true → self.now.undone ≡ [] }
+    {
+        self.kept.is_empty() && self.undone.is_empty()
+    }
+
+    /// Applies a command outside all edits where an edit is kept or undone.
     // Apart, since most often none is.
     #[inline(never)]
     fn apply_to_latest<G: Glass, L: Ledger>(
         &mut self,
         screen: &mut Screen,
-        command: Command,
+        command: &Command,
         glass: &mut G,
         marks: &mut Marks,
         steps: &mut Steps<L>,
     )
-        requires some { self.old.kept ≢ [] }
         requires none_begun { IsNotBegun self.old }
         requires fits { FitsTogether self.old screen.old }
-        requires valid { IsValidCommand command }
+        requires valid { IsValidCommand command.now }
         ensures past { past self.new screen.new ≡ past self.old screen.old }
+        ensures future { future self.new screen.new ≡ [] }
         ensures none_begun { IsNotBegun self.new }
         ensures fits { FitsTogether self.new screen.new }
-        ensures applied { IsApplied screen.old command screen.new marks.new
+        ensures applied { IsApplied screen.old command.now screen.new marks.new
             (G.state glass.old) (G.state glass.new) steps.old steps.new }
     {
-        let mut latest = self.kept.pop_front().unwrap();
-        screen.apply_noting(command, glass, marks, &mut latest, steps);
-        let _ = self.kept.push_front(latest);
+        give_back(&mut self.undone, &mut self.spare);
+        match self.kept.pop_front() {
+            Some(mut latest) => {
+                screen.apply_noting(*command, glass, marks, &mut latest, steps);
+                let _ = self.kept.push_front(latest);
+            }
+            None => screen.apply_from(command, glass, marks, steps),
+        }
     }
 
-    /// Keeps the edit. Where 32 are kept, the oldest is dropped whole.
+    /// Keeps the edit. Where 64 are kept, the oldest is dropped whole.
     pub fn commit(&mut self)
         requires { IsBegun self.old }
         ensures past { (screen before : State) → at_begin self.old screen ≡ Some before
             → past self.new screen ≡ take most_kept (before ∷ past self.old screen) }
+        ensures future { (screen : State) → future self.new screen ≡ [] }
         ensures none_begun { IsNotBegun self.new }
         ensures fits { (screen : State) → FitsTogether self.old screen
             → FitsTogether self.new screen }
@@ -174,8 +207,8 @@ impl Undo {
     }
 
     /// Takes the latest kept edit back: brings the state before it, marks exactly the places whose
-    /// look changes, and paints each of them once, in reading order, with its new look. Where none
-    /// is kept, nothing is touched.
+    /// look changes, and paints each of them once, in reading order, with its new look. The edit can
+    /// then be made again. Where none is kept, nothing is touched.
     pub fn undo<G: Glass, L: Ledger>(
         &mut self,
         screen: &mut Screen,
@@ -186,9 +219,11 @@ impl Undo {
         requires none_begun { IsNotBegun self.old }
         requires fits { FitsTogether self.old screen.old }
         ensures past { past self.new screen.new ≡ drop 1 (past self.old screen.old) }
+        ensures future { future self.new screen.new
+            ≡ handed_on (past self.old screen.old) screen.old (future self.old screen.old) }
         ensures none_begun { IsNotBegun self.new }
         ensures fits { FitsTogether self.new screen.new }
-        ensures state { screen.new ≡ state_before_latest (past self.old screen.old) screen.old }
+        ensures state { screen.new ≡ nearest (past self.old screen.old) screen.old }
         ensures repainted { IsRepainted screen.old screen.new marks.new (G.state glass.old)
             (G.state glass.new) }
         ensures at_most_24 { steps.new ≤ steps.old + 24 }
@@ -201,24 +236,79 @@ impl Undo {
         ensures unmarked { result ≡ Undone.Nothing → marks.new ≡ no_marks }
         ensures unticked { result ≡ Undone.Nothing → steps.new ≡ steps.old }
     {
-        match self.kept.pop_front() {
-            Some(delta) => {
-                screen.restore(&delta, glass, marks, steps);
-                let _ = self.spare.push_front(delta);
-                Undone::Undone
-            }
-            None => {
-                *marks = Marks::new();
-                Undone::Nothing
-            }
+        if turn(
+            &mut self.kept,
+            &mut self.undone,
+            screen,
+            glass,
+            marks,
+            steps,
+        ) {
+            Undone::Undone
+        } else {
+            Undone::Nothing
         }
     }
 
-    /// How many edits are kept, at most 32.
+    /// Makes the edit again that was taken back last: brings the state after it, marks exactly the
+    /// places whose look changes, and paints each of them once, in reading order, with its new look.
+    /// The edit is then the latest kept one. Where none is undone, nothing is touched.
+    pub fn redo<G: Glass, L: Ledger>(
+        &mut self,
+        screen: &mut Screen,
+        glass: &mut G,
+        marks: &mut Marks,
+        steps: &mut Steps<L>,
+    ) -> Redone
+        requires none_begun { IsNotBegun self.old }
+        requires fits { FitsTogether self.old screen.old }
+        ensures future { future self.new screen.new ≡ drop 1 (future self.old screen.old) }
+        ensures past { past self.new screen.new
+            ≡ handed_on (future self.old screen.old) screen.old (past self.old screen.old) }
+        ensures none_begun { IsNotBegun self.new }
+        ensures fits { FitsTogether self.new screen.new }
+        ensures state { screen.new ≡ nearest (future self.old screen.old) screen.old }
+        ensures repainted { IsRepainted screen.old screen.new marks.new (G.state glass.old)
+            (G.state glass.new) }
+        ensures at_most_24 { steps.new ≤ steps.old + 24 }
+
+        // Where no edit is undone.
+        ensures nothing { (result ≡ Redone.Nothing) ↔ (future self.old screen.old ≡ []) }
+        ensures stays { result ≡ Redone.Nothing → self.new ≡ self.old }
+        ensures unchanged { result ≡ Redone.Nothing → screen.new ≡ screen.old }
+        ensures unpainted { result ≡ Redone.Nothing → glass.new ≡ glass.old }
+        ensures unmarked { result ≡ Redone.Nothing → marks.new ≡ no_marks }
+        ensures unticked { result ≡ Redone.Nothing → steps.new ≡ steps.old }
+    {
+        if turn(
+            &mut self.undone,
+            &mut self.kept,
+            screen,
+            glass,
+            marks,
+            steps,
+        ) {
+            Redone::Redone
+        } else {
+            Redone::Nothing
+        }
+    }
+
+    /// How many edits are kept, at most 64.
     pub fn kept(&self) -> u32
         ensures past { (screen : State) → result ≡ length (past self.now screen) }
-        ensures at_most_32 { result ≤ 32 }
+        ensures at_most_64 { result ≤ 64 }
     {
         self.kept.len() as u32
+    }
+
+    /// How many edits are undone and can be made again, at most 64, and as many as are kept less.
+    pub fn undone(&self) -> u32
+        ensures future { (screen : State) → result ≡ length (future self.now screen) }
+        ensures at_most_64 { result ≤ 64 }
+        ensures together { (screen : State)
+            → length (past self.now screen) + length (future self.now screen) ≤ 64 }
+    {
+        self.undone.len() as u32
     }
 }

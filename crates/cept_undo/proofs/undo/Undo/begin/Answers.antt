@@ -1,6 +1,6 @@
 use Rattle.std.proofs.Common.{refl, ap}
 use Rattle.cept_undo.specs.Past.{Edits}
-use Rattle.cept_undo.proofs.TakenBack.{FitsTogether-begin, at_begin-begin, past-begin}
+use Rattle.cept_undo.proofs.TakenBack.{FitsTogether-begin, at_begin-begin, future-none, past-begin}
 use Rattle.cept_undo.proofs.undo.Undo.begin.Goals as goal
 
 pub returns-clause-past : goal.returns-clause-past
@@ -8,10 +8,13 @@ returns-clause-past c =
     past-begin c.args.self.now _ c.args.screen.now c.reset.new.self c.requires.none_begun
     (ap (λ (u : Edits). u.kept) c.self.view_is) refl c.reset.ensures.unwound
 
+pub returns-clause-future : goal.returns-clause-future
+returns-clause-future c = future-none _ c.args.screen.now c.give_back.ensures.none
+
 pub returns-clause-at_begin : goal.returns-clause-at_begin
 returns-clause-at_begin c = at_begin-begin _ c.args.screen.now c.reset.new.self refl c.reset.ensures.unwound
 
 pub returns-clause-fits : goal.returns-clause-fits
 returns-clause-fits c =
     FitsTogether-begin c.args.self.now _ c.args.screen.now (returns-clause-past c) (returns-clause-at_begin c)
-    c.requires.fits c.reset.ensures.valid
+    (returns-clause-future c) c.requires.fits c.reset.ensures.valid

@@ -1,83 +1,58 @@
-use Rattle.std.proofs.Common.{Option, drop, refl, sym, ap, subst, ◌∙◌}
-use Rattle.std.specs.Prelude.{IsNone}
-use Rattle.cept_profile.specs.Look.{looks_of}
-use Rattle.cept_profile.specs.OldValues.{OldValues}
-use Rattle.cept_profile.specs.State.{core_of}
-use Rattle.circular_buffer.specs.Buffer.{Buffer}
-use Rattle.cept_undo.specs.Past.{Edits, state_before_latest}
-use Rattle.cept_undo.proofs.TakenBack.{FitsTogether-undo, first_and_rest, latest_is, latest_valid, none_first}
-use Rattle.cept_undo.proofs.TakenBack.{past-none, past-undo, some_kept}
-use Rattle.cept_undo.proofs.Unchanged.{differences-same, shown-same, told-same}
+use Rattle.std.proofs.Common.{List, drop, sym, ap, ◌∙◌}
+use Rattle.std.proofs.lemmas.Bool.{true≢false}
+use Rattle.cept_profile.specs.State.{State}
+use Rattle.cept_undo.specs.Past.{handed_on, nearest}
+use Rattle.cept_undo.proofs.InTurn.{empty_in_turn, none_in_turn}
+use Rattle.cept_undo.proofs.TakenBack.{FitsTogether-sides, future-of, held_future, held_future_valid, held_past}
+use Rattle.cept_undo.proofs.TakenBack.{held_past_valid, past-unbegun, still_none}
 use Rattle.cept_undo.proofs.undo.Undo.undo.Goals as goal
+use Rattle.cept_undo.proofs.undo.Undo.undo.Goals.{then-turn, else-turn}
 
-pub restore-requires : goal.restore-requires
-restore-requires g c =
-    latest_valid c.args.self.now c.args.screen.now c.in-Some.delta (drop 1 c.self.inside.kept.items)
-    c.requires.none_begun
-    (sym (ap (λ (u : Edits). u.kept) c.self.view_is)
-    ∙ first_and_rest c.self.inside.kept.items c.in-Some.delta c.in-Some.ensures.value)
-    c.requires.fits
+pub turn-requires-clause-valid : goal.turn-requires-clause-valid
+turn-requires-clause-valid g c =
+    held_past_valid _ c.args.self.now c.args.screen.now c.self.view_is c.requires.none_begun c.requires.fits
 
-pub returns-in-Some-clause-past : goal.returns-in-Some-clause-past
-returns-in-Some-clause-past g c =
-    past-undo c.args.self.now _ c.args.screen.now c.restore.new.self c.in-Some.delta
-    (drop 1 c.self.inside.kept.items) c.requires.none_begun
-    (sym (ap (λ (u : Edits). u.kept) c.self.view_is)
-    ∙ first_and_rest c.self.inside.kept.items c.in-Some.delta c.in-Some.ensures.value)
-    (ap (λ (b : Buffer OldValues). b.items) c.pop_front.ensures.items)
-    (subst (λ (o : Option OldValues). IsNone o) (sym (ap (λ (u : Edits). u.begun) c.self.view_is))
-    c.requires.none_begun)
-    c.restore.ensures.state
+pub turn-requires-clause-valid_back : goal.turn-requires-clause-valid_back
+turn-requires-clause-valid_back g c =
+    held_future_valid _ c.args.self.now c.args.screen.now c.self.view_is c.requires.fits
 
-pub returns-in-Some-clause-fits : goal.returns-in-Some-clause-fits
-returns-in-Some-clause-fits g c =
-    FitsTogether-undo c.args.self.now _ c.args.screen.now c.restore.new.self c.requires.fits
-    (subst (λ (o : Option OldValues). IsNone o) (sym (ap (λ (u : Edits). u.begun) c.self.view_is))
-    c.requires.none_begun)
-    (returns-in-Some-clause-past g c)
+pub returns-clause-past : goal.returns-clause-past
+returns-clause-past g c =
+    past-unbegun _ c.turn.new.screen
+    (still_none _ c.args.self.now c.self.view_is c.requires.none_begun)
+    ∙ c.turn.ensures.from
+    ∙ ap (λ (l : List State). drop 1 l) (held_past _ c.args.self.now c.args.screen.now c.self.view_is c.requires.none_begun)
 
-pub returns-in-Some-clause-state : goal.returns-in-Some-clause-state
-returns-in-Some-clause-state g c =
-    c.restore.ensures.state
-    ∙ latest_is c.args.self.now c.args.screen.now c.in-Some.delta (drop 1 c.self.inside.kept.items)
-    c.requires.none_begun
-    (sym (ap (λ (u : Edits). u.kept) c.self.view_is)
-    ∙ first_and_rest c.self.inside.kept.items c.in-Some.delta c.in-Some.ensures.value)
+pub returns-clause-future : goal.returns-clause-future
+returns-clause-future g c =
+    future-of _ c.turn.new.screen
+    ∙ c.turn.ensures.to
+    ∙ (λ i. handed_on (held_past _ c.args.self.now c.args.screen.now c.self.view_is c.requires.none_begun i)
+    c.args.screen.now (held_future _ c.args.self.now c.args.screen.now c.self.view_is i))
 
-pub returns-in-Some-clause-nothing : goal.returns-in-Some-clause-nothing
-returns-in-Some-clause-nothing g c = (
-  λ same. absurd cc,
-  λ empty. some_kept c.args.self.now c.args.screen.now c.in-Some.delta (drop 1 c.self.inside.kept.items)
-      c.requires.none_begun
-      (sym (ap (λ (u : Edits). u.kept) c.self.view_is)
-      ∙ first_and_rest c.self.inside.kept.items c.in-Some.delta c.in-Some.ensures.value)
-      empty,
-)
+pub returns-clause-fits : goal.returns-clause-fits
+returns-clause-fits g c =
+    FitsTogether-sides _ c.turn.new.screen (still_none _ c.args.self.now c.self.view_is c.requires.none_begun)
+    c.turn.ensures.valid c.turn.ensures.valid_back
 
-pub returns-in-None-clause-past : goal.returns-in-None-clause-past
-returns-in-None-clause-past g c =
-    let none = none_first c.self.inside.kept.items c.in-None.ensures.value in
-    past-none _ c.args.screen.now (ap (λ (b : Buffer OldValues). b.items) c.pop_front.ensures.items ∙ ap (drop 1) none)
-    ∙ sym (ap (drop 1)
-    (past-none c.args.self.now c.args.screen.now (sym (ap (λ (u : Edits). u.kept) c.self.view_is) ∙ none)))
+pub returns-clause-state : goal.returns-clause-state
+returns-clause-state g c =
+    c.turn.ensures.state
+    ∙ ap (λ (l : List State). nearest l c.args.screen.now)
+    (held_past _ c.args.self.now c.args.screen.now c.self.view_is c.requires.none_begun)
 
-pub returns-in-None-clause-state : goal.returns-in-None-clause-state
-returns-in-None-clause-state g c =
-    sym (ap (λ l. state_before_latest l c.args.screen.now) (past-none c.args.self.now c.args.screen.now
-    (sym (ap (λ (u : Edits). u.kept) c.self.view_is)
-    ∙ none_first c.self.inside.kept.items c.in-None.ensures.value)))
-
-pub returns-in-None-clause-nothing : goal.returns-in-None-clause-nothing
-returns-in-None-clause-nothing g c = (
-  λ _. past-none c.args.self.now c.args.screen.now
-      (sym (ap (λ (u : Edits). u.kept) c.self.view_is)
-      ∙ none_first c.self.inside.kept.items c.in-None.ensures.value),
-  λ _. refl,
-)
-
-pub returns-in-None-clause-repainted : goal.returns-in-None-clause-repainted
-returns-in-None-clause-repainted g c = record {
-  marks = c.new.ensures ∙ differences-same (looks_of (core_of c.args.screen.now));
-  shown = shown-same (g.G.Glass.state c.args.glass.now).grid (looks_of (core_of c.args.screen.now));
-  told = told-same (g.G.Glass.state c.args.glass.now).paints (looks_of (core_of c.args.screen.now));
-}
+pub returns-clause-nothing : goal.returns-clause-nothing
+returns-clause-nothing g c =
+    let states = held_past _ c.args.self.now c.args.screen.now c.self.view_is c.requires.none_begun in
+    elim c.if-turn.branch [
+      | then-turn w ↦ (
+        λ same. absurd cc,
+        λ empty. absurd (true≢false (sym w.if-turn.true
+            ∙ c.turn.ensures.nothing.1 (none_in_turn c.args.screen.now c.self.inside.kept.items (states ∙ empty)))),
+      )
+      | else-turn w ↦ (
+        λ _. sym states
+            ∙ empty_in_turn c.args.screen.now c.self.inside.kept.items (c.turn.ensures.nothing.0 w.if-turn.false),
+        λ _. w.result-is,
+      )
+    ]

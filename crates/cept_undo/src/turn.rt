@@ -1,0 +1,80 @@
+ghost use Rattle.std.specs.Prelude.{◌≡◌, ◌≤◌, ◌+◌, ◌↔◌, false, [], drop, length};
+ghost use Rattle.std.specs.List.{AllByRecursion};
+ghost use Rattle.cept_profile.specs.Valid.{IsValidState};
+ghost use Rattle.cept_repaint.specs.Applied.{IsRepainted};
+ghost use Rattle.cept_repaint.specs.Marks.{no_marks};
+ghost use Rattle.cept_undo.specs.Past.{handed_on, nearest, unwound_in_turn};
+
+use cept_outside::Steps;
+use cept_repaint::{Delta, Glass, Marks, Screen};
+use circular_buffer::HeapCircularBuffer;
+use std::sync::ledger::Ledger;
+
+/// Turns the screen to the nearest of the states to which the deltas of one side lead, and hands the
+/// first of them on to the other side, from which it leads back. Where there is none, nothing is
+/// touched. Answers whether there was one.
+pub(crate) fn turn<G: Glass, L: Ledger>(
+    from: &mut HeapCircularBuffer<Delta>,
+    to: &mut HeapCircularBuffer<Delta>,
+    screen: &mut Screen,
+    glass: &mut G,
+    marks: &mut Marks,
+    steps: &mut Steps<L>,
+) -> bool
+    requires room { length from.old.items + length to.old.items ≤ to.old.capacity }
+    requires valid { AllByRecursion IsValidState (unwound_in_turn screen.old from.old.items) }
+    requires valid_back { AllByRecursion IsValidState (unwound_in_turn screen.old to.old.items) }
+    ensures state { screen.new ≡ nearest (unwound_in_turn screen.old from.old.items) screen.old }
+    ensures from { unwound_in_turn screen.new from.new.items
+        ≡ drop 1 (unwound_in_turn screen.old from.old.items) }
+    ensures to { unwound_in_turn screen.new to.new.items
+        ≡ handed_on (unwound_in_turn screen.old from.old.items) screen.old
+        (unwound_in_turn screen.old to.old.items) }
+    ensures valid { AllByRecursion IsValidState (unwound_in_turn screen.new from.new.items) }
+    ensures valid_back { AllByRecursion IsValidState (unwound_in_turn screen.new to.new.items) }
+    ensures total { length from.new.items + length to.new.items
+        ≡ length from.old.items + length to.old.items }
+    ensures from_places { from.new.capacity ≡ from.old.capacity }
+    ensures to_places { to.new.capacity ≡ to.old.capacity }
+    ensures repainted { IsRepainted screen.old screen.new marks.new (G.state glass.old)
+        (G.state glass.new) }
+    ensures at_most_24 { steps.new ≤ steps.old + 24 }
+
+    // Where there is none.
+    ensures nothing { (result ≡ false) ↔ (from.old.items ≡ []) }
+    ensures from_stays { result ≡ false → from.new ≡ from.old }
+    ensures to_stays { result ≡ false → to.new ≡ to.old }
+    ensures unchanged { result ≡ false → screen.new ≡ screen.old }
+    ensures unpainted { result ≡ false → glass.new ≡ glass.old }
+    ensures unmarked { result ≡ false → marks.new ≡ no_marks }
+    ensures unticked { result ≡ false → steps.new ≡ steps.old }
+{
+    match from.pop_front() {
+        Some(mut delta) => {
+            screen.exchange(&mut delta, glass, marks, steps);
+            let _ = to.push_front(delta);
+            true
+        }
+        None => {
+            *marks = Marks::new();
+            false
+        }
+    }
+}
+
+/// Gives all deltas of one side back to the spare ones.
+pub(crate) fn give_back(
+    undone: &mut HeapCircularBuffer<Delta>,
+    spare: &mut HeapCircularBuffer<Delta>,
+)
+    requires room { length undone.old.items + length spare.old.items ≤ spare.old.capacity }
+    ensures none { undone.new.items ≡ [] }
+    ensures places { undone.new.capacity ≡ undone.old.capacity }
+    ensures all { length spare.new.items ≡ length undone.old.items + length spare.old.items }
+    ensures spare_places { spare.new.capacity ≡ spare.old.capacity }
+{
+    for _left in 0..undone.len() {
+        let delta = undone.pop_front().unwrap();
+        let _ = spare.push_front(delta);
+    }
+}
