@@ -37,4 +37,5 @@ pub mod WalkedRows
 mod Unchanged
 pub mod UnwoundStates
 pub mod UnwoundRows
+pub mod WorkedExchange
 pub mod NoneNoted
