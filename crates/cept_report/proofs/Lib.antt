@@ -2,5 +2,6 @@ pub mod Digits
 pub mod TextsInPieces
 pub mod LinesPut
 pub mod ScreenLines
+pub mod PhaseLines
 pub mod Worked
 pub mod WorkedPatterns

@@ -36,7 +36,7 @@ pieces-rest f a n (suc d) =
     )
 
 -- the text goes on after the next piece
-pieces-go_on : (f : ℕ → List ℕ) (a n m : ℕ) → n < m
+pub pieces-go_on : (f : ℕ → List ℕ) (a n m : ℕ) → n < m
     → (rest : List ℕ) × (pieces f a m ≡ (pieces f a n ++ f (a + n)) ++ rest)
 pieces-go_on f a n m h =
     let others = pieces-rest f a (n + 1) (m - (n + 1)) in (

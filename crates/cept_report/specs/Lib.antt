@@ -1,3 +1,4 @@
 pub mod Ascii
 pub mod Screen
 pub mod Text
+pub mod Phases

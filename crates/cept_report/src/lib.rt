@@ -7,11 +7,13 @@ mod lines;
 mod look;
 mod paint;
 mod pattern;
+mod phases;
 mod put;
 mod signs;
 #[cfg(test)]
 mod tests;
 
+pub use phases::put_phases;
 pub use put::{
     put_cells, put_changes, put_changes_if, put_check, put_line, put_load, put_nothing,
     put_refusal, put_screen, put_script_fault,
