@@ -24,3 +24,4 @@ mod TurnedPages
 pub mod PutEnds
 pub mod EndTexts
 pub mod Numbers
+mod Worked

@@ -72,6 +72,7 @@ page_end ends.Screen asked shown page commands e = cc
 page_end ends.Cells asked shown page commands e = cc
 page_end ends.Page asked shown page commands e = refl
 page_end ends.Counts asked shown page commands e = cc
+page_end (ends.Phases turns) asked shown page commands e = cc
 
 written_text : (asked : Asked) (shown : List (List Look)) (page : List ℕ) (commands : List Command)
     → PutsPage asked → text_at_end asked shown page commands ≡ page_text (core commands)

@@ -16,7 +16,8 @@ use Rattle.cept_run.specs.declared.words.NumberAction.{NumberAction}
 use Rattle.cept_run.specs.declared.words.NumberAction.TheVariants as numbers
 use Rattle.cept_run.specs.Events.{history, item_events, run_events, remaining_of}
 use Rattle.cept_run.specs.Turned.{turned, turned_front, readable_front, can_end_there}
-use Rattle.cept_run.specs.Words.{Request, Page, Bytes, Script, Number, asked_of_page, asked_of_script, asked_to_load}
+use Rattle.cept_run.specs.Words.{Request, Page, Bytes, Script, Number, Flash, asked_of_page, asked_of_script}
+use Rattle.cept_run.specs.Words.{asked_to_load, asked_of_phases}
 
 -- ---- what is read
 
@@ -146,3 +147,4 @@ course_of (Page action page) = reporting (asked_of_page action) (File page) (Giv
 course_of (Bytes action page) = turning action page
 course_of (Script action page script) = reporting (asked_of_script action) (File page) (File script)
 course_of (Number action number) = course_of_number action number
+course_of (Flash page turns) = reporting (asked_of_phases turns) (File page) (Given [])

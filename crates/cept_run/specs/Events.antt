@@ -13,6 +13,7 @@ use Rattle.cept_parser.specs.Items.{closed_items, commands_of, is_refusal}
 use Rattle.cept_profile.specs.Changes.{changes_between}
 use Rattle.cept_profile.specs.Control.{control}
 use Rattle.cept_profile.specs.Look.{grid}
+use Rattle.cept_report.specs.Phases.{phase_lines}
 use Rattle.cept_report.specs.Screen.{screen_text, cells_text}
 use Rattle.cept_report.specs.Text.{change_lines, refusal_line, check_line, load_line}
 use Rattle.cept_profile.specs.State.{core}
@@ -81,6 +82,7 @@ painted_end ends.Cells asked shown page commands = cells_text shown (rows_after 
 painted_end ends.Page asked shown page commands = page_text (core commands)
 painted_end ends.Counts asked shown page commands =
     load_line (length page) (length (closed_items page)) (painted_at asked (closed_items page))
+painted_end (ends.Phases turns) asked shown page commands = phase_lines (grid commands) turns
 
 -- what is put at the end of a page; of one that isn't painted the counts of its items
 abbrev pub text_at_end : Asked → List (List Look) → List ℕ → List Command → List ℕ

@@ -1,10 +1,11 @@
 -- What stands while a page is reported, and from which items to which it goes on. This project's own. Private clauses
 -- alone cite this file.
 use Rattle.std.specs.Prelude.{◌≡◌, ℕ, ◌+◌, ◌≤◌, Bool, true, false, List, [], ◌∷◌, ◌++◌, length, Option, Some, None}
-use Rattle.std.specs.Prelude.{if◌then◌else◌, Result, OnOk, OnErr, IsOk}
+use Rattle.std.specs.Prelude.{if◌then◌else◌, Result, OnOk, OnErr, IsOk, IsSome}
 use Rattle.cept_codes.specs.declared.command.Command.{Command}
 use Rattle.cept_codes.specs.declared.item.Item.{Item}
 use Rattle.cept_codes.specs.declared.item.Reason.{Reason}
+use Rattle.cept_flash.specs.Flashing.{FlashingGrid}
 use Rattle.cept_parser.specs.Items.{items, closed_items}
 use Rattle.cept_parser.specs.State.{ParserState, Leads}
 use Rattle.cept_profile.specs.Changes.{changes, differences, grid_with_paints}
@@ -21,10 +22,17 @@ use Rattle.cept_editor.specs.Stepping.{line_events}
 use Rattle.cept_run.specs.declared.easel.Easel.{Easel}
 use Rattle.cept_run.specs.declared.easel.Easel.TheVariants as easels
 use Rattle.cept_run.specs.declared.words.Asked.{Asked}
+use Rattle.cept_run.specs.declared.words.End.{End}
+use Rattle.cept_run.specs.declared.words.End.TheVariants as ends
 use Rattle.cept_run.specs.Words.{is_counted}
 use Rattle.cept_run.specs.Events.{history, item_events, refused_count, painted_at, kept_of, script_events, edited_events}
 
 -- ---- the reporter of items
+
+-- where phases are put at the end, there is what goes through them
+abbrev pub HasBlink : End → Option FlashingGrid → Type 0
+HasBlink (ends.Phases turns) blink = IsSome blink
+HasBlink _ blink = Unit {0}
 
 -- what is done with a page, and the edits of the script that is asked for beside it, if one is
 pub record Plan : Type 0 where

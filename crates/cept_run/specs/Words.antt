@@ -25,12 +25,14 @@ use Rattle.cept_run.specs.declared.words.Word.TheVariants as words
 -- ---- requests
 
 -- what the program is asked for: of the page of this name; of the bytes of the page of this name; of the page of the first
--- name and the script of the second; of the generated page of this number
+-- name and the script of the second; of the generated page of this number; of the page of this name through so many turns of
+-- its flashing
 pub data Request : Type 0 where
   Page : PageAction → List ℕ → Request
   Bytes : BytesAction → List ℕ → Request
   Script : ScriptAction → List ℕ → List ℕ → Request
   Number : NumberAction → ℕ → Request
+  Flash : List ℕ → ℕ → Request
 
 -- a request by its names' bytes
 abbrev pub request_by : NamedRequest → Request
@@ -38,6 +40,7 @@ request_by (named.Page action page) = Page action (string_bytes page.now)
 request_by (named.Bytes action page) = Bytes action (string_bytes page.now)
 request_by (named.Script action page script) = Script action (string_bytes page.now) (string_bytes script.now)
 request_by (named.Number action number) = Number action number
+request_by (named.Flash page turns) = Flash (string_bytes page.now) turns
 
 -- the table of the first words
 abbrev pub word_of : List ℕ → Option Word
@@ -53,6 +56,7 @@ word_of word =
     if bytes_eq word (codes "load") then Some (words.Number numbers.Load) else
     if bytes_eq word (codes "seven") then Some (words.Bytes bytes.Seven) else
     if bytes_eq word (codes "eight") then Some (words.Bytes bytes.Eight) else
+    if bytes_eq word (codes "flash") then Some words.Flash else
     None
 
 -- the value in decimal of a word of one to ten digits, where it is at most 2^32 - 1
@@ -83,12 +87,22 @@ abbrev pub number_request : NumberAction → List (List ℕ) → Option Request
 number_request action (number ∷ []) = option_map (Number action) (number_of number)
 number_request action _ = None
 
+-- the number of turns of such a word, where it is at most 600
+abbrev pub turns_of : List ℕ → Option ℕ
+turns_of word = option_and_then (λ n. if nat_le n 600 then Some n else None) (number_of word)
+
+-- the name of a page, which isn't empty, and the number of turns of its flashing
+abbrev pub flash_request : List (List ℕ) → Option Request
+flash_request ((a ∷ name) ∷ number ∷ []) = option_map (Flash (a ∷ name)) (turns_of number)
+flash_request _ = None
+
 -- what a first word asks for with the words after it
 abbrev pub request_with : Word → List (List ℕ) → Option Request
 request_with (words.Page action) after = page_request action after
 request_with (words.Bytes action) after = bytes_request action after
 request_with (words.Script action) after = script_request action after
 request_with (words.Number action) after = number_request action after
+request_with words.Flash after = flash_request after
 
 -- what the words ask for
 unfoldable pub request_of : List (List ℕ) → Option Request
@@ -101,6 +115,7 @@ HasTwoNames (Page action page) = Unit {0}
 HasTwoNames (Bytes action page) = Unit {0}
 HasTwoNames (Script action page script) = script ≢ page
 HasTwoNames (Number action number) = Unit {0}
+HasTwoNames (Flash page turns) = Unit {0}
 
 -- ---- what each action asks for
 
@@ -130,6 +145,10 @@ asked_of_script scripts.Edit = record painted_alone { end = ends.Page }
 -- of a generated page that is read and painted
 abbrev pub asked_to_load : Asked
 asked_to_load = record painted_alone { end = ends.Counts }
+
+-- of a page that flashes through so many turns
+abbrev pub asked_of_phases : ℕ → Asked
+asked_of_phases turns = record painted_alone { end = ends.Phases turns }
 
 -- painted cells are counted where the count is put at the end
 abbrev pub is_counted : End → Bool

@@ -10,6 +10,7 @@ ghost use Rattle.cept_editor.specs.Made.{Output, output_of};
 use crate::easel::Easel;
 use crate::reporter::Reporter;
 use crate::words::Asked;
+use cept_flash::Blink;
 use cept_outside::{Sink, Steps, WriteFault};
 use cept_parser::laws::reading_goes_on;
 use cept_parser::{Closed, Parser};
@@ -39,7 +40,7 @@ impl Model for Decoder {
 
 impl Decoder {
     ghost use Rattle.cept_run.specs.Reporting.{Plan, StandsAtEnd, HasRead, ReadsOn, ReadsToEnd};
-    ghost use Rattle.cept_run.specs.Reporting.{EditsOn, easel_at, remaining_at_end};
+    ghost use Rattle.cept_run.specs.Reporting.{EditsOn, HasBlink, easel_at, remaining_at_end};
 
     /// A decoder before the first byte, of what is asked for, with what commands are applied to.
     pub fn new(asked: Asked, easel: Easel) -> Decoder
@@ -133,15 +134,17 @@ impl Decoder {
     pub fn put_end<T: Sink, G: Glass>(
         &self,
         bytes: u64,
+        blink: &mut Option<Blink>,
         sink: &mut T,
         glass: &G,
     ) -> Result<(), WriteFault>
         ensures { (plan : Plan) (page : List ℕ)
-            → StandsAtEnd plan self.now.reporter (closed_items page) → bytes ≡ length page
+            → StandsAtEnd plan self.now.reporter (closed_items page)
+            → HasBlink plan.asked.end blink.old → bytes ≡ length page
             → PutsText (T.state sink.old) (text_at_end plan.asked (G.state glass.now).grid page
             (remaining_at_end plan (closed_items page))) result (T.state sink.new) }
     {
-        self.reporter.put_end(bytes, sink, glass)
+        self.reporter.put_end(bytes, blink, sink, glass)
     }
 
     /// Whether an item was refused.

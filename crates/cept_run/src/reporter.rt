@@ -15,9 +15,12 @@ use crate::easel::Easel;
 use crate::edits::make_lines;
 use crate::words::{Asked, End};
 use cept_codes::{Command, Item, Reason, Said};
+use cept_flash::Blink;
 use cept_outside::{Sink, Steps, WriteFault};
 use cept_repaint::{Glass, Marks, Screen};
-use cept_report::{put_cells, put_changes_if, put_check, put_load, put_refusal, put_screen};
+use cept_report::{
+    put_cells, put_changes_if, put_check, put_load, put_phases, put_refusal, put_screen,
+};
 use cept_writer::write_page;
 use std::marker::Model;
 use std::sync::ledger::Ledger;
@@ -64,7 +67,7 @@ fn count_marked(counting: bool, marks: &Marks) -> u64
 
 impl Reporter {
     ghost use Rattle.cept_run.specs.Reporting.{Plan, StandsAtEnd, Applies, ReportsOn, EditsOn};
-    ghost use Rattle.cept_run.specs.Reporting.{refusal_text, remaining_at_end};
+    ghost use Rattle.cept_run.specs.Reporting.{refusal_text, remaining_at_end, HasBlink};
 
     /// A reporter before the first item, of what is asked for, with what commands are applied to.
     pub fn new(asked: Asked, easel: Easel) -> Reporter
@@ -203,11 +206,13 @@ impl Reporter {
         &self,
         screen: &Screen,
         bytes: u64,
+        blink: &mut Option<Blink>,
         sink: &mut T,
         glass: &G,
     ) -> Result<(), WriteFault>
         ensures { (plan : Plan) (page : List ℕ)
             → StandsAtEnd plan self.now (closed_items page)
+            → HasBlink plan.asked.end blink.old
             → screen.now ≡ state (remaining_at_end plan (closed_items page))
             → bytes ≡ length page
             → PutsText (T.state sink.old) (painted_end plan.asked.end plan.asked
@@ -220,6 +225,11 @@ impl Reporter {
             End::Cells => put_cells(sink, glass, screen.rows()),
             End::Page => write_page(screen, sink),
             End::Counts => put_load(sink, bytes, self.items, self.painted),
+            End::Phases(turns) => match blink {
+                Some(blink) => put_phases(sink, screen, turns, blink),
+                // Where phases are put there is one.
+                None => Ok(()),
+            },
         }
     }
 
@@ -227,17 +237,19 @@ impl Reporter {
     pub fn put_end<T: Sink, G: Glass>(
         &self,
         bytes: u64,
+        blink: &mut Option<Blink>,
         sink: &mut T,
         glass: &G,
     ) -> Result<(), WriteFault>
         ensures { (plan : Plan) (page : List ℕ)
-            → StandsAtEnd plan self.now (closed_items page) → bytes ≡ length page
+            → StandsAtEnd plan self.now (closed_items page)
+            → HasBlink plan.asked.end blink.old → bytes ≡ length page
             → PutsText (T.state sink.old) (text_at_end plan.asked (G.state glass.now).grid page
             (remaining_at_end plan (closed_items page))) result (T.state sink.new) }
     {
         match self.easel.screen() {
             None => put_check(sink, self.items, self.refused),
-            Some(screen) => self.put_painted(screen, bytes, sink, glass),
+            Some(screen) => self.put_painted(screen, bytes, blink, sink, glass),
         }
     }
 

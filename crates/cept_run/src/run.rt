@@ -1,4 +1,4 @@
-ghost use Rattle.std.specs.Prelude.{◌≡◌, ◌≢◌, ◌^◌, ◌<◌, ◌≤◌, [], List, ℕ};
+ghost use Rattle.std.specs.Prelude.{◌≡◌, ◌≢◌, ◌^◌, ◌<◌, ◌≤◌, [], List, None, ℕ};
 ghost use Rattle.std.specs.Prelude.{map, string_bytes, length};
 ghost use Rattle.cept_editor.specs.Made.{Output};
 ghost use Rattle.cept_editor.specs.Script.{edits};
@@ -12,12 +12,12 @@ ghost use Rattle.cept_run.specs.Events.{text_at_end, has_refusal};
 ghost use Rattle.cept_run.specs.Outside.{outside_of};
 ghost use Rattle.cept_run.specs.Page.{PutsEnd};
 ghost use Rattle.cept_run.specs.Reporting.{Plan, StandsAtEnd, HasRead, plan_in, lines_of};
-ghost use Rattle.cept_run.specs.Reporting.{remaining_at_end};
+ghost use Rattle.cept_run.specs.Reporting.{HasBlink, remaining_at_end};
 ghost use Rattle.cept_run.specs.Run.{Runs, RunsCourse, Asks, IsShortScript};
 ghost use Rattle.cept_run.specs.Run.{status_number, status_of, status_at_end};
 ghost use Rattle.cept_run.specs.ScriptReading.{ScriptKnown};
 ghost use Rattle.cept_run.specs.Words.{Request as Asked, HasTwoNames, Page, Script as OfScript};
-ghost use Rattle.cept_run.specs.Words.{Number, request_by};
+ghost use Rattle.cept_run.specs.Words.{Flash, Number, request_by};
 
 use crate::decoder::Decoder;
 use crate::easel::Easel;
@@ -26,9 +26,11 @@ use crate::page::{Stop, read_page};
 use crate::script::read_script;
 use crate::turning::put_bytes;
 use crate::words::{
-    BytesAction, LOADED, NumberAction, PageAction, Request, ScriptAction, request_of,
+    BytesAction, LOADED, NumberAction, PageAction, Request, ScriptAction, asked_of_phases,
+    request_of,
 };
 use cept_editor::Editor;
+use cept_flash::Blink;
 use cept_generator::{generated_pages_are_read, generated_pages_are_short};
 use cept_outside::{QuietShelf, QuietSink, Shelf, Sink, Steps};
 use cept_profile::validity_is_kept;
@@ -120,17 +122,19 @@ impl Status {
 fn end_report<T: Sink, G: Glass>(
     decoder: &Decoder,
     bytes: u64,
+    blink: &mut Option<Blink>,
     sink: &mut T,
     glass: &G,
 ) -> Result<bool, Stop>
     ensures { (plan : Plan) (page : List ℕ)
         → StandsAtEnd plan decoder.now.reporter (closed_items page)
+        → HasBlink plan.asked.end blink.old
         → bytes ≡ length page
         → PutsEnd (text_at_end plan.asked (G.state glass.now).grid page
         (remaining_at_end plan (closed_items page)))
         (has_refusal (closed_items page)) (T.state sink.old) result (T.state sink.new) }
 {
-    decoder.put_end(bytes, sink, glass)?;
+    decoder.put_end(bytes, blink, sink, glass)?;
     let Ok(()) = sink.flush() else {
         return Err(Stop::WriteFault);
     };
@@ -141,6 +145,7 @@ fn end_report<T: Sink, G: Glass>(
 /// and flushes. Answers whether an item of the page was refused.
 fn report_stored<F: Shelf, T: Sink, G: Glass, L: Ledger>(
     decoder: &mut Decoder,
+    blink: &mut Option<Blink>,
     page: &String,
     shelf: &mut F,
     sink: &mut T,
@@ -149,6 +154,7 @@ fn report_stored<F: Shelf, T: Sink, G: Glass, L: Ledger>(
 ) -> Result<bool, Stop>
     requires fresh { (start : Output)
         → HasRead (plan_in decoder.old.reporter) decoder.old [] start start }
+    requires blink { HasBlink decoder.old.reporter.asked.end blink.old }
     requires name { blank.name ≡ L.name }
     requires parts { blank.parts ≡ L.parts }
     requires some { 0 < blank.parts }
@@ -171,7 +177,7 @@ fn report_stored<F: Shelf, T: Sink, G: Glass, L: Ledger>(
     let mut steps = Steps::<L>::new(blank);
     let bytes = read_page(decoder, shelf, sink, glass, &mut steps)?;
     decoder.make_edits(sink, glass, &mut steps)?;
-    end_report(decoder, bytes, sink, glass)
+    end_report(decoder, bytes, blink, sink, glass)
 }
 
 /// Reports a page by itself.
@@ -193,7 +199,7 @@ fn report_page<F: Shelf, T: Sink, G: Glass>(
     let mut decoder = Decoder::new(asked, easel);
     // No step is counted: the ledger is a blank one.
     let blank = Blank::new(1);
-    report_stored::<F, T, G, Brand>(&mut decoder, page, shelf, sink, glass, blank)
+    report_stored::<F, T, G, Brand>(&mut decoder, &mut None, page, shelf, sink, glass, blank)
 }
 
 /// Reads a script, and then reports a page and the edits of the script.
@@ -218,7 +224,30 @@ fn report_edited<F: Shelf, T: Sink, G: Glass>(
     let mut decoder = Decoder::new(action.asked(), Easel::Editor(editor, script));
     // No step is counted: the ledger is a blank one.
     let blank = Blank::new(1);
-    report_stored::<F, T, G, Brand>(&mut decoder, page, shelf, sink, glass, blank)
+    report_stored::<F, T, G, Brand>(&mut decoder, &mut None, page, shelf, sink, glass, blank)
+}
+
+/// Reports a page that flashes through so many turns.
+fn report_phases<F: Shelf, T: Sink, G: Glass>(
+    alloc: Global,
+    page: &String,
+    turns: u16,
+    shelf: &mut F,
+    sink: &mut T,
+    glass: &mut G,
+) -> Result<bool, Stop>
+    ensures { RunsCourse (course_of (Flash (string_bytes page.now) turns))
+        (outside_of (F.state shelf.old) (T.state sink.old) (G.state glass.old))
+        (outside_of (F.state shelf.new) (T.state sink.new) (G.state glass.new))
+        (status_at_end result) }
+{
+    let mut blink = Some(Blink::new(alloc)?);
+    let asked = asked_of_phases(turns);
+    let easel = Easel::new(alloc, asked.painting)?;
+    let mut decoder = Decoder::new(asked, easel);
+    // No step is counted: the ledger is a blank one.
+    let blank = Blank::new(1);
+    report_stored::<F, T, G, Brand>(&mut decoder, &mut blink, page, shelf, sink, glass, blank)
 }
 
 /// Reads a generated page to its end, puts the text at the end and flushes. Answers whether an item
@@ -233,6 +262,7 @@ fn report_generated<T: Sink, G: Glass, L: Ledger>(
     requires fresh { (start : Output)
         → HasRead (plan_in decoder.old.reporter) decoder.old [] start start }
     requires alone { lines_of (plan_in decoder.old.reporter) ≡ [] }
+    requires blink { HasBlink decoder.old.reporter.asked.end None }
     requires name { blank.name ≡ L.name }
     requires parts { blank.parts ≡ L.parts }
     requires some { 0 < blank.parts }
@@ -251,7 +281,7 @@ fn report_generated<T: Sink, G: Glass, L: Ledger>(
     let mut steps = Steps::<L>::new(blank);
     let bytes = read_generated(decoder, number, sink, glass, &mut steps)?;
     decoder.make_edits(sink, glass, &mut steps)?;
-    end_report(decoder, bytes, sink, glass)
+    end_report(decoder, bytes, &mut None, sink, glass)
 }
 
 /// Reads and paints a generated page.
@@ -313,6 +343,7 @@ fn report_request<F: Shelf, T: Sink, G: Glass>(
             report_edited(alloc, action, page, script, shelf, sink, glass)
         }
         Request::Number(action, number) => report_number(alloc, action, number, sink, glass),
+        Request::Flash(page, turns) => report_phases(alloc, page, turns, shelf, sink, glass),
     }
 }
 
@@ -333,6 +364,10 @@ fn report_request<F: Shelf, T: Sink, G: Glass>(
 /// `gen NUMBER` puts the generated page of the number, and paints nothing. `load NUMBER` reads and
 /// paints it as `show` does a stored page, and puts how many bytes and items it has, and how many
 /// cells were painted. Both take the page piece by piece, and leave the shelf.
+///
+/// `flash PAGE NUMBER` paints the page as `show` does, and puts the lines of the cells that aren't
+/// blank at phase 0 of its flashing, and those of the cells that each of so many turns of the phase
+/// changes, at most 600.
 ///
 /// `seven PAGE` puts the bytes of the page in seven bits, and `eight PAGE` puts them back in eight,
 /// as far as they can be read. Both paint nothing, and no item decides the status.

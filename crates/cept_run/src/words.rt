@@ -4,7 +4,8 @@ ghost use Rattle.std.specs.Prelude.{◌≡◌, ◌≢◌, ◌∷◌, [], map, co
 ghost use Rattle.std.specs.Char.{is_ascii_digit};
 ghost use Rattle.std.specs.List.{list_all};
 ghost use Rattle.std.specs.Option.{option_map};
-ghost use Rattle.cept_run.specs.Words.{asked_of_page, asked_of_script, asked_to_load, number_of};
+ghost use Rattle.cept_run.specs.Words.{asked_of_page, asked_of_phases, asked_of_script};
+ghost use Rattle.cept_run.specs.Words.{asked_to_load, flash_request, number_of, turns_of};
 ghost use Rattle.cept_run.specs.Words.{bytes_request, is_counted, request_by, request_of, page_request};
 ghost use Rattle.cept_run.specs.Words.{script_request};
 ghost use Rattle.cept_run.specs.Words.{number_request, word_of, HasTwoNames};
@@ -65,6 +66,9 @@ pub enum End {
     Page,
     /// How many bytes and items the page has, and how many cells were painted, which are counted.
     Counts,
+    /// The cells that aren't blank at phase 0 of flashing, and those that each of so many turns
+    /// changes.
+    Phases(u16),
 }
 
 impl End {
@@ -162,6 +166,16 @@ pub const LOADED: Asked = Asked {
     end: End::Counts,
 };
 
+/// What is asked for of a page that flashes through so many turns.
+pub fn asked_of_phases(turns: u16) -> Asked
+    ensures { result ≡ asked_of_phases turns }
+{
+    Asked {
+        end: End::Phases(turns),
+        ..PAINTED
+    }
+}
+
 /// What the first word asks for, by what stands after it.
 #[derive(Clone, Copy, Debug, PartialEq, Eq)]
 pub enum Word {
@@ -173,6 +187,8 @@ pub enum Word {
     Script(ScriptAction),
     /// The number of a generated page.
     Number(NumberAction),
+    /// The name of a page, and a number of turns.
+    Flash,
 }
 
 /// What a word asks for.
@@ -201,6 +217,8 @@ fn word_of(word: &str) -> Option<Word>
         Some(Word::Bytes(BytesAction::Seven))
     } else if word == "eight" {
         Some(Word::Bytes(BytesAction::Eight))
+    } else if word == "flash" {
+        Some(Word::Flash)
     } else {
         None
     }
@@ -217,6 +235,8 @@ pub enum Request<'a> {
     Script(ScriptAction, &'a String, &'a String),
     /// Of the generated page of this number.
     Number(NumberAction, u32),
+    /// Of the page of this name, which flashes through so many turns, at most 600.
+    Flash(&'a String, u16),
 }
 
 /// Whether each byte is a digit.
@@ -280,6 +300,30 @@ fn number_request(action: NumberAction, words: &[String]) -> Option<Request<'_>>
     }
 }
 
+/// The number of turns of a word of one to ten digits, at most 600.
+fn turns_of(word: &str) -> Option<u16>
+    ensures { result ≡ turns_of word.now }
+{
+    let number = number_of(word)?;
+    if number <= 600 {
+        Some(number as u16)
+    } else {
+        None
+    }
+}
+
+/// The two words after the first, the name of a page and a number of turns.
+fn flash_request(words: &[String]) -> Option<Request<'_>>
+    ensures { option_map request_by result ≡ flash_request (map string_bytes words.now) }
+{
+    match words {
+        [page, number] if !page.is_empty() => {
+            Some(Request::Flash(page, turns_of(number.as_str())?))
+        }
+        _ => None,
+    }
+}
+
 /// What the words ask for, where they are a request.
 #[tactic(auto, unfolding(crate::specs::Words::request_of))]
 pub fn request_of(words: &[String]) -> Option<Request<'_>>
@@ -294,5 +338,6 @@ pub fn request_of(words: &[String]) -> Option<Request<'_>>
         Word::Bytes(action) => bytes_request(action, after),
         Word::Script(action) => script_request(action, after),
         Word::Number(action) => number_request(action, after),
+        Word::Flash => flash_request(after),
     }
 }

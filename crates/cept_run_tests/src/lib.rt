@@ -3,6 +3,8 @@
 #![tactic(auto)]
 
 #[cfg(test)]
+mod flash;
+#[cfg(test)]
 mod hostile;
 #[cfg(test)]
 mod run;

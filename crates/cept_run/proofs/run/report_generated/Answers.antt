@@ -37,4 +37,4 @@ returns g c = λ shelf.
     c.requires.alone _ edited.made edited.stays
     (restores h (c.compact_pages_are_spelled.ensures.none (core h) (c.validity_is_kept.ensures.core (state h)
     (c.validity_is_kept.ensures.always h edited.valid))) (c.compact_texts_bring_pages_back.ensures.always h edited.valid))
-    c.end_report.result (c.end_report.ensures plan page edited.stands c.in_ok-bytes.ensures.0)
+    c.end_report.result (c.end_report.ensures plan page edited.stands c.requires.blink c.in_ok-bytes.ensures.0)

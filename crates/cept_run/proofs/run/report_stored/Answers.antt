@@ -46,4 +46,4 @@ returns g c = λ script bytes start known lines.
     edited.made edited.stays
     (restores h (c.compact_pages_are_spelled.ensures.none (core h) (c.validity_is_kept.ensures.core (state h)
     (c.validity_is_kept.ensures.always h edited.valid))) (c.compact_texts_bring_pages_back.ensures.always h edited.valid))
-    c.end_report.result (c.end_report.ensures plan read.bytes edited.stands read.count_is)
+    c.end_report.result (c.end_report.ensures plan read.bytes edited.stands c.requires.blink read.count_is)

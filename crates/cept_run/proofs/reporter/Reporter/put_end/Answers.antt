@@ -6,15 +6,15 @@ use Rattle.cept_run.proofs.EndTexts.{screen_is, no_screen, painted_text, counted
 use Rattle.cept_run.proofs.reporter.Reporter.put_end.Goals as goal
 
 pub returns-in-None : goal.returns-in-None
-returns-in-None g c = λ plan page stands count.
+returns-in-None g c = λ plan page stands has count.
     counted_text plan _ page stands _ _ _ _
     (no_screen plan _ page stands (c.in-None.ensures ∙ ap (λ (r : ReporterState). screen_of r.easel) c.self.view_is))
     (subst (λ (r : ReporterState). PutsText (g.T.Sink.state c.args.sink.now) (check_line r.items r.refused)
     c.put_check.result (g.T.Sink.state c.put_check.new.sink)) c.self.view_is c.put_check.ensures)
 
 pub returns-in-Some : goal.returns-in-Some
-returns-in-Some g c = λ plan page stands count.
+returns-in-Some g c = λ plan page stands has count.
     let there = screen_is plan _ page stands _
     (c.in-Some.ensures ∙ ap (λ (r : ReporterState). screen_of r.easel) c.self.view_is) in
     painted_text plan _ page stands _ _ _ _ there.0
-    (c.put_painted.ensures plan page stands there.1 count)
+    (c.put_painted.ensures plan page stands has there.1 count)

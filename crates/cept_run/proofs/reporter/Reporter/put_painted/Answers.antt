@@ -16,13 +16,13 @@ use Rattle.cept_run.proofs.ReportedItems.{PutsText-nothing}
 use Rattle.cept_run.proofs.reporter.Reporter.put_painted.Goals as goal
 
 pub returns-in-Nothing : goal.returns-in-Nothing
-returns-in-Nothing g c = λ plan page stands screen count.
+returns-in-Nothing g c = λ plan page stands has screen count.
     end_as ends.Nothing plan.asked.end plan.asked _ page _ _ _ _
     (sym c.in-Nothing.is ∙ ap (λ (r : ReporterState). r.asked.end) c.self.view_is ∙ ap (λ (a : Asked). a.end) stands.asked_is)
     (PutsText-nothing (g.T.Sink.state c.args.sink.now))
 
 pub returns-in-Screen : goal.returns-in-Screen
-returns-in-Screen g c = λ plan page stands screen count.
+returns-in-Screen g c = λ plan page stands has screen count.
     end_as ends.Screen plan.asked.end plan.asked _ page _ _ _ _
     (sym c.in-Screen.is ∙ ap (λ (r : ReporterState). r.asked.end) c.self.view_is ∙ ap (λ (a : Asked). a.end) stands.asked_is)
     (subst (λ n. PutsText (g.T.Sink.state c.args.sink.now) (screen_text (g.G.Glass.state c.args.glass.now).grid n)
@@ -30,7 +30,7 @@ returns-in-Screen g c = λ plan page stands screen count.
     (c.rows.ensures.rows ∙ ap (λ (s : State). s.control.rows) screen) c.put_screen.ensures)
 
 pub returns-in-Cells : goal.returns-in-Cells
-returns-in-Cells g c = λ plan page stands screen count.
+returns-in-Cells g c = λ plan page stands has screen count.
     end_as ends.Cells plan.asked.end plan.asked _ page _ _ _ _
     (sym c.in-Cells.is ∙ ap (λ (r : ReporterState). r.asked.end) c.self.view_is ∙ ap (λ (a : Asked). a.end) stands.asked_is)
     (subst (λ n. PutsText (g.T.Sink.state c.args.sink.now) (cells_text (g.G.Glass.state c.args.glass.now).grid n)
@@ -38,14 +38,14 @@ returns-in-Cells g c = λ plan page stands screen count.
     (c.rows-in-Cells.ensures.rows ∙ ap (λ (s : State). s.control.rows) screen) c.put_cells.ensures)
 
 pub returns-in-Page : goal.returns-in-Page
-returns-in-Page g c = λ plan page stands screen count.
+returns-in-Page g c = λ plan page stands has screen count.
     end_as ends.Page plan.asked.end plan.asked _ page _ _ _ _
     (sym c.in-Page.is ∙ ap (λ (r : ReporterState). r.asked.end) c.self.view_is ∙ ap (λ (a : Asked). a.end) stands.asked_is)
     (subst (λ (s : State). PutsText (g.T.Sink.state c.args.sink.now) (page_text (core_of s)) c.write_page.result
     (g.T.Sink.state c.write_page.new.sink)) screen c.write_page.ensures)
 
 pub returns-in-Counts : goal.returns-in-Counts
-returns-in-Counts g c = λ plan page stands screen count.
+returns-in-Counts g c = λ plan page stands has screen count.
     let sink = g.T.Sink.state c.args.sink.now in
     let now = g.T.Sink.state c.put_load.new.sink in
     let all = closed_items page in
