@@ -7,6 +7,7 @@ import stat
 from btx import program
 
 MOST_PAGE, MOST_SCRIPT = 2**24, 2**20
+MOST_NUMBER, MOST_TURNS = 2**32 - 1, 600
 FAULTS = {
     1: "its first word is no word of scripts",
     2: "it has more or fewer words than it needs",
@@ -21,6 +22,11 @@ COUNTS = {1: "one", 2: "two"}
 
 def usage(word):
     return f"usage: btx {word} {program.WORDS[word][0]}"
+
+
+def files_of(word, words):
+    """The words that name files: all but a number."""
+    return words[:1] if word == "flash" else words
 
 
 def is_file(path):
@@ -63,8 +69,9 @@ def no_request(word, words):
         reason = f"takes {COUNTS[len(wanted)]} word{'s' if len(wanted) > 1 else ''} after it, {' and '.join(wanted)}, and not {len(words)}"
     elif "" in words:
         reason = "a name is empty"
-    elif wanted == ["NUMBER"]:
-        reason = f"{words[0]} is no number from 0 to 4294967295 in one to ten digits"
+    elif wanted[-1] == "NUMBER":
+        most = MOST_TURNS if word == "flash" else MOST_NUMBER
+        reason = f"{words[-1]} is no number from 0 to {most} in one to ten digits"
     elif len(set(words)) < len(words):
         reason = "PAGE and SCRIPT have the same name"
     else:
@@ -121,13 +128,13 @@ def sentence(path, word, words, status):
     if status == 3:
         return bad_line(path, word, words)
     if status == 4:
-        return unreadable(word, words)
+        return unreadable(word, files_of(word, words))
     if status == 5:
         return f"{word}: the output failed, as on a full disk; what stands in it is only the front of the whole"
     if status == 6:
         return f"{word}: there is not enough memory; nothing was put"
     if status == 7:
-        return too_long(word, words)
+        return too_long(word, files_of(word, words))
     if status == 8:
         return f"{word}: {words[0]}: this is no page in seven bits; only what stands before its first wrong byte was put"
     return f"{word}: the program ended with status {status}, which it doesn't have"

@@ -28,7 +28,7 @@ class Messages(stand.Case):
         script = self.written("script", b"at 1 2\ntext XY\nundo\n")
         requests = [[word, stand.page("title")] for word in ("changes", "check", "show", "cells", "write", "seven")]
         requests += [[word, stand.page("title"), script] for word in ("trace", "edit")]
-        for request in [*requests, ["gen", "1"]]:
+        for request in [*requests, ["flash", stand.page("flashing"), "6"], ["gen", "1"]]:
             self.assertEqual(self.ends(request, 0).stdout, stand.put(*request), request)
 
     def test_what_is_no_page_in_seven_bits(self):
@@ -63,6 +63,7 @@ class Messages(stand.Case):
             (["show"], "usage: btx show PAGE"), (["show", page, page], "and not 2"), (["show", ""], "a name is empty"),
             (["edit", page], "usage: btx edit PAGE SCRIPT"), (["trace", page, page], "the same name"),
             (["gen", "4294967296"], "4294967296 is no number"), (["load", "00000000001"], "usage: btx load NUMBER"),
+            (["flash", page, "601"], "601 is no number from 0 to 600"), (["flash", page], "usage: btx flash PAGE NUMBER"),
         ):
             self.assertEqual(self.ends(words, 2, said).stdout, b"")
 

@@ -267,5 +267,5 @@
     }
   }
 
-  Object.assign(tamligub, { Painter, appearance, PHASES, PICTURE });
+  Object.assign(tamligub, { Painter, appearance, foreOf, PHASES, PICTURE });
 })((window.Tamligub = window.Tamligub || {}));

@@ -70,8 +70,8 @@ class Stand:
     def path(self, name):
         return os.path.join(PAGES, name + ".btx")
 
-    def put(self, word, name):
-        done = subprocess.run([self.program, word, self.path(name)], stdout=subprocess.PIPE, timeout=60)
+    def put(self, word, name, *after):
+        done = subprocess.run([self.program, word, self.path(name), *after], stdout=subprocess.PIPE, timeout=60)
         assert done.returncode in (0, 1), f"{word} {name}: status {done.returncode}"
         return done.stdout.decode("utf-8")
 

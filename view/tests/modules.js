@@ -9,7 +9,7 @@ const vm = require("node:vm");
 
 const folder = path.dirname(__dirname);
 const context = vm.createContext({ window: {} });
-for (const file of ["text.js", "signs.js", "film.js"]) {
+for (const file of ["text.js", "signs.js", "film.js", "paint.js"]) {
   vm.runInContext(fs.readFileSync(path.join(folder, file), "utf8"), context, { filename: file });
 }
 const tamligub = context.window.Tamligub;
@@ -37,6 +37,34 @@ test("a film, its last grid and the cells of the program have the same looks", (
     assert.deepStrictEqual(looksOf(tamligub.lastGrid(film.changes), film.changes.looks), looksOf(film.grid, film.changes.looks), name);
     if (page.show.split("\n").length === 25) assert.deepStrictEqual(looksOf(cells.grid, cells.looks), looksOf(film.grid, film.changes.looks), name);
   }
+});
+
+// The text of a look as the viewer paints it in a phase: without its sign and its line where it shows its background alone.
+function paintedText(look, phase) {
+  const seen = tamligub.appearance(look, phase, true) !== 0;
+  const [shape, part, , back, signs] = look.text.split(" ");
+  const lined = seen && signs[2] === "l" ? "l" : "-";
+  return [seen ? shape : "-", part, tamligub.foreOf(look, phase), back, "S" + signs[1] + lined + signs[3]].join(" ");
+}
+
+test("each phase shows what the program's flash tells of it", () => {
+  for (const [name, page] of Object.entries(pages)) {
+    const film = filmOf(page);
+    film.go(film.moments.length);
+    const told = new Map();
+    for (const line of page.flash.split("\n").slice(0, -1)) {
+      const [turn, row, column, ...text] = line.split(" ");
+      if (!told.has(turn)) told.set(turn, []);
+      told.get(turn).push([(row - 1) * tamligub.COLUMNS + (column - 1), text.join(" ")]);
+    }
+    const seen = new Array(tamligub.CELLS).fill("- 11.00 FFF 000 S---");
+    for (let turn = 0; turn <= tamligub.PHASES; turn++) {
+      for (const [cell, text] of told.get(String(turn)) || []) seen[cell] = text;
+      const painted = Array.from(film.grid, (number) => paintedText(film.changes.looks[number], turn % tamligub.PHASES));
+      assert.deepStrictEqual(painted, seen, `${name}, turn ${turn}`);
+    }
+  }
+  assert.ok(pages.flashing.flash.split("\n").length > 100);
 });
 
 test("back gives what was there before", () => {
