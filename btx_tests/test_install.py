@@ -1,5 +1,6 @@
 """The install under a prefix and as a Debian package, each used as a reader would, from where it was put."""
 import os
+import re
 import subprocess
 
 import stand
@@ -94,3 +95,12 @@ class Install(stand.Case):
         for word in [line.split()[0] for line in stand.btx("--help").stdout.decode().splitlines() if line.startswith("    ") and line[4] != " "][1:]:
             for known in texts:
                 self.assertIn(word, known)
+
+    def test_the_manual_knows_all_statuses_of_the_program(self):
+        texts = {}
+        for name in ("btx.1", "cept_tool.1"):
+            with open(os.path.join(stand.ROOT, "docs", name), encoding="utf-8") as file:
+                texts[name] = file.read()
+        part = texts["cept_tool.1"].partition(".SH EXIT STATUS")[2].partition(".SH ")[0]
+        last = max(map(int, re.findall(r"^\.TP\n(\d+)$", part, re.MULTILINE)))
+        self.assertEqual(re.search(r"program's status, 0 to (\d+),", texts["btx.1"])[1], str(last))
