@@ -1,9 +1,9 @@
 //! Longer pages than the sweep has: parts after parts, numbers of two digits, and what outlives a
 //! unit.
 
-ghost use Rattle.std.specs.Prelude.{◌<◌, length};
+ghost use Rattle.std.specs.Prelude.{◌≡◌, ◌<◌, false, length};
 
-use cept_codes::{C1Set, Command, Form, Item, Reason, Rgb, Said, SetId};
+use cept_codes::{C1Set, Command, Form, Item, Pattern, Reason, Rgb, Said, SetId};
 use cept_parser::Parser;
 use std::alloc::Global;
 use std::process::Abort;
@@ -206,5 +206,63 @@ fn two_items_of_one_byte(rt: HostRuntime) -> Result<(), Fail> {
     assert_eq!(rt; parser.pending(), 0);
     assert_eq!(rt; parser.place(), 4);
     assert!(rt; parser.finish().is_empty());
+    Ok(())
+}
+
+/// The longest unit after its header and its start: a pattern of 12 times 12 in four planes, all of whose
+/// pixels are given, of 100 bytes.
+const LONGEST: &[u8] = b"\x1F# 6D\x1F#!\
+    0\x7F\x7F\x7F\x7F\x7F\x7F\x7F\x7F\x7F\x7F\x7F\x7F\x7F\x7F\x7F\x7F\x7F\x7F\x7F\x7F\x7F\x7F\x7F\x7F\
+    1\x7F\x7F\x7F\x7F\x7F\x7F\x7F\x7F\x7F\x7F\x7F\x7F\x7F\x7F\x7F\x7F\x7F\x7F\x7F\x7F\x7F\x7F\x7F\x7F\
+    2\x7F\x7F\x7F\x7F\x7F\x7F\x7F\x7F\x7F\x7F\x7F\x7F\x7F\x7F\x7F\x7F\x7F\x7F\x7F\x7F\x7F\x7F\x7F\x7F\
+    3\x7F\x7F\x7F\x7F\x7F\x7F\x7F\x7F\x7F\x7F\x7F\x7F\x7F\x7F\x7F\x7F\x7F\x7F\x7F\x7F\x7F\x7F\x7F\x7F";
+
+/// Pushes the bytes of a page. After each at most 99 are pending, and after one of them just 99.
+fn pushed(
+    rt: &impl Abort,
+    alloc: Global,
+    parser: &mut Parser,
+    page: &[u8],
+) -> Result<Vec<Item>, Fail>
+    requires running { parser.old.finished ≡ false }
+    requires start { parser.old.place ≡ 0 }
+    requires short { length page.now < 1000 }
+    ensures { parser.new.finished ≡ false }
+{
+    let mut items = Vec::new(alloc);
+    let mut most = 0;
+    for byte in page {
+        let closed = parser.push(*byte);
+        items.extend_from_slice(closed.as_slice())?;
+        assert!(rt; parser.pending() <= 99, "{} are pending", parser.pending());
+        most = most.max(parser.pending());
+    }
+    assert_eq!(rt; most, 99);
+    Ok(items)
+}
+
+#[test]
+fn a_unit_of_100_bytes(rt: HostRuntime) -> Result<(), Fail> {
+    let mut parser = Parser::new();
+    let items = pushed(&rt, rt.alloc(), &mut parser, LONGEST)?;
+    assert_eq!(rt; parser.pending(), 0);
+    assert!(rt; parser.finish().is_empty());
+    let form = Form {
+        w: 12,
+        h: 12,
+        planes: 4,
+    };
+    let pattern = Pattern {
+        w: 12,
+        h: 12,
+        planes: 4,
+        bits: [u64::MAX; 9],
+    };
+    let want = [
+        command(0, 5, Command::DrcsHeader(false, form)),
+        command(5, 3, Command::DrcsStart(0x21)),
+        command(8, 100, Command::DrcsPattern(0x21, pattern)),
+    ];
+    assert_eq!(rt; items.as_slice(), want.as_slice());
     Ok(())
 }
