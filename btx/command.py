@@ -74,7 +74,7 @@ def own(path, module, options):
     except BrokenPipeError:
         raise
     except OSError as fault:
-        say(": ".join(part for part in (options.word, fault.filename, fault.strerror) if part))
+        say(": ".join(part for part in (options.word, fault.filename, messages.why(fault)) if part))
         return 4
 
 

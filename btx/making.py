@@ -76,7 +76,7 @@ def made(path, source):
     except program.Ended as end:
         return facts_of(size, end.status if end.status >= 0 else SIGNALS - end.status), None
     except OSError as fault:
-        return facts_of(size, UNREADABLE, why=fault.strerror), None
+        return facts_of(size, UNREADABLE, why=messages.why(fault)), None
     items, refused = program.counts_in(parts["check"])
     return facts_of(size, program.WITH_REFUSALS if refused else program.READ_TO_THE_END, items, refused), parts
 

@@ -37,6 +37,12 @@ def is_file(path):
         return False
 
 
+def why(fault):
+    """Why a call of the system failed, as a sentence ends."""
+    text = fault.strerror or str(fault)
+    return text[:1].lower() + text[1:]
+
+
 def fault_of(path):
     """Why a file can't be opened or read, or None where it can."""
     try:
@@ -45,7 +51,7 @@ def fault_of(path):
     except FileNotFoundError:
         return "no such file"
     except OSError as fault:
-        return fault.strerror[0].lower() + fault.strerror[1:]
+        return why(fault)
     return None
 
 

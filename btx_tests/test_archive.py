@@ -134,7 +134,7 @@ class Archive(stand.Case):
 
     def test_a_folder_that_is_not_there(self):
         self.source = self.path("nowhere")
-        self.assertIn(b"archive: " + self.source.encode() + b": No such file", self.archive(status=4).stderr)
+        self.assertIn(b"archive: " + self.source.encode() + b": no such file", self.archive(status=4).stderr)
 
     def test_over_parallel(self):
         self.needs("parallel")
