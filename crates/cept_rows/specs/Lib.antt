@@ -1,3 +1,4 @@
+pub mod Brush
 pub mod DrawnWith
 pub mod SmallLooks
 pub mod KeptRows

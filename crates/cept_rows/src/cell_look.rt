@@ -15,6 +15,7 @@ ghost use Rattle.cept_profile.specs.Look.{shape_of_sign};
 ghost use Rattle.cept_profile.specs.PageParts.{paint_in};
 ghost use Rattle.cept_profile.specs.Serial.{is_marker, own_attributes_of};
 ghost use Rattle.cept_colours.specs.Colours.{ColourTables};
+ghost use Rattle.cept_rows.specs.Brush.{IsBrush};
 ghost use Rattle.cept_rows.specs.DrawnWith.{drawn_with};
 ghost use Rattle.cept_rows.specs.SmallLooks.{sign_of, small_of};
 ghost use Rattle.cept_rows.specs.RowsByCell.{is_downloaded, is_set_d, look_by_part};
@@ -24,7 +25,7 @@ use crate::colours::{back_of, fore_of};
 use crate::drawing::pattern_of;
 use crate::small_look::{Kind, Sign, SmallLook, Style};
 use cept_attrs::cascade;
-use cept_codes::{Full, Glyph, Marker, Part, Pen, SetId, Size, What};
+use cept_codes::{Full, Glyph, Marker, Part, Pen, SetId, Size, What, pens_compare_by_their_fields};
 use cept_colours::Colours;
 use cept_drcs::Patterns;
 
@@ -125,12 +126,54 @@ pub(crate) fn is_plain(what: &What) -> bool
     }
 }
 
+/// A pen, and the look of a space that is written with it in a row without markers.
+#[derive(Clone, Copy)]
+pub(crate) struct Brush {
+    pub(crate) pen: Pen,
+    pub(crate) space: SmallLook,
+}
+
+/// Takes up a pen. Neighbours most often have the same one, so that attributes and paints are found
+/// only where it is another than before.
+#[inline(always)]
+fn take_up(brush: &mut Brush, pen: &Pen, row: &Pen, screen: &Pen, colours: &Colours)
+    requires pen { IsValidPen pen.now }
+    requires row { IsValidPen row.now }
+    requires screen { IsValidPen screen.now }
+    requires is { IsBrush colours.now row.now screen.now brush.old }
+    ensures pen { brush.new.pen ≡ pen.now }
+    ensures is { IsBrush colours.now row.now screen.now brush.new }
+{
+    // A law: pens compare as equal exactly where they are the same.
+    pens_compare_by_their_fields();
+    if brush.pen != *pen {
+        dip(brush, pen, row, screen, colours);
+    }
+}
+
+/// Takes up another pen.
+// A call of its own: the walk along a row keeps less at hand.
+#[inline(never)]
+fn dip(brush: &mut Brush, pen: &Pen, row: &Pen, screen: &Pen, colours: &Colours)
+    requires pen { IsValidPen pen.now }
+    requires row { IsValidPen row.now }
+    requires screen { IsValidPen screen.now }
+    ensures pen { brush.new.pen ≡ pen.now }
+    ensures is { IsBrush colours.now row.now screen.now brush.new }
+{
+    *brush = Brush {
+        pen: *pen,
+        space: small_with(Sign::NOTHING, &cascade(pen, row, screen), colours),
+    };
+}
+
 /// The look of what stands in a cell and is shown by itself, in a row without markers in which a
-/// blank cell looks so.
+/// blank cell looks so. Of a sign with a pen the brush takes that up.
 #[inline(always)]
 pub(crate) fn small_among(
     what: &What,
     blank: &SmallLook,
+    brush: &mut Brush,
     row: &Pen,
     screen: &Pen,
     colours: &Colours,
@@ -142,9 +185,11 @@ pub(crate) fn small_among(
     requires blank { blank.now
         ≡ small_of (look_with (paint_in colours.now.paints) Space
         (cascade unset_pen row.now screen.now)) }
-    ensures { (defined : Definitions) → result
+    requires brush { IsBrush colours.now row.now screen.now brush.old }
+    ensures look { (defined : Definitions) → result
         ≡ small_of (look_with (paint_in colours.now.paints) (shape_of defined what.now)
         (own_attributes_of what.now row.now screen.now (cascade unset_pen row.now screen.now))) }
+    ensures brush { IsBrush colours.now row.now screen.now brush.new }
 {
     match what {
         What::Blank | What::Marker(_) => *blank,
@@ -153,7 +198,11 @@ pub(crate) fn small_among(
             ..*blank
         },
         What::Parallel(glyph, pen) => {
-            small_with(sign_of_set(glyph), &cascade(pen, row, screen), colours)
+            take_up(brush, pen, row, screen, colours);
+            SmallLook {
+                sign: sign_of_set(glyph),
+                ..brush.space
+            }
         }
     }
 }

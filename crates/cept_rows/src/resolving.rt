@@ -28,7 +28,8 @@ ghost use Rattle.cept_rows.specs.SmallLooks.{IsSmallLook, drawing_of, has_patter
 ghost use Rattle.cept_rows.specs.SmallLooks.{sign_of};
 
 use crate::cell_look::{
-    is_plain, own_attributes, sets_double_size, small_among, small_by_part, small_under, small_with,
+    Brush, is_plain, own_attributes, sets_double_size, small_among, small_by_part, small_under,
+    small_with,
 };
 use crate::drawing::drawing_of;
 use crate::row_looks::RowLooks;
@@ -173,12 +174,19 @@ fn each_plain(
     colours.valid_by_type();
     patterns.valid_by_type();
     let blank = small_with(Sign::NOTHING, full, colours);
+    let mut brush = Brush {
+        pen: Pen::UNSET,
+        space: blank,
+    };
     for column in 1..41u8 {
         let what = &cells[column as usize - 1].what;
         if !is_plain(what) {
             return false;
         }
-        looks.put_single(column, small_among(what, &blank, row, screen, colours));
+        looks.put_single(
+            column,
+            small_among(what, &blank, &mut brush, row, screen, colours),
+        );
     }
     true
 }

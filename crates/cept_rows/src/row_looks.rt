@@ -130,6 +130,7 @@ impl RowLooks {
     }
 
     /// The first column from `from` on in which two rows have different looks.
+    #[inline(always)]
     pub fn next_difference(&self, other: &RowLooks, from: u8) -> Option<u8>
         requires { 1 ≤ from }
         ensures none { IsNone result → (c : ℕ) → from ≤ c → c ≤ 40
@@ -150,6 +151,7 @@ impl RowLooks {
     }
 
     /// The same where one of the rows has no pattern.
+    #[inline(always)]
     fn next_small_difference(&self, other: &RowLooks, from: u8) -> Option<u8>
         requires from { 1 ≤ from }
         requires plain { HasNoPatterns self.now ⊎ HasNoPatterns other.now }

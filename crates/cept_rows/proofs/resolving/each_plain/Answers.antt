@@ -1,4 +1,4 @@
-use Rattle.std.proofs.Common.{◌≡◌, ℕ, ◌≤◌, false, refl, ap, ◌∙◌, arith}
+use Rattle.std.proofs.Common.{◌≡◌, ℕ, ◌≤◌, false, refl, ap, ◌∙◌, arith, rules}
 use Rattle.cept_codes.specs.declared.look.Look.{Look}
 use Rattle.cept_codes.specs.declared.look.Shape.TheVariants as shapes
 use Rattle.cept_codes.specs.Attribute.{unset_pen}
@@ -17,6 +17,15 @@ use Rattle.cept_rows.proofs.RowsByPart.{AreValidDefinitions-kept, IsValidLook-ce
 use Rattle.cept_rows.proofs.Signs.{look_is_plain}
 use Rattle.cept_rows.proofs.resolving.each_plain.Goals as goal
 use Rattle.cept_rows.proofs.resolving.each_plain.Goals.{After-small_among}
+
+pub loop-column-init : goal.loop-column-init
+loop-column-init c = record {
+  looks = search rules;
+  markers = search rules;
+  brush = c.small_with-blank.ensures shapes.Space refl
+      ∙ ap (λ f. small_of (look_with (paint_in c.args.colours.now.paints) shapes.Space f)) c.requires.full;
+  sizes = search rules;
+}
 
 pub small_among-requires-clause-blank : goal.small_among-requires-clause-blank
 small_among-requires-clause-blank c =
@@ -39,7 +48,7 @@ markers c d low high =
 here : (c : After-small_among) → c.small_among.result ≡ small_of (wanted c)
 here c =
     let defined = drawn_with c.args.colours.now c.args.patterns.now in
-    c.small_among.ensures defined
+    c.small_among.ensures.look defined
     ∙ ap small_of (look_alone defined (row_in c.args.cells.now) c.args.row.now c.args.screen.now c.loop-column.column
     c.loop-column.auto.column (markers c))
 
@@ -56,11 +65,11 @@ put_single-requires-clause-plain c =
     (paint_in c.args.colours.now.paints) (row_in c.args.cells.now c.loop-column.column)
     (own_attributes_of (row_in c.args.cells.now c.loop-column.column) c.args.row.now c.args.screen.now
     (cascade unset_pen c.args.row.now c.args.screen.now))
-    (c.small_among.ensures (drawn_with c.args.colours.now c.args.patterns.now)) (c.if-not-is_plain.ensures.set refl)
+    (c.small_among.ensures.look (drawn_with c.args.colours.now c.args.patterns.now)) (c.if-not-is_plain.ensures.set refl)
 
 pub put_single-requires-clause-low : goal.put_single-requires-clause-low
 put_single-requires-clause-low c =
-    ap (λ s. covers_below s.part) (c.small_among.ensures (drawn_with c.args.colours.now c.args.patterns.now))
+    ap (λ s. covers_below s.part) (c.small_among.ensures.look (drawn_with c.args.colours.now c.args.patterns.now))
 
 pub put_single-requires-clause-small : goal.put_single-requires-clause-small
 put_single-requires-clause-small c =
@@ -75,6 +84,7 @@ loop-column-preserved c = record {
       (plain_is c.small_among.result (wanted c.before) (here c.before) (put_single-requires-clause-plain c.before)));
   markers = one_more (λ e. is_marker (row_in c.args.cells.now e) ≡ false) c.loop-column.column
       c.loop-column.invariant.markers (c.if-not-is_plain.ensures.marker refl);
+  brush = c.small_among.ensures.brush;
   sizes = one_more (λ e. sets_double_size (row_in c.args.cells.now e) ≡ false) c.loop-column.column
       c.loop-column.invariant.sizes (c.if-not-is_plain.ensures.size refl);
 }
