@@ -1,21 +1,27 @@
 -- The edits that are kept after more edit lines, and the events of an edit line, each going on from the one before it.
-use Rattle.std.proofs.Common.{◌≡◌, ℕ, suc, ◌+◌, ◌-◌, ◌==◌, Bool, true, false, cond, List, [], ◌∷◌, ◌++◌, map, take, length, refl, sym, ap}
+use Rattle.std.proofs.Common.{◌≡◌, ℕ, zero, suc, ◌+◌, ◌-◌, ◌<◌, ◌≤◌, ◌==◌, Bool, true, false, cond, List, [], ◌∷◌, ◌++◌, map, take, drop, length, refl, sym, ap}
 use Rattle.std.proofs.Common.{◌∙◌, append_assoc, append-nil, arith}
 use Rattle.std.proofs.lemmas.Grind.{flat_map-append}
+use Rattle.std.proofs.lemmas.List.{length-append, length-drop}
 use Rattle.std.specs.List.{enumerate_from, flat_map}
 use Rattle.cept_codes.specs.declared.command.Command.{Command}
 use Rattle.cept_codes.specs.declared.look.Look.{Look}
 use Rattle.cept_profile.specs.Changes.{grid_with_paints}
 use Rattle.cept_profile.specs.Look.{grid}
 use Rattle.cept_profile.proofs.Laws.{grid_with_paints-append}
+use Rattle.cept_undo.specs.Past.{most_kept}
 use Rattle.cept_editor.specs.Events.{Event, event_changes, paints}
-use Rattle.cept_editor.specs.Kept.{KeptEdits, none_kept, kept_after, kept_after_all, kept, remaining, states_before}
-use Rattle.cept_editor.specs.Kept.{commands_of_edits}
-use Rattle.cept_editor.specs.Meaning.{Step, Turn, TakeBack, Edit}
+use Rattle.cept_editor.specs.Kept.{KeptEdits, none_kept, finds_nothing, kept_after_turn, kept_after, kept_after_all, kept}
+use Rattle.cept_editor.specs.Kept.{remaining, states_before, states_again, commands_of_edits}
+use Rattle.cept_editor.specs.Meaning.{Step, TurnKind, Turn, TakeBack, MakeAgain, Edit}
 use Rattle.cept_editor.specs.Stepping.{event_from, edit_events, nothing_event, line_events}
 use Rattle.cept_editor.proofs.MadeEvents.{paints-append, paints-one, paints-none, no_paint, event_shown}
 
 -- ---- kept edits
+
+pub some_of : (n : ℕ) → (n == 0) ≡ false → 0 < n
+some_of zero is = absurd cc
+some_of (suc n) is = omega arith
 
 kept_after_all-append : (k : KeptEdits) (steps : List Step) (step : Step)
     → kept_after_all k (steps ++ step ∷ []) ≡ kept_after (kept_after_all k steps) step
@@ -38,6 +44,10 @@ pub states_before-none : (page : List Command) → states_before page none_kept 
 unfolding states_before
 states_before-none page = refl
 
+pub states_again-none : (page : List Command) → states_again page none_kept ≡ []
+unfolding states_again
+states_again-none page = refl
+
 pub commands_of_edits-more : (edits : List (List Command)) (commands : List Command)
     → commands_of_edits (edits ++ commands ∷ []) ≡ commands_of_edits edits ++ commands
 unfolding commands_of_edits
@@ -51,6 +61,36 @@ pub remaining-edit : (page : List Command) (k : KeptEdits) (commands : List Comm
 remaining-edit page k commands =
     ap (λ l. page ++ l) (commands_of_edits-more k.edits commands)
     ∙ sym (append_assoc page (commands_of_edits k.edits) commands)
+
+-- ---- how many can be taken back and made again
+
+one_more_few : (k : KeptEdits) (step : Step) → k.count + length k.undone ≤ most_kept
+    → (kept_after k step).count + length (kept_after k step).undone ≤ most_kept
+one_more_few k (Edit commands) few = omega arith
+one_more_few k (Turn turn) few = turned turn (finds_nothing turn k) refl
+  where
+    turned : (turn : TurnKind) (none : Bool) → finds_nothing turn k ≡ none
+        → (cond none k (kept_after_turn k turn)).count + length (cond none k (kept_after_turn k turn)).undone ≤ most_kept
+    turned turn true is = few
+    turned TakeBack false is =
+        omega (
+          arith,
+          few,
+          some_of k.count is,
+          length-drop (length k.edits - 1) k.edits,
+          length-append (drop (length k.edits - 1) k.edits) k.undone,
+        )
+    turned MakeAgain false is = omega (arith, few, some_of (length k.undone) is, length-drop 1 k.undone)
+
+all_few : (k : KeptEdits) (steps : List Step) → k.count + length k.undone ≤ most_kept
+    → (kept_after_all k steps).count + length (kept_after_all k steps).undone ≤ most_kept
+unfolding kept_after_all
+all_few k [] few = few
+all_few k (step ∷ more) few = all_few (kept_after k step) more (one_more_few k step few)
+
+-- what can be taken back and made again is no more than may be kept
+pub kept-few : (steps : List Step) → (kept steps).count + length (kept steps).undone ≤ most_kept
+kept-few steps = all_few none_kept steps (omega arith)
 
 -- ---- the events of an edit
 
@@ -168,23 +208,24 @@ either_after : (b : Bool) (x y : Event) (h : List Command) → (b ≡ true → x
 either_after true x y h first second = first refl
 either_after false x y h first second = second
 
-undo_shown : (listed : Bool) (line : ℕ) (page : List Command) (k : KeptEdits)
-    → grid_with_paints (grid (remaining page k)) (paints (line_events listed line page k (Turn TakeBack)))
-    ≡ grid (remaining page (kept_after k (Turn TakeBack)))
-undo_shown listed line page k =
-    let left : KeptEdits = record { edits = take (length k.edits - 1) k.edits; count = k.count - 1 } in
+turn_shown : (listed : Bool) (line : ℕ) (page : List Command) (k : KeptEdits) (turn : TurnKind)
+    → grid_with_paints (grid (remaining page k)) (paints (line_events listed line page k (Turn turn)))
+    ≡ grid (remaining page (kept_after k (Turn turn)))
+turn_shown listed line page k turn =
+    let none : Bool = finds_nothing turn k in
+    let left = remaining page (kept_after k (Turn turn)) in
     let nothing = nothing_event listed line (remaining page k) in
-    let undone = event_from listed line (remaining page k) (remaining page (kept_after k (Turn TakeBack))) in
-    let e : Event = cond (k.count == 0) nothing undone in
-    let before : e.before ≡ remaining page k = either_before (k.count == 0) nothing undone (remaining page k) refl refl in
-    let after : e.after ≡ remaining page (kept_after k (Turn TakeBack)) =
-    either_after (k.count == 0) nothing undone (remaining page (kept_after k (Turn TakeBack)))
-    (λ is. ap (λ (b : Bool). remaining page (cond b k left)) (sym is)) refl in
+    let turned = event_from listed line (remaining page k) left in
+    let e : Event = cond none nothing turned in
+    let before : e.before ≡ remaining page k = either_before none nothing turned (remaining page k) refl refl in
+    let after : e.after ≡ left =
+    either_after none nothing turned left
+    (λ is. ap (λ (b : Bool). remaining page (cond b k (kept_after_turn k turn))) (sym is)) refl in
     ap (λ h. grid_with_paints (grid h) (paints (e ∷ []))) (sym before) ∙ one_shown e ∙ ap grid after
 
 pub line_shown : (listed : Bool) (line : ℕ) (page : List Command) (k : KeptEdits) (step : Step)
     → grid_with_paints (grid (remaining page k)) (paints (line_events listed line page k step))
     ≡ grid (remaining page (kept_after k step))
-line_shown listed line page k (Turn TakeBack) = undo_shown listed line page k
+line_shown listed line page k (Turn turn) = turn_shown listed line page k turn
 line_shown listed line page k (Edit commands) =
     edit_shown listed line (remaining page k) commands ∙ ap grid (sym (remaining-edit page k commands))

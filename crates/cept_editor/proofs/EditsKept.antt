@@ -8,6 +8,7 @@ pub StaysBegun-more : {old now new : Edits} {before mid after : State} → Stays
     → StaysBegun now mid new after → StaysBegun old before new after
 StaysBegun-more first second = record {
   past = second.past ∙ first.past;
+  future = second.future;
   at_begin = second.at_begin ∙ first.at_begin;
   begun = second.begun;
   fits = second.fits;

@@ -5,6 +5,7 @@ pub use Rattle.cept_editor.proofs.MadeEvents.{paints-none, no_paint, ArePainted-
 pub use Rattle.cept_editor.proofs.MadeEvents.{still_append, AreMade-none, AreMade-more, AreMade-end, AreCutOff-here}
 pub use Rattle.cept_editor.proofs.MadeEvents.{AreCutOff-longer, AreCutOff-end, cut_untouched, event_shown}
 pub use Rattle.cept_editor.proofs.MadeEvents.{AreMade-append, AreCutOff-after}
-pub use Rattle.cept_editor.proofs.EditsInTurn.{kept-none, kept-more, remaining-none, states_before-none, line_shown}
+pub use Rattle.cept_editor.proofs.EditsInTurn.{kept-none, kept-more, kept-few, remaining-none, states_before-none}
+pub use Rattle.cept_editor.proofs.EditsInTurn.{states_again-none, line_shown}
 pub use Rattle.cept_editor.proofs.KeptStates.{StandsAfter-start}
 pub use Rattle.cept_editor.proofs.StatesInTurn.{editor_after-steps}

@@ -9,9 +9,11 @@ pub mod PlacedOrders
 pub mod DigitsLeft
 pub mod Worked
 pub mod WorkedBytes
+pub mod WorkedKept
 mod MadeEvents
 mod EditsInTurn
 mod KeptStates
+mod TurnedStates
 mod AppliedInTurn
 mod LinesMade
 mod EditsKept

@@ -1,22 +1,23 @@
 -- What edit lines make of an editor by the states alone is what the kept edits say.
-use Rattle.std.proofs.Common.{◌≡◌, ℕ, zero, suc, ◌-◌, ◌<◌, Bool, List, [], ◌∷◌, ◌++◌, take, drop, length, Result, Ok, Err, OnOk}
+use Rattle.std.proofs.Common.{◌≡◌, Bool, true, false, List, [], ◌∷◌, ◌++◌, take, Result, Ok, Err, OnOk}
 use Rattle.std.proofs.Common.{refl, sym, ap, subst, ◌∙◌, append_assoc, append-nil, arith}
 use Rattle.std.specs.List.{AllByRecursion}
+use Rattle.std.proofs.lemmas.List.{length-append}
 use Rattle.cept_codes.specs.Command.{IsValidCommand}
 use Rattle.cept_codes.specs.declared.command.Command.{Command}
 use Rattle.cept_profile.specs.State.{State, state}
 use Rattle.cept_profile.specs.Valid.{AllValid}
 use Rattle.cept_profile.proofs.Laws.{state-one_more}
-use Rattle.cept_undo.specs.Past.{most_kept, state_before_latest}
+use Rattle.cept_undo.specs.Past.{most_kept}
 use Rattle.cept_editor.specs.Applying.{state_after_all, editor_after_turn, editor_after_step, editor_after_steps, HasMade}
 use Rattle.cept_editor.specs.Applying.{MarksLast}
-use Rattle.cept_editor.specs.Kept.{KeptEdits, none_kept, kept_after, kept_after_all, kept, remaining, commands_of_edits}
-use Rattle.cept_editor.specs.Kept.{EditorState, editor_after}
-use Rattle.cept_editor.specs.Meaning.{Step, TurnKind, Turn, TakeBack, Edit, IsValidStep}
-use Rattle.cept_editor.proofs.EditsInTurn.{remaining-edit, remaining-none}
-use Rattle.cept_editor.proofs.KeptStates.{AllByRecursion-append, AllByRecursion-front, StandsAfter-start, kept_after-none}
-use Rattle.cept_editor.proofs.KeptStates.{kept_after-undo, none_before, past_left, remaining_in_parts, screen_left}
-use Rattle.cept_editor.proofs.KeptStates.{states_before-edit, without_last}
+use Rattle.cept_editor.specs.Kept.{KeptEdits, none_kept, finds_nothing, kept_after, kept_after_all, kept, remaining}
+use Rattle.cept_editor.specs.Kept.{commands_of_edits, EditorState, editor_after}
+use Rattle.cept_editor.specs.Meaning.{Step, TurnKind, Turn, Edit, IsValidStep}
+use Rattle.cept_editor.proofs.EditsInTurn.{remaining-edit}
+use Rattle.cept_editor.proofs.KeptStates.{AllByRecursion-append, StandsAfter-start, states_before-edit, states_again-edit}
+use Rattle.cept_editor.proofs.TurnedStates.{none_ahead, kept-idle, kept-turned, idle_turn, AreSound, sound_in_parts}
+use Rattle.cept_editor.proofs.TurnedStates.{remaining_sound, AreSound-turn, editor_turned, turned_as}
 
 -- ---- one line
 
@@ -24,18 +25,19 @@ on_ok : {X E : Type 0} (P : Type 0) (result : Result X E) → P → OnOk result 
 on_ok P (Ok x) holds = holds
 on_ok P (Err e) holds = tt
 
--- an undo brought the latest state of the past and left the others
-pub HasMade-undo : {X E : Type 0} (old : EditorState) (result : Result X E) (new : EditorState)
-    → new.screen ≡ state_before_latest old.past old.screen → new.past ≡ drop 1 old.past
-    → HasMade (Turn TakeBack) old result new
-HasMade-undo old result new screen past =
-    let is : new ≡ editor_after_turn old TakeBack = λ i. record { screen = screen i; past = past i } in
+-- a turn was made
+pub HasMade-turn : {X E : Type 0} (turn : TurnKind) (old : EditorState) (result : Result X E) (new : EditorState)
+    → new.screen ≡ (editor_after_turn old turn).screen → new.past ≡ (editor_after_turn old turn).past
+    → new.future ≡ (editor_after_turn old turn).future → HasMade (Turn turn) old result new
+HasMade-turn turn old result new screen past future =
+    let is = turned_as turn old new screen past future in
     record {
-      whole = on_ok (new ≡ editor_after_turn old TakeBack) result is;
-      turned = λ turn same.
-          let undo : TakeBack ≡ turn = cc in
-          subst (λ (t : TurnKind). new ≡ editor_after_turn old t) undo is;
+      whole = on_ok (new ≡ editor_after_turn old turn) result is;
+      turned = λ other same.
+          let turn_is : turn ≡ other = cc in
+          subst (λ (t : TurnKind). new ≡ editor_after_turn old t) turn_is is;
       past = past;
+      future = future;
     }
 
 -- the last command that left marks was the last of all
@@ -48,20 +50,28 @@ last_applied commands old new marks m =
 -- an edit was made
 pub HasMade-edit : {X Y E F : Type 0} {x : X} {y : Y} (commands : List Command) (old new : EditorState)
     (marks : List Bool) → MarksLast {X = X} {E = E} commands old.screen (Ok x) new.screen marks
-    → new.past ≡ take most_kept (old.screen ∷ old.past) → HasMade {E = F} (Edit commands) old (Ok y) new
-HasMade-edit commands old new marks marked past = record {
-  whole = λ i. record { screen = last_applied commands old.screen new.screen marks marked i; past = past i };
+    → new.past ≡ take most_kept (old.screen ∷ old.past) → new.future ≡ []
+    → HasMade {E = F} (Edit commands) old (Ok y) new
+HasMade-edit commands old new marks marked past future = record {
+  whole = λ i. record {
+    screen = last_applied commands old.screen new.screen marks marked i;
+    past = past i;
+    future = future i;
+  };
   turned = λ turn same. absurd cc;
   past = past;
+  future = future;
 }
 
 -- or a part of it
 pub HasMade-cut : {Y F : Type 0} {f : F} (commands : List Command) (old new : EditorState)
-    → new.past ≡ take most_kept (old.screen ∷ old.past) → HasMade {X = Y} (Edit commands) old (Err f) new
-HasMade-cut commands old new past = record {
+    → new.past ≡ take most_kept (old.screen ∷ old.past) → new.future ≡ []
+    → HasMade {X = Y} (Edit commands) old (Err f) new
+HasMade-cut commands old new past future = record {
   whole = tt;
   turned = λ turn same. absurd cc;
   past = past;
+  future = future;
 }
 
 -- ---- one line more
@@ -76,67 +86,64 @@ state_after_all-state history (c ∷ cs) valid good =
     good.1
     ∙ ap state (append_assoc history (c ∷ []) cs)
 
-nothing_undone : (page : List Command) (k : KeptEdits) → k.count ≡ 0
-    → editor_after_turn (editor_after page k) TakeBack ≡ editor_after page k
-nothing_undone page k none =
-    let empty = none_before page k none in λ i. record {
-      screen = ap (λ (l : List State). state_before_latest l (state (remaining page k))) empty i;
-      past = (ap (drop 1) empty ∙ sym empty) i;
-    }
+-- a turn, by what it finds
+turn_more : (page : List Command) (k : KeptEdits) (turn : TurnKind) → AreSound page k
+    → editor_after_turn (editor_after page k) turn ≡ editor_after page (kept_after k (Turn turn))
+turn_more page k turn sound = by_finding (finds_nothing turn k) refl
+  where
+    by_finding : (none : Bool) → finds_nothing turn k ≡ none
+        → editor_after_turn (editor_after page k) turn ≡ editor_after page (kept_after k (Turn turn))
+    by_finding true is =
+        idle_turn (editor_after page k) turn (none_ahead page k turn is)
+        ∙ ap (editor_after page) (sym (kept-idle k turn is))
+    by_finding false is =
+        editor_turned page k turn sound.within is ∙ ap (editor_after page) (sym (kept-turned k turn is))
 
-undone : (page : List Command) (k : KeptEdits) → 0 < k.count
-    → editor_after_turn (editor_after page k) TakeBack ≡ editor_after page (kept_after k (Turn TakeBack))
-undone page k some = λ i. record {
-  screen = screen_left page k (state (remaining page k)) some i;
-  past = past_left page k some i;
-}
-
-by_count : (n : ℕ) (page : List Command) (k : KeptEdits) → k.count ≡ n
-    → editor_after_turn (editor_after page k) TakeBack ≡ editor_after page (kept_after k (Turn TakeBack))
-by_count zero page k none =
-    nothing_undone page k none ∙ ap (editor_after page) (sym (kept_after-none k none))
-by_count (suc n) page k is = undone page k (omega (arith, is))
-
-pub editor_after-more : (page : List Command) (k : KeptEdits) (step : Step) → AllValid (remaining page k)
+pub editor_after-more : (page : List Command) (k : KeptEdits) (step : Step) → AreSound page k
     → IsValidStep step → editor_after_step (editor_after page k) step ≡ editor_after page (kept_after k step)
-editor_after-more page k (Edit commands) valid good = λ i. record {
-  screen = (state_after_all-state (remaining page k) commands valid good
+editor_after-more page k (Edit commands) sound good = λ i. record {
+  screen = (state_after_all-state (remaining page k) commands (remaining_sound page k sound) good
       ∙ ap state (sym (remaining-edit page k commands))) i;
   past = states_before-edit page k commands i;
+  future = sym (states_again-edit page k commands) i;
 }
-editor_after-more page k (Turn TakeBack) valid good = by_count k.count page k refl
+editor_after-more page k (Turn turn) sound good = turn_more page k turn sound
 
-fewer_valid : (n : ℕ) (page : List Command) (k : KeptEdits) → k.count ≡ n → AllValid (remaining page k)
-    → AllValid (remaining page (kept_after k (Turn TakeBack)))
-fewer_valid zero page k none valid =
-    subst (λ (j : KeptEdits). AllValid (remaining page j)) (sym (kept_after-none k none)) valid
-fewer_valid (suc n) page k is valid =
-    subst (λ (j : KeptEdits). AllValid (remaining page j)) (sym (kept_after-undo k (omega (arith, is))))
-    (AllByRecursion-front IsValidCommand (remaining page (without_last k))
-    (commands_of_edits (drop (length k.edits - 1) k.edits)) (subst AllValid (remaining_in_parts page k) valid))
+turn_sound : (page : List Command) (k : KeptEdits) (turn : TurnKind) → AreSound page k
+    → AreSound page (kept_after k (Turn turn))
+turn_sound page k turn sound = by_finding (finds_nothing turn k) refl
+  where
+    by_finding : (none : Bool) → finds_nothing turn k ≡ none → AreSound page (kept_after k (Turn turn))
+    by_finding true is = subst (AreSound page) (sym (kept-idle k turn is)) sound
+    by_finding false is = subst (AreSound page) (sym (kept-turned k turn is)) (AreSound-turn page k turn sound is)
 
-remaining-valid : (page : List Command) (k : KeptEdits) (step : Step) → AllValid (remaining page k) → IsValidStep step
-    → AllValid (remaining page (kept_after k step))
-remaining-valid page k (Edit commands) valid good =
-    subst AllValid (sym (remaining-edit page k commands))
-    (AllByRecursion-append IsValidCommand (remaining page k) commands valid good)
-remaining-valid page k (Turn TakeBack) valid good = fewer_valid k.count page k refl valid
+more_sound : (page : List Command) (k : KeptEdits) (step : Step) → AreSound page k → IsValidStep step
+    → AreSound page (kept_after k step)
+unfolding commands_of_edits
+more_sound page k (Edit commands) sound good =
+    sound_in_parts page (kept_after k (Edit commands))
+    (subst AllValid (sym (remaining-edit page k commands))
+    (AllByRecursion-append IsValidCommand (remaining page k) commands (remaining_sound page k sound) good))
+    tt (omega (arith, sound.within, length-append k.edits (commands ∷ [])))
+more_sound page k (Turn turn) sound good = turn_sound page k turn sound
 
 -- ---- all lines
 
-more_steps : (page : List Command) (k : KeptEdits) (steps : List Step) → AllValid (remaining page k)
+more_steps : (page : List Command) (k : KeptEdits) (steps : List Step) → AreSound page k
     → AllByRecursion IsValidStep steps
     → editor_after_steps (editor_after page k) steps ≡ editor_after page (kept_after_all k steps)
 unfolding editor_after_steps kept_after_all
-more_steps page k [] valid good = refl
-more_steps page k (step ∷ more) valid good =
-    ap (λ (e : EditorState). editor_after_steps e more) (editor_after-more page k step valid good.0)
-    ∙ more_steps page (kept_after k step) more (remaining-valid page k step valid good.0) good.1
+more_steps page k [] sound good = refl
+more_steps page k (step ∷ more) sound good =
+    ap (λ (e : EditorState). editor_after_steps e more) (editor_after-more page k step sound good.0)
+    ∙ more_steps page (kept_after k step) more (more_sound page k step sound good.0) good.1
 
 -- after a page and these edit lines the screen has the state of the commands that remain
 pub editor_after-steps : (editor : EditorState) (page : List Command) (steps : List Step) → AllValid page
-    → AllByRecursion IsValidStep steps → editor.screen ≡ state page → editor.past ≡ []
+    → AllByRecursion IsValidStep steps → editor.screen ≡ state page → editor.past ≡ [] → editor.future ≡ []
     → editor_after_steps editor steps ≡ editor_after page (kept steps)
-editor_after-steps editor page steps valid good screen past =
-    ap (λ (e : EditorState). editor_after_steps e steps) (StandsAfter-start editor page valid screen past).is
-    ∙ more_steps page none_kept steps (subst AllValid (sym (remaining-none page)) valid) good
+editor_after-steps editor page steps valid good screen past future =
+    let stands = StandsAfter-start editor page valid screen past future in
+    ap (λ (e : EditorState). editor_after_steps e steps) stands.is
+    ∙ more_steps page none_kept steps
+    (sound_in_parts page none_kept stands.valid stands.valid_again stands.within) good

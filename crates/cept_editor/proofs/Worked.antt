@@ -4,7 +4,7 @@ use Rattle.cept_codes.specs.declared.command.Command.TheVariants as commands
 use Rattle.cept_codes.specs.declared.command.C1Set.TheVariants.{Serial, Parallel}
 use Rattle.cept_codes.specs.declared.line_reason.LineReason.TheVariants as reasons
 use Rattle.cept_editor.specs.Lines.{lines}
-use Rattle.cept_editor.specs.Meaning.{Turn, TakeBack, Edit, hex_bytes, line_meaning}
+use Rattle.cept_editor.specs.Meaning.{Turn, TakeBack, MakeAgain, Edit, hex_bytes, line_meaning}
 use Rattle.cept_editor.specs.Script.{edits, first_fault, edits_from, fault_from}
 use Rattle.cept_editor.specs.Table.{row_of}
 
@@ -118,6 +118,10 @@ means-undo : line_meaning (codes "undo") ≡ Ok (Some (Turn TakeBack))
 unfolding line_meaning row_of
 means-undo = refl
 
+means-redo : line_meaning (codes "redo") ≡ Ok (Some (Turn MakeAgain))
+unfolding line_meaning row_of
+means-redo = refl
+
 means-nothing : line_meaning [] ≡ Ok None
 unfolding line_meaning
 means-nothing = refl
@@ -128,9 +132,13 @@ means-comment = refl
 
 -- ---- each reason
 
-refuses-redo : line_meaning (codes "redo") ≡ Err reasons.UnknownWord
+refuses-Redo : line_meaning (codes "Redo") ≡ Err reasons.UnknownWord
 unfolding line_meaning row_of hex_bytes
-refuses-redo = refl
+refuses-Redo = refl
+
+refuses-redo_x : line_meaning (codes "redo x") ≡ Err reasons.WrongCount
+unfolding line_meaning row_of hex_bytes
+refuses-redo_x = refl
 
 refuses-up_after_space : line_meaning (codes " up") ≡ Err reasons.UnknownWord
 unfolding line_meaning row_of hex_bytes

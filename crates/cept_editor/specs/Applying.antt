@@ -8,10 +8,10 @@ use Rattle.cept_profile.specs.Reach.{rows_in_reach}
 use Rattle.cept_profile.specs.State.{State, state, state_after, core_of}
 use Rattle.cept_profile.specs.Valid.{AllValid}
 use Rattle.cept_repaint.specs.Applied.{IsApplied}
-use Rattle.cept_undo.specs.Past.{most_kept, state_before_latest}
+use Rattle.cept_undo.specs.Past.{most_kept, nearest, handed_on}
 use Rattle.cept_editor.specs.Kept.{EditorState}
 use Rattle.cept_editor.specs.Made.{Output, IsMade, AreMade, AreCutOff}
-use Rattle.cept_editor.specs.Meaning.{Step, TurnKind, Turn, TakeBack, Edit}
+use Rattle.cept_editor.specs.Meaning.{Step, TurnKind, Turn, TakeBack, MakeAgain, Edit}
 use Rattle.cept_editor.specs.Stepping.{event_from, edit_events}
 
 -- a state after commands, one after the other
@@ -31,15 +31,28 @@ rows_of_step s (Edit commands) = rows_in_reach_of_all s commands
 
 -- ---- edit lines by the states alone
 
--- an editor after a turn: an undo brings the latest state of its past and leaves the others; where there is none, the
--- editor stays
+-- an editor after a turn: an undo brings the latest state of its past and leaves the others, and the state before it comes
+-- first in its future; a redo the other way round. Where there is none, the editor stays
 abbrev pub editor_after_turn : EditorState → TurnKind → EditorState
-editor_after_turn e TakeBack = record { screen = state_before_latest e.past e.screen; past = drop 1 e.past }
+editor_after_turn e TakeBack = record {
+  screen = nearest e.past e.screen;
+  past = drop 1 e.past;
+  future = handed_on e.past e.screen e.future;
+}
+editor_after_turn e MakeAgain = record {
+  screen = nearest e.future e.screen;
+  past = handed_on e.future e.screen e.past;
+  future = drop 1 e.future;
+}
 
--- an editor after an edit line: the state before an edit comes first in its past, and no more stay than may be kept
+-- an editor after an edit line: the state before an edit comes first in its past, no more stay than may be kept, and none
+-- can be brought again
 abbrev pub editor_after_step : EditorState → Step → EditorState
-editor_after_step e (Edit commands) =
-    record { screen = state_after_all e.screen commands; past = take most_kept (e.screen ∷ e.past) }
+editor_after_step e (Edit commands) = record {
+  screen = state_after_all e.screen commands;
+  past = take most_kept (e.screen ∷ e.past);
+  future = [];
+}
 editor_after_step e (Turn turn) = editor_after_turn e turn
 
 -- an editor after these edit lines, in order
@@ -55,6 +68,7 @@ pub record HasMade {X E : Type 0} (step : Step) (old : EditorState) (result : Re
   pub turned : (turn : TurnKind) → step ≡ Turn turn → new ≡ editor_after_turn old turn
   -- and of an edit then as much is kept as was applied
   pub past : new.past ≡ (editor_after_step old step).past
+  pub future : new.future ≡ (editor_after_step old step).future
 
 -- ---- one command
 

@@ -1,32 +1,51 @@
--- The edits that are kept after the edit lines of a script, and those of them that can be taken back (this project's own).
-use Rattle.std.specs.Prelude.{◌≡◌, ℕ, ◌+◌, ◌-◌, ◌<◌, ◌≤◌, ◌==◌, Bool, min, List, [], ◌∷◌, ◌++◌, length, map, take, if◌then◌else◌}
+-- The edits that are kept after the edit lines of a script, those of them that can be taken back, and those that were
+-- taken back and can be made again (this project's own).
+use Rattle.std.specs.Prelude.{◌≡◌, ℕ, ◌+◌, ◌-◌, ◌<◌, ◌≤◌, ◌==◌, Bool, min, List, [], ◌∷◌, ◌++◌, length, map, take, drop}
+use Rattle.std.specs.Prelude.{if◌then◌else◌}
 use Rattle.std.specs.List.{flat_map, range_with_len, AllByRecursion}
 use Rattle.cept_codes.specs.declared.command.Command.{Command}
 use Rattle.cept_profile.specs.State.{State, state}
 use Rattle.cept_profile.specs.Valid.{AllValid}
 use Rattle.cept_undo.specs.Past.{Edits, FitsTogether, IsNotBegun, most_kept}
-use Rattle.cept_editor.specs.Meaning.{Step, TurnKind, Turn, TakeBack, Edit}
+use Rattle.cept_editor.specs.Meaning.{Step, TurnKind, Turn, TakeBack, MakeAgain, Edit}
 
--- the commands of each kept edit, in order, and how many of the last edits can be taken back
+-- the commands of each kept edit, in order, how many of the last edits can be taken back, and the commands of each undone
+-- edit, the last undone first
 pub record KeptEdits : Type 0 where
   pub edits : List (List Command)
   pub count : ℕ
+  pub undone : List (List Command)
 
 -- before the first edit line
 abbrev pub none_kept : KeptEdits
-none_kept = record { edits = []; count = 0 }
+none_kept = record { edits = []; count = 0; undone = [] }
 
--- there is nothing that a turn could bring: no edit can be taken back
+-- there is nothing that a turn could bring: no edit can be taken back, or none is undone
 abbrev pub finds_nothing : TurnKind → KeptEdits → Bool
 finds_nothing TakeBack k = k.count == 0
+finds_nothing MakeAgain k = length k.undone == 0
 
--- after a turn that finds something: an undo takes the last edit away
+-- after a turn that finds something: an undo takes the last edit away and puts it first of the undone ones; a redo takes
+-- the first of these and puts it last
 abbrev pub kept_after_turn : KeptEdits → TurnKind → KeptEdits
-kept_after_turn k TakeBack = record { edits = take (length k.edits - 1) k.edits; count = k.count - 1 }
+kept_after_turn k TakeBack = record {
+  edits = take (length k.edits - 1) k.edits;
+  count = k.count - 1;
+  undone = drop (length k.edits - 1) k.edits ++ k.undone;
+}
+kept_after_turn k MakeAgain = record {
+  edits = k.edits ++ take 1 k.undone;
+  count = k.count + 1;
+  undone = drop 1 k.undone;
+}
 
--- after one more edit line: an edit goes last, and no more can be taken back than may be kept
+-- after one more edit line: an edit goes last, no more can be taken back than may be kept, and none stays undone
 abbrev pub kept_after : KeptEdits → Step → KeptEdits
-kept_after k (Edit commands) = record { edits = k.edits ++ commands ∷ []; count = min (k.count + 1) most_kept }
+kept_after k (Edit commands) = record {
+  edits = k.edits ++ commands ∷ [];
+  count = min (k.count + 1) most_kept;
+  undone = [];
+}
 kept_after k (Turn turn) = if finds_nothing turn k then k else kept_after_turn k turn
 
 -- after these and more edit lines, in order
@@ -54,22 +73,37 @@ state_before_last page k i = state (page ++ commands_of_edits (take (length k.ed
 unfoldable pub states_before : List Command → KeptEdits → List State
 states_before page k = map (state_before_last page k) (range_with_len 0 k.count)
 
+-- the state after the page, all kept edits and the first i + 1 undone ones
+abbrev pub state_after_first : List Command → KeptEdits → ℕ → State
+state_after_first page k i = state (page ++ commands_of_edits (k.edits ++ take (i + 1) k.undone))
+
+-- the states that can be brought again, that after the first undone edit first
+unfoldable pub states_again : List Command → KeptEdits → List State
+states_again page k = map (state_after_first page k) (range_with_len 0 (length k.undone))
+
 -- ---- the editor
 
--- a screen's state, and the states that can be brought back, the latest first
+-- a screen's state, the states that can be brought back, the latest first, and those that can be brought again, the
+-- nearest first
 pub record EditorState : Type 0 where
   pub screen : State
   pub past : List State
+  pub future : List State
 
 -- an editor after a page's commands and these kept edits
 abbrev pub editor_after : List Command → KeptEdits → EditorState
-editor_after page k = record { screen = state (remaining page k); past = states_before page k }
+editor_after page k = record {
+  screen = state (remaining page k);
+  past = states_before page k;
+  future = states_again page k;
+}
 
 -- it stands after them
 pub record StandsAfter (editor : EditorState) (page : List Command) (k : KeptEdits) : Type 0 where
   pub valid : AllValid (remaining page k)
-  -- each kept edit has a command, and there are as many as can be taken back
-  pub some : AllByRecursion (λ commands. 0 < length commands) k.edits
+  pub valid_again : AllValid (commands_of_edits k.undone)
+  -- each edit has a command, and as many are kept as can be taken back
+  pub some : AllByRecursion (λ commands. 0 < length commands) (k.edits ++ k.undone)
   pub within : k.count ≤ length k.edits
   pub is : editor ≡ editor_after page k
 

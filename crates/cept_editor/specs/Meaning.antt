@@ -12,11 +12,12 @@ use Rattle.cept_codes.specs.declared.line_reason.LineReason.TheVariants as reaso
 use Rattle.cept_parser.specs.Bytes.{is_between, is_digit, digit, two_digits}
 use Rattle.cept_parser.specs.Items.{is_refusal, closed_items, commands}
 use Rattle.cept_editor.specs.Lines.{words}
-use Rattle.cept_editor.specs.Table.{Row, row_of, Alone, One, Two, Four, Text, Raw, Undo}
+use Rattle.cept_editor.specs.Table.{Row, row_of, Alone, One, Two, Four, Text, Raw, Undo, Redo}
 
--- what a turn does: it takes back the last kept edit
+-- what a turn does: it takes back the last kept edit, or makes the last undone edit again
 pub data TurnKind : Type 0 where
   TakeBack : TurnKind
+  MakeAgain : TurnKind
 
 -- what an edit line does: it is a turn, or an edit of these commands
 pub data Step : Type 0 where
@@ -137,6 +138,7 @@ step_by (Some (Four fits command)) more rest = four fits command more
 step_by (Some Text) more rest = text rest
 step_by (Some Raw) more rest = raw more
 step_by (Some Undo) more rest = alone (Turn TakeBack) more
+step_by (Some Redo) more rest = alone (Turn MakeAgain) more
 
 -- what an edit line means, cut into words
 abbrev pub step_of_words : List (List ℕ) → List ℕ → Result Step LineReason

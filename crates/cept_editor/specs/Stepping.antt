@@ -5,13 +5,14 @@ use Rattle.std.specs.List.{enumerate_from}
 use Rattle.cept_codes.specs.declared.command.Command.{Command}
 use Rattle.cept_profile.specs.Changes.{changes_between}
 use Rattle.cept_profile.specs.Look.{grid}
+use Rattle.cept_profile.specs.State.{State}
 use Rattle.cept_report.specs.Text.{change_lines, nothing_line}
 use Rattle.cept_editor.specs.declared.editor.Done.{Done}
 use Rattle.cept_editor.specs.declared.editor.Done.TheVariants as answers
 use Rattle.cept_editor.specs.Events.{Event}
 use Rattle.cept_editor.specs.Kept.{KeptEdits, finds_nothing, kept_after, remaining, EditorState, StandsAfter}
 use Rattle.cept_editor.specs.Made.{Output, AreMade, AreCutOff}
-use Rattle.cept_editor.specs.Meaning.{Step, Turn, TakeBack, Edit}
+use Rattle.cept_editor.specs.Meaning.{Step, TurnKind, Turn, TakeBack, MakeAgain, Edit}
 
 -- from these commands to those; its change lines have this number, where they are listed
 abbrev pub event_from : Bool → ℕ → List Command → List Command → Event
@@ -27,7 +28,7 @@ edit_events listed line earlier commands =
     map (λ numbered. event_from listed line (earlier ++ take numbered.0 commands)
     (earlier ++ take (numbered.0 + 1) commands)) (enumerate_from 0 commands)
 
--- an undo before which no edit can be taken back: it changes nothing
+-- a turn that finds nothing: it changes nothing
 abbrev pub nothing_event : Bool → ℕ → List Command → Event
 nothing_event listed line commands = record {
   before = commands;
@@ -42,6 +43,11 @@ line_events listed line page k (Edit commands) = edit_events listed line (remain
 line_events listed line page k (Turn turn) =
     (if finds_nothing turn k then nothing_event listed line (remaining page k)
     else event_from listed line (remaining page k) (remaining page (kept_after k (Turn turn)))) ∷ []
+
+-- the states that turns of a kind lead to, one after the other
+abbrev pub states_ahead : EditorState → TurnKind → List State
+states_ahead e TakeBack = e.past
+states_ahead e MakeAgain = e.future
 
 -- the first commands of an edit; a turn is one step
 abbrev pub first_of : ℕ → Step → Step
@@ -64,8 +70,9 @@ pub record GoesOn {E : Type 0} (listed : Bool) (line : ℕ) (step : Step) (old :
   -- and exactly the line's events were made
   pub made : result ≡ Ok answers.Done → (page : List Command) (k : KeptEdits) → StandsAfter old page k
       → AreMade (line_events listed line page k step) before after
-  -- Nothing is answered exactly at an undo before which no edit can be taken back; then nothing was touched
-  pub nothing : (result ≡ Ok answers.Nothing) ↔ ((step ≡ Turn TakeBack) × (old.past ≡ []))
+  -- Nothing is answered exactly at an undo before which no edit can be taken back, and at a redo before which none is
+  -- undone; then nothing was touched
+  pub nothing : (result ≡ Ok answers.Nothing) ↔ ((turn : TurnKind) × (step ≡ Turn turn) × (states_ahead old turn ≡ []))
   pub idle : result ≡ Ok answers.Nothing → (new ≡ old) × (after ≡ before)
   -- or the sink failed on the way
   pub cut : OnErr result ((page : List Command) (k : KeptEdits) → StandsAfter old page k

@@ -7,8 +7,8 @@ use Rattle.cept_codes.specs.declared.command.Command.TheVariants as commands
 use Rattle.cept_codes.specs.declared.command.C1Set.TheVariants.{Serial, Parallel}
 use Rattle.cept_parser.specs.Bytes.{is_between}
 
--- what a word asks of its line: no word more, one, two or four numbers in a range, a text, hexadecimal digits, or to
--- undo
+-- what a word asks of its line: no word more, one, two or four numbers in a range, a text, hexadecimal digits, to undo,
+-- or to redo
 pub data Row : Type 0 where
   Alone : Command → Row
   One : (ℕ → Bool) → (ℕ → Command) → Row
@@ -17,6 +17,7 @@ pub data Row : Type 0 where
   Text : Row
   Raw : Row
   Undo : Row
+  Redo : Row
 
 -- a row and a column of the screen
 abbrev pub is_place : ℕ → ℕ → Bool
@@ -73,4 +74,5 @@ row_of word =
     if bytes_eq word (codes "explicit") then Some (Alone (commands.Implicit false)) else
     if bytes_eq word (codes "raw") then Some Raw else
     if bytes_eq word (codes "undo") then Some Undo else
+    if bytes_eq word (codes "redo") then Some Redo else
     None

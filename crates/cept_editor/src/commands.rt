@@ -61,6 +61,8 @@ impl<'a> Commands<'a> {
 pub enum Edit<'a> {
     /// It takes back the last kept edit.
     Undo,
+    /// It makes the last undone edit again.
+    Redo,
     /// It applies these commands.
     Commands(Commands<'a>),
 }
@@ -75,6 +77,7 @@ impl<'a> Edit<'a> {
     {
         match order {
             Order::TakeBack => Edit::Undo,
+            Order::MakeAgain => Edit::Redo,
             Order::One(brief) => Edit::Commands(Commands {
                 first: Some(brief.command()),
                 text: &[],

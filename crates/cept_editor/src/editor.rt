@@ -9,12 +9,13 @@ ghost use Rattle.cept_profile.specs.Changes.{changes_between, differences};
 ghost use Rattle.cept_profile.specs.Look.{looks_of};
 ghost use Rattle.cept_profile.specs.State.{core_of, state};
 ghost use Rattle.cept_repaint.specs.Applied.{IsApplied};
-ghost use Rattle.cept_undo.specs.Past.{FitsTogether, IsBegun, StaysBegun};
+ghost use Rattle.cept_undo.specs.Past.{FitsTogether, IsBegun, StaysBegun, future};
 ghost use Rattle.cept_editor.specs.Applying.{AppliesOne, AppliesAll, HasMade, MarksLast, MarksStep};
 ghost use Rattle.cept_editor.specs.Applying.{rows_in_reach_of_all, rows_of_step};
 ghost use Rattle.cept_editor.specs.Kept.{none_kept, StandsAfter};
 ghost use Rattle.cept_editor.specs.Made.{output_of};
-ghost use Rattle.cept_editor.specs.Meaning.{Turn, TakeBack, Edit as EditOf, command_count};
+ghost use Rattle.cept_editor.specs.Meaning.{Turn, TakeBack, MakeAgain, Edit as EditOf};
+ghost use Rattle.cept_editor.specs.Meaning.{command_count};
 ghost use Rattle.cept_editor.specs.Script.{EditLine};
 ghost use Rattle.cept_editor.specs.Stepping.{GoesOn};
 
@@ -24,7 +25,7 @@ use cept_codes::{Command, NoMemory};
 use cept_outside::{Sink, Steps, WriteFault};
 use cept_repaint::{Glass, Marks, Screen};
 use cept_report::put_changes_if;
-use cept_undo::{Undo, Undone};
+use cept_undo::{Redone, Undo, Undone};
 use std::alloc::Global;
 use std::marker::Model;
 use std::sync::ledger::Ledger;
@@ -34,7 +35,7 @@ use std::sync::ledger::Ledger;
 pub enum Done {
     /// It was made.
     Done,
-    /// It was an undo, and no edit was kept that it could take back.
+    /// It was an undo, and no edit was kept that it could take back; or a redo, and no edit was undone.
     Nothing,
 }
 
@@ -81,6 +82,7 @@ fn apply_commands<G: Glass, T: Sink, L: Ledger>(
     steps: &mut Steps<L>,
 ) -> Result<(), WriteFault>
     requires begun { IsBegun undo.old }
+    requires none_undone { future undo.old screen.old ≡ [] }
     requires fits { FitsTogether undo.old screen.old }
     ensures edit { StaysBegun undo.old screen.old undo.new screen.new }
     ensures applies { AppliesAll listed line commands.entry screen.old
@@ -101,8 +103,8 @@ fn apply_commands<G: Glass, T: Sink, L: Ledger>(
     Ok(())
 }
 
-/// A screen, and the last edits of it, of which up to 32 can be taken back. The commands of a page
-/// can't.
+/// A screen, and the last edits of it, of which up to 64 can be taken back and then made again. The
+/// commands of a page can't.
 #[derive(Drop)]
 pub struct Editor {
     screen: Screen,
@@ -110,21 +112,26 @@ pub struct Editor {
 }
 
 impl Model for Editor {
-    ghost use Rattle.cept_undo.specs.Past.{past};
+    ghost use Rattle.cept_undo.specs.Past.{past, future};
     ghost use Rattle.cept_editor.specs.Kept.{EditorState, IsBetweenEdits};
 
     ghost Value = { EditorState };
 
-    ghost view = { λ e. record { screen = e.screen; past = past e.undo e.screen } };
+    ghost view = { λ e. record {
+      screen = e.screen;
+      past = past e.undo e.screen;
+      future = future e.undo e.screen;
+    } };
 
     // Between two calls no edit is begun.
     ghost invariant = { λ e. IsBetweenEdits e.undo e.screen };
 }
 
 impl Editor {
-    /// The screen is at its start, and no edit is kept.
+    /// The screen is at its start, no edit is kept, and none is undone.
     pub fn new(alloc: Global) -> Result<Editor, NoMemory>
-        ensures start { IfOk result (λ editor. editor ≡ record { screen = state []; past = [] }) }
+        ensures start { IfOk result (λ editor. editor
+            ≡ record { screen = state []; past = []; future = [] }) }
         ensures stands { IfOk result (λ editor. StandsAfter editor [] none_kept) }
     {
         Ok(Editor {
@@ -135,7 +142,7 @@ impl Editor {
 
     /// Applies a command of a page: marks exactly the places whose look changes, and paints each of
     /// them once, in reading order, with its new look. It is no edit: before the first edit no undo
-    /// takes it back. Takes no memory.
+    /// takes it back. After it no edit is undone. Takes no memory.
     pub fn page<G: Glass, L: Ledger>(
         &mut self,
         command: &Command,
@@ -145,6 +152,7 @@ impl Editor {
     )
         requires { IsValidCommand command.now }
         ensures past { self.new.past ≡ self.old.past }
+        ensures future { self.new.future ≡ [] }
         ensures applied { IsApplied self.old.screen command.now self.new.screen marks.new
             (G.state glass.old) (G.state glass.new) steps.old steps.new }
     {
@@ -154,14 +162,16 @@ impl Editor {
 
     /// Makes edit k of a script, counted from 0. The commands of an edit are applied one after the
     /// other, each is painted, and then its change lines are put, where `listed` holds. The edit is
-    /// kept, and where 32 are kept the oldest is dropped. An undo takes the last kept edit back in
-    /// one step, paints what changes, and then puts its change lines where `listed` holds; where no
-    /// edit is kept nothing happens. Takes no memory.
+    /// kept, where 64 are kept the oldest is dropped, and none stays undone. An undo takes the last
+    /// kept edit back in one step, paints what changes, and then puts its change lines where `listed`
+    /// holds; where no edit is kept nothing happens. A redo makes the last undone edit again in the
+    /// same way; where none is undone nothing happens. Takes no memory.
     ///
     /// # Errors
     ///
     /// `WriteFault` where the sink fails. A part of the change lines was put. The commands up to the
-    /// first one whose lines weren't all put are applied, and kept as an edit; an undo was made.
+    /// first one whose lines weren't all put are applied, and kept as an edit; an undo or a redo was
+    /// made.
     pub fn line<G: Glass, T: Sink, L: Ledger>(
         &mut self,
         script: &Script,
@@ -193,6 +203,7 @@ impl Editor {
         let line = script.line_of(k);
         match script.edit(k) {
             Edit::Undo => self.take_back(line, glass, marks, sink, listed, steps),
+            Edit::Redo => self.make_again(line, glass, marks, sink, listed, steps),
             Edit::Commands(commands) => {
                 self.edit(line, commands, glass, marks, sink, listed, steps)
             }
@@ -271,6 +282,36 @@ impl Editor {
         }
     }
 
+    /// Makes the last undone edit again.
+    fn make_again<G: Glass, T: Sink, L: Ledger>(
+        &mut self,
+        line: u32,
+        glass: &mut G,
+        marks: &mut Marks,
+        sink: &mut T,
+        listed: bool,
+        steps: &mut Steps<L>,
+    ) -> Result<Done, WriteFault>
+        ensures goes_on { GoesOn listed line (Turn MakeAgain) self.old
+            (output_of (T.state sink.old) (G.state glass.old)) result self.new
+            (output_of (T.state sink.new) (G.state glass.new)) }
+        ensures made { HasMade (Turn MakeAgain) self.old result self.new }
+        ensures cause { HasCause (T.state sink.old).faults (T.state sink.new).faults result }
+        ensures quiet { listed ≡ false → IsOk result × (T.state sink.new ≡ T.state sink.old) }
+        ensures marks { marks.new ≡ differences (looks_of (core_of self.old.screen))
+            (looks_of (core_of self.new.screen)) }
+        ensures at_most_24 { steps.new ≤ steps.old + 24 }
+        ensures unticked { result ≡ Ok Done.Nothing → steps.new ≡ steps.old }
+    {
+        match self.undo.redo(&mut self.screen, glass, marks, steps) {
+            Redone::Nothing => Ok(Done::Nothing),
+            Redone::Redone => {
+                put_changes_if(listed, sink, u64::from(line), marks, &self.screen)?;
+                Ok(Done::Done)
+            }
+        }
+    }
+
     /// The screen.
     pub fn screen(&self) -> &Screen
         ensures { result.now ≡ self.now.screen }
@@ -278,11 +319,19 @@ impl Editor {
         &self.screen
     }
 
-    /// How many edits can be taken back, at most 32.
+    /// How many edits can be taken back, at most 64.
     pub fn kept(&self) -> u32
         ensures edits { result ≡ length self.now.past }
-        ensures at_most_32 { result ≤ 32 }
+        ensures at_most_64 { result ≤ 64 }
     {
         self.undo.kept()
+    }
+
+    /// How many edits are undone and can be made again, at most 64.
+    pub fn undone(&self) -> u32
+        ensures edits { result ≡ length self.now.future }
+        ensures at_most_64 { result ≤ 64 }
+    {
+        self.undo.undone()
     }
 }

@@ -12,10 +12,12 @@ ghost use Rattle.cept_profile.specs.Look.{grid};
 ghost use Rattle.cept_profile.specs.State.{state};
 ghost use Rattle.cept_profile.specs.Valid.{AllValid};
 ghost use Rattle.cept_repaint.specs.GlassState.{GlassState};
+ghost use Rattle.cept_undo.specs.Past.{most_kept};
 ghost use Rattle.cept_editor.specs.Applying.{editor_after_steps};
 ghost use Rattle.cept_editor.specs.Events.{Event, event_changes, report, paints};
 ghost use Rattle.cept_editor.specs.Kept.{KeptEdits, none_kept, kept_after, kept, remaining};
-ghost use Rattle.cept_editor.specs.Kept.{states_before, EditorState, StandsAfter, editor_after};
+ghost use Rattle.cept_editor.specs.Kept.{states_before, states_again, EditorState, StandsAfter};
+ghost use Rattle.cept_editor.specs.Kept.{editor_after};
 ghost use Rattle.cept_editor.specs.Made.{Output, AreStill, ArePainted, IsMade, AreMade, AreCutOff};
 ghost use Rattle.cept_editor.specs.Lines.{lines};
 ghost use Rattle.cept_editor.specs.Meaning.{IsValidStep, Step, line_meaning};
@@ -96,25 +98,30 @@ pub fn one_more_text_is_put()
         → AreCutOff (es ++ e ∷ []) a c }
 {}
 
-/// The edits that are kept after more edit lines. Before the first line all commands that remain
-/// are those of the page, and nothing can be brought back: so an editor stands that has applied
+/// The edits that are kept after more edit lines. Those that can be taken back and those that are
+/// undone are together no more than may be kept. Before the first line all commands that remain are
+/// those of the page, and nothing can be brought back or again: so an editor stands that has applied
 /// these alone.
 pub fn edit_lines_go_on()
     ensures none { kept [] ≡ none_kept }
     ensures more { (steps : List Step) (step : Step)
         → kept (steps ++ step ∷ []) ≡ kept_after (kept steps) step }
+    ensures few { (steps : List Step) → (kept steps).count + length (kept steps).undone ≤ most_kept }
     ensures page { (page : List Command) → remaining page none_kept ≡ page }
     ensures nothing { (page : List Command) → states_before page none_kept ≡ [] }
+    ensures nothing_again { (page : List Command) → states_again page none_kept ≡ [] }
     ensures start { (editor : EditorState) (page : List Command) → AllValid page
-        → editor.screen ≡ state page → editor.past ≡ [] → StandsAfter editor page none_kept }
+        → editor.screen ≡ state page → editor.past ≡ [] → editor.future ≡ []
+        → StandsAfter editor page none_kept }
 {}
 
 /// After a page and the edit lines of a script, made one after the other, the screen has the state of
-/// the commands that remain, and the past the states before the last edits.
+/// the commands that remain, the past the states before the last edits, and the future those after
+/// the first undone edits.
 pub fn edit_lines_lead_to_what_remains()
     ensures { (editor : EditorState) (page : List Command) (steps : List Step) → AllValid page
         → AllByRecursion IsValidStep steps → editor.screen ≡ state page → editor.past ≡ []
-        → editor_after_steps editor steps ≡ editor_after page (kept steps) }
+        → editor.future ≡ [] → editor_after_steps editor steps ≡ editor_after page (kept steps) }
 {}
 
 /// What the events of an edit line change, painted over the grid before it, gives the grid after

@@ -1,5 +1,5 @@
 //! Editing scripts, their lines and the commands of each; and the editor, which makes the edits on a
-//! screen and takes them back. It knows no files, and of a page its commands alone.
+//! screen, takes them back and makes them again. It knows no files, and of a page its commands alone.
 #![tactic(auto)]
 
 mod brief;

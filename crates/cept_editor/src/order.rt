@@ -1,8 +1,8 @@
 ghost use Rattle.std.specs.Prelude.{◌≡◌, ◌≤◌, ◌<◌, ◌^◌, ◌∷◌, ℕ, List, [], length, true, IfOk};
 ghost use Rattle.std.specs.List.{list_all};
 ghost use Rattle.cept_codes.specs.Command.{IsValidCommand};
-ghost use Rattle.cept_editor.specs.Meaning.{Turn, TakeBack, Edit, ranged, alone, is_sign, text, raw};
-ghost use Rattle.cept_editor.specs.Meaning.{bytes_step, hex_bytes};
+ghost use Rattle.cept_editor.specs.Meaning.{Turn, TakeBack, MakeAgain, Edit, ranged, alone, is_sign};
+ghost use Rattle.cept_editor.specs.Meaning.{text, raw, bytes_step, hex_bytes};
 ghost use Rattle.cept_editor.specs.Order.{words_after, bytes_after, order_step, step_meant};
 ghost use Rattle.cept_editor.specs.Order.{command_of, place_before, IsSoundOrder, IsPlainOrder};
 
@@ -17,6 +17,8 @@ use cept_codes::LineReason;
 pub(crate) enum Order {
     /// To take back the last kept edit.
     TakeBack,
+    /// To make the last undone edit again.
+    MakeAgain,
     /// One command.
     One(Brief),
     /// The commands that write the text that stands there.
@@ -68,6 +70,15 @@ pub(crate) fn take_back(rest: Option<&[u8]>) -> Result<Order, LineReason>
     ensures plain { IfOk result IsPlainOrder }
 {
     alone(Order::TakeBack, rest)
+}
+
+/// To make the last undone edit again, without a word after it.
+pub(crate) fn make_again(rest: Option<&[u8]>) -> Result<Order, LineReason>
+    ensures meant { step_meant (bytes_after rest.entry) result
+        ≡ alone (Turn MakeAgain) (words_after rest.entry) }
+    ensures plain { IfOk result IsPlainOrder }
+{
+    alone(Order::MakeAgain, rest)
 }
 
 /// Whether these are signs of a text: 2/0 to 7/14.

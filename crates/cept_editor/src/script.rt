@@ -182,7 +182,7 @@ impl Script {
         self.orders[k as usize].line
     }
 
-    /// What an edit does: its commands one after the other, or undo. Edits are counted from 0.
+    /// What an edit does: its commands one after the other, undo or redo. Edits are counted from 0.
     pub fn edit(&self, k: u32) -> Edit<'_>
         requires { k < length self.now }
         ensures step { (default : EditLine) → edit_step result

@@ -6,7 +6,7 @@ ghost use Rattle.cept_editor.specs.Table.{row_of};
 
 use crate::brief::Brief;
 use crate::numbered::{area, c1, colour, full_row, full_screen, no_area, place, repeat, table};
-use crate::order::{Order, one, raw, take_back, text};
+use crate::order::{Order, make_again, one, raw, take_back, text};
 use cept_codes::{C1Set, LineReason};
 
 /// What a word asks for, with what stands after it, which ends there in a script.
@@ -75,6 +75,8 @@ pub(crate) fn order_of(word: &[u8], rest: Option<&[u8]>, end: u32) -> Result<Ord
         raw(rest, end)
     } else if word == b"undo".as_slice() {
         take_back(rest)
+    } else if word == b"redo".as_slice() {
+        make_again(rest)
     } else {
         Err(LineReason::UnknownWord)
     }

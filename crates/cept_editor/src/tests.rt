@@ -1,5 +1,5 @@
 //! Scripts as they are read: good ones edit for edit, bad ones with their line and reason; and what
-//! edits and undos leave.
+//! edits, undos and redos leave.
 
 ghost use Rattle.std.specs.Prelude.{◌≡◌, ◌<◌, ◌≤◌, ◌^◌, length};
 
@@ -38,12 +38,12 @@ fn list_of(commands: &[Command]) -> [Option<Command>; 8]
 }
 
 const GOOD: &[u8] =
-    b"# a page\n\nat 1 40\ntext A b\nserial\nc1 31\nscreen 16\ncolour 9 0 15 7\narea 1 24\nraw 1f41419B3240\n#undo\nundo\nup";
+    b"# a page\n\nat 1 40\ntext A b\nserial\nc1 31\nscreen 16\ncolour 9 0 15 7\narea 1 24\nraw 1f41419B3240\n#undo\nundo\nredo\nup";
 
 #[test]
 fn reads_a_script(rt: HostRuntime) -> Result<(), Fail> {
     let script = Script::read(Vec::from_slice(rt.alloc(), GOOD)?)?;
-    let want: [(u32, &[Command]); 10] = [
+    let want: [(u32, &[Command]); 11] = [
         (3, &[Command::Position(1, 40)]),
         (
             4,
@@ -61,9 +61,10 @@ fn reads_a_script(rt: HostRuntime) -> Result<(), Fail> {
         (9, &[Command::AreaCreate(1, 24)]),
         (10, &[Command::Position(1, 1), Command::Table(2)]),
         (12, &[]),
-        (13, &[Command::Up]),
+        (13, &[]),
+        (14, &[Command::Up]),
     ];
-    assert_eq!(rt; script.len(), 10);
+    assert_eq!(rt; script.len(), 11);
     for (k, (line, commands)) in want.iter().enumerate() {
         let k = k as u32;
         if k < script.len() && commands.len() <= 8 {
@@ -80,8 +81,9 @@ fn reads_a_script(rt: HostRuntime) -> Result<(), Fail> {
 
 #[test]
 fn refuses_the_first_bad_line(rt: HostRuntime) -> Result<(), Fail> {
-    let cases: [(&[u8], u32, LineReason); 24] = [
-        (b"redo", 1, LineReason::UnknownWord),
+    let cases: [(&[u8], u32, LineReason); 25] = [
+        (b"Redo", 1, LineReason::UnknownWord),
+        (b"redo x", 1, LineReason::WrongCount),
         (b"up\n#\nUP\nat 1", 3, LineReason::UnknownWord),
         (b" up", 1, LineReason::UnknownWord),
         (b"up\r\n", 1, LineReason::UnknownWord),
@@ -192,19 +194,20 @@ fn make_edits<L: Ledger>(alloc: Global, blank: Blank, text: &[u8]) -> Result<Lef
 }
 
 #[test]
-fn of_33_edits_the_first_stays(rt: HostRuntime) -> Result<(), Fail> {
+fn of_65_edits_the_first_stays(rt: HostRuntime) -> Result<(), Fail> {
     let mut text = Vec::new(rt.alloc());
-    for line in 0..66u8 {
-        let word: &[u8] = if line < 33 { b"text A\n" } else { b"undo\n" };
+    for line in 0..130u8 {
+        let word: &[u8] = if line < 65 { b"text A\n" } else { b"undo\n" };
         text.extend_from_slice(word)?;
     }
     if text.len() <= 1 << 20 {
         let left = make_edits::<Brand>(rt.alloc(), Blank::new(1), text.as_slice())?;
         assert!(rt; left.last == Done::Nothing);
         assert_eq!(rt; left.editor.kept(), 0);
+        assert_eq!(rt; left.editor.undone(), 64);
         let first = Pos::new(1, 1).ok_or("no place")?;
         let second = Pos::new(1, 2).ok_or("no place")?;
-        let last = Pos::new(1, 33).ok_or("no place")?;
+        let last = Pos::new(2, 25).ok_or("no place")?;
         assert!(rt; left.editor.screen().look(first) == sign(0x41));
         assert!(rt; left.glass.shown(first) == sign(0x41));
         assert!(rt; left.glass.shown(second) == Look::BLANK);
@@ -212,7 +215,7 @@ fn of_33_edits_the_first_stays(rt: HostRuntime) -> Result<(), Fail> {
         assert!(rt;
             left.sink
                 .bytes()
-                .ends_with(b"\n65 1 2 - 11.00 FFF 000 S---\n")
+                .ends_with(b"\n129 1 2 - 11.00 FFF 000 S---\n")
         );
     }
     Ok(())
@@ -223,6 +226,17 @@ fn an_undo_brings_back_the_pen(rt: HostRuntime) -> Result<(), Fail> {
     let left = make_edits::<Brand>(rt.alloc(), Blank::new(1), b"c1 1\nundo\ntext A")?;
     assert!(rt; left.last == Done::Done);
     let want: &[u8] = b"3 1 1 P41 11.00 FFF 000 S---\n";
+    assert_eq!(rt; left.sink.bytes(), want);
+    Ok(())
+}
+
+#[test]
+fn a_redo_brings_back_the_pen(rt: HostRuntime) -> Result<(), Fail> {
+    let left = make_edits::<Brand>(rt.alloc(), Blank::new(1), b"c1 1\nundo\nredo\ntext A")?;
+    assert!(rt; left.last == Done::Done);
+    assert_eq!(rt; left.editor.kept(), 2);
+    assert_eq!(rt; left.editor.undone(), 0);
+    let want: &[u8] = b"4 1 1 P41 11.00 F00 000 S---\n";
     assert_eq!(rt; left.sink.bytes(), want);
     Ok(())
 }

@@ -161,20 +161,20 @@ edit_chained listed line earlier commands =
     (earlier ++ h)) (ap (λ k. take k commands) from_none ∙ take_all (length commands) commands (omega arith))
     (commands_chained listed line 0 earlier commands commands))
 
--- an undo, where an edit can be taken back or not
-undo_chained : (listed : Bool) (line : ℕ) (page : List Command) (k taken : KeptEdits) (none : Bool)
+-- a turn, where it finds something or not
+turn_chained : (listed : Bool) (line : ℕ) (page : List Command) (k taken : KeptEdits) (none : Bool)
     → AreChained (remaining page k)
     ((cond none (nothing_event listed line (remaining page k))
     (event_from listed line (remaining page k) (remaining page (cond none k taken)))) ∷ [])
     (remaining page (cond none k taken))
 unfolding AreChained
-undo_chained listed line page k taken true = (refl, refl)
-undo_chained listed line page k taken false = (refl, refl)
+turn_chained listed line page k taken true = (refl, refl)
+turn_chained listed line page k taken false = (refl, refl)
 
 pub line_chained : (listed : Bool) (line : ℕ) (page : List Command) (k : KeptEdits) (step : Step)
     → AreChained (remaining page k) (line_events listed line page k step) (remaining page (kept_after k step))
 line_chained listed line page k (Turn turn) =
-    undo_chained listed line page k (kept_after_turn k turn) (finds_nothing turn k)
+    turn_chained listed line page k (kept_after_turn k turn) (finds_nothing turn k)
 line_chained listed line page k (Edit commands) =
     subst (λ (h : List Command). AreChained (remaining page k) (edit_events listed line (remaining page k) commands) h)
     (remaining-edit page k commands) (edit_chained listed line (remaining page k) commands)

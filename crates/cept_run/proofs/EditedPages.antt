@@ -1,13 +1,13 @@
 -- What stands after a page and the edits of a script, if one was asked for.
-use Rattle.std.proofs.Common.{◌≡◌, Bool, true, false, cond, List, [], arith}
+use Rattle.std.proofs.Common.{◌≡◌, Bool, true, false, cond, List, []}
 use Rattle.std.proofs.Common.{Option, Some, None, Result, Ok, Err, refl, sym, ◌∙◌, ap, subst}
 use Rattle.cept_codes.specs.declared.command.Command.{Command}
 use Rattle.cept_codes.specs.declared.item.Item.{Item}
 use Rattle.cept_editor.specs.Events.{Event}
-use Rattle.cept_editor.specs.Kept.{none_kept, remaining, EditorState, StandsAfter, editor_after}
+use Rattle.cept_editor.specs.Kept.{none_kept, remaining, EditorState, StandsAfter}
 use Rattle.cept_editor.specs.Made.{Output, AreMade, AreCutOff}
 use Rattle.cept_editor.specs.Script.{EditLine}
-use Rattle.cept_editor.proofs.Laws.{AreMade-append, AreCutOff-after, remaining-none, states_before-none}
+use Rattle.cept_editor.proofs.Laws.{AreMade-append, AreCutOff-after, remaining-none, StandsAfter-start}
 use Rattle.cept_profile.specs.State.{State, state}
 use Rattle.cept_profile.specs.Valid.{AllValid}
 use Rattle.cept_run.specs.declared.easel.Easel.TheVariants as easels
@@ -15,7 +15,7 @@ use Rattle.cept_run.specs.Events.{history, item_events, script_events, edited_ev
 use Rattle.cept_run.specs.Reporting.{Plan, lines_if_any, lines_of, ReporterState, painted_easel, easel_at, screen_of}
 use Rattle.cept_run.specs.Reporting.{HasReported, HasMadeLines, MakesLines, remaining_at_end, HasEdited, EditsOn}
 use Rattle.cept_run.proofs.EditedLines.{edited_events-none, kept_of-none}
-use Rattle.cept_run.proofs.ReportedItems.{screen_painted, editor_painted, not_idle, editor_with}
+use Rattle.cept_run.proofs.ReportedItems.{screen_painted, editor_painted, not_idle}
 
 -- ---- what is asked for, by what commands are applied to
 
@@ -39,12 +39,12 @@ module _ (plan : Plan) (h : List Command) where
       by_flag false f = refl
 
   with_editor : (editor : EditorState) (lines : List EditLine) → easels.Editor editor lines ≡ easel_at plan h
-      → (plan.asked.painting ≡ true) × (lines_of plan ≡ lines) × (editor ≡ record { screen = state h; past = [] })
+      → (plan.asked.painting ≡ true) × (lines_of plan ≡ lines) × (editor ≡ record { screen = state h; past = []; future = [] })
   with_editor editor lines e = by_flag plan.asked.painting refl e
     where
       by_flag : (b : Bool) → plan.asked.painting ≡ b
           → easels.Editor editor lines ≡ cond b (painted_easel plan.script h) easels.Nothing
-          → (plan.asked.painting ≡ true) × (lines_of plan ≡ lines) × (editor ≡ record { screen = state h; past = [] })
+          → (plan.asked.painting ≡ true) × (lines_of plan ≡ lines) × (editor ≡ record { screen = state h; past = []; future = [] })
       by_flag true is f =
           let there = editor_painted plan.script editor lines h f in
           (is, ap (λ c. cond c (lines_if_any plan.script) []) is ∙ ap lines_if_any there.0, there.1)
@@ -121,20 +121,15 @@ module _ (old : ReporterState) (editor new : EditorState) (lines : List EditLine
   abbrev page : List Command
   page = history plan.asked reported
 
-  abbrev there : (plan.asked.painting ≡ true) × (lines_of plan ≡ lines) × (editor ≡ record { screen = state page; past = [] })
+  abbrev there : (plan.asked.painting ≡ true) × (lines_of plan ≡ lines) × (editor ≡ record { screen = state page; past = []; future = [] })
   there = with_editor plan page editor lines (sym at ∙ has.stands.easel)
 
   flag_is : old.asked.edits_listed ≡ plan.asked.edits_listed
   flag_is = ap (λ a. a.edits_listed) has.stands.asked_is
 
   stands_alone : StandsAfter editor page none_kept
-  stands_alone = subst (λ (e : EditorState). StandsAfter e page none_kept) (sym there.2) (record {
-    valid = subst AllValid (sym (remaining-none page)) has.stands.valid;
-    some = tt;
-    within = omega arith;
-    is = sym (editor_with (editor_after page none_kept) (state page) [] (ap state (remaining-none page))
-        (states_before-none page));
-  })
+  stands_alone = StandsAfter-start editor page has.stands.valid (ap (λ (e : EditorState). e.screen) there.2)
+      (ap (λ (e : EditorState). e.past) there.2) (ap (λ (e : EditorState). e.future) there.2)
 
   all_made : HasMadeLines old.asked.edits_listed page lines new before after
       → HasEdited plan (with_editor_after old new lines) reported start after

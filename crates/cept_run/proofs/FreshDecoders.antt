@@ -50,7 +50,7 @@ script_paints scripts.Trace = refl
 script_paints scripts.Edit = refl
 
 pub easel_edited : (asked : Asked) (editor : EditorState) (lines : List EditLine) → asked.painting ≡ true
-    → editor ≡ record { screen = state []; past = [] } → easels.Editor editor lines ≡ easel_at (edited asked lines) []
+    → editor ≡ record { screen = state []; past = []; future = [] } → easels.Editor editor lines ≡ easel_at (edited asked lines) []
 easel_edited asked editor lines painting is =
     ap (λ (e : EditorState). easels.Editor e lines) is
     ∙ ap (λ b. cond b (painted_easel (Some lines) []) easels.Nothing) (sym painting)

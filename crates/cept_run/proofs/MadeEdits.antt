@@ -1,5 +1,5 @@
 -- How a reporter stands after one edit line more.
-use Rattle.std.proofs.Common.{◌≡◌, ℕ, ◌==◌, Bool, cond, List, [], ◌∷◌, ◌++◌, length, map, take, Result, Ok, Err, refl, sym}
+use Rattle.std.proofs.Common.{◌≡◌, ℕ, ◌==◌, Bool, true, cond, List, [], ◌∷◌, ◌++◌, length, map, take, Result, Ok, Err, refl, sym}
 use Rattle.std.proofs.Common.{ap, ◌∙◌, subst, arith, ◌-◌}
 use Rattle.std.proofs.lemmas.List.{length-map}
 use Rattle.std.proofs.lemmas.List.FromFn.{length-range_with_len}
@@ -8,14 +8,16 @@ use Rattle.cept_codes.specs.declared.command.Command.{Command}
 use Rattle.cept_editor.specs.declared.editor.Done.{Done}
 use Rattle.cept_editor.specs.declared.editor.Done.TheVariants as answers
 use Rattle.cept_editor.specs.Events.{Event}
-use Rattle.cept_editor.specs.Kept.{KeptEdits, none_kept, kept_after, remaining, states_before, EditorState}
-use Rattle.cept_editor.specs.Kept.{StandsAfter, state_before_last}
+use Rattle.cept_editor.specs.Kept.{KeptEdits, none_kept, finds_nothing, kept_after_turn, kept_after, remaining}
+use Rattle.cept_editor.specs.Kept.{states_before, state_before_last, states_again, state_after_first, EditorState}
+use Rattle.cept_editor.specs.Kept.{editor_after, StandsAfter}
 use Rattle.cept_editor.specs.Made.{Output, output_of, IsMade, AreMade, AreCutOff}
-use Rattle.cept_editor.specs.Meaning.{Turn, TakeBack}
+use Rattle.cept_editor.specs.Meaning.{TurnKind, Turn, TakeBack, MakeAgain}
 use Rattle.cept_editor.specs.Script.{EditLine}
-use Rattle.cept_editor.specs.Stepping.{nothing_event, event_from, line_events, GoesOn}
+use Rattle.cept_editor.specs.Stepping.{nothing_event, event_from, line_events, states_ahead, GoesOn}
 use Rattle.cept_editor.proofs.Laws.{AreMade-none, AreMade-more, AreCutOff-here, AreMade-append, AreCutOff-after}
 use Rattle.cept_editor.proofs.Laws.{AreCutOff-longer, ArePainted-still}
+use Rattle.cept_profile.specs.State.{State}
 use Rattle.cept_outside.specs.Causes.{HasCause}
 use Rattle.cept_outside.specs.SinkState.{SinkState, PutsText}
 use Rattle.cept_report.specs.Text.{nothing_line}
@@ -26,26 +28,29 @@ use Rattle.cept_run.proofs.EditedLines.{script_events-append, script_events-none
 
 -- ---- one edit line
 
--- where nothing can be brought back, no edit can be taken back
-none_counted : (page : List Command) (k : KeptEdits) → states_before page k ≡ [] → k.count ≡ 0
-unfolding states_before
-none_counted page k none = by_count k.count (ap length none)
-  where
-    by_count : (n : ℕ) → length (map (state_before_last page k) (range_with_len 0 n)) ≡ 0 → n ≡ 0
-    by_count n e = omega (arith, length-map (range_with_len 0 n) (state_before_last page k), length-range_with_len 0 n, e)
+-- where no state lies ahead, the turn finds nothing
+none_listed : (f : ℕ → State) (n : ℕ) → map f (range_with_len 0 n) ≡ [] → (n == 0) ≡ true
+none_listed f n none =
+    let e : length (map f (range_with_len 0 n)) ≡ 0 = ap length none in
+    let no : n ≡ 0 = omega (arith, length-map (range_with_len 0 n) f, length-range_with_len 0 n, e) in
+    ap (λ k. k == 0) no
 
--- then an undo is one event that changes nothing, and leaves the kept edits
-nothing_events : (listed : Bool) (line : ℕ) (page : List Command) (k : KeptEdits) → k.count ≡ 0
-    → line_events listed line page k (Turn TakeBack) ≡ nothing_event listed line (remaining page k) ∷ []
-nothing_events listed line page k none =
+none_found : (page : List Command) (k : KeptEdits) (turn : TurnKind) → states_ahead (editor_after page k) turn ≡ []
+    → finds_nothing turn k ≡ true
+unfolding states_before states_again
+none_found page k TakeBack none = none_listed (state_before_last page k) k.count none
+none_found page k MakeAgain none = none_listed (state_after_first page k) (length k.undone) none
+
+-- then it is one event that changes nothing, and leaves the kept edits
+nothing_events : (listed : Bool) (line : ℕ) (page : List Command) (k : KeptEdits) (turn : TurnKind)
+    → finds_nothing turn k ≡ true
+    → line_events listed line page k (Turn turn) ≡ nothing_event listed line (remaining page k) ∷ []
+nothing_events listed line page k turn none =
     ap (λ b. cond b (nothing_event listed line (remaining page k))
-    (event_from listed line (remaining page k) (remaining page (kept_after k (Turn TakeBack)))) ∷ [])
-    (ap (λ n. n == 0) none)
+    (event_from listed line (remaining page k) (remaining page (kept_after k (Turn turn)))) ∷ []) none
 
-nothing_kept : (k : KeptEdits) → k.count ≡ 0 → kept_after k (Turn TakeBack) ≡ k
-nothing_kept k none =
-    ap (λ b. cond b k (record { edits = take (length k.edits - 1) k.edits; count = k.count - 1 }))
-    (ap (λ n. n == 0) none)
+nothing_kept : (k : KeptEdits) (turn : TurnKind) → finds_nothing turn k ≡ true → kept_after k (Turn turn) ≡ k
+nothing_kept k turn none = ap (λ b. cond b k (kept_after_turn k turn)) none
 
 -- the events were made
 pub line_done : {E : Type 0} (listed : Bool) (edit : EditLine) (old new : EditorState) (before after : Output)
@@ -70,20 +75,24 @@ line_cut listed edit old new before after on = record {
   cut = λ page k stands. (on.cut page k stands).cut;
 }
 
--- it was an undo before which no edit was kept, and its line was put, or not
+-- it was a turn that found nothing, and its line was put, or not
 module _ {F : Type 0} (listed : Bool) (edit : EditLine) (old new : EditorState) (before after : Output)
     (now : SinkState)
     (on : GoesOn {E = F} listed edit.line edit.step old before (Ok answers.Nothing) new after) where
   module _ (page : List Command) (k : KeptEdits) (stands : StandsAfter old page k) where
-    counted : k.count ≡ 0
-    counted = none_counted page k (sym (ap (λ (e : EditorState). e.past) stands.is) ∙ (on.nothing.0 refl).1)
+    abbrev turn : TurnKind
+    turn = (on.nothing.0 refl).0
+
+    found : finds_nothing turn k ≡ true
+    found = none_found page k turn
+        (sym (ap (λ (e : EditorState). states_ahead e turn) stands.is) ∙ (on.nothing.0 refl).2)
 
     events : line_events listed edit.line page k edit.step ≡ nothing_event listed edit.line (remaining page k) ∷ []
-    events = ap (line_events listed edit.line page k) (on.nothing.0 refl).0
-        ∙ nothing_events listed edit.line page k counted
+    events = ap (line_events listed edit.line page k) (on.nothing.0 refl).1
+        ∙ nothing_events listed edit.line page k turn found
 
     kept_is : kept_after k edit.step ≡ k
-    kept_is = ap (kept_after k) (on.nothing.0 refl).0 ∙ nothing_kept k counted
+    kept_is = ap (kept_after k) (on.nothing.0 refl).1 ∙ nothing_kept k turn found
 
     still_stands : StandsAfter new page (kept_after k edit.step)
     still_stands = subst (λ (l : KeptEdits). StandsAfter new page l) (sym kept_is)

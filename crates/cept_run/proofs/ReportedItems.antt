@@ -289,13 +289,13 @@ editor_in other (easels.Editor editor lines) = editor
 -- and what an editor is
 pub editor_painted : (script : Option (List EditLine)) (editor : EditorState) (lines : List EditLine) (h : List Command)
     → easels.Editor editor lines ≡ painted_easel script h
-    → (script ≡ Some lines) × (editor ≡ record { screen = state h; past = [] })
+    → (script ≡ Some lines) × (editor ≡ record { screen = state h; past = []; future = [] })
 editor_painted None editor lines h e = cc
 editor_painted (Some others) editor lines h e = (sym (ap script_in e), ap (editor_in editor) e)
 
-pub editor_with : (editor : EditorState) (screen : State) (past : List State) → editor.screen ≡ screen → editor.past ≡ past
-    → editor ≡ record { screen = screen; past = past }
-editor_with editor screen past s p = λ i. record { screen = s i; past = p i }
+editor_with : (editor : EditorState) (screen : State) (past future : List State) → editor.screen ≡ screen
+    → editor.past ≡ past → editor.future ≡ future → editor ≡ record { screen = screen; past = past; future = future }
+editor_with editor screen past future s p f = λ i. record { screen = s i; past = p i; future = f i }
 
 -- there is something to paint on
 pub not_idle : (script : Option (List EditLine)) (h : List Command) → easels.Nothing ≡ painted_easel script h → ⊥
@@ -334,17 +334,17 @@ module _ (screen new : State) (marks : List Bool) (command : Command) (glass sho
 
   -- on a screen whose edits can be taken back
   pub applied_in_editor : (editor after : EditorState) (lines : List EditLine) → editor.screen ≡ screen
-      → after.screen ≡ new → after.past ≡ editor.past
+      → after.screen ≡ new → after.past ≡ editor.past → after.future ≡ []
       → AppliesOn (easels.Editor editor lines) command glass (easels.Editor after lines) marks shown
-  applied_in_editor editor after lines was now past = record {
+  applied_in_editor editor after lines was now past future = record {
     painted = λ script h valid e.
         let is = editor_painted script editor lines h e in
         let before = sym was ∙ ap (λ (s : EditorState). s.screen) is.1 in
         let next = is_applied.goes_on h valid before in
         applied script h (easels.Editor after lines) before next
         (ap (λ (s : EditorState). easels.Editor s lines)
-        (editor_with after (state (h ++ command ∷ [])) [] (now ∙ next)
-        (past ∙ ap (λ (s : EditorState). s.past) is.1))
+        (editor_with after (state (h ++ command ∷ [])) [] [] (now ∙ next)
+        (past ∙ ap (λ (s : EditorState). s.past) is.1) future)
         ∙ ap (λ (o : Option (List EditLine)). painted_easel o (h ++ command ∷ [])) (sym is.0));
     idle = λ none. cc;
   }

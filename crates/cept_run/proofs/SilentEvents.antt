@@ -53,16 +53,16 @@ silent_edit line n earlier whole (c ∷ rest) =
     (earlier ++ take (numbered.0 + 1) whole)) (enumerate_from (n + 1) rest)) refl
     (silent_edit line (n + 1) earlier whole rest)
 
-silent_undo : (line : ℕ) (before after : List Command) (none : Bool)
+silent_turn : (line : ℕ) (before after : List Command) (none : Bool)
     → report ((cond none (nothing_event false line before) (event_from false line before after)) ∷ []) ≡ []
-silent_undo line before after true = report-one (nothing_event false line before)
-silent_undo line before after false = report-one (event_from false line before after)
+silent_turn line before after true = report-one (nothing_event false line before)
+silent_turn line before after false = report-one (event_from false line before after)
 
 silent_line : (line : ℕ) (page : List Command) (k : KeptEdits) (step : Step)
     → report (line_events false line page k step) ≡ []
 unfolding edit_events
 silent_line line page k (Turn turn) =
-    silent_undo line (remaining page k) (remaining page (kept_after k (Turn turn))) (finds_nothing turn k)
+    silent_turn line (remaining page k) (remaining page (kept_after k (Turn turn))) (finds_nothing turn k)
 silent_line line page k (Edit commands) = silent_edit line 0 (remaining page k) commands commands
 
 silent_lines_after : (listed : Bool) (page : List Command) (earlier lines : List EditLine) → listed ≡ false

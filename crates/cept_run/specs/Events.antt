@@ -1,4 +1,4 @@
--- The events of a run: one for each item of the page, one for each command of each edit and for each undo, and one at the
+-- The events of a run: one for each item of the page, one for each command of each edit and for each turn, and one at the
 -- end. This project's own.
 use Rattle.std.specs.Prelude.{ℕ, Bool, List, [], ◌∷◌, ◌++◌, length, map, take, count_by, nat_lt}
 use Rattle.std.specs.Prelude.{if◌then◌else◌}

@@ -60,7 +60,7 @@ pub record ReporterState : Type 0 where
 -- what the commands of a page are applied to, after these: where there is a script, a screen whose edits can be taken back
 abbrev pub painted_easel : Option (List EditLine) → List Command → Easel
 painted_easel None commands = easels.Screen (state commands)
-painted_easel (Some lines) commands = easels.Editor (record { screen = state commands; past = [] }) lines
+painted_easel (Some lines) commands = easels.Editor (record { screen = state commands; past = []; future = [] }) lines
 
 -- what commands are applied to, after these
 abbrev pub easel_at : Plan → List Command → Easel

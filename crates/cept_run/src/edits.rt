@@ -13,7 +13,8 @@ use cept_repaint::{Glass, Marks};
 use cept_report::put_nothing;
 use std::sync::ledger::Ledger;
 
-/// Puts the line of an undo before which no edit was kept, where lines are asked for.
+/// Puts the line of an undo before which no edit was kept, or of a redo before which none was undone,
+/// where lines are asked for.
 fn tell_nothing<T: Sink>(listed: bool, line: u32, sink: &mut T) -> Result<(), WriteFault>
     ensures { PutsText (T.state sink.old) (if listed then nothing_line line else []) result
         (T.state sink.new) }

@@ -358,8 +358,9 @@ fn report_request<F: Shelf, T: Sink, G: Glass>(
 ///
 /// `trace PAGE SCRIPT` and `edit PAGE SCRIPT` read the script first. They apply and paint the page
 /// likewise, and then the edits of the script, an undo by bringing back the state before the last
-/// edit that is kept. `trace` puts the lines of the page's refused items, and the lines of the
-/// changes of each edit; `edit` the bytes that bring the edited page back.
+/// edit that is kept, a redo by bringing that after the first undone one. `trace` puts the lines of
+/// the page's refused items, and the lines of the changes of each edit; `edit` the bytes that bring
+/// the edited page back.
 ///
 /// `gen NUMBER` puts the generated page of the number, and paints nothing. `load NUMBER` reads and
 /// paints it as `show` does a stored page, and puts how many bytes and items it has, and how many

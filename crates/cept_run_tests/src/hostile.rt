@@ -257,6 +257,27 @@ fn a_fault_of_a_script_is_cut(rt: HostRuntime) -> Result<(), Fail> {
     Ok(())
 }
 
+/// The output fails at the line of an undo and at that of the redo after it: what was put is a front of the
+/// whole, and the turn at whose line it failed is painted.
+#[test]
+fn a_redo_is_painted_before_its_line(rt: HostRuntime) -> Result<(), Fail> {
+    let whole = b"1 1 1 P41 11.00 FFF 000 S---\n2 1 1 - 11.00 FFF 000 S---\n\
+        3 1 1 P41 11.00 FFF 000 S---\n"
+        .as_slice();
+    let request = ["trace", "page", "script"];
+    for room in 29..85u32 {
+        let outside = Outside { room, ..SOUND };
+        let found = tried(rt.alloc(), &request, b"", b"text A\nundo\nredo\n", outside)?;
+        let put = found.put.as_slice();
+        assert_eq!(rt; found.status, Status::WriteFault);
+        assert_eq!(rt; put.len(), room as usize);
+        assert!(rt; whole.starts_with(put));
+        let made_again = room >= 56;
+        assert_eq!(rt; shows(&found.glass, 1)?, made_again, "room {room}");
+    }
+    Ok(())
+}
+
 /// Lets each write of a load line fail, one run after the other. Answers the number of the run that ends well,
 /// or 0.
 fn first_loaded(rt: &impl Abort, alloc: Global, whole: &[u8]) -> Result<u32, Fail> {

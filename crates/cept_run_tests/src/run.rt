@@ -1,3 +1,5 @@
+ghost use Rattle.std.specs.Prelude.{◌≤◌};
+
 use cept_codes::{Look, Pos, Shape};
 use cept_outside::{MemShelf, MemSink, QuietShelf, QuietSink};
 use cept_repaint::{Glass, GridGlass, Screen};
@@ -403,6 +405,29 @@ fn makes_the_edits_of_scripts(rt: HostRuntime) -> Result<(), Fail> {
         (
             "trace",
             b"",
+            b"text A\nundo\nredo\nredo\n",
+            b"1 1 1 P41 11.00 FFF 000 S---\n2 1 1 - 11.00 FFF 000 S---\n\
+                3 1 1 P41 11.00 FFF 000 S---\n4 nothing\n",
+            Status::Done,
+        ),
+        (
+            "trace",
+            b"",
+            b"text A\nundo\ntext B\nredo\n",
+            b"1 1 1 P41 11.00 FFF 000 S---\n2 1 1 - 11.00 FFF 000 S---\n\
+                3 1 1 P42 11.00 FFF 000 S---\n4 nothing\n",
+            Status::Done,
+        ),
+        (
+            "trace",
+            b"",
+            b"redo x\n",
+            b"script line 1: 2 WrongCount\n",
+            Status::Script,
+        ),
+        (
+            "trace",
+            b"",
             b"at 1 1\nat 25 1\n",
             b"script line 2: 3 BadNumber\n",
             Status::Script,
@@ -428,24 +453,32 @@ fn makes_the_edits_of_scripts(rt: HostRuntime) -> Result<(), Fail> {
     Ok(())
 }
 
+/// Where the k-th of letters stands, one after the other from the first place on.
+fn place_of(k: u8) -> (u8, u8)
+    requires { k ≤ 80 }
+{
+    if k <= 40 { (1, k) } else { (2, k - 40) }
+}
+
 #[test]
-fn takes_back_32_edits(rt: HostRuntime) -> Result<(), Fail> {
+fn takes_back_64_edits(rt: HostRuntime) -> Result<(), Fail> {
     let alloc = rt.alloc();
     let request = words(alloc, &["trace", "page", "script"])?;
     let mut script = Vec::new(alloc);
     let mut want = String::new(alloc);
-    for k in 1..34u8 {
+    for k in 1..66u8 {
+        let (row, column) = place_of(k);
         script.extend_from_slice(b"text A\n")?;
-        want.push_str(&format!(in alloc; "{k} 1 {k} P41 11.00 FFF 000 S---\n")?)?;
+        want.push_str(&format!(in alloc; "{k} {row} {column} P41 11.00 FFF 000 S---\n")?)?;
     }
-    for k in 34..66u8 {
-        let column = 67 - k;
-        want.push_str(&format!(in alloc; "{k} 1 {column} - 11.00 FFF 000 S---\n")?)?;
+    for k in 66..130u8 {
+        let (row, column) = place_of(131 - k);
+        want.push_str(&format!(in alloc; "{k} {row} {column} - 11.00 FFF 000 S---\n")?)?;
     }
-    for _ in 0..33u8 {
+    for _ in 0..65u8 {
         script.extend_from_slice(b"undo\n")?;
     }
-    want.push_str("66 nothing\n")?;
+    want.push_str("130 nothing\n")?;
     let mut shelf = MemShelf::new(alloc);
     shelf.add("page", b"")?;
     shelf.add("script", script.as_slice())?;

@@ -8,7 +8,13 @@ use Rattle.cept_editor.proofs.editor.apply_commands.Goals as goal
 pub loop-command-init : goal.loop-command-init
 loop-command-init g c = record {
   gone = gone_none c.args.listed c.args.line c.args.commands c.args.screen.now _ c.args.marks.now c.args.steps.now;
-  edit = record { past = refl; at_begin = refl; begun = c.requires.begun; fits = c.requires.fits };
+  edit = record {
+    past = refl;
+    future = c.requires.none_undone;
+    at_begin = refl;
+    begun = c.requires.begun;
+    fits = c.requires.fits;
+  };
   quiet = λ _. refl;
 }
 

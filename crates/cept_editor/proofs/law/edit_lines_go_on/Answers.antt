@@ -5,7 +5,9 @@ pub returns : goal.returns
 returns c = record {
   none = Laws.kept-none;
   more = Laws.kept-more;
+  few = Laws.kept-few;
   page = Laws.remaining-none;
   nothing = Laws.states_before-none;
+  nothing_again = Laws.states_again-none;
   start = Laws.StandsAfter-start;
 }

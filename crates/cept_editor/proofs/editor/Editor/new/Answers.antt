@@ -7,6 +7,7 @@ use Rattle.cept_editor.proofs.editor.Editor.new.Goals as goal
 
 pub returns-clause-stands : goal.returns-clause-stands
 returns-clause-stands c = StandsAfter-start _ [] tt c.in_ok-new.ensures (c.in_ok-new-2.ensures.past _)
+    (c.in_ok-new-2.ensures.future _)
 
 pub invariant_of-result : goal.invariant_of-result
 invariant_of-result c = record {

@@ -10,4 +10,4 @@ returns-in-Screen g c = rw c.in-Screen.is (applied_on_screen _ _ _ c.args.comman
 
 pub returns-in-Editor : goal.returns-in-Editor
 returns-in-Editor g c = rw c.in-Editor.is (applied_in_editor _ _ _ c.args.command.now _ _ _ _ c.page.ensures.applied _ _ _ refl refl
-    c.page.ensures.past)
+    c.page.ensures.past c.page.ensures.future)
