@@ -5,6 +5,7 @@ pub mod CountedPlaces
 pub mod ReportedItems
 pub mod PagesInPieces
 pub mod EditedLines
+pub mod ShownEvents
 pub mod SilentEvents
 pub mod MadeEdits
 pub mod EditedPages

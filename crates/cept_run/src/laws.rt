@@ -10,9 +10,12 @@ ghost use Rattle.cept_profile.specs.Changes.{changes, grid_with_paints};
 ghost use Rattle.cept_profile.specs.Look.{grid};
 ghost use Rattle.cept_run.specs.declared.run.Status.TheVariants as statuses;
 ghost use Rattle.cept_run.specs.declared.words.Asked.{Asked};
-ghost use Rattle.cept_editor.specs.Events.{event_changes, paints};
+ghost use Rattle.cept_codes.specs.declared.look.Look.{Look};
+ghost use Rattle.cept_editor.specs.Events.{Event, event_changes, paints};
+ghost use Rattle.cept_editor.specs.Made.{Output, AreCutOff};
+ghost use Rattle.cept_editor.specs.Script.{EditLine};
 ghost use Rattle.cept_run.specs.Course.{File, Given, course_of};
-ghost use Rattle.cept_run.specs.Events.{history, item_event, item_events};
+ghost use Rattle.cept_run.specs.Events.{history, item_event, item_events, run_events};
 ghost use Rattle.cept_run.specs.Outside.{Outside};
 ghost use Rattle.cept_run.specs.Run.{Runs, ReportsFront};
 ghost use Rattle.cept_run.specs.Words.{Request, request_of};
@@ -40,6 +43,18 @@ pub fn a_blank_glass_shows_the_meaning()
     ensures { (asked : Asked) (items : List Item)
         → grid_with_paints (grid []) (paints (item_events asked items))
         ≡ grid (history asked items) }
+{}
+
+/// After the paints of each event of a run a glass that was blank shows what the commands mean that
+/// remain after it. So it does at the end of a run whose sink failed at that event.
+pub fn a_blank_glass_shows_each_event()
+    ensures each { (asked : Asked) (page : List ℕ) (lines : List EditLine) (shown : List (List Look))
+        (done : List Event) (event : Event) (rest : List Event)
+        → run_events asked page lines shown ≡ done ++ event ∷ rest
+        → grid_with_paints (grid []) (paints (done ++ event ∷ [])) ≡ grid event.after }
+    ensures cut { (asked : Asked) (page : List ℕ) (lines : List EditLine) (shown : List (List Look))
+        (before after : Output) (off : AreCutOff (run_events asked page lines shown) before after)
+        → before.glass.grid ≡ grid [] → after.glass.grid ≡ grid off.cut.after }
 {}
 
 /// A known page that can't be read on, or is too long, is reported as far as it was taken, whether
