@@ -7,4 +7,6 @@ mod flash;
 #[cfg(test)]
 mod hostile;
 #[cfg(test)]
+mod pages;
+#[cfg(test)]
 mod run;
