@@ -1,0 +1,12 @@
+use Rattle.tamligub.proofs.Reports.{reported, front_reported}
+use Rattle.tamligub.proofs.tamligub_run.Goals as goal
+
+pub returns-clause-reported : goal.returns-clause-reported
+returns-clause-reported c =
+    reported c.args.word.now c.args.given c.args.number c.args.page.now c.args.script.now c.args.out.now c.call.new.out
+    c.call.new.put c.from.result c.call.result (cc) c.call.ensures
+
+pub returns-clause-front : goal.returns-clause-front
+returns-clause-front c =
+    front_reported c.args.word.now c.args.given c.args.number c.args.page.now c.args.script.now c.args.out.now
+    c.call.new.out c.call.new.put c.from.result c.call.result (cc) c.call.ensures

@@ -1,0 +1,37 @@
+//! The program as one function for C and for the web: a word, a page and a script in slices, and room for
+//! the text. It keeps nothing between calls.
+#![tactic(auto)]
+
+mod calling;
+#[cfg(test)]
+mod tests;
+mod words;
+
+ghost use Rattle.tamligub.specs.Called.{Called, FrontReported, Reported};
+
+use crate::calling::call;
+use std::alloc::Global;
+
+/// Runs the program on a word and what is given after it: 0 nothing, 1 the page, 2 the page and the
+/// script, 3 the number, 4 the page and the number; any other means nothing. Puts the text at the
+/// front of `out`, as far as there is room, and its length in `put`. Answers the status, 0 to 8.
+#[unsafe(no_mangle)]
+pub extern "C" fn tamligub_run(
+    alloc: Global,
+    word: &[u8],
+    given: u32,
+    number: u32,
+    page: &[u8],
+    script: &[u8],
+    out: &mut [u8],
+    put: &mut u64,
+) -> u32
+    ensures called { Called word.now given number page.now script.now out.old out.new put.new
+        result }
+    ensures reported { Reported word.now given number page.now script.now out.old out.new put.new
+        result }
+    ensures front { FrontReported word.now given number page.now script.now out.old out.new put.new
+        result }
+{
+    u32::from(call(alloc, word, given, number, page, script, out, put).number())
+}

@@ -1,0 +1,74 @@
+use crate::tamligub_run;
+use std::alloc::Global;
+use std::process::Abort;
+use std::test::Fail;
+
+/// A call with room for so many bytes, at most 64: the status, how many bytes were put, and the room after it.
+struct Answer {
+    status: u32,
+    put: u64,
+    out: [u8; 64],
+}
+
+fn answer(
+    alloc: Global,
+    word: &[u8],
+    given: u32,
+    number: u32,
+    page: &[u8],
+    script: &[u8],
+    room: usize,
+) -> Answer {
+    let mut out = [b'-'; 64];
+    let mut put = 99;
+    let room = room.min(64);
+    let status = tamligub_run(
+        alloc,
+        word,
+        given,
+        number,
+        page,
+        script,
+        &mut out[..room],
+        &mut put,
+    );
+    Answer { status, put, out }
+}
+
+#[test]
+fn puts_the_report_or_its_front(rt: HostRuntime) -> Result<(), Fail> {
+    let page = b"A\x1FAAA";
+    let line = b"0 1 1 P41 11.00 FFF 000 S---\n";
+    for (room, status) in [(64, 0), (29, 0), (28, 5), (0, 5)] {
+        let found = answer(rt.alloc(), b"changes", 1, 0, page, b"", room);
+        let put = room.min(29);
+        assert_eq!(rt; found.status, status, "with room {room}");
+        assert_eq!(rt; found.put, put as u64, "with room {room}");
+        assert_eq!(rt; &found.out[..put], &line[..put], "with room {room}");
+        assert_eq!(rt; found.out[put.min(63)], b'-', "with room {room}");
+    }
+    Ok(())
+}
+
+#[test]
+fn answers_for_what_is_given(rt: HostRuntime) -> Result<(), Fail> {
+    let cases = [
+        (b"check".as_slice(), 1, b"A\x1C".as_slice(), 1),
+        (b"check", 0, b"A", 2),
+        (b"check", 3, b"A", 4),
+        (b"check", 5, b"A", 2),
+        (b"trace", 1, b"A", 2),
+        (b"trace", 2, b"A", 3),
+        (b"gen", 1, b"A", 2),
+        (b"gen", 3, b"A", 5),
+        (b"none", 1, b"A", 2),
+        (b"\xFF", 1, b"A", 2),
+        (b"", 0, b"A", 2),
+        (b"eight", 1, b"\x80", 8),
+    ];
+    for (word, given, page, status) in cases {
+        let found = answer(rt.alloc(), word, given, 7, page, b"nonsense\n", 64);
+        assert_eq!(rt; found.status, status, "{:?} with {given}", word);
+    }
+    Ok(())
+}
