@@ -1,0 +1,28 @@
+/* Puts what a stored page shows: example PAGE. */
+#include <stdint.h>
+#include <stdio.h>
+#include <stdlib.h>
+
+#include "tamligub.h"
+
+static uint8_t page[1 << 24], text[1 << 16];
+
+int main(int count, char **words)
+{
+    FILE *file = count == 2 ? fopen(words[1], "rb") : NULL;
+    if (file == NULL) {
+        fputs("usage: example PAGE\n", stderr);
+        return EXIT_FAILURE;
+    }
+    size_t length = fread(page, 1, sizeof page, file);
+    fclose(file);
+
+    uint64_t put;
+    uint32_t status = tamligub_run((const uint8_t *)"show", 4, TAMLIGUB_PAGE, 0, page, length, page, 0, text, sizeof text, &put);
+    if (status != TAMLIGUB_DONE && status != TAMLIGUB_REFUSALS) {
+        fprintf(stderr, "example: status %u\n", (unsigned)status);
+        return EXIT_FAILURE;
+    }
+    fwrite(text, 1, (size_t)put, stdout);
+    return EXIT_SUCCESS;
+}
