@@ -4,13 +4,14 @@ use std::process::Abort;
 use std::test::Fail;
 
 /// A call with room for so many bytes, at most 64: the status, how many bytes were put, and the room after it.
+#[derive(Drop)]
 struct Answer {
     status: u32,
     put: u64,
     out: [u8; 64],
 }
 
-fn answer(
+fn call_with(
     alloc: Global,
     word: &[u8],
     given: u32,
@@ -40,7 +41,7 @@ fn puts_the_report_or_its_front(rt: HostRuntime) -> Result<(), Fail> {
     let page = b"A\x1FAAA";
     let line = b"0 1 1 P41 11.00 FFF 000 S---\n";
     for (room, status) in [(64, 0), (29, 0), (28, 5), (0, 5)] {
-        let found = answer(rt.alloc(), b"changes", 1, 0, page, b"", room);
+        let found = call_with(rt.alloc(), b"changes", 1, 0, page, b"", room);
         let put = room.min(29);
         assert_eq!(rt; found.status, status, "with room {room}");
         assert_eq!(rt; found.put, put as u64, "with room {room}");
@@ -67,7 +68,7 @@ fn answers_for_what_is_given(rt: HostRuntime) -> Result<(), Fail> {
         (b"eight", 1, b"\x80", 8),
     ];
     for (word, given, page, status) in cases {
-        let found = answer(rt.alloc(), word, given, 7, page, b"nonsense\n", 64);
+        let found = call_with(rt.alloc(), word, given, 7, page, b"nonsense\n", 64);
         assert_eq!(rt; found.status, status, "{:?} with {given}", word);
     }
     Ok(())
