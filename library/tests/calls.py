@@ -64,12 +64,17 @@ def words_of_pages(folder):
         yield f"the words {words}", words
 
 
+def is_number(text):
+    return re.fullmatch("[0-9]{1,10}", text) is not None and int(text) < 2**32
+
+
 def is_said(words, files):
     """Whether a call can say these words: the files are there, and a number is one."""
     if not words or words[0] in OF_A_NUMBER:
-        return len(words) == 2 and re.fullmatch("[0-9]{1,10}", words[1]) is not None and int(words[1]) < 2**32
-    names = words[1:-1] if words[0] == "flash" else words[1:]
-    return len(words) == (3 if words[0] in OF_A_SCRIPT + ("flash",) else 2) and all(name in files for name in names)
+        return len(words) == 2 and is_number(words[1])
+    if words[0] == "flash":
+        return len(words) == 3 and words[1] in files and is_number(words[2])
+    return len(words) == (3 if words[0] in OF_A_SCRIPT else 2) and all(name in files for name in words[1:])
 
 
 def words_of_cases(folder):
