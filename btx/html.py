@@ -14,6 +14,9 @@ SUMMARY = "a file that shows pages being built, in a browser"
 VIEW = os.path.join(program.ROOT, "view")
 SCRIPT = re.compile(r'<script src="([\w.]+)"></script>\n?')
 DATA = '<script type="application/json" id="pages">[]</script>'
+# Each phase of the flash once, and back to the first; and the beginning of a line of one of these turns.
+TURNS = "6"
+TURNED = re.compile("^[1-9]", re.MULTILINE)
 
 
 def arguments(parser):
@@ -33,12 +36,14 @@ def shown_name(name):
 
 
 def page_of(path, name, page):
-    """What the viewer needs of a page."""
+    """What the viewer needs of a page: of one that flashes also what each turn changes."""
     with program.read_again(page) as again:
         changes, check = (program.text_put(path, word, again) for word in ("changes", "check"))
+        flash = program.text_put(path, "flash", again, TURNS)
         with open(again, "rb") as file:
             stored = base64.b64encode(file.read()).decode("ascii")
-    return {"name": name, "changes": changes, "check": check, "page": stored}
+    turned = {"flash": flash} if TURNED.search(flash) else {}
+    return {"name": name, "changes": changes, "check": check, **turned, "page": stored}
 
 
 def text_of(name):

@@ -75,17 +75,17 @@ def read_again(page):
             yield copy.name
 
 
-def bytes_put(program, word, page):
+def bytes_put(program, word, page, *after):
     """What the program puts for a page that is read to its end; else the run's end is raised."""
-    output, status = put(program, word, page)
+    output, status = put(program, word, page, *after)
     if status not in (READ_TO_THE_END, WITH_REFUSALS):
-        raise Ended(word, [page], status)
+        raise Ended(word, [page, *after], status)
     return output
 
 
-def text_put(program, word, page):
+def text_put(program, word, page, *after):
     """The same as text."""
-    return bytes_put(program, word, page).decode("utf-8")
+    return bytes_put(program, word, page, *after).decode("utf-8")
 
 
 def counts_in(text):

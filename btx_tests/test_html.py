@@ -69,6 +69,11 @@ class Html(stand.Case):
             with open(stand.page(page["name"]), "rb") as file:
                 self.assertEqual(base64.b64decode(page["page"]), file.read())
 
+    def test_a_page_that_flashes_has_what_each_turn_changes(self):
+        names = ["flashing", "title"]
+        pages = self.data_in(stand.btx("html", *map(stand.page, names)).stdout)
+        self.assertEqual([page.get("flash") for page in pages], [stand.put("flash", stand.page("flashing"), "6").decode(), None])
+
     def test_nothing_is_fetched(self):
         document = stand.btx("html", stand.page("title")).stdout
         self.assertEqual(re.findall(rb'(?:src|href)="(?!#)([^"]*)"', document), [])

@@ -20,14 +20,16 @@
     return taken(tamligub.readChanges, end < 0 ? bytes : bytes.subarray(0, end));
   }
 
-  // Which of some dropped files is which: a text of check ends with its check line, a text of changes begins with one of its
-  // lines, and what is left is the stored page. A single file is the text of changes.
+  // Which of some dropped files is which: a text of flash has a name that ends so, a text of check ends with its check line, a text
+  // of changes begins with one of its lines, and what is left is the stored page. A single file is the text of changes.
   function sorted(files) {
-    const parts = { name: "", changes: null, page: null, check: null };
+    const parts = { name: "", changes: null, page: null, check: null, flash: null };
     const left = files.filter((file) => {
-      const isCheck = files.length > 1 && !parts.check && taken(tamligub.readCheck, file.bytes);
+      const isFlash = file.name.endsWith(".flash");
+      if (isFlash) parts.flash = text(file.bytes);
+      const isCheck = !isFlash && files.length > 1 && !parts.check && taken(tamligub.readCheck, file.bytes);
       if (isCheck) parts.check = text(file.bytes);
-      return !isCheck;
+      return !isFlash && !isCheck;
     });
     const changes = left.find((file) => beginsAsChanges(file.bytes)) || left[0];
     const page = left.find((file) => file !== changes);
@@ -49,12 +51,13 @@
   async function chosen(form) {
     const file = (id) => form.querySelector(`#${id}`).files[0];
     const read = async (id) => (file(id) ? bytesOf(file(id)) : null);
-    const [changes, page, check] = [await read("file-changes"), await read("file-page"), await read("file-check")];
+    const [changes, page, check, flash] = await Promise.all(["changes", "page", "check", "flash"].map((one) => read(`file-${one}`)));
     return {
       name: changes ? changes.name : "pasted text",
       changes: changes ? text(changes.bytes) : form.querySelector("#paste").value,
       page: page ? page.bytes : null,
       check: check ? text(check.bytes) : null,
+      flash: flash ? text(flash.bytes) : null,
     };
   }
 

@@ -11,11 +11,23 @@
     return grid;
   }
 
+  // The grids of the six phases that a text of `flash` tells of the last grid. Cells that don't flash are in them as in it.
+  function phasesOf(changes, last, text) {
+    const phases = tamligub.readFlash(text, changes.known);
+    const steady = (number) => changes.looks[number].flash === "S";
+    if (!last.every((number, cell) => !steady(number) || phases.every((grid) => grid[cell] === number))) {
+      throw new tamligub.TextFault("The text of flash is of another page.");
+    }
+    return phases;
+  }
+
   class Film {
-    // `changes` as readChanges gives it; the bytes of the stored page where they are known.
-    constructor(changes, bytes) {
+    // `changes` as readChanges gives it; the bytes of the stored page, and the text of `flash`, where they are known.
+    constructor(changes, bytes, flash) {
       this.changes = changes;
       this.bytes = bytes || null;
+      this.end = lastGrid(changes);
+      this.phases = typeof flash === "string" ? phasesOf(changes, this.end, flash) : null;
       this.moments = changes.moments;
       this.grid = new Uint32Array(tamligub.CELLS);
       this.before = this.looksBefore();
@@ -53,6 +65,16 @@
       for (let line = from; line < goal; line++) this.grid[cells[line]] = numbers[line];
       for (let line = from - 1; line >= goal; line--) this.grid[cells[line]] = this.before[line];
       this.moment = to;
+    }
+
+    // Whether the text of `flash` tells the phases now: it does so at the end.
+    isTold() {
+      return this.phases !== null && this.moment === this.moments.length;
+    }
+
+    // Whether something is told to change from phase to phase.
+    isToldToFlash() {
+      return this.phases.some((grid) => grid !== this.phases[0]);
     }
 
     // How many moments have come when so many bytes have: those with a lesser place.

@@ -5,7 +5,6 @@
   const FONT = "'DejaVu Sans Mono', 'Cascadia Mono', Menlo, Consolas, 'Liberation Mono', monospace";
   const PICTURE = ["#3a4a5e", "#62788f"];
   const VIDEO = "---";
-  const PHASES = 6;
   // How much of a cell's width the letters of the font take.
   const LETTER = 0.88;
 
@@ -28,6 +27,13 @@
     if (look.concealed && !revealed) return 0;
     if (!isOn(look.flash, phase)) return 0;
     return look.flash === "R" && phase >= 3 ? 2 : 1;
+  }
+
+  // The text of the steady look that is painted in a phase: without a sign and its line where only the background is seen.
+  function seenText(look, phase) {
+    const seen = appearance(look, phase, true) !== 0;
+    const [shape, part, , back, signs] = look.text.split(" ");
+    return [seen ? shape : "-", part, foreOf(look, phase), back, `S${signs[1]}${seen ? signs[2] : "-"}${signs[3]}`].join(" ");
   }
 
   // The whole edges of so many equal parts of a length.
@@ -267,5 +273,5 @@
     }
   }
 
-  Object.assign(tamligub, { Painter, appearance, foreOf, PHASES, PICTURE });
+  Object.assign(tamligub, { Painter, appearance, foreOf, seenText, PICTURE });
 })((window.Tamligub = window.Tamligub || {}));

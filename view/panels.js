@@ -78,10 +78,10 @@
       list.append(item);
     }
     const more = refusals.length > MOST_REFUSALS ? ` The first ${MOST_REFUSALS} are listed.` : "";
-    const count = refusals.length ? `${grouped(refusals.length)} refused` : "None";
-    const items = check ? ` of ${grouped(check.items)} items` : "";
+    const count = refusals.length ? grouped(refusals.length) : "None";
+    const items = check ? ` of ${grouped(check.items)} items ${refusals.length > 1 ? "are" : "is"}` : "";
     const other = check && !sameRefusals(check.refusals, refusals) ? " The text of check is of another page." : "";
-    say("refusals-count", `${count}${items}.${more}${other}`);
+    say("refusals-count", `${count}${items} refused.${more}${other}`);
   }
 
   function sameRefusals(one, other) {

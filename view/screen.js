@@ -14,6 +14,7 @@
       this.looks = [];
       this.phase = 0;
       this.revealed = false;
+      this.told = false;
       this.painted = 0;
     }
 
@@ -32,6 +33,7 @@
     }
 
     forget() {
+      this.told = false;
       this.shown.fill(NEVER);
     }
 
@@ -53,6 +55,25 @@
         if (this.shown[cell] !== grid[cell]) this.paint(cell, grid[cell]);
       }
       return this.painted - before;
+    }
+
+    // The same where a cell may have been painted by another number that is seen alike, as a flashing look and the steady one that
+    // is told of its phase.
+    exchange(grid) {
+      const seen = (number) => tamligub.seenText(this.looks[number], this.phase);
+      for (let cell = 0; cell < grid.length; cell++) {
+        const number = this.shown[cell];
+        if (number !== NEVER && number !== grid[cell] && seen(number) === seen(grid[cell])) this.shown[cell] = grid[cell];
+      }
+      this.show(grid);
+    }
+
+    // Shows what a film has come to: what its commands made of the cells, and at its end, where phases are told, the one of now.
+    showFilm(film) {
+      if (this.told && !film.isTold()) this.exchange(film.end);
+      if (!this.told || !film.isTold()) this.show(film.grid);
+      if (film.isTold()) this.exchange(film.phases[this.phase]);
+      this.told = film.isTold();
     }
 
     // Goes to a phase of the flash, or reveals; repaints the cells that look otherwise by it.

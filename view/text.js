@@ -9,6 +9,7 @@
   const COLUMNS = 40;
   const ROWS = 24;
   const CELLS = ROWS * COLUMNS;
+  const PHASES = 6;
   const BLANK = "- 11.00 FFF 000 S---";
   const SIGN = "([PSMND])([2-7][0-9A-F])(?:\\+(4[0-9A-F]))?";
   const PATTERN = "%(12|6)x(12|10|6|5)x([124])/([0-9A-F]+)(?:/([0-9A-F-]+))?";
@@ -21,8 +22,11 @@
   const SHORTEST = "0 1 1 - 11.00 FFF 000 S---".length;
   const MOST = 1e9;
 
+  // A text that can't be shown; the message says why.
+  class TextFault extends Error {}
+
   // A text that isn't what it was taken for: the number of the first line that isn't understood, and what it holds.
-  class LineFault extends Error {
+  class LineFault extends TextFault {
     constructor(number, line, kind) {
       const shown = line.length > 80 ? line.slice(0, 80) + " …" : line;
       super(`Line ${number} is not understood as ${kind}: “${shown}”`);
@@ -133,9 +137,10 @@
   // The text of `changes` as it is read: cells and looks of all change lines, and the moments. A moment is a command that
   // changes cells, or a refusal: its place, and how many change lines stand before it.
   class Course {
-    constructor(text) {
+    // The looks are numbered among those that are known already.
+    constructor(text, known = new Looks()) {
       const room = Math.floor(text.length / SHORTEST) + 1;
-      this.known = new Looks();
+      this.known = known;
       this.looks = this.known.list;
       this.cells = new Uint16Array(room);
       this.numbers = new Uint32Array(room);
@@ -171,18 +176,43 @@
     }
   }
 
-  function readChanges(text) {
-    const course = new Course(text);
+  // Takes each line of a text into a course; `refuse` takes what begins as a refusal.
+  function taken(course, text, refuse, kind) {
     const reader = new Reader(text);
     for (let number = 1, start = 0; start < text.length; number++) {
       const feed = text.indexOf("\n", start);
       const end = feed < 0 ? text.length : feed;
       reader.at = start;
-      const taken = text[start] === "!" ? course.refuse(text.slice(start, end)) : course.change(reader, end);
-      if (!taken) throw new LineFault(number, text.slice(start, end), "a change line or a refusal");
+      const good = text[start] === "!" ? refuse(text.slice(start, end)) : course.change(reader, end);
+      if (!good) throw new LineFault(number, text.slice(start, end), kind);
       start = end + 1;
     }
     return course;
+  }
+
+  function readChanges(text) {
+    const course = new Course(text);
+    return taken(course, text, (line) => course.refuse(line), "a change line or a refusal");
+  }
+
+  // The text of `flash`: the grids of the six phases, whose numbers are among the looks that are known already. A phase to which
+  // nothing changes is the one before it; the turn after the last leads back to the first.
+  function readFlash(text, known) {
+    const { cells, numbers, moments, count } = taken(new Course(text, known), text, () => false, "a line of flash");
+    const phases = [new Uint32Array(CELLS)];
+    for (let turn = 0; turn <= PHASES; turn++) {
+      const at = moments.findIndex((moment) => moment.place === turn);
+      if (turn && at < 0) phases[turn] = phases[turn - 1];
+      if (at < 0) continue;
+      if (turn) phases[turn] = phases[turn - 1].slice();
+      const end = at + 1 < moments.length ? moments[at + 1].first : count;
+      for (let line = moments[at].first; line < end; line++) phases[turn][cells[line]] = numbers[line];
+    }
+    const again = phases.pop();
+    if (!again.every((number, cell) => number === phases[0][cell])) {
+      throw new TextFault("The text of flash doesn't lead back to its first phase; that of flash PAGE 6 does.");
+    }
+    return phases;
   }
 
   // The text of `cells`: looks, and a grid of their numbers.
@@ -214,6 +244,6 @@
   }
 
   Object.assign(tamligub, {
-    COLUMNS, ROWS, CELLS, LineFault, readLook, readChanges, readCells, readCheck, pixelsOf,
+    COLUMNS, ROWS, CELLS, PHASES, TextFault, LineFault, readLook, readChanges, readFlash, readCells, readCheck, pixelsOf,
   });
 })((window.Tamligub = window.Tamligub || {}));

@@ -25,7 +25,7 @@
 
     // The film of a page, made at its first use.
     filmOf(page) {
-      if (!page.film) page.film = new tamligub.Film(this.courseOf(page), page.page);
+      if (!page.film) page.film = new tamligub.Film(this.courseOf(page), page.page, page.flash);
       return page.film;
     }
 
@@ -36,6 +36,12 @@
       if (pages.length) this.open(0);
     }
 
+    // Takes the texts of one page.
+    takeParts(parts) {
+      if (parts.changes === null) say("fault", "The text of changes of its page isn't there.");
+      else this.take([parts]);
+    }
+
     open(number) {
       const page = this.pages[number];
       say("fault", "");
@@ -43,7 +49,7 @@
         this.show(page);
         tamligub.markIndex(number);
       } catch (fault) {
-        if (!(fault instanceof tamligub.LineFault)) throw fault;
+        if (!(fault instanceof tamligub.TextFault)) throw fault;
         say("fault", `${page.name}: ${fault.message}`);
       }
     }
@@ -68,7 +74,7 @@
 
     // After each move of the film: only cells that differ are painted.
     moved() {
-      this.screen.show(this.film().grid);
+      this.screen.showFilm(this.film());
       this.outline();
       tamligub.showCounts(this.film(), this.player.come);
       part("bytes").value = this.player.come;
@@ -106,7 +112,8 @@
 
     // Starts the clock of the flash where something flashes, and ends it where nothing does.
     flash() {
-      const wanted = part("flash").checked && this.film() !== null && this.screen.flashes();
+      const film = this.film();
+      const wanted = part("flash").checked && film !== null && (film.isTold() ? film.isToldToFlash() : this.screen.flashes());
       if (wanted && !this.flashing) {
         this.flashing = setInterval(() => this.turn((this.screen.phase + 1) % tamligub.PHASES), PHASE_TIME);
       }
@@ -119,6 +126,7 @@
 
     turn(phase) {
       this.screen.turn(phase, part("reveal").checked);
+      if (this.screen.told) this.screen.show(this.film().phases[phase]);
     }
 
     // Lays the screen out for the room that there is, in whole pixels of the display.
@@ -138,7 +146,7 @@
         const course = this.courseOf(page);
         tamligub.paintStill(canvas, { looks: course.looks, grid: tamligub.lastGrid(course) }, SMALL_CELL, 2, false);
       } catch (fault) {
-        if (!(fault instanceof tamligub.LineFault)) throw fault;
+        if (!(fault instanceof tamligub.TextFault)) throw fault;
       }
     }
 
@@ -242,10 +250,9 @@
   }
 
   function joinFiles(viewer) {
-    const take = (parts) => viewer.take(parts.changes === null ? [] : [parts]);
     part("open").addEventListener("submit", async (event) => {
       event.preventDefault();
-      take(await tamligub.chosen(part("open")));
+      viewer.takeParts(await tamligub.chosen(part("open")));
     });
     document.addEventListener("dragover", (event) => {
       event.preventDefault();
@@ -255,7 +262,7 @@
     document.addEventListener("drop", async (event) => {
       event.preventDefault();
       document.body.classList.remove("dropping");
-      if (event.dataTransfer.files.length) take(await tamligub.dropped(event.dataTransfer.files));
+      if (event.dataTransfer.files.length) viewer.takeParts(await tamligub.dropped(event.dataTransfer.files));
     });
   }
 

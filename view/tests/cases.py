@@ -147,13 +147,87 @@ def the_canvas_shows_the_cells(tab, stand):
         compare(tab, looks_at_end(stand, name), 0, False, name)
 
 
+def taken(tab, stand, name, flash):
+    """A page with the text of flash, or without, by the way of one that is opened; the flash's clock is stopped."""
+    parts = {"name": name, "changes": stand.put("changes", name), "check": None, "page": None, "flash": flash}
+    tab.value(f"Tamligub.viewer.takeParts({json.dumps(parts)})")
+    assert tab.value("Tamligub.part('fault').textContent") == "", tab.value("Tamligub.part('fault').textContent")
+
+
 def flash_has_six_phases(tab, stand):
     opened(tab, stand)
-    go_to(tab, stand, "flashing")
-    looks = looks_at_end(stand, "flashing")
-    for phase in (1, 2, 3, 4, 5, 0):
+    for name in ("flashing", "timetable"):
+        looks = looks_at_end(stand, name)
+        for flash in (None, stand.put("flash", name, "6")):
+            taken(tab, stand, name, flash)
+            assert tab.value("Tamligub.viewer.film().isTold()") is (flash is not None), "the lines of flash aren't taken"
+            for phase in (1, 2, 3, 4, 5, 0):
+                tab.value(f"Tamligub.viewer.turn({phase})")
+                compare(tab, looks, phase, False, f"{name}, phase {phase}")
+
+
+def phases_by_the_lines_of_flash_are_those_of_the_looks(tab, stand):
+    """Pixel by pixel, hidden and revealed; a turn paints the cells of its lines alone, and back from the end none is painted twice."""
+    opened(tab, stand)
+    script = """[false, true].flatMap((revealed) => [1, 2, 3, 4, 5, 0, 1, 2].map((phase) => {
+      const { viewer } = Tamligub;
+      Tamligub.part("reveal").checked = revealed;
+      viewer.turn(viewer.screen.phase);
+      const before = viewer.screen.painted;
+      viewer.turn(phase);
+      return [viewer.screen.painted - before, probe.sum()];
+    }))"""
+    for name in ("flashing", "timetable", "answers"):
+        flash = stand.put("flash", name, "6")
+        taken(tab, stand, name, None)
+        own = tab.value(script)
+        taken(tab, stand, name, flash)
+        told = tab.value(script)
+        assert [one[1] for one in told] == [one[1] for one in own], f"{name}: other pixels"
+        if name == "answers":
+            continue
+        lines = [sum(line.startswith(f"{turn} ") for line in flash.splitlines()) for turn in range(7)]
+        assert [one[0] for one in told[1:6]] == [lines[turn] for turn in (2, 3, 4, 5, 6)], f"{name}: {told} of {lines}"
+        assert len({one[1] for one in told}) > 1, f"{name} doesn't flash"
+        count = "(() => { const s = Tamligub.viewer.screen; const b = s.painted; %s; return s.painted - b; })()"
+        last = moments_of(stand.put("changes", name))[-1][1]
+        for phase in range(6):
+            tab.value(f"Tamligub.viewer.turn({phase})")
+            assert tab.value(count % "Tamligub.viewer.player.step(-1)") == last, f"{name}: a step back from phase {phase}"
+            assert tab.value(count % "Tamligub.viewer.player.step(1)") == last, f"{name}: a step to phase {phase}"
+
+
+def lines_of_flash_are_what_is_shown(tab, stand):
+    """Lines that tell something else than the looks mean are shown, at the end alone; the clock runs where they change something."""
+    opened(tab, stand)
+    steady, turned = "P7F 11.00 F00 000 S---", "P7F 11.00 0F0 000 S---"
+    flash = f"0 1 1 {steady}\n4 1 1 {turned}\n6 1 1 {steady}\n"
+    parts = {"name": "one", "changes": "0 1 1 P7F 11.00 00F 000 F---\n", "check": None, "page": None, "flash": flash}
+    tab.value(f"Tamligub.viewer.takeParts({json.dumps(parts)})")
+    for phase in range(6):
         tab.value(f"Tamligub.viewer.turn({phase})")
-        compare(tab, looks, phase, False, f"phase {phase}")
+        assert tab.value("probe.colours([[0, 0.5, 0.5]])") == ["FF0000" if phase < 4 else "00FF00"], f"phase {phase}"
+    tab.value("Tamligub.viewer.turn(0); Tamligub.viewer.player.step(-1)")
+    assert tab.value("probe.colours([[0, 0.5, 0.5]])") == ["000000"], "before the end"
+    tab.value("Tamligub.viewer.player.step(1); Tamligub.part('flash').click()")
+    tab.until("Tamligub.viewer.screen.phase > 3")
+    tab.value("Tamligub.part('flash').click()")
+    assert tab.value("[Tamligub.viewer.flashing, Tamligub.viewer.screen.phase]") == [0, 0], "the clock goes on"
+    parts["flash"] = f"0 1 1 {steady}\n"
+    tab.value(f"Tamligub.viewer.takeParts({json.dumps(parts)}); Tamligub.part('flash').click()")
+    assert tab.value("Tamligub.viewer.flashing") == 0, "a clock runs where no turn changes anything"
+    for text, said in ((flash.replace("6 1 1", "7 1 1"), "doesn't lead back"), ("0 1 2 " + steady, "of another page"), ("x", "Line 1 ")):
+        parts["flash"] = text
+        tab.value(f"Tamligub.viewer.takeParts({json.dumps(parts)})")
+        assert said in tab.value("Tamligub.part('fault').textContent"), f"{text} isn't told"
+
+
+def files_have_the_lines_of_flash_where_a_page_flashes(tab, stand):
+    opened(tab, stand)
+    found = tab.value("Tamligub.viewer.pages.map((page) => page.flash ?? null)")
+    for name, flash in zip(stand.names, found):
+        want = stand.put("flash", name, "6")
+        assert flash == (want if re.search("^[1-6] ", want, re.MULTILINE) else None), name
 
 
 def the_flash_runs_only_where_something_flashes(tab, stand):
@@ -364,7 +438,7 @@ def all_controls_have_names_and_are_reached(tab, stand):
         tab.key("Tab", 9)
         reached.add(tab.value("document.activeElement.id"))
     wanted = set("screen bytes first back play forward last speed outline reveal flash copy save".split())
-    wanted |= set("paste letters text file-changes file-page file-check".split())
+    wanted |= set("paste letters text file-changes file-page file-check file-flash".split())
     assert wanted <= reached, f"Tab doesn't reach {wanted - reached}"
 
 
@@ -407,7 +481,7 @@ def refusals_are_listed_and_lead_to_their_moments(tab, stand):
     found = tab.value("[...document.querySelectorAll('#refusals a')].map((link) => link.textContent)")
     assert found == [f"byte {r[1]}: {r[4]}, length {r[2]}" for r in refusals], found
     items = stand.put("check", "refused").splitlines()[-1].split(" ")
-    assert tab.value("Tamligub.part('refusals-count').textContent") == f"{items[3]} refused of {items[1]} items.", "the count"
+    assert tab.value("Tamligub.part('refusals-count').textContent") == f"{items[3]} of {items[1]} items are refused.", "the count"
     for index, refusal in enumerate(refusals):
         tab.value(f"document.querySelectorAll('#refusals a')[{index}].click()")
         tab.until(f"Tamligub.viewer.player.come === {int(refusal[1]) + 1}")
@@ -500,7 +574,7 @@ def files_are_opened_and_dropped(tab, stand):
     tab.value("document.querySelector('#open button').click()")
     tab.until("Tamligub.viewer.film() !== null")
     compare(tab, looks_at_end(stand, "refused"), 0, False, "opened")
-    assert "refused of" in tab.value("Tamligub.part('refusals-count').textContent"), "check isn't taken"
+    assert "items are refused" in tab.value("Tamligub.part('refusals-count').textContent"), "check isn't taken"
     script = """(async () => {
       const data = new DataTransfer();
       const names = ["file-check", "file-page", "file-changes"];
@@ -519,6 +593,35 @@ def files_are_opened_and_dropped(tab, stand):
       document.dispatchEvent(new DragEvent("drop", { dataTransfer: data, cancelable: true }));
     })()""")
     tab.until("Tamligub.part('fault').textContent.startsWith('refused.btx: Line 1 is not understood')")
+
+
+def the_text_of_flash_is_opened_and_dropped(tab, stand):
+    tab.open(os.path.join(VIEW, "index.html"))
+    paths = {
+        "file-changes": stand.kept("flashing.changes", stand.put("changes", "flashing")),
+        "file-page": stand.path("flashing"),
+        "file-check": stand.kept("flashing.check", stand.put("check", "flashing")),
+        "file-flash": stand.kept("flashing.flash", stand.put("flash", "flashing", "6")),
+    }
+    root = tab.call("DOM.getDocument")["root"]["nodeId"]
+    for name, path in paths.items():
+        node = tab.call("DOM.querySelector", nodeId=root, selector="#" + name)["nodeId"]
+        tab.call("DOM.setFileInputFiles", nodeId=node, files=[path])
+    tab.value("document.querySelector('#open button').click()")
+    tab.until("Tamligub.viewer.film() !== null && Tamligub.viewer.film().isTold()")
+    drop = """(() => {
+      const data = new DataTransfer();
+      for (const name of %s) data.items.add(Tamligub.part(name).files[0]);
+      document.dispatchEvent(new DragEvent("drop", { dataTransfer: data, cancelable: true }));
+    })()"""
+    for names, told in ((["file-flash", "file-check", "file-page", "file-changes"], True), (["file-changes", "file-flash"], True),
+                        (["file-page", "file-changes"], False)):
+        tab.value("Tamligub.viewer.player.film = null;" + drop % json.dumps(names))
+        tab.until("Tamligub.viewer.film() !== null")
+        assert tab.value("Tamligub.viewer.film().isTold()") is told, names
+        assert tab.value("Tamligub.viewer.page.name") == "flashing.changes", names
+    tab.value(drop % '["file-flash"]')
+    tab.until("Tamligub.part('fault').textContent === \"The text of changes of its page isn't there.\"")
 
 
 def the_index_has_small_pictures(tab, stand):
@@ -608,7 +711,9 @@ def big_pages_are_quick(tab, stand):
 
 
 CASES = (
-    the_canvas_shows_the_cells, flash_has_six_phases, the_flash_runs_only_where_something_flashes,
+    the_canvas_shows_the_cells, flash_has_six_phases, phases_by_the_lines_of_flash_are_those_of_the_looks,
+    lines_of_flash_are_what_is_shown, files_have_the_lines_of_flash_where_a_page_flashes, the_text_of_flash_is_opened_and_dropped,
+    the_flash_runs_only_where_something_flashes,
     concealed_cells_show_when_revealed, double_density_is_sharp, each_command_repaints_its_cells_alone,
     back_is_as_forward_and_as_a_whole_repaint, the_slider_shows_what_has_come, the_text_is_that_of_show,
     nothing_runs_between_commands, pages_play_at_the_speed_of_the_line,

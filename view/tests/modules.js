@@ -39,32 +39,60 @@ test("a film, its last grid and the cells of the program have the same looks", (
   }
 });
 
-// The text of a look as the viewer paints it in a phase: without its sign and its line where it shows its background alone.
-function paintedText(look, phase) {
-  const seen = tamligub.appearance(look, phase, true) !== 0;
-  const [shape, part, , back, signs] = look.text.split(" ");
-  const lined = seen && signs[2] === "l" ? "l" : "-";
-  return [seen ? shape : "-", part, tamligub.foreOf(look, phase), back, "S" + signs[1] + lined + signs[3]].join(" ");
+// What a text of `flash` tells of each phase, and again of the first: the texts of all cells, line by line.
+function toldOf(flash) {
+  const seen = new Array(tamligub.CELLS).fill("- 11.00 FFF 000 S---");
+  const lines = flash.split("\n").slice(0, -1).map((line) => line.split(" "));
+  return Array.from({ length: tamligub.PHASES + 1 }, (_, turn) => {
+    for (const [, row, column, ...text] of lines.filter((line) => line[0] === String(turn))) {
+      seen[(row - 1) * tamligub.COLUMNS + (column - 1)] = text.join(" ");
+    }
+    return [...seen];
+  });
 }
 
-test("each phase shows what the program's flash tells of it", () => {
+test("each phase is painted as the program's flash tells it", () => {
   for (const [name, page] of Object.entries(pages)) {
     const film = filmOf(page);
     film.go(film.moments.length);
-    const told = new Map();
-    for (const line of page.flash.split("\n").slice(0, -1)) {
-      const [turn, row, column, ...text] = line.split(" ");
-      if (!told.has(turn)) told.set(turn, []);
-      told.get(turn).push([(row - 1) * tamligub.COLUMNS + (column - 1), text.join(" ")]);
-    }
-    const seen = new Array(tamligub.CELLS).fill("- 11.00 FFF 000 S---");
-    for (let turn = 0; turn <= tamligub.PHASES; turn++) {
-      for (const [cell, text] of told.get(String(turn)) || []) seen[cell] = text;
-      const painted = Array.from(film.grid, (number) => paintedText(film.changes.looks[number], turn % tamligub.PHASES));
-      assert.deepStrictEqual(painted, seen, `${name}, turn ${turn}`);
-    }
+    toldOf(page.flash).forEach((told, turn) => {
+      const painted = Array.from(film.grid, (number) => tamligub.seenText(film.changes.looks[number], turn % tamligub.PHASES));
+      assert.deepStrictEqual(painted, told, `${name}, turn ${turn}`);
+    });
   }
   assert.ok(pages.flashing.flash.split("\n").length > 100);
+});
+
+const toldFilm = (page, flash) => new tamligub.Film(tamligub.readChanges(page.changes), null, flash);
+
+test("at the end of a page its phases are those of the lines of flash", () => {
+  for (const [name, page] of Object.entries(pages)) {
+    const film = toldFilm(page, page.flash);
+    assert.strictEqual(film.isTold(), film.moments.length === 0, name);
+    film.go(film.moments.length);
+    assert.strictEqual(film.isTold(), true, name);
+    const told = toldOf(page.flash).slice(0, tamligub.PHASES);
+    assert.deepStrictEqual(Array.from(film.phases, (grid) => looksOf(grid, film.changes.looks)), told, name);
+    assert.strictEqual(film.isToldToFlash(), /^[1-6] /m.test(page.flash), name);
+  }
+});
+
+test("turns after the sixth are the same again, and lines win over what the looks mean", () => {
+  const page = pages.flashing;
+  const more = page.flash + page.flash.split("\n").filter((line) => line.startsWith("2 ")).map((line) => "8" + line.slice(1) + "\n").join("");
+  assert.deepStrictEqual(toldFilm(page, more).phases, toldFilm(page, page.flash).phases);
+  const film = toldFilm({ changes: "0 1 1 P41 11.00 FFF 000 F---\n" }, "0 1 1 P42 11.00 FFF 000 S---\n4 1 1 P43 11.00 FFF 000 S---\n6 1 1 P42 11.00 FFF 000 S---\n");
+  assert.deepStrictEqual(Array.from(film.phases, (grid) => film.changes.looks[grid[0]].code), [0x42, 0x42, 0x42, 0x42, 0x43, 0x43]);
+});
+
+test("a text of flash that is cut off, of another page or of no lines is told", () => {
+  const page = pages.flashing;
+  const cut = page.flash.split("\n").filter((line) => !line.startsWith("6 ")).join("\n");
+  assert.throws(() => toldFilm(page, cut), (fault) => fault instanceof tamligub.TextFault && /doesn't lead back/.test(fault.message));
+  assert.throws(() => toldFilm(page, pages.title.flash), (fault) => fault instanceof tamligub.TextFault && /of another page/.test(fault.message));
+  for (const [text, number] of [["hello\n", 1], [GOOD + "! 0 2 6 Interrupted\n", 2], [GOOD.replace("0", "1") + GOOD, 2]]) {
+    assert.throws(() => toldFilm(page, text), (fault) => fault.number === number && /a line of flash/.test(fault.message), text);
+  }
 });
 
 test("back gives what was there before", () => {
