@@ -6,9 +6,11 @@ import signal
 import subprocess
 import sys
 
-from btx import VERSION, archive, html, messages, picture, program, terminal
+from btx import VERSION, archive, html, messages, picture, program, terminal, viewer
 
-OWN = {"terminal": terminal, "html": html, "png": picture, "archive": archive}
+OWN = {"terminal": terminal, "html": html, "viewer": viewer, "png": picture, "archive": archive}
+# Words that do without the program.
+BY_THEMSELVES = ("viewer",)
 NOT_THERE = 127
 EPILOG = """The words of the program pass through with its output and its status; what a status means is said on standard error.
 man btx and man cept_tool say more. BTX_PROGRAM can name another program."""
@@ -92,7 +94,8 @@ def run(words, beside):
         return archive.work(program.found(beside))
     options = parser.parse_args(words)
     options.beside = beside
-    return own(program.found(beside), OWN[options.word], options)
+    path = None if options.word in BY_THEMSELVES else program.found(beside)
+    return own(path, OWN[options.word], options)
 
 
 def main(words, beside):

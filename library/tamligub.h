@@ -2,7 +2,7 @@
  * C library.
  *
  * A page is a stored page as bytes, as it came over the line. A script is a text of lines, each an edit of the page, such as
- * "at 1 2" or "text XY", or "undo". cept_tool(1) has the words, the texts that they put, and the scripts. */
+ * "at 1 2" or "text XY", or "undo" or "redo". cept_tool(1) has the words, the texts that they put, and the scripts. */
 #ifndef TAMLIGUB_H
 #define TAMLIGUB_H
 
@@ -19,14 +19,14 @@ enum {
     TAMLIGUB_PAGE = 1,            /* changes, check, show, cells, write, seven, eight */
     TAMLIGUB_PAGE_AND_SCRIPT = 2, /* trace, edit */
     TAMLIGUB_NUMBER = 3,          /* gen, load */
-    TAMLIGUB_PAGE_AND_NUMBER = 4  /* a page and a number after it, where the word takes one */
+    TAMLIGUB_PAGE_AND_NUMBER = 4  /* flash, whose number is 0 to 600 */
 };
 
 /* How a call ends. */
 enum {
     TAMLIGUB_DONE = 0,       /* the page was read to its end, and nothing in it is refused */
     TAMLIGUB_REFUSALS = 1,   /* the page was read to its end, and something in it is refused; the text is whole */
-    TAMLIGUB_USAGE = 2,      /* there is no such word, or it takes something else than is given; no text */
+    TAMLIGUB_USAGE = 2,      /* there is no such word, or it takes something else than is given, or no such number; no text */
     TAMLIGUB_BAD_SCRIPT = 3, /* a line of the script can't be read; the text says which */
     TAMLIGUB_UNREAD = 4,     /* a number is given where the word takes a page or a script */
     TAMLIGUB_NO_ROOM = 5,    /* the text is longer than `room`: its front was put */

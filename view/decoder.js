@@ -3,12 +3,30 @@
 (function (tamligub) {
   "use strict";
 
-  const { part } = tamligub;
+  const { part, say } = tamligub;
   const WHOLE = [0, 1];
-  const ENDS = { 6: "there is not enough memory", 7: "it has more than 2^24 bytes" };
+  const [UNREAD, NO_MEMORY] = [4, 6];
+  // Each phase of the flash once, and back to the first.
+  const TURNS = 6;
+  const TURNED = /^[1-9]/m;
+  const PAGE = /\.btx$/i;
+  // What `btx` says where a page isn't decoded to its end.
+  const ENDS = {
+    4: "it could not be read to its end",
+    5: "its text is longer than there is room for; only the front of it was put",
+    6: "there is not enough memory; nothing was put",
+    7: "the page has more than 16,777,216 bytes; only the items of the first 16,777,216 were read",
+  };
   const text = (bytes) => new TextDecoder("utf-8").decode(bytes);
 
   const compiled = WebAssembly.compile(Uint8Array.from(atob(part("module").textContent), (sign) => sign.charCodeAt(0)));
+
+  // A page that can't be shown, by its name and the status of the program.
+  class PageFault extends Error {
+    constructor(name, status) {
+      super(`${name}: ${ENDS[status] || `the program ended with status ${status}`}`);
+    }
+  }
 
   // Whether the first line of some bytes is a line of `changes`.
   function isChanges(bytes) {
@@ -21,69 +39,134 @@
     }
   }
 
-  function decoded(module, file) {
-    const [changes, check] = ["changes", "check"].map((word) => tamligub.run(module, word, { page: file.bytes }));
-    const bad = [changes, check].find((answer) => !WHOLE.includes(answer.status));
-    if (bad) throw new Error(`${file.name}: ${ENDS[bad.status] || `status ${bad.status}`}`);
-    return { name: file.name.replace(/\.btx$/, ""), changes: text(changes.text), check: text(check.text), page: file.bytes };
+  // The text that the program puts for a page.
+  function put(module, word, file, number) {
+    try {
+      const answer = tamligub.run(module, word, { page: file.bytes, number });
+      if (!WHOLE.includes(answer.status)) throw new PageFault(file.name, answer.status);
+      return text(answer.text);
+    } catch (fault) {
+      throw fault instanceof PageFault ? fault : new PageFault(file.name, NO_MEMORY);
+    }
   }
 
-  // Shows files: stored pages, or the texts of one page.
-  async function show(files) {
-    const module = await compiled;
-    if (!files.length) return;
-    if (files.some((file) => isChanges(file.bytes))) {
-      tamligub.viewer.take([tamligub.sorted(files)]);
-      return;
-    }
-    const pages = [];
-    const faults = [];
-    for (const file of files) {
+  function decoded(module, file) {
+    // First the short text: it tells a page that is too long.
+    const check = put(module, "check", file);
+    const [changes, flash] = [put(module, "changes", file), put(module, "flash", file, TURNS)];
+    const name = file.name.replace(PAGE, "");
+    return { name, changes, check, flash: TURNED.test(flash) ? flash : null, page: file.bytes };
+  }
+
+  // The files by name, and by path where two have the same name.
+  function named(files) {
+    const count = new Map();
+    for (const { file } of files) count.set(file.name, (count.get(file.name) || 0) + 1);
+    return files.map((one) => ({ file: one.file, name: count.get(one.file.name) === 1 ? one.file.name : one.path }));
+  }
+
+  // What each of some takings gives; the faults of the others go into a list.
+  async function kept(list, faults, take) {
+    const found = [];
+    for (const one of list) {
       try {
-        pages.push(decoded(module, file));
+        found.push(await take(one));
       } catch (fault) {
+        if (!(fault instanceof PageFault)) throw fault;
         faults.push(fault.message);
       }
     }
-    if (pages.length) tamligub.viewer.take(pages);
-    if (faults.length) part("fault").textContent = faults.join("; ");
+    return found;
   }
 
-  // The files below an entry of what is dropped, a file or a folder.
-  async function filesOf(entry) {
-    if (entry.isFile) return [await new Promise((done, fail) => entry.file(done, fail))];
-    const reader = entry.createReader();
-    const found = [];
-    for (;;) {
-      const some = await new Promise((done, fail) => reader.readEntries(done, fail));
-      if (!some.length) return found;
-      for (const one of some) found.push(...(await filesOf(one)));
+  async function bytesOf({ file, name }) {
+    try {
+      return { name, bytes: new Uint8Array(await file.arrayBuffer()) };
+    } catch (fault) {
+      throw new PageFault(name, UNREAD);
     }
   }
 
-  const bytesOf = async (file) => ({ name: file.name, bytes: new Uint8Array(await file.arrayBuffer()) });
+  // Shows files: stored pages, or the texts of one page. What can't be shown is said, after some faults that are known already.
+  async function show(list, faults = []) {
+    const module = await compiled;
+    const files = await kept(named(list), faults, bytesOf);
+    const pages = files.filter((file) => !file.name.endsWith(".flash"));
+    if (files.length && (!pages.length || pages.some((file) => isChanges(file.bytes)))) {
+      tamligub.viewer.takeParts(tamligub.sorted(files));
+      return;
+    }
+    const shown = await kept(pages, faults, (file) => decoded(module, file));
+    if (shown.length) tamligub.viewer.take(shown);
+    if (faults.length) say("fault", faults.join("; "));
+  }
 
-  // The files of a drop or a paste. What can be a folder has to be asked for at once.
-  function handed(data) {
-    const entries = [...data.items].map((item) => item.webkitGetAsEntry && item.webkitGetAsEntry());
-    if (!entries.length || entries.includes(null) || entries.includes(undefined)) return Promise.resolve([...data.files]);
-    return Promise.all(entries.map(filesOf)).then((lists) => lists.flat());
+  // What stands in a folder, which is a handle, or an entry in a browser that has no handles.
+  async function* childrenOf(folder) {
+    if (folder.values) return yield* folder.values();
+    const reader = folder.createReader();
+    for (;;) {
+      const some = await new Promise((done, fail) => reader.readEntries(done, fail));
+      if (!some.length) return undefined;
+      yield* some;
+    }
+  }
+
+  const fileOf = (one) => (one.getFile ? one.getFile() : new Promise((done, fail) => one.file(done, fail)));
+
+  // The pages in a folder and in its folders: what ends in .btx, as `btx archive` takes them.
+  async function* pagesIn(folder, path) {
+    for await (const one of childrenOf(folder)) {
+      const place = `${path}/${one.name}`;
+      if (one.kind === "directory" || one.isDirectory) yield* pagesIn(one, place);
+      else if (PAGE.test(one.name)) yield { path: place, file: await fileOf(one) };
+    }
+  }
+
+  // The pages of a folder in the order of their paths.
+  async function opened(name, folder, faults) {
+    const found = [];
+    try {
+      for await (const page of pagesIn(await folder, name)) found.push(page);
+      if (!found.length) faults.push(`${name}: no file in it ends in .btx`);
+    } catch (fault) {
+      faults.push(new PageFault(name, UNREAD).message);
+    }
+    return found.sort((one, other) => (one.path < other.path ? -1 : 1));
+  }
+
+  // The files of a drop or a paste. What can be a folder has to be asked for at once. From a file system a browser gives a file only as
+  // itself and a folder only as a handle, where it has handles.
+  function handed(data, faults) {
+    const lists = [...data.items].filter((item) => item.kind === "file").map((item) => {
+      const entry = item.webkitGetAsEntry ? item.webkitGetAsEntry() : null;
+      const file = item.getAsFile();
+      if (!entry || !entry.isDirectory) return [{ path: file.name, file }];
+      return opened(entry.name, item.getAsFileSystemHandle ? item.getAsFileSystemHandle() : entry, faults);
+    });
+    return Promise.all(lists).then((all) => all.flat());
   }
 
   async function take(event, data) {
     event.preventDefault();
     event.stopImmediatePropagation();
     document.body.classList.remove("dropping");
-    show(await Promise.all((await handed(data)).map(bytesOf)));
+    const faults = [];
+    await show(await handed(data, faults), faults);
   }
 
   window.addEventListener("drop", (event) => event.dataTransfer.files.length && take(event, event.dataTransfer), true);
   window.addEventListener("paste", (event) => event.clipboardData.files.length && take(event, event.clipboardData), true);
-  window.addEventListener("submit", async (event) => {
-    const file = (id) => part(id).files[0];
-    if (event.target.id !== "open" || !file("file-page") || file("file-changes") || part("paste").value) return;
+  window.addEventListener("submit", (event) => {
+    const files = (id) => [...part(id).files];
+    if (event.target.id !== "open" || !files("file-page").length || files("file-changes").length || part("paste").value) return;
     event.preventDefault();
     event.stopImmediatePropagation();
-    show([await bytesOf(file("file-page"))]);
+    show(files("file-page").map((file) => ({ path: file.name, file })));
   }, true);
+
+  part("file-page").multiple = true;
+  say("open-words", "Take stored pages, one or several, or the text that cept_tool changes PAGE puts, with the other texts if you like. "
+    + "Files and whole folders can also be dropped anywhere on this page, and files pasted; of a folder what ends in .btx is taken. "
+    + "Nothing leaves your machine.");
 })((window.Tamligub = window.Tamligub || {}));

@@ -12,9 +12,15 @@ SHARED = os.path.join(os.path.dirname(ROOT), "shared")
 OF_A_PAGE = ("changes", "check", "show", "cells", "write", "seven", "eight")
 OF_A_SCRIPT = ("trace", "edit")
 OF_A_NUMBER = ("gen", "load")
-# Scripts: none, edits, more undos than there are edits, and lines that can't be read.
-SCRIPTS = (b"", b"at 1 2\ntext XY\nclear\n", b"at 1 2\ntext XY\nundo\nundo\nundo\n", b"at 3 3\ntext A\nat 300 1\n", b"nonsense\n")
+OF_A_PAGE_AND_A_NUMBER = ("flash",)
+# Scripts: none, edits, more undos and redos than there are edits, an edit that drops those undone, and lines that can't be read.
+SCRIPTS = (b"", b"at 1 2\ntext XY\nclear\n", b"at 1 2\ntext XY\nundo\nundo\nundo\n",
+           b"at 1 2\ntext XY\nundo\nundo\nredo\nredo\nredo\n", b"at 2 2\ntext A\ntext B\nundo\ntext C\nredo\nundo\nredo\n",
+           b"at 3 3\ntext A\nat 300 1\n", b"nonsense\n")
 NUMBERS = ("0", "1", "7", "65535", "4294967295")
+# Turns of flashing: none, each phase once, and more than there may be; and the most, of the shorter pages.
+TURNS = ("0", "6", "601", "4294967295")
+MOST_TURNS = "600"
 
 
 def read(path):
@@ -53,14 +59,18 @@ def words_of_pages(folder):
         write(os.path.join(folder, "page"), data)
         for word in OF_A_PAGE:
             yield f"{word} of {name}", [word, "page"]
+        for word in OF_A_PAGE_AND_A_NUMBER:
+            for number in TURNS:
+                yield f"{word} of {name}, {number}", [word, "page", number]
         if len(data) <= 1 << 14:
             for word in OF_A_SCRIPT:
                 for script in scripts:
                     yield f"{word} of {name}, {script}", [word, "page", script]
+            yield f"flash of {name}, {MOST_TURNS}", ["flash", "page", MOST_TURNS]
     for word in OF_A_NUMBER:
         for number in NUMBERS:
             yield f"{word} {number}", [word, number]
-    for words in ([], ["show"], ["nothing", "page"], ["trace", "page"]):
+    for words in ([], ["show"], ["nothing", "page"], ["trace", "page"], ["flash", "page"]):
         yield f"the words {words}", words
 
 
@@ -72,7 +82,7 @@ def is_said(words, files):
     """Whether a call can say these words: the files are there, and a number is one."""
     if not words or words[0] in OF_A_NUMBER:
         return len(words) == 2 and is_number(words[1])
-    if words[0] == "flash":
+    if words[0] in OF_A_PAGE_AND_A_NUMBER:
         return len(words) == 3 and words[1] in files and is_number(words[2])
     return len(words) == (3 if words[0] in OF_A_SCRIPT else 2) and all(name in files for name in words[1:])
 

@@ -1,0 +1,66 @@
+"""Writes one file with the viewer and the decoder in it, to open in a browser: stored pages that are dropped on it, opened or pasted are
+decoded there, several and whole folders too. Nothing in it is fetched from elsewhere, nothing leaves the machine, and no script runs in it but
+the viewer's own."""
+import base64
+import os
+import shutil
+import subprocess
+import sys
+
+from btx import html, program
+
+SUMMARY = "a file that shows stored pages that are dropped on it, in a browser"
+LIBRARY = os.path.join(program.ROOT, "library")
+MODULE = os.path.join(LIBRARY, "out", "tamligub.wasm")
+MAKER = os.path.join(LIBRARY, "web")
+NOT_THERE = 127
+
+
+def arguments(parser):
+    parser.add_argument("-o", "--output", metavar="FILE", help="where to write it; without this to standard output")
+    parser.add_argument("--module", metavar="MODULE", help="a tamligub.wasm that library/web has made; without this that of library/out")
+
+
+def html_with(module):
+    """The viewer's document with its style, its scripts and the module inside."""
+    document, style = html.text_of("index.html"), html.text_of("style.css")
+    with open(os.path.join(LIBRARY, "tamligub.js"), encoding="utf-8") as file:
+        caller = "(function (tamligub) {\n" + file.read() + "tamligub.run = run;\n})((window.Tamligub = window.Tamligub || {}));\n"
+    scripts = [*map(html.text_of, html.SCRIPT.findall(document)), caller, html.text_of("decoder.js")]
+    policy = f"default-src 'none'; img-src blob: data:; style-src {html.sum_of(style)}; script-src 'wasm-unsafe-eval' "
+    policy += " ".join(map(html.sum_of, scripts))
+    head, tail = html.SCRIPT.sub("", html.with_policy(document, policy)).split(html.DATA)
+    head = head.replace('<link rel="stylesheet" href="style.css">', f"<style>{style}</style>")
+    data = f'<script type="application/wasm-base64" id="module">{base64.b64encode(module).decode()}</script>'
+    inside = "\n".join(f"<script>{script}</script>" for script in scripts)
+    return f"{head}{html.DATA}\n{data}\n{inside}\n{tail.lstrip()}"
+
+
+def absent():
+    """Why the module isn't there and can't be made here, or None where library/web can be asked to make it."""
+    if not os.path.exists(MAKER):
+        return f"the decoder's module isn't installed, in {MODULE}; --module can name it"
+    if not shutil.which("rt"):
+        return "the decoder's module isn't built, and the Rattle kit that makes it (library/web) isn't on this machine; --module can name one"
+    return None
+
+
+def made():
+    """Whether library/web has made the module; it proves the library first, and says itself what it lacks."""
+    print("btx: viewer: library/web makes the module, and proves the library first, which can take minutes", file=sys.stderr)
+    done = subprocess.run([MAKER, os.path.dirname(MODULE)], stdin=subprocess.DEVNULL, stdout=sys.stderr, close_fds=False)
+    return done.returncode == 0 and os.path.exists(MODULE)
+
+
+def run(_, options):
+    path = options.module or MODULE
+    if not options.module and not os.path.exists(path):
+        why = absent()
+        if why or not made():
+            print(f"btx: viewer: {why or 'the module was not made'}", file=sys.stderr)
+            return NOT_THERE
+    with open(path, "rb") as file:
+        document = html_with(file.read())
+    with html.output(options.output) as file:
+        file.write(document.encode("utf-8"))
+    return 0
