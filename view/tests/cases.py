@@ -204,9 +204,11 @@ def lines_of_flash_are_what_is_shown(tab, stand):
     flash = f"0 1 1 {steady}\n4 1 1 {turned}\n6 1 1 {steady}\n"
     parts = {"name": "one", "changes": "0 1 1 P7F 11.00 00F 000 F---\n", "check": None, "page": None, "flash": flash}
     tab.value(f"Tamligub.viewer.takeParts({json.dumps(parts)})")
+    assert tab.value("probe.colours([[0, 0.5, 0.5]])") == ["FF0000"], "as it is opened"
     for phase in range(6):
-        tab.value(f"Tamligub.viewer.turn({phase})")
-        assert tab.value("probe.colours([[0, 0.5, 0.5]])") == ["FF0000" if phase < 4 else "00FF00"], f"phase {phase}"
+        for act in (f"turn({phase})", "player.step(-1); Tamligub.viewer.player.step(1)"):
+            tab.value(f"Tamligub.viewer.{act}")
+            assert tab.value("probe.colours([[0, 0.5, 0.5]])") == ["FF0000" if phase < 4 else "00FF00"], f"phase {phase}: {act}"
     tab.value("Tamligub.viewer.turn(0); Tamligub.viewer.player.step(-1)")
     assert tab.value("probe.colours([[0, 0.5, 0.5]])") == ["000000"], "before the end"
     tab.value("Tamligub.viewer.player.step(1); Tamligub.part('flash').click()")
