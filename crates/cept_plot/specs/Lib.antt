@@ -1,0 +1,4 @@
+pub mod Figures
+pub mod Lit
+pub mod Points
+pub mod Rounding
