@@ -1,3 +1,7 @@
+mod CountedWords
+mod FiguresInTurn
+mod FirstParts
+mod KeptLines
 mod LineSet
 mod PointSet
 mod RegionSet
@@ -5,3 +9,4 @@ mod RoundedWay
 mod SidesSet
 mod ValuesRead
 mod Worked
+mod WorkedDrawings

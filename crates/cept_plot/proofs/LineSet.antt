@@ -1,17 +1,16 @@
 -- The points of a line set one after the other, by two coordinates that go on with a running error.
-use Rattle.std.proofs.Common.{◌≡◌, ℕ, ◌+◌, ◌<◌, ◌≤◌, ◌==◌, ◌&&◌, ◌||◌, Bool, true, false, List, [], ◌∷◌, ◌++◌, map, max}
-use Rattle.std.proofs.Common.{if◌then◌else◌, refl, sym, ap, subst, ◌∙◌, inl, inr, arith}
-use Rattle.std.specs.List.{list_any, range_with_len}
+use Rattle.std.proofs.Common.{◌≡◌, ℕ, ◌+◌, ◌<◌, ◌==◌, ◌&&◌, ◌||◌, Bool, true, false, List, [], ◌∷◌, map}
+use Rattle.std.proofs.Common.{if◌then◌else◌, refl, sym, ap, ◌∙◌, inl, inr, arith}
+use Rattle.std.specs.List.{range_with_len}
 use Rattle.std.proofs.lemmas.Bool.{cases_eq, eq-eqb, ne_eqb}
 use Rattle.std.proofs.lemmas.List.Folds.{list_any-append}
 use Rattle.std.proofs.lemmas.List.FromFn.{map-range_with_len_more}
 use Rattle.cept_plot.specs.declared.coordinate.Coordinate.{Coordinate}
 use Rattle.cept_plot.specs.declared.coordinate.Slope.{Slope}
 use Rattle.cept_plot.specs.declared.figure.Point.{Point}
-use Rattle.cept_plot.specs.Figures.{distance, is_among, is_on_line, is_point, on_the_way, point_on_the_way, points_of_line}
+use Rattle.cept_plot.specs.Figures.{is_among, is_on_line, is_point, on_the_way, point_on_the_way, points_of_line}
 use Rattle.cept_plot.specs.Figures.{steps_of_line}
 use Rattle.cept_plot.specs.Lit.{IsSet}
-use Rattle.cept_plot.specs.Points.{OnField}
 use Rattle.cept_plot.specs.Rounding.{IsSlope, IsUnderWay}
 use Rattle.cept_plot.proofs.RegionSet.{IsSet-more, IsSet-same}
 use Rattle.cept_plot.proofs.RoundedWay.{IsUnderWay-start, rounded_at}

@@ -1,12 +1,12 @@
 -- One point of a field set or unset.
-use Rattle.std.proofs.Common.{◌≡◌, ◌≢◌, ℕ, ◌+◌, ◌-◌, ◌*◌, ◌/◌, ◌%◌, ◌^◌, ◌<◌, ◌==◌, ◌&&◌, Bool, true, false, List, set, get_or, length, if◌then◌else◌}
-use Rattle.std.proofs.Common.{refl, sym, ap, ◌∙◌, inl, inr, arith, bit_or, bit_and}
+use Rattle.std.proofs.Common.{◌≡◌, ◌≢◌, ℕ, ◌+◌, ◌*◌, ◌/◌, ◌<◌, ◌==◌, ◌&&◌, Bool, true, false, List, set, get_or, length, if◌then◌else◌}
+use Rattle.std.proofs.Common.{refl, sym, ap, ◌∙◌, inl, inr, arith}
 use Rattle.std.specs.Int.{bit_at}
 use Rattle.std.proofs.lemmas.Bool.{and_parts, and_from, cases_eq, eqb-true, eq-eqb, true≢false}
 use Rattle.std.proofs.lemmas.List.{get_or-set_other, get_or-set_same}
 use Rattle.cept_codes.specs.Place.{number}
 use Rattle.cept_plot.specs.Lit.{AreValues, IsSet, is_lit}
-use Rattle.cept_plot.specs.Points.{OnField, block_of, column_of_point, has_weight, row_of_point}
+use Rattle.cept_plot.specs.Points.{block_of, column_of_point, has_weight, row_of_point}
 
 pub AreValues-set : (was : List ℕ) (cell v : ℕ) → AreValues was → cell < length was → v < 64
     → AreValues (set was cell v)

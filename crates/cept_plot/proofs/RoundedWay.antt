@@ -5,7 +5,7 @@ use Rattle.std.proofs.lemmas.Nat.{div-mul-add, mul-le}
 use Rattle.std.proofs.Math.Nat.{mul_comm}
 use Rattle.cept_plot.specs.declared.coordinate.Coordinate.{Coordinate}
 use Rattle.cept_plot.specs.declared.coordinate.Slope.{Slope}
-use Rattle.cept_plot.specs.Figures.{distance, on_the_way}
+use Rattle.cept_plot.specs.Figures.{on_the_way}
 use Rattle.cept_plot.specs.Rounding.{IsSlope, IsUnderWay}
 
 -- a step of a sum of shares

@@ -1,13 +1,12 @@
 -- Points, values and figures, worked.
-use Rattle.std.proofs.Common.{◌≡◌, ℕ, Bool, true, false, List, [], ◌∷◌, filter, map, refl}
-use Rattle.std.specs.List.{range_with_len}
+use Rattle.std.proofs.Common.{◌≡◌, ℕ, true, false, [], ◌∷◌, refl}
 use Rattle.cept_codes.specs.declared.cell.What.TheVariants as whats
 use Rattle.cept_codes.specs.declared.glyph.SetId.TheVariants as sets
 use Rattle.cept_codes.specs.Attribute.{unset_pen}
 use Rattle.cept_plot.specs.declared.figure.Figure.TheVariants as figures
 use Rattle.cept_plot.specs.declared.figure.Point.{Point}
 use Rattle.cept_plot.specs.Figures.{is_in_rectangle, is_on_sides, points_after, points_of_line}
-use Rattle.cept_plot.specs.Points.{has_weight, is_in_field, value_of, value_of_code, weight}
+use Rattle.cept_plot.specs.Points.{value_of, value_of_code, weight}
 
 -- the weights of the six blocks, of the last cell too
 blocks : weight 0 0 ∷ weight 1 0 ∷ weight 0 1 ∷ weight 1 1 ∷ weight 0 2 ∷ weight 79 71 ∷ []

@@ -2,6 +2,7 @@ ghost use Rattle.std.specs.Prelude.{◌≡◌, ℕ, ◌<◌, ◌≤◌, ◌==◌
 ghost use Rattle.cept_codes.specs.Cell.{IsValidWhat};
 ghost use Rattle.cept_codes.specs.Glyph.{IsValidGlyph};
 ghost use Rattle.cept_codes.specs.Place.{OnScreen};
+ghost use Rattle.cept_plot.specs.Drawings.{points_after_all};
 ghost use Rattle.cept_plot.specs.Figures.{IsValidFigure, is_in_rectangle, is_on_line, is_on_sides};
 ghost use Rattle.cept_plot.specs.Figures.{points_after};
 ghost use Rattle.cept_plot.specs.Lit.{IsSet, is_lit, value_in};
@@ -9,6 +10,7 @@ ghost use Rattle.cept_plot.specs.Points.{OnField, is_in_field, value_in_core, va
 ghost use Rattle.cept_profile.specs.State.{core_of};
 
 use crate::coordinate::{Coordinate, Slope, distance};
+use crate::drawing::Drawing;
 use crate::figure::{Figure, Point};
 use cept_codes::{Glyph, Pos, SetId, What};
 use cept_repaint::Screen;
@@ -66,8 +68,18 @@ impl Field {
         self.values[usize::from(at.number())]
     }
 
+    /// Adds the points of the figures of a drawing and takes them away, one figure after the other.
+    pub fn draw(&mut self, drawing: &Drawing)
+        ensures points { (x y : ℕ) → OnField x y
+            → is_lit self.new x y ≡ points_after_all (is_lit self.old) drawing.now x y }
+    {
+        for figure in drawing.figures() {
+            self.draw_figure(figure);
+        }
+    }
+
     /// Adds the points of a figure, or takes them away.
-    pub fn draw(&mut self, figure: &Figure)
+    pub fn draw_figure(&mut self, figure: &Figure)
         requires { IsValidFigure figure.now }
         ensures points { (x y : ℕ) → OnField x y
             → is_lit self.new x y ≡ points_after (is_lit self.old) figure.now x y }

@@ -3,10 +3,15 @@
 #![tactic(auto)]
 
 mod coordinate;
+mod cut;
+mod drawing;
 mod field;
 mod figure;
+mod line;
 #[cfg(test)]
 mod tests;
+mod word;
 
+pub use drawing::{DrawFault, Drawing};
 pub use field::Field;
 pub use figure::{Figure, Point};

@@ -2,8 +2,8 @@
 
 ghost use Rattle.std.specs.Prelude.{◌≡◌, ◌<◌, ◌≤◌};
 
-use crate::{Field, Figure, Point};
-use cept_codes::{Command, NoMemory, Pos};
+use crate::{DrawFault, Drawing, Field, Figure, Point};
+use cept_codes::{Command, LineReason, NoMemory, Pos};
 use cept_outside::Steps;
 use cept_repaint::{GridGlass, Marks, Screen};
 use std::alloc::Global;
@@ -32,11 +32,12 @@ fn a_page_is_drawn_on(rt: HostRuntime) -> Result<(), Fail> {
     let screen = mosaic::<Brand>(rt.alloc(), Blank::new(1))?;
     let mut field = Field::of(&screen);
     assert!(rt; field.lit(0, 0) && !field.lit(1, 0));
-    field.draw(&Figure::Plot(Point { x: 1, y: 0 }));
-    field.draw(&Figure::Line(Point { x: 10, y: 10 }, Point { x: 14, y: 11 }));
-    field.draw(&Figure::Sides(Point { x: 23, y: 0 }, Point { x: 20, y: 3 }));
-    field.draw(&Figure::Plot(Point { x: 40, y: 40 }));
-    field.draw(&Figure::Unplot(Point { x: 40, y: 40 }));
+    let drawing = Drawing::read(
+        rt.alloc(),
+        b"# a drawing\nplot 1 0\n\nline 10 10 14 11\nbox 23 0 20 3\nplot 40 40\nunplot 40 40".as_slice(),
+    )?;
+    assert_eq!(rt; drawing.figures().len(), 5);
+    field.draw(&drawing);
     for (row, column, value) in [
         (1, 1, 0x03),
         (4, 6, 0x0C),
@@ -50,7 +51,26 @@ fn a_page_is_drawn_on(rt: HostRuntime) -> Result<(), Fail> {
         let at = Pos::new(row, column).ok_or("no place")?;
         assert_eq!(rt; field.value(at), value);
     }
-    field.draw(&Figure::Wipe(Point { x: 79, y: 71 }, Point { x: 0, y: 0 }));
+    field.draw_figure(&Figure::Wipe(Point { x: 79, y: 71 }, Point { x: 0, y: 0 }));
     assert!(rt; !field.lit(0, 0) && !field.lit(12, 11));
+    Ok(())
+}
+
+/// The first line outside the grammar is said, and with it the first reason.
+#[test]
+fn a_bad_line_is_said(rt: HostRuntime) -> Result<(), Fail> {
+    for (lines, number, reason) in [
+        (b"plot 0 0\nplot 80 0".as_slice(), 2, LineReason::BadNumber),
+        (
+            b"\n# wipe\nwipe 0 0 1".as_slice(),
+            3,
+            LineReason::WrongCount,
+        ),
+        (b"Plot 0 0\n".as_slice(), 1, LineReason::UnknownWord),
+        (b"plot 0 0\r\n".as_slice(), 1, LineReason::BadNumber),
+    ] {
+        let fault = Drawing::read(rt.alloc(), lines).err();
+        assert_eq!(rt; fault, Some(DrawFault::BadLine(number, reason)));
+    }
     Ok(())
 }

@@ -1,5 +1,4 @@
-use Rattle.std.proofs.Common.{◌≡◌, ◌+◌, ◌<◌, max, ◌∙◌, arith}
-use Rattle.cept_plot.specs.Rounding.{IsUnderWay}
+use Rattle.std.proofs.Common.{◌+◌, ◌<◌, max, ◌∙◌, arith}
 use Rattle.cept_plot.proofs.LineSet.{IsDrawnTo-all, IsDrawnTo-more, IsDrawnTo-start}
 use Rattle.cept_plot.proofs.RoundedWay.{IsUnderWay-next, at_below, room_below}
 use Rattle.cept_plot.proofs.field.Field.add_line.Goals as goal

@@ -1,0 +1,136 @@
+-- Lines that were read one after the other.
+use Rattle.std.proofs.Common.{◌≡◌, ℕ, ◌+◌, ◌-◌, ◌<◌, ◌≤◌, ◌==◌, true, false, List, [], ◌∷◌, ◌++◌, length}
+use Rattle.std.proofs.Common.{Option, Some, None, Result, Ok, Err, Bor, refl, sym, ap, ◌∙◌, subst, arith}
+use Rattle.std.specs.List.{slice_split}
+use Rattle.std.proofs.lemmas.Bool.{eqb-true}
+use Rattle.std.proofs.lemmas.List.{append_assoc, append-nil, length-drop}
+use Rattle.std.proofs.lemmas.List.Splits.{length-slice_split}
+use Rattle.cept_codes.specs.declared.line_reason.LineReason.{LineReason}
+use Rattle.cept_plot.specs.declared.drawing.DrawFault.{DrawFault}
+use Rattle.cept_plot.specs.declared.drawing.DrawFault.TheVariants as faults
+use Rattle.cept_plot.specs.declared.figure.Figure.{Figure}
+use Rattle.cept_plot.specs.Cut.{IsCut, bytes_after, parts_after}
+use Rattle.cept_plot.specs.Drawings.{AreValidFigures, Fault, SaysFault, fault_from, fault_or, figure_in, figures_in}
+use Rattle.cept_plot.specs.Drawings.{figures_of, first_fault, line_meaning}
+use Rattle.cept_plot.specs.Figures.{IsValidFigure}
+use Rattle.cept_plot.specs.Kept.{HasFigures, HasKept, IsUnkept}
+use Rattle.cept_plot.specs.Lines.{ends_line, lines, lines_of_parts}
+
+-- so many lines were read, and these bytes are left
+pub record HasRead (bytes : List ℕ) (list : List Figure) (n : ℕ) (rest : List ℕ) : Type 0 where
+  pub figures : figures_of bytes ≡ list ++ figures_in (lines rest)
+  pub fault : first_fault bytes ≡ fault_from (n + 1) (lines rest)
+  pub valid : AreValidFigures list
+  pub number : n + length rest ≤ length bytes
+
+pub no_length : (bytes : List ℕ) → (length bytes == 0) ≡ true → length bytes ≡ 0
+no_length [] e = refl
+no_length (a ∷ more) e = eqb-true (length (a ∷ more)) 0 e
+
+pub some_length : (bytes : List ℕ) → (length bytes == 0) ≡ false → 0 < length bytes
+some_length [] e = absurd cc
+some_length (a ∷ more) e = omega arith
+
+-- ---- the first line
+
+-- some parts before other parts
+lines_more : (part : List ℕ) (parts : List (List ℕ)) → 0 < length parts
+    → lines_of_parts (part ∷ parts) ≡ part ∷ lines_of_parts parts
+lines_more part [] l = absurd (omega arith)
+lines_more part (next ∷ parts) l = refl
+
+lines_last : (part : List ℕ) → 0 < length part → lines_of_parts (part ∷ []) ≡ part ∷ []
+lines_last [] l = absurd (omega arith)
+lines_last (a ∷ more) l = refl
+
+lines_first : (left part : List ℕ) (rest : Option (Bor (List ℕ))) → 0 < length left
+    → slice_split ends_line left ≡ part ∷ parts_after 0x0A rest → IsCut left part rest
+    → lines left ≡ part ∷ lines (bytes_after rest)
+lines_first left part None l e cut =
+    ap lines_of_parts e ∙ lines_last part (subst (λ (x : List ℕ). 0 < length x) cut l)
+lines_first left part (Some rest) l e cut =
+    ap lines_of_parts e
+    ∙ lines_more part (slice_split ends_line rest.now) (omega (arith, length-slice_split ends_line rest.now))
+
+pub shorter_after : (left part : List ℕ) (rest : Option (Bor (List ℕ))) → 0 < length left → IsCut left part rest
+    → length (bytes_after rest) < length left
+shorter_after left part None l cut = l
+shorter_after left part (Some rest) l cut =
+    let shorter : length rest.now ≡ length left - (length part + 1) =
+    ap length cut.0 ∙ length-drop (length part + 1) left in
+    omega (arith, shorter, cut.1)
+
+-- ---- one line more
+
+kept_figures : (list more rest : List Figure) (m : Result (Option Figure) LineReason) → HasKept m list more
+    → list ++ (figure_in m ++ rest) ≡ more ++ rest
+kept_figures list more rest (Ok None) kept = ap (λ (xs : List Figure). xs ++ rest) (sym kept)
+kept_figures list more rest (Ok (Some figure)) kept =
+    sym (append_assoc list (figure ∷ []) rest) ∙ ap (λ (xs : List Figure). xs ++ rest) (sym kept.0)
+kept_figures list more rest (Err reason) kept = absurd kept
+
+kept_fault : (list more : List Figure) (m : Result (Option Figure) LineReason) (n : ℕ) (later : Option Fault)
+    → HasKept m list more → fault_or n m later ≡ later
+kept_fault list more (Ok figure) n later kept = refl
+kept_fault list more (Err reason) n later kept = absurd kept
+
+one_more : (list : List Figure) (figure : Figure) → AreValidFigures list → IsValidFigure figure
+    → AreValidFigures (list ++ figure ∷ [])
+one_more [] figure all here = (here, tt)
+one_more (f ∷ list) figure all here = (all.0, one_more list figure all.1 here)
+
+kept_valid : (list more : List Figure) (m : Result (Option Figure) LineReason) → HasKept m list more
+    → AreValidFigures list → AreValidFigures more
+kept_valid list more (Ok None) kept all = subst AreValidFigures (sym kept) all
+kept_valid list more (Ok (Some figure)) kept all = subst AreValidFigures (sym kept.0) (one_more list figure all kept.1)
+kept_valid list more (Err reason) kept all = absurd kept
+
+pub read_more : (bytes : List ℕ) (list more : List Figure) (n : ℕ) (left part : List ℕ) (rest : Option (Bor (List ℕ)))
+    → HasRead bytes list n left → 0 < length left → slice_split ends_line left ≡ part ∷ parts_after 0x0A rest
+    → IsCut left part rest → HasKept (line_meaning part) list more → HasRead bytes more (n + 1) (bytes_after rest)
+unfolding figures_in fault_from
+read_more bytes list more n left part rest r l parts cut kept =
+    let line : lines left ≡ part ∷ lines (bytes_after rest) = lines_first left part rest l parts cut in
+    record {
+      figures =
+          r.figures ∙ ap (λ (ls : List (List ℕ)). list ++ figures_in ls) line
+          ∙ kept_figures list more (figures_in (lines (bytes_after rest))) (line_meaning part) kept;
+      fault =
+          r.fault ∙ ap (λ (ls : List (List ℕ)). fault_from (n + 1) ls) line
+          ∙ kept_fault list more (line_meaning part) (n + 1) (fault_from (n + 1 + 1) (lines (bytes_after rest))) kept;
+      valid = kept_valid list more (line_meaning part) kept r.valid;
+      number = omega (arith, r.number, shorter_after left part rest l cut);
+    }
+
+-- ---- the first and the last
+
+pub read_none : (bytes : List ℕ) (list : List Figure) → list ≡ [] → HasRead bytes list 0 bytes
+read_none bytes list e =
+    subst (λ (fs : List Figure). HasRead bytes fs 0 bytes) (sym e) (record {
+      figures = refl;
+      fault = refl;
+      valid = tt;
+      number = omega arith;
+    })
+
+pub read_all : (bytes : List ℕ) (list : List Figure) (n : ℕ) (left : List ℕ) → HasRead bytes list n left
+    → length left ≡ 0 → HasFigures bytes list
+unfolding figures_in fault_from
+read_all bytes list n [] r e = record { figures = r.figures ∙ append-nil list; fault = r.fault; valid = r.valid }
+read_all bytes list n (a ∷ left) r e = absurd (omega arith)
+
+fault_said : (m : Result (Option Figure) LineReason) (n : ℕ) (first later : Option Fault) (fault : DrawFault)
+    → first ≡ fault_or n m later → IsUnkept m n fault → SaysFault first fault
+fault_said m n first later (faults.BadLine k reason) e u =
+    e ∙ ap (λ (x : Result (Option Figure) LineReason). fault_or n x later) u.1
+    ∙ ap (λ (j : ℕ). Some (record { line = j; reason = reason })) (sym u.0)
+fault_said m n first later faults.NoMemory e u = tt
+
+pub read_fault : (bytes : List ℕ) (list : List Figure) (n : ℕ) (left part : List ℕ) (rest : Option (Bor (List ℕ)))
+    (fault : DrawFault) → HasRead bytes list n left → 0 < length left
+    → slice_split ends_line left ≡ part ∷ parts_after 0x0A rest → IsCut left part rest
+    → IsUnkept (line_meaning part) (n + 1) fault → SaysFault (first_fault bytes) fault
+unfolding fault_from
+read_fault bytes list n left part rest fault r l parts cut unkept =
+    fault_said (line_meaning part) (n + 1) (first_fault bytes) (fault_from (n + 1 + 1) (lines (bytes_after rest))) fault
+    (r.fault ∙ ap (λ (ls : List (List ℕ)). fault_from (n + 1) ls) (lines_first left part rest l parts cut)) unkept

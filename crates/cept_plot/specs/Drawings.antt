@@ -1,0 +1,127 @@
+-- A drawing (this project's own): its figures, and the first line that is outside the grammar. Lines are counted from 1.
+use Rattle.std.specs.Prelude.{ℕ, ◌≡◌, ◌+◌, ◌&&◌, ◌==◌, Bool, nat_lt, List, [], ◌∷◌, ◌++◌, codes, bytes_eq, Option, Some, None}
+use Rattle.std.specs.Prelude.{Result, Ok, Err, if◌then◌else◌}
+use Rattle.std.specs.List.{AllByRecursion}
+use Rattle.cept_codes.specs.declared.line_reason.LineReason.{LineReason}
+use Rattle.cept_codes.specs.declared.line_reason.LineReason.TheVariants as reasons
+use Rattle.cept_parser.specs.Bytes.{digit, is_digit, two_digits}
+use Rattle.cept_plot.specs.declared.drawing.DrawFault.{DrawFault}
+use Rattle.cept_plot.specs.declared.drawing.DrawFault.TheVariants as faults
+use Rattle.cept_plot.specs.declared.figure.Figure.{Figure}
+use Rattle.cept_plot.specs.declared.figure.Figure.TheVariants as figures
+use Rattle.cept_plot.specs.declared.figure.Point.{Point}
+use Rattle.cept_plot.specs.Figures.{IsValidFigure, points_after}
+use Rattle.cept_plot.specs.Lines.{lines, words}
+
+-- ---- what a line means
+
+-- the number of a word: one or two digits
+abbrev pub number : List ℕ → Option ℕ
+number [] = None
+number (a ∷ []) = if is_digit a then Some (digit a) else None
+number (a ∷ b ∷ []) = if is_digit a && is_digit b then Some (two_digits a b) else None
+number (a ∷ b ∷ c ∷ more) = None
+
+-- the point of two numbers, where it is on the field
+abbrev pub point_of : Option ℕ → Option ℕ → Option Point
+point_of (Some x) (Some y) = if nat_lt x 80 && nat_lt y 72 then Some (record { x = x; y = y }) else None
+point_of (Some x) None = None
+point_of None y = None
+
+-- the point of two words
+abbrev pub point : List ℕ → List ℕ → Option Point
+point v w = point_of (number v) (number w)
+
+-- a figure of a point, and of two points
+abbrev pub at_point : (Point → Figure) → Option Point → Result Figure LineReason
+at_point figure (Some p) = Ok (figure p)
+at_point figure None = Err reasons.BadNumber
+
+abbrev pub between_points : (Point → Point → Figure) → Option Point → Option Point → Result Figure LineReason
+between_points figure (Some p) (Some q) = Ok (figure p q)
+between_points figure (Some p) None = Err reasons.BadNumber
+between_points figure None q = Err reasons.BadNumber
+
+-- a figure of two words, and of four words
+abbrev pub of_two : (Point → Figure) → List (List ℕ) → Result Figure LineReason
+of_two figure (a ∷ b ∷ []) = at_point figure (point a b)
+of_two figure _ = Err reasons.WrongCount
+
+abbrev pub of_four : (Point → Point → Figure) → List (List ℕ) → Result Figure LineReason
+of_four figure (a ∷ b ∷ c ∷ d ∷ []) = between_points figure (point a b) (point c d)
+of_four figure _ = Err reasons.WrongCount
+
+-- the figure of a word and of the words after it
+unfoldable pub figure_of : List ℕ → List (List ℕ) → Result Figure LineReason
+figure_of word more =
+    if bytes_eq word (codes "plot") then of_two figures.Plot more else
+    if bytes_eq word (codes "unplot") then of_two figures.Unplot more else
+    if bytes_eq word (codes "line") then of_four figures.Line more else
+    if bytes_eq word (codes "box") then of_four figures.Sides more else
+    if bytes_eq word (codes "wipe") then of_four figures.Wipe more else
+    Err reasons.UnknownWord
+
+-- the figure of words
+abbrev pub figure_of_words : List (List ℕ) → Result Figure LineReason
+figure_of_words [] = Err reasons.UnknownWord
+figure_of_words (word ∷ more) = figure_of word more
+
+-- a result that is a figure
+abbrev pub some_figure : Result Figure LineReason → Result (Option Figure) LineReason
+some_figure (Ok figure) = Ok (Some figure)
+some_figure (Err reason) = Err reason
+
+-- what a line means: an empty line and one that begins with 2/3 stand for nothing
+unfoldable pub line_meaning : List ℕ → Result (Option Figure) LineReason
+line_meaning [] = Ok None
+line_meaning (a ∷ more) = if a == 0x23 then Ok None else some_figure (figure_of_words (words (a ∷ more)))
+
+-- ---- what a drawing means
+
+-- a line outside the grammar: its number, and the first reason that holds of it
+pub record Fault : Type 0 where
+  pub line : ℕ
+  pub reason : LineReason
+
+-- the figure of a line, if it has one
+abbrev pub figure_in : Result (Option Figure) LineReason → List Figure
+figure_in (Ok (Some figure)) = figure ∷ []
+figure_in (Ok None) = []
+figure_in (Err reason) = []
+
+-- the fault of a line of this number, or else the one after it
+abbrev pub fault_or : ℕ → Result (Option Figure) LineReason → Option Fault → Option Fault
+fault_or n (Ok figure) later = later
+fault_or n (Err reason) later = Some (record { line = n; reason = reason })
+
+-- the figures of lines
+unfoldable pub figures_in : List (List ℕ) → List Figure
+figures_in [] = []
+figures_in (line ∷ more) = figure_in (line_meaning line) ++ figures_in more
+
+-- the first fault of lines, the first of which has this number
+unfoldable pub fault_from : ℕ → List (List ℕ) → Option Fault
+fault_from n [] = None
+fault_from n (line ∷ more) = fault_or n (line_meaning line) (fault_from (n + 1) more)
+
+-- the figures of a drawing
+abbrev pub figures_of : List ℕ → List Figure
+figures_of bytes = figures_in (lines bytes)
+
+-- the first line of a drawing that is outside the grammar
+abbrev pub first_fault : List ℕ → Option Fault
+first_fault bytes = fault_from 1 (lines bytes)
+
+-- an answer says the first fault of a drawing, or is free: out of memory
+abbrev pub SaysFault : Option Fault → DrawFault → Type 0
+SaysFault first (faults.BadLine line reason) = first ≡ Some (record { line = line; reason = reason })
+SaysFault first faults.NoMemory = Unit {0}
+
+-- each figure is on the field
+abbrev pub AreValidFigures : List Figure → Type 0
+AreValidFigures list = AllByRecursion IsValidFigure list
+
+-- a set of points after figures, one after the other
+abbrev pub points_after_all : (ℕ → ℕ → Bool) → List Figure → ℕ → ℕ → Bool
+points_after_all was [] x y = was x y
+points_after_all was (figure ∷ more) x y = points_after_all (points_after was figure) more x y

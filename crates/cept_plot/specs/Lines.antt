@@ -1,0 +1,26 @@
+-- Lines and words of a drawing (this project's own), as those of a script.
+use Rattle.std.specs.Prelude.{ℕ, Bool, List, [], ◌∷◌, ◌==◌, if◌then◌else◌}
+use Rattle.std.specs.List.{slice_split}
+use Rattle.cept_parser.specs.Bytes.{is_empty}
+
+-- the byte that ends a line
+abbrev pub ends_line : ℕ → Bool
+ends_line a = a == 0x0A
+
+-- the byte that parts words
+abbrev pub parts_words : ℕ → Bool
+parts_words a = a == 0x20
+
+-- the parts between line ends as lines: a last one without a byte is no line
+abbrev pub lines_of_parts : List (List ℕ) → List (List ℕ)
+lines_of_parts [] = []
+lines_of_parts (part ∷ []) = if is_empty part then [] else part ∷ []
+lines_of_parts (part ∷ next ∷ parts) = part ∷ lines_of_parts (next ∷ parts)
+
+-- the lines of bytes
+abbrev pub lines : List ℕ → List (List ℕ)
+lines bytes = lines_of_parts (slice_split ends_line bytes)
+
+-- the words of a line, cut at each single space
+abbrev pub words : List ℕ → List (List ℕ)
+words line = slice_split parts_words line
