@@ -55,7 +55,7 @@ module _ (word : List ℕ) (given number : ℕ) (page script old new : List ℕ)
       let shown = e.reports.meaning on.blank in
       let told : Some run.text ≡ Some (report (course.events e.page e.script on.after.glass.grid)) =
       sym run.is ∙ ap (λ s. s.bytes) (sym on.after_sink) ∙ e.reports.put
-      ∙ ap (λ s. append_known s.bytes (report (course.events e.page e.script on.after.glass.grid))) on.before_sink in
+      ∙ ap (λ s. append_known s.bytes (report (course.events e.page e.script on.after.glass.grid))) (on.before_sink ∙ run.room.empty) in
       same_Some run.text _ told ∙ ap (λ g. report (course.events e.page e.script g)) shown
       ∙ ap (λ p. whole_report course p e.script) same_page ∙ ap (λ l. whole_report course read l) same_lines
 
@@ -88,7 +88,7 @@ module _ (word : List ℕ) (given number : ℕ) (page script old new : List ℕ)
   put_is text gains =
       let on = run.runs in
       same_Some run.text text (sym run.is ∙ ap (λ s. s.bytes) (sym on.after_sink) ∙ gains.bytes
-      ∙ ap (λ s. append_known s.bytes text) on.before_sink)
+      ∙ ap (λ s. append_known s.bytes text) (on.before_sink ∙ run.room.empty))
 
   -- a part of a text is its front
   part_is : (whole : List ℕ) → GainsPart run.runs.before.sink whole run.runs.after.sink → IsFront run.text whole

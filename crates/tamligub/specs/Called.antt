@@ -1,11 +1,13 @@
 -- What a call does: it is a run over a shelf, a sink and a glass in memory. This project's own.
-use Rattle.std.specs.Prelude.{◌≡◌, ◌⊎◌, ◌<◌, ℕ, false, ◌&&◌, List, [], ◌++◌, take, drop, length, Some, codes}
+use Rattle.std.specs.Prelude.{◌≡◌, ◌⊎◌, ◌<◌, ◌-◌, ◌^◌, ℕ, false, ◌&&◌, min, List, [], ◌++◌, take, drop, length, Some, codes}
 use Rattle.std.specs.Prelude.{if◌then◌else◌}
 use Rattle.cept_codes.specs.declared.look.Look.{Look}
 use Rattle.cept_editor.specs.Events.{report}
 use Rattle.cept_editor.specs.Script.{Fault}
 use Rattle.cept_outside.specs.ShelfState.{Holds}
+use Rattle.cept_outside.specs.MemSink.{mem_sink_numbers, mem_sink_room, mem_sink_state}
 use Rattle.cept_outside.specs.SinkState.{SinkState}
+use Rattle.cept_outside.specs.declared.mem_sink.MemSink.{MemSink}
 use Rattle.cept_parser.specs.Items.{closed_items}
 use Rattle.cept_profile.specs.Look.{grid}
 use Rattle.cept_run.specs.Course.{Course, Source, File, Given, course_of}
@@ -23,8 +25,14 @@ use Rattle.tamligub.specs.Words.{words_for}
 abbrev pub empty_sink : SinkState
 empty_sink = record { bytes = Some []; unflushed = false; faults = 0 }
 
+-- a sink into which nothing was put, with the room of a slice, but 2^32 - 1 bytes at most, and of which no call is to fail
+pub record HasRoomOf (out : List ℕ) (sink : MemSink) : Type 0 where
+  pub empty : mem_sink_state sink ≡ empty_sink
+  pub room : mem_sink_room sink ≡ min (length out) (2 ^ 32 - 1)
+  pub good : mem_sink_numbers sink ≡ []
+
 -- the program ran over a shelf with this page and this script, a sink, and a glass that was blank
-pub record RunsOn (word : List ℕ) (given number : ℕ) (page script : List ℕ) (old new : SinkState) (status : Status)
+pub record RunsOn (word : List ℕ) (given number : ℕ) (page script : List ℕ) (old new : MemSink) (status : Status)
     : Type 0 where
   pub before : Outside
   pub after : Outside
@@ -32,8 +40,8 @@ pub record RunsOn (word : List ℕ) (given number : ℕ) (page script : List ℕ
   pub has_script : Holds before.shelf (codes "script") script
   pub faultless : before.shelf.faults ≡ 0
   pub blank : before.glass.grid ≡ grid []
-  pub before_sink : before.sink ≡ old
-  pub after_sink : after.sink ≡ new
+  pub before_sink : before.sink ≡ mem_sink_state old
+  pub after_sink : after.sink ≡ mem_sink_state new
   pub runs : Runs (words_for word given number) before after status
 
 -- this text stands at the front of the slice, as far as there is room, and `put` is its length
@@ -41,13 +49,15 @@ pub record Holding (text old new : List ℕ) (put : ℕ) : Type 0 where
   pub front : new ≡ take (length old) text ++ drop (length text) old
   pub count : put ≡ length text
 
--- the program ran, and what it put stands in the slice
+-- the program ran over a sink with the room of the slice, and what it put stands in the slice
 pub record HasRun (word : List ℕ) (given number : ℕ) (page script old new : List ℕ) (put : ℕ) (status : Status) : Type 0
   where
-    pub sink : SinkState
-    pub runs : RunsOn word given number page script empty_sink sink status
+    pub sink : MemSink
+    pub room : HasRoomOf old sink
+    pub after : MemSink
+    pub runs : RunsOn word given number page script sink after status
     pub text : List ℕ
-    pub is : sink.bytes ≡ Some text
+    pub is : (mem_sink_state after).bytes ≡ Some text
     pub holding : Holding text old new put
 
 -- there was no memory to begin with

@@ -1,6 +1,5 @@
 //! A call: the run over a shelf that has the page and the script, a sink, and a blank glass.
-ghost use Rattle.std.specs.Prelude.{◌≡◌, ◌++◌, length, take, drop, IfOk};
-ghost use Rattle.cept_outside.specs.MemSink.{mem_sink_state};
+ghost use Rattle.std.specs.Prelude.{◌≡◌, ◌++◌, ◌-◌, ◌^◌, length, take, drop, min, IfOk};
 ghost use Rattle.tamligub.specs.Called.{Calls, RunsOn};
 
 use crate::words::{PAGE, SCRIPT, words_for};
@@ -22,7 +21,7 @@ fn run_on(
     sink: &mut MemSink,
 ) -> Result<Status, NoMemory>
     ensures { IfOk result (λ status. RunsOn word.now given number page.now script.now
-        (mem_sink_state sink.old) (mem_sink_state sink.new) status) }
+        sink.old sink.new status) }
 {
     // A law: before any command each place has the blank look.
     the_first_grid();
@@ -44,6 +43,13 @@ fn copy_front(bytes: &[u8], out: &mut [u8]) -> u64
     bytes.len() as u64
 }
 
+/// How many bytes a call makes room for: as many as `out` has, but 2^32 - 1 at most.
+fn room_of(out: &[u8]) -> u32
+    ensures { result ≡ min (length out.now) (2 ^ 32 - 1) }
+{
+    u32::try_from(out.len()).unwrap_or(u32::MAX)
+}
+
 /// Runs the program and puts its text at the front of `out`.
 pub fn call(
     alloc: Global,
@@ -58,8 +64,7 @@ pub fn call(
     ensures { Calls word.now given number page.now script.now out.old out.new put.new result }
 {
     *put = 0;
-    let room = u32::try_from(out.len()).unwrap_or(u32::MAX);
-    let Ok(mut sink) = MemSink::new(alloc, room) else {
+    let Ok(mut sink) = MemSink::new(alloc, room_of(out)) else {
         return Status::NoMemory;
     };
     let Ok(status) = run_on(alloc, word, given, number, page, script, &mut sink) else {
