@@ -182,7 +182,7 @@ impl Field {
 }
 
 /// The weights of the points of a cell's block mosaic, 0 of any other cell.
-fn value_of(what: &What) -> u8
+pub(crate) fn value_of(what: &What) -> u8
     requires { IsValidWhat what.now }
     ensures value { result ≡ value_of what.now }
     ensures valid { result < 64 }

@@ -8,6 +8,7 @@ mod drawing;
 mod field;
 mod figure;
 mod line;
+mod paint;
 #[cfg(test)]
 mod tests;
 mod word;
@@ -15,3 +16,4 @@ mod word;
 pub use drawing::{DrawFault, Drawing};
 pub use field::Field;
 pub use figure::{Figure, Point};
+pub use paint::paint_field;

@@ -1,0 +1,148 @@
+-- Control while a set of points is drawn: what the commands of a cell make of it, and their strokes.
+use Rattle.std.proofs.Common.{◌≡◌, ℕ, ◌+◌, ◌%◌, ◌≤◌, Bool, true, false, cond, leb, eqb, Option, None, Some}
+use Rattle.std.proofs.Common.{List, [], ◌∷◌, min, refl, sym, ap, ◌∙◌, subst, arith}
+use Rattle.std.proofs.lemmas.Bool.{cond_both}
+use Rattle.std.proofs.lemmas.Bool.Decides.{nat_tests}
+use Rattle.cept_codes.specs.declared.cell.What.TheVariants as whats
+use Rattle.cept_codes.specs.declared.command.C1Set.TheVariants as c1sets
+use Rattle.cept_codes.specs.declared.command.Command.TheVariants as commands
+use Rattle.cept_codes.specs.declared.glyph.Glyph.{Glyph}
+use Rattle.cept_codes.specs.declared.glyph.Read.{Read}
+use Rattle.cept_codes.specs.declared.glyph.Read.TheVariants as reads
+use Rattle.cept_codes.specs.declared.glyph.SetId.TheVariants as sets
+use Rattle.cept_codes.specs.declared.stroke.Stroke.{Stroke}
+use Rattle.cept_codes.specs.declared.stroke.Stroke.TheVariants as strokes
+use Rattle.cept_codes.specs.Attribute.{unset_pen}
+use Rattle.cept_codes.specs.Place.{Place}
+use Rattle.cept_profile.specs.Control.{control_after, control_with, working_at, working_with_sets}
+use Rattle.cept_profile.specs.Motions.{row_below, working_ahead}
+use Rattle.cept_profile.specs.Sets.{GraphicResult, Sets, graphic, initial_sets, is_left, read_as, set_of}
+use Rattle.cept_profile.specs.Sets.{sets_with_left}
+use Rattle.cept_profile.specs.Sets.{sign}
+use Rattle.cept_profile.specs.State.{Core}
+use Rattle.cept_profile.specs.Strokes.{strokes_of}
+use Rattle.cept_profile.specs.Working.{ControlState, Working}
+use Rattle.cept_profile.specs.Writing.{sign_with_accent, strokes_of_read, working_after_read}
+use Rattle.cept_profile.proofs.Laws.{on_strokes-none}
+use Rattle.cept_plot.specs.Drawing.{control_in_drawing}
+
+-- what changes of control
+pub record Hand : Type 0 where
+  pub row : ℕ
+  pub column : ℕ
+  pub last : Option Glyph
+  pub kept : Option Working
+
+-- control with these sets
+abbrev pub control_at : Core → Sets → Hand → ControlState
+control_at k s v = record {
+  working = record {
+    row = v.row;
+    column = v.column;
+    c1 = c1sets.Parallel;
+    sets = s;
+    accent = None;
+    last = v.last;
+    pen = unset_pen;
+    fast = 0;
+    run = false;
+    step = 1;
+    table = 0;
+    protect = false;
+  };
+  rows = k.rows;
+  wrap = k.wrap;
+  area = k.area;
+  implicit = false;
+  kept = v.kept;
+}
+
+abbrev pub hand_of : ControlState → Hand
+hand_of c = record { row = c.working.row; column = c.working.column; last = c.working.last; kept = c.kept }
+
+pub control_at-hand_of : (k : Core) (c : ControlState) → c ≡ control_in_drawing k c
+    → c ≡ control_at k initial_sets (hand_of c)
+control_at-hand_of k c is = is
+
+pub control_in_drawing-at : (k : Core) (v : Hand) (c : ControlState) → c ≡ control_at k initial_sets v
+    → c ≡ control_in_drawing k c
+control_in_drawing-at k v c is = subst (λ (w : ControlState). w ≡ control_in_drawing k w) (sym is) refl
+
+-- ---- a position within the format
+
+abbrev pub hand_at : Place → Hand → Hand
+hand_at p v = record v { row = p.row; column = p.column }
+
+pub position-control : (k : Core) (v : Hand) (p : Place) → p.row ≤ k.rows
+    → control_after (control_at k initial_sets v) (commands.Position p.row p.column)
+    ≡ control_at k initial_sets (hand_at p v)
+position-control k v p within =
+    let row : min p.row k.rows ≡ p.row = omega (arith, within) in
+    ap (λ (r : ℕ). control_at k initial_sets (record v { row = r; column = p.column })) row
+
+-- ---- a sign
+
+abbrev pub result_of : Read → Sets → GraphicResult
+result_of read s = record { read = read; sets = s }
+
+-- moving on changes the position alone
+ahead_at : (c : ControlState) (n : ℕ) (w : Working)
+    → working_ahead c n w ≡ working_at (working_ahead c n w).row (working_ahead c n w).column w
+ahead_at c n w =
+    cond_both (leb (w.column + n) 40) (working_at w.row (w.column + n) w)
+    (cond c.wrap (working_at (row_below c w.row) 1 w) (working_at w.row 40 w))
+    (λ (u : Working). u ≡ working_at u.row u.column w) (λ e. refl) (λ e.
+    cond_both c.wrap (working_at (row_below c w.row) 1 w) (working_at w.row 40 w)
+    (λ (u : Working). u ≡ working_at u.row u.column w) (λ f. refl) (λ f. refl))
+
+-- the hand after a sign
+abbrev pub hand_after : Core → Sets → Hand → Glyph → Hand
+hand_after k s v g =
+    let on : Working = working_ahead (control_at k s v) 1 (control_at k s v).working in
+    record { row = on.row; column = on.column; last = Some g; kept = v.kept }
+
+module _ (k : Core) (s : Sets) (v : Hand) (code : ℕ) (g : Glyph)
+    (gives : graphic s code false ≡ result_of (reads.Glyph g) s) where
+  pub sign-control : control_after (control_at k s v) (commands.Graphic code)
+      ≡ control_at k s (hand_after k s v (sign_with_accent g.set g.code None))
+  sign-control =
+      let from : ControlState = control_at k s v in
+      ap (λ (r : GraphicResult). control_with from
+      (working_after_read (control_with from (working_with_sets r.sets from.working)) r.read)) gives
+      ∙ ap (λ (w : Working). control_with from
+      (record w { last = Some (sign_with_accent g.set g.code None); accent = None }))
+      (ahead_at from 1 from.working)
+
+  pub sign-strokes : strokes_of (control_at k s v) (commands.Graphic code)
+      ≡ strokes.Put (record { row = v.row; column = v.column })
+      (record { what = whats.Parallel (sign_with_accent g.set g.code None) unset_pen; protected = false }) ∷ []
+  sign-strokes =
+      let from : ControlState = control_at k s v in
+      ap (λ (r : GraphicResult). strokes_of_read from r.read) gives
+      ∙ ap (λ (more : List Stroke). strokes.Put (record { row = v.row; column = v.column })
+      (record { what = whats.Parallel (sign_with_accent g.set g.code None) unset_pen; protected = false }) ∷ more)
+      (on_strokes-none from 1 refl)
+
+-- ---- what bytes give
+
+-- the space
+pub space_gives : graphic initial_sets 0x20 false ≡ result_of (reads.Glyph (sign sets.P 0x20)) initial_sets
+unfolding read_as set_of
+space_gives = refl
+
+abbrev pub mosaic_sets : Sets
+mosaic_sets = sets_with_left initial_sets 1
+
+-- a block mosaic, where G1 is locked to the left bytes
+pub mosaic_gives : (code : ℕ) → 0x21 ≤ code → code ≤ 0x7F
+    → graphic mosaic_sets code false ≡ result_of (reads.Glyph (sign sets.M code)) mosaic_sets
+unfolding read_as set_of
+mosaic_gives code low high =
+    let space : Read = reads.Glyph (sign sets.P 0x20) in
+    let mosaic : Read = reads.Glyph (sign sets.M code) in
+    let same : code % 0x80 ≡ code = omega arith in
+    let left : is_left code ≡ true = grind (arith, nat_tests) in
+    let no_space : eqb code 0x20 ≡ false = grind (arith, nat_tests) in
+    ap (λ (c : ℕ). result_of (read_as (set_of mosaic_sets code false) c) mosaic_sets) same
+    ∙ ap (λ (t : Bool). result_of (read_as (cond t sets.M sets.S) code) mosaic_sets) left
+    ∙ ap (λ (t : Bool). result_of (cond t space mosaic) mosaic_sets) no_space
