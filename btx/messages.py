@@ -9,7 +9,7 @@ from btx import program
 MOST_PAGE, MOST_SCRIPT = 2**24, 2**20
 MOST_NUMBER, MOST_TURNS = 2**32 - 1, 600
 FAULTS = {
-    1: "its first word is no word of scripts",
+    1: "its first word is no word of {kind}s",
     2: "it has more or fewer words than it needs",
     3: "a number hasn't one or two digits, or is out of its range",
     4: "a sign of its text isn't 20 to 7E",
@@ -27,6 +27,11 @@ def usage(word):
 def files_of(word, words):
     """The words that name files: all but a number."""
     return words[:1] if word == "flash" else words
+
+
+def kind_of(word):
+    """What the second word after it names: a script or a drawing."""
+    return program.WORDS[word][0].split(" ")[-1].lower()
 
 
 def is_file(path):
@@ -79,23 +84,25 @@ def no_request(word, words):
         most = MOST_TURNS if word == "flash" else MOST_NUMBER
         reason = f"{words[-1]} is no number from 0 to {most} in one to ten digits"
     elif len(set(words)) < len(words):
-        reason = "PAGE and SCRIPT have the same name"
+        reason = f"{' and '.join(wanted)} have the same name"
     else:
         reason = "the words can't be read"
     return f"{word}: {reason}\n{usage(word)}"
 
 
 def bad_line(path, word, words):
-    """Status 3: which line of the script, and what is wrong in it."""
+    """Status 3: which line of the script or the drawing, and what is wrong in it."""
     page, script = words
+    kind = kind_of(word)
     if not is_file(script):
-        return f"{word}: a line of the script is outside the grammar; man cept_tool has it under SCRIPTS"
+        return f"{word}: a line of the {kind} is outside the grammar; man cept_tool has it under {kind.upper()}S"
     output, _ = program.put(path, word, page, script)
     head, _, reason = output.decode("ascii").partition(": ")
     number = int(head.rsplit(" ", 1)[-1])
     with open(script, "rb") as file:
         line = file.read().split(b"\n")[number - 1].decode("ascii", "backslashreplace")
-    return f"{word}: {script}, line {number}: {FAULTS[int(reason.split(' ')[0])]}: {line}"
+    fault = FAULTS[int(reason.split(" ")[0])].format(kind=kind)
+    return f"{word}: {script}, line {number}: {fault}: {line}"
 
 
 def unreadable(word, words):
@@ -110,10 +117,10 @@ def unreadable(word, words):
 def too_long(word, words):
     """Status 7: which limit."""
     if len(words) == 2 and is_file(words[1]) and os.path.getsize(words[1]) > MOST_SCRIPT:
-        return f"{word}: {words[1]}: the script has more than {MOST_SCRIPT:,} bytes, so nothing was read of the page"
+        return f"{word}: {words[1]}: the {kind_of(word)} has more than {MOST_SCRIPT:,} bytes, so nothing was read of the page"
     if len(words) == 1 or is_file(words[0]) and os.path.getsize(words[0]) > MOST_PAGE:
         return f"{word}: {words[0]}: the page has more than {MOST_PAGE:,} bytes; only the items of the first {MOST_PAGE:,} were read"
-    return f"{word}: the page has more than {MOST_PAGE:,} bytes, or the script more than {MOST_SCRIPT:,}"
+    return f"{word}: the page has more than {MOST_PAGE:,} bytes, or the {kind_of(word)} more than {MOST_SCRIPT:,}"
 
 
 def reader_is_gone():

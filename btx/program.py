@@ -21,6 +21,7 @@ WORDS = {
     "eight": ("PAGE", "such bytes back in eight"),
     "trace": ("PAGE SCRIPT", "for each edit of a script a line for each cell that it changes"),
     "edit": ("PAGE SCRIPT", "the page after the edits of a script, as bytes"),
+    "plot": ("PAGE DRAWING", "the page with a drawing on its field of 80 by 72 points, as bytes"),
     "flash": ("PAGE NUMBER", "what each of a number of turns of flashing changes, at most 600"),
     "gen": ("NUMBER", "the generated page of a number, 0 to 4294967295, as bytes"),
     "load": ("NUMBER", "how many bytes, items and paints that page has"),

@@ -28,6 +28,7 @@ class Messages(stand.Case):
         script = self.written("script", b"at 1 2\ntext XY\nundo\n")
         requests = [[word, stand.page("title")] for word in ("changes", "check", "show", "cells", "write", "seven")]
         requests += [[word, stand.page("title"), script] for word in ("trace", "edit")]
+        requests.append(["plot", stand.page("title"), self.written("drawing", b"line 0 0 79 71\nunplot 3 3\n")])
         for request in [*requests, ["flash", stand.page("flashing"), "6"], ["gen", "1"]]:
             self.assertEqual(self.ends(request, 0).stdout, stand.put(*request), request)
 
@@ -61,7 +62,8 @@ class Messages(stand.Case):
         page = stand.page("title")
         for words, said in (
             (["show"], "usage: btx show PAGE"), (["show", page, page], "and not 2"), (["show", ""], "a name is empty"),
-            (["edit", page], "usage: btx edit PAGE SCRIPT"), (["trace", page, page], "the same name"),
+            (["edit", page], "usage: btx edit PAGE SCRIPT"), (["trace", page, page], "PAGE and SCRIPT have the same name"),
+            (["plot", page], "usage: btx plot PAGE DRAWING"), (["plot", page, page], "PAGE and DRAWING have the same name"),
             (["gen", "4294967296"], "4294967296 is no number"), (["load", "00000000001"], "usage: btx load NUMBER"),
             (["flash", page, "601"], "601 is no number from 0 to 600"), (["flash", page], "usage: btx flash PAGE NUMBER"),
         ):
@@ -81,6 +83,12 @@ class Messages(stand.Case):
             done = self.ends(["edit", stand.page("title"), script], 3, said)
             self.assertEqual(done.stdout, stand.put("edit", stand.page("title"), script))
 
+    def test_a_line_of_a_drawing_is_named_with_its_reason(self):
+        for line, said in ((b"text A", "line 2: its first word is no word of drawings: text A"), (b"plot 80 0", "a number")):
+            drawing = self.written("drawing", b"plot 0 0\n" + line + b"\n")
+            done = self.ends(["plot", stand.page("title"), drawing], 3, said)
+            self.assertEqual(done.stdout, stand.put("plot", stand.page("title"), drawing))
+
     def test_files_that_cannot_be_read(self):
         self.ends(["show", "nowhere"], 4, "btx: show: nowhere: no such file\n", cwd=self.folder)
         self.ends(["show", self.folder], 4, "is a directory")
@@ -95,6 +103,7 @@ class Messages(stand.Case):
         page, script = self.written("page", b""), self.written("script", b"")
         os.truncate(script, 2**20 + 1)
         self.ends(["edit", stand.page("title"), script], 7, f"{script}: the script has more than 1,048,576 bytes")
+        self.ends(["plot", stand.page("title"), script], 7, f"{script}: the drawing has more than 1,048,576 bytes")
         os.truncate(script, 2**20)
         os.truncate(page, 2**24 + 1)
         self.ends(["edit", page, script], 7, f"{page}: the page has more than 16,777,216 bytes", env=self.stub(7))
@@ -135,7 +144,7 @@ class Messages(stand.Case):
         self.ends(["show", "x"], 127, "BTX_PROGRAM is nowhere", env={**environment, "BTX_PROGRAM": "nowhere"})
 
     def test_help_and_version(self):
-        for word in ("changes", "check", "show", "cells", "write", "trace", "edit", "gen", "load", "terminal", "html", "png"):
+        for word in ("changes", "check", "show", "cells", "write", "trace", "edit", "plot", "gen", "load", "terminal", "html", "png"):
             self.assertIn(f"usage: btx {word}".encode(), self.ends([word, "--help"], 0).stdout)
             self.assertIn(f"\n    {word} ".encode(), self.ends(["--help"], 0).stdout)
         self.assertRegex(self.ends(["--version"], 0).stdout.decode(), r"^btx \d+\.\d+\n$")

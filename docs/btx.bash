@@ -1,7 +1,7 @@
 # The completion of bash for btx: its words, the options of each, and files.
 _btx() {
     local word=${COMP_WORDS[COMP_CWORD]} before=${COMP_WORDS[COMP_CWORD-1]} options=
-    local words="terminal html viewer png archive changes check show cells write seven eight trace edit flash gen load"
+    local words="terminal html viewer png archive changes check show cells write seven eight trace edit plot flash gen load"
     COMPREPLY=()
     if [ "$COMP_CWORD" -eq 1 ]; then
         mapfile -t COMPREPLY < <(compgen -W "$words --help --version" -- "$word")

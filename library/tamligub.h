@@ -2,7 +2,8 @@
  * C library.
  *
  * A page is a stored page as bytes, as it came over the line. A script is a text of lines, each an edit of the page, such as
- * "at 1 2" or "text XY", or "undo" or "redo". cept_tool(1) has the words, the texts that they put, and the scripts. */
+ * "at 1 2" or "text XY", or "undo" or "redo". A drawing is a text of lines, each a figure, such as "line 0 0 79 71"; it is handed in as
+ * a script. cept_tool(1) has the words, the texts that they put, the scripts and the drawings. */
 #ifndef TAMLIGUB_H
 #define TAMLIGUB_H
 
@@ -17,7 +18,7 @@ extern "C" {
 enum {
     TAMLIGUB_NOTHING = 0,
     TAMLIGUB_PAGE = 1,            /* changes, check, show, cells, write, seven, eight */
-    TAMLIGUB_PAGE_AND_SCRIPT = 2, /* trace, edit */
+    TAMLIGUB_PAGE_AND_SCRIPT = 2, /* trace, edit; plot, whose script is a drawing */
     TAMLIGUB_NUMBER = 3,          /* gen, load */
     TAMLIGUB_PAGE_AND_NUMBER = 4  /* flash, whose number is 0 to 600 */
 };

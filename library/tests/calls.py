@@ -10,12 +10,14 @@ ROOT = os.path.dirname(os.path.dirname(os.path.dirname(os.path.abspath(__file__)
 SHARED = os.path.join(os.path.dirname(ROOT), "shared")
 
 OF_A_PAGE = ("changes", "check", "show", "cells", "write", "seven", "eight")
-OF_A_SCRIPT = ("trace", "edit")
+OF_A_SCRIPT = ("trace", "edit", "plot")
 OF_A_NUMBER = ("gen", "load")
 OF_A_PAGE_AND_A_NUMBER = ("flash",)
-# Scripts: none, edits, more undos and redos than there are edits, an edit that drops those undone, and lines that can't be read.
+# Scripts and drawings: none, edits, more undos and redos than there are edits, an edit that drops those undone, figures, and lines that
+# can't be read.
 SCRIPTS = (b"", b"at 1 2\ntext XY\nclear\n", b"at 1 2\ntext XY\nundo\nundo\nundo\n",
            b"at 1 2\ntext XY\nundo\nundo\nredo\nredo\nredo\n", b"at 2 2\ntext A\ntext B\nundo\ntext C\nredo\nundo\nredo\n",
+           b"plot 0 0\nline 0 71 79 0\nbox 2 2 40 30\nwipe 10 10 20 20\nunplot 2 2\n", b"plot 80 0\n",
            b"at 3 3\ntext A\nat 300 1\n", b"nonsense\n")
 NUMBERS = ("0", "1", "7", "65535", "4294967295")
 # Turns of flashing: none, each phase once, and more than there may be; and the most, of the shorter pages.

@@ -50,7 +50,7 @@ static Bytes read_file(const char *path)
 
 int main(int count, char **words)
 {
-    static const char *const with_script[] = {"trace", "edit", NULL};
+    static const char *const with_script[] = {"trace", "edit", "plot", NULL};
     static const char *const with_number[] = {"gen", "load", NULL};
     static const char *const with_page_and_number[] = {"flash", NULL};
     Bytes page = {claim(NULL, 1), 0}, script = {claim(NULL, 1), 0};

@@ -3,11 +3,13 @@ mod CellsInDrawing
 mod CommandsInTurn
 mod ControlInDrawing
 mod CountedWords
+mod DrawnCommands
 mod DrawnInTurn
 mod FieldDrawn
 mod FiguresInTurn
 mod FirstParts
 mod KeptLines
+pub mod Laws
 mod LineSet
 mod PaintedCells
 mod PaintedDrawing

@@ -41,7 +41,7 @@ rows_in_reach_of_all-append s [] second = omega arith
 rows_in_reach_of_all-append s (c ∷ first) second =
     omega (arith, rows_in_reach_of_all-append (state_after s c) first second)
 
-AllValid-append : (first second : List Command) → AllValid first → AllValid second → AllValid (first ++ second)
+pub AllValid-append : (first second : List Command) → AllValid first → AllValid second → AllValid (first ++ second)
 AllValid-append [] second former latter = latter
 AllValid-append (c ∷ first) second former latter = (former.0, AllValid-append first second former.1 latter)
 

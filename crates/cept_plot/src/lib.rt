@@ -7,6 +7,7 @@ mod cut;
 mod drawing;
 mod field;
 mod figure;
+mod law;
 mod line;
 mod paint;
 #[cfg(test)]
@@ -16,4 +17,5 @@ mod word;
 pub use drawing::{DrawFault, Drawing};
 pub use field::Field;
 pub use figure::{Figure, Point};
+pub use law::{a_set_of_points_is_drawn, the_points_of_the_field_decide};
 pub use paint::paint_field;

@@ -1,4 +1,4 @@
--- The events of edit lines: of one line more, and what they lead to.
+-- The events of edit lines, of one line more, and of a drawing, and what they lead to.
 use Rattle.std.proofs.Common.{◌≡◌, ℕ, ◌+◌, Bool, true, false, cond, List, [], ◌∷◌, ◌++◌, length, map, take}
 use Rattle.std.proofs.Common.{refl, sym, ap, ◌∙◌, subst, append_assoc, append-nil, length-append, arith}
 use Rattle.std.proofs.lemmas.List.{map-append, take_all}
@@ -16,6 +16,7 @@ use Rattle.cept_editor.specs.Stepping.{event_from, nothing_event, edit_events, l
 use Rattle.cept_editor.proofs.Laws.{kept-none, kept-more, remaining-none}
 use Rattle.cept_run.specs.declared.words.Asked.{Asked}
 use Rattle.cept_run.specs.Events.{history, item_events, events_of_line, kept_of, script_events, edited_events}
+use Rattle.cept_run.specs.Events.{Sequel, Edits, Figures, nothing_more, drawing_commands, sequel_events, remaining_after}
 use Rattle.cept_run.proofs.PaintedItems.{AreChained, chained-append, item_events-chained}
 
 -- ---- kept edits
@@ -101,19 +102,11 @@ pub script_events-none : (listed : Bool) (page : List Command) → script_events
 unfolding script_events
 script_events-none listed page = refl
 
-pub edited_events-none : (asked : Asked) (items : List Item) → edited_events asked items [] ≡ item_events asked items
+pub edited_events-none : (asked : Asked) (items : List Item)
+    → edited_events asked items nothing_more ≡ item_events asked items
 edited_events-none asked items =
     ap (λ (es : List Event). item_events asked items ++ es) (script_events-none asked.edits_listed (history asked items))
     ∙ append-nil (item_events asked items)
-
-pub edited_events-more : (asked : Asked) (items : List Item) (lines : List EditLine) (line : EditLine)
-    → edited_events asked items (lines ++ line ∷ [])
-    ≡ edited_events asked items lines ++ events_of_line asked.edits_listed (history asked items) lines line
-edited_events-more asked items lines line =
-    ap (λ (es : List Event). item_events asked items ++ es)
-    (script_events-more asked.edits_listed (history asked items) lines line)
-    ∙ sym (append_assoc (item_events asked items) (script_events asked.edits_listed (history asked items) lines)
-    (events_of_line asked.edits_listed (history asked items) lines line))
 
 -- ---- what they lead to
 
@@ -205,10 +198,15 @@ script_events-chained listed page lines =
     (subst (λ (es : List Event). AreChained (remaining page (kept_of [])) es (remaining page (kept_of lines)))
     (sym (script_events-after listed page lines)) (lines_chained listed page [] lines))
 
--- the events of a page and of edit lines lead to what remains
-pub edited_events-chained : (asked : Asked) (items : List Item) (lines : List EditLine)
-    → AreChained [] (edited_events asked items lines) (remaining (history asked items) (kept_of lines))
-edited_events-chained asked items lines =
-    chained-append [] (history asked items) (remaining (history asked items) (kept_of lines))
-    (item_events asked items) (script_events asked.edits_listed (history asked items) lines)
-    (item_events-chained asked items) (script_events-chained asked.edits_listed (history asked items) lines)
+sequel_events-chained : (listed : Bool) (page : List Command) (sequel : Sequel)
+    → AreChained page (sequel_events listed page sequel) (remaining_after page sequel)
+sequel_events-chained listed page (Edits lines) = script_events-chained listed page lines
+sequel_events-chained listed page (Figures figures) = edit_chained false 0 page (drawing_commands page figures)
+
+-- the events of a page and of what is done after it lead to what remains
+pub edited_events-chained : (asked : Asked) (items : List Item) (sequel : Sequel)
+    → AreChained [] (edited_events asked items sequel) (remaining_after (history asked items) sequel)
+edited_events-chained asked items sequel =
+    chained-append [] (history asked items) (remaining_after (history asked items) sequel)
+    (item_events asked items) (sequel_events asked.edits_listed (history asked items) sequel)
+    (item_events-chained asked items) (sequel_events-chained asked.edits_listed (history asked items) sequel)

@@ -1,21 +1,27 @@
--- What stands after a page and the edits of a script, if one was asked for.
-use Rattle.std.proofs.Common.{◌≡◌, Bool, true, false, cond, List, []}
+-- What stands after a page and the edits of a script or a drawing, if one was asked for.
+use Rattle.std.proofs.Common.{◌≡◌, ℕ, Bool, true, false, cond, List, []}
 use Rattle.std.proofs.Common.{Option, Some, None, Result, Ok, Err, refl, sym, ◌∙◌, ap, subst}
 use Rattle.cept_codes.specs.declared.command.Command.{Command}
 use Rattle.cept_codes.specs.declared.item.Item.{Item}
 use Rattle.cept_editor.specs.Events.{Event}
 use Rattle.cept_editor.specs.Kept.{none_kept, remaining, EditorState, StandsAfter}
-use Rattle.cept_editor.specs.Made.{Output, AreMade, AreCutOff}
+use Rattle.cept_editor.specs.Made.{Output, output_of, AreMade, AreCutOff}
 use Rattle.cept_editor.specs.Script.{EditLine}
 use Rattle.cept_editor.proofs.Laws.{AreMade-append, AreCutOff-after, remaining-none, StandsAfter-start}
+use Rattle.cept_outside.specs.SinkState.{SinkState, Gains}
+use Rattle.cept_outside.proofs.Laws.{Gains-nil}
+use Rattle.cept_plot.specs.declared.figure.Figure.{Figure}
 use Rattle.cept_profile.specs.State.{State, state}
 use Rattle.cept_profile.specs.Valid.{AllValid}
 use Rattle.cept_run.specs.declared.easel.Easel.TheVariants as easels
-use Rattle.cept_run.specs.Events.{history, item_events, script_events, edited_events, kept_of}
-use Rattle.cept_run.specs.Reporting.{Plan, lines_if_any, lines_of, ReporterState, painted_easel, easel_at, screen_of}
-use Rattle.cept_run.specs.Reporting.{HasReported, HasMadeLines, MakesLines, remaining_at_end, HasEdited, EditsOn}
+use Rattle.cept_repaint.specs.GlassState.{GlassState}
+use Rattle.cept_run.specs.Events.{history, item_events, script_events, edited_events}
+use Rattle.cept_run.specs.Events.{Sequel, Edits, Figures, nothing_more, sequel_events, remaining_after}
+use Rattle.cept_run.specs.Reporting.{Plan, sequel_if_any, sequel_of, ReporterState, painted_easel, easel_at, screen_of}
+use Rattle.cept_run.specs.Reporting.{HasReported, HasMadeLines, MakesLines, remaining_at_end, HasEdited, EditsOn, HasDrawn, Draws}
 use Rattle.cept_run.proofs.EditedLines.{edited_events-none, kept_of-none}
-use Rattle.cept_run.proofs.ReportedItems.{screen_painted, editor_painted, not_idle}
+use Rattle.cept_run.proofs.ReportedItems.{screen_painted, editor_painted, drawing_painted, not_idle}
+use Rattle.cept_run.proofs.SilentEvents.{silent_drawing}
 
 -- ---- what is asked for, by what commands are applied to
 
@@ -27,35 +33,50 @@ module _ (plan : Plan) (h : List Command) where
       by_flag true f = absurd (not_idle plan.script h f)
       by_flag false f = refl
 
-  unasked : easels.Nothing ≡ easel_at plan h → lines_of plan ≡ []
-  unasked e = ap (λ b. cond b (lines_if_any plan.script) []) (nothing_asked e)
+  unasked : easels.Nothing ≡ easel_at plan h → sequel_of plan ≡ nothing_more
+  unasked e = ap (λ b. cond b (sequel_if_any plan.script) nothing_more) (nothing_asked e)
 
-  alone : (screen : State) → easels.Screen screen ≡ easel_at plan h → lines_of plan ≡ []
+  alone : (screen : State) → easels.Screen screen ≡ easel_at plan h → sequel_of plan ≡ nothing_more
   alone screen e = by_flag plan.asked.painting e
     where
       by_flag : (b : Bool) → easels.Screen screen ≡ cond b (painted_easel plan.script h) easels.Nothing
-          → cond b (lines_if_any plan.script) [] ≡ []
-      by_flag true f = ap lines_if_any (screen_painted plan.script screen h f).0
+          → cond b (sequel_if_any plan.script) nothing_more ≡ nothing_more
+      by_flag true f = ap sequel_if_any (screen_painted plan.script screen h f).0
       by_flag false f = refl
 
   with_editor : (editor : EditorState) (lines : List EditLine) → easels.Editor editor lines ≡ easel_at plan h
-      → (plan.asked.painting ≡ true) × (lines_of plan ≡ lines) × (editor ≡ record { screen = state h; past = []; future = [] })
+      → (plan.asked.painting ≡ true) × (sequel_of plan ≡ Edits lines)
+      × (editor ≡ record { screen = state h; past = []; future = [] })
   with_editor editor lines e = by_flag plan.asked.painting refl e
     where
       by_flag : (b : Bool) → plan.asked.painting ≡ b
           → easels.Editor editor lines ≡ cond b (painted_easel plan.script h) easels.Nothing
-          → (plan.asked.painting ≡ true) × (lines_of plan ≡ lines) × (editor ≡ record { screen = state h; past = []; future = [] })
+          → (plan.asked.painting ≡ true) × (sequel_of plan ≡ Edits lines)
+          × (editor ≡ record { screen = state h; past = []; future = [] })
       by_flag true is f =
           let there = editor_painted plan.script editor lines h f in
-          (is, ap (λ c. cond c (lines_if_any plan.script) []) is ∙ ap lines_if_any there.0, there.1)
+          (is, ap (λ c. cond c (sequel_if_any plan.script) nothing_more) is ∙ ap sequel_if_any there.0, there.1)
+      by_flag false is f = cc
+
+  with_drawing : (screen : State) (figures : List Figure) → easels.Drawing screen figures ≡ easel_at plan h
+      → (plan.asked.painting ≡ true) × (sequel_of plan ≡ Figures figures) × (screen ≡ state h)
+  with_drawing screen figures e = by_flag plan.asked.painting refl e
+    where
+      by_flag : (b : Bool) → plan.asked.painting ≡ b
+          → easels.Drawing screen figures ≡ cond b (painted_easel plan.script h) easels.Nothing
+          → (plan.asked.painting ≡ true) × (sequel_of plan ≡ Figures figures) × (screen ≡ state h)
+      by_flag true is f =
+          let there = drawing_painted plan.script screen figures h f in
+          (is, ap (λ c. cond c (sequel_if_any plan.script) nothing_more) is ∙ ap sequel_if_any there.0, there.1)
       by_flag false is f = cc
 
   screen_there : screen_of (easel_at plan h) ≡ cond plan.asked.painting (Some (state h)) None
   screen_there = by_flag plan.asked.painting
     where
-      on_painted : (script : Option (List EditLine)) → screen_of (painted_easel script h) ≡ Some (state h)
+      on_painted : (script : Option Sequel) → screen_of (painted_easel script h) ≡ Some (state h)
       on_painted None = refl
-      on_painted (Some lines) = refl
+      on_painted (Some (Edits lines)) = refl
+      on_painted (Some (Figures figures)) = refl
 
       by_flag : (b : Bool) → screen_of (cond b (painted_easel plan.script h) easels.Nothing) ≡ cond b (Some (state h)) None
       by_flag true = on_painted plan.script
@@ -64,11 +85,12 @@ module _ (plan : Plan) (h : List Command) where
 -- ---- no edits are made
 
 pub unedited : (plan : Plan) (reporter : ReporterState) (reported : List Item) (start now : Output)
-    → lines_of plan ≡ [] → HasReported plan reporter reported start now → HasEdited plan reporter reported start now
+    → sequel_of plan ≡ nothing_more → HasReported plan reporter reported start now
+    → HasEdited plan reporter reported start now
 unedited plan reporter reported start now none has =
     let h = history plan.asked reported in
     let same : h ≡ remaining_at_end plan reported =
-    sym (ap (λ l. remaining h (kept_of l)) none ∙ ap (remaining h) kept_of-none ∙ remaining-none h) in
+    sym (ap (remaining_after h) none ∙ ap (remaining h) kept_of-none ∙ remaining-none h) in
     record {
       stands = record {
         asked_is = has.stands.asked_is;
@@ -121,7 +143,8 @@ module _ (old : ReporterState) (editor new : EditorState) (lines : List EditLine
   abbrev page : List Command
   page = history plan.asked reported
 
-  abbrev there : (plan.asked.painting ≡ true) × (lines_of plan ≡ lines) × (editor ≡ record { screen = state page; past = []; future = [] })
+  abbrev there : (plan.asked.painting ≡ true) × (sequel_of plan ≡ Edits lines)
+      × (editor ≡ record { screen = state page; past = []; future = [] })
   there = with_editor plan page editor lines (sym at ∙ has.stands.easel)
 
   flag_is : old.asked.edits_listed ≡ plan.asked.edits_listed
@@ -134,32 +157,32 @@ module _ (old : ReporterState) (editor new : EditorState) (lines : List EditLine
   all_made : HasMadeLines old.asked.edits_listed page lines new before after
       → HasEdited plan (with_editor_after old new lines) reported start after
   all_made made =
-      let is : lines ≡ lines_of plan = sym there.1 in
-      let end : AreMade (script_events plan.asked.edits_listed page (lines_of plan)) before after =
-      subst (λ (l : List EditLine). AreMade (script_events plan.asked.edits_listed page l) before after) is
+      let is : Edits lines ≡ sequel_of plan = sym there.1 in
+      let end : AreMade (sequel_events plan.asked.edits_listed page (sequel_of plan)) before after =
+      subst (λ (s : Sequel). AreMade (sequel_events plan.asked.edits_listed page s) before after) is
       (subst (λ b. AreMade (script_events b page lines) before after) flag_is made.made) in
-      let stands = subst (λ (l : List EditLine). StandsAfter new page (kept_of l)) is made.stands in
       record {
         stands = record {
           asked_is = has.stands.asked_is;
-          screen = ap (λ (e : EditorState). Some e.screen) stands.is
+          screen = ap (λ (e : EditorState). Some e.screen) made.stands.is
+              ∙ ap (λ (s : Sequel). Some (state (remaining_after page s))) is
               ∙ ap (λ b. cond b (Some (state (remaining_at_end plan reported))) None) (sym there.0);
           items = has.stands.items;
           refused = has.stands.refused;
           painted = has.stands.painted;
         };
-        valid = stands.valid;
+        valid = subst (λ (s : Sequel). AllValid (remaining_after page s)) is made.stands.valid;
         made = AreMade-append (item_events plan.asked reported)
-            (script_events plan.asked.edits_listed page (lines_of plan)) start before after has.made end;
+            (sequel_events plan.asked.edits_listed page (sequel_of plan)) start before after has.made end;
         stays = made.stays ∙ has.stays;
       }
 
   one_cut : AreCutOff (script_events old.asked.edits_listed page lines) before after
-      → AreCutOff (edited_events plan.asked reported (lines_of plan)) start after
+      → AreCutOff (edited_events plan.asked reported (sequel_of plan)) start after
   one_cut off =
-      AreCutOff-after (item_events plan.asked reported) (script_events plan.asked.edits_listed page (lines_of plan)) start
+      AreCutOff-after (item_events plan.asked reported) (sequel_events plan.asked.edits_listed page (sequel_of plan)) start
       before after has.made has.stays
-      (subst (λ (l : List EditLine). AreCutOff (script_events plan.asked.edits_listed page l) before after) (sym there.1)
+      (subst (λ (s : Sequel). AreCutOff (sequel_events plan.asked.edits_listed page s) before after) (sym there.1)
       (subst (λ b. AreCutOff (script_events b page lines) before after) flag_is off))
 
 pub edits_made : {X E : Type 0} (old : ReporterState) (editor new : EditorState) (lines : List EditLine)
@@ -178,3 +201,56 @@ edits_made old editor new lines before after (Err f) at makes = record {
   cut = λ plan reported start has. one_cut old editor new lines before after at plan reported start has
       (makes.cut (history plan.asked reported) (stands_alone old editor new lines before after at plan reported start has));
 }
+
+-- ---- a drawing is drawn
+
+-- the reporter, with the screen after it
+abbrev pub with_drawing_after : ReporterState → State → List Figure → ReporterState
+with_drawing_after old screen figures = record {
+  asked = old.asked;
+  easel = easels.Drawing screen figures;
+  items = old.items;
+  refused = old.refused;
+  painted = old.painted;
+}
+
+pub drawing_made : {X E : Type 0} {x : X} (old : ReporterState) (screen new : State) (figures : List Figure)
+    (sink : SinkState) (before after : GlassState) → old.easel ≡ easels.Drawing screen figures
+    → Draws figures screen before new after
+    → EditsOn {E = E} old (output_of sink before) (Ok x) (with_drawing_after old new figures) (output_of sink after)
+drawing_made old screen new figures sink before after at draws = record {
+  counted = refl;
+  edited = drawn_after;
+  cut = tt;
+}
+  where
+    drawn_after : (plan : Plan) (reported : List Item) (start : Output)
+        → HasReported plan old reported start (output_of sink before)
+        → HasEdited plan (with_drawing_after old new figures) reported start (output_of sink after)
+    drawn_after plan reported start has =
+        let page = history plan.asked reported in
+        let there = with_drawing plan page screen figures (sym at ∙ has.stands.easel) in
+        let drawn : HasDrawn page figures before new after = draws page has.stands.valid there.2 in
+        let is : Figures figures ≡ sequel_of plan = sym there.1 in
+        let listed = plan.asked.edits_listed in
+        let own : AreMade (sequel_events listed page (Figures figures)) (output_of sink before) (output_of sink after) =
+        record {
+          put = subst (λ (t : List ℕ). Gains sink t sink) (sym (silent_drawing listed page figures)) (Gains-nil sink);
+          painted = drawn.painted;
+        } in
+        record {
+          stands = record {
+            asked_is = has.stands.asked_is;
+            screen = ap (λ (s : State). Some s) drawn.is ∙ ap (λ (s : Sequel). Some (state (remaining_after page s))) is
+                ∙ ap (λ b. cond b (Some (state (remaining_at_end plan reported))) None) (sym there.0);
+            items = has.stands.items;
+            refused = has.stands.refused;
+            painted = has.stands.painted;
+          };
+          valid = subst (λ (s : Sequel). AllValid (remaining_after page s)) is drawn.valid;
+          made = AreMade-append (item_events plan.asked reported) (sequel_events listed page (sequel_of plan)) start
+              (output_of sink before) (output_of sink after) has.made
+              (subst (λ (s : Sequel). AreMade (sequel_events listed page s) (output_of sink before) (output_of sink after))
+              is own);
+          stays = has.stays;
+        }

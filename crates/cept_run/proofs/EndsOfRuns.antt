@@ -6,9 +6,8 @@ use Rattle.std.proofs.lemmas.Option.{none-some, same_Some}
 use Rattle.cept_codes.specs.declared.command.Command.{Command}
 use Rattle.cept_codes.specs.declared.item.Item.{Item}
 use Rattle.cept_editor.specs.Events.{Event}
-use Rattle.cept_editor.specs.Kept.{remaining}
 use Rattle.cept_editor.specs.Made.{AreStill, output_of, AreMade, AreCutOff}
-use Rattle.cept_editor.specs.Script.{EditLine, Fault, edits, first_fault}
+use Rattle.cept_editor.specs.Script.{Fault}
 use Rattle.cept_editor.proofs.Laws.{AreCutOff-longer, cut_untouched}
 use Rattle.cept_outside.specs.Causes.{Rose, HasCause}
 use Rattle.cept_outside.specs.ShelfState.{ShelfState, Holds, Selects, IsSound}
@@ -22,12 +21,13 @@ use Rattle.cept_run.specs.declared.page.Stop.TheVariants as stops
 use Rattle.cept_run.specs.declared.run.Status.{Status}
 use Rattle.cept_run.specs.declared.run.Status.TheVariants as statuses
 use Rattle.cept_run.specs.declared.words.Asked.{Asked}
-use Rattle.cept_run.specs.Course.{Course, Source, File, Gives, HasBytes, IsNamed, SelectsNoOther, reporting}
-use Rattle.cept_run.specs.Events.{history, item_events, text_at_end, edited_events, script_events}
-use Rattle.cept_run.specs.Events.{kept_of, has_refusal}
+use Rattle.cept_run.specs.Course.{Course, Source, File, Gives, HasBytes, IsNamed, SelectsNoOther, Grammar}
+use Rattle.cept_run.specs.Course.{first_fault_in, sequel_in, reporting}
+use Rattle.cept_run.specs.Events.{history, item_events, text_at_end, edited_events, sequel_events, Sequel, nothing_more}
+use Rattle.cept_run.specs.Events.{remaining_after, has_refusal}
 use Rattle.cept_run.specs.Outside.{Outside, outside_of, output, PutsWhole}
 use Rattle.cept_run.specs.Page.{PageUnput, PageStops, PutsEnd, KeepsShelf}
-use Rattle.cept_run.specs.Reporting.{Plan, lines_if_any, lines_of, remaining_at_end}
+use Rattle.cept_run.specs.Reporting.{Plan, sequel_if_any, sequel_of, remaining_at_end}
 use Rattle.cept_run.specs.Run.{is_flushed, Restores, EndsWhole, IsReportCut, HasStopper, Ends}
 use Rattle.cept_run.specs.Run.{RunsCourse, status_of, status_at_end}
 use Rattle.cept_run.specs.ScriptReading.{ScriptKnown}
@@ -44,13 +44,13 @@ use Rattle.cept_run.proofs.StoppedScripts.{selected_so_long, name_in}
 
 -- ---- the script was read
 
-module _ (plan : Plan) (name : List ℕ) (script : Source) (told : List ℕ) (before : Outside) (ready : ShelfState)
-    (known : ScriptKnown name script told before.shelf ready) where
+module _ (plan : Plan) (grammar : Grammar) (name : List ℕ) (script : Source) (told : List ℕ) (before : Outside)
+    (ready : ShelfState) (known : ScriptKnown grammar name script told before.shelf ready) where
   abbrev asked : Asked
   asked = plan.asked
 
   abbrev course : Course
-  course = reporting asked (File name) script
+  course = reporting asked grammar (File name) script
 
   -- the bytes of the script, where the shelf tells them
   told_are : (other bytes : List ℕ) → script ≡ File other → Gives before.shelf other bytes → told ≡ bytes
@@ -58,9 +58,9 @@ module _ (plan : Plan) (name : List ℕ) (script : Source) (told : List ℕ) (be
 
   -- no line of it is outside the grammar
   no_fault : (other bytes : List ℕ) (fault : Fault) → script ≡ File other → Gives before.shelf other bytes
-      → first_fault bytes ≡ Some fault → ⊥
+      → first_fault_in grammar bytes ≡ Some fault → ⊥
   no_fault other bytes fault named given found =
-      none-some fault (sym known.good ∙ ap first_fault (told_are other bytes named given) ∙ found)
+      none-some fault (sym known.good ∙ ap (first_fault_in grammar) (told_are other bytes named given) ∙ found)
 
   -- so it doesn't stop the run
   no_stopper : HasStopper course before.shelf → ⊥
@@ -69,10 +69,10 @@ module _ (plan : Plan) (name : List ℕ) (script : Source) (told : List ℕ) (be
       same : told ≡ stopper.script
       same = told_are stopper.name stopper.script stopper.named (inl stopper.holds)
 
-      by_stop : (2 ^ 20 < length stopper.script) ⊎ IsSome (first_fault stopper.script) → ⊥
+      by_stop : (2 ^ 20 < length stopper.script) ⊎ IsSome (first_fault_in grammar stopper.script) → ⊥
       by_stop (inl long) = absurd (omega (arith, long, known.few, ap length same))
       by_stop (inr some) =
-          let no : false ≡ true = subst IsSome (ap first_fault (sym same) ∙ known.good) some in
+          let no : false ≡ true = subst IsSome (ap (first_fault_in grammar) (sym same) ∙ known.good) some in
           cc
 
   -- ---- the page couldn't be selected
@@ -89,7 +89,7 @@ module _ (plan : Plan) (name : List ℕ) (script : Source) (told : List ℕ) (be
       counted = inl (selects.taken, λ chosen is. inl (selects.failed.chosen chosen is));
       front_is = λ page holds is. ap (λ k. take k page) (sym selects.taken);
       readable = refl;
-      reports = reports_nothing asked (File name) script before (outside_of shelf before.sink before.glass) refl;
+      reports = reports_nothing asked grammar (File name) script before (outside_of shelf before.sink before.glass) refl;
       unended = selects.ended;
       early = λ chosen is other. (refl, refl);
       not_too_long = omega (arith, selects.taken);
@@ -178,12 +178,12 @@ module _ (plan : Plan) (name : List ℕ) (script : Source) (told : List ℕ) (be
     -- the events of some items are cut off of those of the whole run
     cut_in_run : (page : List ℕ) (front others : List Item) → closed_items page ≡ front ++ others
         → AreCutOff (item_events asked front) (output before) (output after)
-        → AreCutOff (the_run asked page told after.glass.grid) (output before) (output after)
+        → AreCutOff (the_run asked grammar page told after.glass.grid) (output before) (output after)
     cut_in_run page front others is off =
-        let end = the_end asked page told after.glass.grid ∷ [] in
-        let script_part = script_events asked.edits_listed (history asked (closed_items page)) (edits told) in
+        let end = the_end asked grammar page told after.glass.grid ∷ [] in
+        let script_part = sequel_events asked.edits_listed (history asked (closed_items page)) (sequel_in grammar told) in
         AreCutOff-longer (item_events asked front) (events_after asked front others ++ (script_part ++ end))
-        (the_run asked page told after.glass.grid) (output before) (output after)
+        (the_run asked grammar page told after.glass.grid) (output before) (output after)
         (append_assoc (item_events asked (closed_items page)) script_part end
         ∙ ap (λ (l : List Item). item_events asked l ++ (script_part ++ end)) is
         ∙ ap (λ (es : List Event). es ++ (script_part ++ end)) (item_events-append asked front others)
@@ -246,8 +246,8 @@ module _ (plan : Plan) (name : List ℕ) (script : Source) (told : List ℕ) (be
     -- of a page that was read to its end
     whole_cut : (bytes : List ℕ) → ((page : List ℕ) → mid.left ≡ Some page → bytes ≡ page)
         → (after.shelf.taken ≡ length bytes) × (after.shelf.ended ≡ true) × (length bytes ≤ 2 ^ 24)
-        → AreCutOff (the_run asked bytes told after.glass.grid) (output before) (output after)
-        ⊎ AreMade (the_run asked bytes told after.glass.grid) (output before) (output after)
+        → AreCutOff (the_run asked grammar bytes told after.glass.grid) (output before) (output after)
+        ⊎ AreMade (the_run asked grammar bytes told after.glass.grid) (output before) (output after)
         → IsReportCut course before after
     whole_cut bytes read taken cut = record {
       page = bytes;
@@ -272,7 +272,7 @@ module _ (plan : Plan) (name : List ℕ) (script : Source) (told : List ℕ) (be
       counted = inl (ends.taken, page_or_none);
       front_is = λ page holds is. ends.known page (left_of_held page holds);
       readable = refl;
-      reports = reports_front asked (File name) script ends.bytes before after ends.made;
+      reports = reports_front asked grammar (File name) script ends.bytes before after ends.made;
       unended = ends.unended;
       early = λ chosen is other.
           let none = nothing_selected chosen name (page_or_none chosen is) other in
@@ -300,7 +300,7 @@ module _ (plan : Plan) (name : List ℕ) (script : Source) (told : List ℕ) (be
         counted = ends.count;
         front_is = λ page given. (ends.known page (left_of_given page given)).1;
         readable = refl;
-        reports = reports_front asked (File name) script ends.bytes before after ends.made;
+        reports = reports_front asked grammar (File name) script ends.bytes before after ends.made;
       });
       shelf_stays = ends.shelf_stays ∙ same_faults;
       sink_stays = ends.sink_stays;
@@ -313,53 +313,53 @@ module _ (plan : Plan) (name : List ℕ) (script : Source) (told : List ℕ) (be
 
     module _ (bytes : List ℕ) (read : (page : List ℕ) → mid.left ≡ Some page → bytes ≡ page)
         (taken : (after.shelf.taken ≡ length bytes) × (after.shelf.ended ≡ true)) (stays : after.shelf.faults ≡ mid.faults)
-        (few : length bytes ≤ 2 ^ 24) (lines_are : lines_of plan ≡ edits told) where
+        (few : length bytes ≤ 2 ^ 24) (lines_are : sequel_of plan ≡ sequel_in grammar told) where
       abbrev shown_run : List Event
-      shown_run = the_run asked bytes told after.glass.grid
+      shown_run = the_run asked grammar bytes told after.glass.grid
 
       page_is : HasBytes before.shelf (File name) bytes
       page_is given gives = read given (left_of_given given gives)
 
-      unscripted : asked.painting ≡ false → lines_of plan ≡ []
-      unscripted idle = ap (λ b. cond b (lines_if_any plan.script) []) idle
+      unscripted : asked.painting ≡ false → sequel_of plan ≡ nothing_more
+      unscripted idle = ap (λ b. cond b (sequel_if_any plan.script) nothing_more) idle
 
       -- without painting nothing is changed
-      still_edited : asked.painting ≡ false → AreStill (edited asked bytes told)
+      still_edited : asked.painting ≡ false → AreStill (edited asked grammar bytes told)
       still_edited idle =
-          subst (λ (l : List EditLine). AreStill (edited_events asked (closed_items bytes) l)) lines_are
-          (subst (λ (l : List EditLine). AreStill (edited_events asked (closed_items bytes) l)) (sym (unscripted idle))
+          subst (λ (s : Sequel). AreStill (edited_events asked (closed_items bytes) s)) lines_are
+          (subst (λ (s : Sequel). AreStill (edited_events asked (closed_items bytes) s)) (sym (unscripted idle))
           (subst AreStill (sym (edited_events-none asked (closed_items bytes))) (still_idle asked (closed_items bytes) idle)))
 
       -- the sink failed at an edit line
       pub ends_unedited : (stop : Stop) → stop ≡ stops.WriteFault
-          → AreCutOff (edited_events asked (closed_items bytes) (lines_of plan)) (output before) (output after)
+          → AreCutOff (edited_events asked (closed_items bytes) (sequel_of plan)) (output before) (output after)
           → RunsCourse course before after (status_of stop)
       ends_unedited stop is cut =
-          let off = subst (λ (l : List EditLine). AreCutOff (edited_events asked (closed_items bytes) l) (output before)
+          let off = subst (λ (s : Sequel). AreCutOff (edited_events asked (closed_items bytes) s) (output before)
           (output after)) lines_are cut in
           subst (λ (s : Stop). RunsCourse course before after (status_of s)) (sym is)
           (runs_course statuses.WriteFault (record {
             write_fault = off.cause;
-            cut = inl (whole_cut bytes read (taken.0, taken.1, few) (inl (AreCutOff-longer (edited asked bytes told)
-                (the_end asked bytes told after.glass.grid ∷ []) shown_run (output before) (output after) refl off)));
+            cut = inl (whole_cut bytes read (taken.0, taken.1, few) (inl (AreCutOff-longer (edited asked grammar bytes told)
+                (the_end asked grammar bytes told after.glass.grid ∷ []) shown_run (output before) (output after) refl off)));
             shelf_stays = stays ∙ same_faults;
-          }) (λ idle. cut_untouched (edited asked bytes told) (output before) (output after) (still_edited idle) off)
-          (λ early. put_cut (edited asked bytes told) (output before) (output after) off) off.later)
+          }) (λ idle. cut_untouched (edited asked grammar bytes told) (output before) (output after) (still_edited idle) off)
+          (λ early. put_cut (edited asked grammar bytes told) (output before) (output after) off) off.later)
 
       module _ (sink : SinkState)
-          (made_all : AreMade (edited_events asked (closed_items bytes) (lines_of plan)) (output before)
+          (made_all : AreMade (edited_events asked (closed_items bytes) (sequel_of plan)) (output before)
           (output_of sink after.glass)) (sink_stays : sink.faults ≡ before.sink.faults)
           (restores : Restores (page_text (core (remaining_at_end plan (closed_items bytes))))
           (remaining_at_end plan (closed_items bytes))) where
-        all_is : remaining_at_end plan (closed_items bytes) ≡ all asked bytes told
-        all_is = ap (λ l. remaining (history asked (closed_items bytes)) (kept_of l)) lines_are
+        all_is : remaining_at_end plan (closed_items bytes) ≡ all asked grammar bytes told
+        all_is = ap (remaining_after (history asked (closed_items bytes))) lines_are
 
-        made : AreMade (edited asked bytes told) (output before) (output_of sink after.glass)
-        made = subst (λ (l : List EditLine). AreMade (edited_events asked (closed_items bytes) l) (output before)
+        made : AreMade (edited asked grammar bytes told) (output before) (output_of sink after.glass)
+        made = subst (λ (s : Sequel). AreMade (edited_events asked (closed_items bytes) s) (output before)
             (output_of sink after.glass)) lines_are made_all
 
         abbrev end_put : List ℕ
-        end_put = text_at_end asked after.glass.grid bytes (all asked bytes told)
+        end_put = text_at_end asked after.glass.grid bytes (all asked grammar bytes told)
 
         idle_run : asked.painting ≡ false → after.glass ≡ before.glass
         idle_run idle = made.painted.untouched (still_edited idle)
@@ -371,7 +371,7 @@ module _ (plan : Plan) (name : List ℕ) (script : Source) (told : List ℕ) (be
           page_is = page_is;
           script = told;
           script_is = known.has;
-          reports = whole_report asked bytes told before after sink made sink_stays (File name) script
+          reports = whole_report asked grammar bytes told before after sink made sink_stays (File name) script
               (subst (λ (h : List Command). Restores (page_text (core h)) h) all_is restores) puts;
           refusals = is;
           readable = refl;
@@ -396,10 +396,10 @@ module _ (plan : Plan) (name : List ℕ) (script : Source) (told : List ℕ) (be
             subst (λ (s : Stop). RunsCourse course before after (status_of s)) (sym puts.1)
             (runs_course statuses.WriteFault (record {
               write_fault = subst (λ n. Rose n after.sink.faults) sink_stays puts.0.cause;
-              cut = inl (whole_cut bytes read (taken.0, taken.1, few) (cut_at_end asked bytes told before after sink made sink_stays puts.0));
+              cut = inl (whole_cut bytes read (taken.0, taken.1, few) (cut_at_end asked grammar bytes told before after sink made sink_stays puts.0));
               shelf_stays = stays ∙ same_faults;
             }) idle_run
-            (λ early. put_to_end asked bytes told before after sink made sink_stays puts.0)
+            (λ early. put_to_end asked grammar bytes told before after sink made sink_stays puts.0)
             (omega (arith, puts.0.later, sink_stays)))
 
         pub ends_put : (result : Result Bool Stop)

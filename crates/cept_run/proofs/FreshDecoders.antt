@@ -3,25 +3,29 @@ use Rattle.std.proofs.Common.{◌≡◌, Bool, true, false, cond, List, [], Opti
 use Rattle.cept_editor.specs.Kept.{EditorState}
 use Rattle.cept_editor.specs.Made.{Output}
 use Rattle.cept_editor.specs.Script.{EditLine}
-use Rattle.cept_profile.specs.State.{state}
+use Rattle.cept_plot.specs.declared.figure.Figure.{Figure}
+use Rattle.cept_profile.specs.State.{State, state}
 use Rattle.cept_run.specs.declared.easel.Easel.{Easel}
 use Rattle.cept_run.specs.declared.easel.Easel.TheVariants as easels
 use Rattle.cept_run.specs.declared.words.Asked.{Asked}
+use Rattle.cept_run.specs.declared.words.PageAction.{PageAction}
+use Rattle.cept_run.specs.declared.words.PageAction.TheVariants as pages
 use Rattle.cept_run.specs.declared.words.ScriptAction.{ScriptAction}
 use Rattle.cept_run.specs.declared.words.ScriptAction.TheVariants as scripts
-use Rattle.cept_run.specs.Reporting.{Plan, lines_if_any, lines_of, ReporterState, painted_easel, easel_at, script_in, plan_in}
-use Rattle.cept_run.specs.Reporting.{DecoderState, HasRead}
-use Rattle.cept_run.specs.Words.{asked_of_script}
+use Rattle.cept_run.specs.Events.{Sequel, Edits, Figures, nothing_more}
+use Rattle.cept_run.specs.Reporting.{Plan, sequel_if_any, sequel_of, ReporterState, painted_easel, easel_at, script_in, plan_in}
+use Rattle.cept_run.specs.Reporting.{DecoderState, HasRead, HasBlink}
+use Rattle.cept_run.specs.Words.{asked_of_page, asked_of_script}
 
 -- without a script
 abbrev pub alone : Asked → Plan
 alone asked = record { asked = asked; script = None }
 
--- with one of these edit lines
-abbrev pub edited : Asked → List EditLine → Plan
-edited asked lines = record { asked = asked; script = Some lines }
+-- with one, or with a drawing, that says that this is done
+abbrev pub followed : Asked → Sequel → Plan
+followed asked sequel = record { asked = asked; script = Some sequel }
 
-plan_is : (r : ReporterState) (asked : Asked) (script : Option (List EditLine)) → r.asked ≡ asked
+plan_is : (r : ReporterState) (asked : Asked) (script : Option Sequel) → r.asked ≡ asked
     → script_in r.easel ≡ script → plan_in r ≡ record { asked = asked; script = script }
 plan_is r asked script p q = λ i. record { asked = p i; script = q i }
 
@@ -36,12 +40,20 @@ plan_alone r asked easel same at is =
     by_flag true = refl
     by_flag false = refl
 
-pub lines_alone : (asked : Asked) → lines_of (alone asked) ≡ []
-lines_alone asked = by_flag asked.painting
+pub nothing_alone : (asked : Asked) → sequel_of (alone asked) ≡ nothing_more
+nothing_alone asked = by_flag asked.painting
   where
-    by_flag : (b : Bool) → cond b (lines_if_any None) [] ≡ []
+    by_flag : (b : Bool) → cond b (sequel_if_any None) nothing_more ≡ nothing_more
     by_flag true = refl
     by_flag false = refl
+
+-- of a page alone nothing flashes
+pub page_blink : (action : PageAction) → HasBlink (asked_of_page action).end None
+page_blink pages.Changes = tt
+page_blink pages.Check = tt
+page_blink pages.Show = tt
+page_blink pages.Cells = tt
+page_blink pages.Write = tt
 
 -- ---- a page and a script
 
@@ -50,17 +62,29 @@ script_paints scripts.Trace = refl
 script_paints scripts.Edit = refl
 
 pub easel_edited : (asked : Asked) (editor : EditorState) (lines : List EditLine) → asked.painting ≡ true
-    → editor ≡ record { screen = state []; past = []; future = [] } → easels.Editor editor lines ≡ easel_at (edited asked lines) []
+    → editor ≡ record { screen = state []; past = []; future = [] }
+    → easels.Editor editor lines ≡ easel_at (followed asked (Edits lines)) []
 easel_edited asked editor lines painting is =
     ap (λ (e : EditorState). easels.Editor e lines) is
-    ∙ ap (λ b. cond b (painted_easel (Some lines) []) easels.Nothing) (sym painting)
+    ∙ ap (λ b. cond b (painted_easel (Some (Edits lines)) []) easels.Nothing) (sym painting)
 
-pub plan_edited : (r : ReporterState) (asked : Asked) (editor : EditorState) (lines : List EditLine) → r.asked ≡ asked
-    → r.easel ≡ easels.Editor editor lines → plan_in r ≡ edited asked lines
-plan_edited r asked editor lines same at = plan_is r asked (Some lines) same (ap script_in at)
+-- ---- a page and a drawing
 
-pub lines_edited : (asked : Asked) (lines : List EditLine) → asked.painting ≡ true → lines_of (edited asked lines) ≡ lines
-lines_edited asked lines painting = ap (λ b. cond b lines []) painting
+pub easel_drawn : (asked : Asked) (screen : State) (figures : List Figure) → asked.painting ≡ true → screen ≡ state []
+    → easels.Drawing screen figures ≡ easel_at (followed asked (Figures figures)) []
+easel_drawn asked screen figures painting is =
+    ap (λ (s : State). easels.Drawing s figures) is
+    ∙ ap (λ b. cond b (painted_easel (Some (Figures figures)) []) easels.Nothing) (sym painting)
+
+-- ---- a page and what is done after it
+
+pub plan_followed : (r : ReporterState) (asked : Asked) (easel : Easel) (sequel : Sequel) → r.asked ≡ asked
+    → r.easel ≡ easel → script_in easel ≡ Some sequel → plan_in r ≡ followed asked sequel
+plan_followed r asked easel sequel same at is = plan_is r asked (Some sequel) same (ap script_in at ∙ is)
+
+pub sequel_followed : (asked : Asked) (sequel : Sequel) → asked.painting ≡ true
+    → sequel_of (followed asked sequel) ≡ sequel
+sequel_followed asked sequel painting = ap (λ b. cond b sequel nothing_more) painting
 
 -- ---- by its own plan
 

@@ -7,6 +7,7 @@ pub mod PagesInPieces
 pub mod EditedLines
 pub mod ShownEvents
 pub mod SilentEvents
+pub mod DrawnPages
 pub mod MadeEdits
 pub mod EditedPages
 pub mod Selections

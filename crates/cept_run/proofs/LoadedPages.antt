@@ -4,9 +4,7 @@ use Rattle.std.proofs.Common.{◌∙◌, ap, subst, arith, length, ◌⊎◌, in
 use Rattle.std.specs.Io.KnownBytes.{append_known}
 use Rattle.cept_codes.specs.declared.command.Command.{Command}
 use Rattle.cept_editor.specs.Events.{Event, paints}
-use Rattle.cept_editor.specs.Kept.{remaining}
 use Rattle.cept_editor.specs.Made.{AreStill, ArePainted, output_of, AreMade, AreCutOff}
-use Rattle.cept_editor.specs.Script.{EditLine, edits}
 use Rattle.cept_editor.proofs.Laws.{AreCutOff-longer, cut_untouched, report-one, ArePainted-still, AreMade-none}
 use Rattle.cept_editor.proofs.Laws.{AreMade-end, AreCutOff-end}
 use Rattle.cept_outside.specs.Causes.{Rose}
@@ -22,18 +20,19 @@ use Rattle.cept_run.specs.declared.page.Stop.TheVariants as stops
 use Rattle.cept_run.specs.declared.run.Status.{Status}
 use Rattle.cept_run.specs.declared.run.Status.TheVariants as statuses
 use Rattle.cept_run.specs.declared.words.Asked.{Asked}
-use Rattle.cept_run.specs.Course.{Course, Given, reporting, putting, text_event}
-use Rattle.cept_run.specs.Events.{history, item_events, text_at_end, edited_events, has_refusal, kept_of}
+use Rattle.cept_run.specs.Course.{Course, Given, Scripts, sequel_in, reporting, putting, text_event}
+use Rattle.cept_run.specs.Events.{history, item_events, text_at_end, edited_events, has_refusal, Sequel, nothing_more}
+use Rattle.cept_run.specs.Events.{remaining_after}
 use Rattle.cept_run.specs.Outside.{Outside, output, PutsWhole, PutsUnflushed}
 use Rattle.cept_run.specs.Page.{PutsEnd}
-use Rattle.cept_run.specs.Reporting.{Plan, lines_of, remaining_at_end}
+use Rattle.cept_run.specs.Reporting.{Plan, sequel_of, remaining_at_end}
 use Rattle.cept_run.specs.Run.{is_flushed, Restores, EndsWhole, IsReportCut, Ends, RunsCourse, status_at_end}
 use Rattle.cept_run.proofs.EditedLines.{edited_events-none}
 use Rattle.cept_run.proofs.PaintedItems.{chained-one, each_shown, still_idle}
 use Rattle.cept_run.proofs.ReportedRuns.{put_cut, all, edited, the_end, the_run, whole_report, cut_at_end}
 use Rattle.cept_run.proofs.ReportedRuns.{put_to_end}
 use Rattle.cept_run.proofs.Selections.{put_either}
-use Rattle.cept_run.proofs.StoppedScripts.{edits-none, first_fault-none}
+use Rattle.cept_run.proofs.StoppedScripts.{sequel-none, first_fault-none}
 
 -- ---- the page is put
 
@@ -121,15 +120,15 @@ module _ (page : List ℕ) (before after : Outside) (shelf : after.shelf ≡ bef
 -- ---- the page is read
 
 module _ (plan : Plan) (page : List ℕ) (before after : Outside) (shelf : after.shelf ≡ before.shelf)
-    (short : length page ≤ 2 ^ 24) (alone : lines_of plan ≡ []) where
+    (short : length page ≤ 2 ^ 24) (alone : sequel_of plan ≡ nothing_more) where
   abbrev asked : Asked
   asked = plan.asked
 
   abbrev loaded : Course
-  loaded = reporting asked (Given page) (Given [])
+  loaded = reporting asked Scripts (Given page) (Given [])
 
   abbrev shown_run : List Event
-  shown_run = the_run asked page [] after.glass.grid
+  shown_run = the_run asked Scripts page [] after.glass.grid
 
   runs_loaded : (status : Status) → Ends loaded before after status
       → (asked.painting ≡ false → after.glass ≡ before.glass)
@@ -144,10 +143,10 @@ module _ (plan : Plan) (page : List ℕ) (before after : Outside) (shelf : after
     sink_faults = later;
   }
 
-  no_lines : lines_of plan ≡ edits []
-  no_lines = alone ∙ sym edits-none
+  no_lines : sequel_of plan ≡ sequel_in Scripts []
+  no_lines = alone ∙ sym sequel-none
 
-  edited_is : edited_events asked (closed_items page) (lines_of plan) ≡ item_events asked (closed_items page)
+  edited_is : edited_events asked (closed_items page) (sequel_of plan) ≡ item_events asked (closed_items page)
   edited_is = ap (edited_events asked (closed_items page)) alone ∙ edited_events-none asked (closed_items page)
 
   loaded_cut : AreCutOff shown_run (output before) (output after) ⊎ AreMade shown_run (output before) (output after)
@@ -165,20 +164,20 @@ module _ (plan : Plan) (page : List ℕ) (before after : Outside) (shelf : after
 
   -- the sink failed at an event before the end
   pub loads_cut : (stop : Stop) → stop ≡ stops.WriteFault
-      → AreCutOff (edited_events asked (closed_items page) (lines_of plan)) (output before) (output after)
+      → AreCutOff (edited_events asked (closed_items page) (sequel_of plan)) (output before) (output after)
       → RunsCourse loaded before after (status_at_end (Err stop))
   loads_cut stop is off =
-      let own = subst (λ (l : List EditLine). AreCutOff (edited_events asked (closed_items page) l) (output before)
+      let own = subst (λ (s : Sequel). AreCutOff (edited_events asked (closed_items page) s) (output before)
       (output after)) no_lines off in
       subst (λ (s : Stop). RunsCourse loaded before after (status_at_end (Err s))) (sym is)
       (runs_loaded statuses.WriteFault (record {
         write_fault = off.cause;
-        cut = inl (loaded_cut (inl (AreCutOff-longer (edited asked page [])
-            (the_end asked page [] after.glass.grid ∷ []) shown_run (output before) (output after) refl own)));
+        cut = inl (loaded_cut (inl (AreCutOff-longer (edited asked Scripts page [])
+            (the_end asked Scripts page [] after.glass.grid ∷ []) shown_run (output before) (output after) refl own)));
         shelf_stays = ap (λ (s : ShelfState). s.faults) shelf;
-      }) (λ idle. cut_untouched (edited_events asked (closed_items page) (lines_of plan)) (output before) (output after)
+      }) (λ idle. cut_untouched (edited_events asked (closed_items page) (sequel_of plan)) (output before) (output after)
       (subst AreStill (sym edited_is) (still_idle asked (closed_items page) idle)) off)
-      (λ early. put_cut (edited_events asked (closed_items page) (lines_of plan)) (output before) (output after) off)
+      (λ early. put_cut (edited_events asked (closed_items page) (sequel_of plan)) (output before) (output after) off)
       off.later)
 
   -- at an item
@@ -190,15 +189,15 @@ module _ (plan : Plan) (page : List ℕ) (before after : Outside) (shelf : after
 
   -- it was read to its end
   module _ (sink : SinkState)
-      (made_all : AreMade (edited_events asked (closed_items page) (lines_of plan)) (output before)
+      (made_all : AreMade (edited_events asked (closed_items page) (sequel_of plan)) (output before)
       (output_of sink after.glass)) (stays : sink.faults ≡ before.sink.faults)
       (restores : Restores (page_text (core (remaining_at_end plan (closed_items page))))
       (remaining_at_end plan (closed_items page))) where
-    all_is : remaining_at_end plan (closed_items page) ≡ all asked page []
-    all_is = ap (λ l. remaining (history asked (closed_items page)) (kept_of l)) no_lines
+    all_is : remaining_at_end plan (closed_items page) ≡ all asked Scripts page []
+    all_is = ap (remaining_after (history asked (closed_items page))) no_lines
 
-    made : AreMade (edited asked page []) (output before) (output_of sink after.glass)
-    made = subst (λ (l : List EditLine). AreMade (edited_events asked (closed_items page) l) (output before)
+    made : AreMade (edited asked Scripts page []) (output before) (output_of sink after.glass)
+    made = subst (λ (s : Sequel). AreMade (edited_events asked (closed_items page) s) (output before)
         (output_of sink after.glass)) no_lines made_all
 
     idle_run : asked.painting ≡ false → after.glass ≡ before.glass
@@ -206,14 +205,14 @@ module _ (plan : Plan) (page : List ℕ) (before after : Outside) (shelf : after
         (subst AreStill (sym edited_is) (still_idle asked (closed_items page) idle))
 
     loaded_whole : (refused : Bool) → refused ≡ has_refusal (closed_items page)
-        → PutsWhole (text_at_end asked after.glass.grid page (all asked page [])) sink after.sink
+        → PutsWhole (text_at_end asked after.glass.grid page (all asked Scripts page [])) sink after.sink
         → EndsWhole loaded before after refused
     loaded_whole refused is puts = record {
       page = page;
       page_is = refl;
       script = [];
       script_is = refl;
-      reports = whole_report asked page [] before after sink made stays (Given page) (Given [])
+      reports = whole_report asked Scripts page [] before after sink made stays (Given page) (Given [])
           (subst (λ (h : List Command). Restores (page_text (core h)) h) all_is restores) puts;
       refusals = is;
       readable = refl;
@@ -229,7 +228,7 @@ module _ (plan : Plan) (page : List ℕ) (before after : Outside) (shelf : after
     }
 
     by_end : (result : Result Bool Stop)
-        → PutsEnd (text_at_end asked after.glass.grid page (all asked page [])) (has_refusal (closed_items page)) sink
+        → PutsEnd (text_at_end asked after.glass.grid page (all asked Scripts page [])) (has_refusal (closed_items page)) sink
         result after.sink → RunsCourse loaded before after (status_at_end result)
     by_end (Ok false) puts = runs_loaded statuses.Done (loaded_whole false puts.1 puts.0) idle_run (λ early. cc)
         (omega (arith, puts.0.stays, stays))
@@ -239,9 +238,9 @@ module _ (plan : Plan) (page : List ℕ) (before after : Outside) (shelf : after
         subst (λ (s : Stop). RunsCourse loaded before after (status_at_end (Err s))) (sym puts.1)
         (runs_loaded statuses.WriteFault (record {
           write_fault = subst (λ n. Rose n after.sink.faults) stays puts.0.cause;
-          cut = inl (loaded_cut (cut_at_end asked page [] before after sink made stays puts.0));
+          cut = inl (loaded_cut (cut_at_end asked Scripts page [] before after sink made stays puts.0));
           shelf_stays = ap (λ (s : ShelfState). s.faults) shelf;
-        }) idle_run (λ early. put_to_end asked page [] before after sink made stays puts.0)
+        }) idle_run (λ early. put_to_end asked Scripts page [] before after sink made stays puts.0)
         (omega (arith, puts.0.later, stays)))
 
     pub loads_read : (result : Result Bool Stop)

@@ -1,27 +1,35 @@
--- How the reading of a script ends, by what its parts did.
-use Rattle.std.proofs.Common.{◌≡◌, inl, ℕ, List, Some, None, Ok, Err, refl, sym, ◌∙◌, subst, arith}
+-- How the reading of a script or of a drawing ends, by what its parts did.
+use Rattle.std.proofs.Common.{◌≡◌, inl, ℕ, List, Option, Some, None, Ok, Err, refl, sym, ◌∙◌, ap, subst, arith}
+use Rattle.std.specs.Option.{option_map}
 use Rattle.cept_editor.specs.declared.script.ScriptFault.{ScriptFault}
 use Rattle.cept_editor.specs.declared.script.ScriptFault.TheVariants as faults
 use Rattle.cept_editor.specs.Fault.{SaysFault}
-use Rattle.cept_editor.specs.Script.{EditLine, Fault, edits, first_fault}
+use Rattle.cept_editor.specs.Script.{Fault}
 use Rattle.cept_outside.specs.Causes.{Rose, HasCause}
 use Rattle.cept_outside.specs.ShelfState.{ShelfState, Selects, IsSound}
 use Rattle.cept_outside.specs.SinkState.{SinkState}
+use Rattle.cept_plot.specs.declared.drawing.DrawFault.{DrawFault}
+use Rattle.cept_plot.specs.declared.drawing.DrawFault.TheVariants as draw_faults
+use Rattle.cept_plot.specs.Drawings.{Fault as FaultOfDrawing, SaysFault as SaysFaultOfDrawing}
 use Rattle.cept_run.specs.declared.page.Stop.{Stop}
 use Rattle.cept_run.specs.declared.page.Stop.TheVariants as stops
+use Rattle.cept_run.specs.Course.{Grammar, as_fault, first_fault_in, sequel_in}
+use Rattle.cept_run.specs.Events.{Sequel}
 use Rattle.cept_run.specs.Page.{KeepsShelf}
-use Rattle.cept_run.specs.ScriptReading.{TakenWhole, TakingStops, ScriptBad, Refuses, StopsAt, ScriptEnds, SelectsScript}
-use Rattle.cept_run.specs.Course.{Gives}
+use Rattle.cept_run.specs.ScriptReading.{TakenWhole, TakingStops, FileWhole, FileStops, ScriptBad, Refuses, StopsAt}
+use Rattle.cept_run.specs.ScriptReading.{ScriptStops, ScriptEnds, SelectsScript, as_script_fault}
 use Rattle.cept_run.specs.Run.{fault_text}
 use Rattle.cept_run.proofs.PagesInPieces.{KeepsFiles-more}
 use Rattle.cept_run.proofs.Selections.{selected_is, given_left}
 
--- the script couldn't be selected
+-- ---- a file of this name is taken
+
+-- it couldn't be selected
 module _ {X E : Type 0} (name : List ℕ) (before after : ShelfState) (f : E)
     (selects : Selects {X = X} {E = E} before name (Err f) after)
     (cause : HasCause {X = X} {E = E} before.faults after.faults (Err f)) where
-  pub unselected : (old : SinkState) → ScriptEnds name before old (Err stops.ReadFault) after old
-  unselected old = (record { cause = cause.failed; short = omega (arith, selects.taken); unended = selects.ended }, refl)
+  pub unselected : FileStops name before stops.ReadFault after
+  unselected = record { cause = cause.failed; short = omega (arith, selects.taken); unended = selects.ended }
 
   pub nothing_selected_of : SelectsScript name before after
   nothing_selected_of = record {
@@ -35,8 +43,8 @@ module _ {X E : Type 0} (name : List ℕ) (before after : ShelfState) (f : E)
 module _ {X E : Type 0} (name : List ℕ) (before mid after : ShelfState) (x : X) (sound : IsSound before)
     (selects : Selects {X = X} {E = E} before name (Ok x) mid) (selected : mid.faults ≡ before.faults)
     (keeps : KeepsShelf mid after) where
-  pub script_selected : SelectsScript name before after
-  script_selected = record {
+  pub file_selected : SelectsScript name before after
+  file_selected = record {
     files = KeepsFiles-more before mid after selects.keeps keeps.files;
     selects = λ chosen is. selected_is before mid name x sound selects chosen (sym keeps.selected ∙ is);
     missed = λ there. keeps.missed ∙ selects.missed_stays there;
@@ -44,62 +52,75 @@ module _ {X E : Type 0} (name : List ℕ) (before mid after : ShelfState) (x : X
   }
 
   -- it couldn't be taken to its end
-  pub script_untaken : (stop : Stop) (old : SinkState) → TakingStops mid stop after
-      → ScriptEnds name before old (Err stop) after old
-  script_untaken stops.ReadFault old ends = (
-    record {
-      cause = subst (λ n. Rose n after.faults) selected ends.cause;
-      short = ends.short;
-      unended = ends.unended;
-    },
-    refl,
-  )
-  script_untaken stops.WriteFault old ends = elim ends [ ]
-  script_untaken stops.TooLong old ends = (
-    record {
-      cause = ends.cause;
-      longer = λ script given. ends.longer script (given_left before mid name script x selects given);
-      stays = ends.stays ∙ selected;
-    },
-    refl,
-  )
-  script_untaken stops.Script old ends = elim ends [ ]
-  script_untaken stops.NoMemory old ends = (refl, ends ∙ selected)
-  script_untaken stops.NotSeven old ends = elim ends [ ]
+  pub file_untaken : (stop : Stop) → TakingStops mid stop after → FileStops name before stop after
+  file_untaken stops.ReadFault ends = record {
+    cause = subst (λ n. Rose n after.faults) selected ends.cause;
+    short = ends.short;
+    unended = ends.unended;
+  }
+  file_untaken stops.WriteFault ends = elim ends [ ]
+  file_untaken stops.TooLong ends = record {
+    cause = ends.cause;
+    longer = λ script given. ends.longer script (given_left before mid name script x selects given);
+    stays = ends.stays ∙ selected;
+  }
+  file_untaken stops.Script ends = elim ends [ ]
+  file_untaken stops.NoMemory ends = ends ∙ selected
+  file_untaken stops.NotSeven ends = elim ends [ ]
 
-  module _ (bytes : List ℕ) (taken : TakenWhole bytes mid after) where
-    known_bytes : (script : List ℕ) → Gives before name script → bytes ≡ script
-    known_bytes script given = taken.known script (given_left before mid name script x selects given)
+  -- it was
+  pub file_taken : (bytes : List ℕ) → TakenWhole bytes mid after → FileWhole name bytes before after
+  file_taken bytes taken = record {
+    known = λ script given. taken.known script (given_left before mid name script x selects given);
+    taken = taken.taken;
+    few = taken.few;
+    stays = taken.stays ∙ selected;
+  }
 
+-- ---- it is read
+
+module _ (grammar : Grammar) (name : List ℕ) (before after : ShelfState) where
+  -- it wasn't taken to its end
+  pub script_unread : (stop : Stop) (old : SinkState) → FileStops name before stop after
+      → ScriptStops grammar name before old stop after old
+  script_unread stops.ReadFault old ends = (ends, refl)
+  script_unread stops.WriteFault old ends = elim ends [ ]
+  script_unread stops.TooLong old ends = (ends, refl)
+  script_unread stops.Script old ends = elim ends [ ]
+  script_unread stops.NoMemory old ends = (refl, ends)
+  script_unread stops.NotSeven old ends = elim ends [ ]
+
+  module _ (bytes : List ℕ) (whole : FileWhole name bytes before after) where
     -- it is within the grammar
-    pub script_good : (lines : List EditLine) (old : SinkState) → first_fault bytes ≡ None → lines ≡ edits bytes
-        → ScriptEnds name before old (Ok lines) after old
-    script_good lines old good are = (
+    pub script_good : {A : Type 0} (sequel : A → Sequel) (read : A) (old : SinkState)
+        → first_fault_in grammar bytes ≡ None → sequel read ≡ sequel_in grammar bytes
+        → ScriptEnds grammar sequel name before old (Ok read) after old
+    script_good sequel read old good are = (
       record {
         bytes = bytes;
-        known = known_bytes;
-        few = taken.few;
+        known = whole.known;
+        few = whole.few;
         good = good;
         are = are;
-        stays = taken.stays ∙ selected;
+        stays = whole.stays;
       },
       refl,
     )
 
-    abbrev bad_line : (fault : Fault) → first_fault bytes ≡ Some fault → ScriptBad name before after
+    abbrev bad_line : (fault : Fault) → first_fault_in grammar bytes ≡ Some fault → ScriptBad grammar name before after
     bad_line fault found = record {
       bytes = bytes;
-      known = known_bytes;
+      known = whole.known;
       fault = fault;
       found = found;
-      few = taken.few;
-      taken = taken.taken;
-      stays = taken.stays ∙ selected;
+      few = whole.few;
+      taken = whole.taken;
+      stays = whole.stays;
     }
 
     -- it isn't
-    pub script_bad : (fault : Fault) (stop : Stop) (old new : SinkState) → first_fault bytes ≡ Some fault
-        → Refuses (fault_text fault) old stop new → ScriptEnds name before old (Err stop) after new
+    script_bad : (fault : Fault) (stop : Stop) (old new : SinkState) → first_fault_in grammar bytes ≡ Some fault
+        → Refuses (fault_text fault) old stop new → ScriptStops grammar name before old stop after new
     script_bad fault stops.ReadFault old new found refuses = elim refuses [ ]
     script_bad fault stops.WriteFault old new found refuses = record { bad = bad_line fault found; put = refuses }
     script_bad fault stops.TooLong old new found refuses = elim refuses [ ]
@@ -108,10 +129,16 @@ module _ {X E : Type 0} (name : List ℕ) (before mid after : ShelfState) (x : X
     script_bad fault stops.NotSeven old new found refuses = elim refuses [ ]
 
     -- by what its reading answers
-    pub script_faulty : (fault : ScriptFault) (stop : Stop) (old new : SinkState) → SaysFault (first_fault bytes) fault
-        → StopsAt fault old stop new → ScriptEnds name before old (Err stop) after new
+    pub script_faulty : (fault : ScriptFault) (stop : Stop) (old new : SinkState)
+        → SaysFault (first_fault_in grammar bytes) fault → StopsAt fault old stop new
+        → ScriptStops grammar name before old stop after new
     script_faulty (faults.BadLine line reason) stop old new says refuses =
         script_bad (record { line = line; reason = reason }) stop old new says refuses
     script_faulty faults.NoMemory stop old new says refuses =
-        subst (λ (s : Stop). ScriptEnds name before old (Err s) after new) (sym refuses.0)
-        (refuses.1, taken.stays ∙ selected)
+        subst (λ (s : Stop). ScriptStops grammar name before old s after new) (sym refuses.0) (refuses.1, whole.stays)
+
+-- a drawing's fault is said as a script's
+pub drawing_faulty : (first : Option FaultOfDrawing) (fault : DrawFault) → SaysFaultOfDrawing first fault
+    → SaysFault (option_map as_fault first) (as_script_fault fault)
+drawing_faulty first (draw_faults.BadLine line reason) says = ap (option_map as_fault) says
+drawing_faulty first draw_faults.NoMemory says = tt

@@ -8,17 +8,17 @@ use Rattle.cept_outside.proofs.Laws.{append_known-nil}
 use Rattle.cept_parser.specs.Items.{items, reading_within}
 use Rattle.cept_profile.specs.Changes.{grid_with_paints}
 use Rattle.cept_run.specs.declared.words.Asked.{Asked}
-use Rattle.cept_run.specs.Course.{Source, reporting}
+use Rattle.cept_run.specs.Course.{Source, Grammar, reporting}
 use Rattle.cept_run.specs.Events.{item_events}
 use Rattle.cept_run.specs.Outside.{Outside, output}
 use Rattle.cept_run.specs.Run.{ReportsFront}
 use Rattle.cept_run.proofs.EventsOfItems.{item_events-none}
 use Rattle.cept_run.proofs.PaintedItems.{blank_painted}
 
-pub reports_front : (asked : Asked) (page script : Source) (front : List ℕ) (before after : Outside)
+pub reports_front : (asked : Asked) (grammar : Grammar) (page script : Source) (front : List ℕ) (before after : Outside)
     → AreMade (item_events asked (items front)) (output before) (output after)
-    → ReportsFront (reporting asked page script) front before after
-reports_front asked page script front before after made = record {
+    → ReportsFront (reporting asked grammar page script) front before after
+reports_front asked grammar page script front before after made = record {
   made = made;
   meaning = λ blank. made.painted.over
       ∙ ap (λ g. grid_with_paints g (paints (item_events asked (items front)))) blank ∙ blank_painted asked (items front);
@@ -30,10 +30,10 @@ unfolding reading_within
 no_events asked = item_events-none asked
 
 -- of no bytes nothing
-pub reports_nothing : (asked : Asked) (page script : Source) (before after : Outside) → output after ≡ output before
-    → ReportsFront (reporting asked page script) [] before after
-reports_nothing asked page script before after same =
-    reports_front asked page script [] before after
+pub reports_nothing : (asked : Asked) (grammar : Grammar) (page script : Source) (before after : Outside)
+    → output after ≡ output before → ReportsFront (reporting asked grammar page script) [] before after
+reports_nothing asked grammar page script before after same =
+    reports_front asked grammar page script [] before after
     (subst (λ (o : Output). AreMade (item_events asked (items [])) (output before) o) (sym same)
     (subst (λ (es : List Event). AreMade es (output before) (output before)) (sym (no_events asked))
     (AreMade-none (output before))))

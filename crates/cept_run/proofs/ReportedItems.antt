@@ -26,6 +26,7 @@ use Rattle.cept_report.specs.Text.{change_lines}
 use Rattle.cept_editor.specs.Events.{Event, paints}
 use Rattle.cept_editor.specs.Kept.{EditorState}
 use Rattle.cept_editor.specs.Script.{EditLine}
+use Rattle.cept_plot.specs.declared.figure.Figure.{Figure}
 use Rattle.cept_editor.specs.Made.{Output, output_of, IsMade, AreMade, AreCutOff}
 use Rattle.cept_editor.proofs.Laws.{paints-one, ArePainted-still, AreMade-none, AreMade-more, AreCutOff-here}
 use Rattle.cept_editor.proofs.Laws.{AreCutOff-longer}
@@ -33,7 +34,7 @@ use Rattle.cept_run.specs.declared.easel.Easel.{Easel}
 use Rattle.cept_run.specs.declared.easel.Easel.TheVariants as easels
 use Rattle.cept_run.specs.declared.words.Asked.{Asked}
 use Rattle.cept_run.specs.Events.{history, event_between, text_of_said, item_event, item_events, refused_count}
-use Rattle.cept_run.specs.Events.{painted_at}
+use Rattle.cept_run.specs.Events.{painted_at, Sequel, Edits, Figures}
 use Rattle.cept_parser.specs.Items.{items, closed_items, reading_within, is_refusal}
 use Rattle.cept_parser.specs.State.{Leads}
 use Rattle.cept_run.specs.Reporting.{DecoderState, HasRead, ReadsOn, ReadsToEnd}
@@ -276,36 +277,48 @@ append_other : (h : List Command) (c : Command) → h ++ c ∷ [] ≡ h → ⊥
 append_other h c e = absurd (omega (arith, ap length e, length-append h (c ∷ [])))
 
 -- what a screen is, where it is what commands are painted on
-pub screen_painted : (script : Option (List EditLine)) (screen : State) (h : List Command)
+pub screen_painted : (script : Option Sequel) (screen : State) (h : List Command)
     → easels.Screen screen ≡ painted_easel script h → (script ≡ None) × (screen ≡ state h)
 screen_painted None screen h e = (refl, same_Some screen (state h) (ap screen_of e))
-screen_painted (Some lines) screen h e = cc
+screen_painted (Some (Edits lines)) screen h e = cc
+screen_painted (Some (Figures figures)) screen h e = cc
 
 abbrev pub editor_in : EditorState → Easel → EditorState
 editor_in other easels.Nothing = other
 editor_in other (easels.Screen screen) = other
 editor_in other (easels.Editor editor lines) = editor
+editor_in other (easels.Drawing screen figures) = other
 
 -- and what an editor is
-pub editor_painted : (script : Option (List EditLine)) (editor : EditorState) (lines : List EditLine) (h : List Command)
+pub editor_painted : (script : Option Sequel) (editor : EditorState) (lines : List EditLine) (h : List Command)
     → easels.Editor editor lines ≡ painted_easel script h
-    → (script ≡ Some lines) × (editor ≡ record { screen = state h; past = []; future = [] })
+    → (script ≡ Some (Edits lines)) × (editor ≡ record { screen = state h; past = []; future = [] })
 editor_painted None editor lines h e = cc
-editor_painted (Some others) editor lines h e = (sym (ap script_in e), ap (editor_in editor) e)
+editor_painted (Some (Edits others)) editor lines h e = (sym (ap script_in e), ap (editor_in editor) e)
+editor_painted (Some (Figures figures)) editor lines h e = cc
+
+-- and what a screen with a drawing is
+pub drawing_painted : (script : Option Sequel) (screen : State) (figures : List Figure) (h : List Command)
+    → easels.Drawing screen figures ≡ painted_easel script h → (script ≡ Some (Figures figures)) × (screen ≡ state h)
+drawing_painted None screen figures h e = cc
+drawing_painted (Some (Edits lines)) screen figures h e = cc
+drawing_painted (Some (Figures others)) screen figures h e =
+    (sym (ap script_in e), same_Some screen (state h) (ap screen_of e))
 
 editor_with : (editor : EditorState) (screen : State) (past future : List State) → editor.screen ≡ screen
     → editor.past ≡ past → editor.future ≡ future → editor ≡ record { screen = screen; past = past; future = future }
 editor_with editor screen past future s p f = λ i. record { screen = s i; past = p i; future = f i }
 
 -- there is something to paint on
-pub not_idle : (script : Option (List EditLine)) (h : List Command) → easels.Nothing ≡ painted_easel script h → ⊥
+pub not_idle : (script : Option Sequel) (h : List Command) → easels.Nothing ≡ painted_easel script h → ⊥
 not_idle None h e = cc
-not_idle (Some lines) h e = cc
+not_idle (Some (Edits lines)) h e = cc
+not_idle (Some (Figures figures)) h e = cc
 
 -- what a command changes, where it leads a screen's state on
 module _ (screen new : State) (marks : List Bool) (command : Command) (glass shown : GlassState) (from to : ℕ)
     (is_applied : IsApplied screen command new marks glass shown from to) where
-  applied : (script : Option (List EditLine)) (h : List Command) (easel : Easel) → screen ≡ state h
+  applied : (script : Option Sequel) (h : List Command) (easel : Easel) → screen ≡ state h
       → new ≡ state (h ++ command ∷ []) → easel ≡ painted_easel script (h ++ command ∷ [])
       → IsAppliedAfter script h command glass easel marks shown
   applied script h easel before after at =
@@ -328,7 +341,19 @@ module _ (screen new : State) (marks : List Bool) (command : Command) (glass sho
         let is = screen_painted script screen h e in
         let after = is_applied.goes_on h valid is.1 in
         applied script h (easels.Screen new) is.1 after (ap easels.Screen after
-        ∙ ap (λ (o : Option (List EditLine)). painted_easel o (h ++ command ∷ [])) (sym is.0));
+        ∙ ap (λ (o : Option Sequel). painted_easel o (h ++ command ∷ [])) (sym is.0));
+    idle = λ none. cc;
+  }
+
+  -- on a screen with a drawing
+  pub applied_before_drawing : (figures : List Figure)
+      → AppliesOn (easels.Drawing screen figures) command glass (easels.Drawing new figures) marks shown
+  applied_before_drawing figures = record {
+    painted = λ script h valid e.
+        let is = drawing_painted script screen figures h e in
+        let after = is_applied.goes_on h valid is.1 in
+        applied script h (easels.Drawing new figures) is.1 after (ap (λ (s : State). easels.Drawing s figures) after
+        ∙ ap (λ (o : Option Sequel). painted_easel o (h ++ command ∷ [])) (sym is.0));
     idle = λ none. cc;
   }
 
@@ -345,7 +370,7 @@ module _ (screen new : State) (marks : List Bool) (command : Command) (glass sho
         (ap (λ (s : EditorState). easels.Editor s lines)
         (editor_with after (state (h ++ command ∷ [])) [] [] (now ∙ next)
         (past ∙ ap (λ (s : EditorState). s.past) is.1) future)
-        ∙ ap (λ (o : Option (List EditLine)). painted_easel o (h ++ command ∷ [])) (sym is.0));
+        ∙ ap (λ (o : Option Sequel). painted_easel o (h ++ command ∷ [])) (sym is.0));
     idle = λ none. cc;
   }
 
@@ -377,15 +402,16 @@ module _ (old : ReporterState) (easel : Easel) (place : ℕ) (command : Command)
       result now)
       (count_is : count ≡ cond (is_counted old.asked.end) (count_by (λ b. b) marks) 0) (few : count ≤ 960) where
     -- the screen is that after the command
-    module _ (script : Option (List EditLine)) (h : List Command) (is : IsAppliedAfter script h command glass easel marks shown)
+    module _ (script : Option Sequel) (h : List Command) (is : IsAppliedAfter script h command glass easel marks shown)
       where
         screen_is : screen ≡ state (h ++ command ∷ [])
         screen_is = same_Some screen (state (h ++ command ∷ []))
             (sym at ∙ ap screen_of is.easel_is ∙ of_painted script (h ++ command ∷ []))
           where
-            of_painted : (o : Option (List EditLine)) (k : List Command) → screen_of (painted_easel o k) ≡ Some (state k)
+            of_painted : (o : Option Sequel) (k : List Command) → screen_of (painted_easel o k) ≡ Some (state k)
             of_painted None k = refl
-            of_painted (Some lines) k = refl
+            of_painted (Some (Edits lines)) k = refl
+            of_painted (Some (Figures figures)) k = refl
 
         listed_are : marked_looks marks (looks_of (core_of screen)) ≡ changes h command
         listed_are = ap (λ m. marked_looks m (looks_of (core_of screen))) is.marked
@@ -441,10 +467,12 @@ module _ (old : ReporterState) (easel : Easel) (place : ℕ) (command : Command)
     idle = λ is. ((applies.idle is).0, refl, ap (output_of sink) (applies.idle is).1, refl);
   }
     where
-      with_screen : (script : Option (List EditLine)) (h : List Command)
+      with_screen : (script : Option Sequel) (h : List Command)
           → IsAppliedAfter script h command glass easel marks shown → ⊥
       with_screen None h is = none-some (state (h ++ command ∷ [])) (sym none ∙ ap screen_of is.easel_is)
-      with_screen (Some lines) h is = none-some (state (h ++ command ∷ [])) (sym none ∙ ap screen_of is.easel_is)
+      with_screen (Some (Edits lines)) h is = none-some (state (h ++ command ∷ [])) (sym none ∙ ap screen_of is.easel_is)
+      with_screen (Some (Figures figures)) h is =
+          none-some (state (h ++ command ∷ [])) (sym none ∙ ap screen_of is.easel_is)
 
 -- nothing was put
 pub PutsText-nothing : {X E : Type 0} {x : X} (s : SinkState) → PutsText {E = E} s [] (Ok x) s

@@ -1,11 +1,10 @@
--- What was reported of a page that was read to its end, after the edit lines that were made.
+-- What was reported of a page that was read to its end, after what was done after it.
 use Rattle.std.proofs.Common.{◌≡◌, ◌⊎◌, inl, inr, ℕ, Bool, true, false, not, cond, length, List, [], ◌∷◌, ◌++◌, take, refl, sym, ◌∙◌, ap, subst}
 use Rattle.std.specs.Io.KnownBytes.{append_known}
 use Rattle.cept_codes.specs.declared.command.Command.{Command}
 use Rattle.cept_codes.specs.declared.look.Look.{Look}
 use Rattle.cept_editor.specs.Events.{Event, report, paints}
 use Rattle.cept_editor.specs.Made.{Output, output_of, AreMade, AreCutOff}
-use Rattle.cept_editor.specs.Script.{EditLine}
 use Rattle.cept_editor.proofs.Laws.{report-append, report-one, AreMade-end, AreCutOff-end, ArePainted-more}
 use Rattle.cept_editor.proofs.Laws.{ArePainted-still}
 use Rattle.cept_outside.specs.SinkState.{SinkState, HasPut, Gains, GainsPart}
@@ -17,14 +16,14 @@ use Rattle.cept_profile.specs.State.{core}
 use Rattle.cept_writer.specs.CompactCommands.{page_text}
 use Rattle.cept_run.specs.declared.words.Asked.{Asked}
 use Rattle.cept_run.specs.Events.{text_at_end, painted_end, end_event, edited_events, run_events, remaining_of, refused_count}
+use Rattle.cept_run.specs.Events.{Sequel}
 use Rattle.cept_run.specs.Outside.{Outside, output, PutsWhole, PutsUnflushed}
-use Rattle.cept_run.specs.Course.{Source, is_page, puts_page, reporting}
+use Rattle.cept_run.specs.Course.{Source, Grammar, sequel_in, is_page, puts_page, reporting}
 use Rattle.cept_run.specs.declared.words.End.{End}
 use Rattle.cept_run.specs.declared.words.End.TheVariants as ends
 use Rattle.cept_run.specs.Run.{Restores, ReportsWhole}
 use Rattle.cept_report.specs.Text.{check_line}
 use Rattle.std.proofs.lemmas.Bool.{and_parts}
-use Rattle.cept_editor.specs.Script.{edits}
 use Rattle.cept_run.proofs.EditedLines.{edited_events-chained}
 use Rattle.cept_run.proofs.PaintedItems.{AreChained, chained-append, chained-one, chained_shown, each_shown}
 use Rattle.cept_run.proofs.Selections.{put_either}
@@ -81,26 +80,26 @@ written_text asked shown page commands puts =
     (check_line (length (closed_items page)) (refused_count (closed_items page)))) puts.painting
     ∙ page_end asked.end asked shown page commands puts.end
 
--- ---- a page, and the edit lines of a script
+-- ---- a page, and what a script or a drawing says is done after it
 
-module _ (asked : Asked) (bytes script : List ℕ) where
-  abbrev pub lines : List EditLine
-  lines = edits script
+module _ (asked : Asked) (grammar : Grammar) (bytes script : List ℕ) where
+  abbrev pub sequel : Sequel
+  sequel = sequel_in grammar script
 
   abbrev pub all : List Command
-  all = remaining_of asked bytes lines
+  all = remaining_of asked bytes sequel
 
   abbrev pub edited : List Event
-  edited = edited_events asked (closed_items bytes) lines
+  edited = edited_events asked (closed_items bytes) sequel
 
   abbrev pub the_end : List (List Look) → Event
   the_end shown = end_event asked shown bytes all
 
   abbrev pub the_run : List (List Look) → List Event
-  the_run shown = run_events asked bytes lines shown
+  the_run shown = run_events asked bytes sequel shown
 
   to_all : AreChained [] edited all
-  to_all = edited_events-chained asked (closed_items bytes) lines
+  to_all = edited_events-chained asked (closed_items bytes) sequel
 
   run_chained : (shown : List (List Look)) → AreChained [] (the_run shown) all
   run_chained shown = chained-append [] all all edited (the_end shown ∷ []) to_all (chained-one (the_end shown))
@@ -126,12 +125,12 @@ module _ (asked : Asked) (bytes script : List ℕ) where
     whole_text writes =
         report-append edited (last ∷ [])
         ∙ ap (λ t. t ++ report (last ∷ []))
-        (silent_edits asked (closed_items bytes) lines writes.listed writes.refusals writes.edits_listed)
+        (silent_edits asked (closed_items bytes) sequel writes.listed writes.refusals writes.edits_listed)
         ∙ report-one last ∙ written_text asked after.glass.grid bytes all writes
 
     -- it was put
     pub whole_report : (page source : Source) → Restores (page_text (core all)) all → PutsWhole the_text sink after.sink
-        → ReportsWhole (reporting asked page source) bytes script before after
+        → ReportsWhole (reporting asked grammar page source) bytes script before after
     whole_report page source restores puts = record {
       put = puts.put ∙ ap (λ known. append_known known the_text) made.put.bytes
           ∙ append_known-append_known before.sink.bytes (report edited) the_text

@@ -12,11 +12,12 @@ use Rattle.cept_editor.specs.Kept.{KeptEdits, finds_nothing, kept_after, remaini
 use Rattle.cept_editor.specs.Meaning.{Step, Turn, Edit}
 use Rattle.cept_editor.specs.Script.{EditLine}
 use Rattle.cept_editor.specs.Stepping.{event_from, nothing_event, edit_events, line_events}
+use Rattle.cept_plot.specs.declared.figure.Figure.{Figure}
 use Rattle.cept_report.specs.Text.{change_lines, refusal_line}
 use Rattle.cept_editor.proofs.Laws.{report-append, report-one, report-none}
 use Rattle.cept_run.specs.declared.words.Asked.{Asked}
-use Rattle.cept_run.specs.Events.{history, text_of_said, item_event, item_events, events_of_line, script_events}
-use Rattle.cept_run.specs.Events.{edited_events, kept_of}
+use Rattle.cept_run.specs.Events.{history, text_of_said, item_event, item_events, events_of_line}
+use Rattle.cept_run.specs.Events.{edited_events, kept_of, Sequel, Edits, Figures, drawing_commands, sequel_events}
 use Rattle.cept_run.proofs.EventsOfItems.{events_after, item_events-after}
 use Rattle.cept_run.proofs.EditedLines.{lines_after, script_events-after}
 
@@ -75,11 +76,23 @@ silent_lines_after listed page earlier (l ∷ ls) t =
     ∙ silent_line l.line page (kept_of earlier) l.step)
     (silent_lines_after listed page (earlier ++ l ∷ []) ls t)
 
+-- and of a drawing nothing ever
+pub silent_drawing : (listed : Bool) (page : List Command) (figures : List Figure)
+    → report (sequel_events listed page (Figures figures)) ≡ []
+unfolding edit_events
+silent_drawing listed page figures =
+    silent_edit 0 0 page (drawing_commands page figures) (drawing_commands page figures)
+
+silent_sequel : (listed : Bool) (page : List Command) (sequel : Sequel) → listed ≡ false
+    → report (sequel_events listed page sequel) ≡ []
+silent_sequel listed page (Edits lines) t =
+    ap report (script_events-after listed page lines) ∙ silent_lines_after listed page [] lines t
+silent_sequel listed page (Figures figures) t = silent_drawing listed page figures
+
 -- nothing is listed and named, so that nothing is put before the end
-pub silent_edits : (asked : Asked) (items : List Item) (lines : List EditLine) → asked.listed ≡ false
-    → asked.refusals ≡ false → asked.edits_listed ≡ false → report (edited_events asked items lines) ≡ []
-silent_edits asked items lines c r t =
-    silent_more (item_events asked items) (script_events asked.edits_listed (history asked items) lines)
+pub silent_edits : (asked : Asked) (items : List Item) (sequel : Sequel) → asked.listed ≡ false
+    → asked.refusals ≡ false → asked.edits_listed ≡ false → report (edited_events asked items sequel) ≡ []
+silent_edits asked items sequel c r t =
+    silent_more (item_events asked items) (sequel_events asked.edits_listed (history asked items) sequel)
     (ap report (item_events-after asked items) ∙ silent_items_after asked [] items c r)
-    (ap report (script_events-after asked.edits_listed (history asked items) lines)
-    ∙ silent_lines_after asked.edits_listed (history asked items) [] lines t)
+    (silent_sequel asked.edits_listed (history asked items) sequel t)

@@ -1,11 +1,11 @@
--- How a run ends by its script.
+-- How a run ends by its script or its drawing.
 use Rattle.std.proofs.Common.{◌≡◌, ◌≢◌, ◌⊎◌, inl, inr, ℕ, ◌^◌, ◌<◌, ◌≤◌, true, false, List, []}
-use Rattle.std.proofs.Common.{Option, Some, None, is_some, IsSome, Err, refl, sym, ◌∙◌, ap, subst, arith}
+use Rattle.std.proofs.Common.{Option, Some, None, is_some, IsSome, refl, sym, ◌∙◌, ap, subst, arith}
 use Rattle.std.proofs.Common.{length}
 use Rattle.std.proofs.lemmas.List.{take_all}
 use Rattle.std.proofs.lemmas.Option.{none-some, same_Some}
 use Rattle.std.specs.Io.KnownBytes.{append_known}
-use Rattle.cept_editor.specs.Script.{EditLine, Fault, edits, edits_from, fault_from, first_fault}
+use Rattle.cept_editor.specs.Script.{Fault, edits, edits_from, fault_from, first_fault}
 use Rattle.cept_outside.specs.ShelfState.{ShelfState, IsSound}
 use Rattle.cept_outside.specs.ShelfState.{bytes_under}
 use Rattle.cept_outside.specs.SinkState.{SinkState, HasPut, Gains, GainsPart}
@@ -15,11 +15,12 @@ use Rattle.cept_run.specs.declared.page.Stop.TheVariants as stops
 use Rattle.cept_run.specs.declared.run.Status.{Status}
 use Rattle.cept_run.specs.declared.run.Status.TheVariants as statuses
 use Rattle.cept_run.specs.declared.words.Asked.{Asked}
-use Rattle.cept_run.specs.Course.{Course, Source, File, Given, Gives, reporting}
+use Rattle.cept_run.specs.Course.{Course, Source, File, Given, Gives, Grammar, Scripts, first_fault_in, sequel_in, reporting}
+use Rattle.cept_run.specs.Events.{Sequel, Edits, nothing_more}
 use Rattle.cept_run.specs.Outside.{Outside, outside_of}
 use Rattle.cept_run.specs.Run.{is_flushed, fault_text, HasBadLine, PutsAtMost, Ends, RunsCourse}
 use Rattle.cept_run.specs.Run.{status_of}
-use Rattle.cept_run.specs.ScriptReading.{ScriptBad, ScriptWhole, ScriptEnds, SelectsScript, ScriptKnown}
+use Rattle.cept_run.specs.ScriptReading.{ScriptBad, ScriptWhole, ScriptStops, SelectsScript, ScriptKnown}
 use Rattle.cept_run.proofs.ReportedFronts.{reports_nothing}
 use Rattle.cept_run.proofs.Selections.{put_either}
 
@@ -35,16 +36,19 @@ name_in name other e = ap (name_of name) e
 -- ---- the script was read, or none is asked for
 
 -- a script of no bytes has no edits and no fault
-pub edits-none : edits [] ≡ []
+edits-none : edits [] ≡ []
 unfolding edits_from
 edits-none = refl
+
+pub sequel-none : sequel_in Scripts [] ≡ nothing_more
+sequel-none = ap Edits edits-none
 
 pub first_fault-none : first_fault [] ≡ None
 unfolding fault_from
 first_fault-none = refl
 
 -- none is asked for
-pub no_script : (page : List ℕ) (shelf : ShelfState) → ScriptKnown page (Given []) [] shelf shelf
+pub no_script : (page : List ℕ) (shelf : ShelfState) → ScriptKnown Scripts page (Given []) [] shelf shelf
 no_script page shelf = record {
   has = refl;
   good = first_fault-none;
@@ -56,10 +60,10 @@ no_script page shelf = record {
 }
 
 -- it was read
-pub script_read : (page name : List ℕ) (lines : List EditLine) (before mid : ShelfState) → name ≢ page
-    → SelectsScript name before mid → (whole : ScriptWhole name lines before mid)
-    → ScriptKnown page (File name) whole.bytes before mid
-script_read page name lines before mid differs selects whole = record {
+pub script_read : (grammar : Grammar) (page name : List ℕ) (sequel : Sequel) (before mid : ShelfState) → name ≢ page
+    → SelectsScript name before mid → (whole : ScriptWhole grammar name sequel before mid)
+    → ScriptKnown grammar page (File name) whole.bytes before mid
+script_read grammar page name sequel before mid differs selects whole = record {
   has = whole.known;
   good = whole.good;
   few = whole.few;
@@ -79,10 +83,11 @@ selected_so_long name shelf sound long chosen is (inl none) =
     absurd (omega (arith, long, (sound.nothing (is ∙ ap Some none)).1))
 selected_so_long name shelf sound long chosen is (inr some) = some
 
-module _ (asked : Asked) (page name : List ℕ) (before : Outside) (shelf : ShelfState) (sink : SinkState)
-    (painting : asked.painting ≡ true) (differs : name ≢ page) (selects : SelectsScript name before.shelf shelf) where
+module _ (asked : Asked) (grammar : Grammar) (page name : List ℕ) (before : Outside) (shelf : ShelfState)
+    (sink : SinkState) (painting : asked.painting ≡ true) (differs : name ≢ page)
+    (selects : SelectsScript name before.shelf shelf) where
   abbrev course : Course
-  course = reporting asked (File page) (File name)
+  course = reporting asked grammar (File page) (File name)
 
   abbrev now : Outside
   now = outside_of shelf sink before.glass
@@ -102,7 +107,7 @@ module _ (asked : Asked) (page name : List ℕ) (before : Outside) (shelf : Shel
 
   runs_script : (status : Status) → Ends course before now status
       → ((other script : List ℕ) (fault : Fault) → File name ≡ File other → Gives before.shelf other script
-      → first_fault script ≡ Some fault → PutsAtMost (fault_text fault) before now)
+      → first_fault_in grammar script ≡ Some fault → PutsAtMost (fault_text fault) before now)
       → (is_flushed status ≡ false → HasPut before.sink sink) → before.sink.faults ≤ sink.faults
       → RunsCourse course before now status
   runs_script status ends bad puts later = record {
@@ -137,7 +142,7 @@ module _ (asked : Asked) (page name : List ℕ) (before : Outside) (shelf : Shel
 
   -- ---- a line of it is outside the grammar
 
-  module _ (bad : ScriptBad name before.shelf shelf) where
+  module _ (bad : ScriptBad grammar name before.shelf shelf) where
     abbrev text : List ℕ
     text = fault_text bad.fault
 
@@ -154,9 +159,10 @@ module _ (asked : Asked) (page name : List ℕ) (before : Outside) (shelf : Shel
 
     -- its fault is the one that was found
     most_as : PutsAtMost text before now → (other script : List ℕ) (fault : Fault) → File name ≡ File other
-        → Gives before.shelf other script → first_fault script ≡ Some fault → PutsAtMost (fault_text fault) before now
+        → Gives before.shelf other script → first_fault_in grammar script ≡ Some fault
+        → PutsAtMost (fault_text fault) before now
     most_as most other script fault is given found =
-        let same : bad.fault ≡ fault = same_Some bad.fault fault (sym bad.found ∙ ap first_fault (bad.known script
+        let same : bad.fault ≡ fault = same_Some bad.fault fault (sym bad.found ∙ ap (first_fault_in grammar) (bad.known script
         (subst (λ n. Gives before.shelf n script) (sym (name_in name other is)) given)) ∙ found) in
         subst (λ (f : Fault). PutsAtMost (fault_text f) before now) same most
 
@@ -173,7 +179,7 @@ module _ (asked : Asked) (page name : List ℕ) (before : Outside) (shelf : Shel
     most_part (inl part) = record { unpainted = refl; size = part.size; put = part.gains.bytes }
     most_part (inr all) = most_all all.bytes
 
-  pub ends_at_script : (stop : Stop) → IsSound shelf → ScriptEnds name before.shelf before.sink (Err stop) shelf sink
+  pub ends_at_script : (stop : Stop) → IsSound shelf → ScriptStops grammar name before.shelf before.sink stop shelf sink
       → RunsCourse course before now (status_of stop)
   ends_at_script stops.ReadFault sound ends = runs_unput statuses.ReadFault (record {
     read_fault = ends.0.cause;
@@ -193,7 +199,7 @@ module _ (asked : Asked) (page name : List ℕ) (before : Outside) (shelf : Shel
     );
     front_is = λ told holds is. absurd (page_unselected is);
     readable = refl;
-    reports = reports_nothing asked (File page) (File name) before now (ap (λ (s : SinkState). record {
+    reports = reports_nothing asked grammar (File page) (File name) before now (ap (λ (s : SinkState). record {
       sink = s;
       glass = before.glass;
     }) ends.1);

@@ -1,6 +1,7 @@
 -- The course of a run: what it reads, the events of what it read, and what decides how it ends. Each request is one, and what
 -- a run does is said of its course alone. This project's own.
 use Rattle.std.specs.Prelude.{◌≡◌, ◌⊎◌, ℕ, Bool, true, false, not, ◌&&◌, List, [], ◌∷◌, Option, Some, None, is_some}
+use Rattle.std.specs.Option.{option_map}
 use Rattle.cept_codes.specs.declared.command.Command.{Command}
 use Rattle.cept_codes.specs.declared.look.Look.{Look}
 use Rattle.cept_editor.specs.Events.{Event}
@@ -8,16 +9,17 @@ use Rattle.cept_editor.specs.Script.{Fault, edits, first_fault}
 use Rattle.cept_generator.specs.Generated.{generated}
 use Rattle.cept_outside.specs.ShelfState.{ShelfState, Holds, Lacks}
 use Rattle.cept_parser.specs.Items.{items}
+use Rattle.cept_plot.specs.Drawings.{Fault as FaultOfDrawing, figures_of, first_fault as first_fault_of_drawing}
 use Rattle.cept_run.specs.declared.words.Asked.{Asked}
 use Rattle.cept_run.specs.declared.words.BytesAction.{BytesAction}
 use Rattle.cept_run.specs.declared.words.End.{End}
 use Rattle.cept_run.specs.declared.words.End.TheVariants as ends
 use Rattle.cept_run.specs.declared.words.NumberAction.{NumberAction}
 use Rattle.cept_run.specs.declared.words.NumberAction.TheVariants as numbers
-use Rattle.cept_run.specs.Events.{history, item_events, run_events, remaining_of}
+use Rattle.cept_run.specs.Events.{history, item_events, run_events, remaining_of, Sequel, Edits, Figures}
 use Rattle.cept_run.specs.Turned.{turned, turned_front, readable_front, can_end_there}
-use Rattle.cept_run.specs.Words.{Request, Page, Bytes, Script, Number, Flash, asked_of_page, asked_of_script}
-use Rattle.cept_run.specs.Words.{asked_to_load, asked_of_phases}
+use Rattle.cept_run.specs.Words.{Request, Page, Bytes, Script, Number, Flash, Drawing, asked_of_page, asked_of_script}
+use Rattle.cept_run.specs.Words.{asked_to_load, asked_of_phases, asked_to_draw}
 
 -- ---- what is read
 
@@ -46,10 +48,31 @@ abbrev pub SelectsNoOther : List ℕ → ShelfState → Type 0
 SelectsNoOther name shelf =
     (chosen : Option (List ℕ)) → shelf.selected ≡ Some chosen → (chosen ≡ None) ⊎ (chosen ≡ Some name)
 
+-- ---- scripts and drawings
+
+-- the grammar of what is read before a page: that of scripts, or that of drawings
+pub data Grammar : Type 0 where
+  Scripts : Grammar
+  Drawings : Grammar
+
+-- the fault of a drawing's line as one of a script's
+abbrev pub as_fault : FaultOfDrawing → Fault
+as_fault fault = record { line = fault.line; reason = fault.reason }
+
+-- the first line outside the grammar
+abbrev pub first_fault_in : Grammar → List ℕ → Option Fault
+first_fault_in Scripts bytes = first_fault bytes
+first_fault_in Drawings bytes = option_map as_fault (first_fault_of_drawing bytes)
+
+-- what bytes within the grammar say is done after a page
+abbrev pub sequel_in : Grammar → List ℕ → Sequel
+sequel_in Scripts bytes = Edits (edits bytes)
+sequel_in Drawings bytes = Figures (figures_of bytes)
+
 -- ---- courses
 
 pub record Course : Type 0 where
-  -- the page that is read, and the script that is read before it
+  -- the page that is read, and the script that is read before it, or the drawing: all that is said of a script holds of it
   pub page : Source
   pub script : Source
   -- the first fault of a script
@@ -81,16 +104,16 @@ abbrev pub puts_page : Asked → Bool
 puts_page asked =
     asked.painting && is_page asked.end && not asked.listed && not asked.refusals && not asked.edits_listed
 
--- items are reported, and then the edits of a script
-abbrev pub reporting : Asked → Source → Source → Course
-reporting asked page script = record {
+-- items are reported, and then what a script or a drawing says is done
+abbrev pub reporting : Asked → Grammar → Source → Source → Course
+reporting asked grammar page script = record {
   page = page;
   script = script;
-  fault = first_fault;
+  fault = first_fault_in grammar;
   front_events = λ bytes. item_events asked (items bytes);
   front_remaining = λ bytes. history asked (items bytes);
-  events = λ bytes lines shown. run_events asked bytes (edits lines) shown;
-  remaining = λ bytes lines. remaining_of asked bytes (edits lines);
+  events = λ bytes lines shown. run_events asked bytes (sequel_in grammar lines) shown;
+  remaining = λ bytes lines. remaining_of asked bytes (sequel_in grammar lines);
   readable_front = λ bytes. bytes;
   can_end = λ bytes. true;
   judged = true;
@@ -139,12 +162,13 @@ turning action page = record {
 -- of a generated page
 abbrev pub course_of_number : NumberAction → ℕ → Course
 course_of_number numbers.Generate number = putting (generated number)
-course_of_number numbers.Load number = reporting asked_to_load (Given (generated number)) (Given [])
+course_of_number numbers.Load number = reporting asked_to_load Scripts (Given (generated number)) (Given [])
 
 -- the course of each request
 abbrev pub course_of : Request → Course
-course_of (Page action page) = reporting (asked_of_page action) (File page) (Given [])
+course_of (Page action page) = reporting (asked_of_page action) Scripts (File page) (Given [])
 course_of (Bytes action page) = turning action page
-course_of (Script action page script) = reporting (asked_of_script action) (File page) (File script)
+course_of (Script action page script) = reporting (asked_of_script action) Scripts (File page) (File script)
 course_of (Number action number) = course_of_number action number
-course_of (Flash page turns) = reporting (asked_of_phases turns) (File page) (Given [])
+course_of (Flash page turns) = reporting (asked_of_phases turns) Scripts (File page) (Given [])
+course_of (Drawing page drawing) = reporting asked_to_draw Drawings (File page) (File drawing)

@@ -1,6 +1,6 @@
--- The events of a run: one for each item of the page, one for each command of each edit and for each turn, and one at the
--- end. This project's own.
-use Rattle.std.specs.Prelude.{ℕ, Bool, List, [], ◌∷◌, ◌++◌, length, map, take, count_by, nat_lt}
+-- The events of a run: one for each item of the page, one for each command of each edit and for each turn or for each
+-- command of a drawing, and one at the end. This project's own.
+use Rattle.std.specs.Prelude.{ℕ, Bool, false, List, [], ◌∷◌, ◌++◌, length, map, take, count_by, nat_lt}
 use Rattle.std.specs.Prelude.{if◌then◌else◌}
 use Rattle.std.specs.List.{enumerate_from, flat_map}
 use Rattle.cept_codes.specs.declared.command.Command.{Command}
@@ -10,6 +10,10 @@ use Rattle.cept_codes.specs.declared.item.Said.TheVariants as said
 use Rattle.cept_codes.specs.declared.look.Look.{Look}
 use Rattle.cept_codes.specs.Place.{Place}
 use Rattle.cept_parser.specs.Items.{closed_items, commands_of, is_refusal}
+use Rattle.cept_plot.specs.declared.figure.Figure.{Figure}
+use Rattle.cept_plot.specs.Commands.{drawn}
+use Rattle.cept_plot.specs.Drawings.{points_after_all}
+use Rattle.cept_plot.specs.Points.{is_in_field}
 use Rattle.cept_profile.specs.Changes.{changes_between}
 use Rattle.cept_profile.specs.Control.{control}
 use Rattle.cept_profile.specs.Look.{grid}
@@ -21,7 +25,7 @@ use Rattle.cept_writer.specs.CompactCommands.{page_text}
 use Rattle.cept_editor.specs.Events.{Event, paints}
 use Rattle.cept_editor.specs.Kept.{KeptEdits, kept, remaining}
 use Rattle.cept_editor.specs.Script.{EditLine}
-use Rattle.cept_editor.specs.Stepping.{line_events}
+use Rattle.cept_editor.specs.Stepping.{edit_events, line_events}
 use Rattle.cept_run.specs.declared.words.Asked.{Asked}
 use Rattle.cept_run.specs.declared.words.End.{End}
 use Rattle.cept_run.specs.declared.words.End.TheVariants as ends
@@ -114,19 +118,46 @@ unfoldable pub script_events : Bool → List Command → List EditLine → List 
 script_events listed page lines =
     flat_map (λ numbered. events_of_line listed page (take numbered.0 lines) numbered.1) (enumerate_from 0 lines)
 
+-- ---- what is done after a page
+
+-- the edits of a script are made, or the figures of a drawing drawn
+pub data Sequel : Type 0 where
+  Edits : List EditLine → Sequel
+  Figures : List Figure → Sequel
+
+-- nothing: no edits
+abbrev pub nothing_more : Sequel
+nothing_more = Edits []
+
+-- the commands that draw figures on a page of these commands: they leave the points of its field, changed by the figures
+abbrev pub drawing_commands : List Command → List Figure → List Command
+drawing_commands page figures = drawn (core page) (points_after_all (is_in_field (core page)) figures)
+
+-- its events after a page's commands. Of the edits of a script the changes are listed or not; a drawing has one event for
+-- each of its commands, of no text
+abbrev pub sequel_events : Bool → List Command → Sequel → List Event
+sequel_events listed page (Edits lines) = script_events listed page lines
+sequel_events listed page (Figures figures) = edit_events false 0 page (drawing_commands page figures)
+
+-- the commands that remain after it: those of the page, and those of the edits that are kept or of the drawing
+abbrev pub remaining_after : List Command → Sequel → List Command
+remaining_after page (Edits lines) = remaining page (kept_of lines)
+remaining_after page (Figures figures) = page ++ drawing_commands page figures
+
 -- ---- a whole run
 
--- the commands that remain after a page and edit lines: those of the page, and those of the edits that are kept
-abbrev pub remaining_of : Asked → List ℕ → List EditLine → List Command
-remaining_of asked page lines = remaining (history asked (closed_items page)) (kept_of lines)
+-- the commands that remain after a page and what is done after it
+abbrev pub remaining_of : Asked → List ℕ → Sequel → List Command
+remaining_of asked page sequel = remaining_after (history asked (closed_items page)) sequel
 
--- the events of a page that is read to its end, and of edit lines
-abbrev pub edited_events : Asked → List Item → List EditLine → List Event
-edited_events asked items lines =
-    item_events asked items ++ script_events asked.edits_listed (history asked items) lines
+-- the events of a page that is read to its end, and of what is done after it
+abbrev pub edited_events : Asked → List Item → Sequel → List Event
+edited_events asked items sequel =
+    item_events asked items ++ sequel_events asked.edits_listed (history asked items) sequel
 
--- all events of a run over a page that is read to its end, and over edit lines, where the glass shows this grid at the end
-abbrev pub run_events : Asked → List ℕ → List EditLine → List (List Look) → List Event
-run_events asked page lines shown =
-    edited_events asked (closed_items page) lines
-    ++ end_event asked shown page (remaining_of asked page lines) ∷ []
+-- all events of a run over a page that is read to its end, and over what is done after it, where the glass shows this grid
+-- at the end
+abbrev pub run_events : Asked → List ℕ → Sequel → List (List Look) → List Event
+run_events asked page sequel shown =
+    edited_events asked (closed_items page) sequel
+    ++ end_event asked shown page (remaining_of asked page sequel) ∷ []

@@ -15,10 +15,11 @@ use Rattle.cept_profile.specs.Valid.{AllValid}
 use Rattle.cept_repaint.specs.GlassState.{GlassState, Lists}
 use Rattle.cept_report.specs.Text.{change_lines, refusal_line}
 use Rattle.cept_editor.specs.Events.{Event}
-use Rattle.cept_editor.specs.Kept.{KeptEdits, none_kept, kept_after, remaining, EditorState, StandsAfter}
-use Rattle.cept_editor.specs.Made.{Output, IsMade, AreMade, AreCutOff}
+use Rattle.cept_editor.specs.Kept.{KeptEdits, none_kept, kept_after, EditorState, StandsAfter}
+use Rattle.cept_editor.specs.Made.{Output, ArePainted, IsMade, AreMade, AreCutOff}
 use Rattle.cept_editor.specs.Script.{EditLine}
 use Rattle.cept_editor.specs.Stepping.{line_events}
+use Rattle.cept_plot.specs.declared.figure.Figure.{Figure}
 use Rattle.cept_run.specs.declared.easel.Easel.{Easel}
 use Rattle.cept_run.specs.declared.easel.Easel.TheVariants as easels
 use Rattle.cept_run.specs.declared.words.Asked.{Asked}
@@ -26,6 +27,7 @@ use Rattle.cept_run.specs.declared.words.End.{End}
 use Rattle.cept_run.specs.declared.words.End.TheVariants as ends
 use Rattle.cept_run.specs.Words.{is_counted}
 use Rattle.cept_run.specs.Events.{history, item_events, refused_count, painted_at, kept_of, script_events, edited_events}
+use Rattle.cept_run.specs.Events.{Sequel, Edits, Figures, nothing_more, drawing_commands, sequel_events, remaining_after}
 
 -- ---- the reporter of items
 
@@ -34,19 +36,19 @@ abbrev pub HasBlink : End → Option FlashingGrid → Type 0
 HasBlink (ends.Phases turns) blink = IsSome blink
 HasBlink _ blink = Unit {0}
 
--- what is done with a page, and the edits of the script that is asked for beside it, if one is
+-- what is done with a page, and after it by the script or the drawing that is asked for beside it, if one is
 pub record Plan : Type 0 where
   pub asked : Asked
-  pub script : Option (List EditLine)
+  pub script : Option Sequel
 
--- the edits, if there are some
-abbrev pub lines_if_any : Option (List EditLine) → List EditLine
-lines_if_any None = []
-lines_if_any (Some lines) = lines
+-- what is done after it, if anything is
+abbrev pub sequel_if_any : Option Sequel → Sequel
+sequel_if_any None = nothing_more
+sequel_if_any (Some sequel) = sequel
 
--- the edits that are made: where nothing is painted, none
-abbrev pub lines_of : Plan → List EditLine
-lines_of plan = if plan.asked.painting then lines_if_any plan.script else []
+-- what is done after it: where nothing is painted, nothing
+abbrev pub sequel_of : Plan → Sequel
+sequel_of plan = if plan.asked.painting then sequel_if_any plan.script else nothing_more
 
 -- what is asked for, what commands are applied to, how many items there were and were refused, and how many places were
 -- painted, where these are counted
@@ -58,9 +60,11 @@ pub record ReporterState : Type 0 where
   pub painted : ℕ
 
 -- what the commands of a page are applied to, after these: where there is a script, a screen whose edits can be taken back
-abbrev pub painted_easel : Option (List EditLine) → List Command → Easel
+abbrev pub painted_easel : Option Sequel → List Command → Easel
 painted_easel None commands = easels.Screen (state commands)
-painted_easel (Some lines) commands = easels.Editor (record { screen = state commands; past = []; future = [] }) lines
+painted_easel (Some (Edits lines)) commands =
+    easels.Editor (record { screen = state commands; past = []; future = [] }) lines
+painted_easel (Some (Figures figures)) commands = easels.Drawing (state commands) figures
 
 -- what commands are applied to, after these
 abbrev pub easel_at : Plan → List Command → Easel
@@ -71,12 +75,14 @@ abbrev pub screen_of : Easel → Option State
 screen_of easels.Nothing = None
 screen_of (easels.Screen screen) = Some screen
 screen_of (easels.Editor editor lines) = Some editor.screen
+screen_of (easels.Drawing screen figures) = Some screen
 
--- the edits of the script, where there is one
-abbrev pub script_in : Easel → Option (List EditLine)
+-- what is done after a page, where there is a script or a drawing
+abbrev pub script_in : Easel → Option Sequel
 script_in easels.Nothing = None
 script_in (easels.Screen screen) = None
-script_in (easels.Editor editor lines) = Some lines
+script_in (easels.Editor editor lines) = Some (Edits lines)
+script_in (easels.Drawing screen figures) = Some (Figures figures)
 
 -- the plan by which it reports
 abbrev pub plan_in : ReporterState → Plan
@@ -116,7 +122,7 @@ command_event asked place earlier command = record {
 }
 
 -- a command was applied after these, where they are painted
-pub record IsAppliedAfter (script : Option (List EditLine)) (earlier : List Command) (command : Command) (before : GlassState)
+pub record IsAppliedAfter (script : Option Sequel) (earlier : List Command) (command : Command) (before : GlassState)
     (easel : Easel) (marks : List Bool) (after : GlassState) : Type 0 where
   pub easel_is : easel ≡ painted_easel script (earlier ++ command ∷ [])
   pub marked : marks ≡ differences (grid earlier) (grid (earlier ++ command ∷ []))
@@ -126,7 +132,7 @@ pub record IsAppliedAfter (script : Option (List EditLine)) (earlier : List Comm
 -- a command is applied, where there is a screen
 pub record AppliesOn (old : Easel) (command : Command) (before : GlassState) (new : Easel) (marks : List Bool)
     (after : GlassState) : Type 0 where
-  pub painted : (script : Option (List EditLine)) (earlier : List Command) → AllValid earlier
+  pub painted : (script : Option Sequel) (earlier : List Command) → AllValid earlier
       → old ≡ painted_easel script earlier → IsAppliedAfter script earlier command before new marks after
   pub idle : old ≡ easels.Nothing → (new ≡ easels.Nothing) × (after ≡ before)
 
@@ -136,13 +142,13 @@ pub record Applies {X E : Type 0} (old : ReporterState) (place : ℕ) (command :
   pub asked : new.asked ≡ old.asked
   pub items : new.items ≡ old.items
   pub refused : new.refused ≡ old.refused
-  pub easel : (script : Option (List EditLine)) (earlier : List Command) → AllValid earlier
+  pub easel : (script : Option Sequel) (earlier : List Command) → AllValid earlier
       → old.asked.painting ≡ true → old.easel ≡ painted_easel script earlier
       → new.easel ≡ painted_easel script (earlier ++ command ∷ [])
-  pub made : (script : Option (List EditLine)) (earlier : List Command) → AllValid earlier
+  pub made : (script : Option Sequel) (earlier : List Command) → AllValid earlier
       → old.asked.painting ≡ true → old.easel ≡ painted_easel script earlier
       → IsMade (command_event old.asked place earlier command) before result after
-  pub painted : (script : Option (List EditLine)) (earlier : List Command) → AllValid earlier
+  pub painted : (script : Option Sequel) (earlier : List Command) → AllValid earlier
       → old.asked.painting ≡ true → old.easel ≡ painted_easel script earlier
       → new.painted ≡ old.painted + counted_of old.asked (length (changes earlier command))
   pub few : new.painted ≤ old.painted + 960
@@ -187,9 +193,25 @@ pub record MakesLines {X E : Type 0} (listed : Bool) (lines : List EditLine) (ol
   pub cut : OnErr result ((page : List Command) → StandsAfter old page none_kept
       → AreCutOff (script_events listed page lines) before after)
 
+-- ---- drawings
+
+-- figures were drawn on a page: exactly the events of their commands were made, which put nothing
+pub record HasDrawn (page : List Command) (figures : List Figure) (before : GlassState) (screen : State)
+    (after : GlassState) : Type 0 where
+  pub valid : AllValid (page ++ drawing_commands page figures)
+  pub is : screen ≡ state (page ++ drawing_commands page figures)
+  pub painted : ArePainted (sequel_events false page (Figures figures)) before after
+
+-- figures are drawn after whatever page a screen stands
+abbrev pub Draws : List Figure → State → GlassState → State → GlassState → Type 0
+Draws figures old before new after =
+    (page : List Command) → AllValid page → old ≡ state page → HasDrawn page figures before new after
+
+-- ---- the end
+
 -- the commands that remain at the end, after these items
 abbrev pub remaining_at_end : Plan → List Item → List Command
-remaining_at_end plan reported = remaining (history plan.asked reported) (kept_of (lines_of plan))
+remaining_at_end plan reported = remaining_after (history plan.asked reported) (sequel_of plan)
 
 -- at the end these commands remain after these items
 pub record StandsAtEnd (plan : Plan) (reporter : ReporterState) (reported : List Item) : Type 0 where
@@ -200,15 +222,15 @@ pub record StandsAtEnd (plan : Plan) (reporter : ReporterState) (reported : List
   pub refused : reporter.refused ≡ refused_count reported
   pub painted : reporter.painted ≡ counted_of plan.asked (painted_at plan.asked reported)
 
--- from a start to now it has reported these items and made all edits, and no fault was counted
+-- from a start to now it has reported these items and done all that comes after them, and no fault was counted
 pub record HasEdited (plan : Plan) (reporter : ReporterState) (reported : List Item) (start now : Output) : Type
     0 where
   pub stands : StandsAtEnd plan reporter reported
   pub valid : AllValid (remaining_at_end plan reported)
-  pub made : AreMade (edited_events plan.asked reported (lines_of plan)) start now
+  pub made : AreMade (edited_events plan.asked reported (sequel_of plan)) start now
   pub stays : now.sink.faults ≡ start.sink.faults
 
--- it makes the edits, if there are some: all are made, or the sink failed at one
+-- it makes the edits, if there are some, or draws the drawing: all are made, or the sink failed at one
 pub record EditsOn {X E : Type 0} (old : ReporterState) (before : Output) (result : Result X E) (new : ReporterState)
     (after : Output) : Type 0 where
   pub counted : new.items ≡ old.items
@@ -216,7 +238,7 @@ pub record EditsOn {X E : Type 0} (old : ReporterState) (before : Output) (resul
       → HasReported plan old reported start before → HasEdited plan new reported start after)
   pub cut : OnErr result ((plan : Plan) (reported : List Item) (start : Output)
       → HasReported plan old reported start before
-      → AreCutOff (edited_events plan.asked reported (lines_of plan)) start after)
+      → AreCutOff (edited_events plan.asked reported (sequel_of plan)) start after)
 
 -- ---- the decoder of bytes
 

@@ -1,18 +1,21 @@
--- How the reading of a script ends, before the page is selected. The bytes that were read are those of the script, where
--- the shelf tells it. This project's own. Private clauses alone cite this file.
+-- How the reading of a script or of a drawing ends, before the page is selected. The bytes that were read are those of the
+-- file, where the shelf tells it. This project's own. Private clauses alone cite this file.
 use Rattle.std.specs.Prelude.{◌≡◌, ◌≢◌, ◌⊎◌, ℕ, ◌^◌, ◌<◌, ◌≤◌, false, List, length, Option, Some, None, IsSome}
 use Rattle.std.specs.Prelude.{Result, Ok, Err}
 use Rattle.cept_editor.specs.declared.script.ScriptFault.{ScriptFault}
 use Rattle.cept_editor.specs.declared.script.ScriptFault.TheVariants as faults
-use Rattle.cept_editor.specs.Script.{EditLine, Fault, edits, first_fault}
+use Rattle.cept_editor.specs.Script.{Fault}
 use Rattle.cept_outside.specs.Causes.{Rose}
 use Rattle.cept_outside.specs.ShelfState.{ShelfState, KeepsFiles, bytes_under}
 use Rattle.cept_outside.specs.SinkState.{SinkState}
+use Rattle.cept_plot.specs.declared.drawing.DrawFault.{DrawFault}
+use Rattle.cept_plot.specs.declared.drawing.DrawFault.TheVariants as draw_faults
 use Rattle.cept_report.specs.Text.{script_fault_line}
 use Rattle.cept_run.specs.declared.page.Stop.{Stop}
 use Rattle.cept_run.specs.declared.page.Stop.TheVariants as stops
 use Rattle.cept_run.specs.Outside.{PutsWhole, PutsUnflushed}
-use Rattle.cept_run.specs.Course.{Source, File, Gives, HasBytes}
+use Rattle.cept_run.specs.Course.{Source, File, Gives, HasBytes, Grammar, first_fault_in, sequel_in}
+use Rattle.cept_run.specs.Events.{Sequel}
 use Rattle.cept_run.specs.Run.{fault_text}
 
 -- ---- the bytes that are selected are taken
@@ -45,15 +48,13 @@ TakingStops before stops.Script after = ⊥
 TakingStops before stops.NoMemory after = after.faults ≡ before.faults
 TakingStops before stops.NotSeven after = ⊥
 
--- ---- a script of this name is read
+-- ---- a file of this name is taken
 
--- it has these edit lines
-pub record ScriptWhole (name : List ℕ) (lines : List EditLine) (before after : ShelfState) : Type 0 where
-  pub bytes : List ℕ
+-- these are its bytes, and all were taken
+pub record FileWhole (name bytes : List ℕ) (before after : ShelfState) : Type 0 where
   pub known : HasBytes before (File name) bytes
+  pub taken : after.taken ≡ length bytes
   pub few : length bytes ≤ 2 ^ 20
-  pub good : first_fault bytes ≡ None
-  pub are : lines ≡ edits bytes
   pub stays : after.faults ≡ before.faults
 
 -- the shelf failed
@@ -68,12 +69,32 @@ pub record ScriptTooLong (name : List ℕ) (before after : ShelfState) : Type 0 
   pub longer : (script : List ℕ) → Gives before name script → 2 ^ 20 < length script
   pub stays : after.faults ≡ before.faults
 
+-- it wasn't taken to its end, for this reason
+abbrev pub FileStops : List ℕ → ShelfState → Stop → ShelfState → Type 0
+FileStops name before stops.ReadFault after = ScriptUnread before after
+FileStops name before stops.WriteFault after = ⊥
+FileStops name before stops.TooLong after = ScriptTooLong name before after
+FileStops name before stops.Script after = ⊥
+FileStops name before stops.NoMemory after = after.faults ≡ before.faults
+FileStops name before stops.NotSeven after = ⊥
+
+-- ---- a file of this name is read
+
+-- it is within the grammar, and says that this is done
+pub record ScriptWhole (grammar : Grammar) (name : List ℕ) (sequel : Sequel) (before after : ShelfState) : Type 0 where
+  pub bytes : List ℕ
+  pub known : HasBytes before (File name) bytes
+  pub few : length bytes ≤ 2 ^ 20
+  pub good : first_fault_in grammar bytes ≡ None
+  pub are : sequel ≡ sequel_in grammar bytes
+  pub stays : after.faults ≡ before.faults
+
 -- a line of it is outside the grammar
-pub record ScriptBad (name : List ℕ) (before after : ShelfState) : Type 0 where
+pub record ScriptBad (grammar : Grammar) (name : List ℕ) (before after : ShelfState) : Type 0 where
   pub bytes : List ℕ
   pub known : HasBytes before (File name) bytes
   pub fault : Fault
-  pub found : first_fault bytes ≡ Some fault
+  pub found : first_fault_in grammar bytes ≡ Some fault
   pub few : length bytes ≤ 2 ^ 20
   pub taken : after.taken ≡ length bytes
   pub stays : after.faults ≡ before.faults
@@ -92,25 +113,38 @@ abbrev pub StopsAt : ScriptFault → SinkState → Stop → SinkState → Type 0
 StopsAt (faults.BadLine line reason) old stop new = Refuses (script_fault_line line reason) old stop new
 StopsAt faults.NoMemory old stop new = (stop ≡ stops.NoMemory) × (new ≡ old)
 
+-- the fault of a drawing as that of a script
+abbrev pub as_script_fault : DrawFault → ScriptFault
+as_script_fault (draw_faults.BadLine line reason) = faults.BadLine line reason
+as_script_fault draw_faults.NoMemory = faults.NoMemory
+
 -- the line of its fault was put whole and flushed
-pub record ScriptRefused (name : List ℕ) (before after : ShelfState) (old new : SinkState) : Type 0 where
-  pub bad : ScriptBad name before after
-  pub put : PutsWhole (fault_text bad.fault) old new
+pub record ScriptRefused (grammar : Grammar) (name : List ℕ) (before after : ShelfState) (old new : SinkState) : Type 0
+  where
+    pub bad : ScriptBad grammar name before after
+    pub put : PutsWhole (fault_text bad.fault) old new
 
 -- or the sink failed
-pub record ScriptUnput (name : List ℕ) (before after : ShelfState) (old new : SinkState) : Type 0 where
-  pub bad : ScriptBad name before after
-  pub put : PutsUnflushed (fault_text bad.fault) old new
+pub record ScriptUnput (grammar : Grammar) (name : List ℕ) (before after : ShelfState) (old new : SinkState) : Type 0
+  where
+    pub bad : ScriptBad grammar name before after
+    pub put : PutsUnflushed (fault_text bad.fault) old new
 
--- how the reading of a script ends
-abbrev pub ScriptEnds : List ℕ → ShelfState → SinkState → Result (List EditLine) Stop → ShelfState → SinkState → Type 0
-ScriptEnds name before old (Ok lines) after new = ScriptWhole name lines before after × (new ≡ old)
-ScriptEnds name before old (Err stops.ReadFault) after new = ScriptUnread before after × (new ≡ old)
-ScriptEnds name before old (Err stops.WriteFault) after new = ScriptUnput name before after old new
-ScriptEnds name before old (Err stops.TooLong) after new = ScriptTooLong name before after × (new ≡ old)
-ScriptEnds name before old (Err stops.Script) after new = ScriptRefused name before after old new
-ScriptEnds name before old (Err stops.NoMemory) after new = (new ≡ old) × (after.faults ≡ before.faults)
-ScriptEnds name before old (Err stops.NotSeven) after new = ⊥
+-- why the reading of a file stops
+abbrev pub ScriptStops : Grammar → List ℕ → ShelfState → SinkState → Stop → ShelfState → SinkState → Type 0
+ScriptStops grammar name before old stops.ReadFault after new = ScriptUnread before after × (new ≡ old)
+ScriptStops grammar name before old stops.WriteFault after new = ScriptUnput grammar name before after old new
+ScriptStops grammar name before old stops.TooLong after new = ScriptTooLong name before after × (new ≡ old)
+ScriptStops grammar name before old stops.Script after new = ScriptRefused grammar name before after old new
+ScriptStops grammar name before old stops.NoMemory after new = (new ≡ old) × (after.faults ≡ before.faults)
+ScriptStops grammar name before old stops.NotSeven after new = ⊥
+
+-- how it ends, where what was read says that this is done
+abbrev pub ScriptEnds : {A : Type 0} → Grammar → (A → Sequel) → List ℕ → ShelfState → SinkState → Result A Stop
+    → ShelfState → SinkState → Type 0
+ScriptEnds grammar sequel name before old (Ok read) after new =
+    ScriptWhole grammar name (sequel read) before after × (new ≡ old)
+ScriptEnds grammar sequel name before old (Err stop) after new = ScriptStops grammar name before old stop after new
 
 -- however it ends, no other name is selected, the files stay, no count of faults falls, and where the shelf has the
 -- script no file is missed
@@ -123,9 +157,10 @@ pub record SelectsScript (name : List ℕ) (before after : ShelfState) : Type 0 
 -- ---- before a page is selected
 
 -- the script was read, if one is asked for: it has these bytes, and is within the grammar
-pub record ScriptKnown (page : List ℕ) (script : Source) (bytes : List ℕ) (before after : ShelfState) : Type 0 where
+pub record ScriptKnown (grammar : Grammar) (page : List ℕ) (script : Source) (bytes : List ℕ) (before after : ShelfState)
+    : Type 0 where
   pub has : HasBytes before script bytes
-  pub good : first_fault bytes ≡ None
+  pub good : first_fault_in grammar bytes ≡ None
   pub few : length bytes ≤ 2 ^ 20
   -- it isn't the page
   pub differs : (name : List ℕ) → script ≡ File name → name ≢ page

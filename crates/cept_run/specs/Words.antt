@@ -26,13 +26,14 @@ use Rattle.cept_run.specs.declared.words.Word.TheVariants as words
 
 -- what the program is asked for: of the page of this name; of the bytes of the page of this name; of the page of the first
 -- name and the script of the second; of the generated page of this number; of the page of this name through so many turns of
--- its flashing
+-- its flashing; of the page of the first name with the drawing of the second on it
 pub data Request : Type 0 where
   Page : PageAction → List ℕ → Request
   Bytes : BytesAction → List ℕ → Request
   Script : ScriptAction → List ℕ → List ℕ → Request
   Number : NumberAction → ℕ → Request
   Flash : List ℕ → ℕ → Request
+  Drawing : List ℕ → List ℕ → Request
 
 -- a request by its names' bytes
 abbrev pub request_by : NamedRequest → Request
@@ -41,6 +42,7 @@ request_by (named.Bytes action page) = Bytes action (string_bytes page.now)
 request_by (named.Script action page script) = Script action (string_bytes page.now) (string_bytes script.now)
 request_by (named.Number action number) = Number action number
 request_by (named.Flash page turns) = Flash (string_bytes page.now) turns
+request_by (named.Drawing page drawing) = Drawing (string_bytes page.now) (string_bytes drawing.now)
 
 -- the table of the first words
 abbrev pub word_of : List ℕ → Option Word
@@ -57,6 +59,7 @@ word_of word =
     if bytes_eq word (codes "seven") then Some (words.Bytes bytes.Seven) else
     if bytes_eq word (codes "eight") then Some (words.Bytes bytes.Eight) else
     if bytes_eq word (codes "flash") then Some words.Flash else
+    if bytes_eq word (codes "plot") then Some words.Plot else
     None
 
 -- the value in decimal of a word of one to ten digits, where it is at most 2^32 - 1
@@ -96,6 +99,12 @@ abbrev pub flash_request : List (List ℕ) → Option Request
 flash_request ((a ∷ name) ∷ number ∷ []) = option_map (Flash (a ∷ name)) (turns_of number)
 flash_request _ = None
 
+-- the names of a page and of a drawing: neither is empty, and the two differ
+abbrev pub drawing_request : List (List ℕ) → Option Request
+drawing_request ((a ∷ name) ∷ (b ∷ drawing) ∷ []) =
+    if bytes_eq (a ∷ name) (b ∷ drawing) then None else Some (Drawing (a ∷ name) (b ∷ drawing))
+drawing_request _ = None
+
 -- what a first word asks for with the words after it
 abbrev pub request_with : Word → List (List ℕ) → Option Request
 request_with (words.Page action) after = page_request action after
@@ -103,6 +112,7 @@ request_with (words.Bytes action) after = bytes_request action after
 request_with (words.Script action) after = script_request action after
 request_with (words.Number action) after = number_request action after
 request_with words.Flash after = flash_request after
+request_with words.Plot after = drawing_request after
 
 -- what the words ask for
 unfoldable pub request_of : List (List ℕ) → Option Request
@@ -116,6 +126,7 @@ HasTwoNames (Bytes action page) = Unit {0}
 HasTwoNames (Script action page script) = script ≢ page
 HasTwoNames (Number action number) = Unit {0}
 HasTwoNames (Flash page turns) = Unit {0}
+HasTwoNames (Drawing page drawing) = drawing ≢ page
 
 -- ---- what each action asks for
 
@@ -145,6 +156,10 @@ asked_of_script scripts.Edit = record painted_alone { end = ends.Page }
 -- of a generated page that is read and painted
 abbrev pub asked_to_load : Asked
 asked_to_load = record painted_alone { end = ends.Counts }
+
+-- of a page and a drawing
+abbrev pub asked_to_draw : Asked
+asked_to_draw = record painted_alone { end = ends.Page }
 
 -- of a page that flashes through so many turns
 abbrev pub asked_of_phases : ℕ → Asked

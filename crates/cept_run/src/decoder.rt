@@ -116,7 +116,7 @@ impl Decoder {
             .report_items(items.as_slice(), sink, glass, steps)
     }
 
-    /// Makes the edits of the script, if there is one.
+    /// Makes the edits of the script or draws the drawing, if there is one.
     pub fn make_edits<T: Sink, G: Glass, L: Ledger>(
         &mut self,
         sink: &mut T,

@@ -8,6 +8,7 @@ ghost use Rattle.cept_run.specs.Reporting.{painted_easel, screen_of, AppliesOn};
 use cept_codes::{Command, NoMemory};
 use cept_editor::{Editor, Script};
 use cept_outside::Steps;
+use cept_plot::Drawing;
 use cept_repaint::{Glass, Marks, Screen};
 use std::alloc::Global;
 use std::sync::ledger::Ledger;
@@ -21,6 +22,8 @@ pub enum Easel {
     Screen(Screen),
     /// A screen whose edits can be taken back, and the script of the edits.
     Editor(Editor, Script),
+    /// A screen, and the drawing that is drawn on it after the page.
+    Drawing(Screen, Drawing),
 }
 
 impl Easel {
@@ -54,6 +57,7 @@ impl Easel {
             Easel::Nothing => {}
             Easel::Screen(screen) => screen.apply_from(command, glass, marks, steps),
             Easel::Editor(editor, _) => editor.page(command, glass, marks, steps),
+            Easel::Drawing(screen, _) => screen.apply_from(command, glass, marks, steps),
         }
     }
 
@@ -66,6 +70,7 @@ impl Easel {
             Easel::Nothing => None,
             Easel::Screen(screen) => Some(screen),
             Easel::Editor(editor, _) => Some(editor.screen()),
+            Easel::Drawing(screen, _) => Some(screen),
         }
     }
 }

@@ -1,15 +1,16 @@
-//! Makes the edits of a script, and puts their lines where they are asked for.
+//! Makes the edits of a script, and puts their lines where they are asked for; or draws a drawing.
 
 ghost use Rattle.std.specs.Prelude.{◌<◌, [], length, if◌then◌else◌, slice_index_or};
 ghost use Rattle.cept_editor.specs.Made.{output_of};
 ghost use Rattle.cept_editor.specs.Script.{EditLine};
 ghost use Rattle.cept_outside.specs.SinkState.{PutsText};
 ghost use Rattle.cept_report.specs.Text.{nothing_line};
-ghost use Rattle.cept_run.specs.Reporting.{MakesLine, MakesLines};
+ghost use Rattle.cept_run.specs.Reporting.{Draws, MakesLine, MakesLines};
 
 use cept_editor::{Done, Editor, Script};
 use cept_outside::{Sink, Steps, WriteFault};
-use cept_repaint::{Glass, Marks};
+use cept_plot::{Drawing, Field, paint_field};
+use cept_repaint::{Glass, Marks, Screen};
 use cept_report::put_nothing;
 use std::sync::ledger::Ledger;
 
@@ -66,4 +67,19 @@ pub fn make_lines<T: Sink, G: Glass, L: Ledger>(
         make_line(editor, script, k, listed, marks, sink, glass, steps)?;
     }
     Ok(())
+}
+
+/// Draws a drawing on the page that a screen has: the points of its field, changed by the figures.
+pub fn draw<G: Glass, L: Ledger>(
+    screen: &mut Screen,
+    drawing: &Drawing,
+    marks: &mut Marks,
+    glass: &mut G,
+    steps: &mut Steps<L>,
+)
+    ensures { Draws drawing.now screen.old (G.state glass.old) screen.new (G.state glass.new) }
+{
+    let mut field = Field::of(screen);
+    field.draw(drawing);
+    paint_field(screen, &field, glass, marks, steps);
 }

@@ -13,9 +13,15 @@ ghost use Rattle.cept_run.specs.declared.words.Asked.{Asked};
 ghost use Rattle.cept_codes.specs.declared.look.Look.{Look};
 ghost use Rattle.cept_editor.specs.Events.{Event, event_changes, paints};
 ghost use Rattle.cept_editor.specs.Made.{Output, AreCutOff};
-ghost use Rattle.cept_editor.specs.Script.{EditLine};
 ghost use Rattle.cept_run.specs.Course.{File, Given, course_of};
-ghost use Rattle.cept_run.specs.Events.{history, item_event, item_events, run_events};
+ghost use Rattle.cept_plot.specs.declared.figure.Figure.{Figure};
+ghost use Rattle.cept_plot.specs.Commands.{IsDrawnOn};
+ghost use Rattle.cept_plot.specs.Drawings.{points_after_all};
+ghost use Rattle.cept_plot.specs.Points.{is_in_field};
+ghost use Rattle.cept_profile.specs.State.{core};
+ghost use Rattle.cept_profile.specs.Valid.{AllValid};
+ghost use Rattle.cept_run.specs.Events.{Sequel, Figures, history, item_event, item_events};
+ghost use Rattle.cept_run.specs.Events.{remaining_after, run_events};
 ghost use Rattle.cept_run.specs.Outside.{Outside};
 ghost use Rattle.cept_run.specs.Run.{Runs, ReportsFront};
 ghost use Rattle.cept_run.specs.Words.{Request, request_of};
@@ -48,13 +54,22 @@ pub fn a_blank_glass_shows_the_meaning()
 /// After the paints of each event of a run a glass that was blank shows what the commands mean that
 /// remain after it. So it does at the end of a run whose sink failed at that event.
 pub fn a_blank_glass_shows_each_event()
-    ensures each { (asked : Asked) (page : List ℕ) (lines : List EditLine) (shown : List (List Look))
+    ensures each { (asked : Asked) (page : List ℕ) (sequel : Sequel) (shown : List (List Look))
         (done : List Event) (event : Event) (rest : List Event)
-        → run_events asked page lines shown ≡ done ++ event ∷ rest
+        → run_events asked page sequel shown ≡ done ++ event ∷ rest
         → grid_with_paints (grid []) (paints (done ++ event ∷ [])) ≡ grid event.after }
-    ensures cut { (asked : Asked) (page : List ℕ) (lines : List EditLine) (shown : List (List Look))
-        (before after : Output) (off : AreCutOff (run_events asked page lines shown) before after)
+    ensures cut { (asked : Asked) (page : List ℕ) (sequel : Sequel) (shown : List (List Look))
+        (before after : Output) (off : AreCutOff (run_events asked page sequel shown) before after)
         → before.glass.grid ≡ grid [] → after.glass.grid ≡ grid off.cut.after }
+{}
+
+/// What remains of a page and a drawing is the page with the drawing on it: a point whose cell is
+/// within the format and not protected is in its field exactly where it is among the points that the
+/// figures leave of the page's own, and all else stays.
+pub fn a_drawing_is_drawn_on_its_page()
+    ensures { (page : List Command) (figures : List Figure) → AllValid page
+        → IsDrawnOn (core page) (points_after_all (is_in_field (core page)) figures)
+        (core (remaining_after page (Figures figures))) }
 {}
 
 /// A known page that can't be read on, or is too long, is reported as far as it was taken, whether

@@ -12,7 +12,7 @@ ghost use Rattle.cept_run.specs.Events.{painted_end, text_at_end};
 ghost use Rattle.cept_editor.specs.Made.{output_of};
 
 use crate::easel::Easel;
-use crate::edits::make_lines;
+use crate::edits::{draw, make_lines};
 use crate::words::{Asked, End};
 use cept_codes::{Command, Item, Reason, Said};
 use cept_flash::Blink;
@@ -25,7 +25,7 @@ use cept_writer::write_page;
 use std::marker::Model;
 use std::sync::ledger::Ledger;
 
-/// Reports items one after the other, and then edits: what is asked for, what commands are applied
+/// Reports items one after the other, and then edits or a drawing: what is asked for, what commands are applied
 /// to with the places that the last one changed, how many items there were and were refused, and
 /// how many places were painted, where these are counted.
 #[derive(Drop)]
@@ -181,7 +181,7 @@ impl Reporter {
         Ok(())
     }
 
-    /// Makes the edits of the script, if there is one.
+    /// Makes the edits of the script or draws the drawing, if there is one.
     pub fn make_edits<T: Sink, G: Glass, L: Ledger>(
         &mut self,
         sink: &mut T,
@@ -197,6 +197,10 @@ impl Reporter {
             Easel::Screen(_) => Ok(()),
             Easel::Editor(editor, script) => {
                 make_lines(editor, script, listed, &mut self.marks, sink, glass, steps)
+            }
+            Easel::Drawing(screen, drawing) => {
+                draw(screen, drawing, &mut self.marks, glass, steps);
+                Ok(())
             }
         }
     }

@@ -1,32 +1,32 @@
 ghost use Rattle.std.specs.Prelude.{◌≡◌, ◌≢◌, ◌^◌, ◌<◌, ◌≤◌, [], List, None, ℕ};
 ghost use Rattle.std.specs.Prelude.{map, string_bytes, length};
 ghost use Rattle.cept_editor.specs.Made.{Output};
-ghost use Rattle.cept_editor.specs.Script.{edits};
 ghost use Rattle.cept_generator.specs.Generated.{generated};
 ghost use Rattle.cept_outside.specs.QuietShelf.{quiet_shelf_state};
 ghost use Rattle.cept_outside.specs.QuietSink.{quiet_sink_state};
 ghost use Rattle.cept_outside.specs.ShelfState.{ShelfState};
 ghost use Rattle.cept_parser.specs.Items.{closed_items};
-ghost use Rattle.cept_run.specs.Course.{Source, File, Given, reporting, course_of};
-ghost use Rattle.cept_run.specs.Events.{text_at_end, has_refusal};
+ghost use Rattle.cept_run.specs.Course.{Source, File, Given, Grammar, Scripts, reporting};
+ghost use Rattle.cept_run.specs.Course.{course_of, sequel_in};
+ghost use Rattle.cept_run.specs.Events.{text_at_end, has_refusal, nothing_more};
 ghost use Rattle.cept_run.specs.Outside.{outside_of};
 ghost use Rattle.cept_run.specs.Page.{PutsEnd};
-ghost use Rattle.cept_run.specs.Reporting.{Plan, StandsAtEnd, HasRead, plan_in, lines_of};
+ghost use Rattle.cept_run.specs.Reporting.{Plan, StandsAtEnd, HasRead, plan_in, sequel_of};
 ghost use Rattle.cept_run.specs.Reporting.{HasBlink, remaining_at_end};
 ghost use Rattle.cept_run.specs.Run.{Runs, RunsCourse, Asks, IsShortScript};
 ghost use Rattle.cept_run.specs.Run.{status_number, status_of, status_at_end};
 ghost use Rattle.cept_run.specs.ScriptReading.{ScriptKnown};
 ghost use Rattle.cept_run.specs.Words.{Request as Asked, HasTwoNames, Page, Script as OfScript};
-ghost use Rattle.cept_run.specs.Words.{Flash, Number, request_by};
+ghost use Rattle.cept_run.specs.Words.{Flash, Number, Drawing as OfDrawing, request_by};
 
 use crate::decoder::Decoder;
 use crate::easel::Easel;
 use crate::generated::{put_generated, read_generated};
 use crate::page::{Stop, read_page};
-use crate::script::read_script;
+use crate::script::{read_drawing, read_script};
 use crate::turning::put_bytes;
 use crate::words::{
-    BytesAction, LOADED, NumberAction, PageAction, Request, ScriptAction, asked_of_phases,
+    BytesAction, DRAWN, LOADED, NumberAction, PageAction, Request, ScriptAction, asked_of_phases,
     request_of,
 };
 use cept_editor::Editor;
@@ -34,7 +34,7 @@ use cept_flash::Blink;
 use cept_generator::{generated_pages_are_read, generated_pages_are_short};
 use cept_outside::{QuietShelf, QuietSink, Shelf, Sink, Steps};
 use cept_profile::validity_is_kept;
-use cept_repaint::Glass;
+use cept_repaint::{Glass, Screen};
 use cept_writer::{compact_pages_are_spelled, compact_texts_bring_pages_back};
 use std::alloc::Global;
 use std::marker::Brand;
@@ -141,8 +141,8 @@ fn end_report<T: Sink, G: Glass>(
     Ok(decoder.has_refusal())
 }
 
-/// Reads a page to its end, makes the edits of the script, if there is one, puts the text at the end
-/// and flushes. Answers whether an item of the page was refused.
+/// Reads a page to its end, makes the edits of the script or draws the drawing, if there is one, puts
+/// the text at the end and flushes. Answers whether an item of the page was refused.
 fn report_stored<F: Shelf, T: Sink, G: Glass, L: Ledger>(
     decoder: &mut Decoder,
     blink: &mut Option<Blink>,
@@ -158,11 +158,11 @@ fn report_stored<F: Shelf, T: Sink, G: Glass, L: Ledger>(
     requires name { blank.name ≡ L.name }
     requires parts { blank.parts ≡ L.parts }
     requires some { 0 < blank.parts }
-    ensures { (script : Source) (bytes : List ℕ) (start : ShelfState)
-        → ScriptKnown (string_bytes page.now) script bytes start (F.state shelf.old)
-        → lines_of (plan_in decoder.old.reporter) ≡ edits bytes
+    ensures { (grammar : Grammar) (script : Source) (bytes : List ℕ) (start : ShelfState)
+        → ScriptKnown grammar (string_bytes page.now) script bytes start (F.state shelf.old)
+        → sequel_of (plan_in decoder.old.reporter) ≡ sequel_in grammar bytes
         → RunsCourse
-        (reporting decoder.old.reporter.asked (File (string_bytes page.now)) script)
+        (reporting decoder.old.reporter.asked grammar (File (string_bytes page.now)) script)
         (outside_of start (T.state sink.old) (G.state glass.old))
         (outside_of (F.state shelf.new) (T.state sink.new) (G.state glass.new))
         (status_at_end result) }
@@ -227,6 +227,30 @@ fn report_edited<F: Shelf, T: Sink, G: Glass>(
     report_stored::<F, T, G, Brand>(&mut decoder, &mut None, page, shelf, sink, glass, blank)
 }
 
+/// Reads a drawing, and then reports a page and draws the drawing on it.
+fn report_drawn<F: Shelf, T: Sink, G: Glass>(
+    alloc: Global,
+    page: &String,
+    drawing: &String,
+    shelf: &mut F,
+    sink: &mut T,
+    glass: &mut G,
+) -> Result<bool, Stop>
+    requires { string_bytes drawing.now ≢ string_bytes page.now }
+    ensures { RunsCourse
+        (course_of (OfDrawing (string_bytes page.now) (string_bytes drawing.now)))
+        (outside_of (F.state shelf.old) (T.state sink.old) (G.state glass.old))
+        (outside_of (F.state shelf.new) (T.state sink.new) (G.state glass.new))
+        (status_at_end result) }
+{
+    let screen = Screen::new(alloc)?;
+    let drawing = read_drawing(alloc, drawing, shelf, sink)?;
+    let mut decoder = Decoder::new(DRAWN, Easel::Drawing(screen, drawing));
+    // No step is counted: the ledger is a blank one.
+    let blank = Blank::new(1);
+    report_stored::<F, T, G, Brand>(&mut decoder, &mut None, page, shelf, sink, glass, blank)
+}
+
 /// Reports a page that flashes through so many turns.
 fn report_phases<F: Shelf, T: Sink, G: Glass>(
     alloc: Global,
@@ -261,13 +285,14 @@ fn report_generated<T: Sink, G: Glass, L: Ledger>(
 ) -> Result<bool, Stop>
     requires fresh { (start : Output)
         → HasRead (plan_in decoder.old.reporter) decoder.old [] start start }
-    requires alone { lines_of (plan_in decoder.old.reporter) ≡ [] }
+    requires alone { sequel_of (plan_in decoder.old.reporter) ≡ nothing_more }
     requires blink { HasBlink decoder.old.reporter.asked.end None }
     requires name { blank.name ≡ L.name }
     requires parts { blank.parts ≡ L.parts }
     requires some { 0 < blank.parts }
     ensures { (shelf : ShelfState)
-        → RunsCourse (reporting decoder.old.reporter.asked (Given (generated number)) (Given []))
+        → RunsCourse
+        (reporting decoder.old.reporter.asked Scripts (Given (generated number)) (Given []))
         (outside_of shelf (T.state sink.old) (G.state glass.old))
         (outside_of shelf (T.state sink.new) (G.state glass.new)) (status_at_end result) }
 {
@@ -344,6 +369,9 @@ fn report_request<F: Shelf, T: Sink, G: Glass>(
         }
         Request::Number(action, number) => report_number(alloc, action, number, sink, glass),
         Request::Flash(page, turns) => report_phases(alloc, page, turns, shelf, sink, glass),
+        Request::Drawing(page, drawing) => {
+            report_drawn(alloc, page, drawing, shelf, sink, glass)
+        }
     }
 }
 
@@ -361,6 +389,9 @@ fn report_request<F: Shelf, T: Sink, G: Glass>(
 /// edit that is kept, a redo by bringing that after the first undone one. `trace` puts the lines of
 /// the page's refused items, and the lines of the changes of each edit; `edit` the bytes that bring
 /// the edited page back.
+///
+/// `plot PAGE DRAWING` reads the drawing first. It applies and paints the page likewise, and then the
+/// commands that draw the drawing on it, and puts the bytes that bring the drawn page back.
 ///
 /// `gen NUMBER` puts the generated page of the number, and paints nothing. `load NUMBER` reads and
 /// paints it as `show` does a stored page, and puts how many bytes and items it has, and how many

@@ -1,25 +1,28 @@
-//! Takes a script from the shelf and reads its edits.
+//! Takes a script from the shelf and reads its edits, or a drawing and reads its figures.
 
 ghost use Rattle.std.specs.Prelude.{◌≡◌, string_bytes, IfOk, IfErr, false};
+ghost use Rattle.cept_run.specs.Course.{Scripts, Drawings};
+ghost use Rattle.cept_run.specs.Events.{Edits, Figures};
 ghost use Rattle.cept_run.specs.Page.{KeepsShelf};
 ghost use Rattle.cept_report.specs.Text.{script_fault_line};
 ghost use Rattle.cept_run.specs.ScriptReading.{TakenWhole, TakingStops, Refuses, StopsAt, ScriptEnds};
-ghost use Rattle.cept_run.specs.ScriptReading.{SelectsScript};
+ghost use Rattle.cept_run.specs.ScriptReading.{FileWhole, FileStops, SelectsScript, as_script_fault};
 
 use crate::page::Stop;
 use cept_codes::LineReason;
 use cept_editor::{Script, ScriptFault};
 use cept_outside::{Shelf, Sink};
+use cept_plot::{DrawFault, Drawing};
 use cept_report::put_script_fault;
 use std::alloc::Global;
 
-/// The greatest number of bytes of a script.
+/// The greatest number of bytes of a script or a drawing.
 const LIMIT: usize = 1 << 20;
 
 /// The number of bytes that are taken at once at most.
 const PIECE: usize = 4096;
 
-/// Takes the selected script piece by piece to its end.
+/// Takes the selected script or drawing piece by piece to its end.
 fn take_script<F: Shelf>(alloc: Global, shelf: &mut F) -> Result<Vec<u8>, Stop>
     requires selected { (F.state shelf.old).taken ≡ 0 }
     requires unended { (F.state shelf.old).ended ≡ false }
@@ -45,6 +48,20 @@ fn take_script<F: Shelf>(alloc: Global, shelf: &mut F) -> Result<Vec<u8>, Stop>
             return Err(Stop::NoMemory);
         };
     }
+}
+
+/// Selects a script or a drawing and takes it.
+fn take_file<F: Shelf>(alloc: Global, name: &String, shelf: &mut F) -> Result<Vec<u8>, Stop>
+    ensures whole { IfOk result (λ bytes. FileWhole (string_bytes name.now) bytes.items
+        (F.state shelf.old) (F.state shelf.new)) }
+    ensures stopped { IfErr result (λ stop. FileStops (string_bytes name.now) (F.state shelf.old)
+        stop (F.state shelf.new)) }
+    ensures shelf { SelectsScript (string_bytes name.now) (F.state shelf.old) (F.state shelf.new) }
+{
+    let Ok(()) = shelf.select(name.as_str()) else {
+        return Err(Stop::ReadFault);
+    };
+    take_script(alloc, shelf)
 }
 
 /// Puts the line of a script's fault and flushes. Answers why the run stops.
@@ -78,16 +95,42 @@ pub fn read_script<F: Shelf, T: Sink>(
     shelf: &mut F,
     sink: &mut T,
 ) -> Result<Script, Stop>
-    ensures ends { ScriptEnds (string_bytes name.now) (F.state shelf.old) (T.state sink.old) result
-        (F.state shelf.new) (T.state sink.new) }
+    ensures ends { ScriptEnds Scripts Edits (string_bytes name.now) (F.state shelf.old)
+        (T.state sink.old) result (F.state shelf.new) (T.state sink.new) }
     ensures shelf { SelectsScript (string_bytes name.now) (F.state shelf.old) (F.state shelf.new) }
 {
-    let Ok(()) = shelf.select(name.as_str()) else {
-        return Err(Stop::ReadFault);
-    };
-    let bytes = take_script(alloc, shelf)?;
+    let bytes = take_file(alloc, name, shelf)?;
     match Script::read(bytes) {
         Ok(script) => Ok(script),
         Err(fault) => Err(stop_at(fault, sink)),
+    }
+}
+
+/// The fault of a drawing as that of a script.
+fn as_script_fault(fault: DrawFault) -> ScriptFault
+    ensures { result ≡ as_script_fault fault }
+{
+    match fault {
+        DrawFault::BadLine(line, reason) => ScriptFault::BadLine(line, reason),
+        DrawFault::NoMemory => ScriptFault::NoMemory,
+    }
+}
+
+/// Selects a drawing, takes it and reads its figures. Where a line is outside the grammar, it puts
+/// the line that says so.
+pub fn read_drawing<F: Shelf, T: Sink>(
+    alloc: Global,
+    name: &String,
+    shelf: &mut F,
+    sink: &mut T,
+) -> Result<Drawing, Stop>
+    ensures ends { ScriptEnds Drawings Figures (string_bytes name.now) (F.state shelf.old)
+        (T.state sink.old) result (F.state shelf.new) (T.state sink.new) }
+    ensures shelf { SelectsScript (string_bytes name.now) (F.state shelf.old) (F.state shelf.new) }
+{
+    let bytes = take_file(alloc, name, shelf)?;
+    match Drawing::read(alloc, bytes.as_slice()) {
+        Ok(drawing) => Ok(drawing),
+        Err(fault) => Err(stop_at(as_script_fault(fault), sink)),
     }
 }

@@ -5,7 +5,8 @@ ghost use Rattle.std.specs.Char.{is_ascii_digit};
 ghost use Rattle.std.specs.List.{list_all};
 ghost use Rattle.std.specs.Option.{option_map};
 ghost use Rattle.cept_run.specs.Words.{asked_of_page, asked_of_phases, asked_of_script};
-ghost use Rattle.cept_run.specs.Words.{asked_to_load, flash_request, number_of, turns_of};
+ghost use Rattle.cept_run.specs.Words.{asked_to_draw, asked_to_load, flash_request, number_of};
+ghost use Rattle.cept_run.specs.Words.{drawing_request, turns_of};
 ghost use Rattle.cept_run.specs.Words.{bytes_request, is_counted, request_by, request_of, page_request};
 ghost use Rattle.cept_run.specs.Words.{script_request};
 ghost use Rattle.cept_run.specs.Words.{number_request, word_of, HasTwoNames};
@@ -166,6 +167,15 @@ pub const LOADED: Asked = Asked {
     end: End::Counts,
 };
 
+/// What is asked for of a page and a drawing.
+pub const DRAWN: Asked = Asked {
+    painting: true,
+    listed: false,
+    refusals: false,
+    edits_listed: false,
+    end: End::Page,
+};
+
 /// What is asked for of a page that flashes through so many turns.
 pub fn asked_of_phases(turns: u16) -> Asked
     ensures { result ≡ asked_of_phases turns }
@@ -189,6 +199,8 @@ pub enum Word {
     Number(NumberAction),
     /// The name of a page, and a number of turns.
     Flash,
+    /// The names of a page and of a drawing.
+    Plot,
 }
 
 /// What a word asks for.
@@ -219,6 +231,8 @@ fn word_of(word: &str) -> Option<Word>
         Some(Word::Bytes(BytesAction::Eight))
     } else if word == "flash" {
         Some(Word::Flash)
+    } else if word == "plot" {
+        Some(Word::Plot)
     } else {
         None
     }
@@ -237,6 +251,9 @@ pub enum Request<'a> {
     Number(NumberAction, u32),
     /// Of the page of this name, which flashes through so many turns, at most 600.
     Flash(&'a String, u16),
+    /// Of the page of the first name and the drawing of the second: the page with it, as bytes that
+    /// bring it back.
+    Drawing(&'a String, &'a String),
 }
 
 /// Whether each byte is a digit.
@@ -324,6 +341,19 @@ fn flash_request(words: &[String]) -> Option<Request<'_>>
     }
 }
 
+/// The two words after the first, the names of a page and of a drawing.
+fn drawing_request(words: &[String]) -> Option<Request<'_>>
+    ensures request { option_map request_by result ≡ drawing_request (map string_bytes words.now) }
+    ensures differ { IfSome result (λ request. HasTwoNames (request_by request)) }
+{
+    match words {
+        [page, drawing] if !page.is_empty() && !drawing.is_empty() && page != drawing => {
+            Some(Request::Drawing(page, drawing))
+        }
+        _ => None,
+    }
+}
+
 /// What the words ask for, where they are a request.
 #[tactic(auto, unfolding(crate::specs::Words::request_of))]
 pub fn request_of(words: &[String]) -> Option<Request<'_>>
@@ -339,5 +369,6 @@ pub fn request_of(words: &[String]) -> Option<Request<'_>>
         Word::Script(action) => script_request(action, after),
         Word::Number(action) => number_request(action, after),
         Word::Flash => flash_request(after),
+        Word::Plot => drawing_request(after),
     }
 }

@@ -9,4 +9,6 @@ mod hostile;
 #[cfg(test)]
 mod pages;
 #[cfg(test)]
+mod plot;
+#[cfg(test)]
 mod run;

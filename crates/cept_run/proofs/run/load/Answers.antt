@@ -1,12 +1,12 @@
 use Rattle.std.proofs.Common.{[], refl, ◌∙◌, ap, subst}
 use Rattle.cept_generator.specs.Generated.{generated}
 use Rattle.cept_run.specs.declared.words.Asked.{Asked}
-use Rattle.cept_run.specs.Course.{Given, reporting}
+use Rattle.cept_run.specs.Course.{Given, Scripts, reporting}
 use Rattle.cept_run.specs.Outside.{outside_of}
-use Rattle.cept_run.specs.Reporting.{lines_of}
+use Rattle.cept_run.specs.Reporting.{sequel_of}
 use Rattle.cept_run.specs.Run.{RunsCourse, status_at_end}
 use Rattle.cept_run.specs.Words.{asked_to_load}
-use Rattle.cept_run.proofs.FreshDecoders.{plan_alone, lines_alone, fresh_by, alone}
+use Rattle.cept_run.proofs.FreshDecoders.{plan_alone, nothing_alone, fresh_by, alone}
 use Rattle.cept_run.proofs.run.load.Goals as goal
 
 pub report_generated-requires-clause-fresh : goal.report_generated-requires-clause-fresh
@@ -16,12 +16,12 @@ report_generated-requires-clause-fresh g c = λ start.
     (c.new-decoder.ensures.read (alone asked_to_load) refl c.in_ok-easel.ensures.start start)
 
 pub report_generated-requires-clause-alone : goal.report_generated-requires-clause-alone
-report_generated-requires-clause-alone g c = ap lines_of (plan_alone c.new-decoder.result.reporter asked_to_load _ c.new-decoder.ensures.asked
-    c.new-decoder.ensures.easel c.in_ok-easel.ensures.start) ∙ lines_alone asked_to_load
+report_generated-requires-clause-alone g c = ap sequel_of (plan_alone c.new-decoder.result.reporter asked_to_load _ c.new-decoder.ensures.asked
+    c.new-decoder.ensures.easel c.in_ok-easel.ensures.start) ∙ nothing_alone asked_to_load
 
 pub returns : goal.returns
 returns g c = λ shelf.
-    subst (λ (a : Asked). RunsCourse (reporting a (Given (generated c.args.number)) (Given []))
+    subst (λ (a : Asked). RunsCourse (reporting a Scripts (Given (generated c.args.number)) (Given []))
     (outside_of shelf (g.T.Sink.state c.args.sink.now) (g.G.Glass.state c.args.glass.now))
     (outside_of shelf (g.T.Sink.state c.report_generated.new.sink) (g.G.Glass.state c.report_generated.new.glass))
     (status_at_end c.report_generated.result)) c.new-decoder.ensures.asked (c.report_generated.ensures shelf)

@@ -2,12 +2,14 @@ use Rattle.std.proofs.Common.{refl, ◌∙◌, ap, subst, string_bytes}
 use Rattle.std.proofs.lemmas.Result.{err_from_is_err_and}
 use Rattle.cept_outside.specs.SinkState.{SinkState}
 use Rattle.cept_run.specs.declared.words.Asked.{Asked}
-use Rattle.cept_run.specs.Course.{File, reporting}
+use Rattle.cept_run.specs.Course.{File, Scripts, reporting}
+use Rattle.cept_run.specs.Events.{Edits}
 use Rattle.cept_run.specs.Outside.{outside_of}
-use Rattle.cept_run.specs.Reporting.{lines_of}
+use Rattle.cept_run.specs.Reporting.{sequel_of}
 use Rattle.cept_run.specs.Run.{RunsCourse, status_at_end}
 use Rattle.cept_run.specs.Words.{asked_of_script}
-use Rattle.cept_run.proofs.FreshDecoders.{script_paints, easel_edited, plan_edited, lines_edited, fresh_by, edited}
+use Rattle.cept_run.proofs.FreshDecoders.{script_paints, easel_edited, plan_followed, sequel_followed, fresh_by}
+use Rattle.cept_run.proofs.FreshDecoders.{followed}
 use Rattle.cept_run.proofs.StoppedScripts.{script_read, ends_at_script}
 use Rattle.cept_run.proofs.run.report_edited.Goals as goal
 
@@ -15,7 +17,7 @@ use Rattle.cept_run.proofs.run.report_edited.Goals as goal
 pub returns-in_err-script : goal.returns-in_err-script
 returns-in_err-script g c =
     let p = err_from_is_err_and c.from_residual-in_err-script.result c.from_residual-in_err-script.ensures.1 in
-    rw (p.1, p.2) (ends_at_script _ _ _ _ _ _ (script_paints c.args.action) c.requires c.read_script.ensures.shelf _
+    rw (p.1, p.2) (ends_at_script _ Scripts _ _ _ _ _ (script_paints c.args.action) c.requires c.read_script.ensures.shelf _
     (g.met.F.Shelf.sound c.read_script.new.shelf) c.in_err-script.ensures.ends)
 
 pub report_stored-requires-clause-fresh : goal.report_stored-requires-clause-fresh
@@ -23,8 +25,9 @@ report_stored-requires-clause-fresh g c = λ start.
     let asked = c.asked.result in
     let lines = c.in_ok-script.script in
     let painting = ap (λ (a : Asked). a.painting) c.asked.ensures ∙ script_paints c.args.action in
-    fresh_by _ (edited asked lines) start (plan_edited c.new-decoder.result.reporter asked _ lines c.new-decoder.ensures.asked
-    c.new-decoder.ensures.easel) (c.new-decoder.ensures.read (edited asked lines) refl
+    fresh_by _ (followed asked (Edits lines)) start (plan_followed c.new-decoder.result.reporter asked _ (Edits lines)
+    c.new-decoder.ensures.asked c.new-decoder.ensures.easel refl)
+    (c.new-decoder.ensures.read (followed asked (Edits lines)) refl
     (easel_edited asked _ lines painting c.in_ok-editor.ensures.start) start)
 
 pub returns : goal.returns
@@ -32,20 +35,21 @@ returns g c =
     let asked = c.asked.result in
     let lines = c.in_ok-script.script in
     let painting = ap (λ (a : Asked). a.painting) c.asked.ensures ∙ script_paints c.args.action in
-    let plan = plan_edited c.new-decoder.result.reporter asked _ lines c.new-decoder.ensures.asked c.new-decoder.ensures.easel in
+    let plan = plan_followed c.new-decoder.result.reporter asked _ (Edits lines) c.new-decoder.ensures.asked
+    c.new-decoder.ensures.easel refl in
     let ends = c.in_ok-script.ensures.ends in
     subst (λ (s : SinkState). RunsCourse
-    (reporting (asked_of_script c.args.action) (File (string_bytes c.args.page.now)) (File (string_bytes c.args.script.now)))
+    (reporting (asked_of_script c.args.action) Scripts (File (string_bytes c.args.page.now)) (File (string_bytes c.args.script.now)))
     (outside_of (g.F.Shelf.state c.args.shelf.now) s (g.G.Glass.state c.args.glass.now))
     (outside_of (g.F.Shelf.state c.report_stored.new.shelf) (g.T.Sink.state c.report_stored.new.sink)
     (g.G.Glass.state c.report_stored.new.glass)) (status_at_end c.report_stored.result)) ends.1
     (subst (λ (a : Asked). RunsCourse
-    (reporting a (File (string_bytes c.args.page.now)) (File (string_bytes c.args.script.now)))
+    (reporting a Scripts (File (string_bytes c.args.page.now)) (File (string_bytes c.args.script.now)))
     (outside_of (g.F.Shelf.state c.args.shelf.now) (g.T.Sink.state c.read_script.new.sink)
     (g.G.Glass.state c.args.glass.now))
     (outside_of (g.F.Shelf.state c.report_stored.new.shelf) (g.T.Sink.state c.report_stored.new.sink)
     (g.G.Glass.state c.report_stored.new.glass)) (status_at_end c.report_stored.result))
     (c.new-decoder.ensures.asked ∙ c.asked.ensures)
-    (c.report_stored.ensures (File (string_bytes c.args.script.now)) ends.0.bytes _
-    (script_read _ _ lines _ _ c.requires c.read_script.ensures.shelf ends.0)
-    (ap lines_of plan ∙ lines_edited asked lines painting ∙ ends.0.are)))
+    (c.report_stored.ensures Scripts (File (string_bytes c.args.script.now)) ends.0.bytes _
+    (script_read Scripts _ _ (Edits lines) _ _ c.requires c.read_script.ensures.shelf ends.0)
+    (ap sequel_of plan ∙ sequel_followed asked (Edits lines) painting ∙ ends.0.are)))

@@ -1,11 +1,11 @@
 use Rattle.std.proofs.Common.{[], refl, sym, ◌∙◌, ap, subst, string_bytes}
 use Rattle.cept_run.specs.declared.words.Asked.{Asked}
-use Rattle.cept_run.specs.Course.{File, Given, reporting}
+use Rattle.cept_run.specs.Course.{File, Given, Scripts, reporting}
 use Rattle.cept_run.specs.Outside.{outside_of}
-use Rattle.cept_run.specs.Reporting.{lines_of}
+use Rattle.cept_run.specs.Reporting.{sequel_of}
 use Rattle.cept_run.specs.Run.{RunsCourse, status_at_end}
-use Rattle.cept_run.proofs.FreshDecoders.{plan_alone, lines_alone, fresh_by, alone}
-use Rattle.cept_run.proofs.StoppedScripts.{no_script, edits-none}
+use Rattle.cept_run.proofs.FreshDecoders.{plan_alone, nothing_alone, fresh_by, alone}
+use Rattle.cept_run.proofs.StoppedScripts.{no_script, sequel-none}
 use Rattle.cept_run.proofs.run.report_phases.Goals as goal
 
 pub report_stored-requires-clause-fresh : goal.report_stored-requires-clause-fresh
@@ -18,9 +18,10 @@ pub returns : goal.returns
 returns g c =
     let asked = c.asked_of_phases-asked.result in
     let plan = plan_alone c.new-decoder.result.reporter asked _ c.new-decoder.ensures.asked c.new-decoder.ensures.easel c.in_ok-easel.ensures.start in
-    subst (λ (a : Asked). RunsCourse (reporting a (File (string_bytes c.args.page.now)) (Given []))
+    subst (λ (a : Asked). RunsCourse (reporting a Scripts (File (string_bytes c.args.page.now)) (Given []))
     (outside_of (g.F.Shelf.state c.args.shelf.now) (g.T.Sink.state c.args.sink.now) (g.G.Glass.state c.args.glass.now))
     (outside_of (g.F.Shelf.state c.report_stored.new.shelf) (g.T.Sink.state c.report_stored.new.sink)
     (g.G.Glass.state c.report_stored.new.glass)) (status_at_end c.report_stored.result))
     (c.new-decoder.ensures.asked ∙ c.asked_of_phases-asked.ensures)
-    (c.report_stored.ensures (Given []) [] _ (no_script _ _) (ap lines_of plan ∙ lines_alone asked ∙ sym edits-none))
+    (c.report_stored.ensures Scripts (Given []) [] _ (no_script _ _)
+    (ap sequel_of plan ∙ nothing_alone asked ∙ sym sequel-none))
