@@ -7,6 +7,7 @@ BLACK, RED, GREEN, YELLOW, BLUE, MAGENTA, CYAN, WHITE = range(8)
 
 FULL_DEFAULTS_SERIAL = b"\x1f\x2f\x41"
 FULL_DEFAULTS_PARALLEL = b"\x1f\x2f\x42"
+SECOND_REVISION = b"\x1f\x2f\x45"
 RETURN, DOWN, ERASE = b"\x0d", b"\x0a", b"\x18"
 
 FLASH, STEADY = b"\x88", b"\x89"

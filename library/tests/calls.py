@@ -81,12 +81,13 @@ def is_number(text):
 
 
 def is_said(words, files):
-    """Whether a call can say these words: the files are there, and a number is one."""
+    """Whether a call can say these words: the files are there, no two of one name, and a number is one."""
     if not words or words[0] in OF_A_NUMBER:
         return len(words) == 2 and is_number(words[1])
     if words[0] in OF_A_PAGE_AND_A_NUMBER:
         return len(words) == 3 and words[1] in files and is_number(words[2])
-    return len(words) == (3 if words[0] in OF_A_SCRIPT else 2) and all(name in files for name in words[1:])
+    names = words[1:]
+    return len(names) == (2 if words[0] in OF_A_SCRIPT else 1) == len(set(names)) and all(name in files for name in names)
 
 
 def words_of_cases(folder):

@@ -133,6 +133,7 @@ changes_cells (strokes.Put p cell) = true
 changes_cells (strokes.Erase r from) = true
 changes_cells strokes.Wipe = true
 changes_cells (strokes.Shift first last way) = true
+changes_cells (strokes.Carry first last way) = true
 changes_cells _ = false
 
 -- what a stroke leaves that changes none
@@ -142,6 +143,7 @@ cells_after-unchanged t (strokes.Put p cell) is none = absurd (cc)
 cells_after-unchanged t strokes.Wipe is none = absurd (cc)
 cells_after-unchanged t (strokes.Erase r from) is none = absurd (cc)
 cells_after-unchanged t (strokes.Shift first last way) is none = absurd (cc)
+cells_after-unchanged t (strokes.Carry first last way) is none = absurd (cc)
 cells_after-unchanged t (strokes.RowAttr r attr) is none = sym (table-value_at t blank_cell is)
 cells_after-unchanged t (strokes.ScreenAttr attr) is none = sym (table-value_at t blank_cell is)
 cells_after-unchanged t strokes.ScreenClear is none = sym (table-value_at t blank_cell is)

@@ -130,6 +130,8 @@ impl Grid {
             Stroke::Erase(row, from) => self.erase(*row, *from),
             Stroke::Wipe => self.wipe(),
             Stroke::Shift(first, last, way) => self.shift(*first, *last, *way),
+            // It moves the cells as a shift does.
+            Stroke::Carry(first, last, way) => self.shift(*first, *last, *way),
             // These change no cell.
             Stroke::RowAttr(_, _)
             | Stroke::ScreenAttr(_)

@@ -380,7 +380,7 @@ command_decides a b = enum_decides command_enum (
                                                                                         no_field,
                                                                                         (
                                                                                           one_field c1_set_test,
-                                                                                          (one_field c1_set_test, tt),
+                                                                                          (one_field c1_set_test, (one_field number_test, tt)),
                                                                                         ),
                                                                                       ),
                                                                                     ),
@@ -462,18 +462,24 @@ stroke_decides a b = enum_decides stroke_enum (
       (
         three_fields number_test number_test way_test,
         (
-          two_fields number_test attr_test,
+          three_fields number_test number_test way_test,
           (
-            one_field attr_test,
+            two_fields number_test attr_test,
             (
-              no_field,
+              one_field attr_test,
               (
-                two_fields number_test paint_test,
+                no_field,
                 (
-                  two_fields number_test number_test,
+                  two_fields number_test paint_test,
                   (
-                    no_field,
-                    (no_field, (two_fields number_test pattern_test, (one_field number_test, tt))),
+                    two_fields number_test number_test,
+                    (
+                      no_field,
+                      (
+                        no_field,
+                        (two_fields number_test pattern_test, (one_field number_test, tt)),
+                      ),
+                    ),
                   ),
                 ),
               ),

@@ -80,6 +80,7 @@ IsValidCommand (commands.ServiceBreak r) = (1 ≤ r) × (r ≤ 24)
 IsValidCommand commands.ServiceEnd = Unit {0}
 IsValidCommand (commands.FullDefaults s) = Unit {0}
 IsValidCommand (commands.ControlDefaults s) = Unit {0}
+IsValidCommand (commands.Revision r) = (r ≡ 1) ⊎ (r ≡ 2)
 
 -- a refusal is always valid
 abbrev pub IsValidSaid : Said → Type 0

@@ -25,6 +25,7 @@ IsValidStroke (strokes.Put p cell) = OnScreen p.row p.column × IsValidCell cell
 IsValidStroke (strokes.Erase r from) = OnScreen r from
 IsValidStroke strokes.Wipe = Unit {0}
 IsValidStroke (strokes.Shift a b way) = IsArea a b
+IsValidStroke (strokes.Carry a b way) = IsArea a b
 IsValidStroke (strokes.RowAttr r attr) = IsRow r × IsRowAttr attr
 IsValidStroke (strokes.ScreenAttr attr) = IsScreenAttr attr
 IsValidStroke strokes.ScreenClear = Unit {0}

@@ -120,4 +120,6 @@ pub enum Command {
     FullDefaults(C1Set),
     /// US 2/15 4/3 and US 2/15 4/4 reset the control state.
     ControlDefaults(C1Set),
+    /// US 2/15 4/5 and US 2/15 4/6 choose revision 2 and revision 1 of the rules.
+    Revision(u8),
 }

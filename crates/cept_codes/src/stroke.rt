@@ -13,8 +13,12 @@ pub enum Stroke {
     Erase(u8, u8),
     /// All cells become blank and unprotected, and all attributes of rows are unset.
     Wipe,
-    /// The rows from the first to the second move by one, and the one that comes free is blank.
+    /// The cells of the rows from the first to the second move by one row, and the row that comes
+    /// free is blank. The attributes of the rows stay.
     Shift(u8, u8, Up),
+    /// The same, and the attributes of the rows move too. Those of the row that comes free are
+    /// unset.
+    Carry(u8, u8, Up),
     /// An attribute of the row is set.
     RowAttr(u8, Attr),
     /// An attribute of the screen is set.

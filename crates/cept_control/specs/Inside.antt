@@ -45,6 +45,7 @@ state_of c = record {
   wrap = c.wrap;
   area = c.area;
   implicit = c.implicit;
+  revision = c.revision;
   kept = c.kept;
 }
 
@@ -56,5 +57,6 @@ state_fields s = record {
   wrap = s.wrap;
   area = s.area;
   implicit = s.implicit;
+  revision = s.revision;
   kept = s.kept;
 }

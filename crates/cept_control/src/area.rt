@@ -2,7 +2,7 @@ ghost use Rattle.std.specs.Prelude.{◌≡◌, ◌<◌, ◌++◌, length};
 ghost use Rattle.cept_codes.specs.Command.{IsArea};
 ghost use Rattle.cept_profile.specs.Control.{area_without, control_effect};
 ghost use Rattle.cept_profile.specs.Motions.{area_in_force, is_first_of, is_last_of};
-ghost use Rattle.cept_profile.specs.Motions.{scrolling_area, strokes_of_scroll};
+ghost use Rattle.cept_profile.specs.Motions.{scroll_under, scrolling_area, strokes_of_scroll};
 
 use crate::control::Control;
 use arrayvec::ArrayVec;
@@ -53,12 +53,23 @@ impl Control {
         ensures { strokes.new.items ≡ strokes.old.items ++ strokes_of_scroll self.now way area }
     {
         if let Some((first, last)) = area {
-            strokes.push(Stroke::Shift(first, last, way));
+            strokes.push(self.scroll_under(way, first, last));
+        }
+    }
+
+    /// The rows go one row up or down, under the second revision with their attributes.
+    fn scroll_under(&self, way: Up, first: u8, last: u8) -> Stroke
+        ensures { result ≡ scroll_under self.now.revision way (first, last) }
+    {
+        if self.revision == 2 {
+            Stroke::Carry(first, last, way)
+        } else {
+            Stroke::Shift(first, last, way)
         }
     }
 
     /// The area in force: it is there, and within the format.
-    fn area_in_force(&self) -> Option<(u8, u8)>
+    pub(crate) fn area_in_force(&self) -> Option<(u8, u8)>
         ensures { result ≡ area_in_force self.now }
     {
         match self.area {

@@ -20,6 +20,7 @@ pub struct Control {
     pub(crate) wrap: bool,
     pub(crate) area: Option<(u8, u8)>,
     pub(crate) implicit: bool,
+    pub(crate) revision: u8,
     pub(crate) kept: Option<Working>,
 }
 
@@ -39,8 +40,8 @@ impl Model for Control {
 }
 
 impl Control {
-    /// The state at the start: the first place of 24 rows, with wrap, under the parallel set, and
-    /// with no attribute set.
+    /// The state at the start: the first place of 24 rows, with wrap, under the parallel set and the
+    /// first revision of the rules, and with no attribute set.
     pub fn new() -> Control
         ensures start { result ≡ initial_control }
         ensures valid { IsValidControl result }
@@ -51,6 +52,7 @@ impl Control {
             wrap: true,
             area: None,
             implicit: false,
+            revision: 1,
             kept: None,
         }
     }
@@ -73,6 +75,8 @@ impl Control {
 
     /// The same, with the strokes left in a list of the caller's, which saves the copy of a whole
     /// list.
+    // It and what it calls are joined to each caller, since every item goes through them.
+    #[inline(always)]
     pub fn step_into(&mut self, command: &Command, strokes: &mut ArrayVec<Stroke, 128>)
         requires { IsValidCommand command.now }
         ensures state { self.new ≡ control_after self.old command.now }
@@ -136,6 +140,13 @@ impl Control {
         self.implicit
     }
 
+    /// The revision of the rules, 1 or 2.
+    pub fn revision(&self) -> u8
+        ensures revision { result ≡ self.now.revision }
+    {
+        self.revision
+    }
+
     /// Every command but four takes effect without an accent that waits.
     fn prepare(&mut self, command: &Command)
         ensures ready { self.new ≡ state_for_effect self.old command.now }
@@ -150,6 +161,7 @@ impl Control {
     }
 
     /// What the command does, one call for each.
+    #[inline(always)]
     fn take_effect(&mut self, command: &Command, strokes: &mut ArrayVec<Stroke, 128>)
         requires valid { IsValidCommand command.now }
         requires empty { strokes.old.items ≡ [] }
@@ -195,6 +207,7 @@ impl Control {
             Command::FullDefaults(set) => self.full_defaults(*set, strokes),
             Command::ServiceBreak(row) => self.service_break(*row),
             Command::ServiceEnd => self.service_end(),
+            Command::Revision(revision) => self.choose_revision(*revision),
             // these leave control as it is
             Command::Nul
             | Command::Skipped

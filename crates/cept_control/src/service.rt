@@ -8,7 +8,7 @@ use crate::working::Working;
 use arrayvec::ArrayVec;
 use cept_codes::{C1Set, Command, Stroke};
 
-/// The format, the defaults, and the break of a service.
+/// The format, the revision of the rules, the defaults, and the break of a service.
 impl Control {
     pub(crate) fn format(&mut self, rows: u8, wrap: bool, strokes: &mut ArrayVec<Stroke, 128>)
         requires rows { (rows ≡ 24) ⊎ (rows ≡ 20) }
@@ -21,6 +21,15 @@ impl Control {
         self.home();
         self.rows = rows;
         self.wrap = wrap;
+    }
+
+    /// A revision of the rules is chosen. Seldom sent, and so out of the way of the dispatch.
+    #[inline(never)]
+    pub(crate) fn choose_revision(&mut self, revision: u8)
+        requires { (revision ≡ 1) ⊎ (revision ≡ 2) }
+        ensures { self.new ≡ control_effect self.old (Command.Revision revision) }
+    {
+        self.revision = revision;
     }
 
     /// Defaults of control: the position, the format and what a service keeps stay.

@@ -114,6 +114,10 @@ means-explicit : line_meaning (codes "explicit") ≡ Ok (Some (Edit (commands.Im
 unfolding line_meaning row_of
 means-explicit = refl
 
+means-revision_2 : line_meaning (codes "revision 2") ≡ Ok (Some (Edit (commands.Revision 2 ∷ [])))
+unfolding line_meaning row_of
+means-revision_2 = refl
+
 means-undo : line_meaning (codes "undo") ≡ Ok (Some (Turn TakeBack))
 unfolding line_meaning row_of
 means-undo = refl
@@ -215,6 +219,18 @@ refuses-colour_32_0_0_0 = refl
 refuses-repeat_64 : line_meaning (codes "repeat 64") ≡ Err reasons.BadNumber
 unfolding line_meaning row_of hex_bytes
 refuses-repeat_64 = refl
+
+refuses-revision_0 : line_meaning (codes "revision 0") ≡ Err reasons.BadNumber
+unfolding line_meaning row_of hex_bytes
+refuses-revision_0 = refl
+
+refuses-revision_3 : line_meaning (codes "revision 3") ≡ Err reasons.BadNumber
+unfolding line_meaning row_of hex_bytes
+refuses-revision_3 = refl
+
+refuses-revision : line_meaning (codes "revision") ≡ Err reasons.WrongCount
+unfolding line_meaning row_of hex_bytes
+refuses-revision = refl
 
 refuses-area_3_2 : line_meaning (codes "area 3 2") ≡ Err reasons.BadNumber
 unfolding line_meaning row_of hex_bytes

@@ -44,6 +44,7 @@ command_of (briefs.AreaDelete first last) = commands.AreaDelete first last
 command_of briefs.ScrollUp = commands.ScrollUp
 command_of briefs.ScrollDown = commands.ScrollDown
 command_of (briefs.Implicit on) = commands.Implicit on
+command_of (briefs.Revision number) = commands.Revision number
 
 -- the words in what stands after a word, if a space does
 abbrev pub words_after : Option (Bor (List ℕ)) → List (List ℕ)

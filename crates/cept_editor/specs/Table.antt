@@ -72,6 +72,7 @@ row_of word =
     if bytes_eq word (codes "scrolldown") then Some (Alone commands.ScrollDown) else
     if bytes_eq word (codes "implicit") then Some (Alone (commands.Implicit true)) else
     if bytes_eq word (codes "explicit") then Some (Alone (commands.Implicit false)) else
+    if bytes_eq word (codes "revision") then Some (One (is_between 1 2) commands.Revision) else
     if bytes_eq word (codes "raw") then Some Raw else
     if bytes_eq word (codes "undo") then Some Undo else
     if bytes_eq word (codes "redo") then Some Redo else

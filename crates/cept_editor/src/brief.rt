@@ -28,6 +28,7 @@ pub(crate) enum Brief {
     ScrollUp,
     ScrollDown,
     Implicit(bool),
+    Revision(u8),
 }
 
 impl Brief {
@@ -58,6 +59,7 @@ impl Brief {
             Brief::ScrollUp => Command::ScrollUp,
             Brief::ScrollDown => Command::ScrollDown,
             Brief::Implicit(on) => Command::Implicit(on),
+            Brief::Revision(number) => Command::Revision(number),
         }
     }
 }

@@ -1,4 +1,4 @@
-ghost use Rattle.std.specs.Prelude.{◌≡◌, ◌≤◌, true, IfOk};
+ghost use Rattle.std.specs.Prelude.{◌≡◌, ◌≤◌, ◌⊎◌, true, IfOk};
 ghost use Rattle.cept_codes.specs.Command.{IsC1, IsScreenC1, IsArea};
 ghost use Rattle.cept_codes.specs.Look.{IsValidRgb};
 ghost use Rattle.cept_codes.specs.Place.{OnScreen};
@@ -60,6 +60,14 @@ fn is_area(first: u8, last: u8) -> bool
     ensures valid { result ≡ true → IsArea first last }
 {
     is_between(1, 24, first) && is_between(1, 24, last) && first <= last
+}
+
+/// Whether this is the number of a revision of the rules.
+fn is_revision(number: u8) -> bool
+    ensures value { result ≡ is_between 1 2 number }
+    ensures valid { result ≡ true → (number ≡ 1) ⊎ (number ≡ 2) }
+{
+    is_between(1, 2, number)
 }
 
 /// `at R C`: the position.
@@ -142,4 +150,13 @@ pub(crate) fn no_area(rest: Option<&[u8]>) -> Result<Order, LineReason>
 {
     let (first, last) = two_numbers(rest)?;
     ranged(is_area(first, last), Brief::AreaDelete(first, last))
+}
+
+/// `revision N`: the revision of the rules.
+pub(crate) fn revision(rest: Option<&[u8]>) -> Result<Order, LineReason>
+    ensures meant { step_meant (bytes_after rest.entry) result ≡ one (is_between 1 2) commands.Revision (words_after rest.entry) }
+    ensures plain { IfOk result IsPlainOrder }
+{
+    let number = one_number(rest)?;
+    ranged(is_revision(number), Brief::Revision(number))
 }

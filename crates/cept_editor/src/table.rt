@@ -5,7 +5,9 @@ ghost use Rattle.cept_editor.specs.Order.{words_after, bytes_after, place_before
 ghost use Rattle.cept_editor.specs.Table.{row_of};
 
 use crate::brief::Brief;
-use crate::numbered::{area, c1, colour, full_row, full_screen, no_area, place, repeat, table};
+use crate::numbered::{
+    area, c1, colour, full_row, full_screen, no_area, place, repeat, revision, table,
+};
 use crate::order::{Order, make_again, one, raw, take_back, text};
 use cept_codes::{C1Set, LineReason};
 
@@ -71,6 +73,8 @@ pub(crate) fn order_of(word: &[u8], rest: Option<&[u8]>, end: u32) -> Result<Ord
         one(Brief::Implicit(true), rest)
     } else if word == b"explicit".as_slice() {
         one(Brief::Implicit(false), rest)
+    } else if word == b"revision".as_slice() {
+        revision(rest)
     } else if word == b"raw".as_slice() {
         raw(rest, end)
     } else if word == b"undo".as_slice() {

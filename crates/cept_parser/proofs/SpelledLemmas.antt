@@ -167,6 +167,16 @@ unfolding grows us_grows spelling
 defaults_grown x c1_set.Serial = refl
 defaults_grown x c1_set.Parallel = refl
 
+pub revision_spelled : (x : Context) (revision : ℕ) → (revision ≡ 1) ⊎ (revision ≡ 2)
+    → Spells x (command.Revision revision)
+unfolding unit us_unit service_unit service spelling context_after
+revision_spelled x revision (inl e) = subst (λ (n : ℕ). Spells x (command.Revision n)) (sym e) refl
+revision_spelled x revision (inr e) = subst (λ (n : ℕ). Spells x (command.Revision n)) (sym e) refl
+
+pub revision_grown : (x : Context) (revision : ℕ) → GrowsAsSaid x (command.Revision revision)
+unfolding grows us_grows spelling
+revision_grown x revision = refl
+
 pub c1_set_spelled : (x : Context) (set : C1Set) → Spells x (command.DesignateC1 set)
 unfolding unit escape_unit is_sequence escape escape_2 designation_of_c1 spelling context_after
 c1_set_spelled x c1_set.Serial = refl

@@ -107,6 +107,8 @@ pub spelling_bytes : (x : Context) (c : Command) → IsSpelled x c → AreBytes 
 unfolding IsSpelled spelling
 spelling_bytes x (command.FullDefaults c1_set.Serial) h = tested (0x1F ∷ 0x2F ∷ 0x41 ∷ []) refl
 spelling_bytes x (command.FullDefaults c1_set.Parallel) h = tested (0x1F ∷ 0x2F ∷ 0x42 ∷ []) refl
+spelling_bytes x (command.Revision revision) h =
+    (omega arith, (omega arith, one_are (eqb revision 2) 0x45 0x46 (omega arith) (omega arith)))
 spelling_bytes x (command.Format rows wrap) h = format_are (eqb rows 20) wrap
 spelling_bytes x (command.ColourHeader true) h = tested (0x1F ∷ 0x26 ∷ 0x20 ∷ 0x22 ∷ []) refl
 spelling_bytes x (command.ColourHeader false) h = tested (0x1F ∷ 0x26 ∷ 0x20 ∷ 0x20 ∷ []) refl

@@ -15,11 +15,12 @@ use Rattle.cept_parser.proofs.SpelledLemmas.{implicit_spelled, stop_spelled, for
 use Rattle.cept_parser.proofs.SpelledLemmas.{defaults_spelled, defaults_grown, c1_set_spelled, header_spelled}
 use Rattle.cept_parser.proofs.SpelledLemmas.{header_grown, start_spelled, start_grown, entry_spelled, entry_grown}
 use Rattle.cept_parser.proofs.SpelledLemmas.{dclut_spelled, dclut_grown, patterns_spelled, patterns_grown}
-use Rattle.cept_parser.proofs.SpelledLemmas.{repeat_spelled, code_spelled, code_grown}
+use Rattle.cept_parser.proofs.SpelledLemmas.{repeat_spelled, code_spelled, code_grown, revision_spelled, revision_grown}
 
 pub spelled : (x : Context) (c : Command) → IsSpelled x c → Spells x c
 unfolding IsSpelled
 spelled x (command.FullDefaults set) h = defaults_spelled x set
+spelled x (command.Revision revision) h = revision_spelled x revision h
 spelled x (command.Format rows wrap) h = format_spelled x rows wrap h
 spelled x (command.ColourHeader dclut) h = header_spelled x dclut
 spelled x (command.ColourStart i) h = start_spelled x i h
@@ -49,6 +50,7 @@ spelled x _ h = absurd h
 pub grown : (x : Context) (c : Command) → IsSpelled x c → GrowsAsSaid x c
 unfolding IsSpelled grows us_grows spelling
 grown x (command.FullDefaults set) h = defaults_grown x set
+grown x (command.Revision revision) h = revision_grown x revision
 grown x (command.Format rows wrap) h = format_grown x rows wrap
 grown x (command.ColourHeader dclut) h = header_grown x dclut
 grown x (command.ColourStart i) h = start_grown x i

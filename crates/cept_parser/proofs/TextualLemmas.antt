@@ -16,6 +16,7 @@ use Rattle.cept_parser.specs.Spelling.{AreSpelled, IsTextual, AreTextual}
 -- after one the mode is Text
 pub textual_after : (x : Context) (c : Command) → IsTextual c → context_after x c ≡ with_mode x Text
 unfolding context_after
+textual_after x (command.Revision revision) h = refl
 textual_after x (command.Format rows wrap) h = refl
 textual_after x (command.Table k) h = refl
 textual_after x (command.C1 n) h = refl
@@ -52,6 +53,7 @@ sign_stands x b s l m (inr h) =
 
 textual_is : (x : Context) (c : Command) (s : List ℕ) → IsTextual c → StandsIn x (spelling c ++ s) → IsSpelled x c
 unfolding IsSpelled spelling
+textual_is x (command.Revision revision) s h k = h
 textual_is x (command.Format rows wrap) s h k = h
 textual_is x (command.Table n) s h k = h
 textual_is x (command.C1 n) s h k = h

@@ -345,7 +345,10 @@ service_valid x a v =
     each_test IsValidOutcome (eqb a 0x41) (λ _. said_valid start_context Text _ start_valid tt tt) (λ _.
     each_test IsValidOutcome (eqb a 0x42) (λ _. said_valid start_context Text _ start_valid tt tt) (λ _.
     each_test IsValidOutcome (eqb a 0x43) (λ _. said_valid x Text _ v tt tt) (λ _.
-    each_test IsValidOutcome (eqb a 0x44) (λ _. said_valid x Text _ v tt tt) (λ _. said_valid x Skip _ v tt tt)))))
+    each_test IsValidOutcome (eqb a 0x44) (λ _. said_valid x Text _ v tt tt) (λ _.
+    each_test IsValidOutcome (eqb a 0x45) (λ _. said_valid x Text _ v tt (inr refl)) (λ _.
+    each_test IsValidOutcome (eqb a 0x46) (λ _. said_valid x Text _ v tt (inl refl))
+    (λ _. said_valid x Skip _ v tt tt)))))))
 
 service_unit_valid : (x : Context) (u : List ℕ) → IsValidContext x → Valid (service_unit x u)
 unfolding service_unit

@@ -40,6 +40,15 @@ pub short_format : spelling (command.Format 20 false) ≡ 0x1F ∷ 0x2D ∷ 0x42
 unfolding spelling
 short_format = refl
 
+-- the second revision of the rules, and the first
+pub second_revision : spelling (command.Revision 2) ≡ 0x1F ∷ 0x2F ∷ 0x45 ∷ []
+unfolding spelling
+second_revision = refl
+
+pub first_revision : spelling (command.Revision 1) ≡ 0x1F ∷ 0x2F ∷ 0x46 ∷ []
+unfolding spelling
+first_revision = refl
+
 -- 6x5 in four planes
 pub small_header : spelling (command.DrcsHeader false (record { w = 6; h = 5; planes = 4 }))
     ≡ 0x1F ∷ 0x23 ∷ 0x20 ∷ 0x20 ∷ 0x40 ∷ 0x3C ∷ 0x44 ∷ []

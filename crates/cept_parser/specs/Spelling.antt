@@ -94,6 +94,7 @@ pattern_bytes t = flat_map (plane_bytes t) (range_with_len 0 t.planes)
 unfoldable pub spelling : Command → List ℕ
 spelling (command.FullDefaults Serial) = 0x1F ∷ 0x2F ∷ 0x41 ∷ []
 spelling (command.FullDefaults Parallel) = 0x1F ∷ 0x2F ∷ 0x42 ∷ []
+spelling (command.Revision revision) = 0x1F ∷ 0x2F ∷ (if revision == 2 then 0x45 else 0x46) ∷ []
 spelling (command.Format rows wrap) =
     0x1F ∷ 0x2D ∷ (if rows == 20 then 0x42 else 0x41) ∷ (if wrap then 0x70 else 0x71) ∷ []
 spelling (command.ColourHeader dclut) = 0x1F ∷ 0x26 ∷ 0x20 ∷ (if dclut then 0x22 else 0x20) ∷ []
@@ -140,6 +141,7 @@ context_after x command = with_mode x Text
 -- others anywhere
 unfoldable pub IsSpelled : Context → Command → Type 0
 IsSpelled x (command.FullDefaults set) = Unit {0}
+IsSpelled x (command.Revision revision) = IsValidCommand (command.Revision revision)
 IsSpelled x (command.Format rows wrap) = IsValidCommand (command.Format rows wrap)
 IsSpelled x (command.ColourHeader dclut) = Unit {0}
 IsSpelled x (command.ColourStart i) = i ≤ last_place x.kind
@@ -197,6 +199,7 @@ AreSpelled x (c ∷ commands) =
 
 -- a command whose spelling begins with a breaker, or is a sign, and after which the mode is Text
 abbrev pub IsTextual : Command → Type 0
+IsTextual (command.Revision revision) = IsValidCommand (command.Revision revision)
 IsTextual (command.Format rows wrap) = IsValidCommand (command.Format rows wrap)
 IsTextual (command.Table k) = IsValidCommand (command.Table k)
 IsTextual (command.C1 n) = IsValidCommand (command.C1 n)

@@ -158,6 +158,8 @@ service x a =
     if a == 0x42 then outcome start_context Text (Says (command.FullDefaults Parallel)) else
     if a == 0x43 then outcome x Text (Says (command.ControlDefaults Serial)) else
     if a == 0x44 then outcome x Text (Says (command.ControlDefaults Parallel)) else
+    if a == 0x45 then outcome x Text (Says (command.Revision 2)) else
+    if a == 0x46 then outcome x Text (Says (command.Revision 1)) else
     outcome x Skip (Refused BadParameter)
 
 -- 1F 2F: the service

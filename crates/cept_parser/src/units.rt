@@ -340,6 +340,8 @@ fn other_service(context: &mut Context, byte: u8, said: &mut Said)
         }
         0x43 => *said = Said::Command(Command::ControlDefaults(C1Set::Serial)),
         0x44 => *said = Said::Command(Command::ControlDefaults(C1Set::Parallel)),
+        0x45 => *said = Said::Command(Command::Revision(2)),
+        0x46 => *said = Said::Command(Command::Revision(1)),
         _ => {
             *said = Said::Refused(Reason::BadParameter);
             context.mode = Mode::Skip;

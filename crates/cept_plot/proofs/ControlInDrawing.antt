@@ -54,6 +54,7 @@ control_at k s v = record {
   wrap = k.wrap;
   area = k.area;
   implicit = false;
+  revision = k.revision;
   kept = v.kept;
 }
 

@@ -66,23 +66,19 @@ module _ (k : Core) (f g : ℕ → ℕ → Bool) (same : (x y : ℕ) → OnField
   value_same r c on =
       let x = 2 * (c - 1) in
       let y = 3 * (r - 1) in
-      let at : (a b : ℕ) → a ≤ 1 → b ≤ 2 → f (x + a) (y + b) ≡ g (x + a) (y + b) = λ a b right down.
-      same (x + a) (y + b) (record {
-        across = omega (arith, on.to_right, on.from_left, right);
+      let at : (u v : ℕ) → u ≤ x + 1 → v ≤ y + 2 → f u v ≡ g u v = λ u v across down.
+      same u v (record {
+        across = omega (arith, on.to_right, on.from_left, across);
         down = omega (arith, on.to_bottom, on.from_top, down);
       }) in
-      let left : f x y ≡ g x y =
-      same x y (record { across = omega (arith, on.to_right, on.from_left); down = omega (arith, on.to_bottom, on.from_top) }) in
-      let right : f (x + 1) y ≡ g (x + 1) y =
-      same (x + 1) y (record { across = omega (arith, on.to_right, on.from_left); down = omega (arith, on.to_bottom, on.from_top) }) in
-      let left_1 : f x (y + 1) ≡ g x (y + 1) =
-      same x (y + 1) (record { across = omega (arith, on.to_right, on.from_left); down = omega (arith, on.to_bottom, on.from_top) }) in
-      let left_2 : f x (y + 2) ≡ g x (y + 2) =
-      same x (y + 2) (record { across = omega (arith, on.to_right, on.from_left); down = omega (arith, on.to_bottom, on.from_top) }) in
-      let right_1 = at 1 1 (omega arith) (omega arith) in
-      let right_2 = at 1 2 (omega arith) (omega arith) in
-      λ i. weight_if (left i) 1 + weight_if (right i) 2 + weight_if (left_1 i) 4 + weight_if (right_1 i) 8
-      + weight_if (left_2 i) 16 + weight_if (right_2 i) 32
+      let top_left = at x y (omega arith) (omega arith) in
+      let top_right = at (x + 1) y (omega arith) (omega arith) in
+      let left = at x (y + 1) (omega arith) (omega arith) in
+      let right = at (x + 1) (y + 1) (omega arith) (omega arith) in
+      let bottom_left = at x (y + 2) (omega arith) (omega arith) in
+      let bottom_right = at (x + 1) (y + 2) (omega arith) (omega arith) in
+      λ i. weight_if (top_left i) 1 + weight_if (top_right i) 2 + weight_if (left i) 4 + weight_if (right i) 8
+      + weight_if (bottom_left i) 16 + weight_if (bottom_right i) 32
 
   -- of a cell by its value
   abbrev commands_at : ℕ → ℕ → ℕ → List Command

@@ -149,6 +149,7 @@ core_last k s control =
       wrap = w.wrap;
       area = w.area;
       implicit = k.implicit;
+      revision = w.revision;
     } in now) control
 
 -- after all cells implicit scrolling is as it was

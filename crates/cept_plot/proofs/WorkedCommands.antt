@@ -38,7 +38,7 @@ codes_of_values = refl
 
 -- on a blank page the cells with points are written, and no other
 abbrev blank : Core
-blank = record { page = blank_page; rows = 24; wrap = true; area = None; implicit = false }
+blank = record { page = blank_page; rows = 24; wrap = true; area = None; implicit = false; revision = 1 }
 
 all : drawn blank points ≡ commands.ControlDefaults c1sets.Parallel ∷ commands.Implicit false
     ∷ commands.Position 1 1 ∷ commands.LockLeft 1 ∷ commands.Graphic 0x2C ∷ commands.LockLeft 0

@@ -28,7 +28,7 @@ cell_in_drawing k f n r c =
     else cell_in_core k r c
 
 -- control while it is drawn: all but the position and the last sign is by default, under the parallel set, and implicit
--- scrolling is off; format, wrap and area are those of the core, and what a service keeps is kept
+-- scrolling is off; format, wrap, area and revision are those of the core, and what a service keeps is kept
 abbrev pub control_in_drawing : Core → ControlState → ControlState
 control_in_drawing k s = record {
   working = record (working_by_default c1sets.Parallel s.working) { last = s.working.last };
@@ -36,6 +36,7 @@ control_in_drawing k s = record {
   wrap = k.wrap;
   area = k.area;
   implicit = false;
+  revision = k.revision;
   kept = s.kept;
 }
 

@@ -74,6 +74,7 @@ cell_after-same strokes.Wipe was other valid same r c on = refl
 cell_after-same (strokes.Erase row from) was other valid same r c on =
     ap (λ (here : Cell). cond (eqb r row && leb from c && not here.protected) blank_cell here) (same r c on)
 cell_after-same (strokes.Shift a b way) was other valid same r c on = shifted-same a b way was other valid same r c on
+cell_after-same (strokes.Carry a b way) was other valid same r c on = shifted-same a b way was other valid same r c on
 cell_after-same (strokes.RowAttr row attr) was other valid same r c on = same r c on
 cell_after-same (strokes.ScreenAttr attr) was other valid same r c on = same r c on
 cell_after-same strokes.ScreenClear was other valid same r c on = same r c on

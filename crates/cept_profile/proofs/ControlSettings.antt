@@ -21,7 +21,7 @@ use Rattle.cept_profile.specs.Control.{finds_accent, state_for_effect, control_e
 use Rattle.cept_profile.specs.ControlSettings.{before_service, is_running, outer_back, c1_said, table_said}
 use Rattle.cept_profile.specs.ControlSettings.{protect_said, set_said, left_said, right_said, fore_in, back_in}
 use Rattle.cept_profile.specs.ControlSettings.{conceal_in, lined_in, boxed_in, size_in, invert_in, parallel_said}
-use Rattle.cept_profile.specs.ControlSettings.{class_said, rows_said, wrap_said, implicit_said, created_back, area_said}
+use Rattle.cept_profile.specs.ControlSettings.{class_said, rows_said, wrap_said, implicit_said, created_back, area_said, revision_said}
 use Rattle.cept_profile.specs.ControlSettings.{Settings, settings_of, settings_back, settings}
 use Rattle.cept_profile.specs.Motions.{row_below, row_above, working_ahead, working_back}
 use Rattle.cept_profile.specs.Markers.{marker_of, working_after_any_marker, working_after_marker}
@@ -61,6 +61,7 @@ told earlier command was = record {
   rows = unwrap_or (rows_said command) was.rows;
   wrap = unwrap_or (wrap_said command) was.wrap;
   implicit = unwrap_or (implicit_said command) was.implicit;
+  revision = unwrap_or (revision_said command) was.revision;
   area = unwrap_or (area_said (created_back earlier) command) was.area;
 }
 
@@ -242,9 +243,9 @@ state_for_effect-same s command =
 
 -- ---- all commands
 
--- the settings of one with rows, wrap, implicit scrolling and area of another
+-- the settings of one with rows, wrap, implicit scrolling, revision and area of another
 abbrev pub joined : Settings → Settings → Settings
-joined a b = record a { rows = b.rows; wrap = b.wrap; implicit = b.implicit; area = b.area }
+joined a b = record a { rows = b.rows; wrap = b.wrap; implicit = b.implicit; revision = b.revision; area = b.area }
 
 -- the settings that a kept state brings back are those before the service
 abbrev pub Brings : ControlState → List Command → Option Working → Type 0

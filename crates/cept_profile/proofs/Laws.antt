@@ -3,6 +3,8 @@
 
 -- ---- the_first_grid
 pub use Rattle.cept_profile.proofs.FirstGrid.{look_of-blank_cell, grid-none}
+-- ---- attributes_go_with_carried_rows
+pub use Rattle.cept_profile.proofs.CarriedRows.{row_pen_after-carried}
 -- ---- one_more_command
 pub use Rattle.cept_profile.proofs.OneMoreState.{state-one_more}
 -- ---- validity_is_kept

@@ -56,6 +56,7 @@ mod WorkedTiling
 mod WorkedPaints
 mod WorkedMoves
 mod RowsMoved
+mod CarriedRows
 mod RowsRedefined
 mod NamedDefinitions
 mod RowsAlike

@@ -8,17 +8,20 @@ use Rattle.cept_codes.specs.declared.cell.Marker.TheVariants as markers
 use Rattle.cept_codes.specs.declared.cell.What.{What}
 use Rattle.cept_codes.specs.declared.cell.What.TheVariants as whats
 use Rattle.cept_codes.specs.Attribute.{unset_pen}
+use Rattle.cept_codes.specs.Table.{table}
 use Rattle.cept_profile.specs.Attributes.{cascade, first_value}
 use Rattle.cept_profile.specs.Definitions.{Definitions}
 use Rattle.cept_profile.specs.Look.{attributes_of, is_double, is_double_set, look, look_in_row, look_of, look_with}
-use Rattle.cept_profile.specs.Look.{looks_of, sets_double_size, shape_in, shape_of, size_in_row}
+use Rattle.cept_profile.specs.Look.{look_of_origin, looks_of, own_look, own_size, sets_double_size, shape_in, shape_of}
+use Rattle.cept_profile.specs.Look.{size_in_row}
 use Rattle.cept_profile.specs.PageParts.{paint_in}
 use Rattle.cept_profile.specs.Serial.{Sizing, acts, column_in_force, held_sign, is_marker, own_attributes}
 use Rattle.cept_profile.specs.Serial.{own_attributes_of, serial_attributes, size_said, value_found}
 use Rattle.cept_profile.specs.State.{Core}
 use Rattle.cept_profile.proofs.MarkersInForce.{IsGreatest, column_in_force-greatest, held_sign-alike}
 use Rattle.cept_profile.proofs.MarkersInForce.{serial_attributes-alike, serial_attributes-unmarked}
-use Rattle.cept_profile.specs.Edges.{edges_of_core}
+use Rattle.cept_profile.specs.Edges.{edges_of_core, is_last}
+use Rattle.cept_profile.specs.Tiling.{part_at, tiled_table}
 
 -- rows that agree up to a column have the same look there
 pub look_in_row-alike : (defined : Definitions) (f g : ℕ → What) (pen screen : Pen) (c : ℕ) → 1 ≤ c
@@ -130,4 +133,6 @@ size_in_row-single row pen screen c low plain in_row on_screen =
 -- of a core the page and its edges are seen
 pub looks_of-alike : (k m : Core) → k.page ≡ m.page → edges_of_core k ≡ edges_of_core m → looks_of k ≡ looks_of m
 unfolding look
-looks_of-alike k m page edges = λ i. looks_of (record k { page = page i; rows = (edges i).rows })
+looks_of-alike k m page edges = λ i.
+    let here : Core = record k { page = page i } in
+    table (λ r c. look_of_origin (own_look here) r c (part_at (tiled_table (own_size here) (is_last (edges i))) r c))

@@ -26,8 +26,10 @@ use Rattle.cept_profile.specs.OldValues.{DifferWhereNoted, OldValues, first_note
 use Rattle.cept_profile.specs.OldValues.{old_dclut, old_paint, old_pattern, old_row_pen, page_unwound, unwound, with_control}
 use Rattle.cept_profile.specs.PageParts.{dclut_after, dclut_in, dclut_list_after, paint_after, paint_in, paints_after}
 use Rattle.cept_profile.specs.PageParts.{pattern_after, pattern_in, patterns_after, row_pen_after, row_pen_in}
-use Rattle.cept_profile.specs.PageParts.{part_after_all, row_pens_after, screen_pen_after}
+use Rattle.cept_profile.specs.PageParts.{part_after_all, pen_of_row, row_pens_after, screen_pen_after}
 use Rattle.cept_profile.specs.Pens.{pen_with}
+use Rattle.cept_profile.specs.MovedRows.{moved_rows}
+use Rattle.cept_profile.proofs.RowsMoved.{moves_none}
 use Rattle.cept_profile.specs.State.{Page, State, page_after, state_after}
 use Rattle.cept_profile.specs.Strokes.{strokes_of}
 use Rattle.cept_profile.proofs.OldValues.{page_unwound-differ, page_unwound-with_cells, page_unwound-with_dclut}
@@ -71,6 +73,10 @@ page_unwound-with_stroke p strokes.Wipe old =
     ∙ page_unwound-with_cells_of p (λ r c. true) old
 page_unwound-with_stroke p (strokes.Shift first last way) old =
     page_unwound-with_cells_of p (λ r c. moves (strokes.Shift first last way) r) old
+page_unwound-with_stroke p (strokes.Carry first last way) old =
+    page_unwound-with_row_pens_of p (moves (strokes.Carry first last way))
+    (with_cells_of p (λ r c. moves (strokes.Carry first last way) r) old)
+    ∙ page_unwound-with_cells_of p (λ r c. moves (strokes.Carry first last way) r) old
 page_unwound-with_stroke p (strokes.RowAttr row attr) old = page_unwound-with_row_pens_of p (λ r. row == r) old
 page_unwound-with_stroke p (strokes.ScreenAttr attr) old = page_unwound-with_screen_pen p old
 page_unwound-with_stroke p strokes.ScreenClear old = page_unwound-with_screen_pen p old
@@ -149,6 +155,9 @@ cell_stays p strokes.Wipe old r c on none =
 cell_stays p (strokes.Shift first last way) old r c on none =
     unshifted way first last blank_cell (λ q. value_at blank_cell p.cells q c) r
     (cell_not_noted (λ q k. moves (strokes.Shift first last way) q) (value_at blank_cell p.cells) old r c on none)
+cell_stays p (strokes.Carry first last way) old r c on none =
+    unshifted way first last blank_cell (λ q. value_at blank_cell p.cells q c) r
+    (cell_not_noted (λ q k. moves (strokes.Carry first last way) q) (value_at blank_cell p.cells) old r c on none)
 cell_stays p (strokes.RowAttr row attr) old r c on none = refl
 cell_stays p (strokes.ScreenAttr attr) old r c on none = refl
 cell_stays p strokes.ScreenClear old r c on none = refl
@@ -170,6 +179,11 @@ row_pen_stays p (strokes.RowAttr row attr) old r low high none =
 row_pen_stays p strokes.Wipe old r low high none =
     absurd (cc (entry_not_noted 1 24 (λ q. true) (row_pen_in p.row_pens) (old_row_pen old) r low (omega (arith, high))
     none))
+row_pen_stays p (strokes.Carry first last way) old r low high none =
+    ap (λ (row : Option ℕ). pen_of_row row (row_pen_in p.row_pens))
+    (moves_none (moved_rows (strokes.Carry first last way)) r
+    (entry_not_noted 1 24 (moves (strokes.Carry first last way)) (row_pen_in p.row_pens) (old_row_pen old) r low
+    (omega (arith, high)) none))
 row_pen_stays p (strokes.Put place cell) old r low high none = refl
 row_pen_stays p (strokes.Erase row from) old r low high none = refl
 row_pen_stays p (strokes.Shift first last way) old r low high none = refl
@@ -319,6 +333,7 @@ control-with_stroke p (strokes.Put place cell) old = refl
 control-with_stroke p (strokes.Erase row from) old = refl
 control-with_stroke p strokes.Wipe old = refl
 control-with_stroke p (strokes.Shift first last way) old = refl
+control-with_stroke p (strokes.Carry first last way) old = refl
 control-with_stroke p (strokes.RowAttr row attr) old = refl
 control-with_stroke p (strokes.ScreenAttr attr) old = refl
 control-with_stroke p strokes.ScreenClear old = refl

@@ -23,7 +23,7 @@ page_back-page_after : (more earlier : List Stroke) → AllByRecursion IsValidSt
     → page_back (reverse more ++ earlier) ≡ page_after (page_back earlier) more
 page_back-page_after more earlier valid i = record {
   cells = cells_after_all-cell_back more earlier valid i;
-  row_pens = row_pens-after_all more earlier i;
+  row_pens = row_pens-after_all more earlier valid i;
   screen_pen = screen_pen-after_all more earlier i;
   paints = paints-after_all more earlier i;
   dclut = dclut-after_all more earlier i;

@@ -66,6 +66,10 @@ cell_after-protected (strokes.Shift a b ways.Up) was r c protected out =
     inr (cond-false (leb a r && leb r b) (cond (eqb r b) blank_cell (was (r + 1) c)) (was r c) out)
 cell_after-protected (strokes.Shift a b ways.Down) was r c protected out =
     inr (cond-false (leb a r && leb r b) (cond (eqb r a) blank_cell (was (r - 1) c)) (was r c) out)
+cell_after-protected (strokes.Carry a b ways.Up) was r c protected out =
+    inr (cond-false (leb a r && leb r b) (cond (eqb r b) blank_cell (was (r + 1) c)) (was r c) out)
+cell_after-protected (strokes.Carry a b ways.Down) was r c protected out =
+    inr (cond-false (leb a r && leb r b) (cond (eqb r a) blank_cell (was (r - 1) c)) (was r c) out)
 cell_after-protected (strokes.RowAttr row attr) was r c protected out = inr refl
 cell_after-protected (strokes.ScreenAttr attr) was r c protected out = inr refl
 cell_after-protected strokes.ScreenClear was r c protected out = inr refl
@@ -101,6 +105,8 @@ cells_after_all-protected cells (x ∷ xs) r c on protected out =
 cell_after-moved : (stroke : Stroke) (moved : MovedRows) (was : ℕ → ℕ → Cell) (r c : ℕ) → moved_rows stroke ≡ Some moved
     → cell_after stroke was r c ≡ shifted moved.way moved.first moved.last blank_cell (λ q. was q c) r
 cell_after-moved (strokes.Shift a b way) moved was r c e =
+    ap (λ (rows : Option MovedRows). value_after_move rows blank_cell (λ q. was q c) r) e
+cell_after-moved (strokes.Carry a b way) moved was r c e =
     ap (λ (rows : Option MovedRows). value_after_move rows blank_cell (λ q. was q c) r) e
 cell_after-moved (strokes.Put p cell) moved was r c e = cc
 cell_after-moved strokes.Wipe moved was r c e = cc

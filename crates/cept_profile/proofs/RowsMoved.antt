@@ -65,6 +65,8 @@ cell_after-from (strokes.Erase row from) was r q c is out =
 cell_after-from strokes.Wipe was r q c is out = absurd (true≢false out)
 cell_after-from (strokes.Shift first last way) was r q c is out =
     shifted-from way first last blank_cell (λ k. was k c) r q is
+cell_after-from (strokes.Carry first last way) was r q c is out =
+    shifted-from way first last blank_cell (λ k. was k c) r q is
 cell_after-from _ was r q c is out = row_stays (λ k. was k c) r q is
 
 -- the row before a move of rows of the screen is on the screen
@@ -77,9 +79,12 @@ row_before_move-on ways.Down first last r q area low high is =
     picked-meets IsRow (leb first r && leb r last) (eqb r first) (r - 1) r q is
     (λ within other. (grind (arith, nat_tests), grind (arith, nat_tests))) (low, high)
 
-row_before_one-on : (stroke : Stroke) (r q : ℕ) → IsValidStroke stroke → 1 ≤ r → r ≤ 24
+-- and so is the row before a stroke
+pub row_before_one-on : (stroke : Stroke) (r q : ℕ) → IsValidStroke stroke → 1 ≤ r → r ≤ 24
     → row_before_move (moved_rows stroke) r ≡ Some q → IsRow q
 row_before_one-on (strokes.Shift first last way) r q valid low high is =
+    row_before_move-on way first last r q valid low high is
+row_before_one-on (strokes.Carry first last way) r q valid low high is =
     row_before_move-on way first last r q valid low high is
 row_before_one-on _ r q valid low high is = subst IsRow (row_stays (λ k. k) r q is) (low, high)
 
@@ -123,7 +128,8 @@ cells_after_all-from cells (x ∷ xs) r q c valid on is out =
 
 -- ---- rows that no stroke moves
 
-moves_none : (moved : Option MovedRows) (r : ℕ) → is_moved moved r ≡ false → row_before_move moved r ≡ Some r
+-- a row that is none of those that move stays
+pub moves_none : (moved : Option MovedRows) (r : ℕ) → is_moved moved r ≡ false → row_before_move moved r ≡ Some r
 moves_none None r none = refl
 moves_none (Some moved) r none =
     cond-false (leb moved.first r && leb r moved.last) (row_within moved.way moved.first moved.last r) (Some r) none

@@ -63,7 +63,7 @@ IsValidWorking-initial_control = record {
 
 pub IsValidControl-initial_control : IsValidControl initial_control
 IsValidControl-initial_control = record
-    { working = IsValidWorking-initial_control; rows = inl refl; within = omega arith; area = tt; kept = tt }
+    { working = IsValidWorking-initial_control; rows = inl refl; within = omega arith; area = tt; revision = inl refl; kept = tt }
 
 -- ---- the working state of a format of so many rows
 
@@ -410,7 +410,7 @@ IsWithin-with_table rows k w is low = record {
 pub IsValidControl-control_with : (s : ControlState) (w : Working) → IsValidControl s → IsWithin s.rows w
     → IsValidControl (control_with s w)
 IsValidControl-control_with s w is within = record
-    { working = within.valid; rows = is.rows; within = within.row; area = is.area; kept = is.kept }
+    { working = within.valid; rows = is.rows; within = within.row; area = is.area; revision = is.revision; kept = is.kept }
 
 IsWithin-accent : (rows : ℕ) (accent : Option ℕ) (w : Working) → IsWithin rows w → IfSome accent IsAccent
     → IsWithin rows (record w { accent = accent })
@@ -624,6 +624,7 @@ IsValidControl-after_service s (Some w) is was = record {
   rows = is.rows;
   within = omega arith;
   area = is.area;
+  revision = is.revision;
   kept = tt;
 }
 
@@ -685,6 +686,7 @@ IsValidControl-control_effect s (commands.Format rows wrap) is valid = record {
   rows = valid;
   within = omega (arith, valid);
   area = is.area;
+  revision = is.revision;
   kept = is.kept;
 }
 IsValidControl-control_effect s (commands.ControlDefaults set) is valid =
@@ -695,6 +697,7 @@ IsValidControl-control_effect s (commands.FullDefaults set) is valid = record {
   rows = inl refl;
   within = omega arith;
   area = tt;
+  revision = inl refl;
   kept = tt;
 }
 IsValidControl-control_effect s (commands.ServiceBreak row) is valid =
@@ -712,20 +715,24 @@ IsValidControl-control_effect s (commands.ServiceBreak row) is valid =
       rows = is.rows;
       within = there.row;
       area = is.area;
+      revision = is.revision;
       kept = IsValidWorking-kept_first s.kept s.working is.kept is.working;
     }
 IsValidControl-control_effect s commands.ServiceEnd is valid = IsValidControl-after_service s s.kept is is.kept
 IsValidControl-control_effect s (commands.Protect on) is valid =
     IsValidControl-working s is (IsWithin-with_protect s.rows on s.working (IsWithin-control s is))
 IsValidControl-control_effect s (commands.Implicit on) is valid =
-    record { working = is.working; rows = is.rows; within = is.within; area = is.area; kept = is.kept }
+    record { working = is.working; rows = is.rows; within = is.within; area = is.area; revision = is.revision; kept = is.kept }
 IsValidControl-control_effect s (commands.AreaCreate first last) is valid =
-    record { working = is.working; rows = is.rows; within = is.within; area = valid; kept = is.kept }
+    record { working = is.working; rows = is.rows; within = is.within; area = valid; revision = is.revision; kept = is.kept }
+IsValidControl-control_effect s (commands.Revision revision) is valid =
+    record { working = is.working; rows = is.rows; within = is.within; area = is.area; revision = valid; kept = is.kept }
 IsValidControl-control_effect s (commands.AreaDelete first last) is valid = record {
   working = is.working;
   rows = is.rows;
   within = is.within;
   area = IsArea-without first last s.area is.area;
+  revision = is.revision;
   kept = is.kept;
 }
 IsValidControl-control_effect s _ is valid = is

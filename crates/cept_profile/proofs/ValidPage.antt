@@ -34,7 +34,7 @@ use Rattle.cept_profile.specs.Control.{ControlState, state_for_effect}
 use Rattle.cept_profile.specs.Markers.{marker_of, strokes_of_any_marker, strokes_of_marker}
 use Rattle.cept_profile.specs.Control.{Working, control_after, control_after_service, control_effect}
 use Rattle.cept_profile.specs.Motions.{area_in_force, area_within, back_strokes, on_strokes, scrolling_area}
-use Rattle.cept_profile.specs.Motions.{strokes_of_scroll}
+use Rattle.cept_profile.specs.Motions.{scroll_under, strokes_of_scroll}
 use Rattle.cept_profile.specs.Pens.{attribute_of, flash_of, strokes_of_attribute, strokes_of_code}
 use Rattle.cept_profile.specs.Pens.{strokes_of_flash, strokes_of_reveal, strokes_of_row_attribute}
 use Rattle.cept_profile.specs.Sets.{IsValidRead}
@@ -69,6 +69,7 @@ abbrev pub IsSafe : ℕ → Stroke → Type 0
 IsSafe rows (strokes.Put p cell) = OnScreen p.row p.column × (p.row ≤ rows) × IsValidCell cell × IsFree cell
 IsSafe rows (strokes.RowAttr r attr) = (r ≤ rows) × IsRow r × IsRowAttr attr
 IsSafe rows (strokes.Shift a b way) = IsArea a b × (b ≤ rows)
+IsSafe rows (strokes.Carry a b way) = IsArea a b × (b ≤ rows)
 IsSafe rows (strokes.Format count) = ⊥
 IsSafe rows stroke = IsValidStroke stroke
 
@@ -77,6 +78,7 @@ IsValidStroke-safe rows (strokes.Put p cell) safe = (safe.0, safe.2)
 IsValidStroke-safe rows (strokes.Erase r from) safe = safe
 IsValidStroke-safe rows strokes.Wipe safe = tt
 IsValidStroke-safe rows (strokes.Shift a b way) safe = safe.0
+IsValidStroke-safe rows (strokes.Carry a b way) safe = safe.0
 IsValidStroke-safe rows (strokes.RowAttr r attr) safe = (safe.1, safe.2)
 IsValidStroke-safe rows (strokes.ScreenAttr attr) safe = safe
 IsValidStroke-safe rows strokes.ScreenClear safe = tt
@@ -183,6 +185,7 @@ AreValidCells-cell_after rows (strokes.Put p cell) was is safe =
 AreValidCells-cell_after rows strokes.Wipe was is safe = AreValidCells-blank_cell rows
 AreValidCells-cell_after rows (strokes.Erase r from) was is safe = AreValidCells-erase rows r from was is
 AreValidCells-cell_after rows (strokes.Shift a b way) was is safe = AreValidCells-shift rows a b way was is safe.0 safe.1
+AreValidCells-cell_after rows (strokes.Carry a b way) was is safe = AreValidCells-shift rows a b way was is safe.0 safe.1
 AreValidCells-cell_after rows (strokes.RowAttr r attr) was is safe = is
 AreValidCells-cell_after rows (strokes.ScreenAttr attr) was is safe = is
 AreValidCells-cell_after rows strokes.ScreenClear was is safe = is
@@ -239,6 +242,13 @@ content_is_not_blank : (c1 : C1Set) (g : Glyph) (pen : Pen) → content c1 g pen
 content_is_not_blank c1sets.Parallel g pen e = parallel_is_not_blank g pen e
 content_is_not_blank c1sets.Serial g pen e = serial_is_not_blank g e
 
+-- under either revision the rows of an area within the format go up or down
+IsSafe-scroll_under : (rows revision : ℕ) (way : Up) (area : ℕ × ℕ) → IsArea area.0 area.1 → area.1 ≤ rows
+    → IsSafe rows (scroll_under revision way area)
+IsSafe-scroll_under rows revision way area is within =
+    cond_both (eqb revision 2) (strokes.Carry area.0 area.1 way) (strokes.Shift area.0 area.1 way) (IsSafe rows)
+    (λ e. (is, within)) (λ e. (is, within))
+
 -- the strokes of motions
 IsSafe-area_within : (s : ControlState) (way : Up) (rows : ℕ) (area : Option (ℕ × ℕ)) → IfSome area (λ a. IsArea a.0 a.1)
     → AllByRecursion (IsSafe rows) (strokes_of_scroll s way (area_within rows area))
@@ -246,7 +256,7 @@ IsSafe-area_within s way rows None is = tt
 IsSafe-area_within s way rows (Some area) is =
     cond_both (leb area.1 rows) (Some area) None
     (λ (there : Option (ℕ × ℕ)). AllByRecursion (IsSafe rows) (strokes_of_scroll s way there))
-    (λ e. ((is, leb-true area.1 rows e), tt)) (λ e. tt)
+    (λ e. (IsSafe-scroll_under rows s.revision way area is (leb-true area.1 rows e), tt)) (λ e. tt)
 
 IsSafe-shift : (way : Up) (s : ControlState) → IsValidControl s
     → AllByRecursion (IsSafe s.rows) (strokes_of_scroll s way (area_in_force s))

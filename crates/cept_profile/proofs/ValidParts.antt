@@ -1,10 +1,10 @@
 -- Valid parts of the page beside its cells: strokes that are safe keep them valid.
 use Rattle.std.proofs.Common.{◌≡◌, ℕ, ◌+◌, ◌≤◌, ◌<◌, ◌%◌, zero, suc, eqb, inl, inr, Option, Some, None, List}
 use Rattle.std.proofs.Common.{[], ◌∷◌}
-use Rattle.std.proofs.Common.{length, refl, sym, ◌∙◌, subst, arith, rules}
+use Rattle.std.proofs.Common.{leb, length, refl, sym, ◌∙◌, ap, subst, arith, rules}
 use Rattle.std.specs.List.{AllByRecursion}
 use Rattle.std.specs.Prelude.{IfSome, slice_index_or}
-use Rattle.std.proofs.lemmas.Bool.{cases_eq, cond_both, eqb-true}
+use Rattle.std.proofs.lemmas.Bool.{and_right, cases_eq, cond_both, eqb-true, lt-leb}
 use Rattle.cept_codes.specs.declared.attribute.Attr.{Attr}
 use Rattle.cept_codes.specs.declared.attribute.Attr.TheVariants as attrs
 use Rattle.cept_codes.specs.declared.attribute.Pen.{Pen}
@@ -15,14 +15,16 @@ use Rattle.cept_codes.specs.declared.stroke.Stroke.{Stroke}
 use Rattle.cept_codes.specs.declared.stroke.Stroke.TheVariants as strokes
 use Rattle.cept_codes.specs.Attribute.{IsEntry, IsPlainFlash, IsRowAttr, IsRowPen, IsScreenAttr, IsScreenPen, unset_pen}
 use Rattle.cept_codes.specs.Look.{IsValidPattern, IsValidRgb, black_paint}
-use Rattle.cept_codes.specs.Stroke.{IsPaintOf}
+use Rattle.cept_codes.specs.Stroke.{IsPaintOf, IsRow}
 use Rattle.cept_codes.proofs.Laws.{entry-list_by_index, length-list_by_index}
 use Rattle.cept_profile.specs.Colours.{default_paint, default_paints}
 use Rattle.cept_profile.specs.PageParts.{row_pen_after, screen_pen_after, paint_after, dclut_after, list_of_rows}
 use Rattle.cept_profile.specs.PageParts.{list_of_colours, list_of_dclut, row_pen_in, paint_in, dclut_in, row_pens_after}
 use Rattle.cept_profile.specs.PageParts.{paints_after, dclut_list_after, list_of_codes, part_after_all, pattern_after}
-use Rattle.cept_profile.specs.PageParts.{pattern_in, patterns_after}
+use Rattle.cept_profile.specs.MovedRows.{moved_rows}
+use Rattle.cept_profile.specs.PageParts.{attributes_row_before, pattern_in, patterns_after, pen_of_row}
 use Rattle.cept_profile.specs.Pens.{pen_with}
+use Rattle.cept_profile.proofs.RowsMoved.{moves_none, row_before_one-on}
 use Rattle.cept_profile.proofs.ValidAttributes.{IsValidAttr-row}
 use Rattle.cept_profile.proofs.ValidControl.{IsValidPen-pen_with, IsValidPen-unset_pen}
 use Rattle.cept_profile.proofs.ValidPage.{IsSafe}
@@ -96,28 +98,43 @@ AreValidRowPens-list rows pens valid unset =
       unset = λ r top bottom past. at r top bottom ∙ unset r top bottom past;
     }
 
-IsRowPen-row_pen_after : (rows : ℕ) (stroke : Stroke) (was : ℕ → Pen) (r : ℕ) → IsRowPen (was r) → IsSafe rows stroke
-    → IsRowPen (row_pen_after stroke was r)
-IsRowPen-row_pen_after rows (strokes.RowAttr row attr) was r is safe =
-    cond_both (eqb row r) (pen_with attr (was r)) (was r) IsRowPen
-    (λ e. IsRowPen-pen_with attr (was r) safe.2 is) (λ e. is)
-IsRowPen-row_pen_after rows strokes.Wipe was r is safe = IsRowPen-unset_pen
-IsRowPen-row_pen_after rows _ was r is safe = is
+-- what holds where none is set and of the attributes of a row holds of those that came from it
+met_by_row : (P : Pen → Type 0) (row : Option ℕ) (was : ℕ → Pen) → P unset_pen
+    → ((q : ℕ) → row ≡ Some q → P (was q)) → P (pen_of_row row was)
+met_by_row P None was unset there = unset
+met_by_row P (Some q) was unset there = there q refl
 
--- the row of an attribute is one of the format
+IsRowPen-row_pen_after : (rows : ℕ) (stroke : Stroke) (was : ℕ → Pen)
+    → ((q : ℕ) → 1 ≤ q → q ≤ 24 → IsRowPen (was q)) → IsSafe rows stroke → (r : ℕ) → 1 ≤ r → r ≤ 24
+    → IsRowPen (row_pen_after stroke was r)
+IsRowPen-row_pen_after rows (strokes.RowAttr row attr) was is safe r top bottom =
+    cond_both (eqb row r) (pen_with attr (was r)) (was r) IsRowPen
+    (λ e. IsRowPen-pen_with attr (was r) safe.2 (is r top bottom)) (λ e. is r top bottom)
+IsRowPen-row_pen_after rows strokes.Wipe was is safe r top bottom = IsRowPen-unset_pen
+IsRowPen-row_pen_after rows (strokes.Carry first last way) was is safe r top bottom =
+    met_by_row IsRowPen (attributes_row_before (strokes.Carry first last way) r) was IsRowPen-unset_pen (λ q from.
+    let on : IsRow q = row_before_one-on (strokes.Carry first last way) r q safe.0 top bottom from in is q on.0 on.1)
+IsRowPen-row_pen_after rows _ was is safe r top bottom = is r top bottom
+
+-- the row of an attribute is one of the format, and so are the rows that are carried
 unset-row_pen_after : (rows : ℕ) (stroke : Stroke) (was : ℕ → Pen) (r : ℕ) → rows < r → was r ≡ unset_pen
     → IsSafe rows stroke → row_pen_after stroke was r ≡ unset_pen
 unset-row_pen_after rows (strokes.RowAttr row attr) was r past is safe =
     cond_both (eqb row r) (pen_with attr (was r)) (was r) (λ p. p ≡ unset_pen)
     (λ e. let same = eqb-true row r e in absurd (omega (arith, safe.0))) (λ e. is)
 unset-row_pen_after rows strokes.Wipe was r past is safe = refl
+unset-row_pen_after rows (strokes.Carry first last way) was r past is safe =
+    ap (λ (row : Option ℕ). pen_of_row row was)
+    (moves_none (moved_rows (strokes.Carry first last way)) r
+    (and_right (leb first r) (leb r last) (lt-leb r last (omega (arith, past, safe.1)))))
+    ∙ is
 unset-row_pen_after rows _ was r past is safe = is
 
 pub AreValidRowPens-after : (rows : ℕ) (pens : List Pen) (stroke : Stroke) → AreValidRowPens rows pens
     → IsSafe rows stroke → AreValidRowPens rows (row_pens_after pens stroke)
 AreValidRowPens-after rows pens stroke is safe =
     AreValidRowPens-list rows (row_pen_after stroke (row_pen_in pens))
-    (λ r top bottom. IsRowPen-row_pen_after rows stroke (row_pen_in pens) r (is.valid r top bottom) safe)
+    (IsRowPen-row_pen_after rows stroke (row_pen_in pens) is.valid safe)
     (λ r top bottom past. unset-row_pen_after rows stroke (row_pen_in pens) r past (is.unset r top bottom past) safe)
 
 -- ---- colour entries

@@ -154,6 +154,7 @@ IsValidCore-core_of s is = record {
   page = is.page;
   rows = is.control.rows;
   area = is.control.area;
+  revision = is.control.revision;
   past = is.past;
   unset = is.unset;
 }
@@ -190,6 +191,7 @@ state_of_core k = record {
     wrap = k.wrap;
     area = k.area;
     implicit = k.implicit;
+    revision = k.revision;
     kept = None;
   };
 }
@@ -204,6 +206,7 @@ IsValidCore-of_state k is = (
       rows = is.rows;
       within = some_rows k.rows is.rows;
       area = is.area;
+      revision = is.revision;
       kept = tt;
     };
     past = is.past;

@@ -19,7 +19,7 @@ use Rattle.cept_codes.specs.declared.look.Pattern.{Pattern}
 use Rattle.cept_codes.specs.declared.look.Rgb.{Rgb}
 use Rattle.cept_codes.specs.declared.stroke.Stroke.{Stroke}
 use Rattle.cept_codes.specs.declared.stroke.Stroke.TheVariants.{Put, Erase, Wipe, RowAttr, ScreenAttr, Colour}
-use Rattle.cept_codes.specs.declared.stroke.Stroke.TheVariants.{ColourDefaults, Dclut, Drcs, DrcsClear, Format, ScreenClear, Shift}
+use Rattle.cept_codes.specs.declared.stroke.Stroke.TheVariants.{Carry, ColourDefaults, Dclut, Drcs, DrcsClear, Format, ScreenClear, Shift}
 use Rattle.cept_codes.specs.declared.command.Up.TheVariants.{Down, Up}
 use Rattle.cept_codes.specs.Attribute.{unset_pen}
 use Rattle.cept_profile.specs.Control.{Working, ControlState, Sets, control_after, initial_control, initial_working}
@@ -56,10 +56,10 @@ busy = record {
   protect = true;
 }
 
--- a state of 20 rows with an area and implicit scrolling
+-- a state of 20 rows with an area and implicit scrolling, under the second revision
 abbrev pub state_with : Bool → Working → ControlState
 state_with wrap working = record
-    { working = working; rows = 20; wrap = wrap; area = Some (3, 9); implicit = true; kept = None }
+    { working = working; rows = 20; wrap = wrap; area = Some (3, 9); implicit = true; revision = 2; kept = None }
 
 -- the working state after a command, with wrap
 abbrev pub after : Working → Command → ControlState
@@ -187,6 +187,11 @@ pub areas : map (after busy) (commands.Implicit false ∷ commands.Implicit true
     ∷ with_area None true ∷ with_area (Some (3, 9)) true ∷ with_area (Some (3, 9)) true ∷ with_area (Some (3, 9)) true
     ∷ state_with true (record dropped { protect = false }) ∷ []
 areas = refl
+
+-- a revision of the rules is chosen
+pub revisions : map (after busy) (commands.Revision 1 ∷ commands.Revision 2 ∷ []) ≡
+    record (state_with true dropped) { revision = 1 } ∷ state_with true dropped ∷ []
+revisions = refl
 
 -- formats: the first place, and neither run nor pen; rows and wrap are those that they give
 pub formats : map (after busy) (commands.Format 24 false ∷ commands.Format 20 true ∷ []) ≡
@@ -321,10 +326,16 @@ pub patterns_are_written : (pattern : Pattern) → map (strokes_after busy)
     (DrcsClear ∷ []) ∷ [] ∷ (Drcs 0x33 pattern ∷ []) ∷ []
 patterns_are_written pattern = refl
 
--- the area in force goes up or down, whatever the row and implicit scrolling
+-- the area in force goes up or down, whatever the row and implicit scrolling; under the second revision the attributes of
+-- its rows go with it
 pub area_goes : map (strokes_after busy) (commands.ScrollUp ∷ commands.ScrollDown ∷ []) ≡
-    (Shift 3 9 Up ∷ []) ∷ (Shift 3 9 Down ∷ []) ∷ []
+    (Carry 3 9 Up ∷ []) ∷ (Carry 3 9 Down ∷ []) ∷ []
 area_goes = refl
+
+pub area_goes_without_attributes :
+    map (strokes_of (record (state_with true busy) { revision = 1 })) (commands.ScrollUp ∷ commands.ScrollDown ∷ []) ≡
+    (Shift 3 9 Up ∷ []) ∷ (Shift 3 9 Down ∷ []) ∷ []
+area_goes_without_attributes = refl
 
 -- formats wipe the page, and full defaults bring back all of it
 pub all_anew : map (strokes_after busy) (commands.Format 20 false ∷ commands.FullDefaults Serial ∷ []) ≡
@@ -338,7 +349,7 @@ without_strokes =
     ∷ commands.Home ∷ commands.Position 9 8
     ∷ commands.LockLeft 3 ∷ commands.LockRight 1 ∷ commands.Single 2 ∷ commands.Designate 1 D ∷ commands.Table 2
     ∷ commands.ServiceBreak 7 ∷ commands.ControlDefaults Serial ∷ commands.Implicit true ∷ commands.Protect true
-    ∷ commands.AreaCreate 2 8 ∷ commands.AreaDelete 2 8 ∷ commands.C1 4 ∷ commands.FlashMode 3 ∷ commands.StopConceal ∷ []
+    ∷ commands.AreaCreate 2 8 ∷ commands.AreaDelete 2 8 ∷ commands.Revision 1 ∷ commands.C1 4 ∷ commands.FlashMode 3 ∷ commands.StopConceal ∷ []
 
 abbrev pub none_of : List Command → List (List Stroke)
 none_of all = map (λ (command : Command). []) all
@@ -348,7 +359,7 @@ no_strokes = refl
 
 -- ---- the core
 
--- a core has its rows, wrap, area and implicit scrolling from control
+-- a core has its rows, wrap, area, implicit scrolling and revision from control
 pub core_from_control : core_of (record { page = blank_page; control = state_with false busy })
-    ≡ record { page = blank_page; rows = 20; wrap = false; area = Some (3, 9); implicit = true }
+    ≡ record { page = blank_page; rows = 20; wrap = false; area = Some (3, 9); implicit = true; revision = 2 }
 core_from_control = refl

@@ -3,8 +3,12 @@ use Rattle.std.proofs.Common.{◌≡◌, ℕ, List, [], ◌∷◌, map, Option, 
 use Rattle.cept_codes.specs.declared.command.Up.TheVariants.{Down, Up}
 use Rattle.cept_codes.specs.declared.stroke.Stroke.{Stroke}
 use Rattle.cept_codes.specs.declared.stroke.Stroke.TheVariants as strokes
-use Rattle.cept_profile.specs.Edges.{edges_of_format, is_last}
+use Rattle.cept_codes.specs.declared.attribute.Attr.TheVariants.{Back}
+use Rattle.cept_codes.specs.declared.attribute.Pen.{Pen}
+use Rattle.cept_codes.specs.Attribute.{unset_pen}
+use Rattle.cept_profile.specs.Edges.{edges_under, is_last}
 use Rattle.cept_profile.specs.MovedRows.{row_before}
+use Rattle.cept_profile.specs.PageParts.{row_pen_back}
 
 -- of which rows the rows 1 to 6 came
 abbrev pub rows_before : List Stroke → List (Option ℕ)
@@ -45,12 +49,69 @@ pub one_row : rows_before (strokes.Shift 3 3 Down ∷ []) ≡ Some 1 ∷ Some 2 
 unfolding row_before
 one_row = refl
 
+-- rows that are carried come from where shifted ones come
+pub carried : rows_before (strokes.Carry 2 5 Up ∷ strokes.Carry 3 4 Down ∷ [])
+    ≡ Some 1 ∷ Some 3 ∷ None ∷ Some 4 ∷ None ∷ Some 6 ∷ []
+unfolding row_before
+carried = refl
+
 -- a wipe and an erased row move nothing
 pub others_move_none : rows_before (strokes.Wipe ∷ strokes.Erase 3 1 ∷ strokes.Format 20 ∷ [])
     ≡ Some 1 ∷ Some 2 ∷ Some 3 ∷ Some 4 ∷ Some 5 ∷ Some 6 ∷ []
 unfolding row_before
 others_move_none = refl
 
--- of 20 rows the last is the twentieth, and with it all after it
-pub last_of_20 : map (is_last (edges_of_format 20)) (19 ∷ 20 ∷ 21 ∷ 24 ∷ []) ≡ false ∷ true ∷ true ∷ true ∷ []
+-- ---- attributes of rows, the last stroke first
+
+-- the attributes of the rows 1 to 6
+abbrev pub pens_of : List Stroke → List Pen
+pens_of strokes = map (row_pen_back strokes) (1 ∷ 2 ∷ 3 ∷ 4 ∷ 5 ∷ 6 ∷ [])
+
+-- row 3 has a background
+abbrev pub back : Pen
+back = record unset_pen { back = Some 1 }
+
+pub shift_leaves_attributes : pens_of (strokes.Shift 2 5 Up ∷ strokes.RowAttr 3 (Back 1) ∷ [])
+    ≡ unset_pen ∷ unset_pen ∷ back ∷ unset_pen ∷ unset_pen ∷ unset_pen ∷ []
+shift_leaves_attributes = refl
+
+pub carried_up : pens_of (strokes.Carry 2 5 Up ∷ strokes.RowAttr 3 (Back 1) ∷ [])
+    ≡ unset_pen ∷ back ∷ unset_pen ∷ unset_pen ∷ unset_pen ∷ unset_pen ∷ []
+carried_up = refl
+
+pub carried_down : pens_of (strokes.Carry 2 5 Down ∷ strokes.RowAttr 3 (Back 1) ∷ [])
+    ≡ unset_pen ∷ unset_pen ∷ unset_pen ∷ back ∷ unset_pen ∷ unset_pen ∷ []
+carried_down = refl
+
+-- what goes off is gone, the row that comes free has none, and rows outside stay
+pub carried_off : pens_of (strokes.Carry 3 5 Down ∷ strokes.Carry 3 5 Up ∷ strokes.RowAttr 3 (Back 1) ∷ [])
+    ≡ unset_pen ∷ unset_pen ∷ unset_pen ∷ unset_pen ∷ unset_pen ∷ unset_pen ∷ []
+carried_off = refl
+
+pub carried_beside : pens_of (strokes.Carry 2 5 Up ∷ strokes.RowAttr 6 (Back 1) ∷ strokes.RowAttr 1 (Back 1) ∷ [])
+    ≡ back ∷ unset_pen ∷ unset_pen ∷ unset_pen ∷ unset_pen ∷ back ∷ []
+carried_beside = refl
+
+-- ---- which rows are last
+
+-- of 20 rows the last is the twentieth, and with it all after it; the first revision asks no area
+pub last_of_20 : map (is_last (edges_under 20 (Some (3, 9)) 1)) (2 ∷ 9 ∷ 19 ∷ 20 ∷ 21 ∷ 24 ∷ [])
+    ≡ false ∷ false ∷ false ∷ true ∷ true ∷ true ∷ []
 last_of_20 = refl
+
+-- under the second the row above the area is last, and the area's last one
+pub last_at_area : map (is_last (edges_under 24 (Some (3, 9)) 2)) (1 ∷ 2 ∷ 3 ∷ 8 ∷ 9 ∷ 10 ∷ 23 ∷ 24 ∷ [])
+    ≡ false ∷ true ∷ false ∷ false ∷ true ∷ false ∷ false ∷ true ∷ []
+last_at_area = refl
+
+-- above the first row there is none
+pub last_at_first_row : map (is_last (edges_under 24 (Some (1, 1)) 2)) (1 ∷ 2 ∷ 3 ∷ []) ≡ true ∷ false ∷ false ∷ []
+last_at_first_row = refl
+
+-- an area past the format has no edges, and none has none
+pub last_past_format : map (is_last (edges_under 20 (Some (3, 21)) 2)) (2 ∷ 3 ∷ 19 ∷ 20 ∷ [])
+    ≡ false ∷ false ∷ false ∷ true ∷ []
+last_past_format = refl
+
+pub last_without_area : map (is_last (edges_under 24 None 2)) (1 ∷ 23 ∷ 24 ∷ []) ≡ false ∷ false ∷ true ∷ []
+last_without_area = refl

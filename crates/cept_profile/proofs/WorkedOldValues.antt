@@ -16,7 +16,7 @@ use Rattle.cept_codes.specs.Table.{list_by_index, row_of, table, value_at}
 use Rattle.cept_profile.specs.Cells.{cells_after_all}
 use Rattle.cept_profile.specs.Colours.{default_paint, default_paints}
 use Rattle.cept_profile.specs.NotedStrokes.{with_strokes}
-use Rattle.cept_profile.specs.OldValues.{OldValues, no_old_values, old_cell, old_dclut, old_paint, old_pattern}
+use Rattle.cept_profile.specs.OldValues.{OldValues, no_old_values, old_cell, old_dclut, old_paint, old_pattern, old_row_pen}
 use Rattle.cept_profile.specs.OldValues.{page_unwound}
 use Rattle.cept_profile.specs.PageParts.{paint_in, part_after_all, pattern_in, row_pen_in}
 use Rattle.cept_profile.specs.State.{Page, blank_page, page_after}
@@ -56,6 +56,13 @@ pub moved_rows_are_noted : old_cell scrolled 1 1 ∷ old_cell scrolled 2 1 ∷ o
     ≡ Some (cell_of 0x41) ∷ Some blank_cell ∷ Some blank_cell ∷ None ∷ []
 unfolding table row_of list_by_index cells_after_all part_after_all with_strokes
 moved_rows_are_noted = refl
+
+-- and where they are carried their attributes too
+pub carried_rows_are_noted : old_row_pen (noted (strokes.Carry 1 2 Up ∷ [])) 1 ∷ old_row_pen (noted (strokes.Carry 1 2 Up ∷ [])) 2
+    ∷ old_row_pen (noted (strokes.Carry 1 2 Up ∷ [])) 3 ∷ old_row_pen scrolled 1 ∷ []
+    ≡ Some unset_pen ∷ Some unset_pen ∷ None ∷ None ∷ []
+unfolding table row_of list_by_index cells_after_all part_after_all with_strokes
+carried_rows_are_noted = refl
 
 -- a code that had no pattern has none again
 abbrev pub lines : Pattern

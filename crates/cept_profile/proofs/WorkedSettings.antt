@@ -1,10 +1,10 @@
 -- Worked cases of looking back: services and settings, by computing.
-use Rattle.std.proofs.Common.{◌≡◌, [], ◌∷◌, Some, None, false, refl}
+use Rattle.std.proofs.Common.{◌≡◌, [], ◌∷◌, Some, None, false, true, refl}
 use Rattle.cept_codes.specs.declared.command.C1Set.TheVariants.{Serial, Parallel}
 use Rattle.cept_codes.specs.declared.command.Command.TheVariants.{Graphic, C1, DesignateC1, Table, StopConceal, Home}
 use Rattle.cept_codes.specs.declared.command.Command.TheVariants.{Designate, AreaCreate, AreaDelete, Format, Position}
 use Rattle.cept_codes.specs.declared.command.Command.TheVariants.{ServiceBreak, ServiceEnd, FullDefaults}
-use Rattle.cept_codes.specs.declared.command.Command.TheVariants.{ControlDefaults}
+use Rattle.cept_codes.specs.declared.command.Command.TheVariants.{ControlDefaults, Revision}
 use Rattle.cept_codes.specs.declared.glyph.SetId.TheVariants.{P, N}
 use Rattle.cept_profile.specs.ControlSettings.{outer_history, c1_back, set_back, class_back, fore_in, back_in}
 use Rattle.cept_profile.specs.ControlSettings.{conceal_in, rows_back, area_back, settings}
@@ -94,6 +94,19 @@ fore_before_two_breaks = refl
 
 pub rows_of_the_service : (settings (ServiceBreak 24 ∷ Format 20 false ∷ ServiceEnd ∷ [])).rows ≡ 20
 rows_of_the_service = refl
+
+-- so does the revision, which only full defaults take back
+pub revision_of_the_service : (settings (ServiceBreak 24 ∷ Revision 2 ∷ ServiceEnd ∷ [])).revision ≡ 2
+revision_of_the_service = refl
+
+pub revision_outlives : (settings (Revision 2 ∷ ControlDefaults Serial ∷ Format 20 true ∷ ServiceBreak 24 ∷ [])).revision ≡ 2
+revision_outlives = refl
+
+pub revision_of_the_start : (settings (Revision 2 ∷ FullDefaults Serial ∷ Home ∷ [])).revision ≡ (settings []).revision
+revision_of_the_start = refl
+
+pub first_revision : (settings (Revision 2 ∷ Revision 1 ∷ Home ∷ [])).revision ≡ 1
+first_revision = refl
 
 pub home_unsets : (settings (C1 2 ∷ Graphic 0x41 ∷ Home ∷ [])).fore ≡ None
 home_unsets = refl

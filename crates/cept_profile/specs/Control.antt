@@ -84,6 +84,7 @@ control_effect s (commands.DesignateC1 set) = control_with s (working_without_ru
 control_effect s (commands.Table k) = control_with s (with_table k s.working)
 control_effect s (commands.Protect on) = control_with s (with_protect on s.working)
 control_effect s (commands.Implicit on) = record s { implicit = on }
+control_effect s (commands.Revision revision) = record s { revision = revision }
 control_effect s (commands.AreaCreate first last) = record s { area = Some (first, last) }
 control_effect s (commands.AreaDelete first last) = record s { area = area_without first last s.area }
 control_effect s (commands.Format rows wrap) =

@@ -173,6 +173,16 @@ implicit_said _ = None
 abbrev pub implicit_back : List Command → Bool
 implicit_back = last_said (λ earlier. implicit_said) false
 
+-- what a command says of the revision of the rules
+abbrev pub revision_said : Command → Option ℕ
+revision_said (commands.Revision revision) = Some revision
+revision_said (commands.FullDefaults set) = Some 1
+revision_said _ = None
+
+-- the revision after the commands: the first one at first
+abbrev pub revision_back : List Command → ℕ
+revision_back = last_said (λ earlier. revision_said) 1
+
 -- the area that a command creates
 abbrev pub created_said : Command → Option (Option (ℕ × ℕ))
 created_said (commands.AreaCreate a b) = Some (Some (a, b))
@@ -221,6 +231,7 @@ pub record Settings : Type 0 where
   pub rows : ℕ
   pub wrap : Bool
   pub implicit : Bool
+  pub revision : ℕ
   pub area : Option (ℕ × ℕ)
 
 -- the settings that a state of control has
@@ -245,10 +256,11 @@ settings_of s = record {
   rows = s.rows;
   wrap = s.wrap;
   implicit = s.implicit;
+  revision = s.revision;
   area = s.area;
 }
 
--- those that the commands set: the last four are asked of all commands, the others of the ones outside closed services
+-- those that the commands set: the last five are asked of all commands, the others of the ones outside closed services
 abbrev pub settings_back : List Command → List Command → Settings
 settings_back outside all = record {
   c1 = c1_back outside;
@@ -270,6 +282,7 @@ settings_back outside all = record {
   rows = rows_back all;
   wrap = wrap_back all;
   implicit = implicit_back all;
+  revision = revision_back all;
   area = area_back all;
 }
 

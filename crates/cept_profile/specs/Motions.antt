@@ -38,10 +38,15 @@ abbrev pub is_last_of : Option (ℕ × ℕ) → ℕ → Bool
 is_last_of None r = false
 is_last_of (Some area) r = area.1 == r
 
+-- under this revision the rows of the area go one row up or down: under the second their attributes go with them
+abbrev pub scroll_under : ℕ → Up → ℕ × ℕ → Stroke
+scroll_under revision way area =
+    if revision == 2 then strokes.Carry area.0 area.1 way else strokes.Shift area.0 area.1 way
+
 -- in this state the rows of the area go one row up or down
 abbrev pub strokes_of_scroll : ControlState → Up → Option (ℕ × ℕ) → List Stroke
 strokes_of_scroll s way None = []
-strokes_of_scroll s way (Some area) = strokes.Shift area.0 area.1 way ∷ []
+strokes_of_scroll s way (Some area) = scroll_under s.revision way area ∷ []
 
 -- ---- motions
 

@@ -15,6 +15,7 @@ pub record MovedRows : Type 0 where
 -- the rows that a stroke moves, where it moves any
 abbrev pub moved_rows : Stroke → Option MovedRows
 moved_rows (strokes.Shift first last way) = Some (record { first = first; last = last; way = way })
+moved_rows (strokes.Carry first last way) = Some (record { first = first; last = last; way = way })
 -- these move none
 moved_rows (strokes.Put p cell) = None
 moved_rows (strokes.Erase row from) = None

@@ -38,6 +38,9 @@ with_stroke p (strokes.Put place cell) old = with_cells_of p (is_at place) old
 with_stroke p (strokes.Erase row from) old = with_cells_of p (λ r c. row == r && nat_le from c) old
 with_stroke p strokes.Wipe old = with_row_pens_of p (λ r. true) (with_cells_of p (λ r c. true) old)
 with_stroke p (strokes.Shift first last way) old = with_cells_of p (λ r c. moves (strokes.Shift first last way) r) old
+with_stroke p (strokes.Carry first last way) old =
+    with_row_pens_of p (moves (strokes.Carry first last way))
+    (with_cells_of p (λ r c. moves (strokes.Carry first last way) r) old)
 with_stroke p (strokes.RowAttr row attr) old = with_row_pens_of p (λ r. row == r) old
 with_stroke p (strokes.ScreenAttr attr) old = with_screen_pen p.screen_pen old
 with_stroke p strokes.ScreenClear old = with_screen_pen p.screen_pen old

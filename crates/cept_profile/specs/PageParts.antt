@@ -13,6 +13,7 @@ use Rattle.cept_codes.specs.Look.{black_paint}
 pub use Rattle.cept_codes.specs.PatternTable.{list_of_codes, pattern_in}
 use Rattle.cept_codes.specs.Table.{entry, list_by_index}
 use Rattle.cept_profile.specs.Colours.{default_paint}
+use Rattle.cept_profile.specs.MovedRows.{moved_rows, row_before_move}
 use Rattle.cept_profile.specs.Pens.{pen_with, fore_in, back_in, flash_in, conceal_in, lined_in, boxed_in, size_in}
 use Rattle.cept_profile.specs.Pens.{invert_in}
 
@@ -24,12 +25,14 @@ stroke_said says first [] = first
 stroke_said says first (stroke ∷ earlier) = unwrap_or (says stroke) (stroke_said says first earlier)
 
 -- of which row the attributes that row r has after a stroke came, or none where they came free: of the row itself, also
--- where the stroke moves its cells
+-- where a shift moves its cells; where rows are carried, of the row of which its cells came
 abbrev pub attributes_row_before : Stroke → ℕ → Option ℕ
 attributes_row_before (strokes.Put p cell) r = Some r
 attributes_row_before (strokes.Erase row from) r = Some r
 attributes_row_before strokes.Wipe r = Some r
 attributes_row_before (strokes.Shift first last way) r = Some r
+attributes_row_before (strokes.Carry first last way) r =
+    row_before_move (moved_rows (strokes.Carry first last way)) r
 attributes_row_before (strokes.RowAttr row attr) r = Some r
 attributes_row_before (strokes.ScreenAttr attr) r = Some r
 attributes_row_before strokes.ScreenClear r = Some r
@@ -48,6 +51,7 @@ row_said class r strokes.Wipe = Some None
 row_said class r (strokes.Put p cell) = None
 row_said class r (strokes.Erase row from) = None
 row_said class r (strokes.Shift first last way) = None
+row_said class r (strokes.Carry first last way) = None
 row_said class r (strokes.ScreenAttr attr) = None
 row_said class r strokes.ScreenClear = None
 row_said class r (strokes.Colour i paint) = None

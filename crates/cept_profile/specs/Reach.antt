@@ -33,6 +33,7 @@ writes (strokes.Erase row from) r = row == r
 writes strokes.Wipe r = true
 -- these write in no row
 writes (strokes.Shift first last way) r = false
+writes (strokes.Carry first last way) r = false
 writes (strokes.RowAttr row attr) r = false
 writes (strokes.ScreenAttr attr) r = false
 writes strokes.ScreenClear r = false
@@ -82,6 +83,7 @@ redefines k r (strokes.Put p cell) = false
 redefines k r (strokes.Erase row from) = false
 redefines k r strokes.Wipe = false
 redefines k r (strokes.Shift first last way) = false
+redefines k r (strokes.Carry first last way) = false
 redefines k r (strokes.RowAttr row attr) = false
 redefines k r (strokes.ScreenAttr attr) = false
 redefines k r strokes.ScreenClear = false

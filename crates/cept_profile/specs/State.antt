@@ -41,6 +41,7 @@ pub record Core : Type 0 where
   pub wrap : Bool
   pub area : Option (ℕ × ℕ)
   pub implicit : Bool
+  pub revision : ℕ
 
 -- the core of a state
 abbrev pub core_of : State → Core
@@ -50,6 +51,7 @@ core_of s = record {
   wrap = s.control.wrap;
   area = s.control.area;
   implicit = s.control.implicit;
+  revision = s.control.revision;
 }
 
 -- what the signs of a page are drawn with

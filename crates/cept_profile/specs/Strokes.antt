@@ -68,6 +68,7 @@ strokes_when s (commands.DrcsStart code) = []
 strokes_when s (commands.ServiceBreak row) = []
 strokes_when s commands.ServiceEnd = []
 strokes_when s (commands.ControlDefaults set) = []
+strokes_when s (commands.Revision revision) = []
 
 -- the strokes of one more command
 abbrev pub strokes_of : ControlState → Command → List Stroke

@@ -40,12 +40,13 @@ pub record IsValidWorking (w : Working) : Type 0 where
   pub table : w.table ≤ 3
 
 -- valid working state in force, and in what a service keeps; 24 or 20 rows, with the row in force among them; an area of
--- valid rows, or none
+-- valid rows, or none; revision 1 or 2
 pub record IsValidControl (s : ControlState) : Type 0 where
   pub working : IsValidWorking s.working
   pub rows : (s.rows ≡ 24) ⊎ (s.rows ≡ 20)
   pub within : s.working.row ≤ s.rows
   pub area : IfSome s.area (λ a. IsArea a.0 a.1)
+  pub revision : (s.revision ≡ 1) ⊎ (s.revision ≡ 2)
   pub kept : IfSome s.kept IsValidWorking
 
 -- valid paints and patterns, also past the last
@@ -77,11 +78,12 @@ pub record IsValidState (s : State) : Type 0 where
   pub past : (r c : ℕ) → OnScreen r c → s.control.rows < r → value_at blank_cell s.page.cells r c ≡ blank_cell
   pub unset : (r : ℕ) → 1 ≤ r → r ≤ 24 → s.control.rows < r → row_pen_in s.page.row_pens r ≡ unset_pen
 
--- a valid page of 24 or 20 rows with an area of valid rows, or none, and nothing past the format
+-- a valid page of 24 or 20 rows with an area of valid rows, or none, under revision 1 or 2, and nothing past the format
 pub record IsValidCore (k : Core) : Type 0 where
   pub page : IsValidPage k.page
   pub rows : (k.rows ≡ 24) ⊎ (k.rows ≡ 20)
   pub area : IfSome k.area (λ a. IsArea a.0 a.1)
+  pub revision : (k.revision ≡ 1) ⊎ (k.revision ≡ 2)
   pub past : (r c : ℕ) → OnScreen r c → k.rows < r → value_at blank_cell k.page.cells r c ≡ blank_cell
   pub unset : (r : ℕ) → 1 ≤ r → r ≤ 24 → k.rows < r → row_pen_in k.page.row_pens r ≡ unset_pen
 

@@ -30,6 +30,7 @@ pub record ControlState : Type 0 where
   pub wrap : Bool
   pub area : Option (ℕ × ℕ)
   pub implicit : Bool
+  pub revision : ℕ  -- the revision of the rules, 1 or 2
   pub kept : Option Working
 
 -- at the start: the first place, the parallel set, nothing that waits and nothing set
@@ -57,8 +58,8 @@ initial_control = record {
   wrap = true;
   area = None;
   implicit = false;
-  kept =
-      None;
+  revision = 1;
+  kept = None;
 }
 
 -- the state with this working state

@@ -1,6 +1,7 @@
 //! The laws that the definitions of the profile obey, each the contract of a function with an empty
 //! body.
 mod accents;
+mod carried_rows;
 mod codes_of_sets;
 mod control_settings;
 mod first_grid;
@@ -19,6 +20,7 @@ mod tiling;
 mod validity;
 
 pub use accents::{accents_wait, single_shifts_wait};
+pub use carried_rows::attributes_go_with_carried_rows;
 pub use codes_of_sets::codes_give_signs_or_accents;
 pub use control_settings::{
     closed_services_are_left_out, rows_are_those_of_the_last_format, settings_look_back,

@@ -1,6 +1,6 @@
 -- Rows followed back through strokes, stroke by stroke.
 use Rattle.std.proofs.Common.{◌≡◌, ℕ, ◌+◌, ◌-◌, ◌<◌, ◌≤◌, ◌&&◌, ◌||◌, eqb, leb, Bool, true, false, cond, List, []}
-use Rattle.std.proofs.Common.{◌∷◌, ◌++◌, Option, Some, None, get_or, take, length, refl, sym, ap, ◌∙◌, arith}
+use Rattle.std.proofs.Common.{◌∷◌, ◌++◌, ◌⊎◌, inl, inr, Option, Some, None, get_or, take, length, refl, sym, ap, ◌∙◌, arith}
 use Rattle.std.specs.Prelude.{IfSome, option_and_then}
 use Rattle.std.specs.List.{AllByRecursion}
 use Rattle.std.proofs.lemmas.List.{take_all, take_more}
@@ -188,7 +188,9 @@ pub followed-rest : (r : ℕ) → followed [] r ≡ (let row : Followed = record
 unfolding row_before is_written
 followed-rest r = refl
 
--- rows that move bring what they were
-pub shift-followed : (first last : ℕ) (way : Up) (f : ℕ → Followed) (r : ℕ)
-    → shifted way first last freed f r ≡ followed_after (strokes.Shift first last way) f r
-shift-followed first last way f r = refl
+-- rows that move bring what they were, whether they are shifted or carried
+pub moved-followed : (stroke : Stroke) (first last : ℕ) (way : Up)
+    → (stroke ≡ strokes.Shift first last way) ⊎ (stroke ≡ strokes.Carry first last way) → (f : ℕ → Followed) (r : ℕ)
+    → shifted way first last freed f r ≡ followed_after stroke f r
+moved-followed stroke first last way (inl shift) f r = ap (λ (s : Stroke). followed_after s f r) (sym shift)
+moved-followed stroke first last way (inr carry) f r = ap (λ (s : Stroke). followed_after s f r) (sym carry)

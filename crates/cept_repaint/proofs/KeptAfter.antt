@@ -66,7 +66,7 @@ pub AreNamedOn-state : (s : State) (names : NamesOfRows) (edges : Edges) → edg
     → AreNamed names (core_of s) → AreNamedOn names s.page edges
 AreNamedOn-state s names edges same are k also =
     AreNamed-alike names (core_of s) (core_on k s.page) refl refl refl
-    (ap (λ (e : Edges). e.rows) (also ∙ same)) are
+    (also ∙ same) are
 
 -- and back
 pub AreNamed-drawn : (q : Page) (d : ControlState) (after : Edges) (names : NamesOfRows) → after ≡ edges_of d
@@ -121,6 +121,6 @@ IsKept-still {p} {c} {kept} {names} is command valid d taken after none left edg
           (state_after-still p c command d (after t) (none t))
           (is.looks ∙ sym (looks_of-still p c d edges))
           (AreNamed-alike names (core_of (record { page = p; control = c })) (core_of (record { page = p; control = d }))
-          refl refl refl (ap (λ (e : Edges). e.rows) edges) is.named)
+          refl refl refl edges is.named)
       | inr f ↦ subst (λ (e : ControlState). IsKept (record { page = p; control = e }) kept names) (sym (left f)) is
     ]

@@ -19,6 +19,7 @@ pub mod MarkedDifferences
 pub mod MarkedRows
 pub mod MarkedWithin
 pub mod MixedCommands
+pub mod MovedEdges
 pub mod MovedRows
 pub mod NamedRows
 pub mod NamesAfter

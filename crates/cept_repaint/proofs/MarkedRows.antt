@@ -29,6 +29,7 @@ use Rattle.cept_profile.specs.PageParts.{row_pen_after, row_pen_in}
 use Rattle.cept_profile.specs.Pens.{pen_with}
 use Rattle.cept_profile.specs.Serial.{is_marker}
 use Rattle.cept_profile.specs.State.{Page}
+use Rattle.cept_profile.proofs.Laws.{row_pen_after-carried}
 use Rattle.cept_repaint.specs.Drawn.{IsDrawn}
 use Rattle.cept_repaint.specs.MarkedRows.{HasNone, IsKeptPage, flag_after, gives_size}
 use Rattle.cept_repaint.specs.MarkedRows.{IsUnflagged, StandsAlone, size_flag_after}
@@ -66,13 +67,15 @@ IsKeptPage-start p cells pens paints dclut patterns = record {
 
 -- ---- after a stroke: the cells of a row
 
--- the rows of a shift are those of an area
+-- the rows that a stroke moves are those of an area
 abbrev pub IsAreaOf : Stroke → Type 0
 IsAreaOf (strokes.Shift a b way) = IsArea a b
+IsAreaOf (strokes.Carry a b way) = IsArea a b
 IsAreaOf stroke = Unit {0}
 
 pub IsAreaOf-valid : (stroke : Stroke) → IsValidStroke stroke → IsAreaOf stroke
 IsAreaOf-valid (strokes.Shift a b way) valid = valid
+IsAreaOf-valid (strokes.Carry a b way) valid = valid
 IsAreaOf-valid stroke valid = tt
 
 -- by the cases of two tests, the second where the first holds
@@ -130,6 +133,8 @@ none_seen is_such blank (strokes.Erase row from) area was flags r c top bottom o
 none_seen is_such blank strokes.Wipe area was flags r c top bottom old unset = blank
 none_seen is_such blank (strokes.Shift a b way) area was flags r c top bottom old unset =
     none_shifted is_such blank a b way area was flags r c top bottom old unset
+none_seen is_such blank (strokes.Carry a b way) area was flags r c top bottom old unset =
+    none_shifted is_such blank a b way area was flags r c top bottom old unset
 none_seen is_such blank (strokes.RowAttr row attr) area was flags r c top bottom old unset = old r top bottom unset
 none_seen is_such blank (strokes.ScreenAttr attr) area was flags r c top bottom old unset = old r top bottom unset
 none_seen is_such blank strokes.ScreenClear area was flags r c top bottom old unset = old r top bottom unset
@@ -173,27 +178,49 @@ single_if : (here : Bool) (attr : Attr) (pen : Pen) → is_double_set pen.size �
 single_if true attr pen old new = single_with attr pen old new
 single_if false attr pen old new = old
 
+-- of attributes that came with their row, where the flag that came with it is unset
+single_carried : (a b : ℕ) (way : Up) → IsArea a b → (was : ℕ → Pen) (flags : ℕ → Bool) (r : ℕ) → 1 ≤ r → r ≤ 24
+    → ((q : ℕ) → 1 ≤ q → q ≤ 24 → flags q ≡ false → is_double_set (was q).size ≡ false)
+    → shifted way a b false flags r ≡ false → is_double_set (shifted way a b unset_pen was r).size ≡ false
+single_carried a b ways.Up area was flags r top bottom old unset =
+    by_both (leb a r && leb r b) (eqb r b) (λ (inside last : Bool). cond inside (cond last false (flags (r + 1))) (flags r)
+    ≡ false → is_double_set (cond inside (cond last unset_pen (was (r + 1))) (was r)).size ≡ false)
+    (λ i l u. refl)
+    (λ i l u. let high = leb-true r b (and_parts (leb a r) (leb r b) i).1 in
+    let apart = eqb-false r b l in old (r + 1) (omega arith) (omega (arith, area, high, apart)) u)
+    (λ i u. old r top bottom u) unset
+single_carried a b ways.Down area was flags r top bottom old unset =
+    by_both (leb a r && leb r b) (eqb r a) (λ (inside first : Bool). cond inside (cond first false (flags (r - 1))) (flags r)
+    ≡ false → is_double_set (cond inside (cond first unset_pen (was (r - 1))) (was r)).size ≡ false)
+    (λ i l u. refl)
+    (λ i l u. let low = leb-true a r (and_parts (leb a r) (leb r b) i).0 in
+    let apart = eqb-false r a l in old (r - 1) (omega (arith, area, low, apart)) (omega (arith, bottom)) u)
+    (λ i u. old r top bottom u) unset
+
 -- in a row whose flag of sizes is unset after a stroke no attribute of the row is a double size then
-single_after : (stroke : Stroke) (was : ℕ → Pen) (r : ℕ) (flags : ℕ → Bool)
-    → (flags r ≡ false → is_double_set (was r).size ≡ false) → size_flag_after stroke flags r ≡ false
-    → is_double_set (row_pen_after stroke was r).size ≡ false
-single_after (strokes.Put p cell) was r flags old unset =
-    old (or_parts (flags r) (p.row == r && sets_double_size cell.what) unset).0
-single_after (strokes.RowAttr row attr) was r flags old unset =
+single_after : (stroke : Stroke) → IsAreaOf stroke → (was : ℕ → Pen) (flags : ℕ → Bool)
+    → ((q : ℕ) → 1 ≤ q → q ≤ 24 → flags q ≡ false → is_double_set (was q).size ≡ false) → (r : ℕ) → 1 ≤ r → r ≤ 24
+    → size_flag_after stroke flags r ≡ false → is_double_set (row_pen_after stroke was r).size ≡ false
+single_after (strokes.Put p cell) area was flags old r top bottom unset =
+    old r top bottom (or_parts (flags r) (p.row == r && sets_double_size cell.what) unset).0
+single_after (strokes.RowAttr row attr) area was flags old r top bottom unset =
     let parts = or_parts (flags r) (row == r && gives_size attr) unset in
-    single_if (row == r) attr (was r) (old parts.0) parts.1
-single_after strokes.Wipe was r flags old unset = refl
-single_after (strokes.Erase row from) was r flags old unset = old unset
-single_after (strokes.Shift a b way) was r flags old unset =
-    old (or_parts (flags r) (shifted way a b false flags r) unset).0
-single_after (strokes.ScreenAttr attr) was r flags old unset = old unset
-single_after strokes.ScreenClear was r flags old unset = old unset
-single_after (strokes.Colour i paint) was r flags old unset = old unset
-single_after (strokes.Dclut i v) was r flags old unset = old unset
-single_after strokes.ColourDefaults was r flags old unset = old unset
-single_after strokes.DrcsClear was r flags old unset = old unset
-single_after (strokes.Drcs code pattern) was r flags old unset = old unset
-single_after (strokes.Format rows) was r flags old unset = old unset
+    single_if (row == r) attr (was r) (old r top bottom parts.0) parts.1
+single_after strokes.Wipe area was flags old r top bottom unset = refl
+single_after (strokes.Shift a b way) area was flags old r top bottom unset =
+    old r top bottom (or_parts (flags r) (shifted way a b false flags r) unset).0
+single_after (strokes.Carry a b way) area was flags old r top bottom unset =
+    ap (λ (p : Pen). is_double_set p.size) (row_pen_after-carried a b r way was)
+    ∙ single_carried a b way area was flags r top bottom old (or_parts (flags r) (shifted way a b false flags r) unset).1
+single_after (strokes.Erase row from) area was flags old r top bottom unset = old r top bottom unset
+single_after (strokes.ScreenAttr attr) area was flags old r top bottom unset = old r top bottom unset
+single_after strokes.ScreenClear area was flags old r top bottom unset = old r top bottom unset
+single_after (strokes.Colour i paint) area was flags old r top bottom unset = old r top bottom unset
+single_after (strokes.Dclut i v) area was flags old r top bottom unset = old r top bottom unset
+single_after strokes.ColourDefaults area was flags old r top bottom unset = old r top bottom unset
+single_after strokes.DrcsClear area was flags old r top bottom unset = old r top bottom unset
+single_after (strokes.Drcs code pattern) area was flags old r top bottom unset = old r top bottom unset
+single_after (strokes.Format rows) area was flags old r top bottom unset = old r top bottom unset
 
 -- the flag of sizes is set where what is put sets one
 flag_of_cells : (stroke : Stroke) (r : ℕ) (flags : ℕ → Bool) → size_flag_after stroke flags r ≡ false
@@ -203,6 +230,8 @@ flag_of_cells (strokes.RowAttr row attr) r flags unset = (or_parts (flags r) (ro
 flag_of_cells strokes.Wipe r flags unset = unset
 flag_of_cells (strokes.Erase row from) r flags unset = unset
 flag_of_cells (strokes.Shift a b way) r flags unset =
+    (or_parts (flags r) (shifted way a b false flags r) unset).1
+flag_of_cells (strokes.Carry a b way) r flags unset =
     (or_parts (flags r) (shifted way a b false flags r) unset).1
 flag_of_cells (strokes.ScreenAttr attr) r flags unset = unset
 flag_of_cells strokes.ScreenClear r flags unset = unset
@@ -243,8 +272,8 @@ IsKeptPage-after {p} {q} {marked} {sized} {marked_after} {sized_after} {stroke} 
           pen = ap (λ (l : List Pen). is_double_set (row_pen_in l r).size) drawn.row_pens
               ∙ ap (λ (x : Pen). is_double_set x.size)
               (entry-list_by_index unset_pen 1 24 (row_pen_after stroke (row_pen_in p.row_pens)) r top (omega arith))
-              ∙ single_after stroke (row_pen_in p.row_pens) r (entry false 1 sized)
-              (λ was. (m.sizes.none r top bottom was).pen) said;
+              ∙ single_after stroke area (row_pen_in p.row_pens) (entry false 1 sized)
+              (λ k low high was. (m.sizes.none k low high was).pen) r top bottom said;
         };
   };
 }

@@ -3,7 +3,7 @@
 use Rattle.std.proofs.Common.{◌≡◌, ℕ, ◌+◌, ◌==◌, ◌||◌, ◌&&◌, not, cond, Bool, true, false, List, [], ◌∷◌, ◌++◌}
 use Rattle.std.proofs.Common.{Option, Some, None, ◌⊎◌, inl, inr, zero, suc, refl, sym, ap, ◌∙◌, arith}
 use Rattle.std.specs.List.{list_any}
-use Rattle.std.proofs.lemmas.Bool.{cases_Bool, or_left, true≢false}
+use Rattle.std.proofs.lemmas.Bool.{and_from, cases_Bool, eq-eqb, or_left, true≢false}
 use Rattle.std.proofs.lemmas.Bool.Decides.{nat_tests}
 use Rattle.cept_codes.specs.declared.attribute.Attr.{Attr}
 use Rattle.cept_codes.specs.declared.cell.Marker.{Marker}
@@ -16,8 +16,9 @@ use Rattle.cept_codes.specs.declared.command.Up.{Up}
 use Rattle.cept_codes.specs.declared.command.Up.TheVariants as ways
 use Rattle.cept_codes.specs.declared.glyph.Glyph.{Glyph}
 use Rattle.cept_codes.specs.declared.stroke.Stroke.{Stroke}
+use Rattle.cept_codes.specs.declared.stroke.Stroke.TheVariants as strokes
 use Rattle.cept_profile.specs.Control.{ControlState, control_after, control_effect, state_for_effect}
-use Rattle.cept_profile.specs.Edges.{edges_of}
+use Rattle.cept_profile.specs.Edges.{Edges, edges_of}
 use Rattle.cept_profile.specs.Markers.{marker_of, strokes_of_any_marker, strokes_of_marker}
 use Rattle.cept_profile.specs.Motions.{above_strokes, area_in_force, back_strokes, below_strokes, on_strokes, strokes_of_scroll}
 use Rattle.cept_profile.specs.Motions.{is_first_of, is_last_of, scrolling_area}
@@ -33,7 +34,8 @@ use Rattle.cept_profile.specs.Writing.{control_after_copies, graphic_result, sig
 use Rattle.cept_profile.specs.Writing.{strokes_of_repeat, strokes_of_sign}
 use Rattle.cept_profile.proofs.Laws.{is_reached-by, reaches-by, rows_in_reach-counted, strokes_of_copies-more}
 use Rattle.cept_profile.proofs.Laws.{strokes_of_copies-none}
-use Rattle.cept_repaint.specs.Resolved.{defines, may_resolve, mixes, one_else, rows_resolved_by}
+use Rattle.cept_repaint.specs.Resolved.{are_same_edges, defines, is_same_area, may_resolve, mixes, one_else}
+use Rattle.cept_repaint.specs.Resolved.{rows_resolved_by}
 use Rattle.cept_repaint.proofs.RowsDue.{or_false, same_count}
 
 -- ---- strokes that define nothing
@@ -55,9 +57,13 @@ none-cond : (b : Bool) (xs ys : List Stroke) → DefinesNothing xs → DefinesNo
 none-cond true xs ys first second = first
 none-cond false xs ys first second = second
 
+none-one : (b : Bool) (x y : Stroke) → defines x ≡ false → defines y ≡ false → DefinesNothing (cond b x y ∷ [])
+none-one true x y first second = ap (λ b. b || false) first
+none-one false x y first second = ap (λ b. b || false) second
+
 none-scroll : (s : ControlState) (way : Up) (area : Option (ℕ × ℕ)) → DefinesNothing (strokes_of_scroll s way area)
 none-scroll s way None = refl
-none-scroll s way (Some area) = refl
+none-scroll s way (Some area) = none-one (s.revision == 2) (strokes.Carry area.0 area.1 way) (strokes.Shift area.0 area.1 way) refl refl
 
 none-below : (s : ControlState) (r : ℕ) → DefinesNothing (below_strokes s r)
 none-below s r =
@@ -127,11 +133,11 @@ none-row r (Some attr) = refl
 
 -- ---- three kinds of commands
 
--- its strokes define nothing; or they all define something, and the number of rows stays; or they write in all rows
+-- its strokes define nothing; or they all define something, and the edges stay; or they write in all rows
 abbrev Kind : ControlState → Command → Type 0
 Kind s command =
     DefinesNothing (strokes_when s command)
-    ⊎ (((one_else (strokes_when s command) ≡ false) × ((control_effect s command).rows ≡ s.rows))
+    ⊎ (((one_else (strokes_when s command) ≡ false) × (edges_of (control_effect s command) ≡ edges_of s))
     ⊎ ((r : ℕ) → is_written (strokes_when s command) r ≡ true))
 
 kind : (s : ControlState) (command : Command) → Kind s command
@@ -183,8 +189,19 @@ kind s (commands.DrcsStart code) = inl refl
 kind s (commands.ServiceBreak row) = inl refl
 kind s commands.ServiceEnd = inl refl
 kind s (commands.ControlDefaults set) = inl refl
+kind s (commands.Revision revision) = inl refl
 
 -- ---- a command that mixes writes in all rows
+
+area_itself : (area : Option (ℕ × ℕ)) → is_same_area area area ≡ true
+area_itself None = refl
+area_itself (Some area) = grind (arith, nat_tests)
+
+edges_alike : (edges others : Edges) → edges ≡ others → are_same_edges edges others ≡ true
+edges_alike edges others same =
+    ap (are_same_edges edges) (sym same)
+    ∙ and_from (edges.rows == edges.rows) (is_same_area edges.area edges.area) (eq-eqb edges.rows edges.rows refl)
+    (area_itself edges.area)
 
 written : (s : ControlState) (command : Command)
     → mixes (edges_of s) (edges_of (control_after s command)) (strokes_of s command) ≡ true → (r : ℕ)
@@ -193,12 +210,12 @@ unfolding mixes
 written s command mixed r =
     let start : ControlState = state_for_effect s command in
     let xs : List Stroke = strokes_when start command in
-    let after : ℕ = (control_effect start command).rows in
+    let after : Edges = edges_of (control_effect start command) in
     elim (kind start command) [
-      | inl none ↦ absurd (true≢false (sym mixed ∙ ap (λ b. b && (one_else xs || not (s.rows == after))) none))
+      | inl none ↦ absurd (true≢false (sym mixed ∙ ap (λ b. b && (one_else xs || not (are_same_edges (edges_of s) after))) none))
       | inr (inl same) ↦
-          let equal : (s.rows == after) ≡ true = grind (arith, nat_tests, same.1) in
-          let neither : (one_else xs || not (s.rows == after)) ≡ false = λ i. same.0 i || not (equal i) in
+          let equal : are_same_edges (edges_of s) after ≡ true = edges_alike (edges_of s) after (sym same.1) in
+          let neither : (one_else xs || not (are_same_edges (edges_of s) after)) ≡ false = λ i. same.0 i || not (equal i) in
           absurd (true≢false (sym mixed ∙ ap (λ b. list_any defines xs && b) neither ∙ never (list_any defines xs)))
       | inr (inr all) ↦ all r
     ]

@@ -1,6 +1,6 @@
 -- Rows that moved with their looks, and one walk over them from the top.
 use Rattle.std.proofs.Common.{◌≡◌, ◌≢◌, ℕ, ◌+◌, ◌-◌, ◌*◌, ◌<◌, ◌≤◌, ◌==◌, ◌||◌, cond, Bool, true, false, List, [], ◌∷◌, ◌++◌, get_or}
-use Rattle.std.proofs.Common.{Option, Some, None, length, set, take, inl, inr, refl, sym, ap, subst, ◌∙◌, arith}
+use Rattle.std.proofs.Common.{◌⊎◌, Option, Some, None, length, set, take, inl, inr, refl, sym, ap, subst, ◌∙◌, arith}
 use Rattle.std.specs.Prelude.{option_and_then}
 use Rattle.std.proofs.lemmas.Bool.{cases_eq, or_left}
 use Rattle.std.proofs.lemmas.List.{get_or-set_other, take_all, take_more}
@@ -13,7 +13,7 @@ use Rattle.cept_codes.specs.Place.{OnScreen, number, place_of}
 use Rattle.cept_codes.specs.Stroke.{IsRow, IsValidStroke}
 use Rattle.cept_codes.specs.Table.{entry, row_of, value_at, IsTable}
 use Rattle.cept_codes.proofs.Laws.{IsTable-table, OnScreen-place_of, number-place_of, same_table, set_row_is, table-value_at, value_at-table}
-use Rattle.cept_profile.specs.Cells.{value_after_move}
+use Rattle.cept_profile.specs.Cells.{shifted, value_after_move}
 use Rattle.cept_profile.specs.Changes.{differences}
 use Rattle.cept_profile.specs.Edges.{edges_of_core, is_last}
 use Rattle.cept_profile.specs.Look.{look, looks_of}
@@ -69,23 +69,32 @@ pub AreTurned-all : (xs : List Stroke) (n : ℕ) (was now : List (List Look)) �
 AreTurned-all xs n was now past are r q low high came =
     are r q low high (ap (λ (l : List Stroke). row_before l r) (take_all n xs past) ∙ came)
 
--- a stroke that shifts no rows moves none
+-- a stroke that shifts or carries rows moves them
+pub moved-turned : {X : Type 0} (x : Stroke) (first last : ℕ) (way : Up)
+    → (x ≡ strokes.Shift first last way) ⊎ (x ≡ strokes.Carry first last way) → (d : X) (f : ℕ → X) (r : ℕ)
+    → shifted way first last d f r ≡ value_after_move (moved_rows x) d f r
+moved-turned x first last way (inl shift) d f r = ap (λ (s : Stroke). value_after_move (moved_rows s) d f r) (sym shift)
+moved-turned x first last way (inr carry) d f r = ap (λ (s : Stroke). value_after_move (moved_rows s) d f r) (sym carry)
+
+-- a stroke that neither shifts nor carries rows moves none
 pub left-unmoved : {X : Type 0} (x : Stroke)
-    → ((first last : ℕ) (way : Up) → x ≡ strokes.Shift first last way → ⊥) → (d : X) (f : ℕ → X) (r : ℕ)
+    → ((first last : ℕ) (way : Up) → x ≡ strokes.Shift first last way → ⊥)
+    → ((first last : ℕ) (way : Up) → x ≡ strokes.Carry first last way → ⊥) → (d : X) (f : ℕ → X) (r : ℕ)
     → f r ≡ value_after_move (moved_rows x) d f r
-left-unmoved (strokes.Put p cell) none d f r = refl
-left-unmoved (strokes.Erase row from) none d f r = refl
-left-unmoved strokes.Wipe none d f r = refl
-left-unmoved (strokes.Shift first last way) none d f r = absurd (none first last way refl)
-left-unmoved (strokes.RowAttr row attr) none d f r = refl
-left-unmoved (strokes.ScreenAttr attr) none d f r = refl
-left-unmoved strokes.ScreenClear none d f r = refl
-left-unmoved (strokes.Colour i paint) none d f r = refl
-left-unmoved (strokes.Dclut j v) none d f r = refl
-left-unmoved strokes.ColourDefaults none d f r = refl
-left-unmoved (strokes.Drcs code pattern) none d f r = refl
-left-unmoved strokes.DrcsClear none d f r = refl
-left-unmoved (strokes.Format rows) none d f r = refl
+left-unmoved (strokes.Put p cell) none neither d f r = refl
+left-unmoved (strokes.Erase row from) none neither d f r = refl
+left-unmoved strokes.Wipe none neither d f r = refl
+left-unmoved (strokes.Shift first last way) none neither d f r = absurd (none first last way refl)
+left-unmoved (strokes.Carry first last way) none neither d f r = absurd (neither first last way refl)
+left-unmoved (strokes.RowAttr row attr) none neither d f r = refl
+left-unmoved (strokes.ScreenAttr attr) none neither d f r = refl
+left-unmoved strokes.ScreenClear none neither d f r = refl
+left-unmoved (strokes.Colour i paint) none neither d f r = refl
+left-unmoved (strokes.Dclut j v) none neither d f r = refl
+left-unmoved strokes.ColourDefaults none neither d f r = refl
+left-unmoved (strokes.Drcs code pattern) none neither d f r = refl
+left-unmoved strokes.DrcsClear none neither d f r = refl
+left-unmoved (strokes.Format rows) none neither d f r = refl
 
 -- ---- the walk
 

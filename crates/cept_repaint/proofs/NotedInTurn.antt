@@ -14,7 +14,7 @@ use Rattle.cept_codes.specs.Place.{OnScreen}
 use Rattle.cept_codes.specs.Table.{IsTable, entry, list_by_index, table, value_at}
 use Rattle.cept_codes.proofs.Laws.{entry-list_by_index, list_by_index-entry, same_indexed, same_table, table-value_at}
 use Rattle.cept_codes.proofs.Laws.{entry_from, value_at-table}
-use Rattle.cept_profile.specs.OldValues.{OldValues, first_noted, noted_where, old_cell, with_cells, with_dclut}
+use Rattle.cept_profile.specs.OldValues.{OldValues, first_noted, noted_where, old_cell, old_row_pen, with_cells, with_dclut}
 use Rattle.cept_profile.specs.OldValues.{with_paints, with_patterns, with_row_pens}
 use Rattle.cept_profile.specs.PageParts.{row_pen_in}
 
@@ -86,22 +86,70 @@ list_all from count k f olds past =
 
 -- ---- attributes of rows
 
-pub row_pens_none : (old : OldValues) (pen : ℕ → Pen) (k : ℕ) → length old.row_pens ≡ 24 → k ≡ 1
-    → old ≡ with_row_pens (λ r. nat_lt r k) pen old
-row_pens_none old pen k long e =
-    ap (λ (l : List (Option Pen)). record old { row_pens = l }) (list_none 1 24 k pen old.row_pens long e)
+-- attributes noted that are those of other rows, which are the same
+row_pens_alike : (these others : ℕ → Bool) (pen : ℕ → Pen) (old : OldValues)
+    → ((r : ℕ) → 1 ≤ r → r ≤ 24 → these r ≡ others r) → with_row_pens these pen old ≡ with_row_pens others pen old
+row_pens_alike these others pen old alike =
+    ap (λ (l : List (Option Pen)). record old { row_pens = l })
+    (same_indexed 1 24 (λ r. noted_where (these r) (pen r) (old_row_pen old r))
+    (λ r. noted_where (others r) (pen r) (old_row_pen old r))
+    (λ r low high. noted_if (these r) (others r) (pen r) (old_row_pen old r) (alike r low (omega (arith, high)))))
 
-pub row_pens_more : (old before after : OldValues) (pen : ℕ → Pen) (k m : ℕ) (x : Pen)
-    → before ≡ with_row_pens (λ r. nat_lt r k) pen old → after ≡ with_row_pens (λ r. k == r) (λ _. x) before
-    → m ≡ k + 1 → x ≡ pen k → after ≡ with_row_pens (λ r. nat_lt r m) pen old
-row_pens_more old before after pen k m x was is next same =
+pub row_pens_none : (old : OldValues) (pen : ℕ → Pen) (first k : ℕ) → length old.row_pens ≡ 24 → k ≡ first
+    → old ≡ with_row_pens (λ r. nat_le first r && nat_lt r k) pen old
+row_pens_none old pen first k long e =
+    ap (λ (l : List (Option Pen)). record old { row_pens = l }) (sym (list_by_index-entry None 1 24 old.row_pens long))
+    ∙ row_pens_alike (λ _. false) (λ r. nat_le first r && nat_lt r k) pen old
+    (λ r low high. grind (arith, nat_tests))
+
+-- the attributes of the row that is noted, or of one of those before it
+pen_next : (first k m r : ℕ) (pen : ℕ → Pen) (x : Pen) (old : Option Pen) → first ≤ k → m ≡ k + 1 → x ≡ pen k
+    → noted_where (k == r) x (noted_where (nat_le first r && nat_lt r k) (pen r) old)
+    ≡ noted_where (nat_le first r && nat_lt r m) (pen r) old
+pen_next first k m r pen x old from next same =
+    elim (cases_eq k r) [
+      | inl e ↦
+          let here : (k == r) ≡ true = grind (arith, nat_tests) in
+          let before : (nat_le first r && nat_lt r k) ≡ false = grind (arith, nat_tests) in
+          let within : (nat_le first r && nat_lt r m) ≡ true = grind (arith, nat_tests) in
+          noted_if (k == r) true x (noted_where (nat_le first r && nat_lt r k) (pen r) old) here
+          ∙ ap (λ (o : Option Pen). first_noted o x)
+          (noted_if (nat_le first r && nat_lt r k) false (pen r) old before)
+          ∙ ap (λ v. first_noted old v) (same ∙ ap pen e)
+          ∙ sym (noted_if (nat_le first r && nat_lt r m) true (pen r) old within)
+      | inr ne ↦
+          let there : (k == r) ≡ false = grind (arith, nat_tests) in
+          let alike : (nat_le first r && nat_lt r k) ≡ (nat_le first r && nat_lt r m) = grind (arith, nat_tests) in
+          noted_if (k == r) false x (noted_where (nat_le first r && nat_lt r k) (pen r) old) there
+          ∙ noted_if (nat_le first r && nat_lt r k) (nat_le first r && nat_lt r m) (pen r) old alike
+    ]
+
+pub row_pens_more : (old before after : OldValues) (pen : ℕ → Pen) (first k m : ℕ) (x : Pen)
+    → before ≡ with_row_pens (λ r. nat_le first r && nat_lt r k) pen old
+    → after ≡ with_row_pens (λ r. k == r) (λ _. x) before → first ≤ k → m ≡ k + 1 → x ≡ pen k
+    → after ≡ with_row_pens (λ r. nat_le first r && nat_lt r m) pen old
+row_pens_more old before after pen first k m x was is from next same =
+    let noted : ℕ → Option Pen = λ r. noted_where (nat_le first r && nat_lt r k) (pen r) (old_row_pen old r) in
     is ∙ ap (with_row_pens (λ r. k == r) (λ _. x)) was
-    ∙ ap (λ (l : List (Option Pen)). record old { row_pens = l }) (list_more 1 24 k m pen x old.row_pens next same)
+    ∙ ap (λ (l : List (Option Pen)). record old { row_pens = l })
+    (same_indexed 1 24 (λ r. noted_where (k == r) x (entry None 1 (list_by_index 1 24 noted) r))
+    (λ r. noted_where (nat_le first r && nat_lt r m) (pen r) (old_row_pen old r))
+    (λ r low high.
+    ap (λ (o : Option Pen). noted_where (k == r) x o) (entry-list_by_index None 1 24 noted r low high)
+    ∙ pen_next first k m r pen x (old_row_pen old r) from next same))
 
-pub row_pens_all : (old after : OldValues) (pen : ℕ → Pen) (k : ℕ) → after ≡ with_row_pens (λ r. nat_lt r k) pen old
-    → 25 ≤ k → after ≡ with_row_pens (λ _. true) pen old
-row_pens_all old after pen k is past =
-    is ∙ ap (λ (l : List (Option Pen)). record old { row_pens = l }) (list_all 1 24 k pen old.row_pens past)
+pub row_pens_all : (old after : OldValues) (pen : ℕ → Pen) (first last k : ℕ)
+    → after ≡ with_row_pens (λ r. nat_le first r && nat_lt r k) pen old → k ≡ last + 1
+    → after ≡ with_row_pens (λ r. nat_le first r && nat_le r last) pen old
+row_pens_all old after pen first last k is e =
+    is
+    ∙ row_pens_alike (λ r. nat_le first r && nat_lt r k) (λ r. nat_le first r && nat_le r last) pen old
+    (λ r low high. grind (arith, nat_tests))
+
+pub row_pens_whole : (old : OldValues) (pen : ℕ → Pen)
+    → with_row_pens (λ r. nat_le 1 r && nat_le r 24) pen old ≡ with_row_pens (λ _. true) pen old
+row_pens_whole old pen =
+    row_pens_alike (λ r. nat_le 1 r && nat_le r 24) (λ _. true) pen old (λ r low high. grind (arith, nat_tests))
 
 -- the attributes of a row, read in their place
 pub pen_read : (pens : List Pen) (i k : ℕ) (d : Pen) → length pens ≡ 24 → 1 ≤ k → k ≤ 24 → i + 1 ≡ k

@@ -17,6 +17,7 @@ control-with_stroke p (strokes.Put place cell) old = refl
 control-with_stroke p (strokes.Erase row from) old = refl
 control-with_stroke p strokes.Wipe old = refl
 control-with_stroke p (strokes.Shift first last way) old = refl
+control-with_stroke p (strokes.Carry first last way) old = refl
 control-with_stroke p (strokes.RowAttr row attr) old = refl
 control-with_stroke p (strokes.ScreenAttr attr) old = refl
 control-with_stroke p strokes.ScreenClear old = refl

@@ -21,14 +21,16 @@ use Rattle.cept_codes.specs.Cell.{blank_cell}
 use Rattle.cept_codes.specs.Table.{list_by_index, table}
 use Rattle.cept_codes.proofs.Laws.{list_by_index-entry, same_indexed, set-entry}
 use Rattle.cept_colours.specs.Colours.{ColourTables, default_colours}
-use Rattle.cept_profile.specs.Cells.{cell_back, cells_after, cells_after_all}
+use Rattle.cept_codes.specs.declared.command.Up.{Up}
+use Rattle.cept_profile.specs.Cells.{cell_back, cells_after, cells_after_all, shifted}
 use Rattle.cept_profile.specs.PageParts.{dclut_in, dclut_list_after, list_of_colours, list_of_dclut, list_of_rows}
 use Rattle.cept_profile.specs.PageParts.{paint_in, paints_after, part_after_all, row_pen_in, row_pens_after}
-use Rattle.cept_profile.specs.PageParts.{list_of_codes, pattern_in, patterns_after, screen_pen_after}
+use Rattle.cept_profile.specs.PageParts.{list_of_codes, pattern_in, patterns_after, row_pen_after, screen_pen_after}
 use Rattle.cept_profile.specs.Pens.{pen_with}
 use Rattle.cept_profile.specs.Definitions.{AreWhole}
 use Rattle.cept_profile.specs.State.{Page, definitions_of, page, page_after}
 use Rattle.cept_profile.specs.Valid.{IsValidPage}
+use Rattle.cept_profile.proofs.Laws.{row_pen_after-carried}
 use Rattle.cept_repaint.specs.Drawn.{IsDrawn}
 
 -- ---- lists that a stroke leaves
@@ -37,6 +39,7 @@ use Rattle.cept_repaint.specs.Drawn.{IsDrawn}
 abbrev pub sets_rows : Stroke → Bool
 sets_rows (strokes.RowAttr row attr) = true
 sets_rows strokes.Wipe = true
+sets_rows (strokes.Carry first last way) = true
 sets_rows _ = false
 
 -- a colour entry
@@ -76,6 +79,7 @@ row_pens_left pens (strokes.Put p cell) long none = row_pens_again pens long
 row_pens_left pens (strokes.Erase row from) long none = row_pens_again pens long
 row_pens_left pens strokes.Wipe long none = absurd (true≢false none)
 row_pens_left pens (strokes.Shift a b way) long none = row_pens_again pens long
+row_pens_left pens (strokes.Carry a b way) long none = absurd (true≢false none)
 row_pens_left pens (strokes.RowAttr row attr) long none = absurd (true≢false none)
 row_pens_left pens (strokes.ScreenAttr attr) long none = row_pens_again pens long
 row_pens_left pens strokes.ScreenClear long none = row_pens_again pens long
@@ -92,6 +96,7 @@ paints_left paints (strokes.Put p cell) long none = paints_again paints long
 paints_left paints (strokes.Erase row from) long none = paints_again paints long
 paints_left paints strokes.Wipe long none = paints_again paints long
 paints_left paints (strokes.Shift a b way) long none = paints_again paints long
+paints_left paints (strokes.Carry a b way) long none = paints_again paints long
 paints_left paints (strokes.RowAttr row attr) long none = paints_again paints long
 paints_left paints (strokes.ScreenAttr attr) long none = paints_again paints long
 paints_left paints strokes.ScreenClear long none = paints_again paints long
@@ -108,6 +113,7 @@ dclut_left dclut (strokes.Put p cell) long none = dclut_again dclut long
 dclut_left dclut (strokes.Erase row from) long none = dclut_again dclut long
 dclut_left dclut strokes.Wipe long none = dclut_again dclut long
 dclut_left dclut (strokes.Shift a b way) long none = dclut_again dclut long
+dclut_left dclut (strokes.Carry a b way) long none = dclut_again dclut long
 dclut_left dclut (strokes.RowAttr row attr) long none = dclut_again dclut long
 dclut_left dclut (strokes.ScreenAttr attr) long none = dclut_again dclut long
 dclut_left dclut strokes.ScreenClear long none = dclut_again dclut long
@@ -124,6 +130,7 @@ patterns_left patterns (strokes.Put p cell) long none = patterns_again patterns 
 patterns_left patterns (strokes.Erase row from) long none = patterns_again patterns long
 patterns_left patterns strokes.Wipe long none = patterns_again patterns long
 patterns_left patterns (strokes.Shift a b way) long none = patterns_again patterns long
+patterns_left patterns (strokes.Carry a b way) long none = patterns_again patterns long
 patterns_left patterns (strokes.RowAttr row attr) long none = patterns_again patterns long
 patterns_left patterns (strokes.ScreenAttr attr) long none = patterns_again patterns long
 patterns_left patterns strokes.ScreenClear long none = patterns_again patterns long
@@ -159,6 +166,15 @@ row_pen_written pens row j attr pen long top bottom e written =
     ∙ same_indexed 1 24 (λ k. cond (row == k) pen (row_pen_in pens k))
     (λ k. cond (row == k) (pen_with attr (row_pen_in pens k)) (row_pen_in pens k))
     (λ k low high. one_written row k attr (row_pen_in pens) pen written)
+
+-- attributes that are carried with their rows
+pub row_pens_carried : (pens : List Pen) (first last : ℕ) (way : Up)
+    → list_of_rows (shifted way first last unset_pen (row_pen_in pens))
+    ≡ row_pens_after pens (strokes.Carry first last way)
+row_pens_carried pens first last way =
+    same_indexed 1 24 (shifted way first last unset_pen (row_pen_in pens))
+    (row_pen_after (strokes.Carry first last way) (row_pen_in pens))
+    (λ r low high. sym (row_pen_after-carried first last r way (row_pen_in pens)))
 
 -- no attribute of a row set
 pub row_pens_unset : replicate 24 unset_pen ≡ list_of_rows (λ _. unset_pen)

@@ -16,9 +16,12 @@ use Rattle.cept_codes.specs.Table.{entry, list_by_index, value_at, IsTable}
 use Rattle.cept_codes.proofs.Laws.{entry-list_by_index, table-value_at, value_at-table}
 use Rattle.cept_profile.specs.Cells.{cells_after, cells_after_all, moves}
 use Rattle.cept_profile.specs.Edges.{Edges, edges_of_core, is_last}
-use Rattle.cept_profile.specs.Look.{look, looks_of}
+use Rattle.cept_codes.specs.declared.look.Part.{Part}
+use Rattle.cept_profile.specs.Look.{contents_of_row, look, looks_of, own_size}
 use Rattle.cept_profile.specs.MovedRows.{row_before}
-use Rattle.cept_profile.specs.Names.{contents_at_origin, full_attributes, names_at}
+use Rattle.cept_profile.specs.Names.{at_origin, contents_at_origin, full_attributes, names_at, names_with, own_attributes_in}
+use Rattle.cept_profile.specs.NamesFromAbove.{names_from_above, own_names}
+use Rattle.cept_profile.specs.Tiling.{part_at, tiled_table}
 use Rattle.cept_profile.specs.PageParts.{part_after_all, row_pen_in, row_pens_after, screen_pen_after}
 use Rattle.cept_profile.specs.Reach.{LeadsTo, has_other_attributes, is_reached, is_reached_from, is_redefined, is_written}
 use Rattle.cept_profile.specs.Reach.{just_one, writes}
@@ -36,6 +39,7 @@ use Rattle.cept_repaint.proofs.PageParts.{row_pens_left}
 use Rattle.cept_repaint.proofs.RestingRows.{due-rest, row_from-rest}
 use Rattle.cept_repaint.proofs.RowsDue.{rows_due-fewer}
 use Rattle.cept_rows.specs.declared.naming.RowNames.{RowNames}
+use Rattle.cept_rows.specs.KeptNames.{names_kept}
 
 -- ---- one stroke that defines something
 
@@ -49,6 +53,7 @@ cells_stay cells is (strokes.Put p cell) so = absurd (true≢false (sym so))
 cells_stay cells is (strokes.Erase row from) so = absurd (true≢false (sym so))
 cells_stay cells is strokes.Wipe so = absurd (true≢false (sym so))
 cells_stay cells is (strokes.Shift first last way) so = absurd (true≢false (sym so))
+cells_stay cells is (strokes.Carry first last way) so = absurd (true≢false (sym so))
 cells_stay cells is (strokes.RowAttr row attr) so = absurd (true≢false (sym so))
 cells_stay cells is (strokes.ScreenAttr attr) so = absurd (true≢false (sym so))
 cells_stay cells is strokes.ScreenClear so = absurd (true≢false (sym so))
@@ -64,6 +69,7 @@ pens_stay pens long (strokes.Put p cell) so = absurd (true≢false (sym so))
 pens_stay pens long (strokes.Erase row from) so = absurd (true≢false (sym so))
 pens_stay pens long strokes.Wipe so = absurd (true≢false (sym so))
 pens_stay pens long (strokes.Shift first last way) so = absurd (true≢false (sym so))
+pens_stay pens long (strokes.Carry first last way) so = absurd (true≢false (sym so))
 pens_stay pens long (strokes.RowAttr row attr) so = absurd (true≢false (sym so))
 pens_stay pens long (strokes.ScreenAttr attr) so = absurd (true≢false (sym so))
 pens_stay pens long strokes.ScreenClear so = absurd (true≢false (sym so))
@@ -79,6 +85,7 @@ screen_stays pen (strokes.Put p cell) so = refl
 screen_stays pen (strokes.Erase row from) so = refl
 screen_stays pen strokes.Wipe so = refl
 screen_stays pen (strokes.Shift first last way) so = refl
+screen_stays pen (strokes.Carry first last way) so = refl
 screen_stays pen (strokes.RowAttr row attr) so = refl
 screen_stays pen (strokes.ScreenAttr attr) so = absurd (true≢false (sym so))
 screen_stays pen strokes.ScreenClear so = absurd (true≢false (sym so))
@@ -95,6 +102,7 @@ stays_put (strokes.Put p cell) r so = absurd (true≢false (sym so))
 stays_put (strokes.Erase row from) r so = absurd (true≢false (sym so))
 stays_put strokes.Wipe r so = absurd (true≢false (sym so))
 stays_put (strokes.Shift first last way) r so = absurd (true≢false (sym so))
+stays_put (strokes.Carry first last way) r so = absurd (true≢false (sym so))
 stays_put (strokes.RowAttr row attr) r so = absurd (true≢false (sym so))
 stays_put (strokes.ScreenAttr attr) r so = absurd (true≢false (sym so))
 stays_put strokes.ScreenClear r so = absurd (true≢false (sym so))
@@ -149,30 +157,19 @@ none_writes (x ∷ xs) r all =
 -- two cores with the same cells, attributes and edges name the same
 names_at-kept : (before after : Core) → after.page.cells ≡ before.page.cells
     → after.page.row_pens ≡ before.page.row_pens → after.page.screen_pen ≡ before.page.screen_pen
-    → after.rows ≡ before.rows → (r c : ℕ) → names_at after r c ≡ names_at before r c
+    → edges_of_core after ≡ edges_of_core before → (r c : ℕ) → names_at after r c ≡ names_at before r c
 unfolding full_attributes contents_at_origin
-names_at-kept before after ec ep es er r c = λ i.
-    let k : Core = record {
-      page = record {
-        cells = ec i;
-        row_pens = ep i;
-        screen_pen = es i;
-        paints = after.page.paints;
-        dclut = after.page.dclut;
-        patterns = after.page.patterns;
-      };
-      rows = er i;
-      wrap = after.wrap;
-      area = after.area;
-      implicit = after.implicit;
-    } in
-    names_at k r c
+names_at-kept before after ec ep es ee r c = λ i.
+    let k : Core =
+    record after { page = record after.page { cells = ec i; row_pens = ep i; screen_pen = es i } } in
+    let part : Part = part_at (tiled_table (own_size k) (is_last (ee i))) r c in
+    names_with (at_origin (own_attributes_in k) r c part) (at_origin (contents_of_row k) r c part)
 
 -- strokes that all define something lead from one core to another with the same edges
 record AreDefined (before after : Core) (xs : List Stroke) : Type 0 where
   leads : LeadsTo before after xs
   all : one_else xs ≡ false
-  rows : after.rows ≡ before.rows
+  edges : edges_of_core after ≡ edges_of_core before
 
 cells_same : {before after : Core} {xs : List Stroke} → AreDefined before after xs
     → after.page.cells ≡ before.page.cells
@@ -208,39 +205,28 @@ others_defined {before} {after} {xs} is r =
     let screen : not (same_pen before.page.screen_pen after.page.screen_pen) ≡ false =
     same_pen-refl before.page.screen_pen after.page.screen_pen (sym (screen_same is)) in
     let last : just_one (is_last (edges_of_core before) r) (is_last (edges_of_core after) r) ≡ false =
-    ap (λ n. let edges : Edges = record { rows = n } in just_one (is_last (edges_of_core before) r) (is_last edges r)) is.rows
+    ap (λ (e : Edges). just_one (is_last (edges_of_core before) r) (is_last e r)) is.edges
     ∙ none_under_one (edges_of_core before) r in
     λ i. pen i || screen i || last i
 
 -- and what a row names beneath another
 beneath-kept : (above : RowNames) (before after : Core) → after.page.cells ≡ before.page.cells
     → after.page.row_pens ≡ before.page.row_pens → after.page.screen_pen ≡ before.page.screen_pen
-    → after.rows ≡ before.rows → (r c : ℕ) → names_beneath above after r c ≡ names_beneath above before r c
-beneath-kept above before after ec ep es er r c = λ i.
-    let k : Core = record {
-      page = record {
-        cells = ec i;
-        row_pens = ep i;
-        screen_pen = es i;
-        paints = after.page.paints;
-        dclut = after.page.dclut;
-        patterns = after.page.patterns;
-      };
-      rows = er i;
-      wrap = after.wrap;
-      area = after.area;
-      implicit = after.implicit;
-    } in
-    names_beneath above k r c
+    → edges_of_core after ≡ edges_of_core before → (r c : ℕ)
+    → names_beneath above after r c ≡ names_beneath above before r c
+beneath-kept above before after ec ep es ee r c = λ i.
+    let k : Core =
+    record after { page = record after.page { cells = ec i; row_pens = ep i; screen_pen = es i } } in
+    names_from_above (names_kept above) (part_at (tiled_table (own_size k) (is_last (ee i))) r) (own_names k r) c
 
 -- so the names that are known of one are known of the other
 pub AreNamed-alike : (names : NamesOfRows) (before after : Core) → after.page.cells ≡ before.page.cells
     → after.page.row_pens ≡ before.page.row_pens → after.page.screen_pen ≡ before.page.screen_pen
-    → after.rows ≡ before.rows → AreNamed names before → AreNamed names after
-AreNamed-alike names before after ec ep es er are = record {
+    → edges_of_core after ≡ edges_of_core before → AreNamed names before → AreNamed names after
+AreNamed-alike names before after ec ep es ee are = record {
   rows = are.rows;
   flags = are.flags;
-  known = λ r c on so. are.known r c on so ∙ sym (beneath-kept (row_named names (r - 1)) before after ec ep es er r c);
+  known = λ r c on so. are.known r c on so ∙ sym (beneath-kept (row_named names (r - 1)) before after ec ep es ee r c);
 }
 
 -- a row that isn't covered otherwise names after them what it named before
@@ -250,7 +236,7 @@ redefined_same : {before after : Core} {xs : List Stroke} → AreDefined before 
 redefined_same {before} {after} {xs} is r low high covered =
     is_redefined-unreached before after xs r r is.leads low high (came_defined is r) (written_defined is r)
     (others_defined is r) covered
-    (λ c l h covers. names_at-kept before after (cells_same is) (pens_same is) (screen_same is) is.rows (r - 1) c)
+    (λ c l h covers. names_at-kept before after (cells_same is) (pens_same is) (screen_same is) is.edges (r - 1) c)
 
 -- so it is reached where it is redefined or covered otherwise
 reached_defined : {before after : Core} {xs : List Stroke} → AreDefined before after xs → (r : ℕ) → 1 ≤ r → r ≤ 24
@@ -284,7 +270,7 @@ defined_cores : (p q : Page) (xs : List Stroke) (k m : Core) (edges : Edges) →
 defined_cores p q xs k m edges valid each drawn all ek em = record {
   leads = record { valid = valid; each = each; page = drawn };
   all = all;
-  rows = ap (λ (e : Edges). e.rows) (em ∙ sym ek);
+  edges = em ∙ sym ek;
 }
 
 pub OtherRowsStay-defined : (p q : Page) (xs : List Stroke) (edges : Edges) (was : List (List Look)) (flags : List Bool)
@@ -332,4 +318,4 @@ pub AreNamedOn-defined : (p q : Page) (xs : List Stroke) (edges : Edges) (names 
     → AreNamedOn names q edges
 AreNamedOn-defined p q xs edges names valid each drawn all named k same =
     let is : AreDefined (core_on k p) (core_on k q) xs = defined_cores p q xs k k edges valid each drawn all same same in
-    AreNamed-alike names (core_on k p) (core_on k q) (cells_same is) (pens_same is) (screen_same is) is.rows (named k same)
+    AreNamed-alike names (core_on k p) (core_on k q) (cells_same is) (pens_same is) (screen_same is) is.edges (named k same)

@@ -2,7 +2,7 @@
 use Rattle.std.proofs.Common.{◌≡◌, ℕ, ◌+◌, ◌-◌, ◌≤◌, ◌==◌, ◌||◌, ◌&&◌, ◌≢◌, not, Bool, true, false, cond, List, [], ◌∷◌, map}
 use Rattle.std.proofs.Common.{Option, Some, None, get_or, take, inl, inr, refl, sym, ap, ◌∙◌, arith}
 use Rattle.std.specs.List.{count_by, list_any, range_with_len}
-use Rattle.std.proofs.lemmas.Bool.{cases_Bool, eqb-true, false_from_ne_true, or_from, or_left, or_parts, or_right, true≢false}
+use Rattle.std.proofs.lemmas.Bool.{and_parts, cases_Bool, eqb-true, false_from_ne_true, or_from, or_left, or_parts, or_right, true≢false}
 use Rattle.std.proofs.lemmas.Bool.Decides.{nat_tests}
 use Rattle.std.proofs.lemmas.List.{take_all}
 use Rattle.std.proofs.lemmas.List.FromFn.{get_or-range_with_len, length-range_with_len}
@@ -27,7 +27,8 @@ use Rattle.cept_repaint.specs.declared.followed_rows.Followed.{Followed}
 use Rattle.cept_repaint.specs.declared.page.Pens.{Pens}
 use Rattle.cept_repaint.specs.Due.{followed, has_others, is_altered, is_altered_from, is_covered_from, is_due, pens_of}
 use Rattle.cept_repaint.specs.Due.{row_from, rows_due}
-use Rattle.cept_repaint.specs.Resolved.{defines, may_resolve, mixes, one_else, rows_resolved_by}
+use Rattle.cept_repaint.specs.Resolved.{are_same_edges, defines, is_same_area, may_resolve, mixes, one_else}
+use Rattle.cept_repaint.specs.Resolved.{rows_resolved_by}
 use Rattle.cept_repaint.specs.Kept.{core_on}
 use Rattle.cept_repaint.proofs.FollowedRows.{row_from-followed}
 
@@ -39,6 +40,7 @@ defines-not k r (strokes.Put p cell) none = refl
 defines-not k r (strokes.Erase row from) none = refl
 defines-not k r strokes.Wipe none = refl
 defines-not k r (strokes.Shift first last way) none = refl
+defines-not k r (strokes.Carry first last way) none = refl
 defines-not k r (strokes.RowAttr row attr) none = refl
 defines-not k r (strokes.ScreenAttr attr) none = refl
 defines-not k r strokes.ScreenClear none = refl
@@ -221,19 +223,34 @@ rows_due-resolved p q xs before after was now k m ek em ew en mixed =
           (due_may old new xs so),
     )
 
+-- edges that a test finds the same are the same
+same_area : (area other : Option (ℕ × ℕ)) → is_same_area area other ≡ true → area ≡ other
+same_area None None is = refl
+same_area (Some area) (Some other) is =
+    let parts = and_parts (area.0 == other.0) (area.1 == other.1) is in
+    λ i. Some (eqb-true area.0 other.0 parts.0 i, eqb-true area.1 other.1 parts.1 i)
+same_area None (Some other) is = absurd (true≢false (sym is))
+same_area (Some area) None is = absurd (true≢false (sym is))
+
+same_edges : (edges others : Edges) → are_same_edges edges others ≡ true → edges ≡ others
+same_edges edges others is =
+    let parts = and_parts (edges.rows == others.rows) (is_same_area edges.area others.area) is in
+    λ i. record
+    { rows = eqb-true edges.rows others.rows parts.0 i; area = same_area edges.area others.area parts.1 i }
+
 -- what strokes between these edges mix
 pub mixes-else : (before after : Edges) (xs : List Stroke) → one_else xs ≡ true → list_any defines xs ≡ true
     → mixes before after xs ≡ true
 unfolding mixes
 mixes-else before after xs else some =
-    (λ i. some i && (else i || not (before.rows == after.rows)))
+    (λ i. some i && (else i || not (are_same_edges before after)))
 
 pub mixes-edges : (before after : Edges) (xs : List Stroke) → before ≢ after → list_any defines xs ≡ true
     → mixes before after xs ≡ true
 unfolding mixes
 mixes-edges before after xs apart some =
-    let no : (before.rows == after.rows) ≡ false =
-    false_from_ne_true (before.rows == after.rows) (λ same. apart (λ i. record { rows = eqb-true before.rows after.rows same i })) in
+    let no : are_same_edges before after ≡ false =
+    false_from_ne_true (are_same_edges before after) (λ same. apart (same_edges before after same)) in
     (λ i. some i && (one_else xs || not (no i))) ∙ or_right (one_else xs) true refl
 
 pub put_defines_nothing : (p : Place) (cell : Cell) (xs : List Stroke) → xs ≡ strokes.Put p cell ∷ []

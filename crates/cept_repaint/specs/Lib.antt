@@ -7,6 +7,7 @@ pub mod GridGlass
 pub mod Inside
 pub mod Kept
 pub mod MarkedRows
+pub mod MovedEdges
 pub mod Marks
 pub mod Named
 pub mod Noter

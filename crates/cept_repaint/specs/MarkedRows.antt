@@ -66,7 +66,7 @@ abbrev pub gives_size : Attr → Bool
 gives_size (attrs.Size size) = is_double size
 gives_size _ = false
 
--- the flag of sizes of row r after these rows moved: the cells bring theirs, and it stays, since attributes stay
+-- the flag of sizes of row r after these rows moved: the cells bring theirs, and it stays, since attributes may stay
 abbrev pub size_flag_after_move : Option MovedRows → (ℕ → Bool) → ℕ → Bool
 size_flag_after_move None was r = was r
 size_flag_after_move (Some moved) was r = was r || value_after_move (Some moved) false was r

@@ -1,7 +1,7 @@
 -- Rows that strokes may resolve (this project's own): those that they reach; and all, where they define a colour or a
 -- pattern and do something else besides. Those of a command do so where they wipe every row, which are all in its reach.
 -- Private clauses alone cite this file.
-use Rattle.std.specs.Prelude.{ℕ, Bool, true, false, not, ◌||◌, ◌&&◌, ◌==◌, List}
+use Rattle.std.specs.Prelude.{ℕ, Bool, true, false, not, ◌||◌, ◌&&◌, ◌==◌, List, Option, Some, None}
 use Rattle.std.specs.List.{count_by, list_any, range_with_len}
 use Rattle.cept_codes.specs.declared.stroke.Stroke.{Stroke}
 use Rattle.cept_codes.specs.declared.stroke.Stroke.TheVariants as strokes
@@ -21,6 +21,7 @@ defines (strokes.Put p cell) = false
 defines (strokes.Erase row from) = false
 defines strokes.Wipe = false
 defines (strokes.Shift first last way) = false
+defines (strokes.Carry first last way) = false
 defines (strokes.RowAttr row attr) = false
 defines (strokes.ScreenAttr attr) = false
 defines strokes.ScreenClear = false
@@ -30,9 +31,19 @@ defines (strokes.Format rows) = false
 unfoldable pub one_else : List Stroke → Bool
 one_else strokes = list_any (λ stroke. not (defines stroke)) strokes
 
+-- the same area, or none
+abbrev pub is_same_area : Option (ℕ × ℕ) → Option (ℕ × ℕ) → Bool
+is_same_area None None = true
+is_same_area (Some area) (Some other) = area.0 == other.0 && area.1 == other.1
+is_same_area _ _ = false
+
+-- the same edges
+abbrev pub are_same_edges : Edges → Edges → Bool
+are_same_edges edges others = edges.rows == others.rows && is_same_area edges.area others.area
+
 -- strokes between these edges define something, and do something else besides
 unfoldable pub mixes : Edges → Edges → List Stroke → Bool
-mixes before after strokes = list_any defines strokes && (one_else strokes || not (before.rows == after.rows))
+mixes before after strokes = list_any defines strokes && (one_else strokes || not (are_same_edges before after))
 
 -- strokes that lead from one core to the other may resolve row r
 unfoldable pub may_resolve : Core → Core → List Stroke → ℕ → Bool

@@ -169,9 +169,13 @@ impl Delta {
             Stroke::Erase(row, from) => self.note_row_from(*row, *from, grid),
             Stroke::Wipe => {
                 self.note_all_cells(grid);
-                self.note_row_pens(row_pens);
+                self.note_all_row_pens(row_pens);
             }
             Stroke::Shift(first, last, _) => self.note_rows(*first, *last, grid),
+            Stroke::Carry(first, last, _) => {
+                self.note_rows(*first, *last, grid);
+                self.note_row_pens(*first, *last, row_pens);
+            }
             Stroke::RowAttr(row, _) => self.note_row_pen_in(*row, row_pens),
             Stroke::ScreenAttr(_) | Stroke::ScreenClear => self.note_screen_pen(screen_pen),
             Stroke::Colour(i, _) => self.note_paint_in(*i, colours),
@@ -280,15 +284,25 @@ impl Delta {
         self.row_pens[index] = first_noted(self.row_pens[index], *pen);
     }
 
+    /// Notes the attributes of these rows.
+    pub(crate) fn note_row_pens(&mut self, first: u8, last: u8, pens: &[Pen; 24])
+        requires area { IsArea first last }
+        requires rows { length pens.now ≡ 24 }
+        ensures { self.new
+            ≡ with_row_pens (λ r. nat_le first r && nat_le r last) (row_pen_in pens.now) self.old }
+    {
+        self.places_by_type();
+        for row in first..last + 1 {
+            self.note_row_pen(row, &pens[usize::from(row) - 1]);
+        }
+    }
+
     /// Notes the attributes of all rows.
-    pub(crate) fn note_row_pens(&mut self, pens: &[Pen; 24])
+    fn note_all_row_pens(&mut self, pens: &[Pen; 24])
         requires { length pens.now ≡ 24 }
         ensures { self.new ≡ with_row_pens (λ _. true) (row_pen_in pens.now) self.old }
     {
-        self.places_by_type();
-        for row in 1..25u8 {
-            self.note_row_pen(row, &pens[usize::from(row) - 1]);
-        }
+        self.note_row_pens(1, 24, pens);
     }
 
     /// Notes the attributes of the screen.

@@ -61,7 +61,9 @@ fn follow(stroke: &Stroke, rows: &mut [Followed; 24])
         Stroke::Put(place, _) => write_row(place.row(), rows),
         Stroke::Erase(row, _) => write_row(*row, rows),
         Stroke::Wipe => write_rows(rows),
-        Stroke::Shift(first, last, way) => *rows = shifted_rows(*first, *last, *way, rows),
+        Stroke::Shift(first, last, way) | Stroke::Carry(first, last, way) => {
+            *rows = shifted_rows(*first, *last, *way, rows);
+        }
         // These write in no row and move none.
         Stroke::RowAttr(_, _)
         | Stroke::ScreenAttr(_)
@@ -192,6 +194,7 @@ fn defines(stroke: &Stroke) -> bool
         | Stroke::Erase(_, _)
         | Stroke::Wipe
         | Stroke::Shift(_, _, _)
+        | Stroke::Carry(_, _, _)
         | Stroke::RowAttr(_, _)
         | Stroke::ScreenAttr(_)
         | Stroke::ScreenClear

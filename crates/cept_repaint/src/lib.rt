@@ -13,6 +13,7 @@ mod grid_glass;
 mod kept_names;
 mod kept_rows;
 mod marks;
+mod moved_edges;
 mod moved_rows;
 mod noter;
 mod page;

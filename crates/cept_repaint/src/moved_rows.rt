@@ -30,8 +30,11 @@ pub(crate) fn turn_rows(strokes: &[Stroke], kept: &mut KeptRows)
         → looks_in kept.new r ≡ looks_in kept.old q }
 {
     for stroke in strokes {
-        if let Stroke::Shift(first, last, way) = stroke {
-            kept.turn(*first, *last, *way);
+        match stroke {
+            Stroke::Shift(first, last, way) | Stroke::Carry(first, last, way) => {
+                kept.turn(*first, *last, *way);
+            }
+            _ => {}
         }
     }
 }

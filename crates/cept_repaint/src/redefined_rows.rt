@@ -78,6 +78,7 @@ fn redefines(stroke: &Stroke, names: &RowNames, looks: &RowLooks, colours: &Colo
         | Stroke::Erase(_, _)
         | Stroke::Wipe
         | Stroke::Shift(_, _, _)
+        | Stroke::Carry(_, _, _)
         | Stroke::RowAttr(_, _)
         | Stroke::ScreenAttr(_)
         | Stroke::ScreenClear

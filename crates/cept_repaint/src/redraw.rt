@@ -26,7 +26,7 @@ ghost use Rattle.cept_codes.specs.Stroke.{IsRow, IsValidStroke};
 ghost use Rattle.cept_codes.specs.Table.{entry, list_by_index, value_at};
 ghost use Rattle.cept_profile.specs.Cells.{is_at};
 ghost use Rattle.cept_profile.specs.Changes.{differences, grid_with_paint, look_at};
-ghost use Rattle.cept_profile.specs.Edges.{edges_of_core};
+ghost use Rattle.cept_profile.specs.Edges.{edges_of, edges_of_core};
 ghost use Rattle.cept_profile.specs.Look.{look, looks_of};
 ghost use Rattle.cept_profile.specs.RowsFromAbove.{is_covered_otherwise, is_other_covering};
 ghost use Rattle.cept_profile.specs.RowsFromAbove.{looks_in};
@@ -56,7 +56,7 @@ use crate::noter::Noter;
 use crate::page::Page;
 use crate::redefined_rows::rows_redefined;
 use cept_codes::{Pos, Stroke};
-use cept_control::Edges;
+use cept_control::{Control, Edges};
 use cept_outside::Steps;
 use cept_rows::RowLooks;
 use std::sync::ledger::Ledger;
@@ -103,30 +103,101 @@ pub(crate) fn redraw<N: Noter, L: Ledger>(
     if strokes.is_empty() {
         return;
     }
+    redraw_drawn(
+        page, strokes, after, kept, stood, names, fresh, marks, noter, steps,
+    );
+}
+
+/// The same where the edges stay: they are those of this control, which is asked only where they
+/// are needed.
+pub(crate) fn redraw_within<N: Noter, L: Ledger>(
+    page: &mut Page,
+    strokes: &[Stroke],
+    control: &Control,
+    kept: &mut KeptRows,
+    stood: &mut KeptRows,
+    names: &mut KeptNames,
+    fresh: &mut RowLooks,
+    marks: &mut Marks,
+    noter: &mut N,
+    steps: &mut Steps<L>,
+)
+    requires kept { AreLooksOn kept.old page.old (edges_of control.now) }
+    requires named { AreNamedOn names.old page.old (edges_of control.now) }
+    requires was_valid { IsValidPage page.old }
+    requires strokes { AllByRecursion IsValidStroke strokes.now }
+    requires valid { IsValidPage (page_after page.old strokes.now) }
+    ensures page { page.new ≡ page_after page.old strokes.now }
+    ensures unwound { page_behind (N.noted noter.new) page.new ≡ page_behind (N.noted noter.old) page.old }
+    ensures kept { AreLooksOn kept.new page.new (edges_of control.now) }
+    ensures marks { marks.new ≡ differences kept.old kept.new }
+    ensures named { AreNamedOn names.new page.new (edges_of control.now) }
+    ensures cost { (k m : Core) → edges_of_core k ≡ edges_of control.now → edges_of_core m ≡ edges_of control.now
+        → steps.new ≤ steps.old + rows_resolved_by (core_on k page.old) (core_on m page.new) strokes.now }
+{
+    marks.clear();
+    if strokes.is_empty() {
+        return;
+    }
     match only_put(strokes) {
         Some(put) => {
             if page.put(put.place, put.cell, noter) {
                 refresh_place(page, put.place, kept, names, marks, steps);
             } else {
                 let row = put.place.row();
-                refresh_put(page, strokes, row, after, kept, names, fresh, marks, steps);
+                let edges = control.edges();
+                refresh_put(page, strokes, row, &edges, kept, names, fresh, marks, steps);
             }
         }
         None => {
-            if one_else(strokes) {
-                redraw_rows(
-                    page, strokes, before, after, kept, stood, names, fresh, marks, noter, steps,
-                );
-            } else {
-                redraw_defined(
-                    page, strokes, after, kept, names, fresh, marks, noter, steps,
-                );
-            }
+            let within = control.edges();
+            redraw_drawn(
+                page, strokes, &within, kept, stood, names, fresh, marks, noter, steps,
+            );
         }
     }
 }
 
-/// The same of any strokes, where nothing is marked yet.
+/// The same of any strokes, where nothing is marked yet. The page has these edges.
+fn redraw_drawn<N: Noter, L: Ledger>(
+    page: &mut Page,
+    strokes: &[Stroke],
+    edges: &Edges,
+    kept: &mut KeptRows,
+    stood: &mut KeptRows,
+    names: &mut KeptNames,
+    fresh: &mut RowLooks,
+    marks: &mut Marks,
+    noter: &mut N,
+    steps: &mut Steps<L>,
+)
+    requires none { marks.old ≡ no_marks }
+    requires edges { AreEdges edges.now }
+    requires kept { AreLooksOn kept.old page.old edges.now }
+    requires named { AreNamedOn names.old page.old edges.now }
+    requires was_valid { IsValidPage page.old }
+    requires strokes { AllByRecursion IsValidStroke strokes.now }
+    requires valid { IsValidPage (page_after page.old strokes.now) }
+    ensures page { page.new ≡ page_after page.old strokes.now }
+    ensures unwound { page_behind (N.noted noter.new) page.new ≡ page_behind (N.noted noter.old) page.old }
+    ensures kept { AreLooksOn kept.new page.new edges.now }
+    ensures marks { marks.new ≡ differences kept.old kept.new }
+    ensures named { AreNamedOn names.new page.new edges.now }
+    ensures cost { (k m : Core) → edges_of_core k ≡ edges.now → edges_of_core m ≡ edges.now
+        → steps.new ≤ steps.old + rows_resolved_by (core_on k page.old) (core_on m page.new) strokes.now }
+{
+    if one_else(strokes) {
+        redraw_rows(
+            page, strokes, edges, edges, kept, stood, names, fresh, marks, noter, steps,
+        );
+    } else {
+        redraw_defined(
+            page, strokes, edges, kept, names, fresh, marks, noter, steps,
+        );
+    }
+}
+
+/// The same of any strokes and edges, where nothing is marked yet.
 // Apart, since most commands write a sign that is resolved by itself, which needs less.
 #[inline(never)]
 fn redraw_rows<N: Noter, L: Ledger>(

@@ -16,7 +16,7 @@ use cept_codes::{Attr, Cell, Marker, Pos, Size, Stroke, Up, What};
 
 /// Flags the row of a cell that is put, one flag where it is a marker and one where it sets a
 /// double size, and the row of an attribute of a double size. Unflags all rows where all is wiped,
-/// and moves flags with the cells of an area that is shifted.
+/// and moves flags with the cells of an area that is shifted or carried.
 pub(crate) fn flag_rows(stroke: &Stroke, marked: &mut [bool; 24], sized: &mut [bool; 24])
     requires valid { IsValidStroke stroke.now }
     requires marked_rows { length marked.old ≡ 24 }
@@ -36,7 +36,9 @@ pub(crate) fn flag_rows(stroke: &Stroke, marked: &mut [bool; 24], sized: &mut [b
             *marked = [false; 24];
             *sized = [false; 24];
         }
-        Stroke::Shift(first, last, way) => flag_shift(*first, *last, *way, marked, sized),
+        Stroke::Shift(first, last, way) | Stroke::Carry(first, last, way) => {
+            flag_shift(*first, *last, *way, marked, sized);
+        }
         // These put no cell and give no row a size.
         Stroke::Erase(_, _)
         | Stroke::ScreenAttr(_)
@@ -68,7 +70,7 @@ pub(crate) fn flag_put(place: Pos, cell: &Cell, marked: &mut [bool; 24], sized: 
 }
 
 /// Moves the flags of the rows of an area that goes one up or down with its cells. Flags of sizes
-/// stay besides, since the attributes of rows don't move.
+/// stay besides, since the attributes of rows may stay.
 fn flag_shift(first: u8, last: u8, way: Up, marked: &mut [bool; 24], sized: &mut [bool; 24])
     requires area { IsArea first last }
     requires marked_rows { length marked.old ≡ 24 }

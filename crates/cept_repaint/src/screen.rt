@@ -18,6 +18,7 @@ ghost use Rattle.cept_repaint.specs.Applied.{IsApplied, IsRepainted};
 ghost use Rattle.cept_repaint.specs.Exchanged.{HasSameLocations, exchanged};
 ghost use Rattle.cept_repaint.specs.Kept.{cell_at};
 ghost use Rattle.cept_repaint.specs.Marks.{no_marks};
+ghost use Rattle.cept_repaint.specs.MovedEdges.{may_move_edges};
 ghost use Rattle.cept_repaint.specs.Noter.{page_behind, state_behind};
 ghost use Rattle.cept_repaint.specs.Restored.{rows_restored};
 
@@ -26,10 +27,11 @@ use crate::glass::Glass;
 use crate::kept_names::KeptNames;
 use crate::kept_rows::KeptRows;
 use crate::marks::Marks;
+use crate::moved_edges::may_move_edges;
 use crate::noter::{NoNotes, Noter};
 use crate::page::Page;
 use crate::painting::paint_marked;
-use crate::redraw::redraw;
+use crate::redraw::{redraw, redraw_within};
 use crate::restoring::{exchange, unwind};
 use arrayvec::ArrayVec;
 use cept_codes::{Cell, Command, Look, NoMemory, Paint, Pattern, Pen, Pos, Stroke};
@@ -213,6 +215,32 @@ impl Screen {
         ensures unwound { page_behind (N.noted noter.new) self.new.page
             ≡ page_behind (N.noted noter.old) self.old.page }
     {
+        if may_move_edges(command) {
+            self.write_edges(command, marks, noter, steps);
+        } else {
+            self.write_within(command, marks, noter, steps);
+        }
+    }
+
+    /// The same of any command.
+    // Apart, since few commands change which rows are last, and all others need less.
+    #[inline(never)]
+    fn write_edges<N: Noter, L: Ledger>(
+        &mut self,
+        command: &Command,
+        marks: &mut Marks,
+        noter: &mut N,
+        steps: &mut Steps<L>,
+    )
+        requires { IsValidCommand command.now }
+        ensures after { self.new ≡ state_after self.old command.now }
+        ensures marks { marks.new
+            ≡ differences (looks_of (core_of self.old)) (looks_of (core_of self.new)) }
+        ensures cost { steps.new ≤ steps.old + rows_in_reach self.old command.now }
+        ensures at_most_24 { steps.new ≤ steps.old + 24 }
+        ensures unwound { page_behind (N.noted noter.new) self.new.page
+            ≡ page_behind (N.noted noter.old) self.old.page }
+    {
         let before = self.control.edges();
         self.control.step_into(command, &mut self.strokes);
         let after = self.control.edges();
@@ -222,6 +250,40 @@ impl Screen {
             strokes,
             &before,
             &after,
+            &mut self.rows,
+            &mut self.stood,
+            &mut self.names,
+            &mut self.fresh,
+            marks,
+            noter,
+            steps,
+        );
+    }
+
+    /// The same of a command after which the same rows are last as before.
+    fn write_within<N: Noter, L: Ledger>(
+        &mut self,
+        command: &Command,
+        marks: &mut Marks,
+        noter: &mut N,
+        steps: &mut Steps<L>,
+    )
+        requires valid { IsValidCommand command.now }
+        requires edges { may_move_edges command.now ≡ false }
+        ensures after { self.new ≡ state_after self.old command.now }
+        ensures marks { marks.new
+            ≡ differences (looks_of (core_of self.old)) (looks_of (core_of self.new)) }
+        ensures cost { steps.new ≤ steps.old + rows_in_reach self.old command.now }
+        ensures at_most_24 { steps.new ≤ steps.old + 24 }
+        ensures unwound { page_behind (N.noted noter.new) self.new.page
+            ≡ page_behind (N.noted noter.old) self.old.page }
+    {
+        self.control.step_into(command, &mut self.strokes);
+        let strokes = self.strokes.as_slice();
+        redraw_within(
+            &mut self.page,
+            strokes,
+            &self.control,
             &mut self.rows,
             &mut self.stood,
             &mut self.names,
@@ -343,6 +405,14 @@ impl Screen {
         ensures implicit { result ≡ self.now.control.implicit }
     {
         self.control.implicit()
+    }
+
+    /// The revision of the rules, 1 or 2.
+    pub fn revision(&self) -> u8
+        ensures revision { result ≡ self.now.control.revision }
+        ensures valid { IsValidState self.now }
+    {
+        self.control.revision()
     }
 
     /// Puts the old values of a delta back, control included: marks exactly the places whose look

@@ -29,19 +29,19 @@ module _ (plan : Plan) (h : List Command) where
   nothing_asked : easels.Nothing ≡ easel_at plan h → plan.asked.painting ≡ false
   nothing_asked e = by_flag plan.asked.painting e
     where
-      by_flag : (b : Bool) → easels.Nothing ≡ cond b (painted_easel plan.script h) easels.Nothing → b ≡ false
-      by_flag true f = absurd (not_idle plan.script h f)
+      by_flag : (b : Bool) → easels.Nothing ≡ cond b (painted_easel plan.sequel h) easels.Nothing → b ≡ false
+      by_flag true f = absurd (not_idle plan.sequel h f)
       by_flag false f = refl
 
   unasked : easels.Nothing ≡ easel_at plan h → sequel_of plan ≡ nothing_more
-  unasked e = ap (λ b. cond b (sequel_if_any plan.script) nothing_more) (nothing_asked e)
+  unasked e = ap (λ b. cond b (sequel_if_any plan.sequel) nothing_more) (nothing_asked e)
 
   alone : (screen : State) → easels.Screen screen ≡ easel_at plan h → sequel_of plan ≡ nothing_more
   alone screen e = by_flag plan.asked.painting e
     where
-      by_flag : (b : Bool) → easels.Screen screen ≡ cond b (painted_easel plan.script h) easels.Nothing
-          → cond b (sequel_if_any plan.script) nothing_more ≡ nothing_more
-      by_flag true f = ap sequel_if_any (screen_painted plan.script screen h f).0
+      by_flag : (b : Bool) → easels.Screen screen ≡ cond b (painted_easel plan.sequel h) easels.Nothing
+          → cond b (sequel_if_any plan.sequel) nothing_more ≡ nothing_more
+      by_flag true f = ap sequel_if_any (screen_painted plan.sequel screen h f).0
       by_flag false f = refl
 
   with_editor : (editor : EditorState) (lines : List EditLine) → easels.Editor editor lines ≡ easel_at plan h
@@ -50,12 +50,12 @@ module _ (plan : Plan) (h : List Command) where
   with_editor editor lines e = by_flag plan.asked.painting refl e
     where
       by_flag : (b : Bool) → plan.asked.painting ≡ b
-          → easels.Editor editor lines ≡ cond b (painted_easel plan.script h) easels.Nothing
+          → easels.Editor editor lines ≡ cond b (painted_easel plan.sequel h) easels.Nothing
           → (plan.asked.painting ≡ true) × (sequel_of plan ≡ Edits lines)
           × (editor ≡ record { screen = state h; past = []; future = [] })
       by_flag true is f =
-          let there = editor_painted plan.script editor lines h f in
-          (is, ap (λ c. cond c (sequel_if_any plan.script) nothing_more) is ∙ ap sequel_if_any there.0, there.1)
+          let there = editor_painted plan.sequel editor lines h f in
+          (is, ap (λ c. cond c (sequel_if_any plan.sequel) nothing_more) is ∙ ap sequel_if_any there.0, there.1)
       by_flag false is f = cc
 
   with_drawing : (screen : State) (figures : List Figure) → easels.Drawing screen figures ≡ easel_at plan h
@@ -63,23 +63,23 @@ module _ (plan : Plan) (h : List Command) where
   with_drawing screen figures e = by_flag plan.asked.painting refl e
     where
       by_flag : (b : Bool) → plan.asked.painting ≡ b
-          → easels.Drawing screen figures ≡ cond b (painted_easel plan.script h) easels.Nothing
+          → easels.Drawing screen figures ≡ cond b (painted_easel plan.sequel h) easels.Nothing
           → (plan.asked.painting ≡ true) × (sequel_of plan ≡ Figures figures) × (screen ≡ state h)
       by_flag true is f =
-          let there = drawing_painted plan.script screen figures h f in
-          (is, ap (λ c. cond c (sequel_if_any plan.script) nothing_more) is ∙ ap sequel_if_any there.0, there.1)
+          let there = drawing_painted plan.sequel screen figures h f in
+          (is, ap (λ c. cond c (sequel_if_any plan.sequel) nothing_more) is ∙ ap sequel_if_any there.0, there.1)
       by_flag false is f = cc
 
   screen_there : screen_of (easel_at plan h) ≡ cond plan.asked.painting (Some (state h)) None
   screen_there = by_flag plan.asked.painting
     where
-      on_painted : (script : Option Sequel) → screen_of (painted_easel script h) ≡ Some (state h)
+      on_painted : (sequel : Option Sequel) → screen_of (painted_easel sequel h) ≡ Some (state h)
       on_painted None = refl
       on_painted (Some (Edits lines)) = refl
       on_painted (Some (Figures figures)) = refl
 
-      by_flag : (b : Bool) → screen_of (cond b (painted_easel plan.script h) easels.Nothing) ≡ cond b (Some (state h)) None
-      by_flag true = on_painted plan.script
+      by_flag : (b : Bool) → screen_of (cond b (painted_easel plan.sequel h) easels.Nothing) ≡ cond b (Some (state h)) None
+      by_flag true = on_painted plan.sequel
       by_flag false = refl
 
 -- ---- no edits are made

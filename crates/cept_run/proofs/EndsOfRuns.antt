@@ -321,7 +321,7 @@ module _ (plan : Plan) (grammar : Grammar) (name : List ℕ) (script : Source) (
       page_is given gives = read given (left_of_given given gives)
 
       unscripted : asked.painting ≡ false → sequel_of plan ≡ nothing_more
-      unscripted idle = ap (λ b. cond b (sequel_if_any plan.script) nothing_more) idle
+      unscripted idle = ap (λ b. cond b (sequel_if_any plan.sequel) nothing_more) idle
 
       -- without painting nothing is changed
       still_edited : asked.painting ≡ false → AreStill (edited asked grammar bytes told)

@@ -13,30 +13,30 @@ use Rattle.cept_run.specs.declared.words.PageAction.TheVariants as pages
 use Rattle.cept_run.specs.declared.words.ScriptAction.{ScriptAction}
 use Rattle.cept_run.specs.declared.words.ScriptAction.TheVariants as scripts
 use Rattle.cept_run.specs.Events.{Sequel, Edits, Figures, nothing_more}
-use Rattle.cept_run.specs.Reporting.{Plan, sequel_if_any, sequel_of, ReporterState, painted_easel, easel_at, script_in, plan_in}
+use Rattle.cept_run.specs.Reporting.{Plan, sequel_if_any, sequel_of, ReporterState, painted_easel, easel_at, sequel_at, plan_in}
 use Rattle.cept_run.specs.Reporting.{DecoderState, HasRead, HasBlink}
 use Rattle.cept_run.specs.Words.{asked_of_page, asked_of_script}
 
 -- without a script
 abbrev pub alone : Asked → Plan
-alone asked = record { asked = asked; script = None }
+alone asked = record { asked = asked; sequel = None }
 
 -- with one, or with a drawing, that says that this is done
 abbrev pub followed : Asked → Sequel → Plan
-followed asked sequel = record { asked = asked; script = Some sequel }
+followed asked sequel = record { asked = asked; sequel = Some sequel }
 
-plan_is : (r : ReporterState) (asked : Asked) (script : Option Sequel) → r.asked ≡ asked
-    → script_in r.easel ≡ script → plan_in r ≡ record { asked = asked; script = script }
-plan_is r asked script p q = λ i. record { asked = p i; script = q i }
+plan_is : (r : ReporterState) (asked : Asked) (sequel : Option Sequel) → r.asked ≡ asked
+    → sequel_at r.easel ≡ sequel → plan_in r ≡ record { asked = asked; sequel = sequel }
+plan_is r asked sequel p q = λ i. record { asked = p i; sequel = q i }
 
 -- ---- a page alone
 
 pub plan_alone : (r : ReporterState) (asked : Asked) (easel : Easel) → r.asked ≡ asked → r.easel ≡ easel
     → easel ≡ easel_at (alone asked) [] → plan_in r ≡ alone asked
 plan_alone r asked easel same at is =
-    plan_is r asked None same (ap script_in (at ∙ is) ∙ by_flag asked.painting)
+    plan_is r asked None same (ap sequel_at (at ∙ is) ∙ by_flag asked.painting)
   where
-    by_flag : (b : Bool) → script_in (cond b (painted_easel None []) easels.Nothing) ≡ None
+    by_flag : (b : Bool) → sequel_at (cond b (painted_easel None []) easels.Nothing) ≡ None
     by_flag true = refl
     by_flag false = refl
 
@@ -79,8 +79,8 @@ easel_drawn asked screen figures painting is =
 -- ---- a page and what is done after it
 
 pub plan_followed : (r : ReporterState) (asked : Asked) (easel : Easel) (sequel : Sequel) → r.asked ≡ asked
-    → r.easel ≡ easel → script_in easel ≡ Some sequel → plan_in r ≡ followed asked sequel
-plan_followed r asked easel sequel same at is = plan_is r asked (Some sequel) same (ap script_in at ∙ is)
+    → r.easel ≡ easel → sequel_at easel ≡ Some sequel → plan_in r ≡ followed asked sequel
+plan_followed r asked easel sequel same at is = plan_is r asked (Some sequel) same (ap sequel_at at ∙ is)
 
 pub sequel_followed : (asked : Asked) (sequel : Sequel) → asked.painting ≡ true
     → sequel_of (followed asked sequel) ≡ sequel

@@ -38,7 +38,7 @@ use Rattle.cept_run.specs.Events.{painted_at, Sequel, Edits, Figures}
 use Rattle.cept_parser.specs.Items.{items, closed_items, reading_within, is_refusal}
 use Rattle.cept_parser.specs.State.{Leads}
 use Rattle.cept_run.specs.Reporting.{DecoderState, HasRead, ReadsOn, ReadsToEnd}
-use Rattle.cept_run.specs.Reporting.{Plan, ReporterState, painted_easel, easel_at, screen_of, script_in, Stands, HasReported, Applies}
+use Rattle.cept_run.specs.Reporting.{Plan, ReporterState, painted_easel, easel_at, screen_of, sequel_at, Stands, HasReported, Applies}
 use Rattle.cept_run.specs.Reporting.{AppliesOn, IsAppliedAfter}
 use Rattle.cept_run.specs.Reporting.{ReportsOn, command_event, refusal_text, counted_of}
 use Rattle.cept_run.proofs.EventsOfItems.{history-none, history-command, history-refused, history-idle, item_events-more}
@@ -140,11 +140,11 @@ idle_text asked i command xs none =
 
 -- without painting nothing is applied
 idle_easel : (plan : Plan) (h : List Command) → plan.asked.painting ≡ false → easel_at plan h ≡ easels.Nothing
-idle_easel plan h p = ap (λ b. cond b (painted_easel plan.script h) easels.Nothing) p
+idle_easel plan h p = ap (λ b. cond b (painted_easel plan.sequel h) easels.Nothing) p
 
 painted_at_plan : (plan : Plan) (h : List Command) → plan.asked.painting ≡ true
-    → easel_at plan h ≡ painted_easel plan.script h
-painted_at_plan plan h p = ap (λ b. cond b (painted_easel plan.script h) easels.Nothing) p
+    → easel_at plan h ≡ painted_easel plan.sequel h
+painted_at_plan plan h p = ap (λ b. cond b (painted_easel plan.sequel h) easels.Nothing) p
 
 -- ---- a command more
 
@@ -175,16 +175,16 @@ module _ {X E : Type 0} (old new : ReporterState) (i : Item) (command : Command)
       let more = history-command plan.asked earlier i command p is in
       let h = history plan.asked earlier in
       let painting = ap (λ (a : Asked). a.painting) stands.asked_is ∙ p in
-      let at : old.easel ≡ painted_easel plan.script h = stands.easel ∙ painted_at_plan plan h p in
+      let at : old.easel ≡ painted_easel plan.sequel h = stands.easel ∙ painted_at_plan plan h p in
       record {
         asked_is = applies.asked ∙ stands.asked_is;
         valid = subst AllValid (sym more) (AllValid-more h command stands.valid valid);
-        easel = applies.easel plan.script h stands.valid painting at
+        easel = applies.easel plan.sequel h stands.valid painting at
             ∙ sym (painted_at_plan plan (h ++ command ∷ []) p) ∙ ap (easel_at plan) (sym more);
         items = applies.items ∙ ap (λ n. n + 1) stands.items ∙ sym (length-more earlier i);
         refused = applies.refused ∙ stands.refused
             ∙ sym (refused_as earlier i (said.Command command) is ∙ add-zero (refused_count earlier));
-        painted = applies.painted plan.script h stands.valid painting at
+        painted = applies.painted plan.sequel h stands.valid painting at
             ∙ ap (λ n. n + counted_of old.asked (length (changes h command))) stands.painted
             ∙ ap (λ (a : Asked). counted_of plan.asked (painted_at plan.asked earlier)
             + counted_of a (length (changes h command))) stands.asked_is
@@ -215,7 +215,7 @@ module _ {X E : Type 0} (old new : ReporterState) (i : Item) (command : Command)
       }) is in
       subst (λ (e : Event). IsMade e before result after) (sym event)
       (subst (λ (a : Asked). IsMade (command_event a i.at h command) before result after) stands.asked_is
-      (applies.made plan.script h stands.valid (ap (λ (a : Asked). a.painting) stands.asked_is ∙ p)
+      (applies.made plan.sequel h stands.valid (ap (λ (a : Asked). a.painting) stands.asked_is ∙ p)
       (stands.easel ∙ painted_at_plan plan h p)))
   command_made plan earlier false p stands =
       let none : old.easel ≡ easels.Nothing = stands.easel ∙ idle_easel plan (history plan.asked earlier) p in
@@ -277,8 +277,8 @@ append_other : (h : List Command) (c : Command) → h ++ c ∷ [] ≡ h → ⊥
 append_other h c e = absurd (omega (arith, ap length e, length-append h (c ∷ [])))
 
 -- what a screen is, where it is what commands are painted on
-pub screen_painted : (script : Option Sequel) (screen : State) (h : List Command)
-    → easels.Screen screen ≡ painted_easel script h → (script ≡ None) × (screen ≡ state h)
+pub screen_painted : (sequel : Option Sequel) (screen : State) (h : List Command)
+    → easels.Screen screen ≡ painted_easel sequel h → (sequel ≡ None) × (screen ≡ state h)
 screen_painted None screen h e = (refl, same_Some screen (state h) (ap screen_of e))
 screen_painted (Some (Edits lines)) screen h e = cc
 screen_painted (Some (Figures figures)) screen h e = cc
@@ -290,27 +290,27 @@ editor_in other (easels.Editor editor lines) = editor
 editor_in other (easels.Drawing screen figures) = other
 
 -- and what an editor is
-pub editor_painted : (script : Option Sequel) (editor : EditorState) (lines : List EditLine) (h : List Command)
-    → easels.Editor editor lines ≡ painted_easel script h
-    → (script ≡ Some (Edits lines)) × (editor ≡ record { screen = state h; past = []; future = [] })
+pub editor_painted : (sequel : Option Sequel) (editor : EditorState) (lines : List EditLine) (h : List Command)
+    → easels.Editor editor lines ≡ painted_easel sequel h
+    → (sequel ≡ Some (Edits lines)) × (editor ≡ record { screen = state h; past = []; future = [] })
 editor_painted None editor lines h e = cc
-editor_painted (Some (Edits others)) editor lines h e = (sym (ap script_in e), ap (editor_in editor) e)
+editor_painted (Some (Edits others)) editor lines h e = (sym (ap sequel_at e), ap (editor_in editor) e)
 editor_painted (Some (Figures figures)) editor lines h e = cc
 
 -- and what a screen with a drawing is
-pub drawing_painted : (script : Option Sequel) (screen : State) (figures : List Figure) (h : List Command)
-    → easels.Drawing screen figures ≡ painted_easel script h → (script ≡ Some (Figures figures)) × (screen ≡ state h)
+pub drawing_painted : (sequel : Option Sequel) (screen : State) (figures : List Figure) (h : List Command)
+    → easels.Drawing screen figures ≡ painted_easel sequel h → (sequel ≡ Some (Figures figures)) × (screen ≡ state h)
 drawing_painted None screen figures h e = cc
 drawing_painted (Some (Edits lines)) screen figures h e = cc
 drawing_painted (Some (Figures others)) screen figures h e =
-    (sym (ap script_in e), same_Some screen (state h) (ap screen_of e))
+    (sym (ap sequel_at e), same_Some screen (state h) (ap screen_of e))
 
 editor_with : (editor : EditorState) (screen : State) (past future : List State) → editor.screen ≡ screen
     → editor.past ≡ past → editor.future ≡ future → editor ≡ record { screen = screen; past = past; future = future }
 editor_with editor screen past future s p f = λ i. record { screen = s i; past = p i; future = f i }
 
 -- there is something to paint on
-pub not_idle : (script : Option Sequel) (h : List Command) → easels.Nothing ≡ painted_easel script h → ⊥
+pub not_idle : (sequel : Option Sequel) (h : List Command) → easels.Nothing ≡ painted_easel sequel h → ⊥
 not_idle None h e = cc
 not_idle (Some (Edits lines)) h e = cc
 not_idle (Some (Figures figures)) h e = cc
@@ -318,10 +318,10 @@ not_idle (Some (Figures figures)) h e = cc
 -- what a command changes, where it leads a screen's state on
 module _ (screen new : State) (marks : List Bool) (command : Command) (glass shown : GlassState) (from to : ℕ)
     (is_applied : IsApplied screen command new marks glass shown from to) where
-  applied : (script : Option Sequel) (h : List Command) (easel : Easel) → screen ≡ state h
-      → new ≡ state (h ++ command ∷ []) → easel ≡ painted_easel script (h ++ command ∷ [])
-      → IsAppliedAfter script h command glass easel marks shown
-  applied script h easel before after at =
+  applied : (sequel : Option Sequel) (h : List Command) (easel : Easel) → screen ≡ state h
+      → new ≡ state (h ++ command ∷ []) → easel ≡ painted_easel sequel (h ++ command ∷ [])
+      → IsAppliedAfter sequel h command glass easel marks shown
+  applied sequel h easel before after at =
       let grids : (f : List (List Look) → List (List Look) → List (Place × Look))
       → f (looks_of (core_of screen)) (looks_of (core_of new)) ≡ f (grid h) (grid (h ++ command ∷ [])) =
       λ f. ap (λ (s : State). f (looks_of (core_of s)) (looks_of (core_of new))) before
@@ -337,10 +337,10 @@ module _ (screen new : State) (marks : List Bool) (command : Command) (glass sho
   -- on a screen
   pub applied_on_screen : AppliesOn (easels.Screen screen) command glass (easels.Screen new) marks shown
   applied_on_screen = record {
-    painted = λ script h valid e.
-        let is = screen_painted script screen h e in
+    painted = λ sequel h valid e.
+        let is = screen_painted sequel screen h e in
         let after = is_applied.goes_on h valid is.1 in
-        applied script h (easels.Screen new) is.1 after (ap easels.Screen after
+        applied sequel h (easels.Screen new) is.1 after (ap easels.Screen after
         ∙ ap (λ (o : Option Sequel). painted_easel o (h ++ command ∷ [])) (sym is.0));
     idle = λ none. cc;
   }
@@ -349,10 +349,10 @@ module _ (screen new : State) (marks : List Bool) (command : Command) (glass sho
   pub applied_before_drawing : (figures : List Figure)
       → AppliesOn (easels.Drawing screen figures) command glass (easels.Drawing new figures) marks shown
   applied_before_drawing figures = record {
-    painted = λ script h valid e.
-        let is = drawing_painted script screen figures h e in
+    painted = λ sequel h valid e.
+        let is = drawing_painted sequel screen figures h e in
         let after = is_applied.goes_on h valid is.1 in
-        applied script h (easels.Drawing new figures) is.1 after (ap (λ (s : State). easels.Drawing s figures) after
+        applied sequel h (easels.Drawing new figures) is.1 after (ap (λ (s : State). easels.Drawing s figures) after
         ∙ ap (λ (o : Option Sequel). painted_easel o (h ++ command ∷ [])) (sym is.0));
     idle = λ none. cc;
   }
@@ -362,11 +362,11 @@ module _ (screen new : State) (marks : List Bool) (command : Command) (glass sho
       → after.screen ≡ new → after.past ≡ editor.past → after.future ≡ []
       → AppliesOn (easels.Editor editor lines) command glass (easels.Editor after lines) marks shown
   applied_in_editor editor after lines was now past future = record {
-    painted = λ script h valid e.
-        let is = editor_painted script editor lines h e in
+    painted = λ sequel h valid e.
+        let is = editor_painted sequel editor lines h e in
         let before = sym was ∙ ap (λ (s : EditorState). s.screen) is.1 in
         let next = is_applied.goes_on h valid before in
-        applied script h (easels.Editor after lines) before next
+        applied sequel h (easels.Editor after lines) before next
         (ap (λ (s : EditorState). easels.Editor s lines)
         (editor_with after (state (h ++ command ∷ [])) [] [] (now ∙ next)
         (past ∙ ap (λ (s : EditorState). s.past) is.1) future)
@@ -378,7 +378,7 @@ module _ (screen new : State) (marks : List Bool) (command : Command) (glass sho
 pub applied_nowhere : (command : Command) (glass : GlassState) (marks : List Bool)
     → AppliesOn easels.Nothing command glass easels.Nothing marks glass
 applied_nowhere command glass marks = record {
-  painted = λ script h valid e. absurd (not_idle script h e);
+  painted = λ sequel h valid e. absurd (not_idle sequel h e);
   idle = λ none. (refl, refl);
 }
 
@@ -402,11 +402,11 @@ module _ (old : ReporterState) (easel : Easel) (place : ℕ) (command : Command)
       result now)
       (count_is : count ≡ cond (is_counted old.asked.end) (count_by (λ b. b) marks) 0) (few : count ≤ 960) where
     -- the screen is that after the command
-    module _ (script : Option Sequel) (h : List Command) (is : IsAppliedAfter script h command glass easel marks shown)
+    module _ (sequel : Option Sequel) (h : List Command) (is : IsAppliedAfter sequel h command glass easel marks shown)
       where
         screen_is : screen ≡ state (h ++ command ∷ [])
         screen_is = same_Some screen (state (h ++ command ∷ []))
-            (sym at ∙ ap screen_of is.easel_is ∙ of_painted script (h ++ command ∷ []))
+            (sym at ∙ ap screen_of is.easel_is ∙ of_painted sequel (h ++ command ∷ []))
           where
             of_painted : (o : Option Sequel) (k : List Command) → screen_of (painted_easel o k) ≡ Some (state k)
             of_painted None k = refl
@@ -442,9 +442,9 @@ module _ (old : ReporterState) (easel : Easel) (place : ℕ) (command : Command)
       asked = refl;
       items = refl;
       refused = refl;
-      easel = λ script h valid painting e. (applies.painted script h valid e).easel_is;
-      made = λ script h valid painting e. event_made script h (applies.painted script h valid e);
-      painted = λ script h valid painting e. counted script h (applies.painted script h valid e);
+      easel = λ sequel h valid painting e. (applies.painted sequel h valid e).easel_is;
+      made = λ sequel h valid painting e. event_made sequel h (applies.painted sequel h valid e);
+      painted = λ sequel h valid painting e. counted sequel h (applies.painted sequel h valid e);
       few = omega (arith, few);
       idle = λ none. absurd (no_screen (sym (ap screen_of (applies.idle none).0) ∙ at));
     }
@@ -460,15 +460,15 @@ module _ (old : ReporterState) (easel : Easel) (place : ℕ) (command : Command)
     asked = refl;
     items = refl;
     refused = refl;
-    easel = λ script h valid painting e. (applies.painted script h valid e).easel_is;
-    made = λ script h valid painting e. absurd (with_screen script h (applies.painted script h valid e));
-    painted = λ script h valid painting e. absurd (with_screen script h (applies.painted script h valid e));
+    easel = λ sequel h valid painting e. (applies.painted sequel h valid e).easel_is;
+    made = λ sequel h valid painting e. absurd (with_screen sequel h (applies.painted sequel h valid e));
+    painted = λ sequel h valid painting e. absurd (with_screen sequel h (applies.painted sequel h valid e));
     few = omega arith;
     idle = λ is. ((applies.idle is).0, refl, ap (output_of sink) (applies.idle is).1, refl);
   }
     where
-      with_screen : (script : Option Sequel) (h : List Command)
-          → IsAppliedAfter script h command glass easel marks shown → ⊥
+      with_screen : (sequel : Option Sequel) (h : List Command)
+          → IsAppliedAfter sequel h command glass easel marks shown → ⊥
       with_screen None h is = none-some (state (h ++ command ∷ [])) (sym none ∙ ap screen_of is.easel_is)
       with_screen (Some (Edits lines)) h is = none-some (state (h ++ command ∷ [])) (sym none ∙ ap screen_of is.easel_is)
       with_screen (Some (Figures figures)) h is =

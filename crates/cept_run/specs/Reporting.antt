@@ -39,7 +39,7 @@ HasBlink _ blink = Unit {0}
 -- what is done with a page, and after it by the script or the drawing that is asked for beside it, if one is
 pub record Plan : Type 0 where
   pub asked : Asked
-  pub script : Option Sequel
+  pub sequel : Option Sequel
 
 -- what is done after it, if anything is
 abbrev pub sequel_if_any : Option Sequel → Sequel
@@ -48,7 +48,7 @@ sequel_if_any (Some sequel) = sequel
 
 -- what is done after it: where nothing is painted, nothing
 abbrev pub sequel_of : Plan → Sequel
-sequel_of plan = if plan.asked.painting then sequel_if_any plan.script else nothing_more
+sequel_of plan = if plan.asked.painting then sequel_if_any plan.sequel else nothing_more
 
 -- what is asked for, what commands are applied to, how many items there were and were refused, and how many places were
 -- painted, where these are counted
@@ -59,7 +59,8 @@ pub record ReporterState : Type 0 where
   pub refused : ℕ
   pub painted : ℕ
 
--- what the commands of a page are applied to, after these: where there is a script, a screen whose edits can be taken back
+-- what the commands of a page are applied to, after these: where there is a script, a screen whose edits can be taken back;
+-- where there is a drawing, a screen and the drawing
 abbrev pub painted_easel : Option Sequel → List Command → Easel
 painted_easel None commands = easels.Screen (state commands)
 painted_easel (Some (Edits lines)) commands =
@@ -68,7 +69,7 @@ painted_easel (Some (Figures figures)) commands = easels.Drawing (state commands
 
 -- what commands are applied to, after these
 abbrev pub easel_at : Plan → List Command → Easel
-easel_at plan commands = if plan.asked.painting then painted_easel plan.script commands else easels.Nothing
+easel_at plan commands = if plan.asked.painting then painted_easel plan.sequel commands else easels.Nothing
 
 -- the screen, where there is one
 abbrev pub screen_of : Easel → Option State
@@ -78,15 +79,15 @@ screen_of (easels.Editor editor lines) = Some editor.screen
 screen_of (easels.Drawing screen figures) = Some screen
 
 -- what is done after a page, where there is a script or a drawing
-abbrev pub script_in : Easel → Option Sequel
-script_in easels.Nothing = None
-script_in (easels.Screen screen) = None
-script_in (easels.Editor editor lines) = Some (Edits lines)
-script_in (easels.Drawing screen figures) = Some (Figures figures)
+abbrev pub sequel_at : Easel → Option Sequel
+sequel_at easels.Nothing = None
+sequel_at (easels.Screen screen) = None
+sequel_at (easels.Editor editor lines) = Some (Edits lines)
+sequel_at (easels.Drawing screen figures) = Some (Figures figures)
 
 -- the plan by which it reports
 abbrev pub plan_in : ReporterState → Plan
-plan_in reporter = record { asked = reporter.asked; script = script_in reporter.easel }
+plan_in reporter = record { asked = reporter.asked; sequel = sequel_at reporter.easel }
 
 -- what is counted of so many painted places
 abbrev pub counted_of : Asked → ℕ → ℕ
@@ -122,9 +123,9 @@ command_event asked place earlier command = record {
 }
 
 -- a command was applied after these, where they are painted
-pub record IsAppliedAfter (script : Option Sequel) (earlier : List Command) (command : Command) (before : GlassState)
+pub record IsAppliedAfter (sequel : Option Sequel) (earlier : List Command) (command : Command) (before : GlassState)
     (easel : Easel) (marks : List Bool) (after : GlassState) : Type 0 where
-  pub easel_is : easel ≡ painted_easel script (earlier ++ command ∷ [])
+  pub easel_is : easel ≡ painted_easel sequel (earlier ++ command ∷ [])
   pub marked : marks ≡ differences (grid earlier) (grid (earlier ++ command ∷ []))
   pub told : Lists before.paints (changes earlier command) after.paints
   pub shown : after.grid ≡ grid_with_paints before.grid (changes earlier command)
@@ -132,8 +133,8 @@ pub record IsAppliedAfter (script : Option Sequel) (earlier : List Command) (com
 -- a command is applied, where there is a screen
 pub record AppliesOn (old : Easel) (command : Command) (before : GlassState) (new : Easel) (marks : List Bool)
     (after : GlassState) : Type 0 where
-  pub painted : (script : Option Sequel) (earlier : List Command) → AllValid earlier
-      → old ≡ painted_easel script earlier → IsAppliedAfter script earlier command before new marks after
+  pub painted : (sequel : Option Sequel) (earlier : List Command) → AllValid earlier
+      → old ≡ painted_easel sequel earlier → IsAppliedAfter sequel earlier command before new marks after
   pub idle : old ≡ easels.Nothing → (new ≡ easels.Nothing) × (after ≡ before)
 
 -- it applies a command: where commands are painted, the command's event is made; else nothing happens
@@ -142,14 +143,14 @@ pub record Applies {X E : Type 0} (old : ReporterState) (place : ℕ) (command :
   pub asked : new.asked ≡ old.asked
   pub items : new.items ≡ old.items
   pub refused : new.refused ≡ old.refused
-  pub easel : (script : Option Sequel) (earlier : List Command) → AllValid earlier
-      → old.asked.painting ≡ true → old.easel ≡ painted_easel script earlier
-      → new.easel ≡ painted_easel script (earlier ++ command ∷ [])
-  pub made : (script : Option Sequel) (earlier : List Command) → AllValid earlier
-      → old.asked.painting ≡ true → old.easel ≡ painted_easel script earlier
+  pub easel : (sequel : Option Sequel) (earlier : List Command) → AllValid earlier
+      → old.asked.painting ≡ true → old.easel ≡ painted_easel sequel earlier
+      → new.easel ≡ painted_easel sequel (earlier ++ command ∷ [])
+  pub made : (sequel : Option Sequel) (earlier : List Command) → AllValid earlier
+      → old.asked.painting ≡ true → old.easel ≡ painted_easel sequel earlier
       → IsMade (command_event old.asked place earlier command) before result after
-  pub painted : (script : Option Sequel) (earlier : List Command) → AllValid earlier
-      → old.asked.painting ≡ true → old.easel ≡ painted_easel script earlier
+  pub painted : (sequel : Option Sequel) (earlier : List Command) → AllValid earlier
+      → old.asked.painting ≡ true → old.easel ≡ painted_easel sequel earlier
       → new.painted ≡ old.painted + counted_of old.asked (length (changes earlier command))
   pub few : new.painted ≤ old.painted + 960
   pub idle : old.easel ≡ easels.Nothing

@@ -26,9 +26,9 @@ pub enum Stop {
     ReadFault,
     /// The sink failed.
     WriteFault,
-    /// The page has more than 2^24 bytes, or the script more than 2^20.
+    /// The page has more than 2^24 bytes, or the script or the drawing more than 2^20.
     TooLong,
-    /// A line of the script is outside the grammar.
+    /// A line of the script or the drawing is outside the grammar.
     Script,
     /// There is no memory.
     NoMemory,

@@ -25,9 +25,9 @@ use cept_writer::write_page;
 use std::marker::Model;
 use std::sync::ledger::Ledger;
 
-/// Reports items one after the other, and then edits or a drawing: what is asked for, what commands are applied
-/// to with the places that the last one changed, how many items there were and were refused, and
-/// how many places were painted, where these are counted.
+/// Reports items one after the other, and then edits or a drawing: what is asked for, what commands
+/// are applied to with the places that the last one changed, how many items there were and were
+/// refused, and how many places were painted, where these are counted.
 #[derive(Drop)]
 pub struct Reporter {
     asked: Asked,
@@ -108,6 +108,9 @@ impl Reporter {
             (output_of (T.state sink.old) (G.state glass.old)) result self.new
             (output_of (T.state sink.new) (G.state glass.new)) }
     {
+        if !self.asked.painting {
+            return Ok(());
+        }
         self.easel.apply(command, glass, &mut self.marks, steps);
         let Some(screen) = self.easel.screen() else {
             return Ok(());

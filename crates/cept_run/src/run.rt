@@ -49,15 +49,15 @@ pub enum Status {
     Refusals,
     /// The words are no request.
     Usage,
-    /// A line of the script is outside the grammar.
+    /// A line of the script or the drawing is outside the grammar.
     Script,
-    /// The page or the script can't be opened or read.
+    /// The page, the script or the drawing can't be opened or read.
     ReadFault,
     /// The output failed.
     WriteFault,
     /// There is no memory.
     NoMemory,
-    /// The page has more than 2^24 bytes, or the script more than 2^20.
+    /// The page has more than 2^24 bytes, or the script or the drawing more than 2^20.
     TooLong,
     /// A byte of the page can't be read from seven bits, or the page can't end where it does.
     NotSeven,

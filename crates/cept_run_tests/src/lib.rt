@@ -11,4 +11,6 @@ mod pages;
 #[cfg(test)]
 mod plot;
 #[cfg(test)]
+mod revision;
+#[cfg(test)]
 mod run;

@@ -9,7 +9,7 @@ use std::process::Abort;
 use std::test::Fail;
 
 /// Reports a page, with ample memory, and compares what was put and the status.
-fn compare(
+pub(crate) fn compare(
     rt: &impl Abort,
     alloc: Global,
     word: &str,
@@ -317,7 +317,12 @@ pub(crate) const WRITTEN_PAGE: &[u8] =
     \x1B\x22A\x9B0@\x87\x8DBTX\x1FCA\x1B\x22A\x1B( @!\x1B(@A\x1FXA\x1B\x22ASYS";
 
 /// Writes a page, with ample memory, and compares the bytes.
-fn compare_written(rt: &impl Abort, alloc: Global, page: &[u8], want: &[u8]) -> Result<(), Fail> {
+pub(crate) fn compare_written(
+    rt: &impl Abort,
+    alloc: Global,
+    page: &[u8],
+    want: &[u8],
+) -> Result<(), Fail> {
     let words = words(alloc, &["write", "page"])?;
     let mut shelf = MemShelf::new(alloc);
     shelf.add("page", page)?;

@@ -23,7 +23,7 @@ pub(crate) fn words(alloc: Global, all: &[&str]) -> Result<Vec<String>, AllocErr
 
 /// Runs `trace` or `edit` on a page with a script, with ample memory, and compares what was put and
 /// the status.
-fn compare_script(
+pub(crate) fn compare_script(
     rt: &impl Abort,
     alloc: Global,
     word: &str,

@@ -1,5 +1,5 @@
 use cept_codes::{
-    Attr, C1Set, Cell, Command, Glyph, Paint, Pen, Pos, Rgb, SetId, Size, Stroke, What,
+    Attr, C1Set, Cell, Command, Glyph, Paint, Pen, Pos, Rgb, SetId, Size, Stroke, Up, What,
 };
 use cept_control::Control;
 
@@ -133,4 +133,57 @@ fn colours_are_written_and_come_back(rt: HostRuntime) {
     assert_eq!(rt; strokes.first().copied(), Some(Stroke::Dclut(3, 24)));
     let strokes = control.step(Command::ColourDefaults);
     assert_eq!(rt; strokes.first().copied(), Some(Stroke::ColourDefaults));
+}
+
+#[test]
+fn the_second_revision_carries_rows(rt: HostRuntime) {
+    let mut control = Control::new();
+    assert_eq!(rt; control.revision(), 1);
+    assert_eq!(rt; control.step(Command::AreaCreate(2, 5)).len(), 0);
+    let strokes = control.step(Command::ScrollUp);
+    assert_eq!(rt; strokes.first().copied(), Some(Stroke::Shift(2, 5, Up::Up)));
+    assert_eq!(rt; control.step(Command::Revision(2)).len(), 0);
+    assert_eq!(rt; control.revision(), 2);
+    let strokes = control.step(Command::ScrollDown);
+    assert_eq!(rt;
+        strokes.first().copied(),
+        Some(Stroke::Carry(2, 5, Up::Down))
+    );
+    assert_eq!(rt; control.step(Command::Implicit(true)).len(), 0);
+    assert_eq!(rt; control.step(Command::Position(5, 7)).len(), 0);
+    let strokes = control.step(Command::Down);
+    assert_eq!(rt; strokes.first().copied(), Some(Stroke::Carry(2, 5, Up::Up)));
+    assert_eq!(rt;
+        control.step(Command::FullDefaults(C1Set::Parallel)).len(),
+        5
+    );
+    assert_eq!(rt; control.revision(), 1);
+}
+
+#[test]
+fn a_service_neither_keeps_the_revision_nor_brings_it_back(rt: HostRuntime) {
+    let mut control = Control::new();
+    assert_eq!(rt; control.step(Command::Revision(2)).len(), 0);
+    assert_eq!(rt; control.step(Command::ServiceBreak(24)).len(), 0);
+    assert_eq!(rt; control.revision(), 2);
+    assert_eq!(rt; control.step(Command::Revision(1)).len(), 0);
+    assert_eq!(rt; control.step(Command::ServiceEnd).len(), 0);
+    assert_eq!(rt; control.revision(), 1);
+}
+
+#[test]
+fn double_height_does_not_cross_the_edges_of_the_area(rt: HostRuntime) {
+    let mut control = Control::new();
+    assert_eq!(rt; control.step(Command::AreaCreate(2, 5)).len(), 0);
+    let first = control.edges();
+    assert!(rt; !first.is_last(1) && !first.is_last(5) && first.is_last(24));
+    assert_eq!(rt; control.step(Command::Revision(2)).len(), 0);
+    let second = control.edges();
+    assert!(rt; second.is_last(1) && !second.is_last(2));
+    assert!(rt; !second.is_last(4) && second.is_last(5) && second.is_last(24));
+    assert!(rt; !first.is_same(&second));
+    assert_eq!(rt; control.step(Command::Format(20, true)).len(), 2);
+    assert_eq!(rt; control.step(Command::AreaCreate(2, 24)).len(), 0);
+    let past = control.edges();
+    assert!(rt; !past.is_last(1) && past.is_last(20) && past.is_last(24));
 }

@@ -266,3 +266,29 @@ fn a_unit_of_100_bytes(rt: HostRuntime) -> Result<(), Fail> {
     assert_eq!(rt; items.as_slice(), want.as_slice());
     Ok(())
 }
+
+#[test]
+fn a_revision_is_chosen_in_mode_text(rt: HostRuntime) -> Result<(), Fail> {
+    let second = command(0, 3, Command::Revision(2));
+    let first = command(0, 3, Command::Revision(1));
+    let none = refused(0, 3, Reason::BadParameter);
+    let skipped = command(3, 1, Command::Skipped);
+    let cases: [(&[u8], &[Item]); 5] = [
+        (&[0x1F, 0x2F, 0x45, 0x41], &[second, graphic(3, 0x41)]),
+        (&[0x1F, 0x2F, 0x46, 0x41], &[first, graphic(3, 0x41)]),
+        (&[0x1F, 0x2F, 0x47, 0x41], &[none, skipped]),
+        (&[0x1F, 0x2F, 0x4E, 0x41], &[none, skipped]),
+        (
+            &[0x1F, 0x2F, 0x0D, 0x45],
+            &[
+                refused(0, 2, Reason::Interrupted),
+                command(2, 1, Command::Return),
+                graphic(3, 0x45),
+            ],
+        ),
+    ];
+    for (page, want) in cases {
+        expect(&rt, rt.alloc(), page, want)?;
+    }
+    Ok(())
+}

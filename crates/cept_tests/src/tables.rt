@@ -276,6 +276,8 @@ fn unit_from_1f(kind: ColourKind, bytes: &[u8]) -> Option<(Command, Mode)> {
         [0x1F, 0x2F, 0x42] => Some((Command::FullDefaults(C1Set::Parallel), Mode::Text)),
         [0x1F, 0x2F, 0x43] => Some((Command::ControlDefaults(C1Set::Serial), Mode::Text)),
         [0x1F, 0x2F, 0x44] => Some((Command::ControlDefaults(C1Set::Parallel), Mode::Text)),
+        [0x1F, 0x2F, 0x45] => Some((Command::Revision(2), Mode::Text)),
+        [0x1F, 0x2F, 0x46] => Some((Command::Revision(1), Mode::Text)),
         _ => unit_with_parts(bytes),
     }
 }
@@ -346,7 +348,7 @@ fn refusal(bytes: &[u8]) -> Option<(Reason, Mode)> {
         [0x1F, 0x23, 0x7F] => Some((Reason::BadParameter, Mode::Skip)),
         [0x1F, 0x26, 0x22..=0x2F | 0x3A..=0x7F] => Some((Reason::BadParameter, Mode::Skip)),
         [0x1F, 0x26, 0x30..=0x39, 0x20..=0x7F] => Some((Reason::BadParameter, Mode::Skip)),
-        [0x1F, 0x2F, 0x20..=0x3F | 0x45..=0x4E | 0x50..=0x7F] => {
+        [0x1F, 0x2F, 0x20..=0x3F | 0x47..=0x4E | 0x50..=0x7F] => {
             Some((Reason::BadParameter, Mode::Skip))
         }
         [0x1F, 0x2F, 0x40, 0x20..=0x7F] => Some((Reason::BadParameter, Mode::Skip)),

@@ -22,7 +22,7 @@ use Rattle.cept_profile.specs.Strokes.{strokes_of}
 use Rattle.cept_writer.specs.AttributeCommands.{attribute_commands, attributes_commands}
 use Rattle.cept_writer.specs.AttributeCommands.{pen_with_all}
 use Rattle.cept_writer.proofs.Drawing.{Draws, draws_joined, draws_none, draws_one, draws_silent}
-use Rattle.cept_writer.proofs.Resting.{Hand, control_in_cell, control_at_rest}
+use Rattle.cept_writer.proofs.Resting.{Fixed, Hand, control_in_cell, control_at_rest}
 
 -- ---- colours by their table and their code
 
@@ -64,17 +64,17 @@ abbrev pub hand_under_parallel : Hand → Hand
 hand_under_parallel v = record v { c1 = c1sets.Parallel }
 
 -- the pen takes attributes, and but for the table and the fast flash control stays
-pub record Takes (rows : ℕ) (wrap : Bool) (protect : Bool) (v : Hand) (pen : Pen) (cs : List Command) : Type 0 where
+pub record Takes (fixed : Fixed) (protect : Bool) (v : Hand) (pen : Pen) (cs : List Command) : Type 0 where
   pub table : ℕ
   pub fast : ℕ
-  pub draws : Draws (control_in_cell rows wrap initial_sets None protect (hand_under_parallel v)) cs []
-      (control_in_cell rows wrap initial_sets None protect (record (hand_under_parallel v) { table = table; fast = fast; pen = pen }))
+  pub draws : Draws (control_in_cell fixed initial_sets None protect (hand_under_parallel v)) cs []
+      (control_in_cell fixed initial_sets None protect (record (hand_under_parallel v) { table = table; fast = fast; pen = pen }))
 
-module _ (rows : ℕ) (wrap : Bool) (protect : Bool) where
+module _ (fixed : Fixed) (protect : Bool) where
   coded : (v : Hand) (n : ℕ) (attr : Attr) → attribute_of v.table n ≡ Some attr
-      → Takes rows wrap protect v (pen_with attr v.pen) (commands.C1 n ∷ [])
+      → Takes fixed protect v (pen_with attr v.pen) (commands.C1 n ∷ [])
   coded v n attr is =
-      let s : ControlState = control_in_cell rows wrap initial_sets None protect (hand_under_parallel v) in
+      let s : ControlState = control_in_cell fixed initial_sets None protect (hand_under_parallel v) in
       record {
         table = v.table;
         fast = fast_after_code n v.fast;
@@ -83,21 +83,21 @@ module _ (rows : ℕ) (wrap : Bool) (protect : Bool) where
       }
 
   coloured : (v : Hand) (t n : ℕ) (attr : Attr) → attribute_of t n ≡ Some attr
-      → Takes rows wrap protect v (pen_with attr v.pen) (commands.Table t ∷ commands.C1 n ∷ [])
+      → Takes fixed protect v (pen_with attr v.pen) (commands.Table t ∷ commands.C1 n ∷ [])
   coloured v t n attr is =
       let there = coded (record v { table = t }) n attr is in
       record {
         table = there.table;
         fast = there.fast;
-        draws = draws_silent _ (control_in_cell rows wrap initial_sets None protect (hand_under_parallel (record v { table = t }))) _
+        draws = draws_silent _ (control_in_cell fixed initial_sets None protect (hand_under_parallel (record v { table = t }))) _
             (commands.Table t) _ _ refl refl there.draws;
       }
 
   moded : (v : Hand) (k : ℕ) (f : Flash)
-      → control_after (control_in_cell rows wrap initial_sets None protect (hand_under_parallel v)) (commands.FlashMode k)
-      ≡ control_in_cell rows wrap initial_sets None protect
+      → control_after (control_in_cell fixed initial_sets None protect (hand_under_parallel v)) (commands.FlashMode k)
+      ≡ control_in_cell fixed initial_sets None protect
       (record (hand_under_parallel v) { fast = fast_after k v.fast; pen = pen_with (attrs.Flash f) v.pen })
-      → Takes rows wrap protect v (pen_with (attrs.Flash f) v.pen) (commands.FlashMode k ∷ [])
+      → Takes fixed protect v (pen_with (attrs.Flash f) v.pen) (commands.FlashMode k ∷ [])
   moded v k f is = record {
     table = v.table;
     fast = fast_after k v.fast;
@@ -105,7 +105,7 @@ module _ (rows : ℕ) (wrap : Bool) (protect : Bool) where
   }
 
   attribute_takes : (v : Hand) (attr : Attr)
-      → Takes rows wrap protect v (pen_with attr v.pen) (attribute_commands (λ n. commands.C1 n) attr)
+      → Takes fixed protect v (pen_with attr v.pen) (attribute_commands (λ n. commands.C1 n) attr)
   attribute_takes v (attrs.Fore e) = coloured v (e / 8) (0 + e % 8) (attrs.Fore e) (fore_entry e)
   attribute_takes v (attrs.Back e) = coloured v (e / 8) (16 + e % 8) (attrs.Back e) (back_entry e)
   attribute_takes v attrs.NoBack = coded v 30 attrs.NoBack refl
@@ -130,7 +130,7 @@ module _ (rows : ℕ) (wrap : Bool) (protect : Bool) where
   attribute_takes v (attrs.Invert false) = coded v 28 (attrs.Invert false) refl
 
   pub attributes_take : (v : Hand) (list : List Attr)
-      → Takes rows wrap protect v (pen_with_all list v.pen) (attributes_commands (λ n. commands.C1 n) list)
+      → Takes fixed protect v (pen_with_all list v.pen) (attributes_commands (λ n. commands.C1 n) list)
   attributes_take v [] = record { table = v.table; fast = v.fast; draws = draws_none _ }
   attributes_take v (attr ∷ more) =
       let here = attribute_takes v attr in
@@ -156,32 +156,32 @@ stroke_of made None = []
 stroke_of made (Some attr) = made attr ∷ []
 
 -- attributes are strokes, and but for the table control stays
-pub record Strikes (rows : ℕ) (wrap : Bool) (v : Hand) (made : List Stroke) (cs : List Command) : Type 0 where
+pub record Strikes (fixed : Fixed) (v : Hand) (made : List Stroke) (cs : List Command) : Type 0 where
   pub table : ℕ
-  pub draws : Draws (control_at_rest rows wrap v) cs made (control_at_rest rows wrap (record v { table = table }))
+  pub draws : Draws (control_at_rest fixed v) cs made (control_at_rest fixed (record v { table = table }))
 
-module _ (rows : ℕ) (wrap : Bool) (code : ℕ → Command) (made : ℕ → Attr → Stroke)
-    (keeps : (v : Hand) (n : ℕ) → control_after (control_at_rest rows wrap v) (code n) ≡ control_at_rest rows wrap v)
-    (strikes : (v : Hand) (n : ℕ) → strokes_of (control_at_rest rows wrap v) (code n)
+module _ (fixed : Fixed) (code : ℕ → Command) (made : ℕ → Attr → Stroke)
+    (keeps : (v : Hand) (n : ℕ) → control_after (control_at_rest fixed v) (code n) ≡ control_at_rest fixed v)
+    (strikes : (v : Hand) (n : ℕ) → strokes_of (control_at_rest fixed v) (code n)
     ≡ stroke_of (made v.row) (attribute_of v.table n)) where
   struck : (v : Hand) (n : ℕ) (attr : Attr) → attribute_of v.table n ≡ Some attr
-      → Strikes rows wrap v (made v.row attr ∷ []) (code n ∷ [])
+      → Strikes fixed v (made v.row attr ∷ []) (code n ∷ [])
   struck v n attr is = record {
     table = v.table;
     draws = draws_one _ _ (code n) _ (keeps v n) (strikes v n ∙ ap (stroke_of (made v.row)) is);
   }
 
   struck_colour : (v : Hand) (t n : ℕ) (attr : Attr) → attribute_of t n ≡ Some attr
-      → Strikes rows wrap v (made v.row attr ∷ []) (commands.Table t ∷ code n ∷ [])
+      → Strikes fixed v (made v.row attr ∷ []) (commands.Table t ∷ code n ∷ [])
   struck_colour v t n attr is =
       let there = struck (record v { table = t }) n attr is in
       record {
         table = there.table;
-        draws = draws_silent _ (control_at_rest rows wrap (record v { table = t })) _ (commands.Table t) _ _ refl refl there.draws;
+        draws = draws_silent _ (control_at_rest fixed (record v { table = t })) _ (commands.Table t) _ _ refl refl there.draws;
       }
 
   attribute_strikes : (v : Hand) (attr : Attr) → HasCode attr
-      → Strikes rows wrap v (made v.row attr ∷ []) (attribute_commands code attr)
+      → Strikes fixed v (made v.row attr ∷ []) (attribute_commands code attr)
   attribute_strikes v (attrs.Fore e) has = struck_colour v (e / 8) (0 + e % 8) (attrs.Fore e) (fore_entry e)
   attribute_strikes v (attrs.Back e) has = struck_colour v (e / 8) (16 + e % 8) (attrs.Back e) (back_entry e)
   attribute_strikes v attrs.NoBack has = struck v 30 attrs.NoBack refl
@@ -206,7 +206,7 @@ module _ (rows : ℕ) (wrap : Bool) (code : ℕ → Command) (made : ℕ → Att
   attribute_strikes v (attrs.Invert false) has = struck v 28 (attrs.Invert false) refl
 
   pub attributes_strike : (v : Hand) (list : List Attr) → AllByRecursion HasCode list
-      → Strikes rows wrap v (map (made v.row) list) (attributes_commands code list)
+      → Strikes fixed v (map (made v.row) list) (attributes_commands code list)
   attributes_strike v [] all = record { table = v.table; draws = draws_none _ }
   attributes_strike v (attr ∷ more) all =
       let here = attribute_strikes v attr all.0 in
@@ -218,20 +218,20 @@ module _ (rows : ℕ) (wrap : Bool) (code : ℕ → Command) (made : ℕ → Att
       }
 
 -- the same for each of the two
-pub row_strikes : (rows : ℕ) (wrap : Bool) (v : Hand) (list : List Attr) → AllByRecursion HasCode list
-    → Strikes rows wrap v (map (λ attr. strokes.RowAttr v.row attr) list) (attributes_commands (λ n. commands.FullRow n) list)
-row_strikes rows wrap =
-    attributes_strike rows wrap (λ n. commands.FullRow n) (λ r attr. strokes.RowAttr r attr) (λ v n. refl)
+pub row_strikes : (fixed : Fixed) (v : Hand) (list : List Attr) → AllByRecursion HasCode list
+    → Strikes fixed v (map (λ attr. strokes.RowAttr v.row attr) list) (attributes_commands (λ n. commands.FullRow n) list)
+row_strikes fixed =
+    attributes_strike fixed (λ n. commands.FullRow n) (λ r attr. strokes.RowAttr r attr) (λ v n. refl)
     (λ v n. by_option v.row (attribute_of v.table n)) where
       by_option : (r : ℕ) (o : Option Attr) → strokes_of_row_attribute r o ≡ stroke_of (λ attr. strokes.RowAttr r attr) o
       by_option r None = refl
       by_option r (Some attr) = refl
 
-pub screen_strikes : (rows : ℕ) (wrap : Bool) (v : Hand) (list : List Attr) → AllByRecursion HasCode list
-    → Strikes rows wrap v (map (λ attr. strokes.ScreenAttr attr) list)
+pub screen_strikes : (fixed : Fixed) (v : Hand) (list : List Attr) → AllByRecursion HasCode list
+    → Strikes fixed v (map (λ attr. strokes.ScreenAttr attr) list)
     (attributes_commands (λ n. commands.FullScreen n) list)
-screen_strikes rows wrap =
-    attributes_strike rows wrap (λ n. commands.FullScreen n) (λ r attr. strokes.ScreenAttr attr) (λ v n. refl)
+screen_strikes fixed =
+    attributes_strike fixed (λ n. commands.FullScreen n) (λ r attr. strokes.ScreenAttr attr) (λ v n. refl)
     (λ v n. by_option (attribute_of v.table n)) where
       by_option : (o : Option Attr) → strokes_of_attribute o ≡ stroke_of (λ attr. strokes.ScreenAttr attr) o
       by_option None = refl

@@ -26,6 +26,7 @@ pub cell_more : (r c : ℕ) (s : Stroke) (earlier : List Stroke) → IsWritten s
     → cell_back (s ∷ earlier) r c ≡ cell_step r c s (cell_back earlier r c)
 unfolding cell_back
 cell_more r c (strokes.Shift first last way) earlier written = elim (written refl) [ ]
+cell_more r c (strokes.Carry first last way) earlier written = elim (written refl) [ ]
 cell_more r c _ earlier written = refl
 
 pub cell_left : (r c : ℕ) → IsKeptByOthers (cell_step r c) Cells
@@ -33,6 +34,7 @@ cell_left r c (strokes.Put p cell) x own reset other = elim (own refl) [ ]
 cell_left r c (strokes.Erase row from) x own reset other = elim (other refl) [ ]
 cell_left r c strokes.Wipe x own reset other = elim (reset refl) [ ]
 cell_left r c (strokes.Shift first last way) x own reset other = elim (other refl) [ ]
+cell_left r c (strokes.Carry first last way) x own reset other = elim (other refl) [ ]
 cell_left r c _ x own reset other = refl
 
 pub puts_cell : (cells : List (List Cell)) (n : ℕ) → AllOf Cells (puts_below cells n)

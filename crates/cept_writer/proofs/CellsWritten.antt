@@ -23,7 +23,7 @@ use Rattle.cept_writer.proofs.AttributesSet.{attributes_take, hand_under_paralle
 use Rattle.cept_writer.proofs.Drawing.{Draws, draws_joined, draws_one, draws_silent}
 use Rattle.cept_writer.proofs.MarkersLeft.{marker_leaves, hand_under_serial}
 use Rattle.cept_writer.proofs.PenAttributes.{attributes-all}
-use Rattle.cept_writer.proofs.Resting.{AlwaysRests, Hand, Rests, control_in_cell, rests_none, control_at_rest}
+use Rattle.cept_writer.proofs.Resting.{AlwaysRests, Fixed, Hand, Rests, control_in_cell, rests_none, control_at_rest}
 use Rattle.cept_writer.proofs.SignsWritten.{glyph_puts, hand_without_run}
 
 -- the strokes of a cell
@@ -36,87 +36,87 @@ abbrev pub hand_at : Hand → Place → Hand
 hand_at v p = record v { row = p.row; column = p.column; run = false; step = 1; pen = unset_pen; fast = 0 }
 
 -- a position within the format
-pub position-hand_at : (rows : ℕ) (wrap : Bool) (v : Hand) (p : Place) → p.row ≤ rows
-    → control_after (control_at_rest rows wrap v) (commands.Position p.row p.column) ≡ control_at_rest rows wrap (hand_at v p)
-position-hand_at rows wrap v p within =
-    let row : min p.row rows ≡ p.row = omega (arith, within) in
-    ap (λ (r : ℕ). control_at_rest rows wrap (record (hand_at v p) { row = r })) row
+pub position-hand_at : (fixed : Fixed) (v : Hand) (p : Place) → p.row ≤ fixed.rows
+    → control_after (control_at_rest fixed v) (commands.Position p.row p.column) ≡ control_at_rest fixed (hand_at v p)
+position-hand_at fixed v p within =
+    let row : min p.row fixed.rows ≡ p.row = omega (arith, within) in
+    ap (λ (r : ℕ). control_at_rest fixed (record (hand_at v p) { row = r })) row
 
 -- what stands in a cell
-record Fills (rows : ℕ) (wrap : Bool) (protect : Bool) (v : Hand) (p : Place) (what : What) : Type 0 where
+record Fills (fixed : Fixed) (protect : Bool) (v : Hand) (p : Place) (what : What) : Type 0 where
   hand : Hand
-  draws : Draws (control_in_cell rows wrap initial_sets None protect (hand_at v p)) (content_commands what)
-      (strokes.Put p (record { what = what; protected = protect }) ∷ []) (control_in_cell rows wrap initial_sets None protect hand)
+  draws : Draws (control_in_cell fixed initial_sets None protect (hand_at v p)) (content_commands what)
+      (strokes.Put p (record { what = what; protected = protect }) ∷ []) (control_in_cell fixed initial_sets None protect hand)
 
-fills : (rows : ℕ) (wrap : Bool) (protect : Bool) (v : Hand) (p : Place) (what : What) → IsValidWhat what
-    → (what ≡ whats.Blank → ⊥) → Fills rows wrap protect v p what
-fills rows wrap protect v p whats.Blank is some = elim (some refl) [ ]
-fills rows wrap protect v p (whats.Serial g) is some =
-    let there = glyph_puts rows wrap protect (hand_under_serial (hand_at v p)) g is in
+fills : (fixed : Fixed) (protect : Bool) (v : Hand) (p : Place) (what : What) → IsValidWhat what
+    → (what ≡ whats.Blank → ⊥) → Fills fixed protect v p what
+fills fixed protect v p whats.Blank is some = elim (some refl) [ ]
+fills fixed protect v p (whats.Serial g) is some =
+    let there = glyph_puts fixed protect (hand_under_serial (hand_at v p)) g is in
     record {
       hand = there.hand;
-      draws = draws_silent _ (control_in_cell rows wrap initial_sets None protect (hand_without_run (hand_under_serial (hand_at v p)))) _
+      draws = draws_silent _ (control_in_cell fixed initial_sets None protect (hand_without_run (hand_under_serial (hand_at v p)))) _
           (commands.DesignateC1 c1sets.Serial) (glyph_commands g) _ refl refl there.draws;
     }
-fills rows wrap protect v p (whats.Parallel g pen) is some =
-    let taken = attributes_take rows wrap protect (hand_at v p) (attributes_of pen) in
+fills fixed protect v p (whats.Parallel g pen) is some =
+    let taken = attributes_take fixed protect (hand_at v p) (attributes_of pen) in
     let next : Hand = record (hand_under_parallel (hand_at v p)) { table = taken.table; fast = taken.fast; pen = pen } in
-    let there = glyph_puts rows wrap protect next g is.0 in
-    let pens : Draws (control_in_cell rows wrap initial_sets None protect (hand_under_parallel (hand_at v p)))
-    (pen_commands (λ n. commands.C1 n) pen) [] (control_in_cell rows wrap initial_sets None protect next) =
-    subst (λ (q : Pen). Draws (control_in_cell rows wrap initial_sets None protect (hand_under_parallel (hand_at v p)))
-    (pen_commands (λ n. commands.C1 n) pen) [] (control_in_cell rows wrap initial_sets None protect (record next { pen = q })))
+    let there = glyph_puts fixed protect next g is.0 in
+    let pens : Draws (control_in_cell fixed initial_sets None protect (hand_under_parallel (hand_at v p)))
+    (pen_commands (λ n. commands.C1 n) pen) [] (control_in_cell fixed initial_sets None protect next) =
+    subst (λ (q : Pen). Draws (control_in_cell fixed initial_sets None protect (hand_under_parallel (hand_at v p)))
+    (pen_commands (λ n. commands.C1 n) pen) [] (control_in_cell fixed initial_sets None protect (record next { pen = q })))
     (attributes-all pen) taken.draws in
     record {
       hand = there.hand;
-      draws = draws_silent _ (control_in_cell rows wrap initial_sets None protect (hand_under_parallel (hand_at v p))) _
+      draws = draws_silent _ (control_in_cell fixed initial_sets None protect (hand_under_parallel (hand_at v p))) _
           (commands.DesignateC1 c1sets.Parallel) (pen_commands (λ n. commands.C1 n) pen ++ glyph_commands g) _ refl refl
           (draws_joined _ _ _ (pen_commands (λ n. commands.C1 n) pen) (glyph_commands g) [] _ pens there.draws);
     }
-fills rows wrap protect v p (whats.Marker m) is some =
-    let there = marker_leaves rows wrap protect (hand_at v p) m in
+fills fixed protect v p (whats.Marker m) is some =
+    let there = marker_leaves fixed protect (hand_at v p) m in
     record {
       hand = there.hand;
-      draws = draws_silent _ (control_in_cell rows wrap initial_sets None protect (hand_under_serial (hand_at v p))) _
+      draws = draws_silent _ (control_in_cell fixed initial_sets None protect (hand_under_serial (hand_at v p))) _
           (commands.DesignateC1 c1sets.Serial) (marker_commands m) _ refl refl there.draws;
     }
 
 -- with protection before and after it
-shielded : (rows : ℕ) (wrap : Bool) (v : Hand) (p : Place) (what : What) (protect : Bool) → p.row ≤ rows
-    → Fills rows wrap protect v p what
-    → Rests rows wrap v (commands.Position p.row p.column ∷ protected_commands protect (content_commands what))
+shielded : (fixed : Fixed) (v : Hand) (p : Place) (what : What) (protect : Bool) → p.row ≤ fixed.rows
+    → Fills fixed protect v p what
+    → Rests fixed v (commands.Position p.row p.column ∷ protected_commands protect (content_commands what))
     (strokes.Put p (record { what = what; protected = protect }) ∷ [])
-shielded rows wrap v p what true within filled = record {
+shielded fixed v p what true within filled = record {
   hand = filled.hand;
-  draws = draws_silent _ (control_at_rest rows wrap (hand_at v p)) _ (commands.Position p.row p.column) _ _
-      (position-hand_at rows wrap v p within) refl
-      (draws_silent _ (control_in_cell rows wrap initial_sets None true (hand_at v p)) _ (commands.Protect true) _ _ refl refl
+  draws = draws_silent _ (control_at_rest fixed (hand_at v p)) _ (commands.Position p.row p.column) _ _
+      (position-hand_at fixed v p within) refl
+      (draws_silent _ (control_in_cell fixed initial_sets None true (hand_at v p)) _ (commands.Protect true) _ _ refl refl
       (draws_joined _ _ _ (content_commands what) (commands.Protect false ∷ []) _ [] filled.draws
       (draws_one _ _ (commands.Protect false) [] refl refl)));
 }
-shielded rows wrap v p what false within filled = record {
+shielded fixed v p what false within filled = record {
   hand = filled.hand;
-  draws = draws_silent _ (control_at_rest rows wrap (hand_at v p)) _ (commands.Position p.row p.column) _ _
-      (position-hand_at rows wrap v p within) refl filled.draws;
+  draws = draws_silent _ (control_at_rest fixed (hand_at v p)) _ (commands.Position p.row p.column) _ _
+      (position-hand_at fixed v p within) refl filled.draws;
 }
 
 -- any valid cell within the format, or blank
-pub cell_rests : (rows : ℕ) (wrap : Bool) (p : Place) (protected : Bool) (what : What)
-    → (p.row ≤ rows) ⊎ (what ≡ whats.Blank) → IsValidWhat what
-    → AlwaysRests rows wrap (cell_commands p protected what) (cell_strokes p protected what)
-cell_rests rows wrap p protected whats.Blank within is v = rests_none rows wrap v
-cell_rests rows wrap p protected (whats.Serial g) (inl within) is v =
-    shielded rows wrap v p (whats.Serial g) protected within
-    (fills rows wrap protected v p (whats.Serial g) is (λ e. absurd cc))
-cell_rests rows wrap p protected (whats.Serial g) (inr e) is v = absurd cc
-cell_rests rows wrap p protected (whats.Parallel g pen) (inl within) is v =
-    shielded rows wrap v p (whats.Parallel g pen) protected within
-    (fills rows wrap protected v p (whats.Parallel g pen) is (λ e. absurd cc))
-cell_rests rows wrap p protected (whats.Parallel g pen) (inr e) is v = absurd cc
-cell_rests rows wrap p protected (whats.Marker m) (inl within) is v =
-    shielded rows wrap v p (whats.Marker m) protected within
-    (fills rows wrap protected v p (whats.Marker m) is (λ e. absurd cc))
-cell_rests rows wrap p protected (whats.Marker m) (inr e) is v = absurd cc
+pub cell_rests : (fixed : Fixed) (p : Place) (protected : Bool) (what : What)
+    → (p.row ≤ fixed.rows) ⊎ (what ≡ whats.Blank) → IsValidWhat what
+    → AlwaysRests fixed (cell_commands p protected what) (cell_strokes p protected what)
+cell_rests fixed p protected whats.Blank within is v = rests_none fixed v
+cell_rests fixed p protected (whats.Serial g) (inl within) is v =
+    shielded fixed v p (whats.Serial g) protected within
+    (fills fixed protected v p (whats.Serial g) is (λ e. absurd cc))
+cell_rests fixed p protected (whats.Serial g) (inr e) is v = absurd cc
+cell_rests fixed p protected (whats.Parallel g pen) (inl within) is v =
+    shielded fixed v p (whats.Parallel g pen) protected within
+    (fills fixed protected v p (whats.Parallel g pen) is (λ e. absurd cc))
+cell_rests fixed p protected (whats.Parallel g pen) (inr e) is v = absurd cc
+cell_rests fixed p protected (whats.Marker m) (inl within) is v =
+    shielded fixed v p (whats.Marker m) protected within
+    (fills fixed protected v p (whats.Marker m) is (λ e. absurd cc))
+cell_rests fixed p protected (whats.Marker m) (inr e) is v = absurd cc
 
 -- the strokes of the first n cells
 unfoldable pub puts_below : List (List Cell) → ℕ → List Stroke

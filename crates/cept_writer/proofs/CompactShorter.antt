@@ -10,7 +10,6 @@ use Rattle.std.specs.List.{AllByRecursion, flat_map}
 use Rattle.cept_codes.specs.declared.cell.Cell.{Cell}
 use Rattle.cept_codes.specs.declared.cell.What.{What}
 use Rattle.cept_codes.specs.declared.cell.What.TheVariants as whats
-use Rattle.cept_codes.specs.declared.command.C1Set.TheVariants as c1sets
 use Rattle.cept_codes.specs.declared.command.Command.{Command}
 use Rattle.cept_codes.specs.declared.command.Command.TheVariants as commands
 use Rattle.cept_codes.specs.declared.glyph.Glyph.{Glyph}
@@ -35,7 +34,7 @@ use Rattle.cept_writer.specs.CompactCommands.{codes_commands, coded_pattern, col
 use Rattle.cept_writer.specs.CompactCommands.{compact_text, defined_below, defined_commands, form_commands, is_next_code}
 use Rattle.cept_writer.specs.CompactCommands.{is_next_entry, is_of_same_form}
 use Rattle.cept_writer.specs.PageCommands.{area_commands, cell_numbered, cells_below, dclut_commands, entries_below}
-use Rattle.cept_writer.specs.PageCommands.{entry_commands, implicit_commands, pattern_commands, patterns_below}
+use Rattle.cept_writer.specs.PageCommands.{entry_commands, first_commands, implicit_commands, pattern_commands, patterns_below}
 use Rattle.cept_writer.specs.PageCommands.{plain_commands, plain_text, rows_below, screen_commands, with_colour_header}
 use Rattle.cept_writer.specs.SegmentCommands.{PlacedCell, closing_commands, contents_commands, continues, is_of_same_set}
 use Rattle.cept_writer.specs.SegmentCommands.{is_shorter_repeated, manner_commands, opening_commands, run_commands}
@@ -464,7 +463,7 @@ module _ (decides : (a b : Glyph) → IsTrue (same_glyph a b) ↔ (a ≡ b)) whe
   pub compact_shorter : (k : Core) → length (compact_text k) ≤ length (plain_text k)
   unfolding compact_commands plain_commands
   compact_shorter k =
-      let head : List Command = commands.FullDefaults c1sets.Parallel ∷ commands.Format k.rows k.wrap ∷ [] in
+      let head : List Command = first_commands k in
       let ends : List Command = area_commands k.area ++ implicit_commands k.implicit in
       let cells = segments_shorter k.page.cells in
       let left = size-append (segments_commands k.page.cells) ends in

@@ -7,7 +7,6 @@ use Rattle.std.proofs.lemmas.List.{length-map}
 use Rattle.std.specs.List.{AllByRecursion, flat_map}
 use Rattle.cept_codes.specs.declared.cell.What.{What}
 use Rattle.cept_codes.specs.declared.cell.What.TheVariants as whats
-use Rattle.cept_codes.specs.declared.command.C1Set.TheVariants as c1_set
 use Rattle.cept_codes.specs.declared.command.Command.{Command}
 use Rattle.cept_codes.specs.declared.command.Command.TheVariants as command
 use Rattle.cept_codes.specs.declared.command.Form.{Form}
@@ -42,8 +41,8 @@ use Rattle.cept_writer.specs.CompactCommands.{CodedPattern, NumberedColour, chan
 use Rattle.cept_writer.specs.CompactCommands.{codes_commands, coded_pattern, colours_commands, compact_commands}
 use Rattle.cept_writer.specs.CompactCommands.{compact_text, defined_below, defined_commands, form_commands, is_next_code}
 use Rattle.cept_writer.specs.CompactCommands.{is_next_entry, is_of_same_form}
-use Rattle.cept_writer.specs.PageCommands.{area_commands, dclut_commands, implicit_commands, rows_below, screen_commands}
-use Rattle.cept_writer.specs.PageCommands.{with_colour_header}
+use Rattle.cept_writer.specs.PageCommands.{area_commands, dclut_commands, first_commands, implicit_commands, rows_below}
+use Rattle.cept_writer.specs.PageCommands.{screen_commands, with_colour_header}
 use Rattle.cept_writer.specs.SegmentCommands.{PlacedCell, closing_commands, contents_commands, continues, is_of_same_set}
 use Rattle.cept_writer.specs.SegmentCommands.{is_shorter_repeated, manner_commands, opening_commands, run_commands}
 use Rattle.cept_writer.specs.SegmentCommands.{segment_commands, segments_commands, sign_in, signs_commands}
@@ -54,6 +53,7 @@ use Rattle.cept_writer.proofs.PageSpelled.{area_anywhere, dclut_anywhere, head_a
 use Rattle.cept_writer.proofs.PageSpelled.{implicit_anywhere, in_table, in_table-append, in_table-none, marker_textual}
 use Rattle.cept_writer.proofs.PageSpelled.{pen_textual, placed_anywhere, protected_textual, rows_anywhere, screen_anywhere}
 use Rattle.cept_writer.proofs.PageSpelled.{signs_coded, size_c1}
+use Rattle.cept_writer.proofs.Resting.{fixed_of}
 use Rattle.cept_writer.proofs.SegmentsDrawn.{Decides, IsPlaced, ends_in_row, placed_are}
 use Rattle.cept_writer.proofs.StrokesByPart.{all_range}
 
@@ -371,7 +371,7 @@ segments_anywhere decides k is =
     let list : List PlacedCell = written_below k.page.cells 960 in
     each_anywhere segment_commands (chains continues list)
     (each_chain continues (IsPlaced k.rows) (λ c. Anywhere (segment_commands c)) (segment_anywhere k.rows) list
-    (placed_are decides k.rows k.wrap k.page.cells (record { valid = is.page.cells; past = is.past })))
+    (placed_are decides (fixed_of k) k.page.cells (record { valid = is.page.cells; past = is.past })))
 
 -- ---- the page
 
@@ -379,7 +379,7 @@ module _ (forms : (a b : Form) → IsTrue (same_form a b) ↔ (a ≡ b)) (decide
   pub compact_spelled : (k : Core) → IsValidCore k → AreSpelled start_context (compact_commands k)
   unfolding compact_commands
   compact_spelled k v =
-      let head = command.FullDefaults c1_set.Parallel ∷ command.Format k.rows k.wrap ∷ [] in
+      let head = first_commands k in
       let colours = with_colour_header (changed_commands k.page.paints) in
       let area = area_commands k.area in
       let implicit = implicit_commands k.implicit in
@@ -388,7 +388,7 @@ module _ (forms : (a b : Form) → IsTrue (same_form a b) ↔ (a ≡ b)) (decide
       let screen = screen_commands k.page.screen_pen ++ rows in
       let patterns = defined_commands k.page.patterns ++ screen in
       let dclut = dclut_commands k.page.dclut ++ patterns in
-      anywhere-append head (colours ++ dclut) (head_anywhere k.rows k.wrap v.rows)
+      anywhere-append head (colours ++ dclut) (head_anywhere k v.rows v.revision)
       (anywhere-append colours dclut (colours_anywhere k v)
       (anywhere-append (dclut_commands k.page.dclut) patterns (dclut_anywhere k.page.dclut v.page.dclut)
       (anywhere-append (defined_commands k.page.patterns) screen (patterns_anywhere forms k v)

@@ -20,18 +20,18 @@ use Rattle.cept_profile.specs.Markers.{working_after_any_marker, working_after_m
 use Rattle.cept_profile.specs.Pens.{fast_after, fast_after_code, flash_of}
 use Rattle.cept_writer.specs.CellCommands.{marker_commands}
 use Rattle.cept_writer.proofs.Drawing.{Draws, draws_one, draws_silent}
-use Rattle.cept_writer.proofs.Resting.{Hand, hand_ahead, control_in_cell, moves_on, stays}
+use Rattle.cept_writer.proofs.Resting.{Fixed, Hand, hand_ahead, control_in_cell, moves_on, stays}
 
 -- under the serial set
 abbrev pub hand_under_serial : Hand → Hand
 hand_under_serial v = record v { c1 = c1sets.Serial }
 
 -- from rest but for protection the commands leave this marker, and control is the same afterwards
-pub record Leaves (rows : ℕ) (wrap : Bool) (protect : Bool) (v : Hand) (m : Marker) (cs : List Command) : Type 0 where
+pub record Leaves (fixed : Fixed) (protect : Bool) (v : Hand) (m : Marker) (cs : List Command) : Type 0 where
   pub hand : Hand
-  pub draws : Draws (control_in_cell rows wrap initial_sets None protect (hand_under_serial v)) cs
+  pub draws : Draws (control_in_cell fixed initial_sets None protect (hand_under_serial v)) cs
       (strokes.Put (record { row = v.row; column = v.column })
-      (record { what = whats.Marker m; protected = protect }) ∷ []) (control_in_cell rows wrap initial_sets None protect hand)
+      (record { what = whats.Marker m; protected = protect }) ∷ []) (control_in_cell fixed initial_sets None protect hand)
   pub row : v.column + 1 ≤ 40 → hand.row ≡ v.row
   pub column : v.column + 1 ≤ 40 → hand.column ≡ v.column + 1
   pub c1 : hand.c1 ≡ c1sets.Serial
@@ -73,24 +73,24 @@ mosaic_entry e =
 
 -- ---- one marker
 
-module _ (rows : ℕ) (wrap : Bool) (protect : Bool) where
+module _ (fixed : Fixed) (protect : Bool) where
   -- one column on within the row
-  on_in_row : (v : Hand) → v.column + 1 ≤ 40 → (hand_ahead rows wrap (hand_under_serial v) 1).row ≡ v.row
+  on_in_row : (v : Hand) → v.column + 1 ≤ 40 → (hand_ahead fixed (hand_under_serial v) 1).row ≡ v.row
   unfolding hand_ahead
   on_in_row v within = let is : leb (v.column + 1) 40 ≡ true = le-leb (v.column + 1) 40 within in rw is refl
 
-  on_by_one : (v : Hand) → v.column + 1 ≤ 40 → (hand_ahead rows wrap (hand_under_serial v) 1).column ≡ v.column + 1
+  on_by_one : (v : Hand) → v.column + 1 ≤ 40 → (hand_ahead fixed (hand_under_serial v) 1).column ≡ v.column + 1
   unfolding hand_ahead
   on_by_one v within = let is : leb (v.column + 1) 40 ≡ true = le-leb (v.column + 1) 40 within in rw is refl
 
   -- a code that leaves it
   coded : (v : Hand) (n : ℕ) (m : Marker) → marker_of v.table n ≡ Some m
-      → Leaves rows wrap protect v m (commands.C1 n ∷ [])
+      → Leaves fixed protect v m (commands.C1 n ∷ [])
   unfolding hand_ahead
   coded v n m is =
-      let s : ControlState = control_in_cell rows wrap initial_sets None protect (hand_under_serial v) in
+      let s : ControlState = control_in_cell fixed initial_sets None protect (hand_under_serial v) in
       record {
-        hand = record (hand_ahead rows wrap (hand_under_serial v) 1) {
+        hand = record (hand_ahead fixed (hand_under_serial v) 1) {
           run = run_after m v.run;
           step = step_after m v.step;
           fast = fast_after_code n v.fast;
@@ -100,11 +100,11 @@ module _ (rows : ℕ) (wrap : Bool) (protect : Bool) where
             { fast = fast_after_code n v.fast })) is
             ∙ ap (λ (w : Working). control_with s (record w
             { run = run_after m v.run; step = step_after m v.step; fast = fast_after_code n v.fast }))
-            (moves_on rows wrap initial_sets None protect (hand_under_serial v) 1))
+            (moves_on fixed initial_sets None protect (hand_under_serial v) 1))
             (ap (λ (o : Option Marker). strokes_of_any_marker s o) is
             ∙ ap (λ (more : List Stroke). strokes.Put (record { row = v.row; column = v.column })
             (record { what = whats.Marker m; protected = protect }) ∷ more)
-            (stays rows wrap initial_sets None protect (hand_under_serial v) 1));
+            (stays fixed initial_sets None protect (hand_under_serial v) 1));
         row = on_in_row v;
         column = on_by_one v;
         c1 = refl;
@@ -115,12 +115,12 @@ module _ (rows : ℕ) (wrap : Bool) (protect : Bool) where
 
   -- a colour by its table
   coloured : (v : Hand) (t n : ℕ) (m : Marker) → marker_of t n ≡ Some m
-      → Leaves rows wrap protect v m (commands.Table t ∷ commands.C1 n ∷ [])
+      → Leaves fixed protect v m (commands.Table t ∷ commands.C1 n ∷ [])
   coloured v t n m is =
       let there = coded (record v { table = t }) n m is in
       record {
         hand = there.hand;
-        draws = draws_silent _ (control_in_cell rows wrap initial_sets None protect (hand_under_serial (record v { table = t }))) _
+        draws = draws_silent _ (control_in_cell fixed initial_sets None protect (hand_under_serial (record v { table = t }))) _
             (commands.Table t) _ _ refl refl there.draws;
         row = there.row;
         column = there.column;
@@ -132,21 +132,21 @@ module _ (rows : ℕ) (wrap : Bool) (protect : Bool) where
 
   -- a flash mode
   moded : (v : Hand) (k : ℕ) (f : Flash) → flash_of k v.fast ≡ f
-      → Leaves rows wrap protect v (markers.Flash f) (commands.FlashMode k ∷ [])
+      → Leaves fixed protect v (markers.Flash f) (commands.FlashMode k ∷ [])
   unfolding hand_ahead
   moded v k f is =
-      let s : ControlState = control_in_cell rows wrap initial_sets None protect (hand_under_serial v) in
+      let s : ControlState = control_in_cell fixed initial_sets None protect (hand_under_serial v) in
       record {
-        hand = record (hand_ahead rows wrap (hand_under_serial v) 1) { fast = fast_after k v.fast };
+        hand = record (hand_ahead fixed (hand_under_serial v) 1) { fast = fast_after k v.fast };
         draws = draws_one _ _ (commands.FlashMode k) _
             (ap (λ (g : Flash). control_with s (record (working_after_marker s (markers.Flash g))
             { fast = fast_after k v.fast })) is
             ∙ ap (λ (w : Working). control_with s (record w { run = v.run; step = v.step; fast = fast_after k v.fast }))
-            (moves_on rows wrap initial_sets None protect (hand_under_serial v) 1))
+            (moves_on fixed initial_sets None protect (hand_under_serial v) 1))
             (ap (λ (g : Flash). strokes_of_marker s (markers.Flash g)) is
             ∙ ap (λ (more : List Stroke). strokes.Put (record { row = v.row; column = v.column })
             (record { what = whats.Marker (markers.Flash f); protected = protect }) ∷ more)
-            (stays rows wrap initial_sets None protect (hand_under_serial v) 1));
+            (stays fixed initial_sets None protect (hand_under_serial v) 1));
         row = on_in_row v;
         column = on_by_one v;
         c1 = refl;
@@ -156,18 +156,18 @@ module _ (rows : ℕ) (wrap : Bool) (protect : Bool) where
       }
 
   -- the end of concealing
-  revealed : (v : Hand) → Leaves rows wrap protect v (markers.Conceal false) (commands.StopConceal ∷ [])
+  revealed : (v : Hand) → Leaves fixed protect v (markers.Conceal false) (commands.StopConceal ∷ [])
   unfolding hand_ahead
   revealed v =
-      let s : ControlState = control_in_cell rows wrap initial_sets None protect (hand_under_serial v) in
+      let s : ControlState = control_in_cell fixed initial_sets None protect (hand_under_serial v) in
       record {
-        hand = hand_ahead rows wrap (hand_under_serial v) 1;
+        hand = hand_ahead fixed (hand_under_serial v) 1;
         draws = draws_one _ _ commands.StopConceal _
             (ap (λ (w : Working). control_with s (record w { run = v.run; step = v.step }))
-            (moves_on rows wrap initial_sets None protect (hand_under_serial v) 1))
+            (moves_on fixed initial_sets None protect (hand_under_serial v) 1))
             (ap (λ (more : List Stroke). strokes.Put (record { row = v.row; column = v.column })
             (record { what = whats.Marker (markers.Conceal false); protected = protect }) ∷ more)
-            (stays rows wrap initial_sets None protect (hand_under_serial v) 1));
+            (stays fixed initial_sets None protect (hand_under_serial v) 1));
         row = on_in_row v;
         column = on_by_one v;
         c1 = refl;
@@ -176,7 +176,7 @@ module _ (rows : ℕ) (wrap : Bool) (protect : Bool) where
         step = refl;
       }
 
-  pub marker_leaves : (v : Hand) (m : Marker) → Leaves rows wrap protect v m (marker_commands m)
+  pub marker_leaves : (v : Hand) (m : Marker) → Leaves fixed protect v m (marker_commands m)
   marker_leaves v (markers.Alpha e) = coloured v (e / 8) (0 + e % 8) (markers.Alpha e) (alpha_entry e)
   marker_leaves v (markers.Mosaic e) = coloured v (e / 8) (16 + e % 8) (markers.Mosaic e) (mosaic_entry e)
   marker_leaves v markers.BlackBack = coded v 28 markers.BlackBack refl

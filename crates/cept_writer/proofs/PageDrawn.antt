@@ -1,5 +1,6 @@
 -- The strokes of a written page, part by part, and control after it: as at the start but for what cells leave, with the
--- format, the area and implicit scrolling of the core.
+-- revision, the format, the area and implicit scrolling of the core. No row moves while a page is written, since the area
+-- and implicit scrolling come last; so the revision of the rules changes no stroke.
 use Rattle.std.proofs.Common.{◌≡◌, ℕ, ◌≤◌, ◌<◌, ◌⊎◌, Bool, true, false, cond, IfSome, Option, None, Some, List, []}
 use Rattle.std.proofs.Common.{◌∷◌, ◌++◌, flat_map, map, refl, sym, subst, inl, inr, arith}
 use Rattle.std.specs.List.{AllByRecursion, range_with_len}
@@ -24,14 +25,14 @@ use Rattle.cept_profile.specs.Control.{ControlState, initial_control}
 use Rattle.cept_profile.specs.PageParts.{dclut_in, paint_in, pattern_in, row_pen_in}
 use Rattle.cept_profile.specs.State.{Core}
 use Rattle.cept_writer.specs.AttributeCommands.{attributes_of, class_attributes, pen_commands}
-use Rattle.cept_writer.specs.PageCommands.{area_commands, at_row, dclut_commands}
+use Rattle.cept_writer.specs.PageCommands.{area_commands, at_row, dclut_commands, first_commands}
 use Rattle.cept_writer.specs.PageCommands.{implicit_commands, is_default_dclut}
 use Rattle.cept_writer.specs.PageCommands.{row_commands, rows_below, screen_commands, with_colour_header}
 use Rattle.cept_writer.proofs.AttributesSet.{HasCode, Strikes, row_strikes, screen_strikes}
 use Rattle.cept_writer.proofs.CellsWritten.{hand_at, position-hand_at, puts_below}
 use Rattle.cept_writer.proofs.Drawing.{Draws, draws_joined, draws_silent}
 use Rattle.cept_writer.proofs.StrokesByPart.{all_append}
-use Rattle.cept_writer.proofs.Resting.{AlwaysRests, Hand, Rests, rests_none, rests_range, control_at_rest}
+use Rattle.cept_writer.proofs.Resting.{AlwaysRests, Fixed, Hand, Rests, control_at_rest, fixed_of, rests_none, rests_range}
 
 -- ---- the strokes of a page
 
@@ -101,64 +102,64 @@ attributes_coded p is =
 
 -- ---- each part
 
-module _ (rows : ℕ) (wrap : Bool) where
-  pub headed : (cs : List Command) (made : List Stroke) → AlwaysRests rows wrap cs made
-      → AlwaysRests rows wrap (with_colour_header cs) made
+module _ (fixed : Fixed) where
+  pub headed : (cs : List Command) (made : List Stroke) → AlwaysRests fixed cs made
+      → AlwaysRests fixed (with_colour_header cs) made
   headed [] made rests v = rests v
   headed (c ∷ cs) made rests v =
       let there = rests v in
       record {
         hand = there.hand;
-        draws = draws_silent _ (control_at_rest rows wrap v) _ (commands.ColourHeader false) (c ∷ cs) _ refl refl there.draws;
+        draws = draws_silent _ (control_at_rest fixed v) _ (commands.ColourHeader false) (c ∷ cs) _ refl refl there.draws;
       }
 
-  pub dclut_rests : (dclut : List ℕ) → AlwaysRests rows wrap (dclut_commands dclut) (dclut_strokes dclut)
+  pub dclut_rests : (dclut : List ℕ) → AlwaysRests fixed (dclut_commands dclut) (dclut_strokes dclut)
   dclut_rests dclut v = by_test (is_default_dclut dclut) where
-    by_test : (same : Bool) → Rests rows wrap v (cond same [] (commands.ColourHeader true ∷ commands.ColourStart 0
+    by_test : (same : Bool) → Rests fixed v (cond same [] (commands.ColourHeader true ∷ commands.ColourStart 0
         ∷ commands.Dclut 0 (dclut_in dclut 0) ∷ commands.Dclut 1 (dclut_in dclut 1)
         ∷ commands.Dclut 2 (dclut_in dclut 2) ∷ commands.Dclut 3 (dclut_in dclut 3) ∷ []))
         (cond same [] (strokes.Dclut 0 (dclut_in dclut 0) ∷ strokes.Dclut 1 (dclut_in dclut 1)
         ∷ strokes.Dclut 2 (dclut_in dclut 2) ∷ strokes.Dclut 3 (dclut_in dclut 3) ∷ []))
-    by_test true = rests_none rows wrap v
+    by_test true = rests_none fixed v
     by_test false = record { hand = v; draws = record { control = refl; strokes = refl } }
 
-  pub screen_rests : (pen : Pen) → IsRowPen pen → AlwaysRests rows wrap (screen_commands pen) (screen_strokes pen)
+  pub screen_rests : (pen : Pen) → IsRowPen pen → AlwaysRests fixed (screen_commands pen) (screen_strokes pen)
   screen_rests pen is v =
-      let there = screen_strikes rows wrap v (attributes_of pen) (attributes_coded pen is) in
+      let there = screen_strikes fixed v (attributes_of pen) (attributes_coded pen is) in
       record { hand = record v { table = there.table }; draws = there.draws }
 
   -- a position before what isn't empty
-  at_row_rests : (r : ℕ) (cs : List Command) (made : List Stroke) → r ≤ rows
-      → ((v : Hand) → Strikes rows wrap (hand_at v (record { row = r; column = 1 })) made cs)
-      → AlwaysRests rows wrap (at_row r cs) made
+  at_row_rests : (r : ℕ) (cs : List Command) (made : List Stroke) → r ≤ fixed.rows
+      → ((v : Hand) → Strikes fixed (hand_at v (record { row = r; column = 1 })) made cs)
+      → AlwaysRests fixed (at_row r cs) made
   at_row_rests r [] made within there v =
       record { hand = v; draws = record { control = refl; strokes = (there v).draws.strokes } }
   at_row_rests r (c ∷ cs) made within there v = record {
     hand = record (hand_at v (record { row = r; column = 1 })) { table = (there v).table };
-    draws = draws_silent _ (control_at_rest rows wrap (hand_at v (record { row = r; column = 1 }))) _
-        (commands.Position r 1) (c ∷ cs) _ (position-hand_at rows wrap v (record { row = r; column = 1 }) within) refl
+    draws = draws_silent _ (control_at_rest fixed (hand_at v (record { row = r; column = 1 }))) _
+        (commands.Position r 1) (c ∷ cs) _ (position-hand_at fixed v (record { row = r; column = 1 }) within) refl
         (there v).draws;
   }
 
-  unset_rests : (r : ℕ) → AlwaysRests rows wrap (row_commands r unset_pen) (row_strokes_of r unset_pen)
+  unset_rests : (r : ℕ) → AlwaysRests fixed (row_commands r unset_pen) (row_strokes_of r unset_pen)
   unfolding attributes_of
-  unset_rests r v = rests_none rows wrap v
+  unset_rests r v = rests_none fixed v
 
-  row_rests : (r : ℕ) (pen : Pen) → (r ≤ rows) ⊎ (pen ≡ unset_pen) → IsRowPen pen
-      → AlwaysRests rows wrap (row_commands r pen) (row_strokes_of r pen)
+  row_rests : (r : ℕ) (pen : Pen) → (r ≤ fixed.rows) ⊎ (pen ≡ unset_pen) → IsRowPen pen
+      → AlwaysRests fixed (row_commands r pen) (row_strokes_of r pen)
   row_rests r pen (inl within) is =
       at_row_rests r (pen_commands (λ n. commands.FullRow n) pen) (row_strokes_of r pen) within
-      (λ v. row_strikes rows wrap (hand_at v (record { row = r; column = 1 })) (attributes_of pen) (attributes_coded pen is))
+      (λ v. row_strikes fixed (hand_at v (record { row = r; column = 1 })) (attributes_of pen) (attributes_coded pen is))
   row_rests r pen (inr unset) is =
-      subst (λ (p : Pen). AlwaysRests rows wrap (row_commands r p) (row_strokes_of r p)) (sym unset) (unset_rests r)
+      subst (λ (p : Pen). AlwaysRests fixed (row_commands r p) (row_strokes_of r p)) (sym unset) (unset_rests r)
 
   pub rows_rest : (pens : List Pen) → ((r : ℕ) → 1 ≤ r → r ≤ 24 → IsRowPen (row_pen_in pens r))
-      → ((r : ℕ) → 1 ≤ r → r ≤ 24 → rows < r → row_pen_in pens r ≡ unset_pen)
-      → AlwaysRests rows wrap (rows_below pens 24) (rows_strokes pens 24)
+      → ((r : ℕ) → 1 ≤ r → r ≤ 24 → fixed.rows < r → row_pen_in pens r ≡ unset_pen)
+      → AlwaysRests fixed (rows_below pens 24) (rows_strokes pens 24)
   unfolding rows_below rows_strokes
   rows_rest pens valid past =
-      rests_range rows wrap (λ r. row_commands r (row_pen_in pens r)) (λ r. row_strokes_of r (row_pen_in pens r)) 1 25
-      (λ r low high. row_rests r (row_pen_in pens r) (elim (cases_lt rows r)
+      rests_range fixed (λ r. row_commands r (row_pen_in pens r)) (λ r. row_strokes_of r (row_pen_in pens r)) 1 25
+      (λ r low high. row_rests r (row_pen_in pens r) (elim (cases_lt fixed.rows r)
       [ inl more ↦ inr (past r low (omega (arith, high)) more) | inr within ↦ inl within ])
       (valid r low (omega (arith, high)))) 1 24 (omega arith) (omega arith)
 
@@ -166,11 +167,11 @@ module _ (rows : ℕ) (wrap : Bool) where
 
 -- control with an area and implicit scrolling
 abbrev pub control_with_settings : Core → Hand → ControlState
-control_with_settings k v = record (control_at_rest k.rows k.wrap v) { area = k.area; implicit = k.implicit }
+control_with_settings k v = record (control_at_rest (fixed_of k) v) { area = k.area; implicit = k.implicit }
 
 pub settles : (k : Core) (v : Hand) (area : Option (ℕ × ℕ)) (implicit : Bool)
-    → Draws (control_at_rest k.rows k.wrap v) (area_commands area ++ implicit_commands implicit) []
-    (record (control_at_rest k.rows k.wrap v) { area = area; implicit = implicit })
+    → Draws (control_at_rest (fixed_of k) v) (area_commands area ++ implicit_commands implicit) []
+    (record (control_at_rest (fixed_of k) v) { area = area; implicit = implicit })
 settles k v None false = record { control = refl; strokes = refl }
 settles k v None true = record { control = refl; strokes = refl }
 settles k v (Some area) false = record { control = refl; strokes = refl }
@@ -194,6 +195,16 @@ first_hand = record {
   step = 1;
   table = 0;
 }
+
+-- the commands with which the page begins
+abbrev FirstDraws : Core → Type 0
+FirstDraws k = Draws initial_control (first_commands k) (first_strokes k.rows) (control_at_rest (fixed_of k) first_hand)
+
+pub first_draws : (k : Core) → (k.revision ≡ 1) ⊎ (k.revision ≡ 2) → FirstDraws k
+first_draws k (inl e) =
+    subst (λ (n : ℕ). FirstDraws (record k { revision = n })) (sym e) (record { control = refl; strokes = refl })
+first_draws k (inr e) =
+    subst (λ (n : ℕ). FirstDraws (record k { revision = n })) (sym e) (record { control = refl; strokes = refl })
 
 -- commands that make no stroke come last
 pub ends : (s t u : ControlState) (cs ds : List Command) (p : List Stroke) → Draws s cs p t → Draws t ds [] u

@@ -1,15 +1,13 @@
 -- The text of a page, put part by part.
-use Rattle.std.proofs.Common.{◌≡◌, ℕ, List, [], ◌∷◌, ◌++◌, sym, ◌∙◌, ap, subst, Err, Result}
-use Rattle.cept_codes.specs.declared.command.C1Set.TheVariants as c1sets
+use Rattle.std.proofs.Common.{◌≡◌, ℕ, List, ◌++◌, sym, ◌∙◌, ap, subst, Err, Result}
 use Rattle.cept_codes.specs.declared.command.Command.{Command}
-use Rattle.cept_codes.specs.declared.command.Command.TheVariants as commands
 use Rattle.cept_outside.specs.SinkState.{SinkState, PutsText}
 use Rattle.cept_parser.specs.Spelling.{spellings}
 use Rattle.cept_profile.specs.State.{Core}
 use Rattle.cept_writer.specs.CompactCommands.{changed_commands, compact_commands, defined_commands, page_text}
 use Rattle.cept_writer.specs.EntryPieces.{entry_numbered, entry_piece, pattern_numbered, pattern_piece, pieces_in_turn}
-use Rattle.cept_writer.specs.PageCommands.{area_commands, dclut_commands, implicit_commands, rows_below, screen_commands}
-use Rattle.cept_writer.specs.PageCommands.{with_colour_header}
+use Rattle.cept_writer.specs.PageCommands.{area_commands, dclut_commands, first_commands, implicit_commands, rows_below}
+use Rattle.cept_writer.specs.PageCommands.{screen_commands, with_colour_header}
 use Rattle.cept_writer.specs.SegmentCommands.{segments_commands}
 use Rattle.cept_writer.specs.SegmentPieces.{pieces_below}
 use Rattle.cept_writer.proofs.EntriesInTurn.{entries_are_pieces, patterns_are_pieces}
@@ -60,10 +58,6 @@ from_dclut k = spellings (dclut_commands k.page.dclut) ++ from_patterns k
 abbrev pub from_colours : Core → List ℕ
 from_colours k = spellings (with_colour_header (entry_pieces k)) ++ from_dclut k
 
--- a reset and the format
-abbrev pub beginning : Core → List Command
-beginning k = commands.FullDefaults c1sets.Parallel ∷ commands.Format k.rows k.wrap ∷ []
-
 nine : (a b c d e f g h i : List Command)
     → spellings (a ++ (b ++ (c ++ (d ++ (e ++ (f ++ (g ++ (h ++ i)))))))) ≡ spellings a ++ (spellings b ++ (spellings c
     ++ (spellings d ++ (spellings e ++ (spellings f ++ (spellings g ++ (spellings h ++ spellings i)))))))
@@ -79,18 +73,18 @@ nine a b c d e f g h i =
 -- the text of a page with these entries, patterns and cells
 abbrev text_with : Core → List Command → List Command → List Command → List ℕ
 text_with k entries patterns cells =
-    spellings (beginning k) ++ (spellings (with_colour_header entries) ++ (spellings (dclut_commands k.page.dclut)
+    spellings (first_commands k) ++ (spellings (with_colour_header entries) ++ (spellings (dclut_commands k.page.dclut)
     ++ (spellings patterns ++ (spellings (screen_commands k.page.screen_pen) ++ (spellings (rows_below k.page.row_pens 24)
     ++ (spellings cells ++ (spellings (area_commands k.area) ++ spellings (implicit_commands k.implicit))))))))
 
 page_parts : (k : Core) → cell_pieces k ≡ segments_commands k.page.cells
-    → page_text k ≡ spellings (beginning k) ++ from_colours k
+    → page_text k ≡ spellings (first_commands k) ++ from_colours k
 unfolding compact_commands
 page_parts k cells =
     let entries = changed_commands k.page.paints in
     let patterns = defined_commands k.page.patterns in
     let segments = segments_commands k.page.cells in
-    nine (beginning k) (with_colour_header entries) (dclut_commands k.page.dclut) patterns
+    nine (first_commands k) (with_colour_header entries) (dclut_commands k.page.dclut) patterns
     (screen_commands k.page.screen_pen) (rows_below k.page.row_pens 24) segments (area_commands k.area)
     (implicit_commands k.implicit)
     ∙ ap (λ (l : List Command). text_with k l patterns segments) (sym (entries_are_pieces k.page.paints))
@@ -100,7 +94,7 @@ page_parts k cells =
 -- the parts of a page were put
 pub page_put : {X E : Type 0} (k : Core) → cell_pieces k ≡ segments_commands k.page.cells
     → (r : Result X E) (s u : SinkState)
-    → PutsText s (spellings (beginning k) ++ from_colours k) r u → PutsText s (page_text k) r u
+    → PutsText s (spellings (first_commands k) ++ from_colours k) r u → PutsText s (page_text k) r u
 page_put k cells r s u puts = subst (λ (l : List ℕ). PutsText s l r u) (sym (page_parts k cells)) puts
 
 -- a failure that is handed on
@@ -111,10 +105,10 @@ handed_on {X} {E} r s u text is puts = subst (λ (q : Result X E). PutsText {X =
 -- a part of a page failed, and that is handed on
 pub page_failed : {X E : Type 0} {e : E} (k : Core) → cell_pieces k ≡ segments_commands k.page.cells
     → (r : Result X E) (s u : SinkState) → r ≡ Err e
-    → PutsText {X = X} {E = E} s (spellings (beginning k) ++ from_colours k) (Err e) u
+    → PutsText {X = X} {E = E} s (spellings (first_commands k) ++ from_colours k) (Err e) u
     → PutsText s (page_text k) r u
 page_failed k cells r s u is puts =
-    page_put k cells r s u (handed_on r s u (spellings (beginning k) ++ from_colours k) is puts)
+    page_put k cells r s u (handed_on r s u (spellings (first_commands k) ++ from_colours k) is puts)
 
 -- a text that was put in part, by other commands that are the same
 pub part_is : {X E : Type 0} {e : E} {cs ds : List Command} → cs ≡ ds → (s u : SinkState)

@@ -14,7 +14,6 @@ use Rattle.cept_codes.specs.declared.attribute.Size.{Size}
 use Rattle.cept_codes.specs.declared.attribute.Size.TheVariants as sizes
 use Rattle.cept_codes.specs.declared.cell.Marker.{Marker}
 use Rattle.cept_codes.specs.declared.cell.Marker.TheVariants as markers
-use Rattle.cept_codes.specs.declared.command.C1Set.TheVariants as c1_set
 use Rattle.cept_codes.specs.declared.command.Command.{Command}
 use Rattle.cept_codes.specs.declared.command.Command.TheVariants as command
 use Rattle.cept_codes.specs.declared.command.Form.{Form}
@@ -39,7 +38,7 @@ use Rattle.cept_writer.specs.AttributeCommands.{size_code, attribute_commands, a
 use Rattle.cept_writer.specs.CellCommands.{accent_commands, marker_commands}
 use Rattle.cept_writer.specs.CellCommands.{protected_commands}
 use Rattle.cept_writer.specs.PageCommands.{with_colour_header, is_default_dclut}
-use Rattle.cept_writer.specs.PageCommands.{dclut_commands, screen_commands}
+use Rattle.cept_writer.specs.PageCommands.{dclut_commands, first_commands, screen_commands}
 use Rattle.cept_writer.specs.PageCommands.{at_row, row_commands, rows_below, area_commands}
 use Rattle.cept_writer.specs.PageCommands.{implicit_commands}
 
@@ -353,9 +352,14 @@ unfolding spelling
 implicit_anywhere true x = textual_anywhere (implicit_commands true) (tt, tt) (inr refl) x
 implicit_anywhere false x = tt
 
-pub head_anywhere : (rows : ℕ) (wrap : Bool) → (rows ≡ 24) ⊎ (rows ≡ 20)
-    → Anywhere (command.FullDefaults c1_set.Parallel ∷ command.Format rows wrap ∷ [])
+pub head_anywhere : (k : Core) → (k.rows ≡ 24) ⊎ (k.rows ≡ 20) → (k.revision ≡ 1) ⊎ (k.revision ≡ 2)
+    → Anywhere (first_commands k)
 unfolding IsSpelled context_after
-head_anywhere rows wrap h x = (tt, refl, (h, refl, tt))
+head_anywhere k rows (inl e) =
+    subst (λ (n : ℕ). Anywhere (first_commands (record k { revision = n }))) (sym e)
+    (λ x. (tt, refl, (rows, refl, tt)))
+head_anywhere k rows (inr e) =
+    subst (λ (n : ℕ). Anywhere (first_commands (record k { revision = n }))) (sym e)
+    (λ x. (tt, refl, (inr refl, refl, (rows, refl, tt))))
 
 -- ---- its bytes

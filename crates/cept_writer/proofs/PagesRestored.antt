@@ -111,8 +111,7 @@ screen_is k =
 row_is : (k : Core) (r : ℕ) → 1 ≤ r → r < 1 + 24
     → row_pen_back (reverse (all_strokes k)) r ≡ row_pen_in k.page.row_pens r
 row_is k r low high =
-    folded_from_none (λ list. row_pen_back list r) (row_step r) IsWritten (λ s e _. row_more r s e) (all_strokes k)
-    (written k)
+    folded_from_none (λ list. row_pen_back list r) (row_step r) IsWritten (row_more r) (all_strokes k) (written k)
     ∙ of_rows (row_step r) (pieces k) unset_pen (row_left r) ∙ rows_made k.page.row_pens r low high
 
 cell_is : (k : Core) → IsValidCore k → (r c : ℕ) → OnScreen r c
@@ -162,4 +161,5 @@ core_drawn decides k is cs there i =
       wrap = (left i).wrap;
       area = (left i).area;
       implicit = (left i).implicit;
+      revision = (left i).revision;
     }

@@ -25,7 +25,8 @@ use Rattle.cept_writer.specs.PageCommands.{is_default_dclut}
 use Rattle.cept_writer.proofs.PageDrawn.{dclut_strokes, entries_strokes, entry_strokes, pattern_strokes, patterns_strokes}
 use Rattle.cept_writer.proofs.PageDrawn.{row_strokes_of, rows_strokes, screen_strokes}
 use Rattle.cept_writer.proofs.PenAttributes.{attributes-all}
-use Rattle.cept_writer.proofs.StrokesByPart.{AllOf, KeepsValue, IsKeptByOthers, all_range, value_after, kind_of, only_one}
+use Rattle.cept_writer.proofs.StrokesByPart.{AllOf, IsKeptByOthers, IsWritten, KeepsValue, all_range, kind_of, only_one}
+use Rattle.cept_writer.proofs.StrokesByPart.{value_after}
 use Rattle.cept_writer.proofs.StrokesByPart.Kind.{Colours, Names, Patterns, Rows, Screen}
 
 -- ---- colour entries
@@ -248,15 +249,17 @@ screen_made pen = screen_folded (attributes_of pen) unset_pen ∙ attributes-all
 abbrev pub row_step : ℕ → Stroke → Pen → Pen
 row_step r s x = row_pen_after s (λ _. x) r
 
-pub row_more : (r : ℕ) (s : Stroke) (earlier : List Stroke)
+pub row_more : (r : ℕ) (s : Stroke) (earlier : List Stroke) → IsWritten s
     → row_pen_back (s ∷ earlier) r ≡ row_step r s (row_pen_back earlier r)
-row_more r (strokes.RowAttr row attr) earlier = pen_said-cond (eqb row r) attr (row_pen_back earlier r)
-row_more r strokes.Wipe earlier = refl
-row_more r _ earlier = refl
+row_more r (strokes.RowAttr row attr) earlier written = pen_said-cond (eqb row r) attr (row_pen_back earlier r)
+row_more r strokes.Wipe earlier written = refl
+row_more r (strokes.Carry first last way) earlier written = elim (written refl) [ ]
+row_more r _ earlier written = refl
 
 pub row_left : (r : ℕ) → IsKeptByOthers (row_step r) Rows
 row_left r (strokes.RowAttr row attr) x own reset other = elim (own refl) [ ]
 row_left r strokes.Wipe x own reset other = elim (reset refl) [ ]
+row_left r (strokes.Carry first last way) x own reset other = elim (other refl) [ ]
 row_left r _ x own reset other = refl
 
 row_attributes : (r : ℕ) (list : List Attr) → AllOf Rows (map (λ attr. strokes.RowAttr r attr) list)

@@ -27,6 +27,7 @@ use Rattle.cept_writer.proofs.CompactSpelled.{closing_textual, manner_textual, o
 use Rattle.cept_writer.proofs.PageSpelled.{marker_textual}
 
 textual_valid : (c : Command) → IsTextual c → IsValidCommand c
+textual_valid (commands.Revision revision) h = h
 textual_valid (commands.Format rows wrap) h = h
 textual_valid (commands.Table k) h = h
 textual_valid (commands.C1 n) h = h

@@ -10,8 +10,19 @@ use Rattle.cept_codes.specs.declared.glyph.Glyph.{Glyph}
 use Rattle.cept_codes.specs.declared.stroke.Stroke.{Stroke}
 use Rattle.cept_profile.specs.Control.{ControlState, Sets, initial_sets}
 use Rattle.cept_profile.specs.Motions.{on_strokes, working_ahead}
+use Rattle.cept_profile.specs.State.{Core}
 use Rattle.cept_writer.specs.Chains.{Chain, members}
 use Rattle.cept_writer.proofs.Drawing.{Draws, draws_joined, draws_none}
+
+-- what stays while the parts of a page are written: the format, and the revision of the rules
+pub record Fixed : Type 0 where
+  pub rows : ℕ
+  pub wrap : Bool
+  pub revision : ℕ
+
+-- those of a core
+abbrev pub fixed_of : Core → Fixed
+fixed_of k = record { rows = k.rows; wrap = k.wrap; revision = k.revision }
 
 -- what cells leave as they please
 pub record Hand : Type 0 where
@@ -26,8 +37,8 @@ pub record Hand : Type 0 where
   pub table : ℕ
 
 -- control while a cell is written: with these sets, an accent that waits, and protection
-abbrev pub control_in_cell : ℕ → Bool → Sets → Option ℕ → Bool → Hand → ControlState
-control_in_cell rows wrap sets accent protect v = record {
+abbrev pub control_in_cell : Fixed → Sets → Option ℕ → Bool → Hand → ControlState
+control_in_cell fixed sets accent protect v = record {
   working = record {
     row = v.row;
     column = v.column;
@@ -42,60 +53,61 @@ control_in_cell rows wrap sets accent protect v = record {
     table = v.table;
     protect = protect;
   };
-  rows = rows;
-  wrap = wrap;
+  rows = fixed.rows;
+  wrap = fixed.wrap;
   area = None;
   implicit = false;
+  revision = fixed.revision;
   kept = None;
 }
 
 -- control at rest
-abbrev pub control_at_rest : ℕ → Bool → Hand → ControlState
-control_at_rest rows wrap v = control_in_cell rows wrap initial_sets None false v
+abbrev pub control_at_rest : Fixed → Hand → ControlState
+control_at_rest fixed v = control_in_cell fixed initial_sets None false v
 
 -- from rest the commands make these strokes and leave control at rest
-pub record Rests (rows : ℕ) (wrap : Bool) (v : Hand) (cs : List Command) (made : List Stroke) : Type 0 where
+pub record Rests (fixed : Fixed) (v : Hand) (cs : List Command) (made : List Stroke) : Type 0 where
   pub hand : Hand
-  pub draws : Draws (control_at_rest rows wrap v) cs made (control_at_rest rows wrap hand)
+  pub draws : Draws (control_at_rest fixed v) cs made (control_at_rest fixed hand)
 
-pub rests_none : (rows : ℕ) (wrap : Bool) (v : Hand) → Rests rows wrap v [] []
-rests_none rows wrap v = record { hand = v; draws = draws_none (control_at_rest rows wrap v) }
+pub rests_none : (fixed : Fixed) (v : Hand) → Rests fixed v [] []
+rests_none fixed v = record { hand = v; draws = draws_none (control_at_rest fixed v) }
 
 -- a part of the commands of a page, from whatever hand
-abbrev pub AlwaysRests : ℕ → Bool → List Command → List Stroke → Type 0
-AlwaysRests rows wrap cs made = (v : Hand) → Rests rows wrap v cs made
+abbrev pub AlwaysRests : Fixed → List Command → List Stroke → Type 0
+AlwaysRests fixed cs made = (v : Hand) → Rests fixed v cs made
 
-pub rests_joined : (rows : ℕ) (wrap : Bool) (cs ds : List Command) (p q : List Stroke) → AlwaysRests rows wrap cs p
-    → AlwaysRests rows wrap ds q → AlwaysRests rows wrap (cs ++ ds) (p ++ q)
-rests_joined rows wrap cs ds p q a b v =
+pub rests_joined : (fixed : Fixed) (cs ds : List Command) (p q : List Stroke) → AlwaysRests fixed cs p
+    → AlwaysRests fixed ds q → AlwaysRests fixed (cs ++ ds) (p ++ q)
+rests_joined fixed cs ds p q a b v =
     let first = a v in
     let second = b first.hand in
     record {
       hand = second.hand;
-      draws = draws_joined (control_at_rest rows wrap v) (control_at_rest rows wrap first.hand) (control_at_rest rows wrap second.hand)
+      draws = draws_joined (control_at_rest fixed v) (control_at_rest fixed first.hand) (control_at_rest fixed second.hand)
           cs ds p q first.draws second.draws;
     }
 
 -- parts by their numbers
-pub rests_range : (rows : ℕ) (wrap : Bool) (f : ℕ → List Command) (g : ℕ → List Stroke) (low bound : ℕ)
-    → ((j : ℕ) → low ≤ j → j < bound → AlwaysRests rows wrap (f j) (g j)) → (from n : ℕ) → low ≤ from → from + n ≤ bound
-    → AlwaysRests rows wrap (flat_map f (range_with_len from n)) (flat_map g (range_with_len from n))
-rests_range rows wrap f g low bound each from zero above below v = rests_none rows wrap v
-rests_range rows wrap f g low bound each from (suc n) above below v =
-    rests_joined rows wrap (f from) (flat_map f (range_with_len (from + 1) n)) (g from)
+pub rests_range : (fixed : Fixed) (f : ℕ → List Command) (g : ℕ → List Stroke) (low bound : ℕ)
+    → ((j : ℕ) → low ≤ j → j < bound → AlwaysRests fixed (f j) (g j)) → (from n : ℕ) → low ≤ from → from + n ≤ bound
+    → AlwaysRests fixed (flat_map f (range_with_len from n)) (flat_map g (range_with_len from n))
+rests_range fixed f g low bound each from zero above below v = rests_none fixed v
+rests_range fixed f g low bound each from (suc n) above below v =
+    rests_joined fixed (f from) (flat_map f (range_with_len (from + 1) n)) (g from)
     (flat_map g (range_with_len (from + 1) n)) (each from above (omega (arith, below)))
-    (rests_range rows wrap f g low bound each (from + 1) n (omega (arith, above)) (omega (arith, below))) v
+    (rests_range fixed f g low bound each (from + 1) n (omega (arith, above)) (omega (arith, below))) v
 
 -- chains of entries, of which each entry has its strokes
-pub rests_in_chains : {X : Type 0} (rows : ℕ) (wrap : Bool) (text : Chain X → List Command) (made : X → List Stroke)
-    (cs : List (Chain X)) → AllByRecursion (λ c. AlwaysRests rows wrap (text c) (flat_map made (members c))) cs
-    → AlwaysRests rows wrap (flat_map text cs) (flat_map made (flat_map members cs))
-rests_in_chains rows wrap text made [] each v = rests_none rows wrap v
-rests_in_chains rows wrap text made (c ∷ cs) each v =
-    subst (λ (l : List Stroke). Rests rows wrap v (text c ++ flat_map text cs) l)
+pub rests_in_chains : {X : Type 0} (fixed : Fixed) (text : Chain X → List Command) (made : X → List Stroke)
+    (cs : List (Chain X)) → AllByRecursion (λ c. AlwaysRests fixed (text c) (flat_map made (members c))) cs
+    → AlwaysRests fixed (flat_map text cs) (flat_map made (flat_map members cs))
+rests_in_chains fixed text made [] each v = rests_none fixed v
+rests_in_chains fixed text made (c ∷ cs) each v =
+    subst (λ (l : List Stroke). Rests fixed v (text c ++ flat_map text cs) l)
     (sym (flat_map-append made (members c) (flat_map members cs)))
-    (rests_joined rows wrap (text c) (flat_map text cs) (flat_map made (members c)) (flat_map made (flat_map members cs))
-    each.0 (rests_in_chains rows wrap text made cs each.1) v)
+    (rests_joined fixed (text c) (flat_map text cs) (flat_map made (members c)) (flat_map made (flat_map members cs))
+    each.0 (rests_in_chains fixed text made cs each.1) v)
 
 -- ---- moving on
 
@@ -107,32 +119,32 @@ abbrev column_on : Bool → Bool → ℕ → ℕ
 column_on wrap within c = cond within c (cond wrap 1 40)
 
 -- the hand n columns on
-unfoldable pub hand_ahead : ℕ → Bool → Hand → ℕ → Hand
-hand_ahead rows wrap v n = record v {
-  row = row_on rows wrap (leb (v.column + n) 40) v.row;
-  column = column_on wrap (leb (v.column + n) 40) (v.column + n);
+unfoldable pub hand_ahead : Fixed → Hand → ℕ → Hand
+hand_ahead fixed v n = record v {
+  row = row_on fixed.rows fixed.wrap (leb (v.column + n) 40) v.row;
+  column = column_on fixed.wrap (leb (v.column + n) 40) (v.column + n);
 }
 
-pub moves_on : (rows : ℕ) (wrap : Bool) (sets : Sets) (accent : Option ℕ) (protect : Bool) (v : Hand) (n : ℕ)
-    → working_ahead (control_in_cell rows wrap sets accent protect v) n (control_in_cell rows wrap sets accent protect v).working
-    ≡ (control_in_cell rows wrap sets accent protect (hand_ahead rows wrap v n)).working
+pub moves_on : (fixed : Fixed) (sets : Sets) (accent : Option ℕ) (protect : Bool) (v : Hand) (n : ℕ)
+    → working_ahead (control_in_cell fixed sets accent protect v) n (control_in_cell fixed sets accent protect v).working
+    ≡ (control_in_cell fixed sets accent protect (hand_ahead fixed v n)).working
 unfolding hand_ahead
-moves_on rows wrap sets accent protect v n = by_test (leb (v.column + n) 40) wrap where
+moves_on fixed sets accent protect v n = by_test (leb (v.column + n) 40) fixed.wrap where
   s : ControlState
-  s = control_in_cell rows wrap sets accent protect v
+  s = control_in_cell fixed sets accent protect v
 
   by_test : (within wraps : Bool) → cond within (record s.working { row = v.row; column = v.column + n })
-      (cond wraps (record s.working { row = cond (eqb v.row rows) (cond wraps 1 v.row) (v.row + 1); column = 1 })
+      (cond wraps (record s.working { row = cond (eqb v.row fixed.rows) (cond wraps 1 v.row) (v.row + 1); column = 1 })
       (record s.working { row = v.row; column = 40 }))
-      ≡ record s.working { row = row_on rows wraps within v.row; column = column_on wraps within (v.column + n) }
+      ≡ record s.working { row = row_on fixed.rows wraps within v.row; column = column_on wraps within (v.column + n) }
   by_test true wraps = refl
   by_test false true = refl
   by_test false false = refl
 
 -- no row scrolls
-pub stays : (rows : ℕ) (wrap : Bool) (sets : Sets) (accent : Option ℕ) (protect : Bool) (v : Hand) (n : ℕ)
-    → on_strokes (control_in_cell rows wrap sets accent protect v) n ≡ []
-stays rows wrap sets accent protect v n = by_test (leb (v.column + n) 40) wrap where
+pub stays : (fixed : Fixed) (sets : Sets) (accent : Option ℕ) (protect : Bool) (v : Hand) (n : ℕ)
+    → on_strokes (control_in_cell fixed sets accent protect v) n ≡ []
+stays fixed sets accent protect v n = by_test (leb (v.column + n) 40) fixed.wrap where
   none : List Stroke
   none = []
 

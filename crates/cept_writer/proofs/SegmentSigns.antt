@@ -35,7 +35,7 @@ use Rattle.cept_writer.specs.SegmentCommands.{closing_commands, is_shorter_repea
 use Rattle.cept_writer.specs.SegmentCommands.{signs_commands, unit_commands, unit_of_set}
 use Rattle.cept_writer.proofs.ChainLemmas.{chains_joined, each_chain}
 use Rattle.cept_writer.proofs.Drawing.{Draws, draws_joined, draws_none, draws_one, draws_silent}
-use Rattle.cept_writer.proofs.Resting.{Hand, control_in_cell, hand_ahead, moves_on, stays}
+use Rattle.cept_writer.proofs.Resting.{Fixed, Hand, control_in_cell, hand_ahead, moves_on, stays}
 use Rattle.cept_writer.proofs.SignsWritten.{accent_reads, byte_reads, first_sign_reads, graphic_result_of, sign_control}
 use Rattle.cept_writer.proofs.SignsWritten.{sign_reads, sign_strokes}
 
@@ -77,9 +77,9 @@ one_column c1sets.Serial w step narrow = step
 one_column c1sets.Parallel w step narrow = narrow
 
 -- one column on within the row
-ahead_within : (rows : ℕ) (wrap : Bool) (v : Hand) → v.column + 1 ≤ 40 → IsAt (hand_ahead rows wrap v 1) v.row (v.column + 1)
+ahead_within : (fixed : Fixed) (v : Hand) → v.column + 1 ≤ 40 → IsAt (hand_ahead fixed v 1) v.row (v.column + 1)
 unfolding hand_ahead
-ahead_within rows wrap v within =
+ahead_within fixed v within =
     let is : leb (v.column + 1) 40 ≡ true = le-leb (v.column + 1) 40 within in
     record { row = rw is refl; column = rw is refl }
 
@@ -97,24 +97,24 @@ length-equal_ones zero what = refl
 length-equal_ones (suc n) what = ap suc (length-equal_ones n what)
 
 -- in a segment the commands put these from the hand's place on, with these sets before and after
-pub record Writes (rows : ℕ) (wrap protect : Bool) (c1 : C1Set) (pen : Pen) (s : Sets) (v : Hand) (cs : List Command)
+pub record Writes (fixed : Fixed) (protect : Bool) (c1 : C1Set) (pen : Pen) (s : Sets) (v : Hand) (cs : List Command)
     (list : List What) : Type 0 where
   pub hand : Hand
   pub place : v.column + length list ≤ 40 → IsAt hand v.row (v.column + length list)
-  pub draws : Draws (control_in_cell rows wrap s None protect (in_segment c1 pen v)) cs
-      (puts_from protect v.row v.column list) (control_in_cell rows wrap s None protect (in_segment c1 pen hand))
+  pub draws : Draws (control_in_cell fixed s None protect (in_segment c1 pen v)) cs
+      (puts_from protect v.row v.column list) (control_in_cell fixed s None protect (in_segment c1 pen hand))
 
-module _ (rows : ℕ) (wrap protect : Bool) (c1 : C1Set) (pen : Pen) (s : Sets) where
-  writes_none : (v : Hand) → Writes rows wrap protect c1 pen s v [] []
+module _ (fixed : Fixed) (protect : Bool) (c1 : C1Set) (pen : Pen) (s : Sets) where
+  writes_none : (v : Hand) → Writes fixed protect c1 pen s v [] []
   writes_none v = record {
     hand = v;
     place = λ h. record { row = refl; column = omega arith };
-    draws = draws_none (control_in_cell rows wrap s None protect (in_segment c1 pen v));
+    draws = draws_none (control_in_cell fixed s None protect (in_segment c1 pen v));
   }
 
   pub writes_joined : (v : Hand) (a b : List Command) (xs ys : List What)
-      → (first : Writes rows wrap protect c1 pen s v a xs) → v.column + length xs ≤ 40
-      → Writes rows wrap protect c1 pen s first.hand b ys → Writes rows wrap protect c1 pen s v (a ++ b) (xs ++ ys)
+      → (first : Writes fixed protect c1 pen s v a xs) → v.column + length xs ≤ 40
+      → Writes fixed protect c1 pen s first.hand b ys → Writes fixed protect c1 pen s v (a ++ b) (xs ++ ys)
   writes_joined v a b xs ys first within second =
       let at = first.place within in
       let before : Hand = first.hand in
@@ -134,27 +134,27 @@ module _ (rows : ℕ) (wrap protect : Bool) (c1 : C1Set) (pen : Pen) (s : Sets) 
             let there = second.place (omega (arith, fits, long, column)) in
             let last = there.column in
             record { row = there.row ∙ at.row; column = omega (arith, last, long, column) };
-        draws = subst (λ (l : List Stroke). Draws (control_in_cell rows wrap s None protect (in_segment c1 pen v)) (a ++ b) l
-            (control_in_cell rows wrap s None protect (in_segment c1 pen after))) together
+        draws = subst (λ (l : List Stroke). Draws (control_in_cell fixed s None protect (in_segment c1 pen v)) (a ++ b) l
+            (control_in_cell fixed s None protect (in_segment c1 pen after))) together
             (draws_joined _ _ _ a b _ _ first.draws second.draws);
       }
 
   -- the same with other lists that are equal
   writes_as : (v : Hand) (a b : List Command) (xs ys : List What) → a ≡ b → xs ≡ ys
-      → Writes rows wrap protect c1 pen s v a xs → Writes rows wrap protect c1 pen s v b ys
+      → Writes fixed protect c1 pen s v a xs → Writes fixed protect c1 pen s v b ys
   writes_as v a b xs ys commands list writes =
-      subst (λ (l : List Command). Writes rows wrap protect c1 pen s v l ys) commands
-      (subst (λ (l : List What). Writes rows wrap protect c1 pen s v a l) list writes)
+      subst (λ (l : List Command). Writes fixed protect c1 pen s v l ys) commands
+      (subst (λ (l : List What). Writes fixed protect c1 pen s v a l) list writes)
 
   -- pieces one after the other, none of them empty
   module _ {X : Type 0} (text : X → List Command) (in_cells : X → List What) where
     abbrev pub IsWritten : X → Type 0
     IsWritten x = (1 ≤ length (in_cells x)) × ((v : Hand) → v.column + length (in_cells x) ≤ 41
-        → Writes rows wrap protect c1 pen s v (text x) (in_cells x))
+        → Writes fixed protect c1 pen s v (text x) (in_cells x))
 
     pub pieces_written : (xs : List X) → AllByRecursion IsWritten xs → (v : Hand)
         → v.column + length (flat_map in_cells xs) ≤ 41
-        → Writes rows wrap protect c1 pen s v (flat_map text xs) (flat_map in_cells xs)
+        → Writes fixed protect c1 pen s v (flat_map text xs) (flat_map in_cells xs)
     pieces_written [] all v fits = writes_none v
     pieces_written (x ∷ []) all v fits =
         let same = append-nil (in_cells x) in
@@ -176,41 +176,41 @@ module _ (rows : ℕ) (wrap protect : Bool) (c1 : C1Set) (pen : Pen) (s : Sets) 
 
 -- ---- signs
 
-module _ (rows : ℕ) (wrap protect : Bool) (c1 : C1Set) (pen : Pen) (narrow : columns_of_set pen.size ≡ 1) where
+module _ (fixed : Fixed) (protect : Bool) (c1 : C1Set) (pen : Pen) (narrow : columns_of_set pen.size ≡ 1) where
   -- a sign as it stands in a cell of the segment
   abbrev pub what_of : Glyph → What
   what_of g = content c1 g pen
 
   -- the hand after a sign
   abbrev after_sign : Hand → Glyph → Hand
-  after_sign v g = record (hand_ahead rows wrap v 1) { last = Some g }
+  after_sign v g = record (hand_ahead fixed v 1) { last = Some g }
 
   at_next : (v : Hand) (g : Glyph) → v.column + 1 ≤ 40 → IsAt (after_sign v g) v.row (v.column + 1)
   at_next v g within =
-      let there = ahead_within rows wrap v within in
+      let there = ahead_within fixed v within in
       record { row = there.row; column = there.column }
 
   moved_by_one : (s : Sets) (accent : Option ℕ) (v : Hand) (g : Glyph)
-      → control_in_cell rows wrap s None protect (record (hand_ahead rows wrap (in_segment c1 pen v)
-      (columns_of_sign (control_in_cell rows wrap s accent protect (in_segment c1 pen v)))) { last = Some g })
-      ≡ control_in_cell rows wrap s None protect (in_segment c1 pen (after_sign v g))
+      → control_in_cell fixed s None protect (record (hand_ahead fixed (in_segment c1 pen v)
+      (columns_of_sign (control_in_cell fixed s accent protect (in_segment c1 pen v)))) { last = Some g })
+      ≡ control_in_cell fixed s None protect (in_segment c1 pen (after_sign v g))
   unfolding hand_ahead
   moved_by_one s accent v g =
-      ap (λ (n : ℕ). control_in_cell rows wrap s None protect
-      (record (hand_ahead rows wrap (in_segment c1 pen v) n) { last = Some g }))
-      (one_column c1 (control_in_cell rows wrap s accent protect (in_segment c1 pen v)).working refl narrow)
+      ap (λ (n : ℕ). control_in_cell fixed s None protect
+      (record (hand_ahead fixed (in_segment c1 pen v) n) { last = Some g }))
+      (one_column c1 (control_in_cell fixed s accent protect (in_segment c1 pen v)).working refl narrow)
 
   -- a byte that gives a sign
   byte_draws : (s t : Sets) (accent : Option ℕ) (v : Hand) (code : ℕ) (g : Glyph)
       → graphic s code false ≡ graphic_result_of (reads.Glyph g) t
-      → Draws (control_in_cell rows wrap s accent protect (in_segment c1 pen v)) (commands.Graphic code ∷ [])
+      → Draws (control_in_cell fixed s accent protect (in_segment c1 pen v)) (commands.Graphic code ∷ [])
       (puts_from protect v.row v.column (what_of (sign_with_accent g.set g.code accent) ∷ []))
-      (control_in_cell rows wrap t None protect (in_segment c1 pen (after_sign v (sign_with_accent g.set g.code accent))))
+      (control_in_cell fixed t None protect (in_segment c1 pen (after_sign v (sign_with_accent g.set g.code accent))))
   byte_draws s t accent v code g gives =
       draws_one _ _ (commands.Graphic code) _
-      (sign_control rows wrap s t accent protect (in_segment c1 pen v) code g gives
+      (sign_control fixed s t accent protect (in_segment c1 pen v) code g gives
       ∙ moved_by_one t accent v (sign_with_accent g.set g.code accent))
-      (sign_strokes rows wrap s t accent protect (in_segment c1 pen v) code g gives)
+      (sign_strokes fixed s t accent protect (in_segment c1 pen v) code g gives)
 
   -- left bytes take the set that is locked to them
   left_is : (code : ℕ) → code ≤ 0x7F → is_left code ≡ true
@@ -219,9 +219,9 @@ module _ (rows : ℕ) (wrap protect : Bool) (c1 : C1Set) (pen : Pen) (narrow : c
   -- a sign among those of its set is put, and the hand goes on
   abbrev UnitDraws : SetId → Hand → Glyph → List Command → Type 0
   UnitDraws set v g cs =
-      Draws (control_in_cell rows wrap (sets_among set) None protect (in_segment c1 pen v)) cs
+      Draws (control_in_cell fixed (sets_among set) None protect (in_segment c1 pen v)) cs
       (puts_from protect v.row v.column (what_of g ∷ []))
-      (control_in_cell rows wrap (sets_among set) None protect (in_segment c1 pen (after_sign v g)))
+      (control_in_cell fixed (sets_among set) None protect (in_segment c1 pen (after_sign v g)))
 
   accented : (v : Hand) (code accent : ℕ) → code ≤ 0x7F → 0x40 ≤ accent → accent ≤ 0x4F
       → UnitDraws sets.P v (record { set = sets.P; code = code; accent = accent })
@@ -233,9 +233,9 @@ module _ (rows : ℕ) (wrap protect : Bool) (c1 : C1Set) (pen : Pen) (narrow : c
       let gives = byte_reads initial_sets false sets.P code (reads.Glyph (sign sets.P code)) below
       (ap (λ (t : Bool). cond t sets.P sets.S) (left_is code below)) (first_sign_reads code) in
       let single : ControlState =
-      control_in_cell rows wrap (sets_with_single initial_sets 2) None protect (in_segment c1 pen v) in
+      control_in_cell fixed (sets_with_single initial_sets 2) None protect (in_segment c1 pen v) in
       draws_silent _ single _ (commands.Single 2) _ _ refl refl
-      (draws_silent single (control_in_cell rows wrap initial_sets (Some accent) protect (in_segment c1 pen v)) _
+      (draws_silent single (control_in_cell fixed initial_sets (Some accent) protect (in_segment c1 pen v)) _
       (commands.Graphic accent) _ _
       (ap (λ (r : GraphicResult). control_with single
       (working_after_read (control_with single (working_with_sets r.sets single.working)) r.read)) waits)
@@ -256,7 +256,7 @@ module _ (rows : ℕ) (wrap protect : Bool) (c1 : C1Set) (pen : Pen) (narrow : c
       let single : Sets = sets_with_single initial_sets 2 in
       let no_space : eqb code 0x20 ≡ false = grind (arith, nat_tests) in
       let no_accent : is_accent sets.S code ≡ false = grind (arith, nat_tests) in
-      draws_silent _ (control_in_cell rows wrap single None protect (in_segment c1 pen v)) _ (commands.Single 2) _ _ refl
+      draws_silent _ (control_in_cell fixed single None protect (in_segment c1 pen v)) _ (commands.Single 2) _ _ refl
       refl
       (byte_draws single initial_sets None v code (sign sets.S code)
       (byte_reads single false sets.S code (reads.Glyph (sign sets.S code)) is.1 refl
@@ -268,7 +268,7 @@ module _ (rows : ℕ) (wrap protect : Bool) (c1 : C1Set) (pen : Pen) (narrow : c
   third v code is =
       let single : Sets = sets_with_single initial_sets 3 in
       let no_space : eqb code 0x20 ≡ false = grind (arith, nat_tests) in
-      draws_silent _ (control_in_cell rows wrap single None protect (in_segment c1 pen v)) _ (commands.Single 3) _ _ refl
+      draws_silent _ (control_in_cell fixed single None protect (in_segment c1 pen v)) _ (commands.Single 3) _ _ refl
       refl
       (byte_draws single initial_sets None v code (sign sets.N code)
       (byte_reads single false sets.N code (reads.Glyph (sign sets.N code)) is.1 refl (sign_reads sets.N code no_space refl)))
@@ -316,7 +316,7 @@ module _ (rows : ℕ) (wrap protect : Bool) (c1 : C1Set) (pen : Pen) (narrow : c
   unit_draws sets.D v code accent is none = unaccented sets.D v code accent _ none (downloaded v code is)
 
   unit_written : (v : Hand) (g : Glyph) → IsValidGlyph g
-      → Writes rows wrap protect c1 pen (sets_among g.set) v (unit_commands g) (what_of g ∷ [])
+      → Writes fixed protect c1 pen (sets_among g.set) v (unit_commands g) (what_of g ∷ [])
   unit_written v g is = record {
     hand = after_sign v g;
     place = λ fits. at_next v g fits;
@@ -327,31 +327,31 @@ module _ (rows : ℕ) (wrap protect : Bool) (c1 : C1Set) (pen : Pen) (narrow : c
 
   -- one more copy of a sign
   copy_after : (s : Sets) (v : Hand) (g : Glyph)
-      → control_with (control_in_cell rows wrap s None protect (in_segment c1 pen v))
-      (working_after_sign (control_in_cell rows wrap s None protect (in_segment c1 pen v)) g)
-      ≡ control_in_cell rows wrap s None protect (in_segment c1 pen (after_sign v g))
+      → control_with (control_in_cell fixed s None protect (in_segment c1 pen v))
+      (working_after_sign (control_in_cell fixed s None protect (in_segment c1 pen v)) g)
+      ≡ control_in_cell fixed s None protect (in_segment c1 pen (after_sign v g))
   copy_after s v g =
-      let from : ControlState = control_in_cell rows wrap s None protect (in_segment c1 pen v) in
+      let from : ControlState = control_in_cell fixed s None protect (in_segment c1 pen v) in
       ap (λ (w : Working). control_with from (record w { last = Some g; accent = None }))
-      (moves_on rows wrap s None protect (in_segment c1 pen v) (columns_of_sign from))
+      (moves_on fixed s None protect (in_segment c1 pen v) (columns_of_sign from))
       ∙ moved_by_one s None v g
 
   copy_strokes : (s : Sets) (v : Hand) (g : Glyph)
-      → strokes_of_sign (control_in_cell rows wrap s None protect (in_segment c1 pen v)) g
+      → strokes_of_sign (control_in_cell fixed s None protect (in_segment c1 pen v)) g
       ≡ puts_from protect v.row v.column (what_of g ∷ [])
   copy_strokes s v g =
-      let from : ControlState = control_in_cell rows wrap s None protect (in_segment c1 pen v) in
+      let from : ControlState = control_in_cell fixed s None protect (in_segment c1 pen v) in
       ap (λ (more : List Stroke). strokes.Put (record { row = v.row; column = v.column })
       (record { what = what_of g; protected = protect }) ∷ more)
-      (stays rows wrap s None protect (in_segment c1 pen v) (columns_of_sign from))
+      (stays fixed s None protect (in_segment c1 pen v) (columns_of_sign from))
 
   -- n copies of a sign within the row
   record Copies (s : Sets) (v : Hand) (g : Glyph) (n : ℕ) : Type 0 where
     hand : Hand
     place : v.column + n ≤ 40 → IsAt hand v.row (v.column + n)
-    control : control_after_copies n (control_in_cell rows wrap s None protect (in_segment c1 pen v)) g
-        ≡ control_in_cell rows wrap s None protect (in_segment c1 pen hand)
-    made : strokes_of_copies n (control_in_cell rows wrap s None protect (in_segment c1 pen v)) g
+    control : control_after_copies n (control_in_cell fixed s None protect (in_segment c1 pen v)) g
+        ≡ control_in_cell fixed s None protect (in_segment c1 pen hand)
+    made : strokes_of_copies n (control_in_cell fixed s None protect (in_segment c1 pen v)) g
         ≡ puts_from protect v.row v.column (equal_ones n (what_of g))
 
   copies : (s : Sets) (v : Hand) (g : Glyph) (n : ℕ) → v.column + n ≤ 41 → Copies s v g n
@@ -361,7 +361,7 @@ module _ (rows : ℕ) (wrap protect : Bool) (c1 : C1Set) (pen : Pen) (narrow : c
   copies s v g (suc n) fits =
       let before = copies s v g n (omega (arith, fits)) in
       let w : Hand = before.hand in
-      let from : ControlState = control_in_cell rows wrap s None protect (in_segment c1 pen v) in
+      let from : ControlState = control_in_cell fixed s None protect (in_segment c1 pen v) in
       let at = before.place (omega (arith, fits)) in
       let column = at.column in
       let what : What = what_of g in
@@ -387,10 +387,10 @@ module _ (rows : ℕ) (wrap protect : Bool) (c1 : C1Set) (pen : Pen) (narrow : c
       }
 
   repeat_written : (s : Sets) (v : Hand) (g : Glyph) (n : ℕ) → v.last ≡ Some g → v.column + n ≤ 41
-      → Writes rows wrap protect c1 pen s v (commands.Repeat n ∷ []) (equal_ones n (what_of g))
+      → Writes fixed protect c1 pen s v (commands.Repeat n ∷ []) (equal_ones n (what_of g))
   repeat_written s v g n last fits =
       let there = copies s v g n fits in
-      let from : ControlState = control_in_cell rows wrap s None protect (in_segment c1 pen v) in
+      let from : ControlState = control_in_cell fixed s None protect (in_segment c1 pen v) in
       let long = length-equal_ones n (what_of g) in
       record {
         hand = there.hand;
@@ -420,13 +420,13 @@ module _ (rows : ℕ) (wrap protect : Bool) (c1 : C1Set) (pen : Pen) (narrow : c
   IsOfSet set g = (g.set ≡ set) × IsValidGlyph g
 
   unit_of_written : (set : SetId) (v : Hand) (g : Glyph) → IsOfSet set g
-      → Writes rows wrap protect c1 pen (sets_among set) v (unit_commands g) (what_of g ∷ [])
+      → Writes fixed protect c1 pen (sets_among set) v (unit_commands g) (what_of g ∷ [])
   unit_of_written set v g is =
-      subst (λ (k : SetId). Writes rows wrap protect c1 pen (sets_among k) v (unit_commands g) (what_of g ∷ [])) is.0
+      subst (λ (k : SetId). Writes fixed protect c1 pen (sets_among k) v (unit_commands g) (what_of g ∷ [])) is.0
       (unit_written v g is.1)
 
   each_unit : (set : SetId) (list : List Glyph) → AllByRecursion (IsOfSet set) list
-      → AllByRecursion (IsWritten rows wrap protect c1 pen (sets_among set) unit_commands (λ g. what_of g ∷ [])) list
+      → AllByRecursion (IsWritten fixed protect c1 pen (sets_among set) unit_commands (λ g. what_of g ∷ [])) list
   each_unit set [] all = tt
   each_unit set (g ∷ list) all =
       ((omega arith, λ v fits. unit_of_written set v g all.0), each_unit set list all.1)
@@ -437,17 +437,17 @@ module _ (rows : ℕ) (wrap protect : Bool) (c1 : C1Set) (pen : Pen) (narrow : c
 
   units_written : (set : SetId) (list : List Glyph) → AllByRecursion (IsOfSet set) list → (v : Hand)
       → v.column + length (map what_of list) ≤ 41
-      → Writes rows wrap protect c1 pen (sets_among set) v (flat_map unit_commands list) (map what_of list)
+      → Writes fixed protect c1 pen (sets_among set) v (flat_map unit_commands list) (map what_of list)
   units_written set list all v fits =
       let long = ap length (singles list) in
-      writes_as rows wrap protect c1 pen (sets_among set) v _ _ _ _ refl (singles list)
-      (pieces_written rows wrap protect c1 pen (sets_among set) unit_commands (λ g. what_of g ∷ []) list
+      writes_as fixed protect c1 pen (sets_among set) v _ _ _ _ refl (singles list)
+      (pieces_written fixed protect c1 pen (sets_among set) unit_commands (λ g. what_of g ∷ []) list
       (each_unit set list all) v (omega (arith, fits, long)))
 
   run_written : ((a b : Glyph) → IsTrue (same_glyph a b) ↔ (a ≡ b)) → (set : SetId) (run : Chain Glyph)
       → GoOnFrom same_glyph run.first run.more → AllByRecursion (IsOfSet set) (members run) → (v : Hand)
       → v.column + length (map what_of (members run)) ≤ 41
-      → Writes rows wrap protect c1 pen (sets_among set) v (run_commands run) (map what_of (members run))
+      → Writes fixed protect c1 pen (sets_among set) v (run_commands run) (map what_of (members run))
   run_written decides set run linked all v fits =
       by_test (is_shorter_repeated (length run.more) run.first) refl where
         some : (k : ℕ) → 3 ≤ k * length (spellings (unit_commands run.first)) → 1 ≤ k
@@ -456,7 +456,7 @@ module _ (rows : ℕ) (wrap protect : Bool) (c1 : C1Set) (pen : Pen) (narrow : c
             absurd (omega (arith, many, none))
         some (suc k) many = omega arith
 
-        repeated : 1 ≤ length run.more → Writes rows wrap protect c1 pen (sets_among set) v
+        repeated : 1 ≤ length run.more → Writes fixed protect c1 pen (sets_among set) v
             (unit_commands run.first ++ commands.Repeat (length run.more) ∷ []) (map what_of (members run))
         repeated more =
             let long = length-map run.more what_of in
@@ -464,24 +464,24 @@ module _ (rows : ℕ) (wrap protect : Bool) (c1 : C1Set) (pen : Pen) (narrow : c
             let within : v.column + 1 ≤ 40 = omega (arith, fits, long, more) in
             let at = at_next v run.first within in
             let column = at.column in
-            let unit : Writes rows wrap protect c1 pen (sets_among set) v (unit_commands run.first)
+            let unit : Writes fixed protect c1 pen (sets_among set) v (unit_commands run.first)
             (what_of run.first ∷ []) = record {
               hand = after_sign v run.first;
               place = λ h. at_next v run.first h;
               draws = subst (λ (k : SetId). Draws
-                  (control_in_cell rows wrap (sets_among k) None protect (in_segment c1 pen v)) (unit_commands run.first)
+                  (control_in_cell fixed (sets_among k) None protect (in_segment c1 pen v)) (unit_commands run.first)
                   (puts_from protect v.row v.column (what_of run.first ∷ []))
-                  (control_in_cell rows wrap (sets_among k) None protect (in_segment c1 pen (after_sign v run.first))))
+                  (control_in_cell fixed (sets_among k) None protect (in_segment c1 pen (after_sign v run.first))))
                   all.0.0 (unit_draws run.first.set v run.first.code run.first.accent all.0.1.code all.0.1.accent);
             } in
-            writes_as rows wrap protect c1 pen (sets_among set) v _ _ _ _ refl
+            writes_as fixed protect c1 pen (sets_among set) v _ _ _ _ refl
             (ap (λ (l : List What). what_of run.first ∷ l) (all_equal decides run.first run.more linked))
-            (writes_joined rows wrap protect c1 pen (sets_among set) v (unit_commands run.first)
+            (writes_joined fixed protect c1 pen (sets_among set) v (unit_commands run.first)
             (commands.Repeat (length run.more) ∷ []) (what_of run.first ∷ [])
             (equal_ones (length run.more) (what_of run.first)) unit within (rest (omega (arith, fits, long, column))))
 
         by_test : (shorter : Bool) → is_shorter_repeated (length run.more) run.first ≡ shorter
-            → Writes rows wrap protect c1 pen (sets_among set) v
+            → Writes fixed protect c1 pen (sets_among set) v
             (cond shorter (unit_commands run.first ++ commands.Repeat (length run.more) ∷ [])
             (flat_map unit_commands (members run))) (map what_of (members run))
         by_test true e =
@@ -494,17 +494,17 @@ module _ (rows : ℕ) (wrap protect : Bool) (c1 : C1Set) (pen : Pen) (narrow : c
   -- all runs of signs of one set
   runs_written : ((a b : Glyph) → IsTrue (same_glyph a b) ↔ (a ≡ b)) → (set : SetId) (list : List Glyph)
       → AllByRecursion (IsOfSet set) list → (v : Hand) → v.column + length (map what_of list) ≤ 41
-      → Writes rows wrap protect c1 pen (sets_among set) v (flat_map run_commands (chains same_glyph list))
+      → Writes fixed protect c1 pen (sets_among set) v (flat_map run_commands (chains same_glyph list))
       (map what_of list)
   runs_written decides set list all v fits =
       let runs : List (Chain Glyph) = chains same_glyph list in
       let same : flat_map (λ run. map what_of (members run)) runs ≡ map what_of list =
       pieces_mapped runs ∙ ap (map what_of) (chains_joined same_glyph list) in
       let long = ap length same in
-      writes_as rows wrap protect c1 pen (sets_among set) v _ _ _ _ refl same
-      (pieces_written rows wrap protect c1 pen (sets_among set) run_commands (λ run. map what_of (members run)) runs
+      writes_as fixed protect c1 pen (sets_among set) v _ _ _ _ refl same
+      (pieces_written fixed protect c1 pen (sets_among set) run_commands (λ run. map what_of (members run)) runs
       (each_chain same_glyph (IsOfSet set)
-      (IsWritten rows wrap protect c1 pen (sets_among set) run_commands (λ run. map what_of (members run)))
+      (IsWritten fixed protect c1 pen (sets_among set) run_commands (λ run. map what_of (members run)))
       (λ run linked valid. (some_cells run, run_written decides set run linked valid)) list all) v
       (omega (arith, fits, long)))
     where
@@ -515,16 +515,16 @@ module _ (rows : ℕ) (wrap protect : Bool) (c1 : C1Set) (pen : Pen) (narrow : c
           ap (λ (l : List What). map what_of (members run) ++ l) (pieces_mapped runs)
           ∙ sym (map-append what_of (members run) (flat_map members runs))
 
-  opened : (set : SetId) (v : Hand) → Draws (control_in_cell rows wrap initial_sets None protect (in_segment c1 pen v))
-      (opening_commands set) [] (control_in_cell rows wrap (sets_among set) None protect (in_segment c1 pen v))
+  opened : (set : SetId) (v : Hand) → Draws (control_in_cell fixed initial_sets None protect (in_segment c1 pen v))
+      (opening_commands set) [] (control_in_cell fixed (sets_among set) None protect (in_segment c1 pen v))
   opened sets.P v = record { control = refl; strokes = refl }
   opened sets.S v = record { control = refl; strokes = refl }
   opened sets.M v = record { control = refl; strokes = refl }
   opened sets.N v = record { control = refl; strokes = refl }
   opened sets.D v = record { control = refl; strokes = refl }
 
-  closed : (set : SetId) (v : Hand) → Draws (control_in_cell rows wrap (sets_among set) None protect (in_segment c1 pen v))
-      (closing_commands set) [] (control_in_cell rows wrap initial_sets None protect (in_segment c1 pen v))
+  closed : (set : SetId) (v : Hand) → Draws (control_in_cell fixed (sets_among set) None protect (in_segment c1 pen v))
+      (closing_commands set) [] (control_in_cell fixed initial_sets None protect (in_segment c1 pen v))
   closed sets.P v = record { control = refl; strokes = refl }
   closed sets.S v = record { control = refl; strokes = refl }
   closed sets.M v = record { control = refl; strokes = refl }
@@ -534,7 +534,7 @@ module _ (rows : ℕ) (wrap protect : Bool) (c1 : C1Set) (pen : Pen) (narrow : c
   -- signs of one set that stand together
   pub signs_written : ((a b : Glyph) → IsTrue (same_glyph a b) ↔ (a ≡ b)) → (set : SetId) (list : List Glyph)
       → AllByRecursion (IsOfSet set) list → (v : Hand) → v.column + length (map what_of list) ≤ 41
-      → Writes rows wrap protect c1 pen initial_sets v (signs_commands set list) (map what_of list)
+      → Writes fixed protect c1 pen initial_sets v (signs_commands set list) (map what_of list)
   signs_written decides set list all v fits =
       let runs = runs_written decides set list all v fits in
       let after : Hand = runs.hand in
@@ -543,8 +543,8 @@ module _ (rows : ℕ) (wrap protect : Bool) (c1 : C1Set) (pen : Pen) (narrow : c
         hand = after;
         place = runs.place;
         draws = subst (λ (l : List Stroke). Draws
-            (control_in_cell rows wrap initial_sets None protect (in_segment c1 pen v)) (signs_commands set list) l
-            (control_in_cell rows wrap initial_sets None protect (in_segment c1 pen after))) (append-nil made)
+            (control_in_cell fixed initial_sets None protect (in_segment c1 pen v)) (signs_commands set list) l
+            (control_in_cell fixed initial_sets None protect (in_segment c1 pen after))) (append-nil made)
             (draws_joined _ _ _ (opening_commands set)
             (flat_map run_commands (chains same_glyph list) ++ closing_commands set) [] (made ++ []) (opened set v)
             (draws_joined _ _ _ (flat_map run_commands (chains same_glyph list)) (closing_commands set) made [] runs.draws

@@ -47,7 +47,7 @@ use Rattle.cept_writer.proofs.ChainLemmas.{all_in_chains, chains_joined, chains_
 use Rattle.cept_writer.proofs.Drawing.{Draws, draws_joined, draws_one, draws_silent}
 use Rattle.cept_writer.proofs.MarkersLeft.{marker_leaves}
 use Rattle.cept_writer.proofs.PenAttributes.{attributes-all}
-use Rattle.cept_writer.proofs.Resting.{AlwaysRests, Hand, Rests, control_at_rest, control_in_cell, rests_in_chains}
+use Rattle.cept_writer.proofs.Resting.{AlwaysRests, Fixed, Hand, Rests, control_at_rest, control_in_cell, rests_in_chains}
 use Rattle.cept_writer.proofs.SegmentSigns.{Writes, in_segment, puts_from, puts_from-append, signs_written}
 use Rattle.cept_writer.proofs.StrokesByPart.{all_range}
 
@@ -114,11 +114,11 @@ signs_valid c1 pen set (whats.Marker m ∷ list) are all = absurd are.0
 -- ---- markers
 
 -- what stands at the end of a segment: after it the hand is as it pleases
-record Ends (rows : ℕ) (wrap protect : Bool) (c1 : C1Set) (pen : Pen) (v : Hand) (cs : List Command) (list : List What)
+record Ends (fixed : Fixed) (protect : Bool) (c1 : C1Set) (pen : Pen) (v : Hand) (cs : List Command) (list : List What)
     : Type 0 where
   hand : Hand
-  draws : Draws (control_in_cell rows wrap initial_sets None protect (in_segment c1 pen v)) cs
-      (puts_from protect v.row v.column list) (control_in_cell rows wrap initial_sets None protect hand)
+  draws : Draws (control_in_cell fixed initial_sets None protect (in_segment c1 pen v)) cs
+      (puts_from protect v.row v.column list) (control_in_cell fixed initial_sets None protect hand)
 
 no_run : (m : Marker) → ends_segment m ≡ false → run_after m false ≡ false
 no_run (markers.Mosaic e) is = absurd cc
@@ -128,17 +128,17 @@ one_step : (m : Marker) → ends_segment m ≡ false → step_after m 1 ≡ 1
 one_step (markers.Size size) is = absurd cc
 one_step _ is = refl
 
-module _ (rows : ℕ) (wrap protect : Bool) (pen : Pen) where
+module _ (fixed : Fixed) (protect : Bool) (pen : Pen) where
   marker_ends : (v : Hand) (m : Marker)
-      → Ends rows wrap protect c1sets.Serial pen v (marker_commands m) (whats.Marker m ∷ [])
+      → Ends fixed protect c1sets.Serial pen v (marker_commands m) (whats.Marker m ∷ [])
   marker_ends v m =
-      let there = marker_leaves rows wrap protect (in_segment c1sets.Serial pen v) m in
+      let there = marker_leaves fixed protect (in_segment c1sets.Serial pen v) m in
       record { hand = there.hand; draws = there.draws }
 
   marker_goes : (v : Hand) (m : Marker) → ends_segment m ≡ false
-      → Writes rows wrap protect c1sets.Serial pen initial_sets v (marker_commands m) (whats.Marker m ∷ [])
+      → Writes fixed protect c1sets.Serial pen initial_sets v (marker_commands m) (whats.Marker m ∷ [])
   marker_goes v m is =
-      let there = marker_leaves rows wrap protect (in_segment c1sets.Serial pen v) m in
+      let there = marker_leaves fixed protect (in_segment c1sets.Serial pen v) m in
       let h : Hand = there.hand in
       let run : h.run ≡ false = there.run ∙ no_run m is in
       let step : h.step ≡ 1 = there.step ∙ one_step m is in
@@ -159,9 +159,9 @@ module _ (rows : ℕ) (wrap protect : Bool) (pen : Pen) where
         hand = h;
         place = λ fits. record { row = there.row fits; column = there.column fits };
         draws = subst (λ (q : Hand). Draws
-            (control_in_cell rows wrap initial_sets None protect (in_segment c1sets.Serial pen v)) (marker_commands m)
+            (control_in_cell fixed initial_sets None protect (in_segment c1sets.Serial pen v)) (marker_commands m)
             (puts_from protect v.row v.column (whats.Marker m ∷ []))
-            (control_in_cell rows wrap initial_sets None protect q)) stays_in there.draws;
+            (control_in_cell fixed initial_sets None protect q)) stays_in there.draws;
       }
 
 -- ---- contents
@@ -186,43 +186,43 @@ is_followed m whats.Blank on = absurd cc
 is_followed m (whats.Parallel g pen) on = absurd cc
 
 module _ (same_sets : (a b : SetId) → IsTrue (same_set a b) ↔ (a ≡ b))
-    (same_signs : (a b : Glyph) → IsTrue (same_glyph a b) ↔ (a ≡ b)) (rows : ℕ) (wrap protect : Bool) (c1 : C1Set) (pen : Pen)
+    (same_signs : (a b : Glyph) → IsTrue (same_glyph a b) ↔ (a ≡ b)) (fixed : Fixed) (protect : Bool) (c1 : C1Set) (pen : Pen)
     (narrow : columns_of_set pen.size ≡ 1) where
   -- a sign and those of its set after it
   signs_go : (g : Glyph) (first : What) (more : List What) → sign_in first ≡ g ∷ [] → IsSignOf g.set first
       → GoOnFrom is_of_same_set first more → AllByRecursion (Belongs c1 pen) (first ∷ more) → (v : Hand)
       → v.column + length (first ∷ more) ≤ 41
-      → Writes rows wrap protect c1 pen initial_sets v (signs_commands g.set (flat_map sign_in (first ∷ more)))
+      → Writes fixed protect c1 pen initial_sets v (signs_commands g.set (flat_map sign_in (first ∷ more)))
       (first ∷ more)
   signs_go g first more sign is linked all v fits =
       let are : AllByRecursion (IsSignOf g.set) (first ∷ more) = (is, all_signs same_sets g.set first more is linked) in
       let back = signs_back c1 pen g.set (first ∷ more) are all in
       let long = ap length back in
-      subst (λ (l : List What). Writes rows wrap protect c1 pen initial_sets v
+      subst (λ (l : List What). Writes fixed protect c1 pen initial_sets v
       (signs_commands g.set (flat_map sign_in (first ∷ more))) l) back
-      (signs_written rows wrap protect c1 pen narrow same_signs g.set (flat_map sign_in (first ∷ more))
+      (signs_written fixed protect c1 pen narrow same_signs g.set (flat_map sign_in (first ∷ more))
       (signs_valid c1 pen g.set (first ∷ more) are all) v (omega (arith, fits, long)))
 
   -- a stretch that something follows
   stretch_goes : (first : What) (more : List What) (y : What) (rest : List What) → GoOnFrom is_of_same_set first more
       → AllByRecursion (Belongs c1 pen) (first ∷ more) → GoOnFrom is_written_on first (more ++ (y ∷ rest)) → (v : Hand)
       → v.column + length (first ∷ more) ≤ 41
-      → Writes rows wrap protect c1 pen initial_sets v (stretch_commands (record { first = first; more = more }))
+      → Writes fixed protect c1 pen initial_sets v (stretch_commands (record { first = first; more = more }))
       (first ∷ more)
   stretch_goes whats.Blank more y rest linked all on v fits = absurd all.0
   stretch_goes (whats.Serial g) more y rest linked all on v fits = signs_go g (whats.Serial g) more refl refl linked all v fits
   stretch_goes (whats.Parallel g own) more y rest linked all on v fits =
       signs_go g (whats.Parallel g own) more refl refl linked all v fits
   stretch_goes (whats.Marker m) [] y rest linked all on v fits =
-      subst (λ (c : C1Set). Writes rows wrap protect c pen initial_sets v (marker_commands m) (whats.Marker m ∷ []))
-      (sym all.0) (marker_goes rows wrap protect pen v m (is_followed m y on.0))
+      subst (λ (c : C1Set). Writes fixed protect c pen initial_sets v (marker_commands m) (whats.Marker m ∷ []))
+      (sym all.0) (marker_goes fixed protect pen v m (is_followed m y on.0))
   stretch_goes (whats.Marker m) (w ∷ more) y rest linked all on v fits =
       let wrong : false ≡ true = linked.0 in absurd cc
 
   -- and one that may be the last
   stretch_ends : (first : What) (more : List What) → GoOnFrom is_of_same_set first more
       → AllByRecursion (Belongs c1 pen) (first ∷ more) → (v : Hand) → v.column + length (first ∷ more) ≤ 41
-      → Ends rows wrap protect c1 pen v (stretch_commands (record { first = first; more = more })) (first ∷ more)
+      → Ends fixed protect c1 pen v (stretch_commands (record { first = first; more = more })) (first ∷ more)
   stretch_ends whats.Blank more linked all v fits = absurd all.0
   stretch_ends (whats.Serial g) more linked all v fits =
       let there = signs_go g (whats.Serial g) more refl refl linked all v fits in
@@ -231,14 +231,14 @@ module _ (same_sets : (a b : SetId) → IsTrue (same_set a b) ↔ (a ≡ b))
       let there = signs_go g (whats.Parallel g own) more refl refl linked all v fits in
       record { hand = in_segment c1 pen there.hand; draws = there.draws }
   stretch_ends (whats.Marker m) [] linked all v fits =
-      subst (λ (c : C1Set). Ends rows wrap protect c pen v (marker_commands m) (whats.Marker m ∷ [])) (sym all.0)
-      (marker_ends rows wrap protect pen v m)
+      subst (λ (c : C1Set). Ends fixed protect c pen v (marker_commands m) (whats.Marker m ∷ [])) (sym all.0)
+      (marker_ends fixed protect pen v m)
   stretch_ends (whats.Marker m) (w ∷ more) linked all v fits =
       let wrong : false ≡ true = linked.0 in absurd cc
 
   ends_joined : (v : Hand) (a b : List Command) (xs ys : List What)
-      → (first : Writes rows wrap protect c1 pen initial_sets v a xs) → v.column + length xs ≤ 40
-      → Ends rows wrap protect c1 pen first.hand b ys → Ends rows wrap protect c1 pen v (a ++ b) (xs ++ ys)
+      → (first : Writes fixed protect c1 pen initial_sets v a xs) → v.column + length xs ≤ 40
+      → Ends fixed protect c1 pen first.hand b ys → Ends fixed protect c1 pen v (a ++ b) (xs ++ ys)
   ends_joined v a b xs ys first within second =
       let at = first.place within in
       let before : Hand = first.hand in
@@ -253,8 +253,8 @@ module _ (same_sets : (a b : SetId) → IsTrue (same_set a b) ↔ (a ≡ b))
       record {
         hand = after;
         draws = subst (λ (l : List Stroke). Draws
-            (control_in_cell rows wrap initial_sets None protect (in_segment c1 pen v)) (a ++ b) l
-            (control_in_cell rows wrap initial_sets None protect after)) together
+            (control_in_cell fixed initial_sets None protect (in_segment c1 pen v)) (a ++ b) l
+            (control_in_cell fixed initial_sets None protect after)) together
             (draws_joined _ _ _ a b _ _ first.draws second.draws);
       }
 
@@ -266,16 +266,16 @@ module _ (same_sets : (a b : SetId) → IsTrue (same_set a b) ↔ (a ≡ b))
   stretches_end : (cs : List (Chain What)) → AllByRecursion (λ c. GoOnFrom is_of_same_set c.first c.more) cs
       → AllByRecursion (λ c. AllByRecursion (Belongs c1 pen) (members c)) cs → AllGoOn (flat_map members cs) → (v : Hand)
       → v.column + length (flat_map members cs) ≤ 41
-      → Ends rows wrap protect c1 pen v (flat_map stretch_commands cs) (flat_map members cs)
+      → Ends fixed protect c1 pen v (flat_map stretch_commands cs) (flat_map members cs)
   stretches_end [] linked all on v fits =
       record { hand = in_segment c1 pen v; draws = record { control = refl; strokes = refl } }
   stretches_end (c ∷ []) linked all on v fits =
       let same = append-nil (members c) in
       let long = ap length same in
       let there = stretch_ends c.first c.more linked.0 all.0 v (omega (arith, fits, long)) in
-      subst (λ (l : List Command). Ends rows wrap protect c1 pen v l (flat_map members (c ∷ [])))
+      subst (λ (l : List Command). Ends fixed protect c1 pen v l (flat_map members (c ∷ [])))
       (sym (append-nil (stretch_commands c)))
-      (subst (λ (l : List What). Ends rows wrap protect c1 pen v (stretch_commands c) l) (sym same) there)
+      (subst (λ (l : List What). Ends fixed protect c1 pen v (stretch_commands c) l) (sym same) there)
   stretches_end (c ∷ (d ∷ cs)) linked all on v fits =
       let rest : List What = flat_map members (d ∷ cs) in
       let long = length-append (members c) rest in
@@ -292,11 +292,11 @@ module _ (same_sets : (a b : SetId) → IsTrue (same_set a b) ↔ (a ≡ b))
       (omega (arith, fits, long, column)))
 
   contents_end : (list : List What) → AllByRecursion (Belongs c1 pen) list → AllGoOn list → (v : Hand)
-      → v.column + length list ≤ 41 → Ends rows wrap protect c1 pen v (contents_commands list) list
+      → v.column + length list ≤ 41 → Ends fixed protect c1 pen v (contents_commands list) list
   contents_end list all on v fits =
       let joined = chains_joined is_of_same_set list in
       let long = ap length joined in
-      subst (λ (l : List What). Ends rows wrap protect c1 pen v (contents_commands list) l) joined
+      subst (λ (l : List What). Ends fixed protect c1 pen v (contents_commands list) l) joined
       (stretches_end (chains is_of_same_set list) (chains_linked is_of_same_set list)
       (all_in_chains is_of_same_set (Belongs c1 pen) list all) (subst AllGoOn (sym joined) on) v
       (omega (arith, fits, long)))
@@ -313,31 +313,31 @@ pen_of (whats.Parallel g pen) = pen
 pen_of _ = unset_pen
 
 -- the manner in which the cells of a segment are written is said
-record Begins (rows : ℕ) (wrap protect : Bool) (v : Hand) (p : Place) (what : What) : Type 0 where
+record Begins (fixed : Fixed) (protect : Bool) (v : Hand) (p : Place) (what : What) : Type 0 where
   hand : Hand
   row : hand.row ≡ p.row
   column : hand.column ≡ p.column
-  draws : Draws (control_in_cell rows wrap initial_sets None protect (hand_at v p)) (manner_commands what) []
-      (control_in_cell rows wrap initial_sets None protect (in_segment (c1_of what) (pen_of what) hand))
+  draws : Draws (control_in_cell fixed initial_sets None protect (hand_at v p)) (manner_commands what) []
+      (control_in_cell fixed initial_sets None protect (in_segment (c1_of what) (pen_of what) hand))
 
-begins : (rows : ℕ) (wrap protect : Bool) (v : Hand) (p : Place) (what : What) → (what ≡ whats.Blank → ⊥)
-    → Begins rows wrap protect v p what
-begins rows wrap protect v p whats.Blank some = elim (some refl) [ ]
-begins rows wrap protect v p (whats.Serial g) some =
+begins : (fixed : Fixed) (protect : Bool) (v : Hand) (p : Place) (what : What) → (what ≡ whats.Blank → ⊥)
+    → Begins fixed protect v p what
+begins fixed protect v p whats.Blank some = elim (some refl) [ ]
+begins fixed protect v p (whats.Serial g) some =
     record { hand = hand_at v p; row = refl; column = refl; draws = record { control = refl; strokes = refl } }
-begins rows wrap protect v p (whats.Marker m) some =
+begins fixed protect v p (whats.Marker m) some =
     record { hand = hand_at v p; row = refl; column = refl; draws = record { control = refl; strokes = refl } }
-begins rows wrap protect v p (whats.Parallel g pen) some =
-    let taken = attributes_take rows wrap protect (hand_at v p) (attributes_of pen) in
+begins fixed protect v p (whats.Parallel g pen) some =
+    let taken = attributes_take fixed protect (hand_at v p) (attributes_of pen) in
     let next : Hand = record (hand_under_parallel (hand_at v p)) { table = taken.table; fast = taken.fast; pen = pen } in
     record {
       hand = record (hand_at v p) { table = taken.table; fast = taken.fast };
       row = refl;
       column = refl;
-      draws = draws_silent _ (control_in_cell rows wrap initial_sets None protect (hand_under_parallel (hand_at v p))) _
+      draws = draws_silent _ (control_in_cell fixed initial_sets None protect (hand_under_parallel (hand_at v p))) _
           (commands.DesignateC1 c1sets.Parallel) (pen_commands (λ n. commands.C1 n) pen) _ refl refl
-          (subst (λ (q : Pen). Draws (control_in_cell rows wrap initial_sets None protect (hand_under_parallel (hand_at v p)))
-          (pen_commands (λ n. commands.C1 n) pen) [] (control_in_cell rows wrap initial_sets None protect (record next { pen = q })))
+          (subst (λ (q : Pen). Draws (control_in_cell fixed initial_sets None protect (hand_under_parallel (hand_at v p)))
+          (pen_commands (λ n. commands.C1 n) pen) [] (control_in_cell fixed initial_sets None protect (record next { pen = q })))
           (attributes-all pen) taken.draws);
     }
 
@@ -457,32 +457,32 @@ all_belong same_pens c1 pen rows a (b ∷ more) is linked all =
     (next, all_belong same_pens c1 pen rows b more next linked.1 all.1)
 
 -- from a position on the commands make these strokes, and control is at rest but for protection
-record Fills (rows : ℕ) (wrap protect : Bool) (v : Hand) (p : Place) (cs : List Command) (made : List Stroke)
+record Fills (fixed : Fixed) (protect : Bool) (v : Hand) (p : Place) (cs : List Command) (made : List Stroke)
     : Type 0 where
   hand : Hand
-  draws : Draws (control_in_cell rows wrap initial_sets None protect (hand_at v p)) cs made
-      (control_in_cell rows wrap initial_sets None protect hand)
+  draws : Draws (control_in_cell fixed initial_sets None protect (hand_at v p)) cs made
+      (control_in_cell fixed initial_sets None protect hand)
 
 -- at their place, with protection before and after them
-guarded : (rows : ℕ) (wrap : Bool) (v : Hand) (p : Place) (cs : List Command) (made : List Stroke) (protect : Bool)
-    → p.row ≤ rows → Fills rows wrap protect v p cs made
-    → Rests rows wrap v (commands.Position p.row p.column ∷ protected_commands protect cs) made
-guarded rows wrap v p cs made true within filled = record {
+guarded : (fixed : Fixed) (v : Hand) (p : Place) (cs : List Command) (made : List Stroke) (protect : Bool)
+    → p.row ≤ fixed.rows → Fills fixed protect v p cs made
+    → Rests fixed v (commands.Position p.row p.column ∷ protected_commands protect cs) made
+guarded fixed v p cs made true within filled = record {
   hand = filled.hand;
-  draws = subst (λ (l : List Stroke). Draws (control_at_rest rows wrap v)
-      (commands.Position p.row p.column ∷ protected_commands true cs) l (control_at_rest rows wrap filled.hand))
+  draws = subst (λ (l : List Stroke). Draws (control_at_rest fixed v)
+      (commands.Position p.row p.column ∷ protected_commands true cs) l (control_at_rest fixed filled.hand))
       (append-nil made)
-      (draws_silent _ (control_at_rest rows wrap (hand_at v p)) _ (commands.Position p.row p.column) _ _
-      (position-hand_at rows wrap v p within) refl
-      (draws_silent _ (control_in_cell rows wrap initial_sets None true (hand_at v p)) _ (commands.Protect true) _ _ refl
+      (draws_silent _ (control_at_rest fixed (hand_at v p)) _ (commands.Position p.row p.column) _ _
+      (position-hand_at fixed v p within) refl
+      (draws_silent _ (control_in_cell fixed initial_sets None true (hand_at v p)) _ (commands.Protect true) _ _ refl
       refl
       (draws_joined _ _ _ cs (commands.Protect false ∷ []) made [] filled.draws
       (draws_one _ _ (commands.Protect false) [] refl refl))));
 }
-guarded rows wrap v p cs made false within filled = record {
+guarded fixed v p cs made false within filled = record {
   hand = filled.hand;
-  draws = draws_silent _ (control_at_rest rows wrap (hand_at v p)) _ (commands.Position p.row p.column) _ _
-      (position-hand_at rows wrap v p within) refl filled.draws;
+  draws = draws_silent _ (control_at_rest fixed (hand_at v p)) _ (commands.Position p.row p.column) _ _
+      (position-hand_at fixed v p within) refl filled.draws;
 }
 
 -- ---- a segment of one cell is written as the cell is
@@ -518,23 +518,23 @@ one_content (whats.Parallel g pen) =
 one_content (whats.Marker m) =
     ap (λ (l : List Command). commands.DesignateC1 c1sets.Serial ∷ l) (append-nil (marker_commands m))
 
-single_rests : (rows : ℕ) (wrap : Bool) (a : PlacedCell) → IsPlaced rows a
-    → AlwaysRests rows wrap (segment_commands (alone a)) (put_of a)
-single_rests rows wrap a is =
-    subst (λ (l : List Command). AlwaysRests rows wrap
+single_rests : (fixed : Fixed) (a : PlacedCell) → IsPlaced fixed.rows a
+    → AlwaysRests fixed (segment_commands (alone a)) (put_of a)
+single_rests fixed a is =
+    subst (λ (l : List Command). AlwaysRests fixed
     (commands.Position a.place.row a.place.column ∷ protected_commands a.cell.protected l) (put_of a))
     (sym (one_content a.cell.what)) (by_what a.place a.cell.protected a.cell.what is.some is.within is.valid) where
-      by_what : (p : Place) (protect : Bool) (what : What) → (what ≡ whats.Blank → ⊥) → p.row ≤ rows → IsValidWhat what
-          → AlwaysRests rows wrap
+      by_what : (p : Place) (protect : Bool) (what : What) → (what ≡ whats.Blank → ⊥) → p.row ≤ fixed.rows → IsValidWhat what
+          → AlwaysRests fixed
           (commands.Position p.row p.column ∷ protected_commands protect (content_commands what))
           (strokes.Put p (record { what = what; protected = protect }) ∷ [])
       by_what p protect whats.Blank some within valid = elim (some refl) [ ]
       by_what p protect (whats.Serial g) some within valid =
-          cell_rests rows wrap p protect (whats.Serial g) (inl within) valid
+          cell_rests fixed p protect (whats.Serial g) (inl within) valid
       by_what p protect (whats.Parallel g pen) some within valid =
-          cell_rests rows wrap p protect (whats.Parallel g pen) (inl within) valid
+          cell_rests fixed p protect (whats.Parallel g pen) (inl within) valid
       by_what p protect (whats.Marker m) some within valid =
-          cell_rests rows wrap p protect (whats.Marker m) (inl within) valid
+          cell_rests fixed p protect (whats.Marker m) (inl within) valid
 
 -- the cells that are written are put as those of the plain text
 written_puts : (cells : List (List Cell)) (n : ℕ) → flat_map put_of (written_below cells n) ≡ puts_below cells n
@@ -558,62 +558,62 @@ pub record Decides : Type 0 where
   pub glyph : (a b : Glyph) → IsTrue (same_glyph a b) ↔ (a ≡ b)
   pub pen : (a b : Pen) → IsTrue (same_pen a b) ↔ (a ≡ b)
 
-module _ (decides : Decides) (rows : ℕ) (wrap : Bool) where
+module _ (decides : Decides) (fixed : Fixed) where
   longer_rests : (a b : PlacedCell) (more : List PlacedCell) → GoOnFrom continues a (b ∷ more)
-      → AllByRecursion (IsPlaced rows) (a ∷ (b ∷ more))
-      → AlwaysRests rows wrap (segment_commands (record { first = a; more = b ∷ more }))
+      → AllByRecursion (IsPlaced fixed.rows) (a ∷ (b ∷ more))
+      → AlwaysRests fixed (segment_commands (record { first = a; more = b ∷ more }))
       (flat_map put_of (a ∷ (b ∷ more)))
   longer_rests a b more linked all v =
       let protect : Bool = a.cell.protected in
       let what : What = a.cell.what in
       let list : List What = map what_at (a ∷ (b ∷ more)) in
-      let start = begins rows wrap protect v a.place what all.0.some in
+      let start = begins fixed protect v a.place what all.0.some in
       let w : Hand = start.hand in
       let column = start.column in
       let narrow = first_narrow what b.cell.what (parts_of_continues a b linked.0).on in
       let first = first_belongs what all.0.some all.0.valid in
-      let others = all_belong decides.pen (c1_of what) (pen_of what) rows a (b ∷ more) first linked all.1 in
-      let within = ends_in_row rows a (b ∷ more) linked all in
+      let others = all_belong decides.pen (c1_of what) (pen_of what) fixed.rows a (b ∷ more) first linked all.1 in
+      let within = ends_in_row fixed.rows a (b ∷ more) linked all in
       let long = length-map (a ∷ (b ∷ more)) what_at in
-      let there = contents_end decides.set decides.glyph rows wrap protect (c1_of what) (pen_of what) narrow list
+      let there = contents_end decides.set decides.glyph fixed protect (c1_of what) (pen_of what) narrow list
       (first, others) (contents_go_on a (b ∷ more) linked) w (omega (arith, column, within, long)) in
-      let filled : Fills rows wrap protect v a.place (manner_commands what ++ contents_commands list)
+      let filled : Fills fixed protect v a.place (manner_commands what ++ contents_commands list)
       (puts_from protect w.row w.column list) = record {
         hand = there.hand;
         draws = draws_joined _ _ _ (manner_commands what) (contents_commands list) [] (puts_from protect w.row w.column list)
             start.draws there.draws;
       } in
-      subst (λ (l : List Stroke). Rests rows wrap v (segment_commands (record { first = a; more = b ∷ more })) l)
+      subst (λ (l : List Stroke). Rests fixed v (segment_commands (record { first = a; more = b ∷ more })) l)
       (sym (puts_are protect w.row w.column a (b ∷ more) linked (sym start.row) (sym start.column) refl))
-      (guarded rows wrap v a.place (manner_commands what ++ contents_commands list)
+      (guarded fixed v a.place (manner_commands what ++ contents_commands list)
       (puts_from protect w.row w.column list) protect all.0.within filled)
 
   segment_rests : (first : PlacedCell) (more : List PlacedCell) → GoOnFrom continues first more
-      → AllByRecursion (IsPlaced rows) (first ∷ more)
-      → AlwaysRests rows wrap (segment_commands (record { first = first; more = more })) (flat_map put_of (first ∷ more))
-  segment_rests a [] linked all = single_rests rows wrap a all.0
+      → AllByRecursion (IsPlaced fixed.rows) (first ∷ more)
+      → AlwaysRests fixed (segment_commands (record { first = first; more = more })) (flat_map put_of (first ∷ more))
+  segment_rests a [] linked all = single_rests fixed a all.0
   segment_rests a (b ∷ more) linked all = longer_rests a b more linked all
 
   abbrev SegmentRests : Chain PlacedCell → Type 0
-  SegmentRests c = AlwaysRests rows wrap (segment_commands c) (flat_map put_of (members c))
+  SegmentRests c = AlwaysRests fixed (segment_commands c) (flat_map put_of (members c))
 
-  pub placed_are : (cells : List (List Cell)) → AreValidCells rows cells
-      → AllByRecursion (IsPlaced rows) (written_below cells 960)
+  pub placed_are : (cells : List (List Cell)) → AreValidCells fixed.rows cells
+      → AllByRecursion (IsPlaced fixed.rows) (written_below cells 960)
   unfolding written_below
   placed_are cells are =
-      all_range (IsPlaced rows)
+      all_range (IsPlaced fixed.rows)
       (λ m. written_cell (place_of m) (cell_numbered cells m).protected (cell_numbered cells m).what) 0 960
       (λ j low high.
       let on : OnScreen (place_of j).row (place_of j).column = OnScreen-place_of j high in
       each (place_of j) (cell_numbered cells j).protected (cell_numbered cells j).what on
       (are.valid (place_of j).row (place_of j).column on)
-      (elim (cases_lt rows (place_of j).row) [
+      (elim (cases_lt fixed.rows (place_of j).row) [
         | inl past ↦ inr (ap (λ (c : Cell). c.what) (are.past (place_of j).row (place_of j).column on past))
         | inr within ↦ inl within
       ])) 0 960 (omega arith) (omega arith) where
         each : (p : Place) (protected : Bool) (what : What) → OnScreen p.row p.column → IsValidWhat what
-            → (p.row ≤ rows) ⊎ (what ≡ whats.Blank)
-            → AllByRecursion (IsPlaced rows) (written_cell p protected what)
+            → (p.row ≤ fixed.rows) ⊎ (what ≡ whats.Blank)
+            → AllByRecursion (IsPlaced fixed.rows) (written_cell p protected what)
         each p protected whats.Blank on valid within = tt
         each p protected (whats.Serial g) on valid (inl within) =
             (record { some = λ e. absurd cc; on = on; within = within; valid = valid }, tt)
@@ -625,13 +625,13 @@ module _ (decides : Decides) (rows : ℕ) (wrap : Bool) where
         each p protected (whats.Parallel g pen) on valid (inr e) = absurd cc
         each p protected (whats.Marker m) on valid (inr e) = absurd cc
 
-  pub segments_rest : (cells : List (List Cell)) → AreValidCells rows cells
-      → AlwaysRests rows wrap (segments_commands cells) (puts_below cells 960)
+  pub segments_rest : (cells : List (List Cell)) → AreValidCells fixed.rows cells
+      → AlwaysRests fixed (segments_commands cells) (puts_below cells 960)
   unfolding segments_commands
   segments_rest cells are =
       let list : List PlacedCell = written_below cells 960 in
-      subst (λ (l : List Stroke). AlwaysRests rows wrap (segments_commands cells) l)
+      subst (λ (l : List Stroke). AlwaysRests fixed (segments_commands cells) l)
       (ap (flat_map put_of) (chains_joined continues list) ∙ written_puts cells 960)
-      (rests_in_chains rows wrap segment_commands put_of (chains continues list)
-      (each_chain continues (IsPlaced rows) SegmentRests (λ c linked all. segment_rests c.first c.more linked all) list
+      (rests_in_chains fixed segment_commands put_of (chains continues list)
+      (each_chain continues (IsPlaced fixed.rows) SegmentRests (λ c linked all. segment_rests c.first c.more linked all) list
       (placed_are cells are)))

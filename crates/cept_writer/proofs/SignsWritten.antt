@@ -20,7 +20,7 @@ use Rattle.cept_profile.specs.Strokes.{strokes_of}
 use Rattle.cept_profile.specs.Writing.{columns_of_sign, content, sign_with_accent, strokes_of_read, working_after_read}
 use Rattle.cept_writer.specs.CellCommands.{accent_commands, glyph_commands, sign_commands}
 use Rattle.cept_writer.proofs.Drawing.{Draws, draws_one, draws_silent, draws_then}
-use Rattle.cept_writer.proofs.Resting.{Hand, hand_ahead, control_in_cell, moves_on, stays}
+use Rattle.cept_writer.proofs.Resting.{Fixed, Hand, hand_ahead, control_in_cell, moves_on, stays}
 
 -- ---- what a byte gives
 
@@ -64,29 +64,29 @@ accent_reads code low high =
 -- ---- one byte
 
 -- a byte that gives a sign
-pub sign_control : (rows : ℕ) (wrap : Bool) (s t : Sets) (accent : Option ℕ) (protect : Bool) (v : Hand) (code : ℕ) (g : Glyph)
+pub sign_control : (fixed : Fixed) (s t : Sets) (accent : Option ℕ) (protect : Bool) (v : Hand) (code : ℕ) (g : Glyph)
     → graphic s code v.run ≡ graphic_result_of (reads.Glyph g) t
-    → control_after (control_in_cell rows wrap s accent protect v) (commands.Graphic code)
-    ≡ control_in_cell rows wrap t None protect (record (hand_ahead rows wrap v (columns_of_sign (control_in_cell rows wrap t accent protect v)))
+    → control_after (control_in_cell fixed s accent protect v) (commands.Graphic code)
+    ≡ control_in_cell fixed t None protect (record (hand_ahead fixed v (columns_of_sign (control_in_cell fixed t accent protect v)))
     { last = Some (sign_with_accent g.set g.code accent) })
-sign_control rows wrap s t accent protect v code g gives =
-    let from : ControlState = control_in_cell rows wrap s accent protect v in
+sign_control fixed s t accent protect v code g gives =
+    let from : ControlState = control_in_cell fixed s accent protect v in
     ap (λ (r : GraphicResult). control_with from
     (working_after_read (control_with from (working_with_sets r.sets from.working)) r.read)) gives
     ∙ ap (λ (w : Working). control_with from (record w { last = Some (sign_with_accent g.set g.code accent); accent = None }))
-    (moves_on rows wrap t accent protect v (columns_of_sign (control_in_cell rows wrap t accent protect v)))
+    (moves_on fixed t accent protect v (columns_of_sign (control_in_cell fixed t accent protect v)))
 
-pub sign_strokes : (rows : ℕ) (wrap : Bool) (s t : Sets) (accent : Option ℕ) (protect : Bool) (v : Hand) (code : ℕ) (g : Glyph)
+pub sign_strokes : (fixed : Fixed) (s t : Sets) (accent : Option ℕ) (protect : Bool) (v : Hand) (code : ℕ) (g : Glyph)
     → graphic s code v.run ≡ graphic_result_of (reads.Glyph g) t
-    → strokes_of (control_in_cell rows wrap s accent protect v) (commands.Graphic code)
+    → strokes_of (control_in_cell fixed s accent protect v) (commands.Graphic code)
     ≡ strokes.Put (record { row = v.row; column = v.column })
     (record { what = content v.c1 (sign_with_accent g.set g.code accent) v.pen; protected = protect }) ∷ []
-sign_strokes rows wrap s t accent protect v code g gives =
-    let from : ControlState = control_in_cell rows wrap s accent protect v in
+sign_strokes fixed s t accent protect v code g gives =
+    let from : ControlState = control_in_cell fixed s accent protect v in
     ap (λ (r : GraphicResult). strokes_of_read from r.read) gives
     ∙ ap (λ (more : List Stroke). strokes.Put (record { row = v.row; column = v.column })
     (record { what = content v.c1 (sign_with_accent g.set g.code accent) v.pen; protected = protect }) ∷ more)
-    (stays rows wrap s accent protect v (columns_of_sign from))
+    (stays fixed s accent protect v (columns_of_sign from))
 
 -- ---- the commands of a sign
 
@@ -95,19 +95,19 @@ abbrev pub hand_without_run : Hand → Hand
 hand_without_run v = record v { run = false }
 
 -- from rest but for protection the commands put this cell and leave the same
-pub record Puts (rows : ℕ) (wrap : Bool) (protect : Bool) (v : Hand) (g : Glyph) (cs : List Command) : Type 0 where
+pub record Puts (fixed : Fixed) (protect : Bool) (v : Hand) (g : Glyph) (cs : List Command) : Type 0 where
   pub hand : Hand
-  pub draws : Draws (control_in_cell rows wrap initial_sets None protect v) cs
+  pub draws : Draws (control_in_cell fixed initial_sets None protect v) cs
       (strokes.Put (record { row = v.row; column = v.column })
-      (record { what = content v.c1 g v.pen; protected = protect }) ∷ []) (control_in_cell rows wrap initial_sets None protect hand)
+      (record { what = content v.c1 g v.pen; protected = protect }) ∷ []) (control_in_cell fixed initial_sets None protect hand)
 
-module _ (rows : ℕ) (wrap : Bool) (protect : Bool) (v : Hand) where
+module _ (fixed : Fixed) (protect : Bool) (v : Hand) where
   -- left bytes take the set that is locked to them
   left_is : (code : ℕ) → code ≤ 0x7F → is_left code ≡ true
   left_is code below = grind (arith, nat_tests)
 
   accented : (code accent : ℕ) → code ≤ 0x7F → 0x40 ≤ accent → accent ≤ 0x4F
-      → Puts rows wrap protect (hand_without_run v) (record { set = sets.P; code = code; accent = accent })
+      → Puts fixed protect (hand_without_run v) (record { set = sets.P; code = code; accent = accent })
       (commands.Single 2 ∷ commands.Graphic accent ∷ commands.Graphic code ∷ [])
   unfolding set_of
   accented code accent below low high =
@@ -115,21 +115,21 @@ module _ (rows : ℕ) (wrap : Bool) (protect : Bool) (v : Hand) where
       (omega (arith, high)) refl (accent_reads accent low high) in
       let gives = byte_reads initial_sets false sets.P code (reads.Glyph (sign sets.P code)) below
       (ap (λ (t : Bool). cond t sets.P sets.S) (left_is code below)) (first_sign_reads code) in
-      let single : ControlState = control_in_cell rows wrap (sets_with_single initial_sets 2) None protect (hand_without_run v) in
+      let single : ControlState = control_in_cell fixed (sets_with_single initial_sets 2) None protect (hand_without_run v) in
       record {
         hand = _;
         draws = draws_silent _ single _ (commands.Single 2) _ _ refl refl
-            (draws_silent single (control_in_cell rows wrap initial_sets (Some accent) protect (hand_without_run v)) _ (commands.Graphic accent) _ _
+            (draws_silent single (control_in_cell fixed initial_sets (Some accent) protect (hand_without_run v)) _ (commands.Graphic accent) _ _
             (ap (λ (r : GraphicResult). control_with single
             (working_after_read (control_with single (working_with_sets r.sets single.working)) r.read)) waits)
             (ap (λ (r : GraphicResult). strokes_of_read single r.read) waits)
             (draws_one _ _ (commands.Graphic code) _
-            (sign_control rows wrap initial_sets initial_sets (Some accent) protect (hand_without_run v) code (sign sets.P code) gives)
-            (sign_strokes rows wrap initial_sets initial_sets (Some accent) protect (hand_without_run v) code (sign sets.P code) gives)));
+            (sign_control fixed initial_sets initial_sets (Some accent) protect (hand_without_run v) code (sign sets.P code) gives)
+            (sign_strokes fixed initial_sets initial_sets (Some accent) protect (hand_without_run v) code (sign sets.P code) gives)));
       }
 
   first : (code : ℕ) → code ≤ 0x7F
-      → Puts rows wrap protect (hand_without_run v) (sign sets.P code) (commands.Graphic code ∷ [])
+      → Puts fixed protect (hand_without_run v) (sign sets.P code) (commands.Graphic code ∷ [])
   unfolding set_of
   first code below =
       let gives = byte_reads initial_sets false sets.P code (reads.Glyph (sign sets.P code)) below
@@ -137,12 +137,12 @@ module _ (rows : ℕ) (wrap : Bool) (protect : Bool) (v : Hand) where
       record {
         hand = _;
         draws = draws_one _ _ (commands.Graphic code) _
-            (sign_control rows wrap initial_sets initial_sets None protect (hand_without_run v) code (sign sets.P code) gives)
-            (sign_strokes rows wrap initial_sets initial_sets None protect (hand_without_run v) code (sign sets.P code) gives);
+            (sign_control fixed initial_sets initial_sets None protect (hand_without_run v) code (sign sets.P code) gives)
+            (sign_strokes fixed initial_sets initial_sets None protect (hand_without_run v) code (sign sets.P code) gives);
       }
 
   supplementary : (code : ℕ) → IsCodeOf sets.S code
-      → Puts rows wrap protect (hand_without_run v) (sign sets.S code) (commands.Single 2 ∷ commands.Graphic code ∷ [])
+      → Puts fixed protect (hand_without_run v) (sign sets.S code) (commands.Single 2 ∷ commands.Graphic code ∷ [])
   unfolding set_of
   supplementary code is =
       let single : Sets = sets_with_single initial_sets 2 in
@@ -152,14 +152,14 @@ module _ (rows : ℕ) (wrap : Bool) (protect : Bool) (v : Hand) where
       (sign_reads sets.S code no_space no_accent) in
       record {
         hand = _;
-        draws = draws_silent _ (control_in_cell rows wrap single None protect (hand_without_run v)) _ (commands.Single 2) _ _ refl refl
+        draws = draws_silent _ (control_in_cell fixed single None protect (hand_without_run v)) _ (commands.Single 2) _ _ refl refl
             (draws_one _ _ (commands.Graphic code) _
-            (sign_control rows wrap single initial_sets None protect (hand_without_run v) code (sign sets.S code) gives)
-            (sign_strokes rows wrap single initial_sets None protect (hand_without_run v) code (sign sets.S code) gives));
+            (sign_control fixed single initial_sets None protect (hand_without_run v) code (sign sets.S code) gives)
+            (sign_strokes fixed single initial_sets None protect (hand_without_run v) code (sign sets.S code) gives));
       }
 
   third : (code : ℕ) → IsCodeOf sets.N code
-      → Puts rows wrap protect (hand_without_run v) (sign sets.N code) (commands.Single 3 ∷ commands.Graphic code ∷ [])
+      → Puts fixed protect (hand_without_run v) (sign sets.N code) (commands.Single 3 ∷ commands.Graphic code ∷ [])
   unfolding set_of
   third code is =
       let single : Sets = sets_with_single initial_sets 3 in
@@ -168,13 +168,13 @@ module _ (rows : ℕ) (wrap : Bool) (protect : Bool) (v : Hand) where
       (sign_reads sets.N code no_space refl) in
       record {
         hand = _;
-        draws = draws_silent _ (control_in_cell rows wrap single None protect (hand_without_run v)) _ (commands.Single 3) _ _ refl refl
+        draws = draws_silent _ (control_in_cell fixed single None protect (hand_without_run v)) _ (commands.Single 3) _ _ refl refl
             (draws_one _ _ (commands.Graphic code) _
-            (sign_control rows wrap single initial_sets None protect (hand_without_run v) code (sign sets.N code) gives)
-            (sign_strokes rows wrap single initial_sets None protect (hand_without_run v) code (sign sets.N code) gives));
+            (sign_control fixed single initial_sets None protect (hand_without_run v) code (sign sets.N code) gives)
+            (sign_strokes fixed single initial_sets None protect (hand_without_run v) code (sign sets.N code) gives));
       }
 
-  mosaic : (code : ℕ) → IsCodeOf sets.M code → Puts rows wrap protect (hand_without_run v) (sign sets.M code)
+  mosaic : (code : ℕ) → IsCodeOf sets.M code → Puts fixed protect (hand_without_run v) (sign sets.M code)
       (commands.LockLeft 1 ∷ commands.Graphic code ∷ commands.LockLeft 0 ∷ [])
   unfolding set_of
   mosaic code is =
@@ -184,14 +184,14 @@ module _ (rows : ℕ) (wrap : Bool) (protect : Bool) (v : Hand) where
       (ap (λ (t : Bool). cond t sets.M sets.S) (left_is code is.1)) (sign_reads sets.M code no_space refl) in
       record {
         hand = _;
-        draws = draws_silent _ (control_in_cell rows wrap locked None protect (hand_without_run v)) _ (commands.LockLeft 1) _ _ refl refl
+        draws = draws_silent _ (control_in_cell fixed locked None protect (hand_without_run v)) _ (commands.LockLeft 1) _ _ refl refl
             (draws_then _ _ _ (commands.Graphic code) _ _ []
-            (sign_control rows wrap locked locked None protect (hand_without_run v) code (sign sets.M code) gives)
-            (sign_strokes rows wrap locked locked None protect (hand_without_run v) code (sign sets.M code) gives)
+            (sign_control fixed locked locked None protect (hand_without_run v) code (sign sets.M code) gives)
+            (sign_strokes fixed locked locked None protect (hand_without_run v) code (sign sets.M code) gives)
             (draws_one _ _ (commands.LockLeft 0) [] refl refl));
       }
 
-  downloaded : (code : ℕ) → IsCodeOf sets.D code → Puts rows wrap protect (hand_without_run v) (sign sets.D code)
+  downloaded : (code : ℕ) → IsCodeOf sets.D code → Puts fixed protect (hand_without_run v) (sign sets.D code)
       (commands.Designate 0 sets.D ∷ commands.Graphic code ∷ commands.Designate 0 sets.P ∷ [])
   unfolding set_of
   downloaded code is =
@@ -201,30 +201,30 @@ module _ (rows : ℕ) (wrap : Bool) (protect : Bool) (v : Hand) where
       (ap (λ (t : Bool). cond t sets.D sets.S) (left_is code is.1)) (sign_reads sets.D code no_space refl) in
       record {
         hand = _;
-        draws = draws_silent _ (control_in_cell rows wrap named None protect (hand_without_run v)) _ (commands.Designate 0 sets.D) _ _ refl refl
+        draws = draws_silent _ (control_in_cell fixed named None protect (hand_without_run v)) _ (commands.Designate 0 sets.D) _ _ refl refl
             (draws_then _ _ _ (commands.Graphic code) _ _ []
-            (sign_control rows wrap named named None protect (hand_without_run v) code (sign sets.D code) gives)
-            (sign_strokes rows wrap named named None protect (hand_without_run v) code (sign sets.D code) gives)
+            (sign_control fixed named named None protect (hand_without_run v) code (sign sets.D code) gives)
+            (sign_strokes fixed named named None protect (hand_without_run v) code (sign sets.D code) gives)
             (draws_one _ _ (commands.Designate 0 sets.P) [] refl refl));
       }
 
   -- a sign without accent is one with none
   unaccented : (set : SetId) (code accent : ℕ) (cs : List Command) → accent ≡ 0
-      → Puts rows wrap protect (hand_without_run v) (sign set code) cs
-      → Puts rows wrap protect (hand_without_run v) (record { set = set; code = code; accent = accent }) cs
+      → Puts fixed protect (hand_without_run v) (sign set code) cs
+      → Puts fixed protect (hand_without_run v) (record { set = set; code = code; accent = accent }) cs
   unaccented set code accent cs e puts =
-      subst (λ (a : ℕ). Puts rows wrap protect (hand_without_run v) (record { set = set; code = code; accent = a }) cs) (sym e) puts
+      subst (λ (a : ℕ). Puts fixed protect (hand_without_run v) (record { set = set; code = code; accent = a }) cs) (sym e) puts
 
   sign_puts : (set : SetId) (code accent : ℕ) → IsCodeOf set code → IsValidAccent set accent
-      → Puts rows wrap protect (hand_without_run v) (record { set = set; code = code; accent = accent }) (sign_commands set code accent)
+      → Puts fixed protect (hand_without_run v) (record { set = set; code = code; accent = accent }) (sign_commands set code accent)
   sign_puts sets.P code accent is (inl none) =
-      subst (λ (a : ℕ). Puts rows wrap protect (hand_without_run v) (record { set = sets.P; code = code; accent = a })
+      subst (λ (a : ℕ). Puts fixed protect (hand_without_run v) (record { set = sets.P; code = code; accent = a })
       (accent_commands a ++ commands.Graphic code ∷ [])) (sym none) (first code is.1)
   sign_puts sets.P code accent is (inr some) =
       let set : eqb accent 0 ≡ false = grind (arith, nat_tests) in
       let written : accent_commands accent ≡ commands.Single 2 ∷ commands.Graphic accent ∷ [] =
       ap (λ (t : Bool). cond t [] (commands.Single 2 ∷ commands.Graphic accent ∷ [])) set in
-      subst (λ (cs : List Command). Puts rows wrap protect (hand_without_run v)
+      subst (λ (cs : List Command). Puts fixed protect (hand_without_run v)
       (record { set = sets.P; code = code; accent = accent }) (cs ++ commands.Graphic code ∷ [])) (sym written)
       (accented code accent is.1 some.0 some.1)
   sign_puts sets.S code accent is none = unaccented sets.S code accent _ none (supplementary code is)
@@ -233,6 +233,6 @@ module _ (rows : ℕ) (wrap : Bool) (protect : Bool) (v : Hand) where
   sign_puts sets.D code accent is none = unaccented sets.D code accent _ none (downloaded code is)
 
 -- any valid sign
-pub glyph_puts : (rows : ℕ) (wrap : Bool) (protect : Bool) (v : Hand) (g : Glyph) → IsValidGlyph g
-    → Puts rows wrap protect (hand_without_run v) g (glyph_commands g)
-glyph_puts rows wrap protect v g is = sign_puts rows wrap protect v g.set g.code g.accent is.code is.accent
+pub glyph_puts : (fixed : Fixed) (protect : Bool) (v : Hand) (g : Glyph) → IsValidGlyph g
+    → Puts fixed protect (hand_without_run v) g (glyph_commands g)
+glyph_puts fixed protect v g is = sign_puts fixed protect v g.set g.code g.accent is.code is.accent

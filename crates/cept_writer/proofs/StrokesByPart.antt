@@ -24,6 +24,7 @@ kind_of (strokes.Put p cell) = Cells
 kind_of (strokes.Erase r from) = Other
 kind_of strokes.Wipe = Reset
 kind_of (strokes.Shift first last way) = Other
+kind_of (strokes.Carry first last way) = Other
 kind_of (strokes.RowAttr r attr) = Rows
 kind_of (strokes.ScreenAttr attr) = Screen
 kind_of strokes.ScreenClear = Reset

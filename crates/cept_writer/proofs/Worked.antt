@@ -100,16 +100,17 @@ defined_pattern = refl
 pub undefined_pattern : pattern_commands 0x41 None ≡ []
 undefined_pattern = refl
 
--- a page of twenty rows without wrap, with a screen attribute, an area and implicit scrolling
+-- a page of twenty rows without wrap under the second revision, with a screen attribute, an area and implicit scrolling
 pub settings_of_a_page : plain_commands (record {
   page = record blank_page { screen_pen = record unset_pen { back = Some 4 } };
   rows = 20;
   wrap = false;
   area = Some (2, 5);
   implicit = true;
+  revision = 2;
 })
-    ≡ commands.FullDefaults c1sets.Parallel ∷ commands.Format 20 false ∷ commands.Table 0 ∷ commands.FullScreen 20
-    ∷ commands.AreaCreate 2 5 ∷ commands.Implicit true ∷ []
+    ≡ commands.FullDefaults c1sets.Parallel ∷ commands.Revision 2 ∷ commands.Format 20 false ∷ commands.Table 0
+    ∷ commands.FullScreen 20 ∷ commands.AreaCreate 2 5 ∷ commands.Implicit true ∷ []
 unfolding plain_commands entries_below patterns_below rows_below cells_below attributes_of default_paints table row_of list_by_index
 settings_of_a_page = refl
 

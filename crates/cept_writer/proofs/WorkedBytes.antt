@@ -97,12 +97,19 @@ pub row : spellings (row_commands 20 (record unset_pen {
 unfolding spelling attributes_of
 row = refl
 
--- a blank page of 20 rows with an area and implicit scrolling
+-- a blank page of 20 rows under the second revision, with an area and implicit scrolling
 abbrev scrolled : Core
-scrolled = record { page = blank_page; rows = 20; wrap = false; area = Some (3, 18); implicit = true }
+scrolled = record {
+  page = blank_page;
+  rows = 20;
+  wrap = false;
+  area = Some (3, 18);
+  implicit = true;
+  revision = 2;
+}
 
 pub scrolled_page : spellings (plain_commands scrolled)
-    ≡ 0x1F ∷ 0x2F ∷ 0x42 ∷ 0x1F ∷ 0x2D ∷ 0x42 ∷ 0x71 ∷ 0x9B ∷ 0x30 ∷ 0x33 ∷ 0x3B ∷ 0x31 ∷ 0x38 ∷ 0x55 ∷ 0x9B ∷ 0x32
-    ∷ 0x60 ∷ []
+    ≡ 0x1F ∷ 0x2F ∷ 0x42 ∷ 0x1F ∷ 0x2F ∷ 0x45 ∷ 0x1F ∷ 0x2D ∷ 0x42 ∷ 0x71 ∷ 0x9B ∷ 0x30 ∷ 0x33 ∷ 0x3B ∷ 0x31 ∷ 0x38
+    ∷ 0x55 ∷ 0x9B ∷ 0x32 ∷ 0x60 ∷ []
 unfolding spelling plain_commands entries_below patterns_below rows_below cells_below attributes_of table row_of list_by_index default_paints
 scrolled_page = refl

@@ -4,7 +4,6 @@
 use Rattle.std.specs.Prelude.{ℕ, ◌+◌, Bool, false, ◌==◌, Option, Some, None, List, [], ◌∷◌, ◌++◌, flat_map, map}
 use Rattle.std.specs.Prelude.{if◌then◌else◌}
 use Rattle.std.specs.List.{range_with_len}
-use Rattle.cept_codes.specs.declared.command.C1Set.TheVariants as c1sets
 use Rattle.cept_codes.specs.declared.command.Command.{Command}
 use Rattle.cept_codes.specs.declared.command.Command.TheVariants as commands
 use Rattle.cept_codes.specs.declared.look.Paint.{Paint}
@@ -17,8 +16,8 @@ use Rattle.cept_profile.specs.Colours.{default_paint}
 use Rattle.cept_profile.specs.PageParts.{paint_in, pattern_in}
 use Rattle.cept_profile.specs.State.{Core}
 use Rattle.cept_writer.specs.Chains.{Chain, chains, members}
-use Rattle.cept_writer.specs.PageCommands.{area_commands, dclut_commands, implicit_commands, rows_below, screen_commands}
-use Rattle.cept_writer.specs.PageCommands.{with_colour_header}
+use Rattle.cept_writer.specs.PageCommands.{area_commands, dclut_commands, first_commands, implicit_commands, rows_below}
+use Rattle.cept_writer.specs.PageCommands.{screen_commands, with_colour_header}
 use Rattle.cept_writer.specs.SegmentCommands.{segments_commands}
 
 -- ---- colour entries
@@ -95,7 +94,7 @@ defined_commands patterns = flat_map form_commands (chains is_of_same_form (defi
 -- its parts in the order of the plain text
 unfoldable pub compact_commands : Core → List Command
 compact_commands k =
-    (commands.FullDefaults c1sets.Parallel ∷ commands.Format k.rows k.wrap ∷ [])
+    first_commands k
     ++ (with_colour_header (changed_commands k.page.paints) ++ (dclut_commands k.page.dclut
     ++ (defined_commands k.page.patterns ++ (screen_commands k.page.screen_pen ++ (rows_below k.page.row_pens 24
     ++ (segments_commands k.page.cells ++ (area_commands k.area ++ implicit_commands k.implicit)))))))

@@ -1,5 +1,5 @@
--- The commands of a written page (own): after a reset and the format what differs from the page of the start, part by
--- part. They hang on the core alone.
+-- The commands of a written page (own): after a reset, the revision of the rules and the format what differs from the page
+-- of the start, part by part. They hang on the core alone.
 use Rattle.std.specs.Prelude.{ℕ, Bool, true, false, ◌&&◌, Option, Some, None, List, [], ◌∷◌, ◌++◌, flat_map, ◌==◌}
 use Rattle.std.specs.Prelude.{if◌then◌else◌}
 use Rattle.std.specs.List.{range_with_len}
@@ -21,6 +21,17 @@ use Rattle.cept_profile.specs.PageParts.{dclut_in, paint_in, pattern_in, row_pen
 use Rattle.cept_profile.specs.State.{Core}
 use Rattle.cept_writer.specs.AttributeCommands.{pen_commands}
 use Rattle.cept_writer.specs.CellCommands.{cell_commands}
+
+-- ---- the reset, the revision and the format
+
+-- the second revision of the rules; the first is that of the reset
+abbrev pub revision_commands : ℕ → List Command
+revision_commands revision = if revision == 2 then commands.Revision 2 ∷ [] else []
+
+-- the commands with which a page begins
+abbrev pub first_commands : Core → List Command
+first_commands k =
+    commands.FullDefaults c1sets.Parallel ∷ (revision_commands k.revision ++ commands.Format k.rows k.wrap ∷ [])
 
 -- ---- colour entries and the DCLUT
 
@@ -113,7 +124,7 @@ implicit_commands false = []
 -- the area and implicit scrolling come last, so that no cell that is written moves a row
 unfoldable pub plain_commands : Core → List Command
 plain_commands k =
-    (commands.FullDefaults c1sets.Parallel ∷ commands.Format k.rows k.wrap ∷ [])
+    first_commands k
     ++ (with_colour_header (entries_below k.page.paints 32) ++ (dclut_commands k.page.dclut
     ++ (patterns_below k.page.patterns 94 ++ (screen_commands k.page.screen_pen ++ (rows_below k.page.row_pens 24
     ++ (cells_below k.page.cells 960 ++ (area_commands k.area ++ implicit_commands k.implicit)))))))

@@ -1,13 +1,11 @@
-ghost use Rattle.std.specs.Prelude.{◌≡◌, ◌≤◌, ◌++◌, ◌∷◌, [], length};
-ghost use Rattle.cept_codes.specs.declared.command.C1Set.TheVariants as c1sets;
-ghost use Rattle.cept_codes.specs.declared.command.Command.TheVariants as commands;
+ghost use Rattle.std.specs.Prelude.{◌≡◌, ◌≤◌, ◌++◌, length};
 ghost use Rattle.cept_outside.specs.SinkState.{PutsText};
 ghost use Rattle.cept_parser.specs.Spelling.{spellings};
 ghost use Rattle.cept_profile.specs.PageParts.{row_pen_in};
 ghost use Rattle.cept_profile.specs.State.{core_of};
 ghost use Rattle.cept_writer.specs.CompactCommands.{page_text};
-ghost use Rattle.cept_writer.specs.PageCommands.{area_commands, implicit_commands, row_commands};
-ghost use Rattle.cept_writer.specs.PageCommands.{rows_below, screen_commands};
+ghost use Rattle.cept_writer.specs.PageCommands.{area_commands, first_commands, implicit_commands};
+ghost use Rattle.cept_writer.specs.PageCommands.{row_commands, rows_below, screen_commands};
 
 use crate::attributes::add_pen;
 use crate::colours::{put_colours, put_dclut};
@@ -20,17 +18,18 @@ use cept_codes::{C1Set, Command};
 use cept_outside::{Sink, WriteFault};
 use cept_repaint::Screen;
 
-/// Puts a reset and the format.
+/// Puts a reset, the revision of the rules, where it is the second, and the format.
 fn put_beginning<T: Sink>(sink: &mut T, screen: &Screen) -> Result<(), WriteFault>
-    ensures { let text = spellings (commands.FullDefaults c1sets.Parallel
-        ∷ commands.Format screen.now.control.rows screen.now.control.wrap ∷ []) in
+    ensures { let text = spellings (first_commands (core_of screen.now)) in
         PutsText (T.state sink.old) text result (T.state sink.new) }
 {
-    let list = [
-        Command::FullDefaults(C1Set::Parallel),
-        Command::Format(screen.rows(), screen.wrap()),
-    ];
-    put_commands(sink, &list)
+    let reset = Command::FullDefaults(C1Set::Parallel);
+    let format = Command::Format(screen.rows(), screen.wrap());
+    if screen.revision() == 2 {
+        put_commands(sink, &[reset, Command::Revision(2), format])
+    } else {
+        put_commands(sink, &[reset, format])
+    }
 }
 
 /// Puts the attributes of the screen.
@@ -91,8 +90,8 @@ fn put_implicit<T: Sink>(sink: &mut T, screen: &Screen) -> Result<(), WriteFault
 }
 
 /// Puts the bytes that bring the page of a screen back on a decoder that starts anew, with its
-/// format, its area and implicit scrolling. Takes no memory. After `WriteFault` a part of the text
-/// was put, from its front on, and not the whole.
+/// revision of the rules, its format, its area and implicit scrolling. Takes no memory. After
+/// `WriteFault` a part of the text was put, from its front on, and not the whole.
 pub fn write_page<T: Sink>(screen: &Screen, sink: &mut T) -> Result<(), WriteFault>
     ensures { PutsText (T.state sink.old) (page_text (core_of screen.now)) result
         (T.state sink.new) }

@@ -127,6 +127,8 @@ pub fn add_spelling(text: &mut Text, command: &Command)
     match command {
         Command::FullDefaults(C1Set::Serial) => add_bytes(text, &[0x1F, 0x2F, 0x41]),
         Command::FullDefaults(C1Set::Parallel) => add_bytes(text, &[0x1F, 0x2F, 0x42]),
+        Command::Revision(2) => add_bytes(text, &[0x1F, 0x2F, 0x45]),
+        Command::Revision(_) => add_bytes(text, &[0x1F, 0x2F, 0x46]),
         Command::Format(20, true) => add_bytes(text, &[0x1F, 0x2D, 0x42, 0x70]),
         Command::Format(20, false) => add_bytes(text, &[0x1F, 0x2D, 0x42, 0x71]),
         Command::Format(_, true) => add_bytes(text, &[0x1F, 0x2D, 0x41, 0x70]),

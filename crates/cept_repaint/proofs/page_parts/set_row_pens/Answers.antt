@@ -6,7 +6,7 @@ use Rattle.cept_codes.specs.Attribute.{unset_pen}
 use Rattle.cept_codes.specs.Stroke.{IsValidStroke}
 use Rattle.cept_profile.specs.PageParts.{row_pens_after}
 use Rattle.cept_profile.specs.Pens.{pen_with}
-use Rattle.cept_repaint.proofs.PageParts.{row_pen_written, row_pens_unset}
+use Rattle.cept_repaint.proofs.PageParts.{row_pen_written, row_pens_carried, row_pens_unset}
 use Rattle.cept_repaint.proofs.page_parts.set_row_pens.Goals as goal
 use Rattle.cept_codes.proofs.Laws.{entry_from}
 
@@ -23,6 +23,12 @@ returns-in-RowAttr c =
     ∙ ap (λ n. get_or c.args.pens.now n unset_pen) index
     ∙ sym (entry_from unset_pen 1 c.args.pens.now row valid.0.0)))
     ∙ ap (λ (s : Stroke). row_pens_after c.args.pens.now s) (sym c.in-RowAttr.is)
+
+pub returns-in-Carry : goal.returns-in-Carry
+returns-in-Carry c =
+    c.carried_pens.ensures
+    ∙ row_pens_carried c.args.pens.now c.in-Carry.first c.in-Carry.last c.in-Carry.way
+    ∙ ap (λ (s : Stroke). row_pens_after c.args.pens.now s) (sym c.in-Carry.is)
 
 pub returns-in-Wipe : goal.returns-in-Wipe
 returns-in-Wipe c =

@@ -1,66 +1,9 @@
-use Rattle.std.proofs.Common.{Bool, List, length, refl, sym, ap, subst, ◌∙◌, ◌==◌, arith}
-use Rattle.std.proofs.lemmas.Bool.{eqb-true, true≢false}
-use Rattle.cept_profile.specs.State.{Page}
-use Rattle.cept_profile.specs.Valid.{IsValidPage}
-use Rattle.cept_codes.specs.Table.{list_by_index}
-use Rattle.cept_repaint.specs.Due.{followed, pens_of, rows_due}
-use Rattle.cept_repaint.specs.Kept.{core_on}
-use Rattle.cept_repaint.specs.Named.{AreNamedOn}
-use Rattle.cept_profile.specs.Edges.{Edges}
-use Rattle.cept_repaint.proofs.AloneRows.{OthersStay-put}
-use Rattle.cept_repaint.proofs.OnePlace.{IsPutAlone-drawn, page_after-none, page_after-put_alone}
+use Rattle.std.proofs.Common.{length, refl, sym, ◌∙◌, arith}
+use Rattle.std.proofs.lemmas.Bool.{eqb-true}
+use Rattle.cept_repaint.proofs.OnePlace.{page_after-none}
 use Rattle.cept_repaint.proofs.Refreshed.{differences_none}
-use Rattle.cept_repaint.proofs.AlteredRows.{altered-put}
-use Rattle.cept_repaint.proofs.FollowedRows.{still-put}
-use Rattle.cept_repaint.proofs.NamesAfter.{AreNamedOn-drawn, AreNamedOn-put}
-use Rattle.cept_repaint.proofs.RowsDue.{freed-altered, mixes-edges, mixes-else, put-resolved, put_defines_nothing, rows_due-resolved}
-use Rattle.cept_repaint.proofs.WalkedRows.{OtherRowsStay-drawn}
+use Rattle.cept_repaint.proofs.RowsDue.{mixes-edges, rows_due-resolved}
 use Rattle.cept_repaint.proofs.redraw.redraw.Goals as goal
-
-pub refresh_put-requires-clause-freed : goal.refresh_put-requires-clause-freed
-refresh_put-requires-clause-freed g c =
-    let drawn = page_after-put_alone c.args.page.now c.put.new.self c.args.strokes.now c.in-Some.put.place
-    c.in-Some.put.cell.now c.in-Some.ensures c.put.ensures.drawn in
-    freed-altered (list_by_index 1 24 (λ q. c.row-row.result == q)) (list_by_index 1 24 (followed c.args.strokes.now)) c.args.strokes.now (pens_of c.args.page.now)
-    c.args.before.now (pens_of c.put.new.self) c.args.after.now
-    (altered-put c.args.page.now c.put.new.self c.args.strokes.now c.in-Some.put.place c.in-Some.put.cell.now
-    c.args.before.now c.args.after.now (list_by_index 1 24 (λ q. c.row-row.result == q)) c.row-row.result c.in-Some.ensures drawn
-    (c.is_same.ensures.same c.if-not-is_same.false) refl c.row-row.ensures.row)
-    refl
-
-pub refresh_put-requires-clause-still : goal.refresh_put-requires-clause-still
-refresh_put-requires-clause-still g c r q low high came =
-    still-put (list_by_index 1 24 (followed c.args.strokes.now)) c.args.strokes.now c.in-Some.put.place
-    c.in-Some.put.cell.now refl c.in-Some.ensures r q low high came
-
-pub refresh_put-requires-clause-others : goal.refresh_put-requires-clause-others
-refresh_put-requires-clause-others g c =
-    let drawn = page_after-put_alone c.args.page.now c.put.new.self c.args.strokes.now c.in-Some.put.place
-    c.in-Some.put.cell.now c.in-Some.ensures c.put.ensures.drawn in
-    OtherRowsStay-drawn c.args.page.now c.put.new.self c.args.strokes.now c.args.before.now c.args.after.now
-    c.args.kept.now (list_by_index 1 24 (λ q. c.row-row.result == q)) (list_by_index 1 24 (followed c.args.strokes.now)) c.requires.was_valid c.requires.strokes
-    c.requires.from c.requires.kept drawn
-    (altered-put c.args.page.now c.put.new.self c.args.strokes.now c.in-Some.put.place c.in-Some.put.cell.now
-    c.args.before.now c.args.after.now (list_by_index 1 24 (λ q. c.row-row.result == q)) c.row-row.result c.in-Some.ensures drawn
-    (c.is_same.ensures.same c.if-not-is_same.false) refl c.row-row.ensures.row)
-    refl
-
-pub returns-else-put-clause-cost : goal.returns-else-put-clause-cost
-returns-else-put-clause-cost g c k m ek em =
-    let drawn = page_after-put_alone c.args.page.now c.put.new.self c.args.strokes.now c.in-Some.put.place
-    c.in-Some.put.cell.now c.in-Some.ensures c.put.ensures.drawn in
-    let flags = altered-put c.args.page.now c.put.new.self c.args.strokes.now c.in-Some.put.place c.in-Some.put.cell.now
-    c.args.before.now c.args.after.now (list_by_index 1 24 (λ q. c.row-row.result == q)) c.row-row.result c.in-Some.ensures drawn
-    (c.is_same.ensures.same c.if-not-is_same.false) refl c.row-row.ensures.row in
-    let none = put_defines_nothing c.in-Some.put.place c.in-Some.put.cell.now c.args.strokes.now c.in-Some.ensures in
-    omega (
-      arith,
-      c.refresh_put.ensures.cost,
-      ap (λ (l : List Bool). rows_due l (list_by_index 1 24 (followed c.args.strokes.now)) c.args.kept.now c.refresh_put.new.kept) flags,
-      rows_due-resolved c.args.page.now c.put.new.self c.args.strokes.now c.args.before.now c.args.after.now
-          c.args.kept.now c.refresh_put.new.kept k m ek em (c.requires.kept k ek) (c.refresh_put.ensures.kept m em)
-          (λ some. absurd (true≢false (sym some ∙ none))),
-    )
 
 pub returns-then-not-is_same-clause-cost : goal.returns-then-not-is_same-clause-cost
 returns-then-not-is_same-clause-cost g c k m ek em =
@@ -73,35 +16,6 @@ returns-then-not-is_same-clause-cost g c k m ek em =
           (c.is_same.ensures.others c.if-not-is_same.true)),
     )
 
-pub returns-then-one_else-clause-cost : goal.returns-then-one_else-clause-cost
-returns-then-one_else-clause-cost g c k m ek em =
-    omega (
-      arith,
-      c.redraw_rows-then-one_else.ensures.cost,
-      rows_due-resolved c.args.page.now c.redraw_rows-then-one_else.new.page c.args.strokes.now c.args.before.now
-          c.args.after.now c.args.kept.now c.redraw_rows-then-one_else.new.kept k m ek em (c.requires.kept k ek)
-          (c.redraw_rows-then-one_else.ensures.kept m em)
-          (mixes-else c.args.before.now c.args.after.now c.args.strokes.now (sym c.one_else.ensures ∙ c.if-one_else.true)),
-    )
-
-pub redraw_defined-requires-clause-kept : goal.redraw_defined-requires-clause-kept
-redraw_defined-requires-clause-kept g c =
-    λ k same. c.requires.kept k (same ∙ sym (c.is_same.ensures.same c.if-not-is_same.false))
-
-pub refresh_put-requires-clause-valid : goal.refresh_put-requires-clause-valid
-refresh_put-requires-clause-valid g c =
-    subst (λ (p : Page). IsValidPage p)
-    (sym (page_after-put_alone c.args.page.now c.put.new.self c.args.strokes.now c.in-Some.put.place
-    c.in-Some.put.cell.now
-    c.in-Some.ensures c.put.ensures.drawn)) c.requires.valid
-
-pub refresh_place-requires-clause-valid : goal.refresh_place-requires-clause-valid
-refresh_place-requires-clause-valid g c =
-    subst (λ (p : Page). IsValidPage p)
-    (sym (page_after-put_alone c.args.page.now c.put.new.self c.args.strokes.now c.in-Some.put.place
-    c.in-Some.put.cell.now
-    c.in-Some.ensures c.put.ensures.drawn)) c.requires.valid
-
 pub returns-then-is_empty-clause-page : goal.returns-then-is_empty-clause-page
 returns-then-is_empty-clause-page g c =
     sym (page_after-none c.args.page.now c.args.strokes.now
@@ -110,73 +24,18 @@ returns-then-is_empty-clause-page g c =
 pub returns-then-is_empty-clause-marks : goal.returns-then-is_empty-clause-marks
 returns-then-is_empty-clause-marks g c = differences_none c.args.kept.now _ c.clear.new.self c.clear.ensures refl
 
-pub returns-then-put-clause-page : goal.returns-then-put-clause-page
-returns-then-put-clause-page g c =
-    page_after-put_alone c.args.page.now c.put.new.self c.args.strokes.now c.in-Some.put.place c.in-Some.put.cell.now
-    c.in-Some.ensures c.put.ensures.drawn
-
-pub returns-else-put-clause-page : goal.returns-else-put-clause-page
-returns-else-put-clause-page g c =
-    page_after-put_alone c.args.page.now c.put.new.self c.args.strokes.now c.in-Some.put.place c.in-Some.put.cell.now
-    c.in-Some.ensures c.put.ensures.drawn
-
-pub returns-then-put-clause-kept : goal.returns-then-put-clause-kept
-returns-then-put-clause-kept g c =
-    let alone =
-    IsPutAlone-drawn c.args.page.now c.put.new.self c.args.strokes.now c.in-Some.put.place c.in-Some.put.cell.now
-    c.in-Some.ensures
-    c.put.ensures.drawn c.refresh_place.ensures.on_screen (c.put.ensures.before c.if-put.true)
-    (c.put.ensures.after c.if-put.true) c.requires.was_valid c.requires.strokes c.requires.valid in
-    λ k same. c.refresh_place.ensures.kept k
-    (OthersStay-put c.args.page.now c.put.new.self k c.args.kept.now c.in-Some.put.place
-    (c.requires.kept k (same ∙ sym (c.is_same.ensures.same c.if-not-is_same.false))) alone)
-
-pub returns-then-put-clause-cost : goal.returns-then-put-clause-cost
-returns-then-put-clause-cost g c k m ek em =
-    omega (
-      arith,
-      c.refresh_place.ensures.cost,
-      put-resolved c.in-Some.put.place c.in-Some.put.cell.now c.args.strokes.now (core_on k c.args.page.now)
-          (core_on m c.put.new.self) c.in-Some.ensures c.refresh_place.ensures.on_screen,
-    )
-
-pub redraw_defined-requires-clause-named : goal.redraw_defined-requires-clause-named
-redraw_defined-requires-clause-named g c =
-    λ k same. c.requires.named k (same ∙ sym (c.is_same.ensures.same c.if-not-is_same.false))
-
 pub returns-then-is_empty-clause-named : goal.returns-then-is_empty-clause-named
 returns-then-is_empty-clause-named g c =
     λ k same. c.requires.named k (same ∙ sym (c.is_same.ensures.same c.if-not-is_same.false))
 
-pub returns-then-put-clause-named : goal.returns-then-put-clause-named
-returns-then-put-clause-named g c =
-    let drawn = page_after-put_alone c.args.page.now c.put.new.self c.args.strokes.now c.in-Some.put.place
-    c.in-Some.put.cell.now c.in-Some.ensures c.put.ensures.drawn in
-    let alone =
-    IsPutAlone-drawn c.args.page.now c.put.new.self c.args.strokes.now c.in-Some.put.place c.in-Some.put.cell.now
-    c.in-Some.ensures
-    c.put.ensures.drawn c.refresh_place.ensures.on_screen (c.put.ensures.before c.if-put.true)
-    (c.put.ensures.after c.if-put.true) c.requires.was_valid c.requires.strokes c.requires.valid in
-    subst (λ (e : Edges). AreNamedOn c.refresh_place.new.names c.put.new.self e)
-    (c.is_same.ensures.same c.if-not-is_same.false)
-    (AreNamedOn-put c.args.page.now c.put.new.self c.args.strokes.now c.in-Some.put.place c.in-Some.put.cell.now
-    c.args.before.now c.args.kept.now c.args.names.now c.refresh_place.new.names c.requires.was_valid
-    (subst (λ (p : Page). IsValidPage p) (sym drawn) c.requires.valid) c.requires.strokes c.requires.from
-    c.requires.named c.requires.kept c.in-Some.ensures drawn
-    (λ k same. OthersStay-put c.args.page.now c.put.new.self k c.args.kept.now c.in-Some.put.place
-    (c.requires.kept k same) alone)
-    c.refresh_place.ensures.remembered)
+pub redraw_drawn-requires-clause-kept : goal.redraw_drawn-requires-clause-kept
+redraw_drawn-requires-clause-kept g c =
+    λ k same. c.requires.kept k (same ∙ sym (c.is_same.ensures.same c.if-not-is_same.false))
 
-pub returns-else-put-clause-named : goal.returns-else-put-clause-named
-returns-else-put-clause-named g c =
-    let drawn = page_after-put_alone c.args.page.now c.put.new.self c.args.strokes.now c.in-Some.put.place
-    c.in-Some.put.cell.now c.in-Some.ensures c.put.ensures.drawn in
-    AreNamedOn-drawn c.args.page.now c.put.new.self c.args.strokes.now c.args.before.now c.args.after.now
-    c.args.kept.now c.refresh_put.new.kept c.args.names.now c.refresh_put.new.names
-    (list_by_index 1 24 (λ q. c.row-row.result == q)) (list_by_index 1 24 (followed c.args.strokes.now))
-    c.refresh_put.new.marks c.requires.was_valid (subst (λ (p : Page). IsValidPage p) (sym drawn) c.requires.valid)
-    c.requires.strokes c.requires.from c.requires.named c.requires.kept c.refresh_put.ensures.kept drawn
-    (altered-put c.args.page.now c.put.new.self c.args.strokes.now c.in-Some.put.place c.in-Some.put.cell.now
-    c.args.before.now c.args.after.now (list_by_index 1 24 (λ q. c.row-row.result == q)) c.row-row.result
-    c.in-Some.ensures drawn (c.is_same.ensures.same c.if-not-is_same.false) refl c.row-row.ensures.row)
-    refl c.refresh_put.ensures.marks c.refresh_put.ensures.remembered
+pub redraw_drawn-requires-clause-named : goal.redraw_drawn-requires-clause-named
+redraw_drawn-requires-clause-named g c =
+    λ k same. c.requires.named k (same ∙ sym (c.is_same.ensures.same c.if-not-is_same.false))
+
+pub returns-clause-cost : goal.returns-clause-cost
+returns-clause-cost g c k m ek em =
+    c.redraw_drawn.ensures.cost k m (ek ∙ c.is_same.ensures.same c.if-not-is_same.false) em

@@ -1,6 +1,8 @@
-use Rattle.std.proofs.Common.{sym, ap, ◌∙◌}
+use Rattle.std.proofs.Common.{sym, ap, ◌∙◌, ◌&&◌, nat_le}
 use Rattle.cept_codes.specs.declared.stroke.Stroke.{Stroke}
 use Rattle.cept_profile.specs.NotedStrokes.{with_stroke}
+use Rattle.cept_profile.specs.OldValues.{OldValues, with_row_pens}
+use Rattle.cept_profile.specs.PageParts.{row_pen_in}
 use Rattle.cept_repaint.specs.Noter.{page_with}
 use Rattle.cept_repaint.proofs.delta.Delta.note_stroke.Goals as goal
 
@@ -15,6 +17,14 @@ returns-in-Shift c =
     c.note_rows.ensures
     ∙ ap (λ (s : Stroke). with_stroke (page_with c.args.grid.now c.args.row_pens.now c.args.screen_pen.now
     c.args.colours.now c.args.patterns.now) s c.args.self.now) (sym c.in-Shift.is)
+
+pub returns-in-Carry : goal.returns-in-Carry
+returns-in-Carry c =
+    c.note_row_pens.ensures
+    ∙ ap (λ (old : OldValues). with_row_pens (λ r. nat_le c.in-Carry.first r && nat_le r c.in-Carry.last)
+    (row_pen_in c.args.row_pens.now) old) c.note_rows-in-Carry.ensures
+    ∙ ap (λ (s : Stroke). with_stroke (page_with c.args.grid.now c.args.row_pens.now c.args.screen_pen.now
+    c.args.colours.now c.args.patterns.now) s c.args.self.now) (sym c.in-Carry.is)
 
 pub returns-in-RowAttr : goal.returns-in-RowAttr
 returns-in-RowAttr c =

@@ -7,7 +7,7 @@ use Rattle.cept_repaint.specs.Kept.{state_of_parts}
 use Rattle.cept_repaint.proofs.KeptAfter.{AreEdges-state, AreLooksOn-state, IsKept-state_after, looks_of-drawn, marks-kept}
 use Rattle.cept_repaint.proofs.KeptAfter.{AreNamed-drawn, AreNamedOn-state, resolved-of, state_after-drawn}
 use Rattle.cept_profile.proofs.Laws.{rows_in_reach-le}
-use Rattle.cept_repaint.proofs.screen.Screen.write.Goals as goal
+use Rattle.cept_repaint.proofs.screen.Screen.write_edges.Goals as goal
 
 pub redraw-requires-clause-kept : goal.redraw-requires-clause-kept
 redraw-requires-clause-kept g c =
