@@ -233,6 +233,32 @@ def ticker():
     return page
 
 
+def board():
+    def train(time, name, to, track):
+        return words(f" {time:>5}  {name:<7}  {to:<16} {track:>2}")
+
+    late = of_row(back(YELLOW)) + of_row(fore(BLACK))
+    fails = of_row(back(RED)) + of_row(HIGH)
+    page = FULL_DEFAULTS_PARALLEL + SECOND_REVISION + at(1, 2) + fore(YELLOW) + HIGH + words("Anzeigetafel")
+    page += at(4, 1) + of_row(back(BLUE)) + HIGH + words(" Zeit   Zug      Nach           Gleis")
+    page += at(13, 1) + of_row(back(BLUE)) + words(" Gelb: später    Rot: fällt aus")
+    page += area(5, 12) + IMPLICIT + at(5, 1)
+    page += train("9.48", "E  3019", "Aalen", "5") + RETURN + DOWN
+    page += fails + words(" IC 509 nach Köln fällt aus") + RETURN + DOWN + DOWN
+    page += train("10.02", "S     7", "Laupheim", "28") + RETURN + DOWN
+    page += late + train("10.10", "E  3023", "Sigmaringen", "4") + RETURN + DOWN
+    page += train("10.42", "IC  513", "Straßburg", "3") + RETURN + DOWN
+    page += late + train("10.55", "D  1285", "Nürnberg", "2") + RETURN + DOWN
+    page += fails + words(" IC 611 nach München fällt aus") + RETURN + DOWN + DOWN
+    page += train("11.30", "E  3025", "Göppingen", "5") + RETURN + DOWN
+    page += fails + words(" S 9 nach Blaubeuren fällt aus")
+    page += EXPLICIT + at(15, 2) + words("Jede Zeile nimmt ihre Farbe mit, wenn")
+    page += at(16, 2) + words("die Tafel rollt. Über ihren Rand geht")
+    page += at(17, 2) + words("keine hohe Schrift: Der Kopf und die")
+    page += at(18, 2) + words("letzte Zeile bleiben niedrig.")
+    return page
+
+
 def form():
     page = FULL_DEFAULTS_PARALLEL + at(1, 2) + fore(YELLOW) + HIGH + words("Bestellung")
     for row, label in ((4, "Name:"), (6, "Straße:"), (8, "Ort:"), (10, "Menge:")):
@@ -360,6 +386,24 @@ def refused():
     return page
 
 
+def weather():
+    page = FULL_DEFAULTS_PARALLEL + at(1, 2) + fore(YELLOW) + HIGH + words("Das Wetter in Ulm")
+    page += at(4, 2) + words("Regen, Liter je Quadratmeter")
+    for row in range(5, 18):
+        page += at(row, 1) + of_row(fore(CYAN))
+    for row, litres in ((7, 120), (10, 80), (13, 40), (16, 0)):
+        page += at(row, 2) + fore(WHITE) + words(f"{litres:>3}")
+    for month, letter in enumerate("JFMAMJJASOND"):
+        page += at(18, (15 + 5 * month) // 2 + 1) + words(letter)
+    page += at(19, 2) + words("Wärme, Grad")
+    for row in range(20, 25):
+        page += at(row, 1) + of_row(fore(YELLOW))
+    for row, degrees in ((20, 20), (23, 0)):
+        page += at(row, 2) + fore(WHITE) + words(f"{degrees:>3}")
+    return page
+
+
 PAGES = (
-    title, timetable, house, boat, hold, patterns, colours, ticker, form, rows, answers, service, flashing, signs, refused,
+    title, timetable, house, boat, hold, patterns, colours, ticker, board, form, rows, answers, service, flashing, signs, refused,
+    weather,
 )

@@ -1,4 +1,4 @@
-// Reads the texts that the program puts: change lines, refusal lines, the check line, and looks.
+// Reads the texts that the program puts: change lines, refusal lines, nothing lines, the check line, and looks.
 // Their grammar stands in docs/PROFILE.md under "Texts".
 //
 // The viewer's files are plain scripts, each a function that adds to the one name Tamligub: a browser loads no JavaScript
@@ -18,6 +18,7 @@
   );
   const REFUSAL = /^! (0|[1-9]\d*) ([1-9]\d*) ([1-7]) ([A-Za-z]+)$/;
   const CHECK = /^items (0|[1-9]\d*) refused (0|[1-9]\d*)$/;
+  const NOTHING = /^([1-9]\d*) nothing$/;
   // The number of signs of the shortest change line, and what no number of a text goes beyond.
   const SHORTEST = "0 1 1 - 11.00 FFF 000 S---".length;
   const MOST = 1e9;
@@ -176,15 +177,16 @@
     }
   }
 
-  // Takes each line of a text into a course; `refuse` takes what begins as a refusal.
-  function taken(course, text, refuse, kind) {
+  // Takes each line of a text into a course; `refuse` takes what begins as a refusal, and `other` what is no change line.
+  function taken(course, text, refuse, kind, other = () => false) {
     const reader = new Reader(text);
     for (let number = 1, start = 0; start < text.length; number++) {
       const feed = text.indexOf("\n", start);
       const end = feed < 0 ? text.length : feed;
       reader.at = start;
-      const good = text[start] === "!" ? refuse(text.slice(start, end)) : course.change(reader, end);
-      if (!good) throw new LineFault(number, text.slice(start, end), kind);
+      const line = () => text.slice(start, end);
+      const good = text[start] === "!" ? refuse(line()) : course.change(reader, end) || other(line());
+      if (!good) throw new LineFault(number, line(), kind);
       start = end + 1;
     }
     return course;
@@ -193,6 +195,15 @@
   function readChanges(text) {
     const course = new Course(text);
     return taken(course, text, (line) => course.refuse(line), "a change line or a refusal");
+  }
+
+  // The text of `trace`, whose moments are lines of a script: with the refusals of the page, and with the lines at which nothing could
+  // be taken back or made again. Looks are numbered among those that are known already.
+  function readTrace(text, known) {
+    const [refusals, nothings] = [[], []];
+    const refuse = (line) => refusals.push(refusalOf(line)) > 0 && refusals[refusals.length - 1] !== null;
+    const other = (line) => NOTHING.test(line) && nothings.push(Number(NOTHING.exec(line)[1])) > 0;
+    return Object.assign(taken(new Course(text, known), text, refuse, "a line of trace", other), { refusals, nothings });
   }
 
   // The text of `flash`: the grids of the six phases, whose numbers are among the looks that are known already. A phase to which
@@ -244,6 +255,6 @@
   }
 
   Object.assign(tamligub, {
-    COLUMNS, ROWS, CELLS, PHASES, TextFault, LineFault, readLook, readChanges, readFlash, readCells, readCheck, pixelsOf,
+    COLUMNS, ROWS, CELLS, PHASES, TextFault, LineFault, Looks, readLook, readChanges, readTrace, readFlash, readCells, readCheck, pixelsOf,
   });
 })((window.Tamligub = window.Tamligub || {}));

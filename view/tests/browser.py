@@ -1,5 +1,6 @@
 """A headless Chromium, driven over its debugging pipe: one tab, messages in JSON with a zero byte after each."""
 import base64
+import contextlib
 import fcntl
 import json
 import os
@@ -53,8 +54,11 @@ class Browser:
     def attach(self):
         pages = [target for target in self.call("Target.getTargets")["targetInfos"] if target["type"] == "page"]
         target = pages[0]["targetId"] if pages else self.call("Target.createTarget", url="about:blank")["targetId"]
+        self.join(target)
+
+    def join(self, target):
         self.session = self.call("Target.attachToTarget", targetId=target, flatten=True)["sessionId"]
-        for domain in ("Page", "Runtime", "Log", "DOM", "Accessibility"):
+        for domain in ("Page", "Runtime", "Log", "DOM", "Accessibility", "Inspector"):
             self.call(domain + ".enable")
 
     def message(self):
@@ -99,10 +103,28 @@ class Browser:
             raise BrowserFault(json.dumps(done["exceptionDetails"])[:600])
         return done["result"].get("value")
 
-    def open(self, path):
+    def open(self, path, whole="viewer"):
+        """Opens a file, and waits until the name under which it has joined its parts is there."""
         self.call("Page.navigate", url="about:blank")
+        self.until("location.href === 'about:blank'")
         self.call("Page.navigate", url="file://" + os.path.abspath(path))
-        self.until("document.readyState === 'complete' && window.Tamligub !== undefined && Tamligub.viewer !== undefined")
+        self.until(f"document.readyState === 'complete' && window.Tamligub !== undefined && Tamligub.{whole} !== undefined")
+
+    def crash(self):
+        """Ends the process of the page, as a crash does, and takes another tab."""
+        targets = [target["targetId"] for target in self.call("Target.getTargets")["targetInfos"] if target["type"] == "page"]
+        self.number += 1
+        text = json.dumps({"id": self.number, "method": "Page.crash", "params": {}, "sessionId": self.session}).encode() + b"\0"
+        os.write(self.writing, text)
+        while self.message().get("method") != "Inspector.targetCrashed":
+            pass
+        self.session = None
+        target = self.call("Target.createTarget", url="about:blank")["targetId"]
+        for old in targets:
+            # One that crashed may be gone by itself.
+            with contextlib.suppress(BrowserFault):
+                self.call("Target.closeTarget", targetId=old)
+        self.join(target)
 
     def until(self, condition, seconds=20):
         deadline = time.monotonic() + seconds

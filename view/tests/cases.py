@@ -75,6 +75,16 @@ class Stand:
         assert done.returncode in (0, 1), f"{word} {name}: status {done.returncode}"
         return done.stdout.decode("utf-8")
 
+    def drawn(self, name):
+        """The path of a page, with the drawing that stands beside it, if one does, on it."""
+        drawing = os.path.join(PAGES, name + ".drawing")
+        if not os.path.exists(drawing):
+            return self.path(name)
+        path = os.path.join(self.place, name + ".drawn.btx")
+        with open(path, "wb") as file:
+            subprocess.run([self.program, "plot", self.path(name), drawing], stdout=file, check=True, timeout=60)
+        return path
+
     def written(self, name, paths):
         path = os.path.join(self.place, name)
         with open(path, "wb") as file:

@@ -1,11 +1,13 @@
 """The screenshots that the README and docs show."""
 import os
 
-# A picture's name, its page, the byte up to which the page has come (None is its end), and whether all of the viewer is shown.
+# A picture's name, its page (with the drawing on it that stands beside it, if one does), the byte up to which the page has come (None is
+# its end), and whether all of the viewer is shown.
 PICTURES = (
     ("viewer.png", "title", None, True),
     ("patterns.png", "patterns", None, False),
     ("boat.png", "boat", None, False),
+    ("weather.png", "weather", None, False),
 )
 
 
@@ -13,7 +15,7 @@ def write(tab, stand, folder):
     os.makedirs(folder, exist_ok=True)
     for name, page, bytes_come, whole in PICTURES:
         tab.size(1000 if whole else 760, 760 if whole else 900)
-        tab.open(stand.written("picture.html", [stand.path(page)]))
+        tab.open(stand.written("picture.html", [stand.drawn(page)]))
         tab.value("Tamligub.part('flash').checked && Tamligub.part('flash').click()")
         if not whole:
             tab.value("Tamligub.part('outline').click()")
