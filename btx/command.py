@@ -6,11 +6,11 @@ import signal
 import subprocess
 import sys
 
-from btx import VERSION, archive, html, messages, picture, program, terminal, viewer
+from btx import VERSION, archive, editor, html, messages, picture, program, terminal, viewer
 
-OWN = {"terminal": terminal, "html": html, "viewer": viewer, "png": picture, "archive": archive}
+OWN = {"terminal": terminal, "html": html, "viewer": viewer, "editor": editor, "png": picture, "archive": archive}
 # Words that do without the program.
-BY_THEMSELVES = ("viewer",)
+BY_THEMSELVES = ("viewer", "editor")
 NOT_THERE = 127
 EPILOG = """The words of the program pass through with its output and its status; what a status means is said on standard error.
 man btx and man cept_tool say more. BTX_PROGRAM can name another program."""

@@ -21,19 +21,33 @@ def arguments(parser):
     parser.add_argument("--module", metavar="MODULE", help="a tamligub.wasm that library/web has made; without this that of library/out")
 
 
+def caller():
+    """The script that calls the module."""
+    with open(os.path.join(LIBRARY, "tamligub.js"), encoding="utf-8") as file:
+        return "(function (tamligub) {\n" + file.read() + "tamligub.run = run;\n})((window.Tamligub = window.Tamligub || {}));\n"
+
+
+def policy_of(style, scripts):
+    """A policy that lets no other style or script in, and lets these compile the module."""
+    policy = f"default-src 'none'; img-src blob: data:; style-src {html.sum_of(style)}; script-src 'wasm-unsafe-eval' "
+    return policy + " ".join(map(html.sum_of, scripts))
+
+
+def data_of(module):
+    return f'<script type="application/wasm-base64" id="module">{base64.b64encode(module).decode()}</script>'
+
+
+def inside(scripts):
+    return "\n".join(f"<script>{script}</script>" for script in scripts)
+
+
 def html_with(module):
     """The viewer's document with its style, its scripts and the module inside."""
     document, style = html.text_of("index.html"), html.text_of("style.css")
-    with open(os.path.join(LIBRARY, "tamligub.js"), encoding="utf-8") as file:
-        caller = "(function (tamligub) {\n" + file.read() + "tamligub.run = run;\n})((window.Tamligub = window.Tamligub || {}));\n"
-    scripts = [*map(html.text_of, html.SCRIPT.findall(document)), caller, html.text_of("decoder.js")]
-    policy = f"default-src 'none'; img-src blob: data:; style-src {html.sum_of(style)}; script-src 'wasm-unsafe-eval' "
-    policy += " ".join(map(html.sum_of, scripts))
-    head, tail = html.SCRIPT.sub("", html.with_policy(document, policy)).split(html.DATA)
+    scripts = [*map(html.text_of, html.SCRIPT.findall(document)), caller(), html.text_of("decoder.js")]
+    head, tail = html.SCRIPT.sub("", html.with_policy(document, policy_of(style, scripts))).split(html.DATA)
     head = head.replace('<link rel="stylesheet" href="style.css">', f"<style>{style}</style>")
-    data = f'<script type="application/wasm-base64" id="module">{base64.b64encode(module).decode()}</script>'
-    inside = "\n".join(f"<script>{script}</script>" for script in scripts)
-    return f"{head}{html.DATA}\n{data}\n{inside}\n{tail.lstrip()}"
+    return f"{head}{html.DATA}\n{data_of(module)}\n{inside(scripts)}\n{tail.lstrip()}"
 
 
 def absent():
@@ -45,22 +59,27 @@ def absent():
     return None
 
 
-def made():
+def made(word):
     """Whether library/web has made the module; it proves the library first, and says itself what it lacks."""
-    print("btx: viewer: library/web makes the module, and proves the library first, which can take minutes", file=sys.stderr)
+    print(f"btx: {word}: library/web makes the module, and proves the library first, which can take minutes", file=sys.stderr)
     done = subprocess.run([MAKER, os.path.dirname(MODULE)], stdin=subprocess.DEVNULL, stdout=sys.stderr, close_fds=False)
     return done.returncode == 0 and os.path.exists(MODULE)
 
 
-def run(_, options):
+def write(options, document_with):
+    """Writes the document that stands over the module, which is made where it isn't there."""
     path = options.module or MODULE
     if not options.module and not os.path.exists(path):
         why = absent()
-        if why or not made():
-            print(f"btx: viewer: {why or 'the module was not made'}", file=sys.stderr)
+        if why or not made(options.word):
+            print(f"btx: {options.word}: {why or 'the module was not made'}", file=sys.stderr)
             return NOT_THERE
     with open(path, "rb") as file:
-        document = html_with(file.read())
+        document = document_with(file.read())
     with html.output(options.output) as file:
         file.write(document.encode("utf-8"))
     return 0
+
+
+def run(_, options):
+    return write(options, html_with)

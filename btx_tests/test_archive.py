@@ -84,7 +84,7 @@ class Archive(stand.Case):
             ("long.btx", "7", "too long: more than 16,777,216 bytes"), ("lost.btx", "4", "can't be read: no such file"),
             ("pipe.btx", "4", "can't be read: it is no plain file"),
         ])
-        self.assertIn(b"19 pages, 1 with refused items, 3 not read", done.stdout)
+        self.assertIn(b"21 pages, 1 with refused items, 3 not read", done.stdout)
 
     def test_what_is_there_and_newer_is_not_made_again(self):
         self.archive()
@@ -97,7 +97,7 @@ class Archive(stand.Case):
         os.utime(os.path.join(self.source, "title.btx"), (later, later))
         os.remove(os.path.join(self.out, "made", "form.btx.json"))
         done = self.archive()
-        self.assertIn(b"; 14 were there", done.stdout)
+        self.assertIn(b"; 16 were there", done.stdout)
         self.assertEqual(os.path.getmtime(made), 1)
         self.assertGreater(os.path.getmtime(os.path.join(self.out, "pages", "title.btx.html")), 1)
         self.assertEqual(self.report()["title.btx"]["bytes"], str(os.path.getsize(stand.page("house"))))
@@ -129,7 +129,7 @@ class Archive(stand.Case):
         said = os.read(master, 1 << 16).decode()
         os.close(master)
         self.assertEqual(done.returncode, 0)
-        self.assertRegex(said, r"\r\x1b\[K16 of 16 pages, 1 with refused items, 0 not read\r?\n$")
+        self.assertRegex(said, r"\r\x1b\[K18 of 18 pages, 1 with refused items, 0 not read\r?\n$")
         self.assertEqual(self.archive().stderr, b"")
 
     def test_a_folder_that_is_not_there(self):
@@ -153,7 +153,7 @@ class Archive(stand.Case):
     def test_pages_that_no_machine_made_are_told(self):
         self.needs("parallel")
         done = self.archive("--jobs-by", "parallel", "--remote", "false", status=5)
-        self.assertIn(b"16 pages were not made", done.stderr)
+        self.assertIn(b"18 pages were not made", done.stderr)
 
     def test_over_ssh_on_this_machine(self):
         self.needs("parallel", "sshd", "ssh", "ssh-keygen")

@@ -29,12 +29,13 @@ class Install(stand.Case):
         self.assertIn(b"Guten Tag!", self.is_right(self.run_of(command, "terminal", page, cwd="/")))
         self.assertIn(b"<canvas", self.is_right(self.run_of(command, "html", page, cwd="/")))
         module = os.path.join(prefix, "share/tamligub/library/out/tamligub.wasm")
-        done = self.run_of(command, "viewer", cwd="/")
-        if os.path.exists(module):
-            self.assertIn(b'id="module"', self.is_right(done))
-        else:
-            self.assertEqual((done.returncode, done.stdout), (127, b""))
-            self.assertIn(b"the decoder's module isn't installed", done.stderr)
+        for word in ("viewer", "editor"):
+            done = self.run_of(command, word, cwd="/")
+            if os.path.exists(module):
+                self.assertIn(b'id="module"', self.is_right(done))
+            else:
+                self.assertEqual((done.returncode, done.stdout), (127, b""))
+                self.assertIn(b"the decoder's module isn't installed", done.stderr)
         self.assertIn(b"no such file", self.run_of(command, "show", "nowhere").stderr)
 
     def reads_manual(self, prefix):
@@ -93,7 +94,7 @@ class Install(stand.Case):
         for name in ("btx.bash", "btx.1"):
             with open(os.path.join(stand.ROOT, "docs", name), encoding="utf-8") as file:
                 texts.append(file.read().replace("\\-", "-"))
-        help_of = {word: stand.btx(word, "--help").stdout.decode() for word in ("terminal", "html", "viewer", "png", "archive")}
+        help_of = {word: stand.btx(word, "--help").stdout.decode() for word in ("terminal", "html", "viewer", "editor", "png", "archive")}
         for word, text in help_of.items():
             options = {part.strip(",") for part in text.split() if part.startswith("--") and part.strip(",") != "--help"}
             for option in options:

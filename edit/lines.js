@@ -1,0 +1,128 @@
+// The words of a script's lines, and the bytes of `raw`, for what can be chosen and typed. What they do is the program's matter.
+(function (tamligub) {
+  "use strict";
+
+  const hex = (bytes) => [...bytes].map((byte) => byte.toString(16).toUpperCase().padStart(2, "0")).join("");
+  const raw = (...bytes) => `raw ${hex(bytes)}`;
+  const sameBytes = (one, other) => one.length === other.length && one.every((byte, at) => byte === other[at]);
+
+  const LETTERS = ["P", "S"];
+  // What stands before a sign of a set and after it, as the program writes pages.
+  const AROUND = { P: [[], []], S: [[0x19], []], M: [[0x0e], [0x0f]], N: [[0x1d], []], D: [[0x1b, 0x28, 0x20, 0x40], [0x1b, 0x28, 0x40]] };
+  // The groups of which the signs are written without what stands around each.
+  const GROUPED = ["M", "D"];
+
+  // The signs that can be typed, by what `show` puts for them: a set, a code and an accent.
+  function typedSigns() {
+    const signs = new Map();
+    const take = (set, code, accent) => {
+      const sign = tamligub.unicodeOf({ kind: "sign", set, code, accent }).normalize("NFC");
+      if (sign !== "\ufffd" && !signs.has(sign)) signs.set(sign, { set, code, accent });
+    };
+    for (let code = 0x20; code < 0x7f; code++) take("P", code, 0);
+    for (let code = 0x21; code < 0x7f; code++) if (code < 0x40 || code > 0x4f) take("S", code, 0);
+    for (let accent = 0x41; accent < 0x50; accent++) {
+      for (let code = 0x41; code < 0x7b; code++) if (/[A-Za-z]/.test(String.fromCharCode(code))) take("P", code, accent);
+    }
+    return signs;
+  }
+
+  const SIGNS = typedSigns();
+  const signOf = (text) => SIGNS.get(text.normalize("NFC")) || null;
+  const isPlain = ({ set, accent }) => set === "P" && !accent;
+  const plainText = (signs) => signs.map(({ code }) => String.fromCharCode(code)).join("");
+
+  function bytesOfSign({ set, code, accent }) {
+    if (accent) return [0x19, accent, code];
+    const [before, after] = AROUND[set];
+    return [...before, code, ...after];
+  }
+
+  // The bytes of signs one after the other.
+  function bytesOfSigns(signs) {
+    const bytes = [];
+    signs.forEach((sign, at) => {
+      if (!GROUPED.includes(sign.set)) {
+        bytes.push(...bytesOfSign(sign));
+        return;
+      }
+      const [before, after] = AROUND[sign.set];
+      if (at === 0 || signs[at - 1].set !== sign.set) bytes.push(...before);
+      bytes.push(sign.code);
+      if (at === signs.length - 1 || signs[at + 1].set !== sign.set) bytes.push(...after);
+    });
+    return bytes;
+  }
+
+  // The line of a stretch of typing: `text` where that can say it; else `raw`, after a comment that can be read.
+  function linesOfSigns(signs) {
+    if (signs.every(isPlain)) return [`text ${plainText(signs)}`];
+    const readable = signs.every(({ set }) => LETTERS.includes(set));
+    const comment = readable ? [`# ${signs.map((sign) => tamligub.unicodeOf({ kind: "sign", ...sign }).normalize("NFC")).join("")}`] : [];
+    const locked = signs.some(({ set }) => set === "P") ? [0x0f] : [];
+    return [...comment, raw(...locked, ...bytesOfSigns(signs))];
+  }
+
+  // The bytes of the lines that a pen may have, for a drawing, which is one line.
+  function bytesOfLine(line) {
+    const [word, rest] = line.split(" ");
+    if (word === "c1") return [0x80 + Number(rest)];
+    if (word === "table") return [0x9b, 0x30 + Number(rest), 0x40];
+    return rest.match(/../g).map((digits) => parseInt(digits, 16));
+  }
+
+  const flashMode = (mode) => raw(0x9b, 0x30 + mode, 0x41);
+  const COLOURS = ["black", "red", "green", "yellow", "blue", "magenta", "cyan", "white"];
+
+  // What can be chosen under the parallel set, class by class: the name of each choice and its line. Colours are chosen by table and number.
+  const PEN = {
+    size: { normal: null, high: "c1 13", wide: "c1 14", both: "c1 15" },
+    flash: {
+      steady: null, flash: "c1 8", inverted: flashMode(0), reduced: flashMode(1), fast1: flashMode(2), fast2: flashMode(3),
+      fast3: flashMode(4), next: flashMode(5), previous: flashMode(6),
+    },
+    lined: "c1 26", boxed: "c1 11", conceal: "c1 24", invert: "c1 29", transparent: "c1 30",
+  };
+  // The markers of the serial set, beside the colours.
+  const MARKERS = {
+    normal: "c1 12", high: "c1 13", wide: "c1 14", both: "c1 15",
+    steady: "c1 9", flash: "c1 8", inverted: flashMode(0), reduced: flashMode(1), fast1: flashMode(2), fast2: flashMode(3), fast3: flashMode(4),
+    next: flashMode(5), previous: flashMode(6),
+    lined: "c1 26", unlined: "c1 25", boxed: "c1 11", unboxed: "c1 10", conceal: "c1 24", reveal: raw(0x9b, 0x42),
+    blackBack: "c1 28", newBack: "c1 29", hold: "c1 30", release: "c1 31",
+  };
+  // Attributes of a row and of the screen, beside the colours: the name and the number.
+  const WHOLE = {
+    normal: 12, high: 13, wide: 14, both: 15, flash: 8, steady: 9, lined: 26, unlined: 25, boxed: 11, unboxed: 10, conceal: 24, revealed: 31,
+    invert: 29, positive: 28, transparent: 30,
+  };
+  const ROW_ALONE = ["normal", "high", "wide", "both"];
+  // Number of a colour among the codes: foreground or alpha, background or mosaic.
+  const FORE = 0;
+  const BACK = 16;
+
+  const SIZES = [[12, 12, 0x36], [12, 10, 0x37], [6, 12, 0x3a], [6, 10, 0x3b], [6, 5, 0x3c], [6, 6, 0x3f]];
+  const PLANES = { 1: 0x41, 2: 0x42, 4: 0x44 };
+
+  // The line that gives a code of the downloaded set a pattern: its pixels line after line, each the number of its ink.
+  function patternLine(code, { width, height, planes, pixels }) {
+    const size = SIZES.find(([w, h]) => w === width && h === height)[2];
+    const bytes = [0x1f, 0x23, 0x20, 0x20, 0x40, size, PLANES[planes], 0x1f, 0x23, code];
+    for (let plane = 0; plane < planes; plane++) {
+      bytes.push(0x30 + plane);
+      for (let at = 0; at < pixels.length; at += 6) {
+        bytes.push(0x40 + pixels.slice(at, at + 6).reduce((sum, pixel) => 2 * sum + ((pixel >> plane) & 1), 0));
+      }
+    }
+    return raw(...bytes);
+  }
+
+  const dclutLine = (values) => raw(0x1f, 0x26, 0x20, 0x22, 0x1f, 0x26, 0x30, 0x30, ...values.map((value) => 0x40 + value));
+  const formatLine = (rows, wrap) => raw(0x1f, 0x2d, rows === 20 ? 0x42 : 0x41, wrap ? 0x70 : 0x71);
+  const coloursLine = raw(0x1f, 0x26, 0x21);
+
+  Object.assign(tamligub, {
+    hex, raw, sameBytes, signOf, bytesOfSigns, linesOfSigns, bytesOfLine, patternLine, dclutLine, formatLine, coloursLine,
+    COLOURS, PEN, MARKERS, WHOLE, ROW_ALONE, FORE, BACK, SIZES,
+  });
+})((window.Tamligub = window.Tamligub || {}));

@@ -1,0 +1,837 @@
+"""The cases of edit/test: each takes the hands, and fails by an assertion."""
+import base64
+import json
+import os
+import random
+import subprocess
+import time
+import unicodedata
+
+from hands import BLANK, CONTROL, ROOT, SHIFT
+
+PAGES = os.path.join(ROOT, "pages")
+CAN_PLOT = "Tamligub.editor.asker.canPlot"
+
+
+def page(name):
+    return os.path.join(PAGES, name + ".btx")
+
+
+def read(path):
+    with open(path, "rb") as file:
+        return file.read()
+
+
+def btx(hand, *words):
+    command, environment = os.path.join(ROOT, "bin", "btx"), {**os.environ, "BTX_PROGRAM": hand.program}
+    done = subprocess.run([command, *words], stdout=subprocess.PIPE, env=environment, timeout=120)
+    assert done.returncode == 0, f"btx {words}: status {done.returncode}"
+    return done.stdout
+
+
+def still(hand):
+    """Without the flash, so that the screen shows the looks."""
+    if hand.tab.value("Tamligub.part('flash').checked"):
+        hand.click("#flash")
+
+
+def draw_a_page(hand):
+    """A title in double size, a coloured row, mosaics, a drawing where the module can, a downloaded sign, an area."""
+    hand.cell(2, 5)
+    hand.click('[data-size="both"]')
+    hand.click('.swatch[data-kind="fore"]', 3)
+    hand.type("Grüße aus Ulm")
+    hand.tab_of("sheet")
+    hand.cell(5, 1)
+    hand.choose('[data-kind="row"]', "4")
+    hand.click('[data-apply="row"]')
+    hand.tab_of("pen")
+    hand.click('[data-size="normal"]')
+    hand.click('.swatch[data-kind="fore"]', 7)
+    hand.cell(5, 3)
+    hand.type("Zeile in Blau")
+    hand.tab_of("mosaic")
+    hand.cell(8, 10)
+    for number in (2, 30, 62, 5):
+        hand.click("button.sign", number)
+    if hand.tab.value(CAN_PLOT):
+        hand.tab_of("draw")
+        hand.click('[data-tool="box"]')
+        hand.drag((30, 30), (60, 50))
+        hand.click('[data-tool="line"]')
+        hand.drag((30, 30), (60, 50))
+        hand.click("#draw button.main")
+    hand.tab_of("pattern")
+    hand.drag((0, 0), (11, 9), 12, 10, "pixels", 12)
+    hand.drag((11, 0), (0, 9), 12, 10, "pixels", 12)
+    hand.click("#pattern button.main")
+    hand.cell(8, 20)
+    hand.click('#pattern [data-word="patternWrite"]')
+    hand.tab_of("sheet")
+    hand.fill('#sheet input[type="number"]', "18", 0)
+    hand.fill('#sheet input[type="number"]', "22", 1)
+    hand.click('#sheet [data-word="areaMake"]')
+
+
+def a_page_is_drawn_undone_made_again_and_kept(hand):
+    hand.fresh()
+    still(hand)
+    draw_a_page(hand)
+    lines = hand.lines()
+    for line in ("c1 15", "row 20", "area 18 22"):
+        assert line in lines, f"no {line} in {lines}"
+    assert any(line.startswith("raw 1F23") for line in lines), "no pattern"
+    whole = hand.is_true()
+    shown = hand.looks()
+    assert [look[:2] for look in shown[44:46]] == ["P4", "P4"], shown[44:46]
+    assert hand.shown_script() == hand.script(), "the script isn't shown"
+    steps = 0
+    while not hand.text("note"):
+        hand.key("z", held=CONTROL)
+        steps += 1
+        assert steps < 40, "undo doesn't end"
+    assert hand.looks() == [BLANK] * 960, "undone to the start the screen isn't blank"
+    assert hand.is_true() == hand.edited(""), "undone to the start the page isn't the first"
+    hand.settle()
+    hand.key("z", held=CONTROL | SHIFT)
+    for _ in range(steps):
+        hand.key("y", held=CONTROL)
+    assert hand.looks() == shown and hand.is_true() == whole, "made again it is another"
+    name, data = hand.kept("#keep-page")
+    assert name.endswith(".btx") and data == whole, "another page is kept"
+    saved = hand.written("saved.btx", data)
+    assert hand.looks_of(saved) == shown, "the kept page shows something else"
+    assert "G r u\u0308 ß e" in hand.put("show", saved).decode(), "the title isn't there"
+    assert hand.put("check", saved).endswith(b" refused 0\n"), "something is refused"
+    hand.settle()
+    assert hand.tab.value("Tamligub.part('report-page').dataset.same") == "true", hand.text("report-page")
+    print(f"     {len(lines)} lines, {steps - 1} actions, {len(data)} bytes{'' if hand.tab.value(CAN_PLOT) else '; this module has no plot'}")
+
+
+def typing_is_lines(hand):
+    hand.fresh()
+    hand.cell(3, 5)
+    hand.type("Hallo")
+    assert hand.lines() == ["at 3 5", "text Hallo"], hand.script()
+    assert hand.caret() == (3, 10)
+    hand.key("Backspace")
+    hand.type("ß")
+    assert "# Hallß" in hand.script().split("\n") and len(hand.lines()) == 2, hand.script()
+    hand.key("Backspace", 5)
+    assert hand.lines() == [] and hand.caret() == (3, 5), hand.script()
+    hand.type("ab")
+    hand.key("Enter")
+    hand.type("c")
+    assert hand.lines() == ["at 3 5", "text ab", "return", "down", "text c"] and hand.caret() == (4, 2), hand.script()
+    hand.key("ArrowRight", 3)
+    hand.key("ArrowUp")
+    assert hand.caret() == (3, 5), hand.caret()
+    hand.key("Delete")
+    assert hand.lines()[-2:] == ["at 3 5", "text  "] and hand.caret() == (3, 5), hand.script()
+    hand.key("End")
+    assert hand.caret() == (3, 40)
+    hand.key("Home")
+    assert hand.caret() == (3, 1)
+    hand.type("xy")
+    hand.key("ArrowLeft")
+    hand.key("Backspace")
+    assert hand.caret() == (3, 1) and hand.lines()[-2:] == ["at 3 1", "text  "], hand.script()
+    before = hand.is_true()
+    # An action is undone as a whole, and made again as a whole.
+    hand.click('.swatch[data-kind="fore"]', 2)
+    hand.cell(9, 9)
+    hand.type("bunt")
+    after = hand.is_true()
+    assert hand.lines()[-3:] == ["at 9 9", "c1 2", "text bunt"], hand.script()
+    hand.key("z", held=CONTROL)
+    assert hand.lines()[-3:] == ["undo"] * 3 and hand.is_true() == before, hand.script()
+    hand.key("y", held=CONTROL)
+    assert hand.lines()[-3:] == ["redo"] * 3 and hand.is_true() == after, hand.script()
+
+
+def a_page_keeps_what_is_not_touched(hand):
+    """What the editor adds before a sign on a stored page, to know where it stands, changes nothing else: nor does undo."""
+    # One with an area that scrolls at its edges, beside those of the folder.
+    rolling = hand.written("rolling.btx", b"\x9b05;10U\x9b2\x60\x1f\x46\x41rollt")
+    for path in [rolling, *sorted(os.path.join(PAGES, name) for name in os.listdir(PAGES) if name.endswith(".btx"))]:
+        name, stored = os.path.basename(path), read(path)
+        hand.fresh(path)
+        still(hand)
+        hand.cell(20, 7)
+        hand.type("x")
+        assert hand.is_true(stored) == hand.edited("parallel\nat 20 7\ntext x\n", stored), f"{name} is another by a sign"
+        hand.key("z", held=CONTROL)
+        assert hand.is_true(stored) == hand.put("write", path), f"{name} is another after undo"
+
+
+def signs_of_all_sets_are_typed(hand):
+    hand.fresh()
+    signs = "ÄÖÜäöüßéèêçñå§½¼«»¿¡æøœłđ£¥→↑―Ω"
+    hand.cell(2, 2)
+    hand.type(signs)
+    data = hand.is_true()
+    shown = unicodedata.normalize("NFC", hand.put("show", hand.written("signs.btx", data)).decode()).split("\n")[1]
+    assert shown[1:].rstrip() == unicodedata.normalize("NFC", signs), shown
+    hand.type("中")
+    assert "中" in hand.text("note"), hand.text("note")
+    hand.is_true()
+
+
+def signs_are_composed(hand):
+    """By dead keys and on a screen's keyboard: what is composed is seen from the first key on, and replaced until it is done."""
+    hand.fresh()
+    hand.cell(3, 3)
+    hand.type("a")
+    for text in ("W", "Wo", "Wor", "Wort"):
+        hand.tab.call("Input.imeSetComposition", text=text, selectionStart=len(text), selectionEnd=len(text))
+        assert hand.lines() == ["at 3 3", f"text a{text}"], hand.script()
+    hand.tab.call("Input.insertText", text="Worte")
+    assert hand.lines() == ["at 3 3", "text aWorte"], hand.script()
+    hand.tab.call("Input.imeSetComposition", text="´", selectionStart=1, selectionEnd=1)
+    hand.tab.call("Input.insertText", text="é")
+    assert "# aWorteé" in hand.script().split("\n") and len(hand.lines()) == 2, hand.script()
+    hand.tab.call("Input.imeSetComposition", text="x", selectionStart=1, selectionEnd=1)
+    hand.tab.call("Input.imeSetComposition", text="", selectionStart=0, selectionEnd=0)
+    assert "# aWorteé" in hand.script().split("\n"), hand.script()
+    hand.is_true()
+
+
+def each_attribute_is_a_line(hand):
+    """Each choice of the panels, by a click: its line is there, and what is shown is what the program says."""
+    hand.fresh()
+    still(hand)
+    for kind, names in (("size", ("high", "wide", "both")), ("on", ("lined", "boxed", "conceal", "invert", "transparent"))):
+        for name in names:
+            hand.cell(4, 4)
+            before = len(hand.lines())
+            hand.click(f'[data-{kind}="{name}"]')
+            hand.type("Ab")
+            lines = hand.lines()[before:]
+            assert len(lines) == 3 and lines[1].startswith("c1 "), f"{name}: {lines}"
+            hand.is_true()
+            hand.click("#pen button[data-size=normal]")
+            hand.click('#pen-plain')
+    for flash in ("flash", "inverted", "reduced", "fast1", "fast2", "fast3", "next", "previous"):
+        hand.cell(6, 6)
+        hand.choose("#pen select", flash)
+        hand.type("Cd")
+        hand.is_true()
+    hand.click('#pen-plain')
+    for table in (3, 1, 0):
+        hand.click(f'[data-table="{table}"]')
+        hand.click('.swatch[data-kind="back"]', 2)
+        hand.click('.swatch[data-kind="fore"]', 5)
+        hand.cell(7, 3 + table)
+        hand.type("Z")
+        hand.is_true()
+    assert "table 3" in hand.lines() and "c1 18" in hand.lines(), hand.lines()
+
+
+def serial_attributes_are_markers(hand):
+    hand.fresh()
+    still(hand)
+    hand.cell(10, 1)
+    hand.click('[data-set="serial"]')
+    hand.click('.swatch[data-kind="fore"]', 1)
+    assert hand.lines() == ["serial", "at 10 1", "c1 1"] and hand.caret() == (10, 2), hand.script()
+    hand.type("rot")
+    hand.is_true()
+    count = hand.tab.value("document.querySelectorAll('[data-marker]').length")
+    for number in range(count):
+        hand.click("[data-marker]", number)
+        hand.type("x")
+        hand.is_true()
+    hand.click('.swatch[data-kind="back"]', 4)
+    hand.tab_of("mosaic")
+    hand.click("button.sign", 7)
+    hand.is_true()
+    hand.tab_of("pen")
+    hand.click('[data-set="parallel"]')
+    hand.cell(12, 1)
+    hand.type("neu")
+    assert hand.lines()[-3:] == ["parallel", "at 12 1", "text neu"], hand.lines()[-4:]
+    hand.is_true()
+
+
+def rows_screen_area_format_and_colours_are_lines(hand):
+    hand.fresh()
+    still(hand)
+    hand.cell(6, 9)
+    hand.type("Text")
+    hand.tab_of("sheet")
+    hand.choose('[data-kind="row"]', "9", 0)
+    hand.click('[data-apply="row"]')
+    assert hand.lines()[-3:] == ["at 6 13", "table 1", "row 17"], hand.lines()
+    hand.choose('[data-kind="screen"]', "4", 0)
+    hand.click('[data-apply="screen"]')
+    assert hand.lines()[-2:] == ["table 0", "screen 20"], hand.lines()
+    for number, kind in enumerate(("row", "screen")):
+        hand.choose(f'[data-kind="{kind}"]', "17", 0)
+        hand.choose(f'[data-kind="{kind}"]', "2", 1)
+        hand.choose('#sheet select[data-name="attribute"]', "lined", number)
+        hand.click(f'[data-apply="{kind}"]')
+        assert hand.lines()[-5:] == ["table 2", f"{kind} 17", "table 0", f"{kind} 2", f"{kind} 26"], hand.lines()
+    hand.is_true()
+    for number in range(6):
+        hand.click('#sheet [data-name="areaPart"] button', number)
+        hand.is_true()
+    for number in (2, 1):
+        hand.click(f'#sheet [data-word="revision{number}"]')
+        assert hand.lines()[-1] == f"revision {number}", hand.lines()
+        hand.is_true()
+    hand.click('#sheet [data-word="protect"]')
+    hand.cell(9, 3)
+    hand.type("bleibt")
+    hand.click('#sheet [data-word="unprotect"]')
+    hand.cell(9, 1)
+    hand.click('#sheet [data-word="erase"]')
+    assert any("P62" in look for look in hand.looks()[320:360]), "what is protected is gone"
+    hand.is_true()
+    hand.type("-")
+    hand.click('#sheet [data-word="repeat"]')
+    assert hand.lines()[-1] == "repeat 10", hand.lines()
+    hand.is_true()
+    hand.tab_of("colours")
+    hand.click("#entries .swatch", 4)
+    for number, level in enumerate(("15", "8", "1")):
+        hand.fill("#colours .level input", level, number)
+    hand.click("#colours button.main")
+    assert hand.lines()[-1] == "colour 4 15 8 1", hand.lines()
+    hand.is_true()
+    hand.settle()
+    assert "F81" in hand.tab.value("document.querySelectorAll('#entries .swatch')[4].getAttribute('aria-label')")
+    hand.fill('#colours input[type="color"]', "#336699")
+    hand.click("#colours button.main")
+    assert hand.lines()[-1] == "colour 4 3 6 9", hand.lines()
+    hand.click('#colours [data-word="colourReset"]')
+    hand.is_true()
+    hand.tab_of("sheet")
+    hand.choose('#sheet select[data-name="formatPart"]', "20", 0)
+    hand.click('[data-apply="format"]')
+    assert hand.lines()[-1] == "raw 1F2D4270", hand.lines()
+    hand.click('#sheet [data-word="clear"]')
+    assert hand.lines()[-1] == "clear", hand.lines()
+
+
+def patterns_have_inks(hand):
+    """A sign of each form and depth, painted with its inks, defined and written; taken again it has the same pixels."""
+    hand.fresh()
+    still(hand)
+    hand.tab_of("pattern")
+    for at, (size, planes) in enumerate((("12x10", "1"), ("12x12", "2"), ("6x5", "4"), ("6x10", "2"), ("6x12", "1"), ("6x6", "4"))):
+        width, height = map(int, size.split("x"))
+        hand.choose("#pattern-code", str(0x30 + at))
+        hand.choose("#pattern-size", size)
+        hand.choose("#pattern-planes", planes)
+        hand.click('#pattern [data-word="patternClear"]')
+        for ink in range(1, (2, 4, 16)[(1, 2, 4).index(int(planes))]):
+            hand.click("#inks .swatch", ink)
+            hand.press(*hand.place(ink % width, (ink * 2 + at) % height, width, height, "pixels"))
+        pixels = hand.tab.value("Tamligub.editor.pattern.pixels.join('')")
+        hand.click("#pattern button.main")
+        hand.cell(3 + 2 * at, 5)
+        hand.click('#pattern [data-word="patternWrite"]')
+        hand.is_true()
+        look = hand.looks()[(2 + 2 * at) * 40 + 4]
+        assert look.startswith(f"%{size}x{planes}/"), look
+        hand.choose("#pattern-code", "126")
+        hand.choose("#pattern-code", str(0x30 + at))
+        assert hand.tab.value("Tamligub.editor.pattern.pixels.join('')") == pixels, f"{size}, {planes} planes"
+    hand.tab_of("colours")
+    for number, entry in enumerate(("9", "10", "11", "12")):
+        hand.choose("#colours select", entry, number)
+    hand.click('#colours [data-word="dclutSet"]')
+    assert hand.lines()[-1] == "raw 1F2620221F263030494A4B4C", hand.lines()[-1]
+    hand.is_true()
+
+
+def drawings_are_seen_before_they_are_kept(hand):
+    hand.fresh()
+    still(hand)
+    if not hand.tab.value(CAN_PLOT):
+        hand.tab_of("draw")
+        assert "plot" in hand.text("draw-hint") and hand.tab.value("document.querySelector('[data-tool]').disabled"), hand.text("draw-hint")
+        print("     this module has no plot: only that this is said was tried")
+        return
+    hand.cell(4, 4)
+    hand.type("unter der Zeichnung")
+    hand.tab_of("draw")
+    for tool, start, end in (("box", (4, 3), (40, 30)), ("line", (0, 71), (79, 0)), ("point", (50, 50), (60, 60)), ("wipe", (10, 10), (20, 20))):
+        hand.click(f'[data-tool="{tool}"]')
+        hand.drag(start, end)
+    drawing = hand.written("drawing.txt", (hand.tab.value("Tamligub.part('drawing').value") + "\n").encode())
+    shown, before = hand.looks(), hand.edited()
+    plotted = hand.looks_of(hand.written("plotted.btx", hand.put("plot", hand.written("before.btx", before), drawing)))
+    assert [look.split(" ")[0] for look in shown] == [look.split(" ")[0] for look in plotted], "seen is something else than plot says"
+    assert hand.is_other(before), "nothing was drawn"
+    plotted = read(hand.written("plotted.btx", hand.put("plot", hand.written("before.btx", before), drawing)))
+    hand.fill("#drawing", "box 1 1 90 1")
+    assert "3 BadNumber" in hand.text("draw-fault"), hand.text("draw-fault")
+    hand.fill("#drawing", read(drawing).decode())
+    hand.click("#draw button.main")
+    assert hand.looks() == shown, "kept is something else than was seen"
+    assert hand.is_true() == plotted, "kept are other bytes than those of plot"
+    hand.key("z", held=CONTROL)
+    assert hand.is_true() == before, "a drawing isn't undone"
+    # By the keys alone: a line from a point to another.
+    hand.tab.value("Tamligub.part('typing').focus()")
+    hand.click('[data-tool="line"]')
+    hand.key(" ")
+    hand.key("ArrowRight", 5)
+    hand.key("ArrowDown", 3)
+    hand.key(" ")
+    assert hand.tab.value("Tamligub.part('drawing').value").startswith("line "), "no line"
+    hand.key("Enter")
+    hand.is_true()
+    assert hand.lines()[-1].startswith("raw 1F2F44"), hand.lines()[-1]
+
+
+def a_bad_line_is_told(hand):
+    hand.fresh()
+    hand.write_script("at 1 1\ntext A\n\nat 25 1\ntext B\n")
+    assert hand.text("script-fault").startswith("Zeile 4: 3 BadNumber"), hand.text("script-fault")
+    assert hand.looks()[0].startswith("P41") and hand.looks()[1] == BLANK
+    assert not hand.tab.value("document.getElementById('band-fault').hidden")
+    reasons = (("frob", "1 UnknownWord"), ("at 1", "2 WrongCount"), ("text ü", "4 BadText"), ("raw 1", "5 BadHex"), ("raw 1C", "6 BadBytes"))
+    for bad, said in ((f"{line}\n", f"1: {reason}") for line, reason in reasons):
+        hand.write_script(bad)
+        assert hand.text("script-fault").startswith(f"Zeile {said}"), hand.text("script-fault")
+        files = hand.written("stored.btx", b""), hand.written("bad.txt", bad.encode())
+        assert hand.put("edit", *files, wanted=(3,)).decode() == f"script line {said}\n"
+    # Nothing is added behind a bad line.
+    hand.tab.value("Tamligub.part('typing').focus()")
+    hand.type("x")
+    assert hand.script() == "raw 1C\n" and "berichtigen" in hand.text("fault"), hand.text("fault")
+    hand.write_script("at 2 2\ntext gut\n")
+    assert hand.text("script-fault") == "" and hand.text("fault") == ""
+    hand.is_true()
+
+
+def lines_are_stepped_and_pointed_at(hand):
+    hand.fresh()
+    still(hand)
+    script = "at 1 1\ntext AB\n\n# a comment\nrow 4\nat 2 3\nc1 13\ntext C\nundo\nredo\n"
+    hand.write_script(script)
+    assert hand.shown_script() == script, hand.shown_script()
+    changed = {}
+    for line in hand.put("trace", hand.written("stored.btx", b""), hand.written("lines.txt", script.encode())).decode().splitlines():
+        number, row, column, _ = line.split(" ", 3)
+        changed.setdefault(int(number), set()).add((int(row) - 1) * 40 + int(column) - 1)
+    lines = script.split("\n")[:-1]
+    hand.click("#first")
+    assert hand.looks() == [BLANK] * 960
+    for number, line in enumerate(lines, 1):
+        if not line or line.startswith("#"):
+            continue
+        hand.click("#forward")
+        part = hand.written("part.btx", hand.edited("".join(one + "\n" for one in lines[:number])))
+        assert hand.looks() == hand.looks_of(part), f"after line {number} something else is shown"
+        if number < len(lines):
+            assert hand.outlined() == changed.get(number, set()), f"line {number} outlines {hand.outlined()}"
+    hand.click("#back")
+    assert f"{len(lines) - 1}" in hand.text("script-line"), hand.text("script-line")
+    hand.click("#last")
+    hand.is_true()
+    # The mouse points at a line.
+    box = hand.tab.value("(({ left, top }) => [left, top])(Tamligub.part('script').getBoundingClientRect())")
+    height = hand.tab.value("Tamligub.editor.script.height()")
+    for number in (2, 5, 8):
+        hand.hover(box[0] + 20, box[1] + (number - 0.5) * height)
+        assert hand.outlined() == changed[number], f"line {number} pointed at"
+        assert str(len(changed[number])) in hand.text("script-line") or len(changed[number]) == 1, hand.text("script-line")
+    hand.hover(5, 5)
+    assert hand.outlined() == set()
+
+
+def a_crash_loses_nothing(hand):
+    hand.fresh(page("boat"))
+    still(hand)
+    hand.cell(3, 3)
+    hand.type("vor dem Absturz")
+    script, shown = hand.script(), hand.looks()
+    hand.crash()
+    assert hand.script() == script and "boat" in hand.text("name"), hand.script()
+    still(hand)
+    assert hand.looks() == shown, "after a crash something else is shown"
+    assert "Wiederhergestellt" in hand.text("note") or "Restored" in hand.text("note"), hand.text("note")
+    hand.is_true(read(page("boat")))
+    # A page that was kept isn't restored.
+    hand.kept("#keep-page")
+    hand.crash()
+    assert hand.script() == "", hand.script()
+    # One that was left while another editor was open neither.
+    hand.type("im ersten")
+    with hand.another():
+        assert hand.script() == "", "the page of another editor that is open is taken"
+        hand.type("im zweiten")
+    assert hand.lines()[-1] == "text im ersten"
+    hand.crash()
+    assert hand.lines()[-1] == "text im zweiten", hand.script()
+
+
+def an_unsaved_page_is_asked_about(hand):
+    hand.fresh(page("title"))
+    hand.click("#new")
+    assert not hand.tab.value("Tamligub.part('unsaved').open") and hand.tab.value("Tamligub.editor.sheet.page.length") == 0
+    hand.open(page("title"))
+    hand.cell(24, 1)
+    hand.type("x")
+    assert hand.text("name").endswith("●"), hand.text("name")
+    hand.click("#new")
+    hand.tab.until("Tamligub.part('unsaved').open")
+    hand.click("#unsaved-stay")
+    assert hand.tab.value("Tamligub.editor.sheet.page.length") > 0 and hand.lines()[-1] == "text x"
+    left = """(() => { const event = new Event('beforeunload', { cancelable: true });
+      window.dispatchEvent(event); return event.defaultPrevented; })()"""
+    assert hand.tab.value(left), "an unsaved page is left without a word"
+    hand.kept("#keep-page")
+    assert not hand.tab.value(left) and not hand.text("name").endswith("●")
+    hand.cell(24, 1)
+    hand.type("y")
+    hand.click("#new")
+    hand.tab.until("Tamligub.part('unsaved').open")
+    hand.click("#unsaved-leave")
+    hand.tab.until("Tamligub.editor.sheet.page.length === 0")
+    assert hand.script() == ""
+
+
+def refused_items_are_told(hand):
+    hand.fresh(page("refused"))
+    want = [line.split(" ")[1:] for line in hand.put("check", page("refused")).decode().splitlines() if line.startswith("!")]
+    said = hand.tab.value("[...document.querySelectorAll('#refusals li')].map((one) => one.textContent)")
+    assert said == [f"Byte {place}, Länge {length}: {number} {name}" for place, length, number, name in want], said
+    hand.open(page("title"))
+    assert hand.tab.value("Tamligub.part('refusals-part').hidden")
+    longer = hand.written("longer.btx", bytes((1 << 24) + 1))
+    hand.open(longer)
+    assert "zu lang" in hand.text("fault"), hand.text("fault")
+    os.remove(longer)
+    hand.fill("#script", "#" * (1 << 20) + "\n")
+    assert "zu lang" in hand.text("fault"), hand.text("fault")
+    hand.fill("#script", "at 1 1\n")
+    assert hand.text("fault") == "" and hand.lines() == ["at 1 1"]
+
+
+SAME_PICTURE = """async (pictures) => {
+  const [one, other] = await Promise.all(pictures.map(async (data) => {
+    const image = new Image();
+    image.src = "data:image/png;base64," + data;
+    await image.decode();
+    const canvas = document.createElement("canvas");
+    [canvas.width, canvas.height] = [image.naturalWidth, image.naturalHeight];
+    canvas.getContext("2d").drawImage(image, 0, 0);
+    return canvas.getContext("2d").getImageData(0, 0, canvas.width, canvas.height).data;
+  }));
+  return one.length === other.length && one.every((byte, at) => byte === other[at]);
+}"""
+
+
+def what_is_kept(hand):
+    """Page, script, picture and HTML; a page and its script are opened again."""
+    stored = read(page("flashing"))
+    hand.fresh(page("flashing"))
+    still(hand)
+    hand.cell(22, 3)
+    hand.type("für Ülk <script>")
+    shown = hand.looks()
+    (name, data), (script_name, script) = hand.kept("#keep-page"), hand.kept("#keep-script")
+    assert (name, script_name) == ("flashing.btx", "flashing.txt") and script.decode() == hand.script()
+    assert data == hand.edited(page=stored), "another page is kept"
+    picture_name, picture = hand.kept("#keep-picture")
+    html_name, html = hand.kept("#keep-html")
+    kept = hand.written("flashing.btx", data)
+    pictures = [base64.b64encode(one).decode() for one in (picture, btx(hand, "png", kept))]
+    assert picture_name == "flashing.png" and hand.tab.value(f"({SAME_PICTURE})({json.dumps(pictures)})"), "the picture isn't that of btx png"
+    assert html_name == "flashing.html" and html == btx(hand, "html", kept), "the HTML isn't that of btx html"
+    hand.fresh(page("flashing"), hand.written("flashing.txt", script))
+    still(hand)
+    assert hand.looks() == shown and hand.script() == script.decode(), "page and script opened again show something else"
+
+
+SAMPLES = """new Promise((done) => {
+  const samples = [];
+  const timer = setInterval(() => {
+    samples.push(Array.from(Tamligub.editor.screen.shown, (number) => Tamligub.editor.screen.looks[number].text));
+    if (samples.length === 24) { clearInterval(timer); done(samples); }
+  }, 50);
+})"""
+
+
+def what_flashes_is_that_of_flash(hand):
+    """Each of six phases is shown, and nothing else; without the flash all signs are seen."""
+    hand.fresh(page("flashing"))
+    if not hand.tab.value("Tamligub.part('flash').checked"):
+        hand.click("#flash")
+    hand.cell(24, 1)
+    hand.type("x")
+    hand.settle()
+    kept = hand.written("edited.btx", hand.edited(page=read(page("flashing"))))
+    phases, seen = [[BLANK] * 960], 0
+    for line in hand.put("flash", kept, "5").decode().splitlines():
+        turn, row, column, look = line.split(" ", 3)
+        while len(phases) <= int(turn):
+            phases.append(phases[-1][:])
+        phases[int(turn)][(int(row) - 1) * 40 + int(column) - 1] = look
+    shown = hand.tab.value(SAMPLES)
+    assert all(sample in phases for sample in shown), "something that flash doesn't tell is shown"
+    assert len({tuple(sample) for sample in shown}) == len({tuple(phase) for phase in phases}), "not each phase is shown"
+    still(hand)
+    hand.is_true(read(page("flashing")))
+    assert hand.tab.value("Tamligub.editor.screen.looks.every((look) => look.flash === 'S')"), "a sign is hidden"
+
+
+def tidying_takes_undone_lines_out(hand):
+    hand.fresh()
+    still(hand)
+    hand.cell(2, 2)
+    hand.type("bleibt")
+    hand.cell(3, 3)
+    hand.type("gehört weg")
+    hand.key("z", held=CONTROL)
+    hand.cell(4, 4)
+    hand.type("bleibt auch")
+    before = hand.is_true()
+    hand.click("#tidy")
+    assert hand.script() == "at 2 2\ntext bleibt\n\nat 4 4\ntext bleibt auch\n", hand.script()
+    assert hand.is_true() == before
+    hand.key("z", held=CONTROL)
+    hand.key("y", held=CONTROL)
+    assert hand.is_true() == before
+
+
+def the_keyboard_alone_does_all(hand):
+    """Text in colour, a mosaic, a pattern, a line of the script; and each control is reached by Tab or by the arrow keys."""
+    hand.fresh()
+    still(hand)
+    hand.tab.value("document.activeElement.blur(), document.body.focus()")
+    reached = set()
+    for _ in range(200):
+        hand.key("Tab")
+        reached.add(hand.tab.value("document.activeElement.id || document.activeElement.dataset.word || document.activeElement.tagName"))
+    for name in ("new", "open", "keep-page", "keep-script", "keep-picture", "keep-html", "undo", "redo", "language", "typing", "reveal", "flash",
+                 "tab-pen", "first", "back", "step", "forward", "last", "tidy", "script"):
+        assert name in reached, f"{name} isn't reached by Tab: {sorted(reached)}"
+    hand.go_to("#typing")
+    hand.key("ArrowDown", 4)
+    hand.key("ArrowRight", 2)
+    hand.go_to('[data-none="fore"]')
+    hand.key("ArrowRight", 3)
+    hand.key(" ")
+    hand.key("Escape")
+    hand.type("Gruen")
+    assert hand.lines() == ["at 5 3", "c1 2", "text Gruen"], hand.script()
+    hand.go_to("#tab-pen")
+    hand.key("ArrowRight")
+    hand.key("Enter")
+    hand.go_to("button.sign")
+    hand.key("ArrowDown")
+    hand.key("Enter")
+    assert hand.lines()[-1].startswith("raw 0E"), hand.script()
+    hand.go_to("#tab-mosaic")
+    hand.key("ArrowRight", 2)
+    hand.key("Enter")
+    hand.go_to("#pixels")
+    for _ in range(4):
+        hand.key(" ")
+        hand.key("ArrowRight")
+        hand.key("ArrowDown")
+    hand.go_to("#pattern button.main")
+    hand.key("Enter")
+    hand.go_to('#pattern [data-word="patternWrite"]')
+    hand.key("Enter")
+    assert any(look.startswith("%12x10x1/") for look in hand.looks()), "no pattern is shown"
+    hand.go_to("#script")
+    hand.key("End", held=CONTROL)
+    hand.tab.call("Input.insertText", text="at 9 9\ntext von Hand\n")
+    assert hand.lines()[-1] == "text von Hand"
+    hand.key("Escape")
+    hand.key("z", held=CONTROL)
+    hand.is_true()
+    hand.key("s", held=CONTROL)
+    hand.tab.until("!Tamligub.editor.keep.isUnsaved()")
+
+
+def every_control_has_a_name_in_both_languages(hand):
+    hand.fresh()
+    same = hand.tab.value("JSON.stringify(Object.keys(Tamligub.TABLES.de)) === JSON.stringify(Object.keys(Tamligub.TABLES.en))")
+    assert same, "the two tables have other keys"
+    names = """[...document.querySelectorAll("button, input:not([hidden]), select, textarea, canvas[tabindex]")].map((one) => {
+      const label = one.labels && one.labels.length ? one.labels[0].textContent.trim() : "";
+      return [one.outerHTML.slice(0, 120), one.getAttribute("aria-label") || label || one.textContent.trim()];
+    })"""
+    seen = {}
+    for language in ("de", "en"):
+        hand.choose("#language", language)
+        assert hand.tab.value("document.documentElement.lang") == language
+        found = hand.tab.value(names)
+        assert len(found) > 150, len(found)
+        bad = [one for one in found if not one[1] or "undefined" in one[1] or "{" in one[1]]
+        assert not bad, bad[:3]
+        seen[language] = [name for _, name in found]
+    other = sum(one != two for one, two in zip(seen["de"], seen["en"]))
+    assert other > 80, f"only {other} names differ between the languages"
+    tree = hand.tab.call("Accessibility.getFullAXTree")["nodes"]
+    kinds = ("button", "textbox", "combobox", "slider", "tab", "spinbutton", "checkbox")
+    bare = [node for node in tree if not node.get("ignored") and node["role"]["value"] in kinds and not node.get("name", {}).get("value")]
+    assert not bare, bare[:2]
+
+
+def it_fits_small_screens(hand):
+    hand.fresh(page("title"))
+    for width, height in ((1024, 700), (1280, 800), (768, 1024), (820, 1180)):
+        hand.tab.size(width, height)
+        time.sleep(0.1)
+        for panel in ("pen", "mosaic", "draw", "pattern", "sheet", "colours"):
+            hand.tab.value(f"Tamligub.part('tab-{panel}').click()")
+            wide, high = hand.tab.value("[document.documentElement.scrollWidth, document.documentElement.scrollHeight]")
+            assert wide <= width, f"{panel} is wider than {width}: {wide}"
+            assert (width, height) != (1024, 700) or high <= 712, f"{panel} at 1024 by 700 is {high} high"
+    hand.tab.size(768, 1024)
+    hand.cell(5, 5)
+    hand.type("x")
+    hand.is_true(read(page("title")))
+
+
+def a_finger_places_the_caret(hand):
+    hand.fresh(size=(820, 1180))
+    x, y = hand.place(6, 7, 40, 24)
+    hand.tab.call("Input.dispatchTouchEvent", type="touchStart", touchPoints=[{"x": x, "y": y}])
+    hand.tab.call("Input.dispatchTouchEvent", type="touchEnd", touchPoints=[])
+    assert hand.caret() == (8, 7), hand.caret()
+    hand.type("Ton")
+    assert hand.lines() == ["at 8 7", "text Ton"], hand.script()
+
+
+def random_actions_show_what_the_program_says(hand):
+    """Actions in any order, on a blank page and on stored ones; undo and redo among them."""
+    draws = random.Random(7)
+    for name in (None, "boat", "house", "service", "form"):
+        hand.fresh(*([page(name)] if name else []))
+        still(hand)
+        stored = read(page(name)) if name else b""
+        for _ in range(40):
+            act = draws.randrange(12)
+            if act < 3:
+                hand.cell(draws.randint(1, 24), draws.randint(1, 40))
+            elif act < 6:
+                hand.type(draws.choice(["Abc", "größer", "x y", "Ä"]))
+            elif act == 6:
+                hand.click("#pen [data-set], #pen .swatch, #pen-parallel button", draws.randrange(26))
+            elif act == 7:
+                hand.key(draws.choice(["Enter", "Backspace", "Delete"]))
+            elif act == 8:
+                hand.key("z", draws.randint(1, 3), held=CONTROL)
+            elif act == 9:
+                hand.key("y", held=CONTROL)
+            elif act == 10:
+                hand.key(draws.choice(["ArrowUp", "ArrowRight"]), 2)
+            else:
+                hand.click("#undo" if draws.random() < 0.5 else "#redo")
+            hand.is_true(stored) if draws.random() < 0.3 else None
+        hand.is_true(stored)
+
+
+# Each key to the end of what it shows, in milliseconds: from the event to the painted screen.
+MEASURE = """(async (text) => {
+  const field = Tamligub.part("typing");
+  const times = [];
+  for (const sign of text) {
+    await new Promise((done) => setTimeout(done, 5));
+    const begun = performance.now();
+    field.value = sign;
+    field.dispatchEvent(new InputEvent("input", { data: sign }));
+    times.push(performance.now() - begun);
+  }
+  return times.sort((one, other) => one - other);
+})(%s)"""
+
+
+TURNS = """["undo", "undo", "undo", "undo", "redo", "redo", "redo"].map((word) => {
+  const begun = performance.now();
+  Tamligub.editor.turn(word);
+  return performance.now() - begun;
+})"""
+
+
+def keys_are_shown_at_once(hand):
+    """Of a page of 50,000 bytes and a script of 300 lines: the whole way of a key within 50 ms, and it shows what the whole gives."""
+    made = hand.put("gen", "0")[:50000]
+    plain = bytes(0x21 + at % 94 for at in range(50000))
+    script = "".join(f"at {1 + at % 24} {1 + at % 30}\nc1 {at % 8}\ntext Zeile {at}\n" for at in range(100)).encode()
+    for name, data in (("made", made), ("plain", plain)):
+        path = hand.written(f"{name}.btx", data)
+        hand.fresh(path, hand.written("lines.txt", script))
+        still(hand)
+        hand.settle()
+        hand.cell(12, 5)
+        times = hand.tab.value(MEASURE % json.dumps("Dies ist ein Satz, der getippt wird."))
+        print(f"     {name}: {times[len(times) // 2]:.0f} ms a key, at most {times[-1]:.0f} ms")
+        hand.is_true(data)
+        # Behind the place from which on lines run, and forth again.
+        for key in "zzzyyy":
+            hand.key(key, held=CONTROL)
+        hand.is_true(data)
+        hand.cell(14, 5)
+        again = hand.tab.value(MEASURE % json.dumps("Und noch einer."))
+        hand.is_true(data)
+        assert times[len(times) // 2] < 50, f"{name}: {times}"
+        assert again[len(again) // 2] < 50, f"{name} after undo: {again}"
+        # Undo and redo of what was begun in the editor.
+        hand.fresh(path)
+        still(hand)
+        for row in range(3):
+            hand.cell(2 + row, 5)
+            hand.type("Zeile")
+        times = hand.tab.value(TURNS)
+        print(f"     {name}: {max(times):.0f} ms an undo or redo at most")
+        hand.is_true(data)
+        assert sorted(times)[len(times) // 2] < 50, f"{name}: {times}"
+
+
+def lines_that_end_a_break_of_the_page_are_run_from_it(hand):
+    """A long page that ends in a service's break: bytes know nothing of what the service kept, so a line by hand that ends it is told."""
+    stored = b"\x1f\x45\x45" + bytes(0x21 + at % 94 for at in range(5000)) + b"\x1f\x2f\x40\x58"
+    hand.fresh(hand.written("break.btx", stored))
+    hand.settle()
+    hand.cell(3, 3)
+    hand.type("a")
+    hand.fill("#script", hand.script() + "raw 1F2F4F\ntext B\n")
+    hand.settle()
+    assert "Von Anfang an" in hand.text("fault"), hand.text("fault")
+    hand.is_true(stored)
+    hand.cell(4, 4)
+    hand.type("c")
+    hand.is_true(stored)
+
+
+def a_long_script_goes_on_quickly(hand):
+    hand.fresh()
+    still(hand)
+    script = "".join(f"at {1 + at % 24} {1 + at % 30}\ntext Zeile {at}\n" for at in range(2000))
+    hand.fill("#script", script)
+    hand.settle()
+    hand.cell(12, 5)
+    times = hand.tab.value(MEASURE % json.dumps("Dies ist ein Satz."))
+    print(f"     4,000 lines: {times[len(times) // 2]:.0f} ms a key, at most {times[-1]:.0f} ms")
+    hand.settle()
+    hand.is_true()
+    assert times[len(times) // 2] < 50, times
+
+
+def no_other_script_runs(hand):
+    hand.fresh()
+    assert hand.tab.value("(() => { const one = document.createElement('script'); one.textContent = 'window.other = 1';"
+                          " document.body.appendChild(one); return window.other === undefined; })()"), "another script runs"
+    said = hand.tab.faults[:]
+    hand.tab.faults.clear()
+    assert said and all("Content Security Policy" in fault for fault in said), said
+
+
+CASES = (
+    a_page_is_drawn_undone_made_again_and_kept, typing_is_lines, a_page_keeps_what_is_not_touched, signs_of_all_sets_are_typed, signs_are_composed, each_attribute_is_a_line,
+    serial_attributes_are_markers, rows_screen_area_format_and_colours_are_lines, patterns_have_inks, drawings_are_seen_before_they_are_kept,
+    a_bad_line_is_told, lines_are_stepped_and_pointed_at, a_crash_loses_nothing, an_unsaved_page_is_asked_about, refused_items_are_told,
+    what_is_kept, what_flashes_is_that_of_flash, tidying_takes_undone_lines_out, the_keyboard_alone_does_all,
+    every_control_has_a_name_in_both_languages, it_fits_small_screens, a_finger_places_the_caret, random_actions_show_what_the_program_says,
+    keys_are_shown_at_once, lines_that_end_a_break_of_the_page_are_run_from_it, a_long_script_goes_on_quickly, no_other_script_runs,
+)
