@@ -1,7 +1,7 @@
 # The completion of bash for btx: its words, the options of each, and files.
 _btx() {
     local word=${COMP_WORDS[COMP_CWORD]} before=${COMP_WORDS[COMP_CWORD-1]} options=
-    local words="terminal html viewer png archive changes check show cells write seven eight trace edit plot flash gen load"
+    local words="terminal html viewer editor png archive changes check show cells write seven eight trace edit plot flash gen load"
     COMPREPLY=()
     if [ "$COMP_CWORD" -eq 1 ]; then
         mapfile -t COMPREPLY < <(compgen -W "$words --help --version" -- "$word")
@@ -15,7 +15,7 @@ _btx() {
     case ${COMP_WORDS[1]} in
         terminal) options="--reveal --replay" ;;
         html) options="--output" ;;
-        viewer) options="--output --module" ;;
+        viewer | editor) options="--output --module" ;;
         png) options="--output --cell --reveal" ;;
         archive) options="--output --pattern --jobs --jobs-by --sshlogin --remote --again" ;;
         gen | load) [ "$word" = "" ] && return ;;
