@@ -1,7 +1,7 @@
 -- One more cell in the numbers of the walk, from 0: what is carried to it and what it leaves.
 use Rattle.std.proofs.Common.{◌+◌, ◌-◌, ◌≢◌, List, length, slice_index_or, slice_set, get_or-set_other, get_or-set_same}
 use Rattle.std.proofs.Common.{below_more, add-one, ◌≡◌, ℕ, ◌≤◌, ◌<◌, zero, suc, true, false}
-use Rattle.std.proofs.Common.{Option, None, refl, sym, ◌∙◌, ap, arith}
+use Rattle.std.proofs.Common.{Option, None, refl, sym, subst, ◌∙◌, ap, arith}
 use Rattle.cept_codes.specs.declared.attribute.Full.{Full}
 use Rattle.cept_codes.specs.declared.attribute.Pen.{Pen}
 use Rattle.cept_codes.specs.Cell.{blank_cell}
@@ -10,13 +10,16 @@ use Rattle.cept_codes.specs.declared.cell.Marker.{Marker}
 use Rattle.cept_codes.specs.declared.cell.What.{What}
 use Rattle.cept_codes.specs.declared.cell.What.TheVariants as whats
 use Rattle.cept_codes.specs.declared.glyph.Glyph.{Glyph}
-use Rattle.cept_codes.specs.Attribute.{unset_pen}
+use Rattle.cept_codes.specs.Attribute.{IsValidFull, unset_pen}
+use Rattle.cept_codes.specs.Cell.{IsValidMarker}
+use Rattle.cept_codes.specs.declared.cell.Marker.TheVariants as markers
 use Rattle.cept_profile.specs.Attributes.{cascade}
-use Rattle.cept_profile.specs.Serial.{row_in, is_marker}
+use Rattle.std.proofs.lemmas.Bool.{cond-false, cond-true}
+use Rattle.cept_profile.specs.Serial.{acts_at_once, row_in, is_marker}
 use Rattle.cept_profile.specs.Serial.{serial_attributes, held_sign}
-use Rattle.cept_profile.specs.Influence.{Influence, influence, influence_after}
+use Rattle.cept_profile.specs.Influence.{Influence, full_after, influence, influence_after}
 use Rattle.cept_profile.specs.Influence.{influence_in, held_sign_in}
-use Rattle.cept_attrs.specs.Walk.{influence_with_sign, influence_with_sign_at}
+use Rattle.cept_attrs.specs.Walk.{IsInfluence, influence_with_sign, influence_with_sign_at}
 use Rattle.cept_profile.proofs.Laws.{influence-suc, serial_attributes-suc, held_sign-suc, in_plain, unmarked}
 
 -- ---- in the code's numbers, from 0
@@ -165,3 +168,79 @@ plain_full cells pen screen k s h =
     rw (serial_attributes-next cells pen screen k, h.influence)
     (sym (in_plain (slice_index_or cells k blank_cell).what (influence_with_sign_at (row_in cells) k s) h.there
     ∙ settled_full (row_in cells) k s))
+
+-- ---- the same by columns, from 1
+
+back_again : (c : ℕ) → 1 ≤ c → c - 1 + 1 ≡ c
+back_again c low = omega arith
+
+pub passed_influence : (cells : List Cell) (row screen : Pen) (c : ℕ) (s : Influence) → 1 ≤ c
+    → is_marker (row_in cells c) ≡ false → IsInfluence (row_in cells) row screen (c - 1) s
+    → IsInfluence (row_in cells) row screen c s
+unfolding IsInfluence
+passed_influence cells row screen c s low plain is =
+    subst (λ n. influence (row_in cells) row screen n ≡ influence_with_sign_at (row_in cells) n s) (back_again c low)
+    (plain_carried cells row screen (c - 1) s (record { there = plain; influence = is }))
+
+pub passed_full : (cells : List Cell) (row screen : Pen) (c : ℕ) (s : Influence) → 1 ≤ c
+    → is_marker (row_in cells c) ≡ false → IsInfluence (row_in cells) row screen (c - 1) s
+    → s.full ≡ serial_attributes (row_in cells) row screen c
+unfolding IsInfluence
+passed_full cells row screen c s low plain is =
+    plain_full cells row screen (c - 1) s (record { there = plain; influence = is })
+    ∙ ap (serial_attributes (row_in cells) row screen) (back_again c low)
+
+pub passed_held : (cells : List Cell) (c : ℕ) → is_marker (row_in cells c) ≡ false → held_sign (row_in cells) c ≡ None
+passed_held cells c plain = rw plain refl
+
+-- what stands in the column, and what was carried with the sign to the left taken up
+pub marked_at : (cells : List Cell) (row screen : Pen) (c left : ℕ) (m : Marker) (s t : Influence)
+    → row_in cells c ≡ whats.Marker m → left ≡ c - 1 - 1 → IsInfluence (row_in cells) row screen (c - 1) s
+    → t ≡ influence_with_sign (slice_index_or cells left blank_cell).what s → IsMarked cells row screen (c - 1) m t
+unfolding IsInfluence
+marked_at cells row screen c left m s t there l is e = is_marked cells row screen (c - 1) left m s t there l is e
+
+pub marked_influence : (cells : List Cell) (row screen : Pen) (c : ℕ) (m : Marker) (s t : Influence) → 1 ≤ c
+    → IsMarked cells row screen (c - 1) m s → t ≡ influence_after (whats.Marker m) s
+    → IsInfluence (row_in cells) row screen c t
+unfolding IsInfluence
+marked_influence cells row screen c m s t low h e =
+    subst (λ n. influence (row_in cells) row screen n ≡ influence_with_sign_at (row_in cells) n t) (back_again c low)
+    (marked_carried cells row screen (c - 1) m s t h e)
+
+-- what is in force in the cell of a marker, where it acts there, and where it doesn't
+pub full_at_once : (cells : List Cell) (row screen : Pen) (c : ℕ) (m : Marker) (s t : Influence) → 1 ≤ c
+    → IsMarked cells row screen (c - 1) m s → t ≡ influence_after (whats.Marker m) s → acts_at_once m ≡ true
+    → t.full ≡ serial_attributes (row_in cells) row screen c
+full_at_once cells row screen c m s t low h e acts =
+    marked_full cells row screen (c - 1) m s t.full h (ap (λ (x : Influence). x.full) (e
+    ∙ sym (cond-true _ _ _ acts)))
+    ∙ ap (serial_attributes (row_in cells) row screen) (back_again c low)
+
+pub full_later : (cells : List Cell) (row screen : Pen) (c : ℕ) (left : What) (m : Marker) (s t : Influence) → 1 ≤ c
+    → IsMarked cells row screen (c - 1) m t → t ≡ influence_with_sign left s → acts_at_once m ≡ false
+    → s.full ≡ serial_attributes (row_in cells) row screen c
+full_later cells row screen c left m s t low h e acts =
+    marked_full cells row screen (c - 1) m t s.full h (ap (λ (x : Influence). x.full) (sym e
+    ∙ sym (cond-false _ _ _ acts)))
+    ∙ ap (serial_attributes (row_in cells) row screen) (back_again c low)
+
+pub held_at : (cells : List Cell) (row screen : Pen) (c : ℕ) (m : Marker) (s : Influence) (sign : Option Glyph) → 1 ≤ c
+    → IsMarked cells row screen (c - 1) m s → sign ≡ held_sign_in (whats.Marker m) s
+    → sign ≡ held_sign (row_in cells) c
+held_at cells row screen c m s sign low h e =
+    marked_held cells row screen (c - 1) m s sign h e ∙ ap (λ n. held_sign (row_in cells) n) (back_again c low)
+
+-- a valid marker leaves valid attributes
+full_after-valid : (m : Marker) (f : Full) → IsValidMarker m → IsValidFull f → IsValidFull (full_after m f)
+full_after-valid (markers.Alpha e) f v h = record { fore = v; back = h.back }
+full_after-valid (markers.Mosaic e) f v h = record { fore = v; back = h.back }
+full_after-valid markers.BlackBack f v h = record { fore = h.fore; back = omega arith }
+full_after-valid markers.NewBack f v h = record { fore = h.fore; back = h.fore }
+full_after-valid m f v h = record { fore = h.fore; back = h.back }
+
+pub marked_valid : (left : What) (m : Marker) (s t u : Influence) → t ≡ influence_with_sign left s
+    → u ≡ influence_after (whats.Marker m) t → IsValidMarker m → IsValidFull s.full → IsValidFull u.full
+marked_valid left m s t u e f v h =
+    subst (λ (x : Influence). IsValidFull x.full) (sym (f ∙ ap (influence_after (whats.Marker m)) e))
+    (full_after-valid m s.full v h)

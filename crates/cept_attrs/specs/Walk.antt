@@ -1,8 +1,8 @@
--- Words of the walk along a row (own), which private clauses alone cite: it takes up the sign of a cell only at the
--- marker after it.
-use Rattle.std.specs.Prelude.{ℕ, zero, suc, if◌then◌else◌}
+-- Words of the walk along a row (own): it takes up the sign of a cell only at the marker after it.
+use Rattle.std.specs.Prelude.{ℕ, ◌≡◌, zero, suc, if◌then◌else◌}
+use Rattle.cept_codes.specs.declared.attribute.Pen.{Pen}
 use Rattle.cept_codes.specs.declared.cell.What.{What}
-use Rattle.cept_profile.specs.Influence.{Influence}
+use Rattle.cept_profile.specs.Influence.{Influence, influence}
 use Rattle.cept_profile.specs.Serial.{is_marker, mosaic_of}
 
 -- what is carried after a cell whose own sign wasn't taken up yet
@@ -13,3 +13,7 @@ influence_with_sign left s = record s { kept_sign = if is_marker left then s.kep
 abbrev pub influence_with_sign_at : (ℕ → What) → ℕ → Influence → Influence
 influence_with_sign_at row zero s = s
 influence_with_sign_at row (suc c) s = influence_with_sign (row (suc c)) s
+
+-- this is what the cells up to a column leave, once the sign of the last one is taken up
+unfoldable pub IsInfluence : (ℕ → What) → Pen → Pen → ℕ → Influence → Type 0
+IsInfluence row pen screen c s = influence row pen screen c ≡ influence_with_sign_at row c s

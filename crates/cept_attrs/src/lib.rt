@@ -6,4 +6,4 @@ mod attributes;
 mod serial;
 
 pub use attributes::cascade;
-pub use serial::{RowSerial, serial_cells, serial_row};
+pub use serial::{Influence, Marked, RowSerial, serial_cells, serial_row};

@@ -1,10 +1,15 @@
-ghost use Rattle.std.specs.Prelude.{◌≡◌, ℕ, ◌-◌, ◌≤◌, false, Option, slice_index_or};
-ghost use Rattle.cept_attrs.specs.Walk.{influence_with_sign};
+ghost use Rattle.std.specs.Prelude.{◌≡◌, ℕ, ◌-◌, ◌≤◌, false, true, None, Option, slice_index_or};
+ghost use Rattle.cept_attrs.specs.Walk.{IsInfluence, influence_with_sign};
 ghost use Rattle.cept_codes.specs.declared.attribute.Full.{Full};
+ghost use Rattle.cept_codes.specs.declared.attribute.Pen.{Pen};
+ghost use Rattle.cept_codes.specs.declared.cell.What.{What};
+ghost use Rattle.cept_codes.specs.Attribute.{IsValidFull, unset_pen};
+ghost use Rattle.cept_codes.specs.Cell.{IsValidMarker};
+ghost use Rattle.cept_profile.specs.Attributes.{cascade};
 ghost use Rattle.cept_codes.specs.declared.cell.What.TheVariants.{Marker as stands};
 ghost use Rattle.cept_codes.specs.declared.glyph.Glyph.{Glyph};
 ghost use Rattle.cept_profile.specs.Influence.{influence_after, influence_in, held_sign_in};
-ghost use Rattle.cept_profile.specs.Serial.{held_sign, is_marker, mosaic_of, row_in};
+ghost use Rattle.cept_profile.specs.Serial.{acts_at_once, held_sign, is_marker, mosaic_of, row_in};
 ghost use Rattle.cept_profile.specs.Serial.{serial_attributes};
 
 use crate::attributes::cascade;
@@ -18,9 +23,16 @@ pub struct RowSerial {
     pub held: [Option<Glyph>; 40],
 }
 
+/// Whether the marker of a cell acts there, and the sign that it shows.
+#[derive(Clone, Copy)]
+pub struct Marked {
+    pub at_once: bool,
+    pub held: Option<Glyph>,
+}
+
 /// What the cells up to one leave for those after it.
 #[derive(Clone, Copy)]
-struct Influence {
+pub struct Influence {
     full: Full,
     hold: bool,
     kept: Option<Glyph>,
@@ -34,6 +46,71 @@ impl Model for Influence {
     ghost view = { λ s. record { full = s.full; hold = s.hold; kept_sign = s.kept } };
 
     ghost inverse = { λ s. record { full = s.full; hold = s.hold; kept = s.kept_sign } };
+}
+
+impl Influence {
+    /// Before the first cell of a row.
+    #[inline(always)]
+    pub fn at_start(row: &Pen, screen: &Pen) -> Influence
+        ensures full { result.full ≡ cascade unset_pen row.now screen.now }
+        ensures influence { (cells : ℕ → What) → IsInfluence cells row.now screen.now 0 result }
+    {
+        Influence {
+            full: cascade(&Pen::UNSET, row, screen),
+            hold: false,
+            kept: None,
+        }
+    }
+
+    /// The attributes that the cells leave.
+    #[inline(always)]
+    pub fn full(&self) -> &Full
+        ensures { result.now ≡ self.now.full }
+    {
+        &self.full
+    }
+
+    /// Tells the prover that a cell without a marker changes nothing: its sign is taken up only at
+    /// a marker after it.
+    #[inline(always)]
+    pub fn pass(&self, cells: &[Cell; 40], column: u8)
+        requires from_left { 1 ≤ column }
+        requires plain { is_marker (row_in cells.now column) ≡ false }
+        ensures influence { (row screen : Pen)
+            → IsInfluence (row_in cells.now) row screen (column - 1) self.now
+            → IsInfluence (row_in cells.now) row screen column self.now }
+        ensures full { (row screen : Pen)
+            → IsInfluence (row_in cells.now) row screen (column - 1) self.now
+            → self.now.full ≡ serial_attributes (row_in cells.now) row screen column }
+        ensures held { held_sign (row_in cells.now) column ≡ None }
+    {}
+
+    /// The cell of a marker. What is carried is then what it leaves.
+    #[inline(always)]
+    pub fn mark(&mut self, cells: &[Cell; 40], column: u8, marker: Marker) -> Marked
+        requires from_left { 1 ≤ column }
+        requires to_right { column ≤ 40 }
+        requires there { row_in cells.now column ≡ stands marker }
+        ensures influence { (row screen : Pen)
+            → IsInfluence (row_in cells.now) row screen (column - 1) self.old
+            → IsInfluence (row_in cells.now) row screen column self.new }
+        ensures at_once { result.at_once ≡ true → (row screen : Pen)
+            → IsInfluence (row_in cells.now) row screen (column - 1) self.old
+            → self.new.full ≡ serial_attributes (row_in cells.now) row screen column }
+        ensures later { result.at_once ≡ false → (row screen : Pen)
+            → IsInfluence (row_in cells.now) row screen (column - 1) self.old
+            → self.old.full ≡ serial_attributes (row_in cells.now) row screen column }
+        ensures held { (row screen : Pen)
+            → IsInfluence (row_in cells.now) row screen (column - 1) self.old
+            → result.held ≡ held_sign (row_in cells.now) column }
+        ensures valid { IsValidMarker marker → IsValidFull self.old.full → IsValidFull self.new.full }
+    {
+        let k = column as usize - 1;
+        settle(self, &cells[k.saturating_sub(1)].what);
+        let mut held = None;
+        let at_once = turn(self, marker, &mut held);
+        Marked { at_once, held }
+    }
 }
 
 /// The serial attributes of a row and its held signs (serial attributes after ETS 300 072).
@@ -112,52 +189,67 @@ fn is_marker(what: &What) -> bool
 }
 
 /// A marker: what is in force in its cell, the sign that it shows, and what is carried after it.
-#[inline(never)]
+#[inline(always)]
 fn mark(influence: &mut Influence, m: Marker, full: &mut Full, held: &mut Option<Glyph>)
     ensures influence { influence.new ≡ influence_after (stands m) influence.old }
     ensures full { full.new ≡ (influence_in (stands m) influence.old).full }
     ensures held { held.new ≡ held_sign_in (stands m) influence.old }
 {
-    *full = influence.full;
-    let mut hold = influence.hold;
+    let before = influence.full;
+    let at_once = turn(influence, m, held);
+    *full = if at_once { influence.full } else { before };
+}
+
+/// The same but for what is in force: it answers whether the marker acts in its own cell.
+#[inline(never)]
+fn turn(influence: &mut Influence, m: Marker, held: &mut Option<Glyph>) -> bool
+    ensures influence { influence.new ≡ influence_after (stands m) influence.old }
+    ensures at_once { result ≡ acts_at_once m }
+    ensures held { held.new ≡ held_sign_in (stands m) influence.old }
+{
+    let hold = influence.hold;
+    carry(influence, m);
+    let at_once = acts_at_once(m);
+    let holds = if at_once { influence.hold } else { hold };
+    *held = if holds { influence.kept } else { None };
+    at_once
+}
+
+/// What a marker leaves.
+#[inline(always)]
+fn carry(influence: &mut Influence, m: Marker)
+    ensures { influence.new ≡ influence_after (stands m) influence.old }
+{
     match m {
         Marker::Alpha(e) | Marker::Mosaic(e) => influence.full.fore = e,
-        Marker::BlackBack => {
-            influence.full.back = 0;
-            full.back = 0;
-        }
-        Marker::NewBack => {
-            influence.full.back = influence.full.fore;
-            full.back = influence.full.fore;
-        }
-        Marker::Hold => {
-            influence.hold = true;
-            hold = true;
-        }
+        Marker::BlackBack => influence.full.back = 0,
+        Marker::NewBack => influence.full.back = influence.full.fore,
+        Marker::Hold => influence.hold = true,
         Marker::Release => influence.hold = false,
-        Marker::Flash(flash) => {
-            influence.full.flash = flash;
-            if let Flash::Steady = flash {
-                full.flash = flash;
-            }
-        }
-        Marker::Conceal(conceal) => {
-            influence.full.conceal = conceal;
-            if conceal {
-                full.conceal = true;
-            }
-        }
+        Marker::Flash(flash) => influence.full.flash = flash,
+        Marker::Conceal(conceal) => influence.full.conceal = conceal,
         Marker::Lined(lined) => influence.full.lined = lined,
         Marker::Boxed(boxed) => influence.full.boxed = boxed,
         Marker::Size(size) => {
             influence.full.size = size;
             influence.kept = None;
-            if let Size::Normal = size {
-                full.size = size;
-            }
         }
     }
-    *held = if hold { influence.kept } else { None };
+}
+
+/// Whether a marker acts in its own cell; all others act from the next.
+#[inline(always)]
+fn acts_at_once(m: Marker) -> bool
+    ensures { result ≡ acts_at_once m }
+{
+    match m {
+        Marker::Flash(flash) => matches!(flash, Flash::Steady),
+        Marker::Size(size) => matches!(size, Size::Normal),
+        Marker::Conceal(conceal) => conceal,
+        Marker::BlackBack | Marker::NewBack | Marker::Hold => true,
+        Marker::Alpha(_) | Marker::Mosaic(_) | Marker::Release => false,
+        Marker::Lined(_) | Marker::Boxed(_) => false,
+    }
 }
 
 /// The sign that markers after a cell may hold: one written serially from a mosaic set.
