@@ -5,4 +5,5 @@ mod part;
 mod row;
 
 pub use cept_codes::Part;
+pub use part::{below, is_single, origin_there, to_the_right};
 pub use row::{Parts, Wants, tile_row};

@@ -1,4 +1,4 @@
-ghost use Rattle.std.specs.Prelude.{◌≡◌, ◌&&◌, not};
+ghost use Rattle.std.specs.Prelude.{◌≡◌, ◌&&◌, nat_lt, not};
 ghost use Rattle.cept_profile.specs.Tiling.{covers_below, is_high, is_wide};
 ghost use Rattle.cept_profile.specs.Tiling.{origin_part, part_below, part_to_the_right};
 
@@ -30,7 +30,7 @@ pub(crate) fn is_wide(size: Size) -> bool
 
 /// Whether a sign of this size is neither.
 #[inline(always)]
-pub(crate) fn is_single(size: Size) -> bool
+pub fn is_single(size: Size) -> bool
     ensures { result ≡ (not (is_high size) && not (is_wide size)) }
 {
     matches!(size, Size::Normal)
@@ -57,9 +57,23 @@ pub(crate) fn origin(wide: bool, high: bool) -> Part
     }
 }
 
+/// The upper left part of a sign of this size in a column of a row, where nothing covers the place:
+/// it isn't wide in the last column, nor beside a place that is covered from above, and not high in
+/// a last row.
+#[inline(always)]
+pub fn origin_there(size: Size, column: u8, beside: bool, last: bool) -> Part
+    ensures { result
+        ≡ origin_part (is_wide size && nat_lt column 40 && not beside) (is_high size && not last) }
+{
+    origin(
+        is_wide(size) & (column < 40) & !beside,
+        is_high(size) & !last,
+    )
+}
+
 /// The same part, one place down.
 #[inline(always)]
-pub(crate) fn below(part: Part) -> Part
+pub fn below(part: Part) -> Part
     ensures { result ≡ part_below part }
 {
     Part { dy: 1, ..part }
@@ -67,7 +81,7 @@ pub(crate) fn below(part: Part) -> Part
 
 /// The upper part one place to the right.
 #[inline(always)]
-pub(crate) fn to_the_right(part: Part) -> Part
+pub fn to_the_right(part: Part) -> Part
     ensures { result ≡ part_to_the_right part }
 {
     Part {
