@@ -1,7 +1,7 @@
 -- Rows of single size beneath one that covers nothing: each place shows what stands in its own cell.
-use Rattle.std.proofs.Common.{◌≡◌, ℕ, ◌-◌, ◌≤◌, ◌&&◌, ltb, Bool, true, false, not, cond, Option, Some, None, List}
+use Rattle.std.proofs.Common.{◌≡◌, ℕ, ◌<◌, ◌≤◌, ◌&&◌, ltb, Bool, true, false, not, cond, Option, Some, None, List}
 use Rattle.std.proofs.Common.{zero, suc}
-use Rattle.std.proofs.Common.{refl, sym, ap, subst, ◌∙◌, arith}
+use Rattle.std.proofs.Common.{refl, sym, ap, ◌∙◌, arith}
 use Rattle.std.proofs.lemmas.Bool.{cond_both}
 use Rattle.cept_codes.specs.declared.attribute.Full.{Full}
 use Rattle.cept_codes.specs.declared.attribute.Pen.{Pen}
@@ -13,7 +13,6 @@ use Rattle.cept_codes.specs.declared.cell.What.TheVariants as whats
 use Rattle.cept_codes.specs.declared.look.Look.{Look}
 use Rattle.cept_codes.specs.Attribute.{unset_pen}
 use Rattle.cept_codes.specs.Look.{blank_look}
-use Rattle.cept_codes.specs.Table.{row_of}
 use Rattle.cept_profile.specs.Attributes.{cascade, first_value}
 use Rattle.cept_profile.specs.Influence.{Influence, influence, influence_after, influence_in}
 use Rattle.cept_profile.specs.Definitions.{Definitions}
@@ -21,14 +20,14 @@ use Rattle.cept_profile.specs.PageParts.{paint_in}
 use Rattle.cept_profile.specs.Look.{is_double_set, look_in_row, look_of, sets_double_size, look_with, look_with_part}
 use Rattle.cept_profile.specs.Look.{part_of}
 use Rattle.cept_profile.specs.Look.{shape_in, shape_of, size_in_row}
-use Rattle.cept_profile.specs.RowsFromAbove.{look_by, look_from, row_from_above}
+use Rattle.cept_profile.specs.RowsFromAbove.{look_by, look_from}
 use Rattle.cept_profile.specs.Serial.{acts_there, held_sign, is_marker, own_attributes_of, serial_attributes}
 use Rattle.cept_profile.specs.Tiling.{column_entry, covers_below, covers_right, is_covered_from_left, is_high}
 use Rattle.cept_profile.specs.Tiling.{is_wide, origin_part, part_below, part_to_the_right, single_part}
 use Rattle.cept_profile.proofs.Laws.{influence-start, influence-suc, serial_attributes-suc, in_plain, unmarked}
 use Rattle.cept_rows.specs.declared.small_look.SmallLook.{SmallLook}
+use Rattle.cept_rows.specs.RowsByCell.{look_shown}
 use Rattle.cept_rows.specs.SmallLooks.{small_of}
-use Rattle.cept_rows.proofs.Columns.{same_rows}
 use Rattle.cept_rows.proofs.RowsByPart.{look_from-0}
 
 -- without markers the attributes are those of the row and the screen
@@ -42,7 +41,7 @@ attributes_alone row pen screen (suc c) low plain =
     ∙ unmarked row pen screen c (λ d from to. plain d from (omega arith))
 
 -- what is no marker is drawn as itself
-shape_alone : (defined : Definitions) (w : What) (held : Option _) → is_marker w ≡ false
+pub shape_alone : (defined : Definitions) (w : What) (held : Option _) → is_marker w ≡ false
     → shape_in defined w held ≡ shape_of defined w
 shape_alone defined (whats.Marker m) held plain = cc
 shape_alone defined whats.Blank held plain = refl
@@ -138,13 +137,13 @@ size_of_cell (whats.Parallel sign p) pen screen f sets e g = size_first p.size p
 size_of_cell (whats.Marker m) pen screen f sets e g = g
 
 -- the size of each cell of such a row
-pub size_alone : (row : ℕ → What) (pen screen : Pen) (c : ℕ) → 1 ≤ c → c ≤ 40
-    → ((d : ℕ) → 1 ≤ d → d ≤ 40 → sets_double_size (row d) ≡ false) → (cascade unset_pen pen screen).size ≡ sizes.Normal
+size_alone : (row : ℕ → What) (pen screen : Pen) (c : ℕ) → 1 ≤ c
+    → ((d : ℕ) → 1 ≤ d → d ≤ c → sets_double_size (row d) ≡ false) → (cascade unset_pen pen screen).size ≡ sizes.Normal
     → size_in_row row pen screen c ≡ sizes.Normal
 unfolding size_in_row
-size_alone row pen screen c low high plain e =
-    size_of_cell (row c) pen screen (serial_attributes row pen screen c) (plain c low high) e
-    (single_serial row pen screen c low (λ d from to. plain d from (omega arith)) e)
+size_alone row pen screen c low plain e =
+    size_of_cell (row c) pen screen (serial_attributes row pen screen c) (plain c low (omega arith)) e
+    (single_serial row pen screen c low plain e)
 
 -- ---- rows
 
@@ -176,7 +175,7 @@ look_by-alone a al ar l own size last c above left normal single =
     single
 
 -- what stands in a cell is of single size by itself
-single_look : (defined : Definitions) (row : ℕ → What) (pen screen : Pen) (c : ℕ) → part_of
+pub single_look : (defined : Definitions) (row : ℕ → What) (pen screen : Pen) (c : ℕ) → part_of
     (look_in_row defined row pen screen c) ≡ single_part
 unfolding look_in_row
 single_look defined row pen screen c = refl
@@ -189,42 +188,33 @@ look_from-suc : (above own : ℕ → Look) (wanted : ℕ → Size) (last : Bool)
 unfolding look_from
 look_from-suc above own wanted last c = refl
 
--- each column shows its own
-look_from-alone : (above own : ℕ → Look) (wanted : ℕ → Size) (last : Bool) → ((c : ℕ)
+-- each column up to the last of single size shows its own
+look_from-alone : (above own : ℕ → Look) (wanted : ℕ → Size) (last : Bool) (n : ℕ) → ((c : ℕ)
     → covers_below (part_of (above c)) ≡ false)
-    → ((c : ℕ) → part_of (own c) ≡ single_part) → ((c : ℕ) → 1 ≤ c → c ≤ 40 → wanted c ≡ sizes.Normal) → (c : ℕ)
-    → c ≤ 39 → look_from above own wanted last (suc c) ≡ own (suc c)
-look_from-alone above own wanted last uncovered single normal zero high =
+    → ((c : ℕ) → part_of (own c) ≡ single_part) → ((c : ℕ) → 1 ≤ c → c ≤ n → wanted c ≡ sizes.Normal) → (c : ℕ)
+    → suc c ≤ n → look_from above own wanted last (suc c) ≡ own (suc c)
+look_from-alone above own wanted last n uncovered single normal zero high =
     look_from-suc above own wanted last 0
     ∙ look_by-alone (above 1) (above 0) (above 2) (look_from above own wanted last 0) (own 1) (wanted 1) last 1
     (uncovered 1)
-    (ap (λ l. covers_right (part_of l)) (look_from-0 above own wanted last)) (normal 1 (omega arith) (omega arith))
-    (single 1)
-look_from-alone above own wanted last uncovered single normal (suc c) high =
+    (ap (λ l. covers_right (part_of l)) (look_from-0 above own wanted last)) (normal 1 (omega arith) high) (single 1)
+look_from-alone above own wanted last n uncovered single normal (suc c) high =
     look_from-suc above own wanted last (suc c)
     ∙ look_by-alone (above (suc (suc c))) (above (suc c)) (above (suc (suc (suc c)))) (look_from above own wanted last
     (suc c))
     (own (suc (suc c))) (wanted (suc (suc c))) last (suc (suc c)) (uncovered (suc (suc c)))
-    (ap (λ l. covers_right (part_of l)) (look_from-alone above own wanted last uncovered single normal c (omega arith))
+    (ap (λ l. covers_right (part_of l)) (look_from-alone above own wanted last n uncovered single normal c (omega arith))
     ∙ ap covers_right (single (suc c)))
-    (normal (suc (suc c)) (omega arith) (omega arith)) (single (suc (suc c)))
+    (normal (suc (suc c)) (omega arith) high) (single (suc (suc c)))
 
--- the whole row
-pub row_alone : (defined : Definitions) (above : List Look) (row : ℕ → What) (pen screen : Pen) (last : Bool)
+-- the columns before one in which another size may stand
+pub shown_alone : (defined : Definitions) (above : List Look) (row : ℕ → What) (pen screen : Pen) (last : Bool) (n : ℕ)
     → ((c : ℕ) → covers_below (part_of (column_entry blank_look above c)) ≡ false)
-    → ((d : ℕ) → 1 ≤ d → d ≤ 40 → sets_double_size (row d) ≡ false) → (cascade unset_pen pen screen).size ≡ sizes.Normal
-    → row_of (look_in_row defined row pen screen)
-    ≡ row_from_above above (look_in_row defined row pen screen) (size_in_row row pen screen) last
-unfolding row_from_above
-row_alone defined above row pen screen last uncovered plain e =
-    same_rows (look_in_row defined row pen screen)
-    (look_from (column_entry blank_look above) (look_in_row defined row pen screen) (size_in_row row pen screen) last)
-    (λ c low high.
-    let back : suc (c - 1) ≡ c = omega arith in
-    subst (λ d. look_in_row defined row pen screen d
-    ≡ look_from (column_entry blank_look above) (look_in_row defined row pen screen)
-    (size_in_row row pen screen) last d) back
-    (sym (look_from-alone (column_entry blank_look above) (look_in_row defined row pen screen)
-    (size_in_row row pen screen) last
-    uncovered (single_look defined row pen screen) (λ d from to. size_alone row pen screen d from to plain e) (c - 1)
-    (omega arith))))
+    → ((d : ℕ) → 1 ≤ d → d < n → sets_double_size (row d) ≡ false) → (cascade unset_pen pen screen).size ≡ sizes.Normal
+    → (c : ℕ) → 1 ≤ c → c < n
+    → look_in_row defined row pen screen c ≡ look_shown defined above row pen screen last c
+shown_alone defined above row pen screen last n uncovered plain e zero low below = absurd (omega arith)
+shown_alone defined above row pen screen last n uncovered plain e (suc c) low below =
+    sym (look_from-alone (column_entry blank_look above) (look_in_row defined row pen screen)
+    (size_in_row row pen screen) last (suc c) uncovered (single_look defined row pen screen)
+    (λ d from to. size_alone row pen screen d from (λ b first upto. plain b first (omega arith)) e) c (omega arith))

@@ -1,11 +1,10 @@
 -- Signs: those of the downloaded set are drawn by the pattern of their code, all others as themselves.
-use Rattle.std.proofs.Common.{◌≡◌, ℕ, ◌-◌, ◌≤◌, get_or, ◌&&◌, ◌==◌, Bool, true, false, cond, Option, Some, None, IfSome}
+use Rattle.std.proofs.Common.{◌≡◌, ℕ, ◌&&◌, ◌==◌, Bool, true, false, cond, Option, Some, None, IfSome}
 use Rattle.std.proofs.Common.{List, not, refl}
 use Rattle.std.proofs.Common.{sym, ap, ◌∙◌, subst}
 use Rattle.std.proofs.lemmas.Bool.{cond_both}
 use Rattle.cept_codes.specs.declared.attribute.Full.{Full}
 use Rattle.cept_codes.specs.declared.attribute.Pen.{Pen}
-use Rattle.cept_codes.specs.declared.cell.Cell.{Cell}
 use Rattle.cept_codes.specs.declared.cell.What.{What}
 use Rattle.cept_codes.specs.declared.cell.What.TheVariants as whats
 use Rattle.cept_codes.specs.declared.glyph.Glyph.{Glyph}
@@ -16,12 +15,12 @@ use Rattle.cept_codes.specs.declared.look.Pattern.{Pattern}
 use Rattle.cept_codes.specs.declared.look.Shape.TheVariants as shapes
 use Rattle.cept_codes.specs.Cell.{IsValidWhat}
 use Rattle.cept_profile.specs.Definitions.{Definitions}
-use Rattle.cept_profile.specs.Look.{attributes_of, look_in_row, look_of, look_with, shape_by_pattern, shape_in}
+use Rattle.cept_profile.specs.Look.{look_in_row, look_of, look_with, shape_by_pattern, shape_in}
 use Rattle.cept_profile.specs.Look.{shape_in_set, shape_of}
 use Rattle.cept_profile.specs.Look.{shape_of_sign}
-use Rattle.cept_profile.specs.PageParts.{paint_in, pattern_in}
+use Rattle.cept_profile.specs.PageParts.{pattern_in}
 use Rattle.cept_profile.specs.Serial.{held_sign, is_holding, is_marker, is_mosaic, is_sized_since, kept_sign, mosaic_of}
-use Rattle.cept_profile.specs.Serial.{nearest_column, row_in, value_found}
+use Rattle.cept_profile.specs.Serial.{nearest_column, value_found}
 use Rattle.cept_profile.specs.Valid.{AreValidDefinitions}
 use Rattle.cept_profile.proofs.Laws.{IsValidLook-look_of}
 use Rattle.cept_rows.specs.declared.drawing.Drawing.{Drawing}
@@ -83,11 +82,9 @@ held_other row c =
     cond_both (is_marker (row c) && is_holding row c) (kept_sign row c) None IsOther (λ e. kept_other row c) (λ e. tt)
 
 -- the same of one that was found
-pub held_found : (cells : List Cell) (helds : List (Option Glyph)) (c : ℕ) (d : Option Glyph) → 1 ≤ c → c ≤ 40
-    → ((c : ℕ) (d : Option Glyph) → 1 ≤ c → c ≤ 40 → get_or helds (c - 1) d ≡ held_sign (row_in cells) c)
-    → IfSome (get_or helds (c - 1) d) (λ g. is_set_d g.set ≡ false)
-held_found cells helds c d low high found =
-    subst IsOther (sym (found c d low high)) (held_other (row_in cells) c)
+pub held_found : (row : ℕ → What) (c : ℕ) (held : Option Glyph) → held ≡ held_sign row c
+    → IfSome held (λ g. is_set_d g.set ≡ false)
+held_found row c held e = subst IsOther (sym e) (held_other row c)
 
 -- ---- cells
 
@@ -138,20 +135,6 @@ drawing_unheld defined (whats.Marker m) (Some g) other =
 drawing_unheld defined whats.Blank held other = refl
 drawing_unheld defined (whats.Serial g) held other = refl
 drawing_unheld defined (whats.Parallel g pen) held other = refl
-
--- and a marker that holds none is drawn as nothing
-shape_unheld : (defined : Definitions) (w : What) → shape_in defined w None ≡ shape_of defined w
-shape_unheld defined (whats.Marker m) = refl
-shape_unheld defined whats.Blank = refl
-shape_unheld defined (whats.Serial g) = refl
-shape_unheld defined (whats.Parallel g pen) = refl
-
-pub small_of-unheld : (defined : Definitions) (row screen : Pen) (w : What)
-    → small_of (look_with (paint_in defined.paints) (shape_in defined w None) (attributes_of row screen w))
-    ≡ small_of (look_of defined row screen w)
-unfolding look_of
-small_of-unheld defined row screen w =
-    ap (λ s. small_of (look_with (paint_in defined.paints) s (attributes_of row screen w))) (shape_unheld defined w)
 
 -- the drawings of looks
 drawing_of-look_of : (defined : Definitions) (row screen : Pen) (w : What)

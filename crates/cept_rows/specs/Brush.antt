@@ -1,7 +1,8 @@
 -- What the walk along a row keeps of the last pen (own). Private clauses alone cite it.
-use Rattle.std.specs.Prelude.{◌≡◌}
+use Rattle.std.specs.Prelude.{◌≡◌, true}
 use Rattle.cept_codes.specs.declared.attribute.Pen.{Pen}
 use Rattle.cept_codes.specs.declared.look.Shape.TheVariants as shapes
+use Rattle.cept_codes.specs.Attribute.{unset_pen}
 use Rattle.cept_colours.specs.Colours.{ColourTables}
 use Rattle.cept_profile.specs.Attributes.{cascade}
 use Rattle.cept_profile.specs.Look.{look_with}
@@ -9,7 +10,13 @@ use Rattle.cept_profile.specs.PageParts.{paint_in}
 use Rattle.cept_rows.specs.declared.cell_look.Brush.{Brush}
 use Rattle.cept_rows.specs.SmallLooks.{small_of}
 
--- a pen, and how a space looks that is written with it, beneath these attributes of row and screen
-abbrev pub IsBrush : ColourTables → Pen → Pen → Brush → Type 0
-IsBrush colours row screen brush =
-    brush.space ≡ small_of (look_with (paint_in colours.paints) shapes.Space (cascade brush.pen row screen))
+-- a pen that sets no class but the colours
+abbrev pub IsBare : Pen → Type 0
+IsBare pen = pen ≡ record unset_pen { fore = pen.fore; back = pen.back }
+
+-- how a space looks that is written with the pen, and in which size, beneath these attributes of row and screen
+pub record IsBrush (colours : ColourTables) (row screen : Pen) (brush : Brush) : Type 0 where
+  pub space : brush.space
+      ≡ small_of (look_with (paint_in colours.paints) shapes.Space (cascade brush.pen row screen))
+  pub bare : brush.bare ≡ true → IsBare brush.pen
+  pub size : brush.size ≡ (cascade brush.pen row screen).size

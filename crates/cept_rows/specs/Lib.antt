@@ -5,3 +5,4 @@ pub mod KeptRows
 pub mod RowsByCell
 pub mod KeptNames
 pub mod Planes
+pub mod Walk

@@ -1,16 +1,19 @@
 -- Rows, place by place (own): what stands in a cell by itself, and what a place shows by its part.
-use Rattle.std.specs.Prelude.{◌==◌, if◌then◌else◌, Bool, true, false, List, Option, None}
+use Rattle.std.specs.Prelude.{ℕ, if◌then◌else◌, Bool, true, false, List, Option, None}
 use Rattle.cept_codes.specs.declared.cell.What.{What}
 use Rattle.cept_codes.specs.declared.cell.What.TheVariants as whats
 use Rattle.cept_codes.specs.declared.glyph.Glyph.{Glyph}
 use Rattle.cept_codes.specs.declared.glyph.SetId.{SetId}
 use Rattle.cept_codes.specs.declared.glyph.SetId.TheVariants as sets
 use Rattle.cept_codes.specs.declared.look.Look.{Look}
-use Rattle.cept_codes.specs.declared.look.Part.{Part}
 use Rattle.cept_codes.specs.declared.look.Pattern.{Pattern}
-use Rattle.cept_codes.specs.declared.look.Shape.{Shape}
-use Rattle.cept_profile.specs.Look.{look_with_part}
+use Rattle.cept_codes.specs.declared.attribute.Pen.{Pen}
+use Rattle.cept_codes.specs.Look.{blank_look}
+use Rattle.cept_profile.specs.Definitions.{Definitions}
+use Rattle.cept_profile.specs.Look.{look_in_row, size_in_row}
 use Rattle.cept_profile.specs.PageParts.{pattern_in}
+use Rattle.cept_profile.specs.RowsFromAbove.{look_from}
+use Rattle.cept_profile.specs.Tiling.{column_entry}
 
 -- the downloaded set
 abbrev pub is_set_d : SetId → Bool
@@ -27,11 +30,7 @@ is_downloaded _ = false
 abbrev pub pattern_of_sign : List (Option Pattern) → Glyph → Option Pattern
 pattern_of_sign patterns g = if is_set_d g.set then pattern_in patterns g.code else None
 
--- the look of a place by the part that it shows: a lower part is one of the look above, a right part one of the look to
--- the left, and any other one of what stands there itself
-abbrev pub look_by_part : Part → Look → Look → Look → Look
-look_by_part p above left own = look_with_part p (if p.dy == 1 then above else if p.dx == 1 then left else own)
-
--- the shape of a place by the part of it that it shows
-abbrev pub shape_by_part : Part → Shape → Shape → Shape → Shape
-shape_by_part p above left own = if p.dy == 1 then above else if p.dx == 1 then left else own
+-- what the places of a row show beneath these looks
+abbrev pub look_shown : Definitions → List Look → (ℕ → What) → Pen → Pen → Bool → ℕ → Look
+look_shown defined above row pen screen last =
+    look_from (column_entry blank_look above) (look_in_row defined row pen screen) (size_in_row row pen screen) last

@@ -1,5 +1,4 @@
 ghost use Rattle.std.specs.Prelude.{◌≡◌, true, false, List, Option, None, IfSome};
-ghost use Rattle.cept_codes.specs.declared.look.Look.{Look};
 ghost use Rattle.cept_codes.specs.declared.look.Shape.{Shape};
 ghost use Rattle.cept_codes.specs.declared.look.Shape.TheVariants.{Space};
 ghost use Rattle.cept_codes.specs.Attribute.{IsValidFull, IsValidPen, unset_pen};
@@ -14,18 +13,20 @@ ghost use Rattle.cept_profile.specs.Look.{shape_in, shape_of};
 ghost use Rattle.cept_profile.specs.Look.{shape_of_sign};
 ghost use Rattle.cept_profile.specs.PageParts.{paint_in};
 ghost use Rattle.cept_profile.specs.Serial.{is_marker, own_attributes_of};
+ghost use Rattle.cept_codes.specs.declared.cell.Marker.{Marker};
+ghost use Rattle.cept_codes.specs.declared.cell.What.TheVariants.{Marker as stands};
 ghost use Rattle.cept_colours.specs.Colours.{ColourTables};
-ghost use Rattle.cept_rows.specs.Brush.{IsBrush};
+ghost use Rattle.cept_rows.specs.Brush.{IsBare, IsBrush};
 ghost use Rattle.cept_rows.specs.DrawnWith.{drawn_with};
 ghost use Rattle.cept_rows.specs.SmallLooks.{sign_of, small_of};
-ghost use Rattle.cept_rows.specs.RowsByCell.{is_downloaded, is_set_d, look_by_part};
+ghost use Rattle.cept_rows.specs.RowsByCell.{is_downloaded, is_set_d};
 ghost use Rattle.cept_rows.specs.RowsByCell.{pattern_of_sign};
 
 use crate::colours::{back_of, fore_of};
 use crate::drawing::pattern_of;
 use crate::small_look::{Kind, Sign, SmallLook, Style};
 use cept_attrs::cascade;
-use cept_codes::{Full, Glyph, Marker, Part, Pen, SetId, Size, What, pens_compare_by_their_fields};
+use cept_codes::{Full, Glyph, Marker, Pen, SetId, Size, What, pens_compare_by_their_fields};
 use cept_colours::Colours;
 use cept_drcs::Patterns;
 
@@ -64,7 +65,7 @@ pub(crate) fn small_of_any(
         ≡ small_of (look_of (drawn_with colours.now patterns.now) row.now screen.now what.now) }
 {
     small_with(
-        sign_in(what, None, patterns),
+        sign_in(what, patterns),
         &attributes_alone(what, row, screen),
         colours,
     )
@@ -126,17 +127,20 @@ pub(crate) fn is_plain(what: &What) -> bool
     }
 }
 
-/// A pen, and the look of a space that is written with it in a row without markers.
+/// A pen, whether it is known to set no class but the colours, the look of a space that is written
+/// with it, and the size in which it is to be shown.
 #[derive(Clone, Copy)]
 pub(crate) struct Brush {
     pub(crate) pen: Pen,
+    pub(crate) bare: bool,
     pub(crate) space: SmallLook,
+    pub(crate) size: Size,
 }
 
 /// Takes up a pen. Neighbours most often have the same one, so that attributes and paints are found
 /// only where it is another than before.
 #[inline(always)]
-fn take_up(brush: &mut Brush, pen: &Pen, row: &Pen, screen: &Pen, colours: &Colours)
+pub(crate) fn take_up(brush: &mut Brush, pen: &Pen, row: &Pen, screen: &Pen, colours: &Colours)
     requires pen { IsValidPen pen.now }
     requires row { IsValidPen row.now }
     requires screen { IsValidPen screen.now }
@@ -144,11 +148,83 @@ fn take_up(brush: &mut Brush, pen: &Pen, row: &Pen, screen: &Pen, colours: &Colo
     ensures pen { brush.new.pen ≡ pen.now }
     ensures is { IsBrush colours.now row.now screen.now brush.new }
 {
-    // A law: pens compare as equal exactly where they are the same.
-    pens_compare_by_their_fields();
-    if brush.pen != *pen {
+    if !holds(brush, pen) {
         dip(brush, pen, row, screen, colours);
     }
+}
+
+/// Whether a brush is known to hold a pen.
+// Most pens set colours alone: then two classes are compared, and not eight.
+#[inline(always)]
+fn holds(brush: &Brush, pen: &Pen) -> bool
+    requires { brush.now.bare ≡ true → IsBare brush.now.pen }
+    ensures { result ≡ true → brush.now.pen ≡ pen.now }
+{
+    if !brush.bare {
+        return same_pen(&brush.pen, pen);
+    }
+    if !is_bare(pen) {
+        return false;
+    }
+    if brush.pen.fore != pen.fore {
+        return false;
+    }
+    brush.pen.back == pen.back
+}
+
+/// Whether a pen sets no class but the colours.
+#[inline(always)]
+fn is_bare(pen: &Pen) -> bool
+    ensures { result ≡ true → IsBare pen.now }
+{
+    if pen.flash.is_some() {
+        return false;
+    }
+    if pen.conceal.is_some() {
+        return false;
+    }
+    if pen.lined.is_some() {
+        return false;
+    }
+    if pen.boxed.is_some() {
+        return false;
+    }
+    if pen.size.is_some() {
+        return false;
+    }
+    pen.invert.is_none()
+}
+
+/// Whether two pens are known to be the same.
+// Class by class, each with an end of its own: most are set in neither.
+#[inline(always)]
+fn same_pen(a: &Pen, b: &Pen) -> bool
+    ensures { result ≡ true → a.now ≡ b.now }
+{
+    // A law: pens compare as equal exactly where they are the same.
+    pens_compare_by_their_fields();
+    if a.fore != b.fore {
+        return false;
+    }
+    if a.back != b.back {
+        return false;
+    }
+    if a.flash != b.flash {
+        return false;
+    }
+    if a.conceal != b.conceal {
+        return false;
+    }
+    if a.lined != b.lined {
+        return false;
+    }
+    if a.boxed != b.boxed {
+        return false;
+    }
+    if a.size != b.size {
+        return false;
+    }
+    a.invert == b.invert
 }
 
 /// Takes up another pen.
@@ -161,9 +237,12 @@ fn dip(brush: &mut Brush, pen: &Pen, row: &Pen, screen: &Pen, colours: &Colours)
     ensures pen { brush.new.pen ≡ pen.now }
     ensures is { IsBrush colours.now row.now screen.now brush.new }
 {
+    let full = cascade(pen, row, screen);
     *brush = Brush {
         pen: *pen,
-        space: small_with(Sign::NOTHING, &cascade(pen, row, screen), colours),
+        bare: is_bare(pen),
+        space: small_with(Sign::NOTHING, &full, colours),
+        size: full.size,
     };
 }
 
@@ -207,40 +286,6 @@ pub(crate) fn small_among(
     }
 }
 
-/// Whether what stands in a cell sets a size other than the single one.
-#[inline(always)]
-pub(crate) fn sets_double_size(what: &What) -> bool
-    ensures { result ≡ sets_double_size what.now }
-{
-    match what {
-        What::Parallel(_, pen) => !matches!(pen.size, None | Some(Size::Normal)),
-        What::Marker(Marker::Size(size)) => !matches!(size, Size::Normal),
-        What::Blank | What::Serial(_) | What::Marker(_) => false,
-    }
-}
-
-/// The look of a place by the part of a sign that it shows: that of the place above or left of it,
-/// or that of what stands in its own cell.
-#[inline(always)]
-pub(crate) fn small_by_part(
-    part: Part,
-    above: SmallLook,
-    left: SmallLook,
-    own: SmallLook,
-) -> SmallLook
-    ensures { (a l o : Look) → above ≡ small_of a → left ≡ small_of l → own ≡ small_of o
-        → result ≡ small_of (look_by_part part a l o) }
-{
-    let look = if part.dy == 1 {
-        above
-    } else if part.dx == 1 {
-        left
-    } else {
-        own
-    };
-    SmallLook { part, ..look }
-}
-
 /// A sign written in parallel has its own attributes, every other cell the serial ones.
 #[inline(always)]
 pub(crate) fn own_attributes(what: &What, full: &Full, row: &Pen, screen: &Pen) -> Full
@@ -254,40 +299,29 @@ pub(crate) fn own_attributes(what: &What, full: &Full, row: &Pen, screen: &Pen) 
     }
 }
 
-/// The look of what stands in a cell with its attributes, where it holds a sign or none.
+/// The sign of what stands in a cell by itself.
 #[inline(always)]
-pub(crate) fn small_under(
-    what: &What,
-    full: &Full,
-    held: Option<Glyph>,
-    colours: &Colours,
-    patterns: &Patterns,
-) -> SmallLook
+fn sign_in(what: &What, patterns: &Patterns) -> Sign
     requires valid { IsValidWhat what.now }
-    requires full { IsValidFull full.now }
-    requires held { IfSome held (λ g. is_set_d g.set ≡ false) }
-    ensures { result
-        ≡ small_of (look_with (paint_in colours.now.paints)
-        (shape_in (drawn_with colours.now patterns.now) what.now held) full.now) }
-{
-    small_with(sign_in(what, held, patterns), full, colours)
-}
-
-/// The sign of a cell: a marker shows the one that it holds, which is none of the downloaded set.
-#[inline(always)]
-fn sign_in(what: &What, held: Option<Glyph>, patterns: &Patterns) -> Sign
-    requires valid { IsValidWhat what.now }
-    requires held { IfSome held (λ g. is_set_d g.set ≡ false) }
     ensures { (colours : ColourTables)
-        → result ≡ sign_of (shape_in (drawn_with colours patterns.now) what.now held) }
+        → result ≡ sign_of (shape_of (drawn_with colours patterns.now) what.now) }
 {
     match what {
-        What::Blank => Sign::NOTHING,
+        What::Blank | What::Marker(_) => Sign::NOTHING,
         What::Serial(glyph) | What::Parallel(glyph, _) => sign_of_glyph(glyph, patterns),
-        What::Marker(_) => match held {
-            Some(glyph) => sign_of_set(&glyph),
-            None => Sign::NOTHING,
-        },
+    }
+}
+
+/// The sign that a marker shows: the one that it holds, which is none of the downloaded set.
+#[inline(always)]
+pub(crate) fn sign_held(held: Option<Glyph>) -> Sign
+    requires { IfSome held (λ g. is_set_d g.set ≡ false) }
+    ensures { (defined : Definitions) (marker : Marker)
+        → result ≡ sign_of (shape_in defined (stands marker) held) }
+{
+    match held {
+        Some(glyph) => sign_of_set(&glyph),
+        None => Sign::NOTHING,
     }
 }
 
@@ -315,7 +349,30 @@ pub(crate) fn small_with(sign: Sign, full: &Full, colours: &Colours) -> SmallLoo
 /// A sign of the downloaded set is drawn as the pattern of its code, where it has one, and any
 /// other as itself.
 #[inline(always)]
-fn sign_of_glyph(glyph: &Glyph, patterns: &Patterns) -> Sign
+pub(crate) fn sign_of_glyph(glyph: &Glyph, patterns: &Patterns) -> Sign
+    requires { IsValidGlyph glyph.now }
+    ensures { (colours : ColourTables)
+        → result ≡ sign_of (shape_of_sign (drawn_with colours patterns.now) glyph.now) }
+{
+    if is_set_d(glyph.set) {
+        sign_of_downloaded(glyph, patterns)
+    } else {
+        sign_of_set(glyph)
+    }
+}
+
+/// Whether this is the downloaded set.
+#[inline(always)]
+fn is_set_d(set: SetId) -> bool
+    ensures { result ≡ is_set_d set }
+{
+    matches!(set, SetId::D)
+}
+
+/// The same of a sign of the downloaded set.
+// A call of its own: other signs need less.
+#[inline(never)]
+fn sign_of_downloaded(glyph: &Glyph, patterns: &Patterns) -> Sign
     requires { IsValidGlyph glyph.now }
     ensures { (colours : ColourTables)
         → result ≡ sign_of (shape_of_sign (drawn_with colours patterns.now) glyph.now) }

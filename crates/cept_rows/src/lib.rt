@@ -6,10 +6,14 @@ mod cell_look;
 mod colours;
 mod drawing;
 mod naming;
+mod places;
 mod resolving;
 mod row_looks;
 mod small_look;
+mod walk;
 
 pub use naming::{RowNames, name_cells, name_row};
-pub use resolving::{resolve_cells, resolve_row};
+pub use resolving::{
+    resolve_cells, resolve_cells_from, resolve_row, rows_show_what_stands_to_the_left,
+};
 pub use row_looks::RowLooks;

@@ -1,9 +1,10 @@
-ghost use Rattle.std.specs.Prelude.{◌≡◌, ◌≢◌, ℕ, ◌-◌, ◌≤◌, ◌==◌, ◌||◌, [], is_some};
+ghost use Rattle.std.specs.Prelude.{◌≡◌, ◌≢◌, ℕ, ◌-◌, ◌≤◌, ◌==◌, ◌||◌, [], false, is_some, length};
 ghost use Rattle.std.specs.Prelude.{slice_index_or};
 ghost use Rattle.cept_codes.specs.Cell.{IsValidWhat};
 ghost use Rattle.cept_codes.specs.Glyph.{IsValidGlyph};
 ghost use Rattle.cept_codes.specs.Look.{blank_look};
 ghost use Rattle.cept_codes.specs.Place.{OnScreen};
+ghost use Rattle.cept_codes.specs.Table.{entry, list_by_index};
 ghost use Rattle.cept_profile.specs.Look.{looks_of, part_of};
 ghost use Rattle.cept_profile.specs.Names.{code_in_set, code_named, is_code, names_at};
 ghost use Rattle.cept_profile.specs.Names.{names_with, some_place};
@@ -52,18 +53,17 @@ impl RowNames {
     }
 
     /// Whether a place names this colour entry as its foreground or its background.
+    // Without an end before the last one, as all searches here, so that several are asked at once.
     pub fn has_entry(&self, entry: u8) -> bool
         ensures { result
             ≡ some_place (λ c. (names_kept self.now c).fore == entry
             || (names_kept self.now c).back == entry) }
     {
-        for column in 1..41u8 {
-            let place = self.at(column);
-            if (place.fore == entry) | (place.back == entry) {
-                return true;
-            }
+        let mut found = false;
+        for k in 0..40usize {
+            found = found | ((self.fore[k] == entry) | (self.back[k] == entry));
         }
-        false
+        found
     }
 
     /// Whether a place names this code of a pattern, 2/1 to 7/14.
@@ -71,24 +71,56 @@ impl RowNames {
         requires { 1 ≤ code }
         ensures { result ≡ some_place (λ c. is_code (names_kept self.now c).code code) }
     {
-        for column in 1..41u8 {
-            if self.at(column).code == code {
-                return true;
-            }
+        let mut found = false;
+        for k in 0..40usize {
+            found = found | (self.code[k] == code);
         }
-        false
+        found
     }
 
     /// Whether a place names a code of a pattern.
     pub fn has_some_code(&self) -> bool
         ensures { result ≡ some_place (λ c. is_some (names_kept self.now c).code) }
     {
-        for column in 1..41u8 {
-            if self.at(column).code != 0 {
-                return true;
-            }
+        let mut found = false;
+        for k in 0..40usize {
+            found = found | (self.code[k] != 0);
         }
-        false
+        found
+    }
+
+    /// Flags besides the columns in which this colour entry is named as foreground or background.
+    pub fn flag_entry(&self, colour: u8, flags: &mut [bool; 40])
+        requires columns { length flags.old ≡ 40 }
+        ensures { flags.new ≡ list_by_index 1 40 (λ c. entry false 1 flags.old c
+            || ((names_kept self.now c).fore == colour || (names_kept self.now c).back == colour)) }
+    {
+        for k in 0..40usize {
+            flags[k] = flags[k] | ((self.fore[k] == colour) | (self.back[k] == colour));
+        }
+    }
+
+    /// Flags besides the columns in which this code of a pattern is named, 2/1 to 7/14.
+    pub fn flag_code(&self, code: u8, flags: &mut [bool; 40])
+        requires code { 1 ≤ code }
+        requires columns { length flags.old ≡ 40 }
+        ensures { flags.new ≡ list_by_index 1 40 (λ c. entry false 1 flags.old c
+            || is_code (names_kept self.now c).code code) }
+    {
+        for k in 0..40usize {
+            flags[k] = flags[k] | (self.code[k] == code);
+        }
+    }
+
+    /// Flags besides the columns in which a code of a pattern is named.
+    pub fn flag_codes(&self, flags: &mut [bool; 40])
+        requires columns { length flags.old ≡ 40 }
+        ensures { flags.new ≡ list_by_index 1 40 (λ c. entry false 1 flags.old c
+            || is_some (names_kept self.now c).code) }
+    {
+        for k in 0..40usize {
+            flags[k] = flags[k] | (self.code[k] != 0);
+        }
     }
 
     /// The names in a column, 1 to 40.

@@ -1,45 +1,36 @@
-ghost use Rattle.std.specs.Prelude.{◌≡◌, ℕ, ◌+◌, ◌-◌, ◌≤◌, List, false, true, slice_index_or, slice_set};
-ghost use Rattle.std.specs.Prelude.{IfSome, []};
-ghost use Rattle.cept_codes.specs.declared.attribute.Full.{Full};
+ghost use Rattle.std.specs.Prelude.{◌≡◌, ℕ, ◌+◌, ◌-◌, ◌<◌, ◌≤◌, false, true, slice_index_or};
+ghost use Rattle.std.specs.Prelude.{Bool, []};
 ghost use Rattle.cept_codes.specs.declared.attribute.Pen.{Pen};
+ghost use Rattle.cept_codes.specs.declared.cell.What.{What};
+ghost use Rattle.cept_codes.specs.declared.look.Look.{Look};
+ghost use Rattle.cept_profile.specs.Definitions.{Definitions};
 ghost use Rattle.cept_codes.specs.declared.attribute.Size.TheVariants.{Normal};
 ghost use Rattle.cept_codes.specs.Attribute.{IsValidPen, unset_pen};
-ghost use Rattle.cept_codes.specs.declared.cell.Cell.{Cell};
 ghost use Rattle.cept_codes.specs.Cell.{IsValidWhat};
 ghost use Rattle.cept_codes.specs.Look.{blank_look};
-ghost use Rattle.cept_codes.specs.Table.{row_of};
+ghost use Rattle.cept_codes.specs.Table.{HasMadeEntries, entry};
 ghost use Rattle.cept_profile.specs.Attributes.{cascade};
 ghost use Rattle.cept_profile.specs.Edges.{edges_of_core, is_last};
-ghost use Rattle.cept_profile.specs.Look.{
-  look_in_row,
-  looks_of,
-  part_of,
-  sets_double_size,
-};
-ghost use Rattle.cept_profile.specs.Look.{shape_in, shape_of, size_in_row};
+ghost use Rattle.cept_profile.specs.Look.{look_in_row, looks_of, part_of, sets_double_size};
+ghost use Rattle.cept_profile.specs.Look.{size_in_row};
 ghost use Rattle.cept_profile.specs.PageParts.{row_pen_in};
-ghost use Rattle.cept_profile.specs.RowsFromAbove.{looks_in, row_from_above};
-ghost use Rattle.cept_profile.specs.Serial.{own_attributes, row_in, serial_attributes};
+ghost use Rattle.cept_profile.specs.RowsFromAbove.{look_from, looks_in, row_from_above};
+ghost use Rattle.cept_profile.specs.Serial.{row_in};
 ghost use Rattle.cept_profile.specs.State.{Core, definitions_of};
 ghost use Rattle.cept_profile.specs.Tiling.{column_entry, covers_below};
 ghost use Rattle.cept_rows.specs.DrawnWith.{drawn_with};
-ghost use Rattle.cept_rows.specs.RowsByCell.{is_set_d, shape_by_part};
-ghost use Rattle.cept_rows.specs.SmallLooks.{IsSmallLook, drawing_of, has_pattern, look_kept};
-ghost use Rattle.cept_rows.specs.SmallLooks.{sign_of};
+ghost use Rattle.cept_rows.specs.RowsByCell.{look_shown};
 
-use crate::cell_look::{
-    Brush, is_plain, own_attributes, sets_double_size, small_among, small_by_part, small_under,
-    small_with,
-};
-use crate::drawing::drawing_of;
+use crate::cell_look::{Brush, is_plain, small_among, small_with};
+use crate::places::{is_covered_from_left, put_place};
 use crate::row_looks::RowLooks;
-use crate::small_look::{Sign, SmallLook};
-use cept_attrs::{RowSerial, cascade, serial_cells};
-use cept_codes::{Cell, Full, Glyph, Part, Pen, RowCells, Size, What};
+use crate::small_look::Sign;
+use crate::walk::Walk;
+use cept_attrs::cascade;
+use cept_codes::{Cell, Full, Pen, RowCells, Size};
 use cept_colours::Colours;
 use cept_drcs::Patterns;
 use cept_outside::Steps;
-use cept_sizes::{Wants, tile_row};
 use std::sync::ledger::Ledger;
 
 /// The looks of a row from its own cells and attributes and from the looks of the row above. One
@@ -115,16 +106,66 @@ pub fn resolve_cells<L: Ledger>(
     steps.tick();
     looks.clear();
     let full = cascade(&Pen::UNSET, row, screen);
-    let single = is_single_beneath(&full, above);
-    if single && each_plain(cells, row, screen, &full, colours, patterns, looks) {
+    let from = each_first(
+        cells, row, screen, &full, above, last, colours, patterns, looks,
+    );
+    if from == 41 {
         return;
     }
-    if single && !sets_double_size_in(cells) {
-        each_under_markers(cells, row, screen, colours, patterns, looks);
-    } else {
-        each_by_part(cells, row, screen, colours, patterns, above, last, looks);
-    }
+    each_from(
+        from, cells, row, screen, above, last, colours, patterns, looks,
+    );
 }
+
+/// The same from a column on, where the looks to the left of it are already so: cells to the right
+/// count for nothing.
+pub fn resolve_cells_from<L: Ledger>(
+    from: u8,
+    cells: &[Cell; 40],
+    row: &Pen,
+    screen: &Pen,
+    above: &RowLooks,
+    last: bool,
+    colours: &Colours,
+    patterns: &Patterns,
+    looks: &mut RowLooks,
+    steps: &mut Steps<L>,
+)
+    requires from_left { 1 ≤ from }
+    requires to_right { from ≤ 41 }
+    requires cells { (c : ℕ) → 1 ≤ c → c ≤ 40 → IsValidWhat (row_in cells.now c) }
+    requires row { IsValidPen row.now }
+    requires screen { IsValidPen screen.now }
+    requires left { (c : ℕ) → 1 ≤ c → c < from → column_entry blank_look looks.old c
+        ≡ look_from (column_entry blank_look above.now)
+        (look_in_row (drawn_with colours.now patterns.now) (row_in cells.now) row.now screen.now)
+        (size_in_row (row_in cells.now) row.now screen.now) last c }
+    ensures looks { looks.new
+        ≡ row_from_above above.now
+        (look_in_row (drawn_with colours.now patterns.now) (row_in cells.now) row.now screen.now)
+        (size_in_row (row_in cells.now) row.now screen.now) last }
+    ensures beneath { (k : Core) (r : ℕ) → 1 ≤ r → r ≤ 24
+        → above.now ≡ looks_in (looks_of k) (r - 1)
+        → cells.now ≡ slice_index_or k.page.cells (r - 1) []
+        → row.now ≡ row_pen_in k.page.row_pens r → screen.now ≡ k.page.screen_pen
+        → drawn_with colours.now patterns.now ≡ definitions_of k.page
+        → last ≡ is_last (edges_of_core k) r → looks.new ≡ looks_in (looks_of k) r }
+    ensures tick { steps.new ≡ steps.old + 1 }
+{
+    steps.tick();
+    each_from(
+        from, cells, row, screen, above, last, colours, patterns, looks,
+    );
+}
+
+/// The looks of a row hang on what stands to the left: rows that agree up to a column show the same
+/// there, beneath the same looks.
+pub fn rows_show_what_stands_to_the_left()
+    ensures { (defined : Definitions) (above : ℕ → Look) (f g : ℕ → What) (pen screen : Pen)
+        (last : Bool) (c : ℕ) → ((d : ℕ) → 1 ≤ d → d ≤ c → f d ≡ g d)
+        → look_from above (look_in_row defined f pen screen) (size_in_row f pen screen) last c
+        ≡ look_from above (look_in_row defined g pen screen) (size_in_row g pen screen) last c }
+{}
 
 /// Whether a row wants the single size by its attributes, and nothing covers it from above.
 #[inline(always)]
@@ -136,21 +177,39 @@ fn is_single_beneath(full: &Full, above: &RowLooks) -> bool
     matches!(full.size, Size::Normal) && above.covers_nothing()
 }
 
-/// Whether something in a row sets a size other than the single one.
-fn sets_double_size_in(cells: &[Cell; 40]) -> bool
-    ensures { result ≡ false → (c : ℕ) → 1 ≤ c → c ≤ 40
-        → sets_double_size (row_in cells.now c) ≡ false }
+/// The looks of a row up to the first cell that isn't plain, where nothing covers it, and of no
+/// column where something may. It answers the column after them.
+#[inline(always)]
+fn each_first(
+    cells: &[Cell; 40],
+    row: &Pen,
+    screen: &Pen,
+    full: &Full,
+    above: &RowLooks,
+    last: bool,
+    colours: &Colours,
+    patterns: &Patterns,
+    looks: &mut RowLooks,
+) -> u8
+    requires cells { (c : ℕ) → 1 ≤ c → c ≤ 40 → IsValidWhat (row_in cells.now c) }
+    requires row { IsValidPen row.now }
+    requires screen { IsValidPen screen.now }
+    requires full { full.now ≡ cascade unset_pen row.now screen.now }
+    ensures from_left { 1 ≤ result }
+    ensures to_right { result ≤ 41 }
+    ensures looks { HasMadeEntries blank_look 1 40
+        (look_shown (drawn_with colours.now patterns.now) above.now (row_in cells.now) row.now
+        screen.now last) (entry blank_look 1 looks.old) looks.new (result - 1) }
 {
-    for cell in cells {
-        if sets_double_size(&cell.what) {
-            return true;
-        }
+    if !is_single_beneath(full, above) {
+        looks.columns_by_type();
+        return 1;
     }
-    false
+    each_plain(cells, row, screen, full, colours, patterns, looks)
 }
 
-/// The looks of what stands in each cell of a row by itself, by the attributes of all that has no
-/// pen. It answers whether the row is plain: where a cell isn't, the looks are any.
+/// The looks of what stands in each cell of a row by itself, up to the first that isn't plain, by
+/// the attributes of all that has no pen. It answers the column of that one, else 41.
 fn each_plain(
     cells: &[Cell; 40],
     row: &Pen,
@@ -159,16 +218,17 @@ fn each_plain(
     colours: &Colours,
     patterns: &Patterns,
     looks: &mut RowLooks,
-) -> bool
+) -> u8
     requires cells { (c : ℕ) → 1 ≤ c → c ≤ 40 → IsValidWhat (row_in cells.now c) }
     requires row { IsValidPen row.now }
     requires screen { IsValidPen screen.now }
     requires full { full.now ≡ cascade unset_pen row.now screen.now }
-    ensures looks { result ≡ true → looks.new
-        ≡ row_of (look_in_row (drawn_with colours.now patterns.now) (row_in cells.now) row.now
-        screen.now) }
-    ensures size { result ≡ true → (c : ℕ) → 1 ≤ c → c ≤ 40
-        → sets_double_size (row_in cells.now c) ≡ false }
+    ensures from_left { 1 ≤ result }
+    ensures to_right { result ≤ 41 }
+    ensures looks { HasMadeEntries blank_look 1 40
+        (look_in_row (drawn_with colours.now patterns.now) (row_in cells.now) row.now screen.now)
+        (entry blank_look 1 looks.old) looks.new (result - 1) }
+    ensures size { (c : ℕ) → 1 ≤ c → c < result → sets_double_size (row_in cells.now c) ≡ false }
 {
     looks.columns_by_type();
     colours.valid_by_type();
@@ -176,64 +236,45 @@ fn each_plain(
     let blank = small_with(Sign::NOTHING, full, colours);
     let mut brush = Brush {
         pen: Pen::UNSET,
+        bare: true,
         space: blank,
+        size: full.size,
     };
     for column in 1..41u8 {
         let what = &cells[column as usize - 1].what;
         if !is_plain(what) {
-            return false;
+            return column;
         }
         looks.put_single(
             column,
             small_among(what, &blank, &mut brush, row, screen, colours),
         );
     }
-    true
+    41
 }
 
-/// The looks of what stands in each cell of any row by itself.
-fn each_under_markers(
+/// The looks of a row from a column on, where those to the left of it are already so.
+// A call of its own: the walk along a plain row has then more at hand.
+#[inline(never)]
+fn each_from(
+    from: u8,
     cells: &[Cell; 40],
     row: &Pen,
     screen: &Pen,
-    colours: &Colours,
-    patterns: &Patterns,
-    looks: &mut RowLooks,
-)
-    requires cells { (c : ℕ) → 1 ≤ c → c ≤ 40 → IsValidWhat (row_in cells.now c) }
-    requires row { IsValidPen row.now }
-    requires screen { IsValidPen screen.now }
-    ensures { looks.new
-        ≡ row_of (look_in_row (drawn_with colours.now patterns.now) (row_in cells.now) row.now
-        screen.now) }
-{
-    looks.columns_by_type();
-    colours.valid_by_type();
-    patterns.valid_by_type();
-    let RowSerial { full, held } = serial_cells(cells, row, screen);
-    for column in 1..41u8 {
-        let k = column as usize - 1;
-        let what = &cells[k].what;
-        let own = own_attributes(what, &full[k], row, screen);
-        let look = small_under(what, &own, held[k], colours, patterns);
-        keep(looks, column, look, what, colours, patterns);
-    }
-}
-
-/// The looks of a row, each by the part of a sign that its place shows.
-fn each_by_part(
-    cells: &[Cell; 40],
-    row: &Pen,
-    screen: &Pen,
-    colours: &Colours,
-    patterns: &Patterns,
     above: &RowLooks,
     last: bool,
+    colours: &Colours,
+    patterns: &Patterns,
     looks: &mut RowLooks,
 )
+    requires from_left { 1 ≤ from }
+    requires to_right { from ≤ 41 }
     requires cells { (c : ℕ) → 1 ≤ c → c ≤ 40 → IsValidWhat (row_in cells.now c) }
     requires row { IsValidPen row.now }
     requires screen { IsValidPen screen.now }
+    requires left { (c : ℕ) → 1 ≤ c → c < from → column_entry blank_look looks.old c
+        ≡ look_shown (drawn_with colours.now patterns.now) above.now (row_in cells.now) row.now
+        screen.now last c }
     ensures { looks.new
         ≡ row_from_above above.now
         (look_in_row (drawn_with colours.now patterns.now) (row_in cells.now) row.now screen.now)
@@ -243,174 +284,11 @@ fn each_by_part(
     looks.columns_by_type();
     colours.valid_by_type();
     patterns.valid_by_type();
-    let RowSerial { mut full, held } = serial_cells(cells, row, screen);
-    lay_pens(cells, &mut full, row, screen);
-    let wants = sizes_in_row(&full);
-    let tiled = tile_row(&above.parts(), &wants, last);
-    let mut left = SmallLook::BLANK;
-    for column in 1..41u8 {
-        let k = column as usize - 1;
-        let what = &cells[k].what;
-        let own = small_under(what, &full[k], held[k], colours, patterns);
-        let part = tiled.parts[k];
-        let look = small_by_part(part, above.small(column), left, own);
-        keep_part(
-            looks, column, look, part, above, what, held[k], colours, patterns,
+    let mut walk = Walk::before(from, cells, row, screen, colours);
+    let mut covered = is_covered_from_left(looks, from, above);
+    for column in from..41 {
+        covered = put_place(
+            looks, column, covered, &mut walk, cells, row, screen, above, last, colours, patterns,
         );
-        left = look;
     }
-}
-
-/// Keeps the look of what stands in a cell, with the drawing of a pattern.
-#[inline(always)]
-fn keep(
-    looks: &mut RowLooks,
-    column: u8,
-    look: SmallLook,
-    what: &What,
-    colours: &Colours,
-    patterns: &Patterns,
-)
-    requires from_left { 1 ≤ column }
-    requires to_right { column ≤ 40 }
-    requires valid { IsValidWhat what.now }
-    requires low { covers_below look.part ≡ false }
-    requires small { IsSmallLook look
-        (drawing_of (shape_of (drawn_with colours.now patterns.now) what.now)) }
-    ensures { looks.new ≡ slice_set looks.old (column - 1) (look_kept look
-        (drawing_of (shape_of (drawn_with colours.now patterns.now) what.now))) }
-{
-    if look.has_pattern() {
-        keep_pattern(looks, column, look, what, colours, patterns);
-    } else {
-        looks.put_single(column, look);
-    }
-}
-
-/// The same of a pattern.
-// A call of its own: a drawing has no room beside looks without one.
-#[inline(never)]
-fn keep_pattern(
-    looks: &mut RowLooks,
-    column: u8,
-    look: SmallLook,
-    what: &What,
-    colours: &Colours,
-    patterns: &Patterns,
-)
-    requires from_left { 1 ≤ column }
-    requires to_right { column ≤ 40 }
-    requires valid { IsValidWhat what.now }
-    requires small { IsSmallLook look
-        (drawing_of (shape_of (drawn_with colours.now patterns.now) what.now)) }
-    ensures { looks.new ≡ slice_set looks.old (column - 1) (look_kept look
-        (drawing_of (shape_of (drawn_with colours.now patterns.now) what.now))) }
-{
-    looks.put_drawn(column, look, &drawing_of(what, colours, patterns));
-}
-
-/// Keeps the look of a place by the part of a sign that it shows, with the drawing of a pattern.
-#[inline(always)]
-fn keep_part(
-    looks: &mut RowLooks,
-    column: u8,
-    look: SmallLook,
-    part: Part,
-    above: &RowLooks,
-    what: &What,
-    held: Option<Glyph>,
-    colours: &Colours,
-    patterns: &Patterns,
-)
-    requires from_left { 1 ≤ column }
-    requires to_right { column ≤ 40 }
-    requires valid { IsValidWhat what.now }
-    requires held { IfSome held (λ g. is_set_d g.set ≡ false) }
-    requires sign { look.sign
-        ≡ sign_of (shape_by_part part (column_entry blank_look above.now column).shape
-        (column_entry blank_look looks.old (column - 1)).shape
-        (shape_in (drawn_with colours.now patterns.now) what.now held)) }
-    requires small { IsSmallLook look
-        (drawing_of (shape_by_part part (column_entry blank_look above.now column).shape
-        (column_entry blank_look looks.old (column - 1)).shape
-        (shape_in (drawn_with colours.now patterns.now) what.now held))) }
-    ensures { looks.new ≡ slice_set looks.old (column - 1) (look_kept look
-        (drawing_of (shape_by_part part (column_entry blank_look above.now column).shape
-        (column_entry blank_look looks.old (column - 1)).shape
-        (shape_in (drawn_with colours.now patterns.now) what.now held)))) }
-{
-    if look.has_pattern() {
-        keep_part_of_pattern(
-            looks, column, look, part, above, what, held, colours, patterns,
-        );
-    } else {
-        looks.put(column, look);
-    }
-}
-
-/// The same of a pattern: it stands above, to the left or in the cell itself.
-#[inline(never)]
-fn keep_part_of_pattern(
-    looks: &mut RowLooks,
-    column: u8,
-    look: SmallLook,
-    part: Part,
-    above: &RowLooks,
-    what: &What,
-    held: Option<Glyph>,
-    colours: &Colours,
-    patterns: &Patterns,
-)
-    requires from_left { 1 ≤ column }
-    requires to_right { column ≤ 40 }
-    requires valid { IsValidWhat what.now }
-    requires held { IfSome held (λ g. is_set_d g.set ≡ false) }
-    requires pattern { has_pattern look ≡ true }
-    requires sign { look.sign
-        ≡ sign_of (shape_by_part part (column_entry blank_look above.now column).shape
-        (column_entry blank_look looks.old (column - 1)).shape
-        (shape_in (drawn_with colours.now patterns.now) what.now held)) }
-    requires small { IsSmallLook look
-        (drawing_of (shape_by_part part (column_entry blank_look above.now column).shape
-        (column_entry blank_look looks.old (column - 1)).shape
-        (shape_in (drawn_with colours.now patterns.now) what.now held))) }
-    ensures { looks.new ≡ slice_set looks.old (column - 1) (look_kept look
-        (drawing_of (shape_by_part part (column_entry blank_look above.now column).shape
-        (column_entry blank_look looks.old (column - 1)).shape
-        (shape_in (drawn_with colours.now patterns.now) what.now held)))) }
-{
-    if part.dy == 1 {
-        looks.put_drawn(column, look, above.drawing(column));
-    } else if part.dx == 1 {
-        let drawing = *looks.drawing(column - 1);
-        looks.put_drawn(column, look, &drawing);
-    } else {
-        keep_pattern(looks, column, look, what, colours, patterns);
-    }
-}
-
-/// Makes the attributes of each cell of a row of those that are in force there.
-fn lay_pens(cells: &[Cell; 40], full: &mut [Full; 40], row: &Pen, screen: &Pen)
-    requires { (c : ℕ) (d : Full) → 1 ≤ c → c ≤ 40 → slice_index_or full.old (c - 1) d
-        ≡ serial_attributes (row_in cells.now) row.now screen.now c }
-    ensures { (c : ℕ) (d : Full) → 1 ≤ c → c ≤ 40 → slice_index_or full.new (c - 1) d
-        ≡ own_attributes (row_in cells.now) row.now screen.now c }
-{
-    for i in 0..40usize {
-        full[i] = own_attributes(&cells[i].what, &full[i], row, screen);
-    }
-}
-
-/// The sizes that are wanted in a row, by the attributes of its cells.
-fn sizes_in_row(full: &[Full; 40]) -> Wants
-    ensures { (cells : List Cell) (row screen : Pen)
-        → ((c : ℕ) (d : Full) → 1 ≤ c → c ≤ 40 → slice_index_or full.now (c - 1) d
-        ≡ own_attributes (row_in cells) row screen c)
-        → result.sizes ≡ row_of (size_in_row (row_in cells) row screen) }
-{
-    let mut sizes = [Size::Normal; 40];
-    for i in 0..40usize {
-        sizes[i] = full[i].size;
-    }
-    Wants { sizes }
 }

@@ -1,30 +1,30 @@
 ghost use Rattle.std.specs.Prelude.{◌≡◌, ℕ, ◌+◌, ◌-◌, ◌<◌, ◌≤◌, ◌⊎◌, true, false, not, IfSome};
-ghost use Rattle.std.specs.Prelude.{IsNone};
+ghost use Rattle.std.specs.Prelude.{IsNone, ◌||◌, if◌then◌else◌};
 ghost use Rattle.std.specs.Prelude.{length, slice_index_or, slice_set};
 ghost use Rattle.cept_codes.specs.Attribute.{IsValidPen};
 ghost use Rattle.cept_codes.specs.Cell.{IsValidWhat};
 ghost use Rattle.cept_codes.specs.declared.look.Look.{Look};
-ghost use Rattle.cept_codes.specs.Look.{IsValidLook, IsValidPart, blank_look};
+ghost use Rattle.cept_codes.specs.Look.{IsValidLook, blank_look};
 ghost use Rattle.cept_codes.specs.Same.{same_look};
-ghost use Rattle.cept_codes.specs.Table.{list_by_index, row_of};
+ghost use Rattle.cept_codes.specs.Table.{entry, list_by_index, row_of};
 ghost use Rattle.cept_profile.specs.Look.{look_of, part_of};
 ghost use Rattle.cept_profile.specs.Names.{pattern_shown, some_place};
 ghost use Rattle.cept_profile.specs.RowsFromAbove.{blank_looks};
-ghost use Rattle.cept_profile.specs.Tiling.{column_entry, covers_below, single_part};
+ghost use Rattle.cept_profile.specs.Serial.{row_in};
+ghost use Rattle.cept_profile.specs.Tiling.{column_entry, covers_below};
 ghost use Rattle.cept_rows.specs.DrawnWith.{drawn_with};
 ghost use Rattle.cept_rows.specs.KeptRows.{HasNoPatterns};
-ghost use Rattle.cept_rows.specs.Planes.{has_planes};
+ghost use Rattle.cept_rows.specs.Planes.{has_inks, has_planes};
 ghost use Rattle.cept_rows.specs.SmallLooks.{IsSmallLook, drawing_of, has_pattern, look_kept};
 ghost use Rattle.cept_rows.specs.SmallLooks.{no_drawing, small_of};
 
 use crate::cell_look::{is_downloaded, small_alone, small_of_any};
 use crate::drawing::{Drawing, drawing_of, same_drawing};
 use crate::small_look::{SmallLook, look_kept, same};
-use cept_codes::{Look, Pen, What};
+use cept_codes::{Cell, Look, Pen, What};
 use cept_colours::Colours;
 use cept_drcs::Patterns;
 use cept_outside::Steps;
-use cept_sizes::Parts;
 use std::marker::Model;
 use std::sync::ledger::Ledger;
 
@@ -111,6 +111,32 @@ impl RowLooks {
             }
         }
         false
+    }
+
+    /// Flags besides the columns in which a pattern with inks is shown.
+    pub fn flag_inked(&self, flags: &mut [bool; 40])
+        requires columns { length flags.old ≡ 40 }
+        ensures { flags.new ≡ list_by_index 1 40 (λ c. entry false 1 flags.old c
+            || has_inks (pattern_shown (column_entry blank_look self.now c).shape)) }
+    {
+        if self.is_plain() {
+            return;
+        }
+        for k in 0..40u8 {
+            let at = usize::from(k);
+            flags[at] = flags[at] | self.is_inked(k + 1);
+        }
+    }
+
+    /// Whether a pattern with inks is shown in a column.
+    #[inline(always)]
+    fn is_inked(&self, column: u8) -> bool
+        requires from_left { 1 ≤ column }
+        requires to_right { column ≤ 40 }
+        ensures { result
+            ≡ has_inks (pattern_shown (column_entry blank_look self.now column).shape) }
+    {
+        self.small(column).has_pattern() && self.drawing(column).pattern.planes != 1
     }
 
     /// For each column from the left, whether two rows have different looks in it.
@@ -268,6 +294,69 @@ impl RowLooks {
         ensures tick { steps.new ≡ steps.old + 1 }
     {
         steps.tick();
+        self.resolve_cell(column, what, row, screen, colours, patterns)
+    }
+
+    /// Resolves the cells of the flagged columns, each by itself, in a row without markers, and keeps
+    /// their looks. Answers for each column whether its look differs from the one before. One tick.
+    pub fn resolve_columns<L: Ledger>(
+        &mut self,
+        flags: &[bool; 40],
+        cells: &[Cell; 40],
+        row: &Pen,
+        screen: &Pen,
+        colours: &Colours,
+        patterns: &Patterns,
+        steps: &mut Steps<L>,
+    ) -> [bool; 40]
+        requires cells { (c : ℕ) → 1 ≤ c → c ≤ 40 → IsValidWhat (row_in cells.now c) }
+        requires row { IsValidPen row.now }
+        requires screen { IsValidPen screen.now }
+        ensures looks { self.new ≡ row_of (λ c. if entry false 1 flags.now c
+            then look_of (drawn_with colours.now patterns.now) row.now screen.now (row_in cells.now c)
+            else column_entry blank_look self.old c) }
+        ensures differ { result ≡ list_by_index 1 40 (λ c. not (same_look
+            (column_entry blank_look self.old c) (column_entry blank_look self.new c))) }
+        ensures tick { steps.new ≡ steps.old + 1 }
+    {
+        steps.tick();
+        self.columns_by_type();
+        let mut differ = [false; 40];
+        for k in 0..40u8 {
+            let at = usize::from(k);
+            if flags[at] {
+                let what = &cells[at].what;
+                differ[at] = self.resolve_cell(k + 1, what, row, screen, colours, patterns);
+            }
+        }
+        differ
+    }
+
+    /// Resolves one cell by itself, in a row without markers, and keeps its look. Answers whether it
+    /// differs from the one before.
+    #[inline(always)]
+    fn resolve_cell(
+        &mut self,
+        column: u8,
+        what: &What,
+        row: &Pen,
+        screen: &Pen,
+        colours: &Colours,
+        patterns: &Patterns,
+    ) -> bool
+        requires from_left { 1 ≤ column }
+        requires to_right { column ≤ 40 }
+        requires valid { IsValidWhat what.now }
+        requires row { IsValidPen row.now }
+        requires screen { IsValidPen screen.now }
+        ensures looks { self.new
+            ≡ slice_set self.old (column - 1)
+            (look_of (drawn_with colours.now patterns.now) row.now screen.now what.now) }
+        ensures differs { result
+            ≡ not (same_look (column_entry blank_look self.old column)
+            (look_of (drawn_with colours.now patterns.now) row.now screen.now what.now)) }
+        ensures columns { length self.old ≡ 40 }
+    {
         if is_downloaded(what) {
             return self.resolve_downloaded(column, what, row, screen, colours, patterns);
         }
@@ -277,7 +366,7 @@ impl RowLooks {
         self.replace(column, &fresh)
     }
 
-    /// The same of a sign of the downloaded set, without the tick.
+    /// The same of a sign of the downloaded set.
     // A call of its own: a drawing has no room beside looks without one.
     #[inline(never)]
     fn resolve_downloaded(
@@ -330,20 +419,6 @@ impl RowLooks {
         let differs = !same(&self.small(column), look);
         self.put_single(column, *look);
         differs
-    }
-
-    /// The parts that the looks show.
-    pub(crate) fn parts(&self) -> Parts
-        ensures parts { result.parts ≡ row_of (λ c. part_of (column_entry blank_look self.now c)) }
-        ensures valid { (c : ℕ) → 1 ≤ c → c ≤ 40
-            → IsValidPart (column_entry single_part result.parts c) }
-    {
-        self.columns_by_type();
-        let mut parts = Parts::flat().parts;
-        for column in 1..41u8 {
-            parts[column as usize - 1] = self.small(column).part;
-        }
-        Parts { parts }
     }
 
     /// Whether no look is known to cover the place below it.

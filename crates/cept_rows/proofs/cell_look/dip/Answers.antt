@@ -6,6 +6,10 @@ use Rattle.cept_rows.specs.SmallLooks.{small_of}
 use Rattle.cept_rows.proofs.cell_look.dip.Goals as goal
 
 pub returns-clause-is : goal.returns-clause-is
-returns-clause-is c =
-    c.small_with.ensures shapes.Space refl
-    ∙ ap (λ f. small_of (look_with (paint_in c.args.colours.now.paints) shapes.Space f)) c.cascade.ensures.attributes
+returns-clause-is c = record {
+  space = c.small_with.ensures shapes.Space refl
+      ∙ ap (λ f. small_of (look_with (paint_in c.args.colours.now.paints) shapes.Space f))
+      c.cascade-full.ensures.attributes;
+  bare = c.is_bare.ensures;
+  size = ap (λ f. f.size) c.cascade-full.ensures.attributes;
+}

@@ -1,8 +1,9 @@
-use Rattle.std.proofs.Common.{◌≡◌, ℕ, ◌≤◌, false, refl, ap, ◌∙◌, arith, rules}
+use Rattle.std.proofs.Common.{◌≡◌, ℕ, ◌-◌, ◌≤◌, false, refl, ap, subst, ◌∙◌, arith, rules}
 use Rattle.cept_codes.specs.declared.look.Look.{Look}
 use Rattle.cept_codes.specs.declared.look.Shape.TheVariants as shapes
 use Rattle.cept_codes.specs.Attribute.{unset_pen}
 use Rattle.cept_codes.specs.Look.{IsValidLook, blank_look}
+use Rattle.cept_codes.specs.Table.{HasMadeEntries, entry}
 use Rattle.cept_profile.specs.Attributes.{cascade}
 use Rattle.cept_profile.specs.Look.{look_in_row, look_with, sets_double_size}
 use Rattle.cept_profile.specs.PageParts.{paint_in}
@@ -10,7 +11,7 @@ use Rattle.cept_profile.specs.Serial.{is_marker, own_attributes_of, row_in}
 use Rattle.cept_profile.specs.Tiling.{covers_below}
 use Rattle.cept_rows.specs.DrawnWith.{drawn_with}
 use Rattle.cept_rows.specs.SmallLooks.{look_kept, no_drawing, small_of}
-use Rattle.cept_rows.proofs.Columns.{made_all, made_next, one_more}
+use Rattle.cept_rows.proofs.Columns.{made_next, one_more}
 use Rattle.cept_rows.proofs.KeptLooks.{plain_is, plain_small}
 use Rattle.cept_rows.proofs.RowsAlone.{look_alone}
 use Rattle.cept_rows.proofs.RowsByPart.{AreValidDefinitions-kept, IsValidLook-cell}
@@ -22,8 +23,12 @@ pub loop-column-init : goal.loop-column-init
 loop-column-init c = record {
   looks = search rules;
   markers = search rules;
-  brush = c.small_with-blank.ensures shapes.Space refl
-      ∙ ap (λ f. small_of (look_with (paint_in c.args.colours.now.paints) shapes.Space f)) c.requires.full;
+  brush = record {
+    space = c.small_with-blank.ensures shapes.Space refl
+        ∙ ap (λ f. small_of (look_with (paint_in c.args.colours.now.paints) shapes.Space f)) c.requires.full;
+    bare = λ _. refl;
+    size = ap (λ f. f.size) c.requires.full;
+  };
   sizes = search rules;
 }
 
@@ -90,6 +95,8 @@ loop-column-preserved c = record {
 }
 
 pub returns-clause-looks : goal.returns-clause-looks
-returns-clause-looks c _ =
-    made_all blank_look _ _ c.loop-column.looks c.loop-column.column c.loop-column.invariant.looks
-    c.loop-column-test.false
+returns-clause-looks c =
+    let whole : c.loop-column.column - 1 ≡ 40 = omega arith in
+    subst (λ n. HasMadeEntries blank_look 1 40
+    (look_in_row (drawn_with c.args.colours.now c.args.patterns.now) (row_in c.args.cells.now) c.args.row.now
+    c.args.screen.now) (entry blank_look 1 c.args.looks.now) c.loop-column.looks n) whole c.loop-column.invariant.looks

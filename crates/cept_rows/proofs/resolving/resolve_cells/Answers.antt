@@ -1,42 +1,34 @@
-use Rattle.std.proofs.Common.{refl, sym, ap, ◌∙◌}
+use Rattle.std.proofs.Common.{arith}
+use Rattle.cept_codes.specs.Look.{blank_look}
+use Rattle.cept_profile.specs.RowsFromAbove.{row_from_above}
 use Rattle.cept_profile.specs.Serial.{row_in}
 use Rattle.cept_rows.specs.DrawnWith.{drawn_with}
-use Rattle.cept_rows.proofs.RowsAlone.{row_alone}
+use Rattle.cept_rows.specs.RowsByCell.{look_shown}
+use Rattle.cept_rows.proofs.Columns.{made_all}
+use Rattle.cept_rows.proofs.RowsByPart.{made_columns}
 use Rattle.cept_rows.proofs.RowsOfCores.{row_of_core}
 use Rattle.cept_rows.proofs.resolving.resolve_cells.Goals as goal
 
-pub returns-then-each_plain-clause-looks : goal.returns-then-each_plain-clause-looks
-returns-then-each_plain-clause-looks g c =
-    let single = c.if-single.ensures in
-    let plain = c.if-each_plain.ensures in
-    plain.looks refl
-    ∙ row_alone (drawn_with c.args.colours.now c.args.patterns.now) c.args.above.now
-    (row_in c.args.cells.now) c.args.row.now c.args.screen.now c.args.last (single.uncovered refl) (plain.size refl)
-    (ap (λ f. f.size) (sym c.cascade-full.ensures.attributes) ∙ single.single refl)
+pub returns-then-from-eq41-clause-looks : goal.returns-then-from-eq41-clause-looks
+unfolding row_from_above
+returns-then-from-eq41-clause-looks g c =
+    made_all blank_look _ _ c.each_first-from.new.looks c.each_first-from.result c.each_first-from.ensures.looks
+    (omega (arith, c.if-from-eq41.true))
 
-pub returns-then-each_plain-clause-beneath : goal.returns-then-each_plain-clause-beneath
-returns-then-each_plain-clause-beneath g c =
+pub returns-then-from-eq41-clause-beneath : goal.returns-then-from-eq41-clause-beneath
+returns-then-from-eq41-clause-beneath g c =
     row_of_core c.args.above.now c.args.cells.now c.args.row.now c.args.screen.now
     (drawn_with c.args.colours.now c.args.patterns.now) c.args.last
-    c.each_plain.new.looks (returns-then-each_plain-clause-looks g c)
+    c.each_first-from.new.looks (returns-then-from-eq41-clause-looks g c)
 
-pub returns-then-not-sets_double_size_in-clause-looks : goal.returns-then-not-sets_double_size_in-clause-looks
-returns-then-not-sets_double_size_in-clause-looks g c =
-    let single = c.if-single-2.ensures in
-    c.each_under_markers.ensures
-    ∙ row_alone (drawn_with c.args.colours.now c.args.patterns.now) c.args.above.now
-    (row_in c.args.cells.now) c.args.row.now c.args.screen.now c.args.last (single.uncovered refl)
-    (c.if-not-sets_double_size_in.ensures refl)
-    (ap (λ f. f.size) (sym c.cascade-full.ensures.attributes) ∙ single.single refl)
+pub each_from-requires-clause-left : goal.each_from-requires-clause-left
+each_from-requires-clause-left g c n low below =
+    made_columns
+    (look_shown (drawn_with c.args.colours.now c.args.patterns.now) c.args.above.now (row_in c.args.cells.now)
+    c.args.row.now c.args.screen.now c.args.last) _ c.each_first-from.new.looks c.each_first-from.result
+    c.each_first-from.ensures.to_right c.each_first-from.ensures.looks n low below
 
-pub returns-then-not-sets_double_size_in-clause-beneath : goal.returns-then-not-sets_double_size_in-clause-beneath
-returns-then-not-sets_double_size_in-clause-beneath g c =
+pub returns-clause-beneath : goal.returns-clause-beneath
+returns-clause-beneath g c =
     row_of_core c.args.above.now c.args.cells.now c.args.row.now c.args.screen.now
-    (drawn_with c.args.colours.now c.args.patterns.now) c.args.last
-    c.each_under_markers.new.looks (returns-then-not-sets_double_size_in-clause-looks g c)
-
-pub returns-else-single-2-clause-beneath : goal.returns-else-single-2-clause-beneath
-returns-else-single-2-clause-beneath g c =
-    row_of_core c.args.above.now c.args.cells.now c.args.row.now c.args.screen.now
-    (drawn_with c.args.colours.now c.args.patterns.now) c.args.last
-    c.each_by_part.new.looks c.each_by_part.ensures
+    (drawn_with c.args.colours.now c.args.patterns.now) c.args.last c.each_from.new.looks c.each_from.ensures

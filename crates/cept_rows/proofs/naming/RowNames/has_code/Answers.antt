@@ -1,15 +1,11 @@
-use Rattle.std.proofs.Common.{arith, sym, ◌∙◌}
-use Rattle.std.proofs.lemmas.Bool.Decides.{nat_tests}
-use Rattle.cept_rows.proofs.RowsSearched.{code_asked, found_nowhere, found_there, has_code}
+use Rattle.std.proofs.Common.{arith}
+use Rattle.cept_rows.proofs.RowsSearched.{code_at, has_code, searched_all, searched_more}
 use Rattle.cept_rows.proofs.naming.RowNames.has_code.Goals as goal
 
-pub returns-then-at-code : goal.returns-then-at-code
-returns-then-at-code c =
-    sym (found_there (has_code c.args.self.now c.args.code) c.loop-column.column c.loop-column.auto.column (omega
-    arith) (sym (code_asked c.args.self.now c.at.result c.args.code c.loop-column.column c.requires c.at.ensures)
-    ∙ grind (arith, nat_tests, c.if-at-code.true)))
+pub loop-k-preserved : goal.loop-k-preserved
+loop-k-preserved c =
+    searched_more (has_code c.args.self.now c.args.code) c.loop-k.k c.loop-k-test.true c.loop-k.invariant
+    (code_at c.args.self.now c.args.code c.loop-k.k c.requires)
 
 pub returns : goal.returns
-returns c =
-    sym (found_nowhere (has_code c.args.self.now c.args.code) c.loop-column.column c.loop-column-test.false
-    c.loop-column.invariant)
+returns c = searched_all (has_code c.args.self.now c.args.code) c.loop-k.k (omega arith) c.loop-k.invariant

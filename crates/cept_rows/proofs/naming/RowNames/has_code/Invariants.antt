@@ -1,6 +1,7 @@
-use Rattle.std.proofs.Common.{◌≡◌, ℕ, ◌≤◌, ◌<◌, false}
+use Rattle.std.proofs.Common.{◌≡◌, take}
+use Rattle.std.specs.List.{list_any, range_with_len}
 use Rattle.cept_rows.proofs.RowsSearched.{has_code}
 use Rattle.cept_rows.proofs.naming.RowNames.has_code.Given as goal
 
-abbrev pub invariant-loop-column : goal.invariant-loop-column
-invariant-loop-column l = (c : ℕ) → 1 ≤ c → c < l.column → has_code l.self l.fn.code c ≡ false
+abbrev pub invariant-loop-k : goal.invariant-loop-k
+invariant-loop-k l = l.found ≡ list_any (has_code l.self l.fn.code) (take l.k (range_with_len 1 40))

@@ -1,14 +1,11 @@
-use Rattle.std.proofs.Common.{arith, sym, ◌∙◌}
-use Rattle.cept_rows.proofs.RowsSearched.{entry_asked, found_nowhere, found_there, has_entry}
+use Rattle.std.proofs.Common.{arith}
+use Rattle.cept_rows.proofs.RowsSearched.{entry_at, has_entry, searched_all, searched_more}
 use Rattle.cept_rows.proofs.naming.RowNames.has_entry.Goals as goal
 
-pub returns-then-place-entry : goal.returns-then-place-entry
-returns-then-place-entry c =
-    sym (found_there (has_entry c.args.self.now c.args.entry) c.loop-column.column c.loop-column.auto.column (omega
-    arith) (sym (entry_asked c.args.self.now c.at-place.result c.args.entry c.loop-column.column c.at-place.ensures)
-    ∙ c.if-place-entry.true))
+pub loop-k-preserved : goal.loop-k-preserved
+loop-k-preserved c =
+    searched_more (has_entry c.args.self.now c.args.entry) c.loop-k.k c.loop-k-test.true c.loop-k.invariant
+    (entry_at c.args.self.now c.args.entry c.loop-k.k)
 
 pub returns : goal.returns
-returns c =
-    sym (found_nowhere (has_entry c.args.self.now c.args.entry) c.loop-column.column c.loop-column-test.false
-    c.loop-column.invariant)
+returns c = searched_all (has_entry c.args.self.now c.args.entry) c.loop-k.k (omega arith) c.loop-k.invariant

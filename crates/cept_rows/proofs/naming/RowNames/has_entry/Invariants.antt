@@ -1,6 +1,7 @@
-use Rattle.std.proofs.Common.{◌≡◌, ℕ, ◌≤◌, ◌<◌, false}
+use Rattle.std.proofs.Common.{◌≡◌, take}
+use Rattle.std.specs.List.{list_any, range_with_len}
 use Rattle.cept_rows.proofs.RowsSearched.{has_entry}
 use Rattle.cept_rows.proofs.naming.RowNames.has_entry.Given as goal
 
-abbrev pub invariant-loop-column : goal.invariant-loop-column
-invariant-loop-column l = (c : ℕ) → 1 ≤ c → c < l.column → has_entry l.self l.fn.entry c ≡ false
+abbrev pub invariant-loop-k : goal.invariant-loop-k
+invariant-loop-k l = l.found ≡ list_any (has_entry l.self l.fn.entry) (take l.k (range_with_len 1 40))

@@ -1,13 +1,11 @@
-use Rattle.std.proofs.Common.{arith, sym}
-use Rattle.cept_rows.proofs.RowsSearched.{found_nowhere, found_there, has_some_code, some_code_asked}
+use Rattle.std.proofs.Common.{arith}
+use Rattle.cept_rows.proofs.RowsSearched.{has_some_code, searched_all, searched_more, some_code_at}
 use Rattle.cept_rows.proofs.naming.RowNames.has_some_code.Goals as goal
 
-pub returns-then-at-ne0 : goal.returns-then-at-ne0
-returns-then-at-ne0 c =
-    sym (found_there (has_some_code c.args.self.now) c.loop-column.column c.loop-column.auto.column (omega arith)
-    (some_code_asked c.args.self.now c.at.result c.loop-column.column c.if-at-ne0.true c.at.ensures))
+pub loop-k-preserved : goal.loop-k-preserved
+loop-k-preserved c =
+    searched_more (has_some_code c.args.self.now) c.loop-k.k c.loop-k-test.true c.loop-k.invariant
+    (some_code_at c.args.self.now c.loop-k.k)
 
 pub returns : goal.returns
-returns c =
-    sym (found_nowhere (has_some_code c.args.self.now) c.loop-column.column c.loop-column-test.false
-    c.loop-column.invariant)
+returns c = searched_all (has_some_code c.args.self.now) c.loop-k.k (omega arith) c.loop-k.invariant
