@@ -45,7 +45,7 @@ own_size-single p m r valid top bottom single c low high =
     single.cells d on) single.pen (ap is_double_set valid.screen_pen.size)
 
 -- and nothing in it covers the row below; nothing covers the first row
-covers_nothing-in : (p : Page) (m : Core) (r : ℕ) → IsValidPage p → r ≤ 24 → (1 ≤ r → IsSingleRow p r) → (c : ℕ)
+pub covers_nothing-in : (p : Page) (m : Core) (r : ℕ) → IsValidPage p → r ≤ 24 → (1 ≤ r → IsSingleRow p r) → (c : ℕ)
     → covers_below (part_of (look_seen (looks_of (core_on m p)) r c)) ≡ false
 covers_nothing-in p m zero valid bottom single c = covers_nothing-first (core_on m p) c
 covers_nothing-in p m (suc r) valid bottom single c =

@@ -40,3 +40,6 @@ pub mod UnwoundStates
 pub mod UnwoundRows
 pub mod WorkedExchange
 pub mod NoneNoted
+pub mod FlaggedPlaces
+pub mod RedefinedPlaces
+pub mod RefreshedPlaces

@@ -110,7 +110,7 @@ stays_put (strokes.Format rows) r so = absurd (true≢false (sym so))
 
 -- ---- several
 
-all_cells_stay : (cells : List (List Cell)) (xs : List Stroke) → IsTable cells → one_else xs ≡ false
+pub all_cells_stay : (cells : List (List Cell)) (xs : List Stroke) → IsTable cells → one_else xs ≡ false
     → cells_after_all cells xs ≡ cells
 unfolding cells_after_all one_else
 all_cells_stay cells [] is all = refl
@@ -166,17 +166,17 @@ names_at-kept before after ec ep es ee r c = λ i.
     names_with (at_origin (own_attributes_in k) r c part) (at_origin (contents_of_row k) r c part)
 
 -- strokes that all define something lead from one core to another with the same edges
-record AreDefined (before after : Core) (xs : List Stroke) : Type 0 where
-  leads : LeadsTo before after xs
-  all : one_else xs ≡ false
-  edges : edges_of_core after ≡ edges_of_core before
+pub record AreDefined (before after : Core) (xs : List Stroke) : Type 0 where
+  pub leads : LeadsTo before after xs
+  pub all : one_else xs ≡ false
+  pub edges : edges_of_core after ≡ edges_of_core before
 
-cells_same : {before after : Core} {xs : List Stroke} → AreDefined before after xs
+pub cells_same : {before after : Core} {xs : List Stroke} → AreDefined before after xs
     → after.page.cells ≡ before.page.cells
 cells_same {before} {after} {xs} is =
     ap (λ (p : Page). p.cells) is.leads.page ∙ all_cells_stay before.page.cells xs is.leads.valid.table is.all
 
-pens_same : {before after : Core} {xs : List Stroke} → AreDefined before after xs
+pub pens_same : {before after : Core} {xs : List Stroke} → AreDefined before after xs
     → after.page.row_pens ≡ before.page.row_pens
 pens_same {before} {after} {xs} is =
     ap (λ (p : Page). p.row_pens) is.leads.page ∙ all_pens_stay before.page.row_pens xs is.leads.valid.rows is.all
@@ -186,7 +186,7 @@ screen_same : {before after : Core} {xs : List Stroke} → AreDefined before aft
 screen_same {before} {after} {xs} is =
     ap (λ (p : Page). p.screen_pen) is.leads.page ∙ screen_stays_all before.page.screen_pen xs is.all
 
-came_defined : {before after : Core} {xs : List Stroke} → AreDefined before after xs → (r : ℕ)
+pub came_defined : {before after : Core} {xs : List Stroke} → AreDefined before after xs → (r : ℕ)
     → row_before xs r ≡ Some r
 came_defined {before} {after} {xs} is r = row_before-still xs r (none_moves xs r is.all)
 
@@ -239,7 +239,7 @@ redefined_same {before} {after} {xs} is r low high covered =
     (λ c l h covers. names_at-kept before after (cells_same is) (pens_same is) (screen_same is) is.edges (r - 1) c)
 
 -- so it is reached where it is redefined or covered otherwise
-reached_defined : {before after : Core} {xs : List Stroke} → AreDefined before after xs → (r : ℕ) → 1 ≤ r → r ≤ 24
+pub reached_defined : {before after : Core} {xs : List Stroke} → AreDefined before after xs → (r : ℕ) → 1 ≤ r → r ≤ 24
     → is_reached before after xs r
     ≡ (is_redefined before xs r || is_covered_otherwise (looks_of before) r (looks_of after) r)
 reached_defined {before} {after} {xs} is r low high =
@@ -264,7 +264,7 @@ due_defined {before} {after} {xs} is flags ef r low high =
     due-rest flags (looks_of before) (looks_of after) r low high
     ∙ ap (λ b. b || is_covered_otherwise (looks_of before) r (looks_of after) r) flag ∙ sym (reached_defined is r low high)
 
-defined_cores : (p q : Page) (xs : List Stroke) (k m : Core) (edges : Edges) → IsValidPage p
+pub defined_cores : (p q : Page) (xs : List Stroke) (k m : Core) (edges : Edges) → IsValidPage p
     → AllByRecursion IsValidStroke xs → q ≡ page_after p xs → one_else xs ≡ false → edges_of_core k ≡ edges
     → edges_of_core m ≡ edges → AreDefined (core_on k p) (core_on m q) xs
 defined_cores p q xs k m edges valid each drawn all ek em = record {

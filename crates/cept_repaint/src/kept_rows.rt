@@ -1,20 +1,22 @@
-ghost use Rattle.std.specs.Prelude.{◌≡◌, ℕ, ◌+◌, ◌-◌, ◌≤◌, false, length, slice_set, IfOk};
+ghost use Rattle.std.specs.Prelude.{◌≡◌, ℕ, ◌+◌, ◌-◌, ◌≤◌, false, not, length, slice_set, IfOk, if◌then◌else◌};
 ghost use Rattle.cept_codes.specs.Attribute.{IsValidPen};
 ghost use Rattle.cept_codes.specs.Cell.{IsValidWhat};
 ghost use Rattle.cept_codes.specs.Command.{IsArea};
 ghost use Rattle.cept_codes.specs.Look.{IsValidLook, blank_look};
 ghost use Rattle.cept_codes.specs.Place.{OnScreen};
-ghost use Rattle.cept_codes.specs.Table.{list_by_index, table, value_at, IsTable};
+ghost use Rattle.cept_codes.specs.Same.{same_look};
+ghost use Rattle.cept_codes.specs.Table.{entry, list_by_index, row_of, table, value_at, IsTable};
 ghost use Rattle.cept_profile.specs.Cells.{shifted};
 ghost use Rattle.cept_profile.specs.Changes.{look_at, grid_with_paint};
 ghost use Rattle.cept_profile.specs.Look.{look_of};
 ghost use Rattle.cept_rows.specs.DrawnWith.{drawn_with};
 ghost use Rattle.cept_profile.specs.RowsFromAbove.{looks_in};
+ghost use Rattle.cept_profile.specs.Serial.{row_in};
 ghost use Rattle.cept_profile.specs.Tiling.{column_entry};
 ghost use Rattle.cept_scroll.specs.Order.{leaving_row};
 ghost use Rattle.cept_repaint.specs.Kept.{looks_differ};
 
-use cept_codes::{Look, NoMemory, Pen, Pos, Up, What};
+use cept_codes::{Cell, Look, NoMemory, Pen, Pos, Up, What};
 use cept_colours::Colours;
 use cept_drcs::Patterns;
 use cept_outside::Steps;
@@ -169,5 +171,36 @@ impl KeptRows {
     {
         let kept = &mut self.rows[self.order.index(place.row())];
         kept.resolve_alone(place.col(), what, row, screen, colours, patterns, steps)
+    }
+
+    /// Resolves the cells of the flagged columns of a row, each by itself, and keeps their looks.
+    /// Answers for each column whether its look differs from the one before. One tick.
+    pub(crate) fn resolve_columns<L: Ledger>(
+        &mut self,
+        row: u8,
+        flags: &[bool; 40],
+        cells: &[Cell; 40],
+        pen: &Pen,
+        screen: &Pen,
+        colours: &Colours,
+        patterns: &Patterns,
+        steps: &mut Steps<L>,
+    ) -> [bool; 40]
+        requires from_top { 1 ≤ row }
+        requires to_bottom { row ≤ 24 }
+        requires cells { (c : ℕ) → 1 ≤ c → c ≤ 40 → IsValidWhat (row_in cells.now c) }
+        requires pen { IsValidPen pen.now }
+        requires screen { IsValidPen screen.now }
+        ensures looks { self.new ≡ slice_set self.old (row - 1) (row_of (λ c. if entry false 1 flags.now c
+            then look_of (drawn_with colours.now patterns.now) pen.now screen.now (row_in cells.now c)
+            else column_entry blank_look (looks_in self.old row) c)) }
+        ensures differ { result ≡ list_by_index 1 40 (λ c. not (same_look
+            (column_entry blank_look (looks_in self.old row) c)
+            (column_entry blank_look (looks_in self.new row) c))) }
+        ensures tick { steps.new ≡ steps.old + 1 }
+    {
+        self.whole_by_type();
+        let kept = &mut self.rows[self.order.index(row)];
+        kept.resolve_columns(flags, cells, pen, screen, colours, patterns, steps)
     }
 }

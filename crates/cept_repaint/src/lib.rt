@@ -19,6 +19,7 @@ mod noter;
 mod page;
 mod page_parts;
 mod painting;
+mod redefined_places;
 mod redefined_rows;
 mod redraw;
 mod restoring;

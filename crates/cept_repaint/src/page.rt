@@ -1,4 +1,4 @@
-ghost use Rattle.std.specs.Prelude.{◌≡◌, ◌≤◌, ◌+◌, ◌-◌, ℕ, true, [], IfOk, length};
+ghost use Rattle.std.specs.Prelude.{◌≡◌, ◌≤◌, ◌+◌, ◌-◌, ℕ, true, [], IfOk, length, slice_index_or};
 ghost use Rattle.std.specs.List.{AllByRecursion};
 ghost use Rattle.cept_codes.specs.Attribute.{IsRowPen, IsScreenPen};
 ghost use Rattle.cept_codes.specs.Cell.{IsValidWhat, blank_cell};
@@ -102,6 +102,26 @@ impl Page {
         ensures valid { IsValidWhat result.now }
     {
         &self.grid.at(place).what
+    }
+
+    /// The cells of a row, where they stand.
+    pub(crate) fn cells(&self, row: u8) -> &[Cell; 40]
+        requires from_top { 1 ≤ row }
+        requires to_bottom { row ≤ 24 }
+        ensures { result.now ≡ slice_index_or self.now.cells (row - 1) [] }
+    {
+        self.grid.cells(row)
+    }
+
+    /// Whether each cell of a row looks as it does by itself: no marker stands in it, and neither in it
+    /// nor in the row above is a double size set. Where one was before, the answer may be no until
+    /// all is wiped.
+    pub(crate) fn stands_alone(&self, row: u8) -> bool
+        requires from_top { 1 ≤ row }
+        requires to_bottom { row ≤ 24 }
+        ensures { result ≡ true → StandsAlone self.now row }
+    {
+        is_unflagged(row, &self.marked, &self.sized)
     }
 
     /// The attributes of a row, where they stand.

@@ -54,6 +54,7 @@ use crate::marks::Marks;
 use crate::moved_rows::{move_rows, turn_rows};
 use crate::noter::Noter;
 use crate::page::Page;
+use crate::redefined_places::refresh_redefined;
 use crate::redefined_rows::rows_redefined;
 use cept_codes::{Pos, Stroke};
 use cept_control::{Control, Edges};
@@ -247,7 +248,7 @@ fn redraw_rows<N: Noter, L: Ledger>(
 }
 
 /// The same of strokes that all define something, where nothing is marked yet: the rows that name it are
-/// resolved. The page has these edges.
+/// resolved, or the places of such a row. The page has these edges.
 #[inline(never)]
 fn redraw_defined<N: Noter, L: Ledger>(
     page: &mut Page,
@@ -279,7 +280,9 @@ fn redraw_defined<N: Noter, L: Ledger>(
     names.find(page, kept);
     let redefined = rows_redefined(page, strokes, kept, names);
     page.draw_all(strokes, noter);
-    refresh_rows(page, &redefined, edges, kept, fresh, marks, steps);
+    refresh_redefined(
+        page, strokes, &redefined, edges, kept, names, fresh, marks, steps,
+    );
 }
 
 /// Resolves a row in which the strokes write, and the rows that are covered otherwise than before, where
@@ -407,7 +410,7 @@ pub(crate) fn refresh_rows<L: Ledger>(
 
 /// Resolves a row beneath the looks kept of the row above, keeps its looks, and marks the places at
 /// which they differ from those before. Answers whether what covers the row below differs.
-fn refresh_row<L: Ledger>(
+pub(crate) fn refresh_row<L: Ledger>(
     page: &Page,
     row: u8,
     last: bool,
