@@ -6,8 +6,10 @@ use Rattle.std.proofs.lemmas.List.{append_assoc, append-nil, drop_at}
 use Rattle.cept_codes.specs.declared.item.Item.{Item}
 use Rattle.cept_parser.specs.declared.context.Context.{Context}
 use Rattle.cept_parser.specs.declared.context.Outcome.{Outcome}
-use Rattle.cept_parser.specs.declared.fit.Fit.TheVariants.{Longer}
-use Rattle.cept_parser.specs.Fit.{fit}
+use Rattle.cept_parser.specs.declared.fit.Fit.{Fit}
+use Rattle.cept_parser.specs.declared.fit.Fit.TheVariants.{Misfit, Open, Whole, Longer}
+use Rattle.cept_parser.specs.Bytes.{is_longer}
+use Rattle.cept_parser.specs.Fit.{word}
 use Rattle.cept_parser.specs.Grammar.{unit, fits, grows}
 use Rattle.cept_parser.specs.Items.{Front, Reading, front_of, front, reading_with_items, waiting_reading, reading_at}
 use Rattle.cept_parser.specs.Items.{said_at_end, closing_items, is_refusal}
@@ -73,14 +75,21 @@ pub said_whole : (x : Context) (at : ℕ) (u s : List ℕ) (o : Outcome) → uni
     → said_from x at (u ++ s) ≡ o.said ∷ said_from o.next (at + length u) s
 said_whole x at u s o e g = ap said_with_end (read_unit x at u s o e (whole_fits x u o e) g) ∙ said_item _ _
 
-longer_is : (x : Context) (u : List ℕ) (o : Outcome) → unit x u ≡ Some o → grows x u ≡ true → Longer ≡ fit x u
-longer_is x u o e g = rw (whole_fits x u o e, g, e) refl
+longer_is : (x : Context) (u : List ℕ) → grows x u ≡ true → Longer ≡ word x u
+unfolding grows
+longer_is x u g = longer_go (word x u) g
+  where
+    longer_go : (w : Fit) → is_longer w ≡ true → Longer ≡ w
+    longer_go Misfit h = absurd cc
+    longer_go Open h = absurd cc
+    longer_go Whole h = absurd cc
+    longer_go Longer h = refl
 
 -- a whole unit at the end of the input
 pub said_last : (x : Context) (at : ℕ) (u : List ℕ) (o : Outcome) → unit x u ≡ Some o → said_from x at u ≡ o.said ∷ []
 said_last x at u o e =
     elim (cases_Bool (grows x u)) [
-      | inl g ↦ ap said_with_end (read_as_longer x at u (longer_is x u o e g)) ∙ said_waiting x at u o e
+      | inl g ↦ ap said_with_end (read_as_longer x at u (longer_is x u g)) ∙ said_waiting x at u o e
       | inr g ↦ ap (said_from x at) (sym (append-nil u)) ∙ said_whole x at u [] o e g
           ∙ ap (λ w. o.said ∷ w) (said_none o.next (at + length u))
     ]

@@ -1,25 +1,18 @@
 -- The laws of the grammar. The theory of items stands on these alone.
-use Rattle.std.proofs.Common.{◌≡◌, ℕ, suc, ◌≤◌, Bool, true, false, eqb, List, [], ◌∷◌, ◌++◌, length, Option, Some, None}
-use Rattle.std.proofs.Common.{refl, sym, ◌∙◌, subst, arith, ◌⊎◌, inl, inr}
-use Rattle.std.proofs.lemmas.Bool.{eqb-true, ne_eqb, and_parts, both_ways, cases_Bool}
+use Rattle.std.proofs.Common.{◌≡◌, ℕ, ◌≤◌, true, false, cond, List, [], ◌∷◌, ◌++◌, length, Some, None}
+use Rattle.std.proofs.Common.{refl, ap, arith, ◌⊎◌, inl, inr}
+use Rattle.std.proofs.lemmas.Bool.{both_ways}
 use Rattle.cept_codes.specs.Command.{IsValidForm}
-use Rattle.cept_parser.specs.declared.context.Mode.{Mode}
-use Rattle.cept_parser.specs.declared.context.Mode.TheVariants.{Text, TableRun, DclutRun, DrcsRun, Skip}
 use Rattle.cept_parser.specs.declared.context.Context.{Context}
 use Rattle.cept_parser.specs.declared.context.Outcome.{Outcome}
-use Rattle.cept_parser.specs.Bytes.{is_plain, begins_sequence}
-use Rattle.cept_parser.specs.Units.{begins_us, us_grows}
-use Rattle.cept_parser.specs.Runs.{run_unit, begins_run, begins_pattern, run_grows, starts_pattern}
-use Rattle.cept_parser.specs.Grammar.{begins_escape, unit, fits, grows}
+use Rattle.cept_parser.specs.declared.fit.Fit.{Fit}
+use Rattle.cept_parser.specs.declared.fit.Fit.TheVariants.{Misfit, Open, Whole, Longer}
+use Rattle.cept_parser.specs.Bytes.{is_plain, is_fit, is_whole, is_longer, Standing, unit_of}
+use Rattle.cept_parser.specs.Grammar.{standing, unit, fits, grows}
 use Rattle.cept_parser.specs.Items.{is_refusal}
-use Rattle.cept_parser.specs.Beginning.{IsCommandUnit}
-use Rattle.cept_parser.proofs.ChoiceLemmas.{each_test}
-use Rattle.cept_parser.proofs.FurtherByteLemmas.{Links, links_test, complete_links, first_links, plain_links, Closes}
-use Rattle.cept_parser.proofs.FurtherByteLemmas.{closes_test}
-use Rattle.cept_parser.proofs.FurtherByteLemmas.{none_closes, complete_closes, plain_closes, empty_short, plain_short}
-use Rattle.cept_parser.proofs.FurtherByteLemmas.{sequence_short, IsCommand, ShortOrWhole}
-use Rattle.cept_parser.proofs.UnitLemmas.{us_links, csi_links, escape_links, run_links, us_closes, csi_closes}
-use Rattle.cept_parser.proofs.UnitLemmas.{escape_closes, run_closes, us_short, escape_short, run_short, run_hundred}
+use Rattle.cept_parser.specs.Beginning.{IsCommandUnit, IsContinued}
+use Rattle.cept_parser.proofs.TableLemmas.{longer}
+use Rattle.cept_parser.proofs.UnitLemmas.{first_is}
 
 -- no bytes fit
 pub fits_none : (x : Context) → fits x [] ≡ true
@@ -31,150 +24,138 @@ pub unit_none : (x : Context) → unit x [] ≡ None
 unfolding unit
 unit_none x = refl
 
-abbrev Yes : Bool → Type 0
-Yes b = b ≡ true
-
-run_one : (m : Mode) (x : Context) (a : ℕ) → Yes (begins_run m x a [])
-unfolding begins_run begins_pattern
-run_one Text x a = refl
-run_one Skip x a = refl
-run_one (TableRun i) x a = each_test Yes _ (λ _. refl) (λ _. refl)
-run_one (DclutRun i) x a = refl
-run_one (DrcsRun c) x a = each_test Yes (starts_pattern x c a) (λ h. (and_parts _ _ h).1) (λ _. refl)
-
 -- every single byte fits
 pub fits_one : (x : Context) (c : ℕ) → fits x (c ∷ []) ≡ true
-unfolding fits begins_escape begins_us begins_sequence
-fits_one x c =
-    each_test Yes (is_plain c) (λ _. run_one x.mode x c)
-    (λ _. each_test Yes (eqb c 0x12) (λ _. refl)
-    (λ _. each_test Yes (eqb c 0x1B) (λ _. refl)
-    (λ _. each_test Yes (eqb c 0x9B) (λ _. refl) (λ _. each_test Yes (eqb c 0x1F) (λ _. refl) (λ _. refl)))))
+unfolding fits
+fits_one x c = (first_is x c).first
 
-links : (x : Context) (u : List ℕ) (c : ℕ) → Links c (unit x u) (fits x u) (unit x (u ++ c ∷ [])) (fits x (u ++ c ∷ []))
-unfolding unit fits
-links x [] c = first_links c _ _ (λ _. fits_one x c)
-links x (a ∷ u) c =
-    links_test c (is_plain a) (λ _. run_links x.mode x a u c)
-    (λ _. links_test c (eqb a 0x12) (λ _. plain_links u c _)
-    (λ _. links_test c (eqb a 0x1B) (λ _. escape_links x u c)
-    (λ _. links_test c (eqb a 0x9B) (λ _. csi_links x u c)
-    (λ _. links_test c (eqb a 0x1F) (λ _. us_links x u c) (λ _. complete_links u c _ _)))))
+-- ---- what is told of a standing
 
--- what fits also fits without its last byte
-pub fits_front : (x : Context) (u : List ℕ) (c : ℕ) → fits x (u ++ c ∷ []) ≡ true → fits x u ≡ true
-fits_front x u c = (links x u c).front
+-- what is whole grows or not, and says this
+record IsUnit (s : Standing) (o : Outcome) : Type 0 where
+  whole : (s.fit ≡ Whole) ⊎ (s.fit ≡ Longer)
+  says : s.outcome ≡ o
+
+unit_is : (s : Standing) (o : Outcome) → unit_of s ≡ Some o → IsUnit s o
+unit_is s o e = go s.fit refl e
+  where
+    go : (w : Fit) → s.fit ≡ w → cond (is_whole w) (Some s.outcome) None ≡ Some o → IsUnit s o
+    go Misfit p e = absurd cc
+    go Open p e = absurd cc
+    go Whole p e = record { whole = inl p; says = cc }
+    go Longer p e = record { whole = inr p; says = cc }
+
+pub unit_told : (s : Standing) (o : Outcome) → unit_of s ≡ Some o → (is_whole s.fit ≡ true) × (s.outcome ≡ o)
+unit_told s o e =
+    let i = unit_is s o e in
+    (elim i.whole [ inl w ↦ ap is_whole w | inr w ↦ ap is_whole w ], i.says)
+
+-- what fits and is no unit is open
+open_is : (w : Fit) (o : Outcome) → is_fit w ≡ true → cond (is_whole w) (Some o) None ≡ None → w ≡ Open
+open_is Misfit o h e = absurd cc
+open_is Open o h e = refl
+open_is Whole o h e = absurd cc
+open_is Longer o h e = absurd cc
+
+-- ---- the laws
 
 -- what is whole fits
 pub whole_fits : (x : Context) (u : List ℕ) (o : Outcome) → unit x u ≡ Some o → fits x u ≡ true
-whole_fits x u = (links x u 0).told
+unfolding unit fits
+whole_fits x u o e =
+    elim ((unit_is (standing x u) o e).whole) [ inl w ↦ ap is_fit w | inr w ↦ ap is_fit w ]
+
+-- what fits also fits without its last byte
+pub fits_front : (x : Context) (u : List ℕ) (c : ℕ) → fits x (u ++ c ∷ []) ≡ true → fits x u ≡ true
+unfolding fits
+fits_front x [] c h = refl
+fits_front x (a ∷ u) c h = ((first_is x a).laws u).front c h
 
 -- every plain byte fits after bytes that fit and are not whole
 pub plain_fits : (x : Context) (u : List ℕ) (c : ℕ) → is_plain c ≡ true → fits x u ≡ true → unit x u ≡ None
     → fits x (u ++ c ∷ []) ≡ true
-plain_fits x u c = (links x u c).opens
+unfolding fits unit
+plain_fits x [] c p h e = (first_is x c).first
+plain_fits x (a ∷ u) c p h e = ((first_is x a).laws u).opens c p (open_is _ _ h e)
 
--- a byte that fits after a whole unit makes a whole unit again
-pub whole_again : (x : Context) (u : List ℕ) (c : ℕ) (o : Outcome) → unit x u ≡ Some o → fits x (u ++ c ∷ []) ≡ true
-    → IsCommandUnit x (u ++ c ∷ [])
-whole_again x u c o e h =
-    let a = (links x u c).again o e h in
-    record { whole = a.whole; is = a.is; command = a.command }
-
-pub grows_run : (x : Context) (a : ℕ) (u : List ℕ) → is_plain a ≡ true → grows x (a ∷ u) ≡ run_grows x.mode x a u
-unfolding grows
-grows_run x a u p = rw p refl
-
-pub grows_us : (x : Context) (a : ℕ) (u : List ℕ) → is_plain a ≡ false → eqb a 0x1F ≡ true
-    → grows x (a ∷ u) ≡ us_grows u
-unfolding grows
-grows_us x a u p e = rw (p, e) refl
-
-pub grows_other : (x : Context) (a : ℕ) (u : List ℕ) → is_plain a ≡ false → eqb a 0x1F ≡ false → grows x (a ∷ u) ≡ false
-unfolding grows
-grows_other x a u p e = rw (p, e) refl
-
--- a byte that is another doesn't begin a unit of US
-other_byte : (a b : ℕ) → (b ≡ 0x1F → ⊥) → eqb a b ≡ true → eqb a 0x1F ≡ false
-other_byte a b n e = let s : a ≡ b = eqb-true a b e in ne_eqb a 0x1F (λ q. n (sym s ∙ q))
-
-closes_at : {o : Option Outcome} {g h f' : Bool} → g ≡ h → Closes o h f' → Closes o g f'
-closes_at {o} {g} {h} {f'} e c = subst (λ (b : Bool). Closes o b f') (sym e) c
-
-closes : (x : Context) (u : List ℕ) (c : ℕ) → Closes (unit x u) (grows x u) (fits x (u ++ c ∷ []))
-unfolding unit fits
-closes x [] c = none_closes _ _
-closes x (a ∷ u) c =
-    closes_test _ (is_plain a) (λ p. closes_at (grows_run x a u p) (run_closes x.mode x a u c))
-    (λ n. closes_test _ (eqb a 0x12) (λ e. closes_at (grows_other x a u n (other_byte a 0x12 (λ q. omega arith) e))
-    (plain_closes u c _)) (λ _. closes_test _ (eqb a 0x1B)
-    (λ e. closes_at (grows_other x a u n (other_byte a 0x1B (λ q. omega arith) e)) (escape_closes x u c))
-    (λ _. closes_test _ (eqb a 0x9B) (λ e. closes_at (grows_other x a u n (other_byte a 0x9B (λ q. omega arith) e))
-    (csi_closes x u c)) (λ _. closes_test _ (eqb a 0x1F) (λ e. closes_at (grows_us x a u n e) (us_closes x u c))
-    (λ e. closes_at (grows_other x a u n e) (complete_closes u c _))))))
+-- no breaker fits after a byte
+pub breaker_fails : (x : Context) (a c : ℕ) (u : List ℕ) → is_plain c ≡ false → fits x (a ∷ u ++ c ∷ []) ≡ false
+unfolding fits
+breaker_fails x a c u p = ap is_fit (((first_is x a).laws u).breaks c p)
 
 -- after a whole unit that doesn't grow no byte fits
 pub whole_ends : (x : Context) (u : List ℕ) (o : Outcome) (c : ℕ) → unit x u ≡ Some o → grows x u ≡ false
     → fits x (u ++ c ∷ []) ≡ false
-whole_ends x u o c = (closes x u c).end o
+unfolding unit fits grows
+whole_ends x [] o c e g = absurd cc
+whole_ends x (a ∷ u) o c e g =
+    elim ((unit_is (standing x (a ∷ u)) o e).whole) [
+      | inl w ↦ ap is_fit (((first_is x a).laws u).ends c w)
+      | inr w ↦ absurd (both_ways _ g (ap is_longer w))
+    ]
+
+-- a byte that fits after a whole unit makes a whole unit again
+pub whole_again : (x : Context) (u : List ℕ) (c : ℕ) (o : Outcome) → unit x u ≡ Some o → fits x (u ++ c ∷ []) ≡ true
+    → IsCommandUnit x (u ++ c ∷ [])
+unfolding unit fits
+whole_again x [] c o e h = absurd cc
+whole_again x (a ∷ u) c o e h =
+    let l = (first_is x a).laws u in
+    elim ((unit_is (standing x (a ∷ u)) o e).whole) [
+      | inl w ↦ absurd (both_ways _ (ap is_fit (l.ends c w)) h)
+      | inr w ↦ let k = l.again c w h in
+          record { whole = (longer (standing x) (a ∷ u) c).outcome; is = rw k.whole refl; command = k.command }
+    ]
 
 -- a refused shape doesn't grow
 pub refused_ends : (x : Context) (u : List ℕ) (o : Outcome) → unit x u ≡ Some o → is_refusal o.said ≡ true
     → grows x u ≡ false
-refused_ends x u = (closes x u 0).kept
+unfolding unit grows
+refused_ends x [] o e r = absurd cc
+refused_ends x (a ∷ u) o e r =
+    let i = unit_is (standing x (a ∷ u)) o e in
+    elim i.whole [
+      | inl w ↦ ap is_longer w
+      | inr w ↦ absurd (both_ways _ (((first_is x a).laws u).command w) (rw i.says r))
+    ]
 
--- what fits of a mode, and wholly is
-pub fits_run : (x : Context) (a : ℕ) (u : List ℕ) → is_plain a ≡ true → fits x (a ∷ u) ≡ begins_run x.mode x a u
-unfolding fits
-fits_run x a u p = rw p refl
+-- after a whole unit that grows a byte fits
+pub grows_continued : (x : Context) (u : List ℕ) (o : Outcome) → unit x u ≡ Some o → grows x u ≡ true → IsContinued x u
+unfolding unit grows fits
+grows_continued x [] o e g = absurd cc
+grows_continued x (a ∷ u) o e g =
+    let l = (first_is x a).laws u in
+    elim ((unit_is (standing x (a ∷ u)) o e).whole) [
+      | inl w ↦ absurd (both_ways _ (ap is_longer w) g)
+      | inr w ↦ let n = l.grows w in record { byte = n.byte; small = n.small; fit = n.fit }
+    ]
 
-pub unit_run : (x : Context) (a : ℕ) (u : List ℕ) → is_plain a ≡ true → unit x (a ∷ u) ≡ run_unit x.mode x a u
-unfolding unit
-unit_run x a u p = rw p refl
-
--- what fits after a breaker has at most ten bytes with it
-breaker_small : (x : Context) (a : ℕ) (u : List ℕ) → is_plain a ≡ false → fits x (a ∷ u) ≡ true → length (a ∷ u) ≤ 10
-unfolding fits
-breaker_small x a u n h =
-    let P : Bool → Type 0 = λ f. f ≡ true → suc (length u) ≤ 10 in
-    each_test P (is_plain a) (λ p. absurd (both_ways _ n p)) (λ _. each_test P (eqb a 0x12) (λ _ e. let s =
-    plain_short u e in
-    omega arith) (λ _. each_test P (eqb a 0x1B) (λ _ e. let s = escape_short u e in
-    omega arith) (λ _. each_test P (eqb a 0x9B) (λ _ e. let s = sequence_short 0x40 7 u e in
-    omega arith) (λ _. each_test P (eqb a 0x1F) (λ _ e. let s = us_short u e in omega arith) (λ _ e. let s =
-    empty_short u e in omega arith))))) h
-
--- what fits has at most ten bytes, or is a whole command
-fits_small : (x : Context) (u : List ℕ) → ShortOrWhole 10 u (unit x u) (fits x u)
-fits_small x [] h = inl (omega arith)
-fits_small x (a ∷ u) h =
-    let plain : is_plain a ≡ true → (length (a ∷ u) ≤ 10) ⊎ IsCommand (unit x (a ∷ u)) =
-    λ p. elim (run_short x.mode x a u (sym (fits_run x a u p) ∙ h)) [
-      | inl s ↦ inl (omega arith)
-      | inr c ↦ inr (subst IsCommand (sym (unit_run x a u p)) c)
-    ] in
-    elim (cases_Bool (is_plain a)) [ inl p ↦ plain p | inr n ↦ inl (breaker_small x a u n h) ]
+-- ---- lengths
 
 -- what fits and isn't whole has at most ten bytes
 pub open_small : (x : Context) (u : List ℕ) → fits x u ≡ true → unit x u ≡ None → length u ≤ 10
-open_small x u h e =
-    let never : IsCommand (unit x u) → length u ≤ 10 = λ c. let s = c.is in absurd cc in
-    elim (fits_small x u h) [ inl s ↦ s | inr c ↦ never c ]
+unfolding fits unit
+open_small x [] h e = omega arith
+open_small x (a ∷ u) h e =
+    elim ((first_is x a).short u h) [
+      | inl s ↦ omega arith
+      | inr k ↦ let w = k.command.whole in absurd (let n = rw w at e in cc)
+    ]
 
 -- a refused shape has at most ten bytes
 pub refused_small : (x : Context) (u : List ℕ) (o : Outcome) → unit x u ≡ Some o → is_refusal o.said ≡ true
     → length u ≤ 10
-refused_small x u o e r =
-    let never : IsCommand (unit x u) → length u ≤ 10 = λ c. let s = c.is in let q : c.whole ≡ o = cc in
-    absurd (both_ways _ c.command (rw q r)) in
-    elim (fits_small x u (whole_fits x u o e)) [ inl s ↦ s | inr c ↦ never c ]
+unfolding unit fits
+refused_small x [] o e r = omega arith
+refused_small x (a ∷ u) o e r =
+    let i = unit_is (standing x (a ∷ u)) o e in
+    elim ((first_is x a).short u (whole_fits x (a ∷ u) o e)) [
+      | inl s ↦ omega arith
+      | inr k ↦ absurd (both_ways _ k.command.command (rw i.says r))
+    ]
 
 -- what fits in a valid context has at most a hundred bytes
 pub fits_hundred : (x : Context) (u : List ℕ) → IsValidForm x.form → fits x u ≡ true → length u ≤ 100
+unfolding fits
 fits_hundred x [] v h = omega arith
-fits_hundred x (a ∷ u) v h =
-    let breaker : is_plain a ≡ false → length (a ∷ u) ≤ 100 = λ n. let s = breaker_small x a u n h in omega arith in
-    elim (cases_Bool (is_plain a)) [
-      | inl p ↦ run_hundred x.mode x a u v (sym (fits_run x a u p) ∙ h)
-      | inr n ↦ breaker n
-    ]
+fits_hundred x (a ∷ u) v h = elim ((first_is x a).short u h) [ inl s ↦ omega arith | inr k ↦ k.few v ]

@@ -1,5 +1,5 @@
 pub mod ChoiceLemmas
-pub mod FurtherByteLemmas
+pub mod TableLemmas
 pub mod UnitLemmas
 pub mod GrammarLemmas
 pub mod ValidOutcomeLemmas
@@ -11,7 +11,6 @@ pub mod ValidItemLemmas
 pub mod WaitingLemmas
 pub mod OptionalPartLemmas
 pub mod SequenceLemmas
-pub mod ToldLemmas
 pub mod ClosedLemmas
 pub mod PatternLemmas
 pub mod ReaderLemmas

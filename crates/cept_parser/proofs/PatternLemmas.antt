@@ -1,25 +1,29 @@
 -- Bytes of a pattern, as the grammar of the bytes sees them.
-use Rattle.std.proofs.Common.{◌≡◌, ℕ, ◌<◌, ◌≤◌, Bool, true, false, ◌&&◌, cond, eqb, ltb, List, [], ◌∷◌, ◌++◌}
-use Rattle.std.proofs.Common.{length, Some, None, refl, sym, ap, ◌∙◌, subst, arith, rules, inl, inr, get_or}
-use Rattle.std.proofs.lemmas.Bool.{and_parts, eqb-true, ltb-true, cases_Bool}
+use Rattle.std.proofs.Common.{◌≡◌, ℕ, ◌<◌, ◌≤◌, Bool, true, false, ◌&&◌, eqb, ltb, List, [], ◌∷◌, ◌++◌}
+use Rattle.std.proofs.Common.{length, refl, sym, ap, ◌∙◌, subst, arith, rules, inl, inr, get_or}
+use Rattle.std.proofs.lemmas.Bool.{and_parts, both_ways, eqb-true, ltb-true, cases_Bool}
 use Rattle.cept_codes.specs.declared.command.Form.{Form}
 use Rattle.cept_codes.specs.Command.{IsValidForm}
 use Rattle.cept_codes.specs.declared.item.Said.{Said}
 use Rattle.cept_codes.specs.Look.{is_pattern_size}
 use Rattle.cept_drcs.specs.Cut.{cut}
 use Rattle.cept_drcs.specs.Block.{part_after_bytes}
-use Rattle.cept_drcs.specs.Unit.{is_pattern, last_block, pattern_grows as unit_grows}
+use Rattle.cept_drcs.specs.Unit.{last_block, pattern_grows as unit_grows}
 use Rattle.cept_drcs.proofs.Laws.{starts}
 use Rattle.cept_parser.specs.declared.context.Mode.{Mode}
 use Rattle.cept_parser.specs.declared.context.Mode.TheVariants.{Text, TableRun, DclutRun, DrcsRun, Skip}
 use Rattle.cept_parser.specs.declared.context.Context.{Context}
 use Rattle.cept_parser.specs.Bytes.{is_plain}
-use Rattle.cept_parser.specs.Fit.{said_by, context_by, is_closed}
-use Rattle.cept_parser.specs.Runs.{starts_pattern, pattern_outcome, pattern_unit, begins_pattern, pattern_grows, begins_run, run_unit, run_grows}
-use Rattle.cept_parser.specs.Units.{us_grows}
-use Rattle.cept_parser.specs.Grammar.{unit, fits, grows}
+use Rattle.cept_parser.specs.declared.fit.Fit.{Fit}
+use Rattle.cept_parser.specs.declared.fit.Fit.TheVariants.{Misfit, Open, Whole, Longer}
+use Rattle.cept_parser.specs.Bytes.{is_longer, Standing}
+use Rattle.cept_parser.specs.Fit.{word, closes, Answer, answer}
+use Rattle.cept_parser.specs.Runs.{has_six_bits, starts_pattern, pattern_fit, pattern_outcome, with_pattern}
+use Rattle.cept_parser.specs.Runs.{pattern_unit, table_entry, run_unit}
+use Rattle.cept_parser.specs.Units.{us_unit}
+use Rattle.cept_parser.specs.Grammar.{repetition, csi_unit, standing}
 use Rattle.cept_parser.specs.Waits.{begins_in, in_pattern}
-use Rattle.cept_parser.proofs.GrammarLemmas.{fits_run, unit_run, grows_run}
+use Rattle.cept_parser.proofs.ChoiceLemmas.{each_test}
 
 -- of a valid form 3/0 alone begins patterns
 pub starts_is : (x : Context) (c a : ℕ) → IsValidForm x.form → starts_pattern x c a ≡ (ltb c 0x7F && eqb a 0x30)
@@ -52,44 +56,33 @@ pattern_mode (TableRun i) x a h = absurd cc
 pattern_mode (DclutRun i) x a h = absurd cc
 pattern_mode (DrcsRun c) x a h = record { code = c; mode = refl; starts = h }
 
--- bytes of a pattern: the code, and what they are to the grammar
+-- bytes of a pattern: the code, and how they stand to the grammar
 pub record IsPatternRun (x : Context) (u : List ℕ) : Type 0 where
   pub code : ℕ
   pub mode : x.mode ≡ DrcsRun code
   pub small : code < 0x7F
   pub some : 1 ≤ length u
-  pub fits : fits x u ≡ is_pattern x.form u
-  pub unit : unit x u ≡ cond (is_pattern x.form u) (Some (pattern_outcome x code u)) None
-  pub grows : grows x u ≡ unit_grows x.form u
+  pub stands : standing x u ≡ record { fit = pattern_fit x.form u; outcome = pattern_outcome x code u }
 
-begins_is : (m : Mode) (x : Context) (a : ℕ) (u : List ℕ) (c : ℕ) → m ≡ DrcsRun c → starts_pattern x c a ≡ true
-    → begins_run m x a u ≡ is_pattern x.form (a ∷ u)
-unfolding begins_run begins_pattern
-begins_is m x a u c e s = rw (e, s) refl
-
-unit_is : (m : Mode) (x : Context) (a : ℕ) (u : List ℕ) (c : ℕ) → m ≡ DrcsRun c → starts_pattern x c a ≡ true
-    → run_unit m x a u ≡ cond (is_pattern x.form (a ∷ u)) (Some (pattern_outcome x c (a ∷ u))) None
+run_is : (m : Mode) (x : Context) (a : ℕ) (u : List ℕ) (c : ℕ) → m ≡ DrcsRun c → starts_pattern x c a ≡ true
+    → run_unit m x a u ≡ with_pattern x c a u
 unfolding pattern_unit
-unit_is m x a u c e s = rw (e, s) refl
+run_is m x a u c e s = rw (e, s) refl
 
-grows_is : (m : Mode) (x : Context) (a : ℕ) (u : List ℕ) (c : ℕ) → m ≡ DrcsRun c → starts_pattern x c a ≡ true
-    → run_grows m x a u ≡ unit_grows x.form (a ∷ u)
-unfolding pattern_grows
-grows_is m x a u c e s = rw (e, s) refl
+plain_stands : (x : Context) (a : ℕ) (u : List ℕ) → is_plain a ≡ true → standing x (a ∷ u) ≡ run_unit x.mode x a u
+plain_stands x a u p = rw p refl
 
 pub pattern_run : (x : Context) (u : List ℕ) → in_pattern x u ≡ true → IsPatternRun x u
 pattern_run x [] h = absurd cc
 pattern_run x (a ∷ u) h =
-    let p = and_parts _ _ h in
+    let p = and_parts (is_plain a) (begins_in x.mode x a) h in
     let m = pattern_mode x.mode x a p.1 in
     record {
       code = m.code;
       mode = m.mode;
       small = ltb-true m.code 0x7F (and_parts _ _ m.starts).0;
       some = omega arith;
-      fits = fits_run x a u p.0 ∙ begins_is x.mode x a u m.code m.mode m.starts;
-      unit = unit_run x a u p.0 ∙ unit_is x.mode x a u m.code m.mode m.starts;
-      grows = grows_run x a u p.0 ∙ grows_is x.mode x a u m.code m.mode m.starts;
+      stands = plain_stands x a u p.0 ∙ run_is x.mode x a u m.code m.mode m.starts;
     }
 
 -- more bytes are of a pattern where the first ones are
@@ -97,51 +90,42 @@ pub pattern_more : (x : Context) (u : List ℕ) (c : ℕ) → 1 ≤ length u →
 pattern_more x [] c n = absurd (omega arith)
 pattern_more x (a ∷ u) c n = refl
 
-run_ends : (m : Mode) (x : Context) (a : ℕ) → begins_in m x a ≡ false → run_grows m x a [] ≡ false
-unfolding pattern_grows
+abbrev Ends : Standing → Type 0
+Ends s = is_longer s.fit ≡ false
+
+run_ends : (m : Mode) (x : Context) (a : ℕ) → begins_in m x a ≡ false → Ends (run_unit m x a [])
+unfolding table_entry pattern_unit
 run_ends Text x a h = refl
 run_ends Skip x a h = refl
-run_ends (TableRun i) x a h = refl
+run_ends (TableRun i) x a h = each_test Ends (ltb i 32 && has_six_bits a) (λ _. refl) (λ _. refl)
 run_ends (DclutRun i) x a h = refl
-run_ends (DrcsRun c) x a h = rw h refl
+run_ends (DrcsRun c) x a h = each_test Ends (starts_pattern x c a) (λ s. absurd (both_ways _ h s)) (λ _. refl)
 
 -- a byte alone that is no pattern doesn't grow
-pub alone_ends : (x : Context) (a : ℕ) → in_pattern x (a ∷ []) ≡ false → grows x (a ∷ []) ≡ false
-unfolding grows us_grows
-alone_ends x a h = elim (cases_Bool (is_plain a)) [ inl p ↦ grows_run x a [] p ∙ run_ends x.mode x a (rw p at h) | inr n ↦ rw n (breaker_ends (eqb a 0x1F)) ]
+pub alone_ends : (x : Context) (a : ℕ) → in_pattern x (a ∷ []) ≡ false → is_longer (word x (a ∷ [])) ≡ false
+unfolding repetition us_unit csi_unit
+alone_ends x a h =
+    each_test Ends (is_plain a) (λ p. run_ends x.mode x a (rw p at h))
+    (λ _. each_test Ends (eqb a 0x12) (λ _. refl) (λ _. each_test Ends (eqb a 0x1B) (λ _. refl)
+    (λ _. each_test Ends (eqb a 0x1F) (λ _. refl) (λ _. each_test Ends (eqb a 0x9B) (λ _. refl) (λ _. refl)))))
+
+-- what is answered for a byte alone is the answer for the list of it
+pub alone_answer : (x : Context) (u : List ℕ) (ended : Bool) (said : Said) (b : Answer) → 1 ≤ length u → length u < 2
+    → (in_pattern x u ≡ true → (length u ≡ 1) × (ended ≡ false))
+    → b ≡ answer (standing x (get_or u 0 0 ∷ [])) false said x → b ≡ answer (standing x u) ended said x
+alone_answer x [] ended said b l m r e = absurd (omega arith)
+alone_answer x (a ∷ b ∷ u) ended said c l m r e = absurd (omega arith)
+alone_answer x (a ∷ []) ended said b l m r e =
+    elim (cases_Bool (in_pattern x (a ∷ []))) [
+      | inl h ↦ rw (r h).1 e
+      | inr h ↦ e ∙ same_answer (standing x (a ∷ [])) (alone_ends x a h)
+    ]
   where
-    breaker_ends : (b : Bool) → cond b false false ≡ false
-    breaker_ends true = refl
-    breaker_ends false = refl
+    same_closed : (w : Fit) → is_longer w ≡ false → closes w false ≡ closes w ended
+    same_closed Misfit h = refl
+    same_closed Open h = refl
+    same_closed Whole h = refl
+    same_closed Longer h = absurd cc
 
--- a byte alone is closed at the end where it is closed at all
-alone_closed : (x : Context) (a : ℕ) (ended : Bool)
-    → (in_pattern x (a ∷ []) ≡ true → (length (a ∷ []) ≡ 1) × (ended ≡ false))
-    → is_closed (grows x (a ∷ [])) false ≡ is_closed (grows x (a ∷ [])) ended
-alone_closed x a ended r = elim (cases_Bool (in_pattern x (a ∷ []))) [
-  | inl h ↦ ap (is_closed (grows x (a ∷ []))) (sym ((r h).1))
-  | inr h ↦ other_closed (grows x (a ∷ [])) ended (alone_ends x a h)
-]
-  where
-    other_closed : (g e : Bool) → g ≡ false → is_closed g false ≡ is_closed g e
-    other_closed true e h = absurd cc
-    other_closed false e h = refl
-
--- what is told of a byte alone is told of the list of it
-pub alone_said : (x : Context) (u : List ℕ) (ended : Bool) (s before : Said) → 1 ≤ length u → length u < 2
-    → (in_pattern x u ≡ true → (length u ≡ 1) × (ended ≡ false)) → let a = get_or u 0 0 in
-    s ≡ said_by (unit x (a ∷ [])) (is_closed (grows x (a ∷ [])) false) before
-    → s ≡ said_by (unit x u) (is_closed (grows x u) ended) before
-alone_said x [] ended s before l m r e = absurd (omega arith)
-alone_said x (a ∷ []) ended s before l m r e =
-    e ∙ ap (λ (b : Bool). said_by (unit x (a ∷ [])) b before) (alone_closed x a ended r)
-alone_said x (a ∷ b ∷ u) ended s before l m r e = absurd (omega arith)
-
-pub alone_context : (x : Context) (u : List ℕ) (ended : Bool) (y before : Context) → 1 ≤ length u → length u < 2
-    → (in_pattern x u ≡ true → (length u ≡ 1) × (ended ≡ false)) → let a = get_or u 0 0 in
-    y ≡ context_by (unit x (a ∷ [])) (is_closed (grows x (a ∷ [])) false) before
-    → y ≡ context_by (unit x u) (is_closed (grows x u) ended) before
-alone_context x [] ended y before l m r e = absurd (omega arith)
-alone_context x (a ∷ []) ended y before l m r e =
-    e ∙ ap (λ (b : Bool). context_by (unit x (a ∷ [])) b before) (alone_closed x a ended r)
-alone_context x (a ∷ b ∷ u) ended y before l m r e = absurd (omega arith)
+    same_answer : (s : Standing) → is_longer s.fit ≡ false → answer s false said x ≡ answer s ended said x
+    same_answer s h = rw (same_closed s.fit h) refl

@@ -1,5 +1,5 @@
 -- The spelling of a pattern is a whole unit of its run that says it, and no byte fits after it.
-use Rattle.std.proofs.Common.{◌≡◌, ℕ, ◌≤◌, true, List, ◌∷◌}
+use Rattle.std.proofs.Common.{◌≡◌, ℕ, ◌≤◌, true, false, List, ◌∷◌}
 use Rattle.std.proofs.Common.{refl, sym, ap, ◌∙◌, subst, arith}
 use Rattle.std.proofs.lemmas.Bool.{lt-ltb}
 use Rattle.cept_codes.specs.declared.command.Command.TheVariants as command
@@ -14,7 +14,7 @@ use Rattle.cept_parser.specs.declared.context.Context.{Context}
 use Rattle.cept_parser.specs.Spelling.{form_of, pattern_bytes, spelling, context_after}
 use Rattle.cept_parser.specs.Waits.{in_pattern}
 use Rattle.cept_parser.proofs.PatternLemmas.{IsPatternRun, pattern_run}
-use Rattle.cept_parser.proofs.SpelledLemmas.{Spells, GrowsAsSaid}
+use Rattle.cept_parser.proofs.SpelledLemmas.{Stands}
 use Rattle.cept_parser.proofs.WrittenPatternLemmas.{written_is, written_ends, written_back, written_begins, form_valid}
 use Rattle.cept_parser.proofs.WrittenPatternLemmas.{after_first}
 
@@ -34,7 +34,7 @@ same_code : (x : Context) (c d : ℕ) → x.mode ≡ DrcsRun c → x.mode ≡ Dr
 same_code x c d e f = let s : DrcsRun d ≡ DrcsRun c = sym f ∙ e in cc
 
 pub pattern_spelled : (x : Context) (c : ℕ) (t : Pattern) → x.mode ≡ DrcsRun c → x.form ≡ form_of t → c ≤ 0x7E
-    → IsValidPattern t → Spells x (command.DrcsPattern c t)
+    → IsValidPattern t → Stands x (command.DrcsPattern c t)
 unfolding spelling context_after
 pattern_spelled x c t e f l v =
     let r = written_run x c t e f l v in
@@ -42,11 +42,7 @@ pattern_spelled x c t e f l v =
     ap (λ (g : Form). is_pattern g (pattern_bytes t)) f ∙ written_is t v in
     let back : pattern x.form (pattern_bytes t) ≡ t =
     ap (λ (g : Form). pattern g (pattern_bytes t)) f ∙ written_back t v in
+    let ends : pattern_grows x.form (pattern_bytes t) ≡ false =
+    ap (λ (g : Form). pattern_grows g (pattern_bytes t)) f ∙ written_ends t v in
     let code : r.code ≡ c = same_code x c r.code e r.mode in
-    r.unit ∙ rw (is, back, code) refl
-
-pub pattern_grown : (x : Context) (c : ℕ) (t : Pattern) → x.mode ≡ DrcsRun c → x.form ≡ form_of t → c ≤ 0x7E
-    → IsValidPattern t → GrowsAsSaid x (command.DrcsPattern c t)
-unfolding spelling
-pattern_grown x c t e f l v =
-    (written_run x c t e f l v).grows ∙ ap (λ (g : Form). pattern_grows g (pattern_bytes t)) f ∙ written_ends t v
+    rw (r.stands, is, ends, back, code) refl

@@ -1,7 +1,7 @@
 -- What a reader keeps beside the bytes that are pending.
 use Rattle.std.proofs.Common.{◌≡◌, ℕ, ◌+◌, ◌-◌, ◌<◌, ◌≤◌, Bool, true, false, not, cond, List, [], ◌∷◌, ◌++◌, length, Option, Some, None}
 use Rattle.std.proofs.Common.{refl, sym, ap, ◌∙◌, arith, subst, inl, inr}
-use Rattle.std.proofs.lemmas.Bool.{both_ways, cases_Bool}
+use Rattle.std.proofs.lemmas.Bool.{both_ways, cases_Bool, not-true, not-false}
 use Rattle.std.proofs.lemmas.List.{length-append}
 use Rattle.cept_drcs.specs.Loading.{Loading, Leads}
 use Rattle.cept_codes.specs.declared.command.Command.TheVariants as command
@@ -14,16 +14,17 @@ use Rattle.cept_parser.specs.declared.context.Context.{Context}
 use Rattle.cept_parser.specs.declared.context.Outcome.{Outcome}
 use Rattle.cept_parser.specs.declared.reader.Reader.{Reader}
 use Rattle.cept_parser.specs.declared.fit.Fit.TheVariants.{Misfit, Open, Whole, Longer}
-use Rattle.cept_parser.specs.Grammar.{unit, fits}
+use Rattle.cept_parser.specs.Bytes.{is_fit, is_whole, is_longer, Standing}
+use Rattle.cept_parser.specs.Grammar.{standing, unit, fits}
 use Rattle.cept_parser.specs.Items.{Reading, reading_at, reading_with_items, said_at_end}
-use Rattle.cept_parser.specs.Fit.{fit, fit_by}
+use Rattle.cept_parser.specs.Fit.{word}
 use Rattle.cept_parser.specs.declared.context.Mode.TheVariants.{DrcsRun}
 use Rattle.cept_parser.specs.Context.{with_mode}
-use Rattle.cept_parser.specs.Runs.{pattern_outcome}
+use Rattle.cept_parser.specs.Runs.{pattern_fit, pattern_outcome}
 use Rattle.cept_parser.specs.Waits.{in_pattern, IsBeside, IsWaiting, HasLeft, outcome_at_misfit, cut_item}
-use Rattle.cept_parser.proofs.GrammarLemmas.{fits_one}
-use Rattle.cept_parser.proofs.OneByteMoreLemmas.{open_by, longer_by, read_as_open, read_as_longer}
+use Rattle.cept_parser.proofs.OneByteMoreLemmas.{read_open, read_as_longer}
 use Rattle.cept_parser.proofs.PatternLemmas.{pattern_run, pattern_more, alone_ends}
+use Rattle.cept_parser.proofs.UnitLemmas.{fits_word, never_open, first_is}
 
 -- bytes that are no pattern need no loader
 pub free_beside : (x : Context) (u : List ℕ) (b : Bool) (l : Loading) → in_pattern x u ≡ false → b ≡ false
@@ -32,6 +33,10 @@ free_beside x u b l h f = record { pattern = f ∙ sym h; leads = λ t. absurd (
 
 pub nothing_beside : (x : Context) (u : List ℕ) (b : Bool) (l : Loading) → u ≡ [] → b ≡ false → IsBeside x u b l
 nothing_beside x u b l e f = free_beside x u b l (rw e refl) f
+
+-- where nothing is pending, nothing is loaded
+pub idle_free : (x : Context) (u : List ℕ) (b : Bool) (l : Loading) → IsBeside x u b l → u ≡ [] → b ≡ false
+idle_free x u b l h e = h.pattern ∙ ap (in_pattern x) e
 
 -- where what is pending is a pattern
 pub beside_free : (x : Context) (u : List ℕ) (b : Bool) (l : Loading) → IsBeside x u b l → b ≡ false
@@ -42,34 +47,28 @@ pub beside_loading : (x : Context) (u : List ℕ) (b : Bool) (l : Loading) → I
     → in_pattern x u ≡ true
 beside_loading x u b l h f = sym h.pattern ∙ f
 
-whole_is : (b : Bool) (o : Outcome) → b ≡ true → cond b (Some o) None ≡ None → ⊥
-whole_is true o h e = cc
-whole_is false o h e = cc
-
 -- a byte alone that isn't whole begins no pattern, and one that grows begins one
-open_free : (x : Context) (a : ℕ) → Open ≡ fit x (a ∷ []) → in_pattern x (a ∷ []) ≡ false
+open_free : (x : Context) (a : ℕ) → Open ≡ word x (a ∷ []) → in_pattern x (a ∷ []) ≡ false
 open_free x a f =
-    let p = open_by _ _ _ f in
-    let never : in_pattern x (a ∷ []) ≡ true → in_pattern x (a ∷ []) ≡ false = λ h. let r = pattern_run x (a ∷ []) h in
-    absurd (whole_is (is_pattern x.form (a ∷ [])) _ (sym r.fits ∙ p.0) (sym r.unit ∙ p.1)) in
+    let never : in_pattern x (a ∷ []) ≡ true → in_pattern x (a ∷ []) ≡ false = λ h.
+    absurd (never_open _ _ (sym (f ∙ ap (λ (s : Standing). s.fit) (pattern_run x (a ∷ []) h).stands))) in
     elim (cases_Bool (in_pattern x (a ∷ []))) [ inl h ↦ never h | inr h ↦ h ]
 
-pub longer_pattern : (x : Context) (a : ℕ) → Longer ≡ fit x (a ∷ []) → in_pattern x (a ∷ []) ≡ true
+pub longer_pattern : (x : Context) (a : ℕ) → Longer ≡ word x (a ∷ []) → in_pattern x (a ∷ []) ≡ true
 longer_pattern x a f =
-    let p = longer_by _ _ _ f in
     elim (cases_Bool (in_pattern x (a ∷ []))) [
       | inl h ↦ h
-      | inr h ↦ absurd (both_ways _ (alone_ends x a h) p.more)
+      | inr h ↦ absurd (both_ways _ (alone_ends x a h) (ap is_longer (sym f)))
     ]
 
 -- the context stays where bytes wait
-pub open_context : (x : Context) (at : ℕ) (u : List ℕ) → Open ≡ fit x u → (reading_at x at u).context ≡ x
-open_context x at u f = ap (λ (r : Reading). r.context) (read_as_open x at u f)
+pub open_context : (x : Context) (at : ℕ) (u : List ℕ) → Open ≡ word x u → (reading_at x at u).context ≡ x
+open_context x at u f = ap (λ (r : Reading). r.context) (read_open x at u f)
 
-pub longer_context : (x : Context) (at : ℕ) (u : List ℕ) → Longer ≡ fit x u → (reading_at x at u).context ≡ x
+pub longer_context : (x : Context) (at : ℕ) (u : List ℕ) → Longer ≡ word x u → (reading_at x at u).context ≡ x
 longer_context x at u f = ap (λ (r : Reading). r.context) (read_as_longer x at u f)
 
-pub open_beside : (x y : Context) (a : ℕ) (u : List ℕ) (b : Bool) (l : Loading) → Open ≡ fit x (a ∷ []) → y ≡ x
+pub open_beside : (x y : Context) (a : ℕ) (u : List ℕ) (b : Bool) (l : Loading) → Open ≡ word x (a ∷ []) → y ≡ x
     → u ≡ a ∷ [] → b ≡ false → IsBeside y u b l
 open_beside x y a u b l f e q h = free_beside y u b l (rw (e, q) (open_free x a f)) h
 
@@ -81,7 +80,8 @@ more_beside x y p c u b l m k f n e q =
 
 -- a byte alone that begins a pattern is one
 pub first_pattern : (x : Context) (a : ℕ) → in_pattern x (a ∷ []) ≡ true → is_pattern x.form (a ∷ []) ≡ true
-first_pattern x a h = sym (pattern_run x (a ∷ []) h).fits ∙ fits_one x a
+first_pattern x a h =
+    fits_word _ _ (sym (ap (λ (s : Standing). is_fit s.fit) (pattern_run x (a ∷ []) h).stands) ∙ (first_is x a).first)
 
 -- what fits is no misfit
 pub whole_fit : Whole ≡ Misfit → ⊥
@@ -101,6 +101,15 @@ pub record IsLoaded (x : Context) (u : List ℕ) : Type 0 where
   pub whole : is_pattern x.form u ≡ true
   pub unit : unit x u ≡ Some (pattern_outcome x code u)
 
+unit_is : (x : Context) (u : List ℕ) (o : Outcome) → standing x u ≡ record { fit = pattern_fit x.form u; outcome = o }
+    → is_pattern x.form u ≡ true → unit x u ≡ Some o
+unfolding unit
+unit_is x u o e h = rw (e, h) (whole_either (unit_grows x.form u))
+  where
+    whole_either : (g : Bool) → cond (is_whole (cond g Longer Whole)) (Some o) None ≡ Some o
+    whole_either true = refl
+    whole_either false = refl
+
 pub loaded : (x : Context) (u : List ℕ) (b : Bool) (l : Loading) → IsBeside x u b l → b ≡ true → IsLoaded x u
 loaded x [] b l h t = absurd (both_ways b h.pattern t)
 loaded x (a ∷ u) b l h t =
@@ -112,7 +121,7 @@ loaded x (a ∷ u) b l h t =
       mode = p.mode;
       small = p.small;
       whole = w;
-      unit = p.unit ∙ ap (λ (c : Bool). cond c (Some (pattern_outcome x p.code (a ∷ u))) None) w;
+      unit = unit_is x (a ∷ u) _ p.stands w;
     }
 
 -- the item of such a pattern
@@ -154,37 +163,28 @@ pub full_says : (f : Form) (p : List ℕ) (c : ℕ) (l : Loading) (r : Bool)
 full_says f [] c l r h k = h f c [] k
 full_says f (a ∷ p) c l r h k = h f a (p ++ c ∷ []) k
 
-full_by : (b g : Bool) (w : Option Outcome) (o : Outcome) → b ≡ true → w ≡ Some o → true ≡ not g
-    → Whole ≡ fit_by b g w
-full_by b true w o h e n = absurd cc
-full_by b false w o h e n = rw (h, e) refl
-
-grow_by : (b g : Bool) (w : Option Outcome) (o : Outcome) → b ≡ true → w ≡ Some o → false ≡ not g
-    → Longer ≡ fit_by b g w
-grow_by b true w o h e n = rw (h, e) refl
-grow_by b false w o h e n = absurd cc
-
 -- how the bytes of a pattern stand to the grammar
 pub full_fit : (x : Context) (u : List ℕ) (b : Bool) (l : Loading) → IsBeside x u b l → b ≡ true
-    → true ≡ not (unit_grows x.form u) → Whole ≡ fit x u
+    → true ≡ not (unit_grows x.form u) → Whole ≡ word x u
 full_fit x u b l h t n =
-    let p = pattern_run x u (beside_loading x u b l h t) in
     let k = loaded x u b l h t in
-    full_by _ _ _ _ (p.fits ∙ k.whole) k.unit (n ∙ ap not (sym p.grows))
+    let e : pattern_fit x.form u ≡ Whole = rw (k.whole, not-true (unit_grows x.form u) (sym n)) refl in
+    sym (ap (λ (s : Standing). s.fit) (pattern_run x u (beside_loading x u b l h t)).stands ∙ e)
 
 pub grow_fit : (x : Context) (u : List ℕ) (b : Bool) (l : Loading) → IsBeside x u b l → b ≡ true
-    → false ≡ not (unit_grows x.form u) → Longer ≡ fit x u
+    → false ≡ not (unit_grows x.form u) → Longer ≡ word x u
 grow_fit x u b l h t n =
-    let p = pattern_run x u (beside_loading x u b l h t) in
     let k = loaded x u b l h t in
-    grow_by _ _ _ _ (p.fits ∙ k.whole) k.unit (n ∙ ap not (sym p.grows))
+    let e : pattern_fit x.form u ≡ Longer = rw (k.whole, not-false (unit_grows x.form u) (sym n)) refl in
+    sym (ap (λ (s : Standing). s.fit) (pattern_run x u (beside_loading x u b l h t)).stands ∙ e)
 
 -- a byte that the loader doesn't take doesn't fit
 pub none_taken : (x : Context) (p : List ℕ) (c : ℕ) (b : Bool) (l : Loading) → IsBeside x p b l → b ≡ true
     → is_pattern x.form (p ++ c ∷ []) ≡ false → fits x (p ++ c ∷ []) ≡ false
+unfolding fits
 none_taken x p c b l h t n =
     let some = some_loaded x p b l h t in
-    (pattern_run x (p ++ c ∷ []) (pattern_more x p c some ∙ beside_loading x p b l h t)).fits ∙ n
+    rw ((pattern_run x (p ++ c ∷ []) (pattern_more x p c some ∙ beside_loading x p b l h t)).stands, n) refl
 
 -- a reader waits right after its first place and the bytes that are pending
 pub waiting_from : (s : Reader) (place at : ℕ) → IsWaiting s place → at ≡ place - length s.bytes

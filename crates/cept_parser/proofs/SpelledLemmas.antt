@@ -1,7 +1,7 @@
 -- Each spelling is a whole unit that says its command, and grows only where it is a header of colours. Patterns have
 -- lemmas of their own.
 use Rattle.std.proofs.Common.{◌≡◌, ℕ, ◌+◌, ◌-◌, ◌*◌, ◌/◌, ◌%◌, ◌≤◌, Bool, true, false, cond, eqb, ltb, leb}
-use Rattle.std.proofs.Common.{[], ◌∷◌, Some, refl, sym, subst, arith, inl, inr, ◌⊎◌, IsTrue}
+use Rattle.std.proofs.Common.{refl, sym, subst, arith, inl, inr, ◌⊎◌, IsTrue}
 use Rattle.std.proofs.lemmas.Bool.{cases_Bool, eqb-true, le-leb}
 use Rattle.std.proofs.lemmas.Bool.Decides.{nat_tests}
 use Rattle.cept_codes.specs.declared.command.Command.{Command}
@@ -20,54 +20,48 @@ use Rattle.cept_parser.specs.declared.context.ColourKind.{ColourKind}
 use Rattle.cept_parser.specs.declared.context.ColourKind.TheVariants.{ColourTable, LookUpTable}
 use Rattle.cept_parser.specs.declared.context.Context.{Context}
 use Rattle.cept_parser.specs.declared.context.Mode.TheVariants.{Text, TableRun, DclutRun}
-use Rattle.cept_parser.specs.Bytes.{is_plain, is_digit, two_digits, is_sequence, are_options, are_options_left}
+use Rattle.cept_parser.specs.declared.fit.Fit.TheVariants.{Whole, Longer}
+use Rattle.cept_parser.specs.Bytes.{is_plain, is_digit, two_digits}
 use Rattle.cept_parser.specs.Controls.{one_byte}
 use Rattle.cept_parser.specs.Csi.{csi, csi_1, csi_2, area, area_to, area_from}
 use Rattle.cept_parser.specs.Escape.{escape, escape_2, escape_3, designation, designation_of_c1, full_screen}
 use Rattle.cept_parser.specs.Escape.{full_row, designation_of_drcs}
-use Rattle.cept_parser.specs.Grammar.{unit, grows, csi_unit, escape_unit, repetition}
+use Rattle.cept_parser.specs.Grammar.{standing, csi_unit, repetition}
 use Rattle.cept_parser.specs.Runs.{bit, colour, table_entry, dclut_value, has_six_bits}
 use Rattle.cept_parser.specs.Spelling.{spelling, context_after, may_grow, tens_byte, ones_byte, colour_byte}
-use Rattle.cept_parser.specs.Units.{us_unit, us_grows, us_position, drcs_unit, drcs_header, drcs_width, drcs_height}
+use Rattle.cept_parser.specs.Units.{us_unit, us_position, drcs_unit, drcs_header, drcs_width, drcs_height}
 use Rattle.cept_parser.specs.Units.{drcs_planes, colour_unit, colour_header, colour_start, colours_from, last_place}
 use Rattle.cept_parser.specs.Units.{format, service_unit, service}
 
--- the spelling of a command is a whole unit that says it
-abbrev pub Spells : Context → Command → Type 0
-Spells x c = unit x (spelling c) ≡ Some (record { said = Says c; next = context_after x c })
-
--- a byte may follow it or not, as said
-abbrev pub GrowsAsSaid : Context → Command → Type 0
-GrowsAsSaid x c = grows x (spelling c) ≡ may_grow c
+-- the spelling of a command is a whole unit that says it, and may grow or not as said
+abbrev pub Stands : Context → Command → Type 0
+Stands x c = standing x (spelling c)
+    ≡ record { fit = cond (may_grow c) Longer Whole; outcome = record { said = Says c; next = context_after x c } }
 
 -- ---- cells, rows and the screen
 
-pub table_spelled : (x : Context) (k : ℕ) → k ≤ 3 → Spells x (command.Table k)
-unfolding unit csi_unit is_sequence csi csi_2 spelling context_after
+pub table_spelled : (x : Context) (k : ℕ) → k ≤ 3 → Stands x (command.Table k)
+unfolding csi_unit csi csi_2 spelling context_after
 table_spelled x k h = grind (arith, nat_tests)
 
-pub c1_spelled : (x : Context) (n : ℕ) → IsC1 n → Spells x (command.C1 n)
-unfolding unit one_byte spelling context_after
+pub c1_spelled : (x : Context) (n : ℕ) → IsC1 n → Stands x (command.C1 n)
+unfolding one_byte spelling context_after
 c1_spelled x n h = let l = h.0 in let m = h.1 in grind (arith, nat_tests)
 
-pub c1_grown : (x : Context) (n : ℕ) → IsC1 n → GrowsAsSaid x (command.C1 n)
-unfolding grows us_grows spelling
-c1_grown x n h = let l = h.0 in let m = h.1 in grind (arith, nat_tests)
-
-pub flash_spelled : (x : Context) (k : ℕ) → k ≤ 6 → Spells x (command.FlashMode k)
-unfolding unit csi_unit is_sequence csi csi_2 spelling context_after
+pub flash_spelled : (x : Context) (k : ℕ) → k ≤ 6 → Stands x (command.FlashMode k)
+unfolding csi_unit csi csi_2 spelling context_after
 flash_spelled x k h = grind (arith, nat_tests)
 
-pub screen_spelled : (x : Context) (n : ℕ) → IsScreenC1 n → Spells x (command.FullScreen n)
-unfolding unit escape_unit is_sequence escape escape_3 full_screen spelling context_after
+pub screen_spelled : (x : Context) (n : ℕ) → IsScreenC1 n → Stands x (command.FullScreen n)
+unfolding escape escape_3 full_screen spelling context_after
 screen_spelled x n h = let l = h.0.0 in let m = h.0.1 in let o = h.1 in grind (arith, nat_tests)
 
-pub row_spelled : (x : Context) (n : ℕ) → IsC1 n → Spells x (command.FullRow n)
-unfolding unit escape_unit is_sequence escape escape_3 full_row spelling context_after
+pub row_spelled : (x : Context) (n : ℕ) → IsC1 n → Stands x (command.FullRow n)
+unfolding escape escape_3 full_row spelling context_after
 row_spelled x n h = let l = h.0 in let m = h.1 in grind (arith, nat_tests)
 
-pub position_spelled : (x : Context) (r c : ℕ) → OnScreen r c → Spells x (command.Position r c)
-unfolding unit us_unit us_position spelling context_after
+pub position_spelled : (x : Context) (r c : ℕ) → OnScreen r c → Stands x (command.Position r c)
+unfolding us_unit us_position spelling context_after
 position_spelled x r c h =
     let a = h.from_top in
     let b = h.to_bottom in
@@ -75,133 +69,94 @@ position_spelled x r c h =
     let e = h.to_right in
     grind (arith, nat_tests)
 
-pub position_grown : (x : Context) (r c : ℕ) → OnScreen r c → GrowsAsSaid x (command.Position r c)
-unfolding grows us_grows spelling
-position_grown x r c h = let a = h.from_top in let b = h.to_bottom in grind (arith, nat_tests)
-
-pub single_spelled : (x : Context) (g : ℕ) → (2 ≤ g) × (g ≤ 3) → Spells x (command.Single g)
-unfolding unit one_byte spelling context_after
+pub single_spelled : (x : Context) (g : ℕ) → (2 ≤ g) × (g ≤ 3) → Stands x (command.Single g)
+unfolding one_byte spelling context_after
 single_spelled x g h = let l = h.0 in let m = h.1 in grind (arith, nat_tests)
 
-pub single_grown : (x : Context) (g : ℕ) → GrowsAsSaid x (command.Single g)
-unfolding grows us_grows spelling
-single_grown x g = grind (arith, nat_tests)
-
-pub repeat_spelled : (x : Context) (n : ℕ) → n ≤ 63 → Spells x (command.Repeat n)
-unfolding unit repetition spelling context_after
+pub repeat_spelled : (x : Context) (n : ℕ) → n ≤ 63 → Stands x (command.Repeat n)
+unfolding repetition spelling context_after
 repeat_spelled x n h =
     let p : is_plain (0x40 + n) ≡ true = grind (arith, nat_tests) in
     let q : leb 0x40 (0x40 + n) ≡ true = grind (arith, nat_tests) in
     let r : 0x40 + n - 0x40 ≡ n = omega arith in
     rw (p, q, r) refl
 
-pub lock_spelled : (x : Context) (g : ℕ) → g ≤ 1 → Spells x (command.LockLeft g)
-unfolding unit one_byte spelling context_after
+pub lock_spelled : (x : Context) (g : ℕ) → g ≤ 1 → Stands x (command.LockLeft g)
+unfolding one_byte spelling context_after
 lock_spelled x g h = grind (arith, nat_tests)
 
-pub lock_grown : (x : Context) (g : ℕ) → GrowsAsSaid x (command.LockLeft g)
-unfolding grows us_grows spelling
-lock_grown x g = grind (arith, nat_tests)
-
-pub designate_spelled : (x : Context) (g : ℕ) (set : SetId) → g ≤ 3 → Spells x (command.Designate g set)
-unfolding unit escape_unit is_sequence escape escape_2 escape_3 designation designation_of_drcs spelling context_after
+pub designate_spelled : (x : Context) (g : ℕ) (set : SetId) → g ≤ 3 → Stands x (command.Designate g set)
+unfolding escape escape_2 escape_3 designation designation_of_drcs spelling context_after
 designate_spelled x g P h = grind (arith, nat_tests)
 designate_spelled x g S h = grind (arith, nat_tests)
 designate_spelled x g M h = grind (arith, nat_tests)
 designate_spelled x g N h = grind (arith, nat_tests)
 designate_spelled x g D h = grind (arith, nat_tests)
 
-pub area_spelled : (x : Context) (a b : ℕ) → IsArea a b → Spells x (command.AreaCreate a b)
-unfolding unit csi_unit is_sequence csi area area_to area_from spelling context_after
+pub area_spelled : (x : Context) (a b : ℕ) → IsArea a b → Stands x (command.AreaCreate a b)
+unfolding csi_unit csi area area_to area_from spelling context_after
 area_spelled x a b h = let l = h.0 in let m = h.1 in let n = h.2 in grind (arith, nat_tests)
 
-pub graphic_spelled : (x : Context) (b : ℕ) → x.mode ≡ Text → 0x20 ≤ b → b ≤ 0x7F → Spells x (command.Graphic b)
-unfolding unit spelling context_after
+pub graphic_spelled : (x : Context) (b : ℕ) → x.mode ≡ Text → 0x20 ≤ b → b ≤ 0x7F → Stands x (command.Graphic b)
+unfolding spelling context_after
 graphic_spelled x b e l m = let p : is_plain b ≡ true = grind (arith, nat_tests) in rw (p, e) refl
 
-pub graphic_grown : (x : Context) (b : ℕ) → x.mode ≡ Text → 0x20 ≤ b → b ≤ 0x7F → GrowsAsSaid x (command.Graphic b)
-unfolding grows spelling
-graphic_grown x b e l m = let p : is_plain b ≡ true = grind (arith, nat_tests) in rw (p, e) refl
-
-pub protect_spelled : (x : Context) (on : Bool) → Spells x (command.Protect on)
-unfolding unit csi_unit is_sequence csi csi_2 spelling context_after
+pub protect_spelled : (x : Context) (on : Bool) → Stands x (command.Protect on)
+unfolding csi_unit csi csi_2 spelling context_after
 protect_spelled x true = refl
 protect_spelled x false = refl
 
-pub implicit_spelled : (x : Context) (on : Bool) → Spells x (command.Implicit on)
-unfolding unit csi_unit is_sequence csi csi_2 spelling context_after
+pub implicit_spelled : (x : Context) (on : Bool) → Stands x (command.Implicit on)
+unfolding csi_unit csi csi_2 spelling context_after
 implicit_spelled x true = refl
 implicit_spelled x false = refl
 
-pub stop_spelled : (x : Context) → Spells x command.StopConceal
-unfolding unit csi_unit is_sequence csi csi_1 spelling context_after
+pub stop_spelled : (x : Context) → Stands x command.StopConceal
+unfolding csi_unit csi csi_1 spelling context_after
 stop_spelled x = refl
 
 -- ---- the format and defaults
 
 pub format_spelled : (x : Context) (rows : ℕ) (wrap : Bool) → (rows ≡ 24) ⊎ (rows ≡ 20)
-    → Spells x (command.Format rows wrap)
-unfolding unit us_unit are_options format spelling context_after
-format_spelled x rows true (inl e) = subst (λ (n : ℕ). Spells x (command.Format n true)) (sym e) refl
-format_spelled x rows true (inr e) = subst (λ (n : ℕ). Spells x (command.Format n true)) (sym e) refl
-format_spelled x rows false (inl e) = subst (λ (n : ℕ). Spells x (command.Format n false)) (sym e) refl
-format_spelled x rows false (inr e) = subst (λ (n : ℕ). Spells x (command.Format n false)) (sym e) refl
+    → Stands x (command.Format rows wrap)
+unfolding us_unit format spelling context_after
+format_spelled x rows true (inl e) = subst (λ (n : ℕ). Stands x (command.Format n true)) (sym e) refl
+format_spelled x rows true (inr e) = subst (λ (n : ℕ). Stands x (command.Format n true)) (sym e) refl
+format_spelled x rows false (inl e) = subst (λ (n : ℕ). Stands x (command.Format n false)) (sym e) refl
+format_spelled x rows false (inr e) = subst (λ (n : ℕ). Stands x (command.Format n false)) (sym e) refl
 
-pub format_grown : (x : Context) (rows : ℕ) (wrap : Bool) → GrowsAsSaid x (command.Format rows wrap)
-unfolding grows us_grows are_options_left spelling
-format_grown x rows wrap = format_go (eqb rows 20) wrap
-  where
-    format_go : (b w : Bool) → grows x (0x1F ∷ 0x2D ∷ cond b 0x42 0x41 ∷ cond w 0x70 0x71 ∷ []) ≡ false
-    format_go true true = refl
-    format_go true false = refl
-    format_go false true = refl
-    format_go false false = refl
-
-pub defaults_spelled : (x : Context) (set : C1Set) → Spells x (command.FullDefaults set)
-unfolding unit us_unit service_unit service spelling context_after
+pub defaults_spelled : (x : Context) (set : C1Set) → Stands x (command.FullDefaults set)
+unfolding us_unit service_unit service spelling context_after
 defaults_spelled x c1_set.Serial = refl
 defaults_spelled x c1_set.Parallel = refl
 
-pub defaults_grown : (x : Context) (set : C1Set) → GrowsAsSaid x (command.FullDefaults set)
-unfolding grows us_grows spelling
-defaults_grown x c1_set.Serial = refl
-defaults_grown x c1_set.Parallel = refl
-
 pub revision_spelled : (x : Context) (revision : ℕ) → (revision ≡ 1) ⊎ (revision ≡ 2)
-    → Spells x (command.Revision revision)
-unfolding unit us_unit service_unit service spelling context_after
-revision_spelled x revision (inl e) = subst (λ (n : ℕ). Spells x (command.Revision n)) (sym e) refl
-revision_spelled x revision (inr e) = subst (λ (n : ℕ). Spells x (command.Revision n)) (sym e) refl
+    → Stands x (command.Revision revision)
+unfolding us_unit service_unit service spelling context_after
+revision_spelled x revision (inl e) = subst (λ (n : ℕ). Stands x (command.Revision n)) (sym e) refl
+revision_spelled x revision (inr e) = subst (λ (n : ℕ). Stands x (command.Revision n)) (sym e) refl
 
-pub revision_grown : (x : Context) (revision : ℕ) → GrowsAsSaid x (command.Revision revision)
-unfolding grows us_grows spelling
-revision_grown x revision = refl
-
-pub c1_set_spelled : (x : Context) (set : C1Set) → Spells x (command.DesignateC1 set)
-unfolding unit escape_unit is_sequence escape escape_2 designation_of_c1 spelling context_after
+pub c1_set_spelled : (x : Context) (set : C1Set) → Stands x (command.DesignateC1 set)
+unfolding escape escape_2 designation_of_c1 spelling context_after
 c1_set_spelled x c1_set.Serial = refl
 c1_set_spelled x c1_set.Parallel = refl
 
 -- ---- colours
 
-pub header_spelled : (x : Context) (dclut : Bool) → Spells x (command.ColourHeader dclut)
-unfolding unit us_unit colour_unit are_options colour_header spelling context_after
+pub header_spelled : (x : Context) (dclut : Bool) → Stands x (command.ColourHeader dclut)
+unfolding us_unit colour_unit colour_header spelling context_after
 header_spelled x true = refl
 header_spelled x false = refl
-
-pub header_grown : (x : Context) (dclut : Bool) → GrowsAsSaid x (command.ColourHeader dclut)
-unfolding grows us_grows are_options_left spelling
-header_grown x true = refl
-header_grown x false = refl
 
 pub last_small : (k : ColourKind) (i : ℕ) → i ≤ last_place k → i ≤ 31
 last_small ColourTable i h = h
 last_small LookUpTable i h = omega arith
 
-pub start_spelled : (x : Context) (i : ℕ) → i ≤ last_place x.kind → Spells x (command.ColourStart i)
-unfolding unit us_unit colour_unit colour_start colours_from spelling context_after
+pub start_spelled : (x : Context) (i : ℕ) → i ≤ last_place x.kind → Stands x (command.ColourStart i)
+unfolding us_unit colour_unit colour_start colours_from spelling context_after
 start_spelled x i h =
     let small : i ≤ 31 = last_small x.kind i h in
+    let t : is_plain (tens_byte i) ≡ true = grind (arith, nat_tests) in
     let a : eqb (tens_byte i) 0x20 ≡ false = grind (arith, nat_tests) in
     let b : eqb (tens_byte i) 0x21 ≡ false = grind (arith, nat_tests) in
     let d : is_digit (tens_byte i) ≡ true = grind (arith, nat_tests) in
@@ -209,11 +164,7 @@ start_spelled x i h =
     let q : is_digit (ones_byte i) ≡ true = grind (arith, nat_tests) in
     let n : two_digits (tens_byte i) (ones_byte i) ≡ i = omega arith in
     let l : leb i (last_place x.kind) ≡ true = le-leb i (last_place x.kind) h in
-    rw (a, b, d, p, q, n, l) refl
-
-pub start_grown : (x : Context) (i : ℕ) → GrowsAsSaid x (command.ColourStart i)
-unfolding grows us_grows spelling
-start_grown x i = let a : eqb (tens_byte i) 0x20 ≡ false = grind (arith, nat_tests) in rw a refl
+    rw (t, a, b, d, p, q, n, l) refl
 
 -- six bits in a byte
 pub six_back : (a b c d e f : ℕ) → a ≤ 1 → b ≤ 1 → c ≤ 1 → d ≤ 1 → e ≤ 1 → f ≤ 1 → let n =
@@ -270,8 +221,8 @@ pub within_plain : (n : ℕ) → (0x40 ≤ n) × (n ≤ 0x7F) → is_plain n ≡
 within_plain n h = let l = h.0 in let m = h.1 in grind (arith, nat_tests)
 
 pub entry_spelled : (x : Context) (i : ℕ) (c : Rgb) → x.mode ≡ TableRun i → i ≤ 31 → IsValidRgb c
-    → Spells x (command.Entry i c)
-unfolding unit table_entry spelling context_after
+    → Stands x (command.Entry i c)
+unfolding table_entry spelling context_after
 entry_spelled x i c e l v =
     let p = within_plain (colour_byte 2 c) (colour_within 2 c) in
     let q = within_plain (colour_byte 0 c) (colour_within 0 c) in
@@ -280,22 +231,14 @@ entry_spelled x i c e l v =
     let n : ltb i 32 ≡ true = grind (arith, nat_tests) in
     rw (p, e, n, r, q, s, colour_back c v) refl
 
-pub entry_grown : (x : Context) (i : ℕ) (c : Rgb) → x.mode ≡ TableRun i → GrowsAsSaid x (command.Entry i c)
-unfolding grows spelling
-entry_grown x i c e = rw (within_plain (colour_byte 2 c) (colour_within 2 c), e) refl
-
-pub dclut_spelled : (x : Context) (i v : ℕ) → x.mode ≡ DclutRun i → i ≤ 3 → v ≤ 31 → Spells x (command.Dclut i v)
-unfolding unit dclut_value spelling context_after
+pub dclut_spelled : (x : Context) (i v : ℕ) → x.mode ≡ DclutRun i → i ≤ 3 → v ≤ 31 → Stands x (command.Dclut i v)
+unfolding dclut_value spelling context_after
 dclut_spelled x i v e l m =
     let p : is_plain (0x40 + v) ≡ true = grind (arith, nat_tests) in
     let r : has_six_bits (0x40 + v) ≡ true = grind (arith, nat_tests) in
     let n : ltb i 4 ≡ true = grind (arith, nat_tests) in
     let b : (0x40 + v) % 32 ≡ v = omega arith in
     rw (p, e, n, r, b) refl
-
-pub dclut_grown : (x : Context) (i v : ℕ) → x.mode ≡ DclutRun i → v ≤ 31 → GrowsAsSaid x (command.Dclut i v)
-unfolding grows spelling
-dclut_grown x i v e m = let p : is_plain (0x40 + v) ≡ true = grind (arith, nat_tests) in rw (p, e) refl
 
 -- ---- headers of patterns
 
@@ -356,28 +299,15 @@ plane_cases R n t a b c =
 abbrev form_with : ℕ → ℕ → ℕ → Form
 form_with w h n = record { w = w; h = h; planes = n }
 
-pub patterns_spelled : (x : Context) (f : Form) → IsValidForm f → Spells x (command.DrcsHeader false f)
-unfolding unit us_unit drcs_unit are_options drcs_header drcs_width drcs_height drcs_planes spelling context_after
+pub patterns_spelled : (x : Context) (f : Form) → IsValidForm f → Stands x (command.DrcsHeader false f)
+unfolding us_unit drcs_unit drcs_header drcs_width drcs_height drcs_planes spelling context_after
 patterns_spelled x f v =
-    let R : ℕ → ℕ → ℕ → Type 0 = λ w h n. Spells x (command.DrcsHeader false (form_with w h n)) in
+    let R : ℕ → ℕ → ℕ → Type 0 = λ w h n. Stands x (command.DrcsHeader false (form_with w h n)) in
     size_cases (λ w h. R w h f.planes) f.w f.h v.size (plane_cases (R 12 12) f.planes v.planes refl refl refl)
     (plane_cases (R 12 10) f.planes v.planes refl refl refl) (plane_cases (R 6 12) f.planes v.planes refl refl refl)
     (plane_cases (R 6 10) f.planes v.planes refl refl refl) (plane_cases (R 6 5) f.planes v.planes refl refl refl)
     (plane_cases (R 6 6) f.planes v.planes refl refl refl)
 
-pub patterns_grown : (x : Context) (f : Form) → IsValidForm f → GrowsAsSaid x (command.DrcsHeader false f)
-unfolding grows us_grows are_options_left spelling
-patterns_grown x f v =
-    let R : ℕ → ℕ → ℕ → Type 0 = λ w h n. GrowsAsSaid x (command.DrcsHeader false (form_with w h n)) in
-    size_cases (λ w h. R w h f.planes) f.w f.h v.size (plane_cases (R 12 12) f.planes v.planes refl refl refl)
-    (plane_cases (R 12 10) f.planes v.planes refl refl refl) (plane_cases (R 6 12) f.planes v.planes refl refl refl)
-    (plane_cases (R 6 10) f.planes v.planes refl refl refl) (plane_cases (R 6 5) f.planes v.planes refl refl refl)
-    (plane_cases (R 6 6) f.planes v.planes refl refl refl)
-
-pub code_spelled : (x : Context) (c : ℕ) → (0x21 ≤ c) × (c ≤ 0x7E) → Spells x (command.DrcsStart c)
-unfolding unit us_unit drcs_unit spelling context_after
+pub code_spelled : (x : Context) (c : ℕ) → (0x21 ≤ c) × (c ≤ 0x7E) → Stands x (command.DrcsStart c)
+unfolding us_unit drcs_unit spelling context_after
 code_spelled x c h = let l = h.0 in let m = h.1 in grind (arith, nat_tests)
-
-pub code_grown : (x : Context) (c : ℕ) → (0x21 ≤ c) × (c ≤ 0x7E) → GrowsAsSaid x (command.DrcsStart c)
-unfolding grows us_grows spelling
-code_grown x c h = let l = h.0 in let m = h.1 in grind (arith, nat_tests)

@@ -20,8 +20,8 @@ use Rattle.cept_parser.specs.Spelling.{line_bytes, plane_bytes, pattern_bytes}
 use Rattle.cept_parser.specs.Valid.{AreBytes}
 use Rattle.cept_parser.proofs.GrammarLemmas.{unit_none}
 use Rattle.cept_parser.proofs.PatternPixelLemmas.{half_within}
-use Rattle.cept_parser.proofs.SpelledLemmas.{colour_within, Spells, last_small}
-use Rattle.cept_parser.proofs.SpellingLemmas.{spelled}
+use Rattle.cept_parser.proofs.SpelledLemmas.{colour_within, last_small}
+use Rattle.cept_parser.proofs.SpellingLemmas.{Spells, spelled}
 
 -- ---- lists of bytes
 

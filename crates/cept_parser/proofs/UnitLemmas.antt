@@ -1,301 +1,230 @@
--- The laws of the units after US, after ESC and in a run.
-use Rattle.std.proofs.Common.{◌≡◌, ℕ, suc, ◌≤◌, Bool, true, false, ◌&&◌, eqb, ltb, List, [], ◌∷◌, ◌++◌, length, Option}
-use Rattle.std.proofs.Common.{refl, sym, subst, arith, inl}
-use Rattle.std.proofs.lemmas.Bool.{both_ways}
+-- The laws of the tables of units: after US, after ESC, and in a run.
+use Rattle.std.proofs.Common.{◌≡◌, ℕ, suc, ◌≤◌, Bool, true, false, ◌&&◌, eqb, ltb, List, [], ◌∷◌, ◌++◌, length}
+use Rattle.std.proofs.Common.{refl, cond, ◌∙◌, ◌⊎◌, inl, inr, arith}
+use Rattle.std.proofs.lemmas.Bool.{and_parts, cases_Bool}
 use Rattle.std.proofs.lemmas.Bool.Decides.{nat_tests}
+use Rattle.cept_codes.specs.declared.command.Form.{Form}
 use Rattle.cept_codes.specs.Command.{IsValidForm}
-use Rattle.cept_drcs.specs.Unit.{is_pattern}
-use Rattle.cept_drcs.proofs.Laws.{beginning, no_longer, hundred}
+use Rattle.cept_drcs.specs.Block.{may_come}
+use Rattle.cept_drcs.specs.Cut.{is_opener, cut}
+use Rattle.cept_drcs.specs.Loading.{Loading, fresh, takes, loading_after, loads, room}
+use Rattle.cept_drcs.specs.Unit.{is_pattern, are_blocks}
+use Rattle.cept_drcs.proofs.Laws.{beginning, longer as longer_pattern, no_longer, hundred, unit_loads}
 use Rattle.cept_parser.specs.declared.context.Mode.{Mode}
 use Rattle.cept_parser.specs.declared.context.Mode.TheVariants.{Text, TableRun, DclutRun, DrcsRun, Skip}
 use Rattle.cept_parser.specs.declared.context.Context.{Context}
 use Rattle.cept_parser.specs.declared.context.Outcome.{Outcome}
-use Rattle.cept_parser.specs.Bytes.{is_between, is_plain, is_digit, begins_sequence, are_options, are_options_left}
-use Rattle.cept_parser.specs.Bytes.{with_options}
-use Rattle.cept_parser.specs.Units.{drcs_parts, drcs_header, drcs_unit, begins_drcs, colour_parts, colour_header}
-use Rattle.cept_parser.specs.Units.{colour_unit, begins_colour, format_parts, format, service_unit, begins_service}
-use Rattle.cept_parser.specs.Units.{us_unit, begins_us, header_grows, us_grows}
-use Rattle.cept_parser.specs.Runs.{has_six_bits, run_unit, begins_run, run_grows, pattern_unit, begins_pattern}
-use Rattle.cept_parser.specs.Runs.{pattern_grows, starts_pattern}
-use Rattle.cept_parser.specs.Grammar.{csi_unit, escape_unit, begins_escape}
-use Rattle.cept_parser.specs.Items.{is_refusal}
-use Rattle.cept_parser.proofs.ChoiceLemmas.{same_test, each_test}
-use Rattle.cept_parser.proofs.FurtherByteLemmas.{Links, links_test, none_links, complete_links, first_links}
-use Rattle.cept_parser.proofs.FurtherByteLemmas.{plain_links}
-use Rattle.cept_parser.proofs.FurtherByteLemmas.{sequence_links, sequence_one, options_links, Closes, closes_test}
-use Rattle.cept_parser.proofs.FurtherByteLemmas.{none_closes, closes_both, whole_closes, whole_links}
-use Rattle.cept_parser.proofs.FurtherByteLemmas.{complete_closes, plain_closes, sequence_closes, options_closes, Short}
-use Rattle.cept_parser.proofs.FurtherByteLemmas.{empty_short}
-use Rattle.cept_parser.proofs.FurtherByteLemmas.{plain_short, sequence_short, options_short, ShortOrWhole, whole_command}
+use Rattle.cept_parser.specs.declared.fit.Fit.{Fit}
+use Rattle.cept_parser.specs.declared.fit.Fit.TheVariants.{Misfit, Open, Whole, Longer}
+use Rattle.cept_parser.specs.Bytes.{is_between, is_plain, is_digit, is_fit, is_whole, Standing, Table, outcome}
+use Rattle.cept_parser.specs.Bytes.{complete}
+use Rattle.cept_parser.specs.Units.{drcs_parts, drcs_header, drcs_unit, colour_parts, colour_header, colour_start}
+use Rattle.cept_parser.specs.Units.{colour_unit, format_parts, format, service_break, service_unit, us_position, us_unit}
+use Rattle.cept_parser.specs.Runs.{has_six_bits, table_entry, run_unit, pattern_unit, with_pattern, starts_pattern}
+use Rattle.cept_parser.specs.Grammar.{csi_unit, after_escape, repetition, after_first}
+use Rattle.cept_parser.specs.Escape.{escape}
+use Rattle.cept_parser.proofs.ChoiceLemmas.{each_test, each_table}
+use Rattle.cept_parser.proofs.TableLemmas.{Fits, Fails, IsCommand, Laws, longer, IsTable, begun_table}
+use Rattle.cept_parser.proofs.TableLemmas.{end_table, complete_table, plain_table, one_table, sequence_table, options_table}
 
-abbrev Yes : Bool → Type 0
-Yes b = b ≡ true
+-- ---- after US
 
-drcs_all : (c : ℕ) → is_plain c ≡ true → eqb c 0x20 ≡ false → is_between 0x21 0x7E c ≡ false → eqb c 0x7F ≡ false → ⊥
-drcs_all c p n m l = grind (arith, nat_tests)
+drcs_table : (x : Context) → IsTable 5 (drcs_unit x)
+unfolding drcs_unit drcs_header
+drcs_table x =
+    plain_table 4 x _ (λ c _. each_table (IsTable 4) (eqb c 0x20)
+    (λ _. options_table 4 drcs_parts (drcs_header x) refl (omega arith) (λ _. refl))
+    (λ _. each_table (IsTable 4) (is_between 0x21 0x7E c) (λ _. complete_table 4 _) (λ _. complete_table 4 _)))
 
--- a plain byte fits after 1F 23, and so on
-drcs_one : (c : ℕ) → is_plain c ≡ true → begins_drcs (c ∷ []) ≡ true
-unfolding begins_drcs are_options
-drcs_one c p =
-    each_test Yes (eqb c 0x20) (λ _. refl)
-    (λ n. each_test Yes (is_between 0x21 0x7E c) (λ _. refl)
-    (λ m. each_test Yes (eqb c 0x7F) (λ _. refl) (λ l. absurd (drcs_all c p n m l))))
+colour_table : (x : Context) → IsTable 5 (colour_unit x)
+unfolding colour_unit colour_header colour_start
+colour_table x =
+    plain_table 4 x _ (λ a _. each_table (IsTable 4) (eqb a 0x20)
+    (λ _. options_table 4 colour_parts (colour_header x) refl (omega arith) (λ _. refl))
+    (λ _. each_table (IsTable 4) (eqb a 0x21) (λ _. complete_table 4 _)
+    (λ _. each_table (IsTable 4) (is_digit a) (λ _. one_table 3 x _) (λ _. complete_table 4 _))))
 
-drcs_links : (x : Context) (u : List ℕ) (c : ℕ)
-    → Links c (drcs_unit x u) (begins_drcs u) (drcs_unit x (u ++ c ∷ [])) (begins_drcs (u ++ c ∷ []))
-unfolding drcs_unit begins_drcs drcs_header
-drcs_links x [] c = first_links c _ _ (drcs_one c)
-drcs_links x (a ∷ u) c =
-    links_test c (eqb a 0x20) (λ _. options_links drcs_parts u c _ _ refl)
-    (λ _. links_test c (is_between 0x21 0x7E a) (λ _. complete_links u c _ _)
-    (λ _. links_test c (eqb a 0x7F) (λ _. complete_links u c _ _) (λ _. none_links c)))
+service_table : (x : Context) → IsTable 5 (service_unit x)
+unfolding service_unit service_break
+service_table x =
+    plain_table 4 x _
+    (λ a _. each_table (IsTable 4) (eqb a 0x40) (λ _. one_table 3 x _) (λ _. complete_table 4 _))
 
-colour_one : (c : ℕ) → is_plain c ≡ true → begins_colour (c ∷ []) ≡ true
-unfolding begins_colour are_options
-colour_one c p =
-    each_test Yes (eqb c 0x20) (λ _. refl)
-    (λ _. each_test Yes (eqb c 0x21) (λ _. refl)
-    (λ _. each_test Yes (is_digit c) (λ _. refl)
-    (λ _. each_test Yes (is_plain c) (λ _. refl) (λ n. absurd (both_ways _ n p)))))
+us_table : (x : Context) → IsTable 6 (us_unit x)
+unfolding us_unit format us_position
+us_table x =
+    plain_table 5 x _ (λ a _. each_table (IsTable 5) (eqb a 0x23) (λ _. drcs_table x)
+    (λ _. each_table (IsTable 5) (eqb a 0x26) (λ _. colour_table x)
+    (λ _. each_table (IsTable 5) (eqb a 0x2D)
+    (λ _. options_table 5 format_parts (format x) refl (omega arith) (λ _. refl))
+    (λ _. each_table (IsTable 5) (eqb a 0x2F) (λ _. service_table x)
+    (λ _. each_table (IsTable 5) (is_between 0x20 0x3F a) (λ _. complete_table 5 _)
+    (λ _. one_table 4 x _))))))
 
-colour_links : (x : Context) (u : List ℕ) (c : ℕ)
-    → Links c (colour_unit x u) (begins_colour u) (colour_unit x (u ++ c ∷ [])) (begins_colour (u ++ c ∷ []))
-unfolding colour_unit begins_colour colour_header
-colour_links x [] c = first_links c _ _ (colour_one c)
-colour_links x (a ∷ u) c =
-    links_test c (eqb a 0x20) (λ _. options_links colour_parts u c _ _ refl)
-    (λ _. links_test c (eqb a 0x21) (λ _. complete_links u c _ _)
-    (λ _. links_test c (is_digit a) (λ _. plain_links u c _)
-    (λ _. links_test c (is_plain a) (λ _. complete_links u c _ _) (λ _. none_links c))))
+-- ---- after ESC and CSI
 
-service_one : (c : ℕ) → is_plain c ≡ true → begins_service (c ∷ []) ≡ true
-unfolding begins_service
-service_one c p =
-    each_test Yes (eqb c 0x40) (λ _. refl) (λ _. each_test Yes (is_plain c) (λ _. refl) (λ n. absurd (both_ways _ n p)))
-
-service_links : (x : Context) (u : List ℕ) (c : ℕ)
-    → Links c (service_unit x u) (begins_service u) (service_unit x (u ++ c ∷ [])) (begins_service (u ++ c ∷ []))
-unfolding service_unit begins_service
-service_links x [] c = first_links c _ _ (service_one c)
-service_links x (a ∷ u) c =
-    links_test c (eqb a 0x40) (λ _. plain_links u c _)
-    (λ _. links_test c (is_plain a) (λ _. complete_links u c _ _) (λ _. none_links c))
-
-us_one : (c : ℕ) → is_plain c ≡ true → begins_us (c ∷ []) ≡ true
-unfolding begins_us begins_drcs begins_colour begins_service are_options
-us_one c p =
-    each_test Yes (eqb c 0x23) (λ _. refl)
-    (λ _. each_test Yes (eqb c 0x26) (λ _. refl)
-    (λ _. each_test Yes (eqb c 0x2D) (λ _. refl)
-    (λ _. each_test Yes (eqb c 0x2F) (λ _. refl)
-    (λ _. each_test Yes (is_between 0x20 0x3F c) (λ _. refl)
-    (λ _. each_test Yes (is_plain c) (λ _. refl) (λ n. absurd (both_ways _ n p)))))))
-
-pub us_links : (x : Context) (u : List ℕ) (c : ℕ)
-    → Links c (us_unit x u) (begins_us u) (us_unit x (u ++ c ∷ [])) (begins_us (u ++ c ∷ []))
-unfolding us_unit begins_us format
-us_links x [] c = first_links c _ _ (us_one c)
-us_links x (a ∷ u) c =
-    links_test c (eqb a 0x23) (λ _. drcs_links x u c)
-    (λ _. links_test c (eqb a 0x26) (λ _. colour_links x u c)
-    (λ _. links_test c (eqb a 0x2D) (λ _. options_links format_parts u c _ _ refl)
-    (λ _. links_test c (eqb a 0x2F) (λ _. service_links x u c)
-    (λ _. links_test c (is_between 0x20 0x3F a) (λ _. complete_links u c _ _)
-    (λ _. links_test c (is_plain a) (λ _. plain_links u c _) (λ _. none_links c))))))
-
-pub csi_links : (x : Context) (u : List ℕ) (c : ℕ)
-    → Links c (csi_unit x u) (begins_sequence 0x40 7 u) (csi_unit x (u ++ c ∷ [])) (begins_sequence 0x40 7 (u ++ c
-    ∷ []))
+csi_table : (x : Context) → IsTable 8 (csi_unit x)
 unfolding csi_unit
-csi_links x u c = sequence_links 0x40 7 u c _ _
+csi_table x = sequence_table 0x40 7 8 _ (omega arith) (omega arith)
 
-escape_one : (c : ℕ) → is_plain c ≡ true → begins_escape (c ∷ []) ≡ true
-unfolding begins_escape begins_sequence
-escape_one c p = each_test Yes (eqb c 0x5B) (λ _. refl) (λ _. sequence_one 0x30 3 c p)
+-- a sequence after its first byte, which is plain
+after_plain : (x : Context) (a : ℕ) → is_plain a ≡ true → IsTable 8 (λ u. after_escape x (a ∷ u))
+after_plain x a p =
+    let k : List ℕ → Outcome = λ u. outcome x Text (escape (a ∷ u)) in
+    elim (cases_Bool (eqb a 0x5B)) [
+      | inl e ↦ rw e (csi_table x)
+      | inr e ↦ elim (cases_Bool (is_between 0x30 0x7F a)) [
+        | inl f ↦ rw (e, f) (end_table 8 k)
+        | inr f ↦ rw (e, f, p) (sequence_table 0x30 2 8 k (omega arith) (omega arith))
+      ]
+    ]
 
-pub escape_links : (x : Context) (u : List ℕ) (c : ℕ)
-    → Links c (escape_unit x u) (begins_escape u) (escape_unit x (u ++ c ∷ [])) (begins_escape (u ++ c ∷ []))
-unfolding escape_unit begins_escape
-escape_links x [] c = first_links c _ _ (escape_one c)
-escape_links x (a ∷ u) c =
-    links_test c (eqb a 0x5B) (λ _. csi_links x u c) (λ _. sequence_links 0x30 3 (a ∷ u) c _ _)
+no_escape : (x : Context) (a : ℕ) (u : List ℕ) → is_plain a ≡ false → Fails (after_escape x (a ∷ u))
+no_escape x a u p =
+    let e : eqb a 0x5B ≡ false = grind (arith, nat_tests) in
+    let f : is_between 0x30 0x7F a ≡ false = grind (arith, nat_tests) in
+    rw (e, f, p) refl
 
-pub run_links : (m : Mode) (x : Context) (a : ℕ) (u : List ℕ) (c : ℕ)
-    → Links c (run_unit m x a u) (begins_run m x a u) (run_unit m x a (u ++ c ∷ [])) (begins_run m x a (u ++ c ∷ []))
-unfolding run_unit begins_run pattern_unit begins_pattern
-run_links Text x a u c = complete_links u c _ _
-run_links Skip x a u c = complete_links u c _ _
-run_links (TableRun i) x a u c =
-    links_test c (ltb i 32 && has_six_bits a) (λ _. plain_links u c _) (λ _. complete_links u c _ _)
-run_links (DclutRun i) x a u c = complete_links u c _ _
-run_links (DrcsRun d) x a u c =
-    links_test c (starts_pattern x d a) (λ _. whole_links c (is_pattern x.form (a ∷ u)) _ _ _
-    (beginning x.form a u (c ∷ [])) refl) (λ _. complete_links u c _ _)
+escape_table : (x : Context) → IsTable 9 (after_escape x)
+escape_table x = begun_table 8 (after_escape x) refl (after_plain x) (no_escape x)
 
-header_closes : (parts : List (List ℕ)) (a : ℕ) (u : List ℕ) (c : ℕ) (k : Outcome) → eqb a 0x20 ≡ true
-    → is_refusal k.said ≡ false
-    → Closes (with_options parts u k) (header_grows parts (a ∷ u)) (are_options parts (u ++ c ∷ []))
-unfolding header_grows
-header_closes parts a u c k e r = rw e (options_closes parts u c k r)
+-- ---- patterns
 
-drcs_closes : (x : Context) (u : List ℕ) (c : ℕ)
-    → Closes (drcs_unit x u) (header_grows drcs_parts u) (begins_drcs (u ++ c ∷ []))
-unfolding drcs_unit begins_drcs header_grows drcs_header
-drcs_closes x [] c = none_closes _ _
-drcs_closes x (a ∷ u) c =
-    closes_test _ (eqb a 0x20) (λ e. header_closes drcs_parts a u c (drcs_header x u) e refl)
-    (λ n. rw n (closes_test false (is_between 0x21 0x7E a) (λ _. complete_closes u c _)
-    (λ _. closes_test false (eqb a 0x7F) (λ _. complete_closes u c _) (λ _. none_closes _ _))))
+-- the word for a pattern or none, that grows or doesn't
+abbrev word : Bool → Bool → Fit
+word b g = cond b (cond g Longer Whole) Misfit
 
-colour_closes : (x : Context) (u : List ℕ) (c : ℕ)
-    → Closes (colour_unit x u) (header_grows colour_parts u) (begins_colour (u ++ c ∷ []))
-unfolding colour_unit begins_colour header_grows colour_header
-colour_closes x [] c = none_closes _ _
-colour_closes x (a ∷ u) c =
-    closes_test _ (eqb a 0x20) (λ e. header_closes colour_parts a u c (colour_header x u) e refl)
-    (λ n. rw n (closes_test false (eqb a 0x21) (λ _. complete_closes u c _)
-    (λ _. closes_test false (is_digit a) (λ _. plain_closes u c _)
-    (λ _. closes_test false (is_plain a) (λ _. complete_closes u c _) (λ _. none_closes _ _)))))
+pub fits_word : (b g : Bool) → is_fit (word b g) ≡ true → b ≡ true
+fits_word true g h = refl
+fits_word false g h = absurd cc
 
-service_closes : (x : Context) (u : List ℕ) (c : ℕ) → Closes (service_unit x u) false (begins_service (u ++ c ∷ []))
-unfolding service_unit begins_service
-service_closes x [] c = none_closes _ _
-service_closes x (a ∷ u) c =
-    closes_test false (eqb a 0x40) (λ _. plain_closes u c _)
-    (λ _. closes_test false (is_plain a) (λ _. complete_closes u c _) (λ _. none_closes _ _))
+word_fits : (b g : Bool) → b ≡ true → is_whole (word b g) ≡ true
+word_fits true true h = refl
+word_fits true false h = refl
+word_fits false g h = absurd cc
 
--- whether a unit after US grows, by its first byte
-us_grows_drcs : (a : ℕ) (u : List ℕ) → eqb a 0x23 ≡ true → us_grows (a ∷ u) ≡ header_grows drcs_parts u
-unfolding us_grows
-us_grows_drcs a u e = rw e refl
+pub whole_pattern : (b g : Bool) → is_whole (word b g) ≡ true → b ≡ true
+whole_pattern true g h = refl
+whole_pattern false g h = absurd cc
 
-us_grows_colour : (a : ℕ) (u : List ℕ) → eqb a 0x23 ≡ false → eqb a 0x26 ≡ true
-    → us_grows (a ∷ u) ≡ header_grows colour_parts u
-unfolding us_grows
-us_grows_colour a u n e = rw (n, e) refl
+whole_fits : (w : Fit) → is_whole w ≡ true → is_fit w ≡ true
+whole_fits Misfit h = absurd cc
+whole_fits Open h = refl
+whole_fits Whole h = refl
+whole_fits Longer h = refl
 
-us_grows_format : (a : ℕ) (u : List ℕ) → eqb a 0x23 ≡ false → eqb a 0x26 ≡ false → eqb a 0x2D ≡ true
-    → us_grows (a ∷ u) ≡ are_options_left format_parts u
-unfolding us_grows
-us_grows_format a u n m e = rw (n, m, e) refl
+pub never_open : (b g : Bool) → word b g ≡ Open → ⊥
+never_open true true e = cc
+never_open true false e = cc
+never_open false g e = cc
 
-us_grows_other : (a : ℕ) (u : List ℕ) → eqb a 0x23 ≡ false → eqb a 0x26 ≡ false → eqb a 0x2D ≡ false
-    → us_grows (a ∷ u) ≡ false
-unfolding us_grows
-us_grows_other a u n m e = rw (n, m, e) refl
+whole_word : (b g : Bool) → word b g ≡ Whole → (b ≡ true) × (g ≡ false)
+whole_word true true e = absurd cc
+whole_word true false e = (refl, refl)
+whole_word false g e = absurd cc
 
-closes_at : {o : Option Outcome} {g h f' : Bool} → g ≡ h → Closes o h f' → Closes o g f'
-closes_at {o} {g} {h} {f'} e c = subst (λ (b : Bool). Closes o b f') (sym e) c
+longer_word : (b g : Bool) → word b g ≡ Longer → (b ≡ true) × (g ≡ true)
+longer_word true true e = (refl, refl)
+longer_word true false e = absurd cc
+longer_word false g e = absurd cc
 
-pub us_closes : (x : Context) (u : List ℕ) (c : ℕ) → Closes (us_unit x u) (us_grows u) (begins_us (u ++ c ∷ []))
-unfolding us_unit begins_us format
-us_closes x [] c = none_closes _ _
-us_closes x (a ∷ u) c =
-    closes_test _ (eqb a 0x23) (λ e. closes_at (us_grows_drcs a u e) (drcs_closes x u c))
-    (λ n. closes_test _ (eqb a 0x26) (λ e. closes_at (us_grows_colour a u n e) (colour_closes x u c))
-    (λ m. closes_test _ (eqb a 0x2D) (λ e. closes_at (us_grows_format a u n m e)
-    (options_closes format_parts u c _ refl))
-    (λ l. closes_at (us_grows_other a u n m l)
-    (closes_test false (eqb a 0x2F) (λ _. service_closes x u c)
-    (λ _. closes_test false (is_between 0x20 0x3F a) (λ _. complete_closes u c _)
-    (λ _. closes_test false (is_plain a) (λ _. plain_closes u c _) (λ _. none_closes _ _)))))))
+takes_breaks : (l : Loading) (c : ℕ) → is_plain c ≡ false → takes l c ≡ false
+unfolding takes
+takes_breaks l c h =
+    let No : Bool → Type 0 = λ b. b ≡ false in
+    each_test No l.begun (λ _. each_test No (is_opener c) (λ t. absurd (never t)) (λ _. byte_breaks (room l)))
+    (λ _. first_breaks)
+  where
+    never : is_opener c ≡ true → ⊥
+    never t = grind (arith, nat_tests)
 
-pub csi_closes : (x : Context) (u : List ℕ) (c : ℕ) → Closes (csi_unit x u) false (begins_sequence 0x40 7 (u ++ c ∷ []))
-unfolding csi_unit
-csi_closes x u c = sequence_closes 0x40 7 u c _
+    byte_breaks : (n : ℕ) → may_come n c ≡ false
+    byte_breaks n = grind (arith, nat_tests)
 
-pub escape_closes : (x : Context) (u : List ℕ) (c : ℕ) → Closes (escape_unit x u) false (begins_escape (u ++ c ∷ []))
-unfolding escape_unit begins_escape
-escape_closes x [] c = none_closes _ _
-escape_closes x (a ∷ u) c =
-    closes_test false (eqb a 0x5B) (λ _. csi_closes x u c) (λ _. sequence_closes 0x30 3 (a ∷ u) c _)
+    first_breaks : eqb c 0x30 ≡ false
+    first_breaks = grind (arith, nat_tests)
 
-pub run_closes : (m : Mode) (x : Context) (a : ℕ) (u : List ℕ) (c : ℕ)
-    → Closes (run_unit m x a u) (run_grows m x a u) (begins_run m x a (u ++ c ∷ []))
-unfolding run_unit begins_run run_grows pattern_unit begins_pattern pattern_grows
-run_closes Text x a u c = complete_closes u c _
-run_closes Skip x a u c = complete_closes u c _
-run_closes (TableRun i) x a u c =
-    closes_test false (ltb i 32 && has_six_bits a) (λ _. plain_closes u c _) (λ _. complete_closes u c _)
-run_closes (DclutRun i) x a u c = complete_closes u c _
-run_closes (DrcsRun d) x a u c =
-    closes_both (starts_pattern x d a) (λ _. whole_closes (is_pattern x.form (a ∷ u)) _ _ _
-    (no_longer x.form a u c) refl) (λ _. complete_closes u c _)
+loads_breaks : (l : Loading) (u : List ℕ) (c : ℕ) → is_plain c ≡ false → loads l (u ++ c ∷ []) ≡ false
+unfolding loads
+loads_breaks l [] c h = rw (takes_breaks l c h) refl
+loads_breaks l (a ∷ u) c h = both_go (takes l a) (loads_breaks (loading_after l a) u c h)
+  where
+    both_go : (b : Bool) {f : Bool} → f ≡ false → (b && f) ≡ false
+    both_go true e = e
+    both_go false e = refl
 
--- what fits is short
-drcs_short : (u : List ℕ) → Short 5 u (begins_drcs u)
-unfolding begins_drcs
-drcs_short [] h = omega arith
-drcs_short (a ∷ u) h =
-    let P : Bool → Type 0 = λ f. f ≡ true → suc (length u) ≤ 5 in
-    each_test P (eqb a 0x20) (λ _ e. let s = options_short drcs_parts u e in
-    omega arith) (λ _. each_test P (is_between 0x21 0x7E a) (λ _ e. let s = empty_short u e in
-    omega arith) (λ _. each_test P (eqb a 0x7F) (λ _ e. let s = empty_short u e in omega arith) (λ _ e. absurd cc))) h
+-- a form of which there is a pattern has a plane
+first_planes : (f : Form) (a : ℕ) → is_pattern f (a ∷ []) ≡ true → ltb 0 f.planes ≡ true
+unfolding is_pattern cut are_blocks
+first_planes f a h = grind (arith, nat_tests)
 
-colour_short : (u : List ℕ) → Short 5 u (begins_colour u)
-unfolding begins_colour
-colour_short [] h = omega arith
-colour_short (a ∷ u) h =
-    let P : Bool → Type 0 = λ f. f ≡ true → suc (length u) ≤ 5 in
-    each_test P (eqb a 0x20) (λ _ e. let s = options_short colour_parts u e in
-    omega arith) (λ _. each_test P (eqb a 0x21) (λ _ e. let s = empty_short u e in
-    omega arith) (λ _. each_test P (is_digit a) (λ _ e. let s = plain_short u e in
-    omega arith) (λ _. each_test P (is_plain a) (λ _ e. let s = empty_short u e in omega arith) (λ _ e. absurd cc))))
-    h
+pattern_breaks : (f : Form) (a : ℕ) (u : List ℕ) (c : ℕ) → is_plain c ≡ false → is_pattern f (a ∷ []) ≡ true
+    → is_pattern f (a ∷ u ++ c ∷ []) ≡ false
+pattern_breaks f a u c h p =
+    unit_loads f a (u ++ c ∷ []) (first_planes f a p) ∙ loads_breaks (fresh f) (a ∷ u) c h
 
-service_short : (u : List ℕ) → Short 5 u (begins_service u)
-unfolding begins_service
-service_short [] h = omega arith
-service_short (a ∷ u) h =
-    let P : Bool → Type 0 = λ f. f ≡ true → suc (length u) ≤ 5 in
-    each_test P (eqb a 0x40) (λ _ e. let s = plain_short u e in
-    omega arith) (λ _. each_test P (is_plain a) (λ _ e. let s = empty_short u e in omega arith) (λ _ e. absurd cc)) h
+pattern_laws : (x : Context) (d a : ℕ) (u : List ℕ) → is_pattern x.form (a ∷ []) ≡ true
+    → Laws (with_pattern x d a u) (longer (with_pattern x d a) u)
+pattern_laws x d a u s =
+    let f = x.form in
+    record {
+      front = λ c h. whole_fits _ (word_fits _ _ (beginning f a u (c ∷ []) (fits_word _ _ h)));
+      opens = λ c p e. absurd (never_open _ _ e);
+      ends = λ c e. let w = whole_word _ _ e in rw (no_longer f a u c w.0 w.1) refl;
+      command = λ e. refl;
+      again = λ c e h. record { whole = word_fits _ _ (fits_word _ _ h); command = refl };
+      grows = λ e. let w = longer_word _ _ e in let n = longer_pattern f a u w.0 w.1 in
+          record { byte = n.byte; small = n.small; fit = whole_fits _ (word_fits _ _ n.longer) };
+      breaks = λ c p. rw (pattern_breaks f a u c p s) refl;
+    }
 
-pub us_short : (u : List ℕ) → Short 6 u (begins_us u)
-unfolding begins_us
-us_short [] h = omega arith
-us_short (a ∷ u) h =
-    let P : Bool → Type 0 = λ f. f ≡ true → suc (length u) ≤ 6 in
-    each_test P (eqb a 0x23) (λ _ e. let s = drcs_short u e in
-    omega arith) (λ _. each_test P (eqb a 0x26) (λ _ e. let s = colour_short u e in
-    omega arith) (λ _. each_test P (eqb a 0x2D) (λ _ e. let s = options_short format_parts u e in
-    omega arith) (λ _. each_test P (eqb a 0x2F) (λ _ e. let s = service_short u e in
-    omega arith) (λ _. each_test P (is_between 0x20 0x3F a) (λ _ e. let s = empty_short u e in
-    omega arith) (λ _. each_test P (is_plain a) (λ _ e. let s = plain_short u e in
-    omega arith) (λ _ e. absurd cc)))))) h
+-- ---- after a first byte
 
-pub escape_short : (u : List ℕ) → Short 9 u (begins_escape u)
-unfolding begins_escape
-escape_short [] h = omega arith
-escape_short (a ∷ u) h =
-    let P : Bool → Type 0 = λ f. f ≡ true → suc (length u) ≤ 9 in
-    each_test P (eqb a 0x5B) (λ _ e. let s = sequence_short 0x40 7 u e in omega arith) (λ _ e. let s =
-    sequence_short 0x30 3 (a ∷ u) e in omega arith) h
+-- more than ten bytes with the first are a command, of a hundred at most
+pub record IsLong (x : Context) (u : List ℕ) (s : Standing) : Type 0 where
+  pub command : IsCommand s
+  pub few : IsValidForm x.form → suc (length u) ≤ 100
 
-pub run_short : (m : Mode) (x : Context) (a : ℕ) (u : List ℕ) → ShortOrWhole 1 u (run_unit m x a u) (begins_run m x a u)
-unfolding run_unit begins_run pattern_unit begins_pattern
-run_short Text x a u h = inl (let s = empty_short u h in omega arith)
-run_short Skip x a u h = inl (let s = empty_short u h in omega arith)
-run_short (TableRun i) x a u h =
-    inl (each_test (Short 1 u) (ltb i 32 && has_six_bits a) (λ _. plain_short u) (λ _ e. let s = empty_short u e in
-    omega arith) h)
-run_short (DclutRun i) x a u h = inl (let s = empty_short u h in omega arith)
-run_short (DrcsRun d) x a u h =
-    same_test (ShortOrWhole 1 u) (starts_pattern x d a) (λ _. whole_command 1 u (is_pattern x.form (a ∷ u)) _ refl)
-    (λ _ e. inl (let s = empty_short u e in omega arith)) h
+pub record IsFirst (x : Context) (F : Table) : Type 0 where
+  pub first : Fits (F [])
+  pub laws : (u : List ℕ) → Laws (F u) (longer F u)
+  pub short : (u : List ℕ) → Fits (F u) → (length u ≤ 9) ⊎ IsLong x u (F u)
 
--- with the first byte it has at most a hundred bytes
-pub run_hundred : (m : Mode) (x : Context) (a : ℕ) (u : List ℕ) → IsValidForm x.form → begins_run m x a u ≡ true
-    → length (a ∷ u) ≤ 100
-unfolding begins_run begins_pattern
-run_hundred Text x a u v h = let s = empty_short u h in omega arith
-run_hundred Skip x a u v h = let s = empty_short u h in omega arith
-run_hundred (TableRun i) x a u v h =
-    let s = each_test (Short 1 u) (ltb i 32 && has_six_bits a) (λ _. plain_short u) (λ _ e. let s = empty_short u e in
-    omega arith) h in
-    omega arith
-run_hundred (DclutRun i) x a u v h = let s = empty_short u h in omega arith
-run_hundred (DrcsRun d) x a u v h =
-    each_test (λ (f : Bool). f ≡ true → suc (length u) ≤ 100) (starts_pattern x d a)
-    (λ _. hundred x.form (a ∷ u) v) (λ _ e. let s = empty_short u e in omega arith) h
+by_table : (x : Context) (n : ℕ) (F : Table) → n ≤ 9 → IsTable n F → IsFirst x F
+by_table x n F l t =
+    record { first = t.first; laws = t.laws; short = λ u f. let s = t.short u f in inl (omega arith) }
+
+pattern_first : (x : Context) (d a : ℕ) → is_pattern x.form (a ∷ []) ≡ true → IsFirst x (with_pattern x d a)
+pattern_first x d a s =
+    record {
+      first = whole_fits _ (word_fits _ _ s);
+      laws = λ u. pattern_laws x d a u s;
+      short = λ u h. inr (record {
+        command = record { whole = word_fits _ _ (fits_word _ _ h); command = refl };
+        few = λ v. hundred x.form (a ∷ u) v (fits_word _ _ h);
+      });
+    }
+
+complete_first : (x : Context) (o : Outcome) → IsFirst x (complete o)
+complete_first x o = by_table x 0 (complete o) (omega arith) (complete_table 0 o)
+
+run_first : (m : Mode) (x : Context) (a : ℕ) → IsFirst x (run_unit m x a)
+unfolding pattern_unit table_entry
+run_first Text x a = complete_first x _
+run_first Skip x a = complete_first x _
+run_first (TableRun i) x a =
+    each_table (IsFirst x) (ltb i 32 && has_six_bits a) (λ _. by_table x 1 _ (omega arith) (one_table 0 x _))
+    (λ _. complete_first x _)
+run_first (DclutRun i) x a = complete_first x _
+run_first (DrcsRun d) x a =
+    each_table (IsFirst x) (starts_pattern x d a) (λ s. pattern_first x d a (and_parts _ _ s).1) (λ _. complete_first x _)
+
+pub first_is : (x : Context) (a : ℕ) → IsFirst x (after_first x a)
+unfolding repetition
+first_is x a =
+    each_table (IsFirst x) (is_plain a) (λ _. run_first x.mode x a)
+    (λ _. each_table (IsFirst x) (eqb a 0x12) (λ _. by_table x 1 _ (omega arith) (one_table 0 x _))
+    (λ _. each_table (IsFirst x) (eqb a 0x1B) (λ _. by_table x 9 _ (omega arith) (escape_table x))
+    (λ _. each_table (IsFirst x) (eqb a 0x1F) (λ _. by_table x 6 _ (omega arith) (us_table x))
+    (λ _. each_table (IsFirst x) (eqb a 0x9B) (λ _. by_table x 8 _ (omega arith) (csi_table x))
+    (λ _. complete_first x _)))))

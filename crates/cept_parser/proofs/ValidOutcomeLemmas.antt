@@ -1,13 +1,12 @@
 -- Every whole unit says something valid and leads to a valid context, and what fits has few bytes.
 use Rattle.std.proofs.Common.{◌≡◌, ℕ, ◌+◌, ◌-◌, ◌<◌, ◌≤◌, Bool, true, false, not, ◌&&◌, ◌||◌, cond, eqb, ltb, leb, List}
-use Rattle.std.proofs.Common.{[], ◌∷◌, length, Option, Some, None, refl, subst, arith, ◌⊎◌, inl, inr}
+use Rattle.std.proofs.Common.{[], ◌∷◌, length, Some, refl, subst, arith, ◌⊎◌, inl, inr}
 use Rattle.std.proofs.lemmas.Bool.{and_parts, cases_lt, not-true, not-false, leb-true, ltb-true}
 use Rattle.std.proofs.lemmas.Bool.Decides.{nat_tests}
 use Rattle.cept_codes.specs.Command.{IsValidSaid, IsValidForm, IsGraphic, IsC1, IsScreenC1, IsArea}
 use Rattle.cept_codes.specs.Look.{IsValidRgb, is_pattern_size, is_plane_count}
 use Rattle.cept_codes.specs.Place.{OnScreen}
 use Rattle.cept_codes.specs.declared.item.Said.{Said}
-use Rattle.cept_drcs.specs.Unit.{is_pattern}
 use Rattle.cept_drcs.proofs.Laws.{unit_valid as pattern_valid}
 use Rattle.cept_parser.specs.declared.context.Mode.{Mode}
 use Rattle.cept_parser.specs.declared.context.Mode.TheVariants.{Text, TableRun, DclutRun, DrcsRun, Skip}
@@ -16,32 +15,33 @@ use Rattle.cept_parser.specs.declared.context.ColourKind.TheVariants.{ColourTabl
 use Rattle.cept_parser.specs.declared.context.Context.{Context}
 use Rattle.cept_parser.specs.declared.context.Outcome.{Outcome}
 use Rattle.cept_parser.specs.Context.{with_mode, start_context}
-use Rattle.cept_parser.specs.Bytes.{is_between, is_plain, is_digit, two_digits, is_row, is_column, is_empty, contains}
-use Rattle.cept_parser.specs.Bytes.{outcome, whole_outcome, with_plain, with_options, are_options, is_sequence}
+use Rattle.cept_parser.specs.Bytes.{is_between, is_plain, is_digit, two_digits, is_row, is_column, contains}
+use Rattle.cept_parser.specs.Bytes.{outcome, is_whole, Standing, Table, complete, one_plain, then_plain}
 use Rattle.cept_parser.specs.Controls.{one_byte}
 use Rattle.cept_parser.specs.Escape.{is_c1_final, escape_1, designation, designation_of_c1, escape_2, full_screen}
 use Rattle.cept_parser.specs.Escape.{full_row}
 use Rattle.cept_parser.specs.Escape.{designation_of_drcs, escape_3, escape}
 use Rattle.cept_parser.specs.Csi.{csi_1, csi_2, area, is_area_final, area_to, area_from, csi}
-use Rattle.cept_parser.specs.Units.{us_position, drcs_parts, drcs_width, drcs_height, drcs_planes, drcs_form}
-use Rattle.cept_parser.specs.Units.{drcs_header, drcs_unit, colour_parts, colour_header, last_place, run_from}
-use Rattle.cept_parser.specs.Units.{colours_from, colour_start, colour_unit, format_parts, format, service_break}
+use Rattle.cept_parser.specs.Units.{us_position, drcs_width, drcs_height, drcs_planes, drcs_form}
+use Rattle.cept_parser.specs.Units.{drcs_header, drcs_unit, colour_header, last_place, run_from}
+use Rattle.cept_parser.specs.Units.{colours_from, colour_start, colour_unit, format, service_break}
 use Rattle.cept_parser.specs.Units.{service, service_unit, us_unit}
 use Rattle.cept_parser.specs.Runs.{misplacement, has_six_bits, bit, colour_part, colour, table_entry, dclut_value}
 use Rattle.cept_parser.specs.Runs.{run_unit, pattern_unit, starts_pattern}
-use Rattle.cept_parser.specs.Grammar.{repetition, csi_unit, escape_unit, unit, fits}
+use Rattle.cept_parser.specs.Grammar.{repetition, csi_unit, after_escape, after_first, standing, unit, fits}
 use Rattle.cept_parser.specs.Valid.{IsValidContext, IsValidMode, AreBytes}
-use Rattle.cept_parser.proofs.ChoiceLemmas.{each_test}
-use Rattle.cept_parser.proofs.GrammarLemmas.{fits_hundred as hundred}
+use Rattle.cept_parser.proofs.ChoiceLemmas.{each_test, each_table}
+use Rattle.cept_parser.proofs.GrammarLemmas.{fits_hundred as hundred, unit_told}
+use Rattle.cept_parser.proofs.UnitLemmas.{whole_pattern}
 
 -- a closed unit says something valid, and the context after it is valid
 pub record IsValidOutcome (o : Outcome) : Type 0 where
   pub said : IsValidSaid o.said
   pub next : IsValidContext o.next
 
--- what is whole is valid
-abbrev pub Valid : Option Outcome → Type 0
-Valid whole = (o : Outcome) → whole ≡ Some o → IsValidOutcome o
+-- what is whole in a table is valid
+abbrev Valid : Table → Type 0
+Valid F = (u : List ℕ) → is_whole (F u).fit ≡ true → IsValidOutcome (F u).outcome
 
 pub text_valid : (x : Context) → IsValidContext x → IsValidContext (with_mode x Text)
 text_valid x v = record { mode = tt; form = v.form }
@@ -54,24 +54,22 @@ said_valid : (x : Context) (m : Mode) (s : Said) → IsValidContext x → IsVali
     → IsValidOutcome (outcome x m s)
 said_valid x m s v n h = record { said = h; next = record { mode = n; form = v.form } }
 
-some_valid : (k : Outcome) → IsValidOutcome k → Valid (Some k)
-some_valid k h o e = let s : k ≡ o = cc in subst IsValidOutcome s h
-
-none_valid : Valid None
-none_valid o e = absurd cc
-
-complete_valid : (u : List ℕ) (k : Outcome) → IsValidOutcome k → Valid (whole_outcome u k)
-complete_valid u k h = each_test Valid (is_empty u) (λ _. some_valid k h) (λ _. none_valid)
+complete_valid : (o : Outcome) → IsValidOutcome o → Valid (complete o)
+complete_valid o h u w = h
 
 -- what a plain byte decides is valid for every plain byte
-plain_valid : (u : List ℕ) (k : ℕ → Outcome) → ((c : ℕ) → is_plain c ≡ true → IsValidOutcome (k c))
-    → Valid (with_plain k u)
-plain_valid [] k h = none_valid
-plain_valid (c ∷ u) k h =
-    each_test Valid (is_plain c) (λ p. complete_valid u (k c) (h c p)) (λ _. none_valid)
+one_valid : (x : Context) (k : ℕ → Outcome) → ((c : ℕ) → is_plain c ≡ true → IsValidOutcome (k c))
+    → Valid (one_plain x k)
+one_valid x k h [] w = absurd cc
+one_valid x k h (c ∷ u) w =
+    each_test (λ (s : Standing). is_whole s.fit ≡ true → IsValidOutcome s.outcome) (is_plain c) (λ p _. h c p)
+    (λ _ v. absurd cc) w
 
-options_valid : (parts : List (List ℕ)) (u : List ℕ) (k : Outcome) → IsValidOutcome k → Valid (with_options parts u k)
-options_valid parts u k h = each_test Valid (are_options parts u) (λ _. some_valid k h) (λ _. none_valid)
+plain_valid : (x : Context) (k : ℕ → Table) → ((c : ℕ) → is_plain c ≡ true → Valid (k c)) → Valid (then_plain x k)
+plain_valid x k h [] w = absurd cc
+plain_valid x k h (c ∷ u) w =
+    each_test (λ (s : Standing). is_whole s.fit ≡ true → IsValidOutcome s.outcome) (is_plain c) (λ p. h c p u)
+    (λ _ v. absurd cc) w
 
 abbrev Fine : Said → Type 0
 Fine s = IsValidSaid s
@@ -131,9 +129,9 @@ escape_1_valid f =
     each_test Fine (is_c1_final f) (λ h. c1_final f h) (λ _.
     each_test Fine (eqb f 0x6E) (λ _. omega arith) (λ _.
     each_test Fine (eqb f 0x6F) (λ _. omega arith) (λ _.
-    each_test Fine (eqb f 0x7E) (λ _. omega arith) (λ _.
+    each_test Fine (eqb f 0x7C) (λ _. omega arith) (λ _.
     each_test Fine (eqb f 0x7D) (λ _. omega arith) (λ _.
-    each_test Fine (eqb f 0x7C) (λ _. omega arith) (λ _. tt))))))
+    each_test Fine (eqb f 0x7E) (λ _. omega arith) (λ _. tt))))))
 
 designate_valid : (g f : ℕ) → g ≤ 3 → IsValidSaid (designation g f)
 unfolding designation
@@ -184,14 +182,14 @@ unfolding csi_2
 csi_2_valid p f =
     each_test Fine (is_between 0x30 0x33 p && eqb f 0x40) (λ h. table_number p (and_parts _ _ h).0) (λ _.
     each_test Fine (is_between 0x30 0x36 p && eqb f 0x41) (λ h. flash_number p (and_parts _ _ h).0) (λ _.
-    each_test Fine (eqb p 0x30 && eqb f 0x60) (λ _. tt) (λ _.
-    each_test Fine (eqb p 0x31 && eqb f 0x60) (λ _. tt) (λ _.
-    each_test Fine (eqb p 0x32 && eqb f 0x60) (λ _. tt) (λ _.
-    each_test Fine (eqb p 0x33 && eqb f 0x60) (λ _. tt) (λ _.
     each_test Fine (eqb p 0x31 && eqb f 0x50) (λ _. tt) (λ _.
     each_test Fine (eqb p 0x31 && eqb f 0x51) (λ _. tt) (λ _.
     each_test Fine (eqb p 0x32 && eqb f 0x53) (λ _. tt) (λ _.
-    each_test Fine (eqb p 0x32 && eqb f 0x54) (λ _. tt) (λ _. tt))))))))))
+    each_test Fine (eqb p 0x32 && eqb f 0x54) (λ _. tt) (λ _.
+    each_test Fine (eqb p 0x30 && eqb f 0x60) (λ _. tt) (λ _.
+    each_test Fine (eqb p 0x31 && eqb f 0x60) (λ _. tt) (λ _.
+    each_test Fine (eqb p 0x32 && eqb f 0x60) (λ _. tt) (λ _.
+    each_test Fine (eqb p 0x33 && eqb f 0x60) (λ _. tt) (λ _. tt))))))))))
 
 area_rows : (n m : ℕ) → (leb 1 n && (leb n m && leb m 24)) ≡ true → IsArea n m
 area_rows n m h =
@@ -241,11 +239,12 @@ on_screen r c h g =
       to_right = grind (arith, nat_tests);
     }
 
-position_valid : (x : Context) (r c : ℕ) → IsValidContext x → IsValidOutcome (us_position x r c)
+position_valid : (x : Context) (r : ℕ) → IsValidContext x → Valid (us_position x r)
 unfolding us_position
-position_valid x r c v =
-    each_test IsValidOutcome (is_row r && is_column c) (λ h. let p = and_parts (is_row r) (is_column c) h in
-    said_valid x Text _ v tt (on_screen r c p.0 p.1)) (λ _. said_valid x Text _ v tt tt)
+position_valid x r v =
+    one_valid x _ (λ c _. each_test IsValidOutcome (is_row r && is_column c) (λ h. let p =
+    and_parts (is_row r) (is_column c) h in
+    said_valid x Text _ v tt (on_screen r c p.0 p.1)) (λ _. said_valid x Text _ v tt tt))
 
 -- every choice of sizes is one of the six: 3/10, 3/11, 3/12 and 3/15 are narrow
 size_valid : (a b c d e : Bool)
@@ -281,18 +280,14 @@ form_valid u =
 drcs_code : (c : ℕ) → is_between 0x21 0x7E c ≡ true → (0x21 ≤ c) × (c ≤ 0x7E)
 drcs_code c h = (grind (arith, nat_tests), grind (arith, nat_tests))
 
-drcs_valid : (x : Context) (u : List ℕ) → IsValidContext x → Valid (drcs_unit x u)
+drcs_valid : (x : Context) → IsValidContext x → Valid (drcs_unit x)
 unfolding drcs_unit drcs_header
-drcs_valid x [] v = none_valid
-drcs_valid x (c ∷ u) v =
-    each_test Valid (eqb c 0x20) (λ _. options_valid drcs_parts u _ (record {
-      said = form_valid u;
-      next =
-          record { mode = tt; form = form_valid u };
-    })) (λ _.
-    each_test Valid (is_between 0x21 0x7E c) (λ h. let d = drcs_code c h in
-    complete_valid u _ (said_valid x (DrcsRun c) _ v (d.0, omega arith) d)) (λ _.
-    each_test Valid (eqb c 0x7F) (λ _. complete_valid u _ (said_valid x Skip _ v tt tt)) (λ _. none_valid)))
+drcs_valid x v =
+    plain_valid x _ (λ c _. each_table Valid (eqb c 0x20)
+    (λ _ u _. record { said = form_valid u; next = record { mode = tt; form = form_valid u } }) (λ _.
+    each_table Valid (is_between 0x21 0x7E c) (λ h. let d = drcs_code c h in
+    complete_valid _ (said_valid x (DrcsRun c) _ v (d.0, omega arith) d))
+    (λ _. complete_valid _ (said_valid x Skip _ v tt tt))))
 
 run_from_valid : (k : ColourKind) (n : ℕ) → leb n (last_place k) ≡ true → IsValidMode (run_from k n) × (n ≤ 31)
 run_from_valid ColourTable n h = let l = leb-true n 31 h in (omega arith, omega arith)
@@ -304,24 +299,20 @@ colours_from_valid x i v =
     each_test IsValidOutcome (leb i (last_place x.kind)) (λ h. let r = run_from_valid x.kind i h in
     said_valid x (run_from x.kind i) _ v r.0 r.1) (λ _. said_valid x Skip _ v tt tt)
 
-colour_start_valid : (x : Context) (t o : ℕ) → IsValidContext x → IsValidOutcome (colour_start x t o)
+colour_start_valid : (x : Context) (t : ℕ) → IsValidContext x → Valid (colour_start x t)
 unfolding colour_start
-colour_start_valid x t o v =
-    each_test IsValidOutcome (is_digit o) (λ _. colours_from_valid x (two_digits t o) v)
-    (λ _. said_valid x Skip _ v tt tt)
+colour_start_valid x t v =
+    one_valid x _ (λ o _. each_test IsValidOutcome (is_digit o) (λ _. colours_from_valid x (two_digits t o) v)
+    (λ _. said_valid x Skip _ v tt tt))
 
-colour_valid : (x : Context) (u : List ℕ) → IsValidContext x → Valid (colour_unit x u)
+colour_valid : (x : Context) → IsValidContext x → Valid (colour_unit x)
 unfolding colour_unit colour_header
-colour_valid x [] v = none_valid
-colour_valid x (a ∷ u) v =
-    each_test Valid (eqb a 0x20) (λ _. options_valid colour_parts u _ (record {
-      said = tt;
-      next =
-          record { mode = tt; form = v.form };
-    })) (λ _.
-    each_test Valid (eqb a 0x21) (λ _. complete_valid u _ (said_valid x Skip _ v tt tt)) (λ _.
-    each_test Valid (is_digit a) (λ _. plain_valid u _ (λ o _. colour_start_valid x a o v)) (λ _.
-    each_test Valid (is_plain a) (λ _. complete_valid u _ (said_valid x Skip _ v tt tt)) (λ _. none_valid))))
+colour_valid x v =
+    plain_valid x _ (λ a _. each_table Valid (eqb a 0x20)
+    (λ _ u _. record { said = tt; next = record { mode = tt; form = v.form } }) (λ _.
+    each_table Valid (eqb a 0x21) (λ _. complete_valid _ (said_valid x Skip _ v tt tt)) (λ _.
+    each_table Valid (is_digit a) (λ _. colour_start_valid x a v)
+    (λ _. complete_valid _ (said_valid x Skip _ v tt tt)))))
 
 format_valid : (x : Context) (u : List ℕ) → IsValidContext x → IsValidOutcome (format x u)
 unfolding format
@@ -332,41 +323,38 @@ format_valid x u v =
 row_number : (r : ℕ) → is_row r ≡ true → (1 ≤ r - 0x40) × (r - 0x40 ≤ 24)
 row_number r h = (grind (arith, nat_tests), grind (arith, nat_tests))
 
-break_valid : (x : Context) (r : ℕ) → IsValidContext x → IsValidOutcome (service_break x r)
+break_valid : (x : Context) → IsValidContext x → Valid (service_break x)
 unfolding service_break
-break_valid x r v =
-    each_test IsValidOutcome (is_row r) (λ h. said_valid x Text _ v tt (row_number r h))
-    (λ _. said_valid x Skip _ v tt tt)
+break_valid x v =
+    one_valid x _ (λ r _. each_test IsValidOutcome (is_row r) (λ h. said_valid x Text _ v tt (row_number r h))
+    (λ _. said_valid x Skip _ v tt tt))
 
 service_valid : (x : Context) (a : ℕ) → IsValidContext x → IsValidOutcome (service x a)
 unfolding service
 service_valid x a v =
-    each_test IsValidOutcome (eqb a 0x4F) (λ _. said_valid x Text _ v tt tt) (λ _.
     each_test IsValidOutcome (eqb a 0x41) (λ _. said_valid start_context Text _ start_valid tt tt) (λ _.
     each_test IsValidOutcome (eqb a 0x42) (λ _. said_valid start_context Text _ start_valid tt tt) (λ _.
     each_test IsValidOutcome (eqb a 0x43) (λ _. said_valid x Text _ v tt tt) (λ _.
     each_test IsValidOutcome (eqb a 0x44) (λ _. said_valid x Text _ v tt tt) (λ _.
     each_test IsValidOutcome (eqb a 0x45) (λ _. said_valid x Text _ v tt (inr refl)) (λ _.
-    each_test IsValidOutcome (eqb a 0x46) (λ _. said_valid x Text _ v tt (inl refl))
-    (λ _. said_valid x Skip _ v tt tt)))))))
+    each_test IsValidOutcome (eqb a 0x46) (λ _. said_valid x Text _ v tt (inl refl)) (λ _.
+    each_test IsValidOutcome (eqb a 0x4F) (λ _. said_valid x Text _ v tt tt) (λ _. said_valid x Skip _ v tt tt)))))))
 
-service_unit_valid : (x : Context) (u : List ℕ) → IsValidContext x → Valid (service_unit x u)
+service_unit_valid : (x : Context) → IsValidContext x → Valid (service_unit x)
 unfolding service_unit
-service_unit_valid x [] v = none_valid
-service_unit_valid x (a ∷ u) v =
-    each_test Valid (eqb a 0x40) (λ _. plain_valid u _ (λ r _. break_valid x r v)) (λ _.
-    each_test Valid (is_plain a) (λ _. complete_valid u _ (service_valid x a v)) (λ _. none_valid))
+service_unit_valid x v =
+    plain_valid x _ (λ a _. each_table Valid (eqb a 0x40) (λ _. break_valid x v)
+    (λ _. complete_valid _ (service_valid x a v)))
 
-us_valid : (x : Context) (u : List ℕ) → IsValidContext x → Valid (us_unit x u)
+us_valid : (x : Context) → IsValidContext x → Valid (us_unit x)
 unfolding us_unit
-us_valid x [] v = none_valid
-us_valid x (a ∷ u) v =
-    each_test Valid (eqb a 0x23) (λ _. drcs_valid x u v) (λ _.
-    each_test Valid (eqb a 0x26) (λ _. colour_valid x u v) (λ _.
-    each_test Valid (eqb a 0x2D) (λ _. options_valid format_parts u _ (format_valid x u v)) (λ _.
-    each_test Valid (eqb a 0x2F) (λ _. service_unit_valid x u v) (λ _.
-    each_test Valid (is_between 0x20 0x3F a) (λ _. complete_valid u _ (said_valid x Skip _ v tt tt)) (λ _.
-    each_test Valid (is_plain a) (λ _. plain_valid u _ (λ c _. position_valid x a c v)) (λ _. none_valid))))))
+us_valid x v =
+    plain_valid x _ (λ a _. each_table Valid (eqb a 0x23) (λ _. drcs_valid x v) (λ _.
+    each_table Valid (eqb a 0x26) (λ _. colour_valid x v) (λ _.
+    each_table Valid (eqb a 0x2D) (λ _ u _. format_valid x u v) (λ _.
+    each_table Valid (eqb a 0x2F) (λ _. service_unit_valid x v) (λ _.
+    each_table Valid (is_between 0x20 0x3F a) (λ _. complete_valid _ (said_valid x Skip _ v tt tt))
+    (λ _. position_valid x a v))))))
 
 -- units of a run
 bit_small : (k a : ℕ) → bit k a ≤ 1
@@ -387,13 +375,11 @@ colour_fine a b = record { r = part_small 2 a b; g = part_small 1 a b; b = part_
 misplaced_valid : (x : Context) → IsValidContext x → IsValidOutcome (misplacement x)
 misplaced_valid x v = said_valid x Skip _ v tt tt
 
-entry_valid : (x : Context) (i a b : ℕ) → IsValidContext x → i < 32 → IsValidOutcome (table_entry x i a b)
+entry_valid : (x : Context) (i a : ℕ) → IsValidContext x → i < 32 → Valid (table_entry x i a)
 unfolding table_entry
-entry_valid x i a b v l =
-    each_test IsValidOutcome (has_six_bits b) (λ _. said_valid x (TableRun (i + 1)) _ v (omega arith) (
-      omega arith,
-      colour_fine a b,
-    )) (λ _. misplaced_valid x v)
+entry_valid x i a v l =
+    one_valid x _ (λ b _. each_test IsValidOutcome (has_six_bits b)
+    (λ _. said_valid x (TableRun (i + 1)) _ v (omega arith) (omega arith, colour_fine a b)) (λ _. misplaced_valid x v))
 
 look_up_valid : (x : Context) (i a : ℕ) → IsValidContext x → IsValidOutcome (dclut_value x i a)
 unfolding dclut_value
@@ -404,58 +390,57 @@ look_up_valid x i a v =
 plain_graphic : (a : ℕ) → is_plain a ≡ true → IsGraphic a
 plain_graphic a h = inl (grind (arith, nat_tests), grind (arith, nat_tests))
 
-run_valid : (m : Mode) (x : Context) (a : ℕ) (u : List ℕ) → IsValidMode m → IsValidContext x → is_plain a ≡ true
-    → Valid (run_unit m x a u)
-unfolding run_unit pattern_unit
-run_valid Text x a u n v p = complete_valid u _ (said_valid x Text _ v tt (plain_graphic a p))
-run_valid Skip x a u n v p = complete_valid u _ (said_valid x Skip _ v tt tt)
-run_valid (TableRun i) x a u n v p =
-    each_test Valid (ltb i 32 && has_six_bits a)
-    (λ h. plain_valid u _ (λ b _. entry_valid x i a b v (ltb-true i 32 (and_parts _ _ h).0)))
-    (λ _. complete_valid u _ (misplaced_valid x v))
-run_valid (DclutRun i) x a u n v p = complete_valid u _ (look_up_valid x i a v)
-run_valid (DrcsRun c) x a u n v p =
-    each_test Valid (starts_pattern x c a) (λ s. each_test Valid (is_pattern x.form (a ∷ u)) (λ h. let l =
-    ltb-true c 0x7F (and_parts _ _ s).0 in
-    some_valid _ (said_valid x (DrcsRun (c + 1)) _ v (omega (arith, n.0), omega arith)
-    (n.0, omega arith, pattern_valid x.form (a ∷ u) v.form h))) (λ _. none_valid))
-    (λ _. complete_valid u _ (misplaced_valid x v))
+run_valid : (m : Mode) (x : Context) (a : ℕ) → IsValidMode m → IsValidContext x → is_plain a ≡ true
+    → Valid (run_unit m x a)
+unfolding pattern_unit
+run_valid Text x a n v p = complete_valid _ (said_valid x Text _ v tt (plain_graphic a p))
+run_valid Skip x a n v p = complete_valid _ (said_valid x Skip _ v tt tt)
+run_valid (TableRun i) x a n v p =
+    each_table Valid (ltb i 32 && has_six_bits a) (λ h. entry_valid x i a v (ltb-true i 32 (and_parts _ _ h).0))
+    (λ _. complete_valid _ (misplaced_valid x v))
+run_valid (DclutRun i) x a n v p = complete_valid _ (look_up_valid x i a v)
+run_valid (DrcsRun c) x a n v p =
+    each_table Valid (starts_pattern x c a) (λ s u w. let l = ltb-true c 0x7F (and_parts _ _ s).0 in
+    said_valid x (DrcsRun (c + 1)) _ v (omega (arith, n.0), omega arith)
+    (n.0, omega arith, pattern_valid x.form (a ∷ u) v.form (whole_pattern _ _ w)))
+    (λ _. complete_valid _ (misplaced_valid x v))
 
-repeat_valid : (x : Context) (c : ℕ) → IsValidContext x → is_plain c ≡ true → IsValidOutcome (repetition x c)
+repeat_valid : (x : Context) → IsValidContext x → Valid (repetition x)
 unfolding repetition
-repeat_valid x c v p =
-    each_test IsValidOutcome (leb 0x40 c) (λ _. said_valid x Text _ v tt (repeat_number c p))
-    (λ _. said_valid x Text _ v tt tt)
+repeat_valid x v =
+    one_valid x _ (λ c p. each_test IsValidOutcome (leb 0x40 c) (λ _. said_valid x Text _ v tt (repeat_number c p))
+    (λ _. said_valid x Text _ v tt tt))
   where
     repeat_number : (c : ℕ) → is_plain c ≡ true → c - 0x40 ≤ 63
     repeat_number c p = grind (arith, nat_tests)
 
-csi_unit_valid : (x : Context) (u : List ℕ) → IsValidContext x → Valid (csi_unit x u)
+csi_unit_valid : (x : Context) → IsValidContext x → Valid (csi_unit x)
 unfolding csi_unit
-csi_unit_valid x u v =
-    each_test Valid (is_sequence 0x40 7 u) (λ _. some_valid _ (said_valid x Text _ v tt (csi_valid u)))
-    (λ _. none_valid)
+csi_unit_valid x v u w = said_valid x Text _ v tt (csi_valid u)
 
-escape_unit_valid : (x : Context) (u : List ℕ) → IsValidContext x → Valid (escape_unit x u)
-unfolding escape_unit
-escape_unit_valid x [] v = none_valid
-escape_unit_valid x (a ∷ u) v =
-    each_test Valid (eqb a 0x5B) (λ _. csi_unit_valid x u v)
-    (λ _. each_test Valid (is_sequence 0x30 3 (a ∷ u))
-    (λ _. some_valid _ (said_valid x Text _ v tt (escape_valid (a ∷ u)))) (λ _. none_valid))
+escapes_valid : (x : Context) → IsValidContext x → Valid (after_escape x)
+escapes_valid x v [] w = absurd cc
+escapes_valid x v (a ∷ u) w =
+    each_test (λ (s : Standing). is_whole s.fit ≡ true → IsValidOutcome s.outcome) (eqb a 0x5B)
+    (λ _. csi_unit_valid x v u) (λ _ _. said_valid x Text _ v tt (escape_valid (a ∷ u))) w
+
+first_valid : (x : Context) (a : ℕ) → IsValidContext x → a < 256 → Valid (after_first x a)
+first_valid x a v b =
+    each_table Valid (is_plain a) (λ p. run_valid x.mode x a v.mode v p) (λ p.
+    each_table Valid (eqb a 0x12) (λ _. repeat_valid x v) (λ _.
+    each_table Valid (eqb a 0x1B) (λ _. escapes_valid x v) (λ _.
+    each_table Valid (eqb a 0x1F) (λ _. us_valid x v) (λ _.
+    each_table Valid (eqb a 0x9B) (λ _. csi_unit_valid x v)
+    (λ c. complete_valid _ (said_valid x Text _ v tt (control_valid a b c)))))))
 
 -- what is whole is valid, in a valid context
 pub unit_valid : (x : Context) (u : List ℕ) (o : Outcome) → IsValidContext x → AreBytes u → unit x u ≡ Some o
     → IsValidOutcome o
 unfolding unit
-unit_valid x [] o v b e = none_valid o e
+unit_valid x [] o v b e = absurd cc
 unit_valid x (a ∷ u) o v b e =
-    each_test Valid (is_plain a) (λ p. run_valid x.mode x a u v.mode v p) (λ p.
-    each_test Valid (eqb a 0x12) (λ _. plain_valid u _ (λ c q. repeat_valid x c v q)) (λ _.
-    each_test Valid (eqb a 0x1B) (λ _. escape_unit_valid x u v) (λ _.
-    each_test Valid (eqb a 0x9B) (λ _. csi_unit_valid x u v) (λ c.
-    each_test Valid (eqb a 0x1F) (λ _. us_valid x u v)
-    (λ _. complete_valid u _ (said_valid x Text _ v tt (control_valid a b.0 c))))))) o e
+    let t = unit_told (standing x (a ∷ u)) o e in
+    subst IsValidOutcome t.1 (first_valid x a v b.0 u t.0)
 
 -- what fits has at most a hundred bytes
 pub fits_hundred : (x : Context) (u : List ℕ) → IsValidContext x → fits x u ≡ true → length u ≤ 100

@@ -16,7 +16,7 @@ use Rattle.cept_parser.specs.Valid.{AreValid, AreMeasured}
 use Rattle.cept_parser.specs.Waits.{Waits}
 use Rattle.cept_parser.proofs.GrammarLemmas.{plain_fits}
 use Rattle.cept_parser.proofs.ValidOutcomeLemmas.{start_valid, fits_hundred}
-use Rattle.cept_parser.proofs.BeginningLemmas.{grows_continued}
+use Rattle.cept_parser.proofs.GrammarLemmas.{grows_continued}
 use Rattle.cept_parser.proofs.LongestBeginningLemmas.{waits_fits, front_none, front_fitting}
 use Rattle.cept_parser.proofs.ReadingInPartsLemmas.{read_append, read_place, read_waits}
 use Rattle.cept_parser.proofs.OneByteMoreLemmas.{closes_now}

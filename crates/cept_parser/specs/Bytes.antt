@@ -3,10 +3,15 @@
 use Rattle.std.specs.Prelude.{ℕ, zero, suc, ◌+◌, ◌-◌, ◌*◌, Bool, true, false, ◌&&◌, List, [], ◌∷◌, if◌then◌else◌, ◌==◌}
 use Rattle.std.specs.Prelude.{nat_le, Option, Some, None}
 use Rattle.std.specs.List.{list_any}
+use Rattle.cept_codes.specs.declared.item.Reason.TheVariants.{Interrupted}
 use Rattle.cept_codes.specs.declared.item.Said.{Said}
+use Rattle.cept_codes.specs.declared.item.Said.TheVariants.{Refused}
 use Rattle.cept_parser.specs.declared.context.Mode.{Mode}
+use Rattle.cept_parser.specs.declared.context.Mode.TheVariants.{Text}
 use Rattle.cept_parser.specs.declared.context.Context.{Context}
 use Rattle.cept_parser.specs.declared.context.Outcome.{Outcome}
+use Rattle.cept_parser.specs.declared.fit.Fit.{Fit}
+use Rattle.cept_parser.specs.declared.fit.Fit.TheVariants.{Misfit, Open, Whole, Longer}
 use Rattle.cept_parser.specs.Context.{with_mode}
 
 -- from the first number to the second
@@ -50,51 +55,88 @@ contains bs a = list_any (λ b. b == a) bs
 abbrev pub outcome : Context → Mode → Said → Outcome
 outcome x m said = record { said = said; next = with_mode x m }
 
--- what a unit or refused shape is that is complete: whole, if no bytes come after it
-abbrev pub whole_outcome : List ℕ → Outcome → Option Outcome
-whole_outcome u o = if is_empty u then Some o else None
+-- ---- how bytes stand to the grammar
 
--- the beginning of one plain byte
-abbrev pub begins_plain : List ℕ → Bool
-begins_plain [] = true
-begins_plain (c ∷ u) = if is_plain c then is_empty u else false
+-- something begins with them, or is they
+abbrev pub is_fit : Fit → Bool
+is_fit Misfit = false
+is_fit _ = true
+
+-- they are a whole unit or refused shape
+abbrev pub is_whole : Fit → Bool
+is_whole Whole = true
+is_whole Longer = true
+is_whole _ = false
+
+-- they are, and a longer one begins with them
+abbrev pub is_longer : Fit → Bool
+is_longer Longer = true
+is_longer _ = false
+
+-- how bytes stand to the grammar, in one word, and what whole ones say, with the context after them. Of others nobody
+-- reads it
+pub record Standing : Type 0 where
+  pub fit : Fit
+  pub outcome : Outcome
+
+-- what bytes that stand so wholly are, if they are whole
+abbrev pub unit_of : Standing → Option Outcome
+unit_of s = if is_whole s.fit then Some s.outcome else None
+
+-- how each list of bytes stands
+abbrev pub Table : Type 0
+Table = List ℕ → Standing
+
+-- bytes that aren't whole
+abbrev pub unsaid : Context → Fit → Standing
+unsaid x w = record { fit = w; outcome = outcome x Text (Refused Interrupted) }
+
+-- how bytes stand that are complete without these: whole, if there are none
+abbrev pub end : List ℕ → Fit
+end [] = Whole
+end (a ∷ u) = Misfit
+
+-- a unit or refused shape that is complete
+abbrev pub complete : Outcome → Table
+complete o u = record { fit = end u; outcome = o }
+
+-- a plain byte, and then bytes that stand as it tells
+abbrev pub then_plain : Context → (ℕ → Table) → Table
+then_plain x k [] = unsaid x Open
+then_plain x k (c ∷ u) = if is_plain c then k c u else unsaid x Misfit
 
 -- one plain byte, which decides what is said
-abbrev pub with_plain : (ℕ → Outcome) → List ℕ → Option Outcome
-with_plain k [] = None
-with_plain k (c ∷ u) = if is_plain c then whole_outcome u (k c) else None
+abbrev pub one_plain : Context → (ℕ → Outcome) → Table
+one_plain x k [] = unsaid x Open
+one_plain x k (c ∷ u) = if is_plain c then complete (k c) u else unsaid x Misfit
 
--- the beginning of a sequence: at most n plain bytes below `final` and one from there to 7/15, or one byte too many
+-- a sequence: at most n plain bytes below `final`, and one from there to 7/15, or one byte too many
+abbrev pub sequence : ℕ → ℕ → List ℕ → Fit
+sequence final n [] = Open
+sequence final zero (a ∷ u) = if is_plain a then end u else Misfit
+sequence final (suc n) (a ∷ u) =
+    if is_between final 0x7F a then end u else
+    if is_plain a then sequence final n u else
+    Misfit
+
+-- what a sequence says
+abbrev pub with_sequence : ℕ → ℕ → (List ℕ → Outcome) → Table
+with_sequence final n k u = record { fit = sequence final n u; outcome = k u }
+
+-- the same, or the beginning of it
 unfoldable pub begins_sequence : ℕ → ℕ → List ℕ → Bool
-begins_sequence final n [] = true
-begins_sequence final zero (a ∷ u) = if is_plain a then is_empty u else false
-begins_sequence final (suc n) (a ∷ u) =
-    if is_between final 0x7F a then is_empty u else
-    if is_plain a then begins_sequence final n u else
-    false
+begins_sequence final n u = is_fit (sequence final n u)
 
--- a whole sequence: its last byte is the final one, or one too many
+-- a whole sequence
 unfoldable pub is_sequence : ℕ → ℕ → List ℕ → Bool
-is_sequence final n [] = false
-is_sequence final zero (a ∷ u) = if is_plain a then is_empty u else false
-is_sequence final (suc n) (a ∷ u) =
-    if is_between final 0x7F a then is_empty u else
-    if is_plain a then is_sequence final n u else
-    false
+is_sequence final n u = is_whole (sequence final n u)
 
 -- optional parts in their order: each byte is of a later part than the one before. A part is the list of its bytes
-unfoldable pub are_options : List (List ℕ) → List ℕ → Bool
-are_options parts [] = true
-are_options [] (a ∷ u) = false
-are_options (p ∷ parts) (a ∷ u) = if contains p a then are_options parts u else are_options parts (a ∷ u)
-
--- a part is left after these optional parts
-unfoldable pub are_options_left : List (List ℕ) → List ℕ → Bool
-are_options_left [] u = false
-are_options_left (p ∷ parts) [] = true
-are_options_left (p ∷ parts) (a ∷ u) =
-    if contains p a then are_options_left parts u else are_options_left parts (a ∷ u)
+abbrev pub optional : List (List ℕ) → List ℕ → Fit
+optional [] u = end u
+optional (p ∷ parts) [] = Longer
+optional (p ∷ parts) (a ∷ u) = if contains p a then optional parts u else optional parts (a ∷ u)
 
 -- what optional parts say together
-abbrev pub with_options : List (List ℕ) → List ℕ → Outcome → Option Outcome
-with_options parts u o = if are_options parts u then Some o else None
+abbrev pub with_options : List (List ℕ) → (List ℕ → Outcome) → Table
+with_options parts k u = record { fit = optional parts u; outcome = k u }

@@ -19,14 +19,14 @@ unfoldable pub csi_2 : ℕ → ℕ → Said
 csi_2 p f =
     if is_between 0x30 0x33 p && f == 0x40 then Says (command.Table (p - 0x30)) else  -- CT1 to CT4
     if is_between 0x30 0x36 p && f == 0x41 then Says (command.FlashMode (p - 0x30)) else  -- IVF, RIF, FF1 to 3, ICF, DCF
-    if p == 0x30 && f == 0x60 then Says command.ScrollUp else  -- SCU
-    if p == 0x31 && f == 0x60 then Says command.ScrollDown else  -- SCD
-    if p == 0x32 && f == 0x60 then Says (command.Implicit true) else  -- AIS
-    if p == 0x33 && f == 0x60 then Says (command.Implicit false) else  -- DIS
     if p == 0x31 && f == 0x50 then Says (command.Protect true) else  -- PMS
     if p == 0x31 && f == 0x51 then Says (command.Protect false) else  -- PMC
     if p == 0x32 && f == 0x53 then Says (command.Marked true) else  -- MMS
     if p == 0x32 && f == 0x54 then Says (command.Marked false) else  -- MMT
+    if p == 0x30 && f == 0x60 then Says command.ScrollUp else  -- SCU
+    if p == 0x31 && f == 0x60 then Says command.ScrollDown else  -- SCD
+    if p == 0x32 && f == 0x60 then Says (command.Implicit true) else  -- AIS
+    if p == 0x33 && f == 0x60 then Says (command.Implicit false) else  -- DIS
     Refused UnknownCsi
 
 -- CSI n 3/11 m f: the scrolling area of rows n to m is created (5/5) or deleted (5/6)

@@ -21,9 +21,9 @@ escape_1 f =
     if is_c1_final f then Says (command.C1 (f - 0x40)) else  -- C1 codes
     if f == 0x6E then Says (command.LockLeft 2) else  -- LS2
     if f == 0x6F then Says (command.LockLeft 3) else  -- LS3
-    if f == 0x7E then Says (command.LockRight 1) else  -- LS1R
-    if f == 0x7D then Says (command.LockRight 2) else  -- LS2R
     if f == 0x7C then Says (command.LockRight 3) else  -- LS3R
+    if f == 0x7D then Says (command.LockRight 2) else  -- LS2R
+    if f == 0x7E then Says (command.LockRight 1) else  -- LS1R
     Refused UnknownEscape
 
 -- 1B i f, i 2/8 to 2/11: a set is designated to G0 to G3. The finals are own

@@ -1,17 +1,19 @@
 -- Units that begin with a plain byte, by the mode: signs, colours, patterns, and bytes that are passed over (the modes
 -- are this profile's own).
-use Rattle.std.specs.Prelude.{ℕ, ◌+◌, ◌*◌, ◌/◌, ◌%◌, ◌^◌, Bool, false, ◌&&◌, List, if◌then◌else◌, nat_lt, nat_le}
-use Rattle.std.specs.Prelude.{[], ◌∷◌, Option, Some, None}
+use Rattle.std.specs.Prelude.{ℕ, ◌+◌, ◌*◌, ◌/◌, ◌%◌, ◌^◌, Bool, ◌&&◌, List, if◌then◌else◌, nat_lt, nat_le, [], ◌∷◌}
 use Rattle.cept_codes.specs.declared.command.Command.TheVariants as command
 use Rattle.cept_codes.specs.declared.item.Reason.TheVariants.{BadParameter}
 use Rattle.cept_codes.specs.declared.item.Said.TheVariants.{Command as Says, Refused}
+use Rattle.cept_codes.specs.declared.command.Form.{Form}
 use Rattle.cept_codes.specs.declared.look.Rgb.{Rgb}
-use Rattle.cept_drcs.specs.Unit.{is_pattern, pattern, pattern_grows as unit_grows}
+use Rattle.cept_drcs.specs.Unit.{is_pattern, pattern, pattern_grows}
 use Rattle.cept_parser.specs.declared.context.Mode.{Mode}
 use Rattle.cept_parser.specs.declared.context.Mode.TheVariants.{Text, TableRun, DclutRun, DrcsRun, Skip}
 use Rattle.cept_parser.specs.declared.context.Context.{Context}
 use Rattle.cept_parser.specs.declared.context.Outcome.{Outcome}
-use Rattle.cept_parser.specs.Bytes.{is_empty, outcome, whole_outcome, begins_plain, with_plain}
+use Rattle.cept_parser.specs.declared.fit.Fit.{Fit}
+use Rattle.cept_parser.specs.declared.fit.Fit.TheVariants.{Misfit, Whole, Longer}
+use Rattle.cept_parser.specs.Bytes.{outcome, Table, complete, one_plain}
 
 -- a plain byte that can't begin or continue the unit of its run
 abbrev pub misplacement : Context → Outcome
@@ -36,10 +38,10 @@ unfoldable pub colour : ℕ → ℕ → Rgb
 colour a b = record { r = colour_part 2 a b; g = colour_part 1 a b; b = colour_part 0 a b }
 
 -- TableRun: the second byte of an entry
-unfoldable pub table_entry : Context → ℕ → ℕ → ℕ → Outcome
-table_entry x i a b =
+unfoldable pub table_entry : Context → ℕ → ℕ → Table
+table_entry x i a = one_plain x (λ b.
     if has_six_bits b then outcome x (TableRun (i + 1)) (Says (command.Entry i (colour a b))) else
-    misplacement x
+    misplacement x)
 
 -- DclutRun: the five low bits of a byte
 unfoldable pub dclut_value : Context → ℕ → ℕ → Outcome
@@ -55,42 +57,26 @@ starts_pattern x c a = nat_lt c 0x7F && is_pattern x.form (a ∷ [])
 abbrev pub pattern_outcome : Context → ℕ → List ℕ → Outcome
 pattern_outcome x c u = outcome x (DrcsRun (c + 1)) (Says (command.DrcsPattern c (pattern x.form u)))
 
+-- a pattern: each beginning of it is one itself
+abbrev pub pattern_fit : Form → List ℕ → Fit
+pattern_fit f u = if is_pattern f u then (if pattern_grows f u then Longer else Whole) else Misfit
+
+-- what such a pattern says, after its first byte
+abbrev pub with_pattern : Context → ℕ → ℕ → Table
+with_pattern x c a u = record { fit = pattern_fit x.form (a ∷ u); outcome = pattern_outcome x c (a ∷ u) }
+
 -- patterns for a code
-unfoldable pub pattern_unit : Context → ℕ → ℕ → List ℕ → Option Outcome
+unfoldable pub pattern_unit : Context → ℕ → ℕ → Table
 pattern_unit x c a u =
-    if starts_pattern x c a then
-    (if is_pattern x.form (a ∷ u) then Some (pattern_outcome x c (a ∷ u)) else None) else
-    whole_outcome u (misplacement x)
-
--- these bytes are the beginning of a pattern's unit: each is one itself
-unfoldable pub begins_pattern : Context → ℕ → ℕ → List ℕ → Bool
-begins_pattern x c a u = if starts_pattern x c a then is_pattern x.form (a ∷ u) else is_empty u
-
--- a further byte may belong to it
-unfoldable pub pattern_grows : Context → ℕ → ℕ → List ℕ → Bool
-pattern_grows x c a u = if starts_pattern x c a then unit_grows x.form (a ∷ u) else false
+    if starts_pattern x c a then with_pattern x c a u else
+    complete (misplacement x) u
 
 -- the unit of a mode that begins with this plain byte
-abbrev pub run_unit : Mode → Context → ℕ → List ℕ → Option Outcome
-run_unit Text x a u = whole_outcome u (outcome x Text (Says (command.Graphic a)))
-run_unit Skip x a u = whole_outcome u (outcome x Skip (Says command.Skipped))
+abbrev pub run_unit : Mode → Context → ℕ → Table
+run_unit Text x a u = complete (outcome x Text (Says (command.Graphic a))) u
+run_unit Skip x a u = complete (outcome x Skip (Says command.Skipped)) u
 run_unit (TableRun i) x a u =
-    if nat_lt i 32 && has_six_bits a then with_plain (table_entry x i a) u else whole_outcome u (misplacement x)
-run_unit (DclutRun i) x a u = whole_outcome u (dclut_value x i a)
+    if nat_lt i 32 && has_six_bits a then table_entry x i a u else
+    complete (misplacement x) u
+run_unit (DclutRun i) x a u = complete (dclut_value x i a) u
 run_unit (DrcsRun c) x a u = pattern_unit x c a u
-
--- the same, or the beginning of it
-unfoldable pub begins_run : Mode → Context → ℕ → List ℕ → Bool
-begins_run Text x a u = is_empty u
-begins_run Skip x a u = is_empty u
-begins_run (TableRun i) x a u = if nat_lt i 32 && has_six_bits a then begins_plain u else is_empty u
-begins_run (DclutRun i) x a u = is_empty u
-begins_run (DrcsRun c) x a u = begins_pattern x c a u
-
--- a further byte fits after a whole unit of a mode
-abbrev pub run_grows : Mode → Context → ℕ → List ℕ → Bool
-run_grows Text x a u = false
-run_grows Skip x a u = false
-run_grows (TableRun i) x a u = false
-run_grows (DclutRun i) x a u = false
-run_grows (DrcsRun c) x a u = pattern_grows x c a u

@@ -1,7 +1,6 @@
 -- Units that begin with US (1F): the position, downloaded characters (DRCS), colours, the format and the service (the
 -- position is of ETS 300 072 and T/CD 6-1; the other units with their bytes, defaults and modes are this profile's own).
-use Rattle.std.specs.Prelude.{ℕ, ◌-◌, Bool, true, false, not, ◌&&◌, ◌||◌, List, [], ◌∷◌, if◌then◌else◌, ◌==◌, nat_le}
-use Rattle.std.specs.Prelude.{Option, None}
+use Rattle.std.specs.Prelude.{ℕ, ◌-◌, Bool, not, ◌&&◌, ◌||◌, List, [], ◌∷◌, if◌then◌else◌, ◌==◌, nat_le}
 use Rattle.cept_codes.specs.declared.command.C1Set.TheVariants.{Serial, Parallel}
 use Rattle.cept_codes.specs.declared.command.Command.TheVariants as command
 use Rattle.cept_codes.specs.declared.command.Form.{Form}
@@ -14,15 +13,14 @@ use Rattle.cept_parser.specs.declared.context.ColourKind.TheVariants.{ColourTabl
 use Rattle.cept_parser.specs.declared.context.Context.{Context}
 use Rattle.cept_parser.specs.declared.context.Outcome.{Outcome}
 use Rattle.cept_parser.specs.Context.{start_context}
-use Rattle.cept_parser.specs.Bytes.{is_between, is_plain, is_digit, two_digits, is_row, is_column, is_empty, contains}
-use Rattle.cept_parser.specs.Bytes.{outcome, whole_outcome, begins_plain, with_plain, are_options, are_options_left}
-use Rattle.cept_parser.specs.Bytes.{with_options}
+use Rattle.cept_parser.specs.Bytes.{is_between, is_digit, two_digits, is_row, is_column, contains}
+use Rattle.cept_parser.specs.Bytes.{outcome, is_longer, Table, complete, then_plain, one_plain, with_options}
 
 -- 1F r c, r 4/0 to 7/15: a position
-unfoldable pub us_position : Context → ℕ → ℕ → Outcome
-us_position x r c =
+unfoldable pub us_position : Context → ℕ → Table
+us_position x r = one_plain x (λ c.
     if is_row r && is_column c then outcome x Text (Says (command.Position (r - 0x40) (c - 0x40))) else
-    outcome x Text (Refused BadParameter)
+    outcome x Text (Refused BadParameter))
 
 -- the optional parts of 1F 23 20: deletion, the form of one byte, size, planes
 abbrev pub drcs_parts : List (List ℕ)
@@ -64,22 +62,11 @@ drcs_header x u =
     }
 
 -- 1F 23: downloaded characters
-unfoldable pub drcs_unit : Context → List ℕ → Option Outcome
-drcs_unit x [] = None
-drcs_unit x (c ∷ u) =
-    if c == 0x20 then with_options drcs_parts u (drcs_header x u) else
-    if is_between 0x21 0x7E c then whole_outcome u (outcome x (DrcsRun c) (Says (command.DrcsStart c))) else
-    if c == 0x7F then whole_outcome u (outcome x Skip (Refused BadParameter)) else
-    None
-
--- the same, or the beginning of it
-abbrev pub begins_drcs : List ℕ → Bool
-begins_drcs [] = true
-begins_drcs (c ∷ u) =
-    if c == 0x20 then are_options drcs_parts u else
-    if is_between 0x21 0x7E c then is_empty u else
-    if c == 0x7F then is_empty u else
-    false
+unfoldable pub drcs_unit : Context → Table
+drcs_unit x = then_plain x (λ c u.
+    if c == 0x20 then with_options drcs_parts (drcs_header x) u else
+    if is_between 0x21 0x7E c then complete (outcome x (DrcsRun c) (Says (command.DrcsStart c))) u else
+    complete (outcome x Skip (Refused BadParameter)) u)
 
 -- the optional parts of 1F 26 20: the kind, the form of the colours, and of one byte
 abbrev pub colour_parts : List (List ℕ)
@@ -110,30 +97,18 @@ colours_from x i =
     outcome x Skip (Refused BadParameter)
 
 -- 1F 26 t o, t a digit: the place of two digits
-unfoldable pub colour_start : Context → ℕ → ℕ → Outcome
-colour_start x t o =
+unfoldable pub colour_start : Context → ℕ → Table
+colour_start x t = one_plain x (λ o.
     if is_digit o then colours_from x (two_digits t o) else
-    outcome x Skip (Refused BadParameter)
+    outcome x Skip (Refused BadParameter))
 
 -- 1F 26: colours
-unfoldable pub colour_unit : Context → List ℕ → Option Outcome
-colour_unit x [] = None
-colour_unit x (a ∷ u) =
-    if a == 0x20 then with_options colour_parts u (colour_header x u) else
-    if a == 0x21 then whole_outcome u (outcome x Skip (Says command.ColourDefaults)) else
-    if is_digit a then with_plain (colour_start x a) u else
-    if is_plain a then whole_outcome u (outcome x Skip (Refused BadParameter)) else
-    None
-
--- the same, or the beginning of it
-abbrev pub begins_colour : List ℕ → Bool
-begins_colour [] = true
-begins_colour (a ∷ u) =
-    if a == 0x20 then are_options colour_parts u else
-    if a == 0x21 then is_empty u else
-    if is_digit a then begins_plain u else
-    if is_plain a then is_empty u else
-    false
+unfoldable pub colour_unit : Context → Table
+colour_unit x = then_plain x (λ a u.
+    if a == 0x20 then with_options colour_parts (colour_header x) u else
+    if a == 0x21 then complete (outcome x Skip (Says command.ColourDefaults)) u else
+    if is_digit a then colour_start x a u else
+    complete (outcome x Skip (Refused BadParameter)) u)
 
 -- the optional parts of 1F 2D: the rows, and whether positions wrap
 abbrev pub format_parts : List (List ℕ)
@@ -145,73 +120,39 @@ format x u =
     outcome x Text (Says (command.Format (if contains u 0x42 then 20 else 24) (not (contains u 0x71))))
 
 -- 1F 2F 40 r: the service is broken at a row
-unfoldable pub service_break : Context → ℕ → Outcome
-service_break x r =
+unfoldable pub service_break : Context → Table
+service_break x = one_plain x (λ r.
     if is_row r then outcome x Text (Says (command.ServiceBreak (r - 0x40))) else
-    outcome x Skip (Refused BadParameter)
+    outcome x Skip (Refused BadParameter))
 
 -- 1F 2F a: the other service units. Full defaults bring back the first context
 unfoldable pub service : Context → ℕ → Outcome
 service x a =
-    if a == 0x4F then outcome x Text (Says command.ServiceEnd) else
     if a == 0x41 then outcome start_context Text (Says (command.FullDefaults Serial)) else
     if a == 0x42 then outcome start_context Text (Says (command.FullDefaults Parallel)) else
     if a == 0x43 then outcome x Text (Says (command.ControlDefaults Serial)) else
     if a == 0x44 then outcome x Text (Says (command.ControlDefaults Parallel)) else
     if a == 0x45 then outcome x Text (Says (command.Revision 2)) else
     if a == 0x46 then outcome x Text (Says (command.Revision 1)) else
+    if a == 0x4F then outcome x Text (Says command.ServiceEnd) else
     outcome x Skip (Refused BadParameter)
 
 -- 1F 2F: the service
-unfoldable pub service_unit : Context → List ℕ → Option Outcome
-service_unit x [] = None
-service_unit x (a ∷ u) =
-    if a == 0x40 then with_plain (service_break x) u else
-    if is_plain a then whole_outcome u (service x a) else
-    None
-
--- the same, or the beginning of it
-unfoldable pub begins_service : List ℕ → Bool
-begins_service [] = true
-begins_service (a ∷ u) =
-    if a == 0x40 then begins_plain u else
-    if is_plain a then is_empty u else
-    false
+unfoldable pub service_unit : Context → Table
+service_unit x = then_plain x (λ a u.
+    if a == 0x40 then service_break x u else
+    complete (service x a) u)
 
 -- the units after 1F
-unfoldable pub us_unit : Context → List ℕ → Option Outcome
-us_unit x [] = None
-us_unit x (a ∷ u) =
-    if a == 0x23 then drcs_unit x u else
-    if a == 0x26 then colour_unit x u else
-    if a == 0x2D then with_options format_parts u (format x u) else
-    if a == 0x2F then service_unit x u else
-    if is_between 0x20 0x3F a then whole_outcome u (outcome x Skip (Refused UnknownUnit)) else
-    if is_plain a then with_plain (us_position x a) u else
-    None
-
--- the same, or the beginning of it
-unfoldable pub begins_us : List ℕ → Bool
-begins_us [] = true
-begins_us (a ∷ u) =
-    if a == 0x23 then begins_drcs u else
-    if a == 0x26 then begins_colour u else
-    if a == 0x2D then are_options format_parts u else
-    if a == 0x2F then begins_service u else
-    if is_between 0x20 0x3F a then is_empty u else
-    if is_plain a then begins_plain u else
-    false
-
--- a further byte fits after a whole header
-abbrev pub header_grows : List (List ℕ) → List ℕ → Bool
-header_grows parts [] = false
-header_grows parts (a ∷ u) = if a == 0x20 then are_options_left parts u else false
+unfoldable pub us_unit : Context → Table
+us_unit x = then_plain x (λ a u.
+    if a == 0x23 then drcs_unit x u else  -- downloaded characters
+    if a == 0x26 then colour_unit x u else  -- colours
+    if a == 0x2D then with_options format_parts (format x) u else  -- format
+    if a == 0x2F then service_unit x u else  -- service
+    if is_between 0x20 0x3F a then complete (outcome x Skip (Refused UnknownUnit)) u else
+    us_position x a u)  -- APA
 
 -- a further byte fits after a whole unit, after 1F
 unfoldable pub us_grows : List ℕ → Bool
-us_grows [] = false
-us_grows (a ∷ u) =
-    if a == 0x23 then header_grows drcs_parts u else
-    if a == 0x26 then header_grows colour_parts u else
-    if a == 0x2D then are_options_left format_parts u else
-    false
+us_grows u = is_longer (us_unit start_context u).fit

@@ -1,8 +1,8 @@
 ghost use Rattle.std.specs.Prelude.{◌≡◌, ◌≢◌, ◌≤◌, ◌<◌, ◌∷◌, [], ◌++◌, length, true, false};
 ghost use Rattle.cept_codes.specs.Command.{IsValidForm};
-ghost use Rattle.cept_parser.specs.Grammar.{unit, fits, grows};
+ghost use Rattle.cept_parser.specs.Grammar.{standing, unit, fits};
 ghost use Rattle.cept_parser.specs.Items.{reading_at};
-ghost use Rattle.cept_parser.specs.Fit.{fit, said_by, context_by, is_closed};
+ghost use Rattle.cept_parser.specs.Fit.{word, answer};
 ghost use Rattle.cept_parser.specs.Waits.{in_pattern, outcome_at_misfit, cut_item};
 
 use crate::context::{Context, Mode};
@@ -37,16 +37,10 @@ fn fit_item(context: &mut Context, bytes: &[u8], ended: bool, at: u64, item: &mu
     requires form { IsValidForm context.old.form }
     requires other { in_pattern context.old bytes.now ≡ true
         → (length bytes.now ≡ 1) × (ended ≡ false) }
-    ensures fit { result ≡ fit context.old bytes.now }
-    ensures item { item.new ≡ record {
-      at = at;
-      len = length bytes.now;
-      what = said_by (unit context.old bytes.now) (is_closed (grows context.old bytes.now) ended)
-          item.old.what;
-    } }
-    ensures context { context.new
-        ≡ context_by (unit context.old bytes.now) (is_closed (grows context.old bytes.now) ended)
-        context.old }
+    ensures place { item.new.at ≡ at }
+    ensures length { item.new.len ≡ length bytes.now }
+    ensures answer { record { fit = result; said = item.new.what; context = context.new }
+        ≡ answer (standing context.old bytes.now) ended item.old.what context.old }
 {
     item.at = at;
     item.len = bytes.len() as u8;
@@ -120,11 +114,12 @@ impl Closed {
         requires few { length bytes.now ≤ 100 }
         requires form { IsValidForm context.old.form }
         requires other { in_pattern context.old bytes.now ≡ true → length bytes.now ≡ 1 }
-        ensures fit { result ≡ fit context.old bytes.now }
+        ensures fit { result ≡ word context.old bytes.now }
         ensures items { result ≢ Fit.Misfit
             → self.new ≡ self.old ++ (reading_at context.old at bytes.now).items }
         ensures context { result ≢ Fit.Misfit
             → context.new ≡ (reading_at context.old at bytes.now).context }
+        ensures misfit { result ≡ Fit.Misfit → fits context.old bytes.now ≡ false }
         ensures kept { result ≡ Fit.Misfit
             → (self.new ≡ self.old) × (context.new ≡ context.old) }
     {

@@ -23,14 +23,14 @@ fn csi_2(first: u8, last: u8) -> Said
     match (first, last) {
         (0x30..=0x33, 0x40) => Said::Command(Command::Table(first - 0x30)), // CT1 to CT4
         (0x30..=0x36, 0x41) => Said::Command(Command::FlashMode(first - 0x30)), // IVF, RIF, FF1 to FF3, ICF, DCF
-        (0x30, 0x60) => Said::Command(Command::ScrollUp), // SCU
-        (0x31, 0x60) => Said::Command(Command::ScrollDown), // SCD
-        (0x32, 0x60) => Said::Command(Command::Implicit(true)), // AIS
-        (0x33, 0x60) => Said::Command(Command::Implicit(false)), // DIS
         (0x31, 0x50) => Said::Command(Command::Protect(true)), // PMS
         (0x31, 0x51) => Said::Command(Command::Protect(false)), // PMC
         (0x32, 0x53) => Said::Command(Command::Marked(true)), // MMS
         (0x32, 0x54) => Said::Command(Command::Marked(false)), // MMT
+        (0x30, 0x60) => Said::Command(Command::ScrollUp), // SCU
+        (0x31, 0x60) => Said::Command(Command::ScrollDown), // SCD
+        (0x32, 0x60) => Said::Command(Command::Implicit(true)), // AIS
+        (0x33, 0x60) => Said::Command(Command::Implicit(false)), // DIS
         _ => Said::Refused(Reason::UnknownCsi),
     }
 }

@@ -21,9 +21,9 @@ fn escape_1(last: u8) -> Said
         _ if is_c1_final(last) => Said::Command(Command::C1(last - 0x40)), // C1 codes
         0x6E => Said::Command(Command::LockLeft(2)), // LS2
         0x6F => Said::Command(Command::LockLeft(3)), // LS3
-        0x7E => Said::Command(Command::LockRight(1)), // LS1R
-        0x7D => Said::Command(Command::LockRight(2)), // LS2R
         0x7C => Said::Command(Command::LockRight(3)), // LS3R
+        0x7D => Said::Command(Command::LockRight(2)), // LS2R
+        0x7E => Said::Command(Command::LockRight(1)), // LS1R
         _ => Said::Refused(Reason::UnknownEscape),
     }
 }

@@ -25,7 +25,7 @@ pub struct Reader {
 
 impl Reader {
     /// Reads the byte at this place after those that are pending right before it, if there are any.
-    // Nearly all bytes of a pattern carry pixels: these are read in place.
+    // Most units are one byte, and nearly all bytes of a pattern carry pixels: these are read in place.
     #[inline(always)]
     pub fn read(&mut self, place: u64, byte: u8, closed: &mut Closed)
         requires waits { IsWaiting self.old place }
@@ -37,13 +37,13 @@ impl Reader {
         ensures left { HasLeft (reading_at self.old.context (place - length self.old.bytes)
             (self.old.bytes ++ byte ∷ [])) self.new }
     {
-        if self.loading {
+        if self.bytes.is_empty() {
+            self.begin(place, byte, closed);
+        } else if self.loading {
             match byte {
                 0x40..=0x7F => self.load(place, byte, closed),
                 _ => self.load_other(place, byte, closed),
             }
-        } else if self.bytes.is_empty() {
-            self.begin(place, byte, closed);
         } else {
             let at = self.start(place);
             self.go_on(at, byte, closed);

@@ -1,14 +1,11 @@
 ghost use Rattle.std.specs.Prelude.{◌≡◌, ◌≢◌, ◌≤◌, ◌<◌, ◌+◌, [], length, Bool, true, false};
 ghost use Rattle.cept_codes.specs.Command.{IsValidForm};
-ghost use Rattle.cept_parser.specs.Fit.{fit_by, said_by, context_by, is_closed};
+ghost use Rattle.cept_parser.specs.Fit.{answer};
 ghost use Rattle.cept_parser.specs.Runs.{misplacement, has_six_bits, bit, colour_part, colour};
-ghost use Rattle.cept_parser.specs.Runs.{table_entry, starts_pattern};
-ghost use Rattle.cept_parser.specs.Waits.{begins_in};
-ghost use Rattle.cept_parser.specs.Runs.{dclut_value, pattern_unit, begins_pattern, pattern_grows};
+ghost use Rattle.cept_parser.specs.Runs.{table_entry, dclut_value, starts_pattern, pattern_unit};
 ghost use Rattle.cept_parser.specs.Runs.{run_unit};
-ghost use Rattle.cept_parser.specs.Runs.{begins_run, run_grows};
+ghost use Rattle.cept_parser.specs.Waits.{begins_in};
 
-use crate::bytes::is_plain;
 use crate::context::{Context, Mode};
 use crate::fit::Fit;
 use cept_codes::{Command, Reason, Rgb, Said};
@@ -56,21 +53,6 @@ fn colour(first: u8, second: u8) -> Rgb
     }
 }
 
-/// The second byte of a colour entry.
-#[tactic(auto, unfolding(crate::specs::Runs::table_entry))]
-fn table_entry(context: &mut Context, place: u8, first: u8, second: u8, said: &mut Said)
-    requires { place < 32 }
-    ensures { record { said = said.new; next = context.new }
-        ≡ table_entry context.old place first second }
-{
-    if has_six_bits(second) {
-        *said = Said::Command(Command::Entry(place, colour(first, second)));
-        context.mode = Mode::TableRun(place + 1);
-    } else {
-        misplacement(context, said)
-    }
-}
-
 /// A value of the DCLUT.
 #[tactic(auto, unfolding(crate::specs::Runs::dclut_value))]
 #[inline(never)]
@@ -87,15 +69,9 @@ fn dclut_value(context: &mut Context, place: u8, byte: u8, said: &mut Said)
 
 /// How a plain byte stands to a run of colours for the table with which a unit begins.
 #[inline(never)]
-#[tactic(auto, unfolding(crate::specs::Runs::begins_run))]
 fn first_of_table(context: &mut Context, place: u8, byte: u8, said: &mut Said) -> Fit
-    ensures fit { result
-        ≡ fit_by (begins_run (Mode.TableRun place) context.old byte []) false
-        (run_unit (Mode.TableRun place) context.old byte []) }
-    ensures said { said.new
-        ≡ said_by (run_unit (Mode.TableRun place) context.old byte []) true said.old }
-    ensures context { context.new
-        ≡ context_by (run_unit (Mode.TableRun place) context.old byte []) true context.old }
+    ensures { record { fit = result; said = said.new; context = context.new }
+        ≡ answer (run_unit (Mode.TableRun place) context.old byte []) false said.old context.old }
 {
     if place < 32 && has_six_bits(byte) {
         Fit::Open
@@ -117,19 +93,11 @@ fn starts_pattern(context: &Context, code: u8, byte: u8) -> bool
 /// How a plain byte stands to a run of patterns with which a unit begins: one that begins a pattern
 /// is a pattern by itself, and more bytes fit.
 #[inline(never)]
-#[tactic(auto, unfolding(crate::specs::Runs::pattern_unit, crate::specs::Runs::begins_pattern, crate::specs::Runs::pattern_grows))]
+#[tactic(auto, unfolding(crate::specs::Runs::pattern_unit))]
 fn first_of_pattern(context: &mut Context, code: u8, byte: u8, said: &mut Said) -> Fit
     requires { IsValidForm context.old.form }
-    ensures fit { result
-        ≡ fit_by (begins_pattern context.old code byte [])
-        (pattern_grows context.old code byte [])
-        (pattern_unit context.old code byte []) }
-    ensures said { said.new
-        ≡ said_by (pattern_unit context.old code byte [])
-        (is_closed (pattern_grows context.old code byte []) false) said.old }
-    ensures context { context.new
-        ≡ context_by (pattern_unit context.old code byte [])
-        (is_closed (pattern_grows context.old code byte []) false) context.old }
+    ensures { record { fit = result; said = said.new; context = context.new }
+        ≡ answer (pattern_unit context.old code byte []) false said.old context.old }
 {
     if starts_pattern(context, code, byte) {
         Fit::Longer
@@ -141,20 +109,11 @@ fn first_of_pattern(context: &mut Context, code: u8, byte: u8, said: &mut Said) 
 
 /// How a plain byte that is no sign stands to the mode with which a unit begins.
 #[inline(never)]
-#[tactic(auto, unfolding(crate::specs::Runs::begins_run))]
 fn first_of_units(context: &mut Context, byte: u8, said: &mut Said) -> Fit
     requires form { IsValidForm context.old.form }
     requires other { context.old.mode ≢ Mode.Text }
-    ensures fit { result
-        ≡ fit_by (begins_run context.old.mode context.old byte [])
-        (run_grows context.old.mode context.old byte [])
-        (run_unit context.old.mode context.old byte []) }
-    ensures said { said.new
-        ≡ said_by (run_unit context.old.mode context.old byte [])
-        (is_closed (run_grows context.old.mode context.old byte []) false) said.old }
-    ensures context { context.new
-        ≡ context_by (run_unit context.old.mode context.old byte [])
-        (is_closed (run_grows context.old.mode context.old byte []) false) context.old }
+    ensures { record { fit = result; said = said.new; context = context.new }
+        ≡ answer (run_unit context.old.mode context.old byte []) false said.old context.old }
 {
     match context.mode {
         Mode::Text => Fit::Misfit,
@@ -173,19 +132,10 @@ fn first_of_units(context: &mut Context, byte: u8, said: &mut Said) -> Fit
 
 /// How a plain byte stands to the mode with which a unit begins.
 #[inline(always)]
-#[tactic(auto, unfolding(crate::specs::Runs::begins_run))]
 pub fn first_of_run(context: &mut Context, byte: u8, said: &mut Said) -> Fit
     requires { IsValidForm context.old.form }
-    ensures fit { result
-        ≡ fit_by (begins_run context.old.mode context.old byte [])
-        (run_grows context.old.mode context.old byte [])
-        (run_unit context.old.mode context.old byte []) }
-    ensures said { said.new
-        ≡ said_by (run_unit context.old.mode context.old byte [])
-        (is_closed (run_grows context.old.mode context.old byte []) false) said.old }
-    ensures context { context.new
-        ≡ context_by (run_unit context.old.mode context.old byte [])
-        (is_closed (run_grows context.old.mode context.old byte []) false) context.old }
+    ensures { record { fit = result; said = said.new; context = context.new }
+        ≡ answer (run_unit context.old.mode context.old byte []) false said.old context.old }
 {
     match context.mode {
         Mode::Text => {
@@ -196,44 +146,51 @@ pub fn first_of_run(context: &mut Context, byte: u8, said: &mut Said) -> Fit
     }
 }
 
-/// How a plain byte and those after it stand to a run of colours for the table.
-#[tactic(auto, unfolding(crate::specs::Runs::begins_run))]
-fn table_run(context: &mut Context, place: u8, byte: u8, rest: &[u8], said: &mut Said) -> Fit
-    requires { 1 ≤ length rest.now }
-    ensures fit { result
-        ≡ fit_by (begins_run (Mode.TableRun place) context.old byte rest.now) false
-        (run_unit (Mode.TableRun place) context.old byte rest.now) }
-    ensures said { said.new
-        ≡ said_by (run_unit (Mode.TableRun place) context.old byte rest.now) true said.old }
-    ensures context { context.new
-        ≡ context_by (run_unit (Mode.TableRun place) context.old byte rest.now) true context.old }
+/// The second byte of a colour entry.
+#[tactic(auto, unfolding(crate::specs::Runs::table_entry))]
+fn table_entry(context: &mut Context, place: u8, first: u8, rest: &[u8], said: &mut Said) -> Fit
+    requires { place < 32 }
+    ensures { (ended : Bool) → record { fit = result; said = said.new; context = context.new }
+        ≡ answer (table_entry context.old place first rest.now) ended said.old context.old }
 {
     match rest {
-        [second] if place < 32 && has_six_bits(byte) && is_plain(*second) => {
-            table_entry(context, place, byte, *second, said);
+        [] => Fit::Open,
+        [second @ 0x20..=0x7F] => {
+            if has_six_bits(*second) {
+                *said = Said::Command(Command::Entry(place, colour(first, *second)));
+                context.mode = Mode::TableRun(place + 1);
+            } else {
+                misplacement(context, said);
+            }
             Fit::Whole
         }
         _ => Fit::Misfit,
     }
 }
 
+/// How a plain byte and those after it stand to a run of colours for the table.
+fn table_run(context: &mut Context, place: u8, byte: u8, rest: &[u8], said: &mut Said) -> Fit
+    requires { 1 ≤ length rest.now }
+    ensures { (ended : Bool) → record { fit = result; said = said.new; context = context.new }
+        ≡ answer (run_unit (Mode.TableRun place) context.old byte rest.now) ended
+        said.old context.old }
+{
+    if place < 32 && has_six_bits(byte) {
+        table_entry(context, place, byte, rest, said)
+    } else {
+        Fit::Misfit
+    }
+}
+
 /// How a plain byte and those after it stand to the mode. A pattern begins with none of them, and no
 /// other run can grow, so that what is said is the same whether more bytes may come or not.
-#[tactic(auto, unfolding(crate::specs::Runs::begins_run, crate::specs::Runs::pattern_unit, crate::specs::Runs::begins_pattern, crate::specs::Runs::pattern_grows))]
+#[tactic(auto, unfolding(crate::specs::Runs::pattern_unit))]
 #[inline(never)]
 pub fn run(context: &mut Context, byte: u8, rest: &[u8], said: &mut Said) -> Fit
     requires rest { 1 ≤ length rest.now }
     requires other { begins_in context.old.mode context.old byte ≡ false }
-    ensures fit { result
-        ≡ fit_by (begins_run context.old.mode context.old byte rest.now)
-        (run_grows context.old.mode context.old byte rest.now)
-        (run_unit context.old.mode context.old byte rest.now) }
-    ensures said { (ended : Bool) → said.new
-        ≡ said_by (run_unit context.old.mode context.old byte rest.now)
-        (is_closed (run_grows context.old.mode context.old byte rest.now) ended) said.old }
-    ensures context { (ended : Bool) → context.new
-        ≡ context_by (run_unit context.old.mode context.old byte rest.now)
-        (is_closed (run_grows context.old.mode context.old byte rest.now) ended) context.old }
+    ensures { (ended : Bool) → record { fit = result; said = said.new; context = context.new }
+        ≡ answer (run_unit context.old.mode context.old byte rest.now) ended said.old context.old }
 {
     match context.mode {
         Mode::TableRun(place) => table_run(context, place, byte, rest, said),

@@ -1,20 +1,14 @@
-ghost use Rattle.std.specs.Prelude.{◌≡◌, ◌≤◌, ◌<◌, ◌∷◌, [], true, false, Option, Some, None};
-ghost use Rattle.std.specs.Prelude.{if◌then◌else◌};
-ghost use Rattle.cept_parser.specs.Bytes.{is_digit, is_empty, contains};
-ghost use Rattle.cept_parser.specs.Bytes.{are_options};
-ghost use Rattle.cept_parser.specs.Bytes.{are_options_left, with_options};
+ghost use Rattle.std.specs.Prelude.{◌≡◌, ◌≤◌, ◌<◌, ◌∷◌, [], Bool, true, false, if◌then◌else◌};
+ghost use Rattle.cept_parser.specs.Bytes.{is_digit, contains, outcome, complete, optional};
+ghost use Rattle.cept_parser.specs.Bytes.{with_options};
 ghost use Rattle.cept_parser.specs.Context.{start_context};
-ghost use Rattle.cept_parser.specs.declared.context.Outcome.{Outcome};
-ghost use Rattle.cept_parser.specs.Fit.{fit_by, said_by, context_by, is_closed, bytes_after};
+ghost use Rattle.cept_parser.specs.Fit.{answer, bytes_after};
 ghost use Rattle.cept_parser.specs.Units.{us_position, drcs_parts, drcs_width, drcs_height};
-ghost use Rattle.cept_parser.specs.Units.{drcs_planes, drcs_form, drcs_header};
-ghost use Rattle.cept_parser.specs.Units.{drcs_unit, begins_drcs, colour_parts, colour_header};
-ghost use Rattle.cept_parser.specs.Units.{last_place, run_from};
-ghost use Rattle.cept_parser.specs.Units.{colours_from, colour_start, colour_unit, begins_colour};
-ghost use Rattle.cept_parser.specs.Units.{format_parts, format};
-ghost use Rattle.cept_parser.specs.Units.{service_break, service, service_unit, begins_service};
-ghost use Rattle.cept_parser.specs.Units.{us_unit, begins_us};
-ghost use Rattle.cept_parser.specs.Units.{header_grows, us_grows};
+ghost use Rattle.cept_parser.specs.Units.{drcs_planes, drcs_form, drcs_header, drcs_unit};
+ghost use Rattle.cept_parser.specs.Units.{colour_parts, colour_header, last_place, run_from};
+ghost use Rattle.cept_parser.specs.Units.{colours_from, colour_start, colour_unit};
+ghost use Rattle.cept_parser.specs.Units.{format_parts, format, service_break, service};
+ghost use Rattle.cept_parser.specs.Units.{service_unit, us_unit};
 
 use crate::bytes::{is_column, is_digit, is_row, two_digits};
 use crate::context::{ColourKind, Context, Mode};
@@ -33,9 +27,7 @@ fn bytes_after<'a>(part: &[u8], bytes: &'a [u8]) -> &'a [u8]
 
 /// How bytes stand to the grammar before which the last optional part is left.
 fn last_part(part: &[u8], bytes: &[u8]) -> Fit
-    ensures { (o : Outcome) → result
-        ≡ fit_by (is_empty (bytes_after part.now bytes.now)) (is_empty bytes.now)
-        (if is_empty (bytes_after part.now bytes.now) then Some o else None) }
+    ensures { result ≡ optional (part.now ∷ []) bytes.now }
 {
     if bytes.is_empty() {
         Fit::Longer
@@ -43,6 +35,21 @@ fn last_part(part: &[u8], bytes: &[u8]) -> Fit
         Fit::Whole
     } else {
         Fit::Misfit
+    }
+}
+
+/// A unit that is complete and says this, if no bytes come after it.
+fn complete(context: &mut Context, mode: Mode, what: Said, rest: &[u8], said: &mut Said) -> Fit
+    ensures { (ended : Bool) → record { fit = result; said = said.new; context = context.new }
+        ≡ answer (complete (outcome context.old mode what) rest.now) ended said.old context.old }
+{
+    match rest {
+        [] => {
+            *said = what;
+            context.mode = mode;
+            Fit::Whole
+        }
+        _ => Fit::Misfit,
     }
 }
 
@@ -103,23 +110,23 @@ fn drcs_form(bytes: &[u8]) -> Form
     }
 }
 
-/// The header of downloaded characters: what stands after 1F 23 20.
-#[tactic(auto, unfolding(crate::specs::Units::drcs_header))]
-fn drcs_parts(context: &mut Context, bytes: &[u8], ended: bool, said: &mut Said) -> Fit
-    ensures fit { result
-        ≡ fit_by (are_options drcs_parts bytes.now) (are_options_left drcs_parts bytes.now)
-        (with_options drcs_parts bytes.now (drcs_header context.old bytes.now)) }
-    ensures said { said.new
-        ≡ said_by (with_options drcs_parts bytes.now (drcs_header context.old bytes.now))
-        (is_closed (are_options_left drcs_parts bytes.now) ended) said.old }
-    ensures context { context.new
-        ≡ context_by (with_options drcs_parts bytes.now (drcs_header context.old bytes.now))
-        (is_closed (are_options_left drcs_parts bytes.now) ended) context.old }
+/// How the optional parts of a header of downloaded characters stand to the grammar.
+fn drcs_options(bytes: &[u8]) -> Fit
+    ensures { result ≡ optional drcs_parts bytes.now }
 {
     let rest = bytes_after(&[0x20, 0x28], bytes);
     let rest = bytes_after(&[0x40], rest);
     let rest = bytes_after(&[0x36, 0x37, 0x3A, 0x3B, 0x3C, 0x3F], rest);
-    let fit = last_part(&[0x41, 0x42, 0x44], rest);
+    last_part(&[0x41, 0x42, 0x44], rest)
+}
+
+/// The header of downloaded characters: what stands after 1F 23 20.
+#[tactic(auto, unfolding(crate::specs::Units::drcs_header))]
+fn drcs_parts(context: &mut Context, bytes: &[u8], ended: bool, said: &mut Said) -> Fit
+    ensures { record { fit = result; said = said.new; context = context.new }
+        ≡ answer (with_options drcs_parts (drcs_header context.old) bytes.now) ended said.old context.old }
+{
+    let fit = drcs_options(bytes);
     if fit.is_closed(ended) {
         *said = Said::Command(Command::DrcsHeader(bytes.contains(&0x28), drcs_form(bytes)));
         context.mode = Mode::Skip;
@@ -132,30 +139,26 @@ fn drcs_parts(context: &mut Context, bytes: &[u8], ended: bool, said: &mut Said)
 #[tactic(auto, unfolding(crate::specs::Units::drcs_unit))]
 #[inline(never)]
 fn drcs(context: &mut Context, bytes: &[u8], ended: bool, said: &mut Said) -> Fit
-    ensures fit { result
-        ≡ fit_by (begins_drcs bytes.now) (header_grows drcs_parts bytes.now)
-        (drcs_unit context.old bytes.now) }
-    ensures said { said.new
-        ≡ said_by (drcs_unit context.old bytes.now)
-        (is_closed (header_grows drcs_parts bytes.now) ended) said.old }
-    ensures context { context.new
-        ≡ context_by (drcs_unit context.old bytes.now)
-        (is_closed (header_grows drcs_parts bytes.now) ended) context.old }
+    ensures { record { fit = result; said = said.new; context = context.new }
+        ≡ answer (drcs_unit context.old bytes.now) ended said.old context.old }
 {
     match bytes {
         [] => Fit::Open,
-        [0x20, parts @ ..] => drcs_parts(context, parts, ended, said),
-        [code @ 0x21..=0x7E] => {
-            *said = Said::Command(Command::DrcsStart(*code));
-            context.mode = Mode::DrcsRun(*code);
-            Fit::Whole
-        }
-        [0x7F] => {
-            *said = Said::Refused(Reason::BadParameter);
-            context.mode = Mode::Skip;
-            Fit::Whole
-        }
-        _ => Fit::Misfit,
+        [byte, rest @ ..] => match *byte {
+            0x20 => drcs_parts(context, rest, ended, said),
+            0x21..=0x7E => {
+                let start = Said::Command(Command::DrcsStart(*byte));
+                complete(context, Mode::DrcsRun(*byte), start, rest, said)
+            }
+            0x7F => complete(
+                context,
+                Mode::Skip,
+                Said::Refused(Reason::BadParameter),
+                rest,
+                said,
+            ),
+            _ => Fit::Misfit,
+        },
     }
 }
 
@@ -173,15 +176,8 @@ fn kind_of(dclut: bool) -> ColourKind
 /// The header of colours: what stands after 1F 26 20.
 #[tactic(auto, unfolding(crate::specs::Units::colour_header))]
 fn colour_parts(context: &mut Context, bytes: &[u8], ended: bool, said: &mut Said) -> Fit
-    ensures fit { result
-        ≡ fit_by (are_options colour_parts bytes.now) (are_options_left colour_parts bytes.now)
-        (with_options colour_parts bytes.now (colour_header context.old bytes.now)) }
-    ensures said { said.new
-        ≡ said_by (with_options colour_parts bytes.now (colour_header context.old bytes.now))
-        (is_closed (are_options_left colour_parts bytes.now) ended) said.old }
-    ensures context { context.new
-        ≡ context_by (with_options colour_parts bytes.now (colour_header context.old bytes.now))
-        (is_closed (are_options_left colour_parts bytes.now) ended) context.old }
+    ensures { record { fit = result; said = said.new; context = context.new }
+        ≡ answer (with_options colour_parts (colour_header context.old) bytes.now) ended said.old context.old }
 {
     let rest = bytes_after(&[0x20, 0x22], bytes);
     let rest = bytes_after(&[0x34], rest);
@@ -228,17 +224,25 @@ fn colours_from(context: &mut Context, place: u8, said: &mut Said)
     }
 }
 
-/// Colours begin at a place of two digits.
+/// Colours from a place on: what stands after 1F 26 and a digit.
 #[tactic(auto, unfolding(crate::specs::Units::colour_start))]
-fn colour_start(context: &mut Context, tens: u8, ones: u8, said: &mut Said)
+fn colour_place(context: &mut Context, tens: u8, bytes: &[u8], said: &mut Said) -> Fit
     requires { is_digit tens ≡ true }
-    ensures { record { said = said.new; next = context.new } ≡ colour_start context.old tens ones }
+    ensures { (ended : Bool) → record { fit = result; said = said.new; context = context.new }
+        ≡ answer (colour_start context.old tens bytes.now) ended said.old context.old }
 {
-    if is_digit(ones) {
-        colours_from(context, two_digits(tens, ones), said)
-    } else {
-        *said = Said::Refused(Reason::BadParameter);
-        context.mode = Mode::Skip;
+    match bytes {
+        [] => Fit::Open,
+        [ones @ 0x20..=0x7F] => {
+            if is_digit(*ones) {
+                colours_from(context, two_digits(tens, *ones), said);
+            } else {
+                *said = Said::Refused(Reason::BadParameter);
+                context.mode = Mode::Skip;
+            }
+            Fit::Whole
+        }
+        _ => Fit::Misfit,
     }
 }
 
@@ -246,35 +250,30 @@ fn colour_start(context: &mut Context, tens: u8, ones: u8, said: &mut Said)
 #[tactic(auto, unfolding(crate::specs::Units::colour_unit))]
 #[inline(never)]
 fn colours(context: &mut Context, bytes: &[u8], ended: bool, said: &mut Said) -> Fit
-    ensures fit { result
-        ≡ fit_by (begins_colour bytes.now) (header_grows colour_parts bytes.now)
-        (colour_unit context.old bytes.now) }
-    ensures said { said.new
-        ≡ said_by (colour_unit context.old bytes.now)
-        (is_closed (header_grows colour_parts bytes.now) ended) said.old }
-    ensures context { context.new
-        ≡ context_by (colour_unit context.old bytes.now)
-        (is_closed (header_grows colour_parts bytes.now) ended) context.old }
+    ensures { record { fit = result; said = said.new; context = context.new }
+        ≡ answer (colour_unit context.old bytes.now) ended said.old context.old }
 {
     match bytes {
         [] => Fit::Open,
-        [0x20, parts @ ..] => colour_parts(context, parts, ended, said),
-        [0x21] => {
-            *said = Said::Command(Command::ColourDefaults);
-            context.mode = Mode::Skip;
-            Fit::Whole
-        }
-        [0x30..=0x39] => Fit::Open,
-        [tens @ 0x30..=0x39, ones @ 0x20..=0x7F] => {
-            colour_start(context, *tens, *ones, said);
-            Fit::Whole
-        }
-        [0x20..=0x7F] => {
-            *said = Said::Refused(Reason::BadParameter);
-            context.mode = Mode::Skip;
-            Fit::Whole
-        }
-        _ => Fit::Misfit,
+        [byte, rest @ ..] => match *byte {
+            0x20 => colour_parts(context, rest, ended, said),
+            0x21 => complete(
+                context,
+                Mode::Skip,
+                Said::Command(Command::ColourDefaults),
+                rest,
+                said,
+            ),
+            0x30..=0x39 => colour_place(context, *byte, rest, said),
+            0x20..=0x7F => complete(
+                context,
+                Mode::Skip,
+                Said::Refused(Reason::BadParameter),
+                rest,
+                said,
+            ),
+            _ => Fit::Misfit,
+        },
     }
 }
 
@@ -289,15 +288,8 @@ fn format_rows(bytes: &[u8]) -> u8
 #[tactic(auto, unfolding(crate::specs::Units::format))]
 #[inline(never)]
 fn format_parts(context: &mut Context, bytes: &[u8], ended: bool, said: &mut Said) -> Fit
-    ensures fit { result
-        ≡ fit_by (are_options format_parts bytes.now) (are_options_left format_parts bytes.now)
-        (with_options format_parts bytes.now (format context.old bytes.now)) }
-    ensures said { said.new
-        ≡ said_by (with_options format_parts bytes.now (format context.old bytes.now))
-        (is_closed (are_options_left format_parts bytes.now) ended) said.old }
-    ensures context { context.new
-        ≡ context_by (with_options format_parts bytes.now (format context.old bytes.now))
-        (is_closed (are_options_left format_parts bytes.now) ended) context.old }
+    ensures { record { fit = result; said = said.new; context = context.new }
+        ≡ answer (with_options format_parts (format context.old) bytes.now) ended said.old context.old }
 {
     let rest = bytes_after(&[0x41, 0x42], bytes);
     let fit = last_part(&[0x70, 0x71], rest);
@@ -308,17 +300,25 @@ fn format_parts(context: &mut Context, bytes: &[u8], ended: bool, said: &mut Sai
     fit
 }
 
-/// The service is broken at a row.
+/// The service is broken: what stands after 1F 2F 40.
 #[tactic(auto, unfolding(crate::specs::Units::service_break))]
-fn service_break(context: &mut Context, row: u8, said: &mut Said)
-    ensures { record { said = said.new; next = context.new } ≡ service_break context.old row }
+fn service_break(context: &mut Context, bytes: &[u8], said: &mut Said) -> Fit
+    ensures { (ended : Bool) → record { fit = result; said = said.new; context = context.new }
+        ≡ answer (service_break context.old bytes.now) ended said.old context.old }
 {
-    if is_row(row) {
-        *said = Said::Command(Command::ServiceBreak(row - 0x40));
-        context.mode = Mode::Text;
-    } else {
-        *said = Said::Refused(Reason::BadParameter);
-        context.mode = Mode::Skip;
+    match bytes {
+        [] => Fit::Open,
+        [row @ 0x20..=0x7F] => {
+            if is_row(*row) {
+                *said = Said::Command(Command::ServiceBreak(*row - 0x40));
+                context.mode = Mode::Text;
+            } else {
+                *said = Said::Refused(Reason::BadParameter);
+                context.mode = Mode::Skip;
+            }
+            Fit::Whole
+        }
+        _ => Fit::Misfit,
     }
 }
 
@@ -329,7 +329,6 @@ fn other_service(context: &mut Context, byte: u8, said: &mut Said)
 {
     context.mode = Mode::Text;
     match byte {
-        0x4F => *said = Said::Command(Command::ServiceEnd),
         0x41 => {
             *said = Said::Command(Command::FullDefaults(C1Set::Serial));
             *context = Context::start();
@@ -342,6 +341,7 @@ fn other_service(context: &mut Context, byte: u8, said: &mut Said)
         0x44 => *said = Said::Command(Command::ControlDefaults(C1Set::Parallel)),
         0x45 => *said = Said::Command(Command::Revision(2)),
         0x46 => *said = Said::Command(Command::Revision(1)),
+        0x4F => *said = Said::Command(Command::ServiceEnd),
         _ => {
             *said = Said::Refused(Reason::BadParameter);
             context.mode = Mode::Skip;
@@ -350,72 +350,69 @@ fn other_service(context: &mut Context, byte: u8, said: &mut Said)
 }
 
 /// The service: what stands after 1F 2F.
-#[tactic(auto, unfolding(crate::specs::Units::service_unit, crate::specs::Units::begins_service))]
+#[tactic(auto, unfolding(crate::specs::Units::service_unit))]
 #[inline(never)]
 fn service(context: &mut Context, bytes: &[u8], said: &mut Said) -> Fit
-    ensures fit { result
-        ≡ fit_by (begins_service bytes.now) false (service_unit context.old bytes.now) }
-    ensures said { said.new
-        ≡ said_by (service_unit context.old bytes.now) true said.old }
-    ensures context { context.new
-        ≡ context_by (service_unit context.old bytes.now) true context.old }
+    ensures { (ended : Bool) → record { fit = result; said = said.new; context = context.new }
+        ≡ answer (service_unit context.old bytes.now) ended said.old context.old }
 {
     match bytes {
         [] => Fit::Open,
-        [0x40] => Fit::Open,
-        [0x40, row @ 0x20..=0x7F] => {
-            service_break(context, *row, said);
-            Fit::Whole
-        }
-        [byte @ 0x20..=0x7F] => {
-            other_service(context, *byte, said);
+        [byte, rest @ ..] => match *byte {
+            0x40 => service_break(context, rest, said),
+            0x20..=0x7F if rest.is_empty() => {
+                other_service(context, *byte, said);
+                Fit::Whole
+            }
+            _ => Fit::Misfit,
+        },
+    }
+}
+
+/// APA: what stands after 1F and the byte of a row.
+#[tactic(auto, unfolding(crate::specs::Units::us_position))]
+fn position(context: &mut Context, row: u8, bytes: &[u8], said: &mut Said) -> Fit
+    ensures { (ended : Bool) → record { fit = result; said = said.new; context = context.new }
+        ≡ answer (us_position context.old row bytes.now) ended said.old context.old }
+{
+    match bytes {
+        [] => Fit::Open,
+        [column @ 0x20..=0x7F] => {
+            if is_row(row) && is_column(*column) {
+                *said = Said::Command(Command::Position(row - 0x40, *column - 0x40));
+            } else {
+                *said = Said::Refused(Reason::BadParameter);
+            }
+            context.mode = Mode::Text;
             Fit::Whole
         }
         _ => Fit::Misfit,
     }
-}
-
-/// A position.
-#[tactic(auto, unfolding(crate::specs::Units::us_position))]
-fn us_position(context: &mut Context, row: u8, column: u8, said: &mut Said)
-    ensures { record { said = said.new; next = context.new } ≡ us_position context.old row column }
-{
-    if is_row(row) && is_column(column) {
-        *said = Said::Command(Command::Position(row - 0x40, column - 0x40));
-    } else {
-        *said = Said::Refused(Reason::BadParameter);
-    }
-    context.mode = Mode::Text;
 }
 
 /// US: what stands after 1F.
-#[tactic(auto, unfolding(crate::specs::Units::us_unit, crate::specs::Units::begins_us, crate::specs::Units::us_grows))]
+#[tactic(auto, unfolding(crate::specs::Units::us_unit))]
 #[inline(never)]
 pub fn us(context: &mut Context, bytes: &[u8], ended: bool, said: &mut Said) -> Fit
-    ensures fit { result
-        ≡ fit_by (begins_us bytes.now) (us_grows bytes.now) (us_unit context.old bytes.now) }
-    ensures said { said.new
-        ≡ said_by (us_unit context.old bytes.now) (is_closed (us_grows bytes.now) ended) said.old }
-    ensures context { context.new
-        ≡ context_by (us_unit context.old bytes.now)
-        (is_closed (us_grows bytes.now) ended) context.old }
+    ensures { record { fit = result; said = said.new; context = context.new }
+        ≡ answer (us_unit context.old bytes.now) ended said.old context.old }
 {
     match bytes {
         [] => Fit::Open,
-        [0x23, rest @ ..] => drcs(context, rest, ended, said),
-        [0x26, rest @ ..] => colours(context, rest, ended, said),
-        [0x2D, parts @ ..] => format_parts(context, parts, ended, said),
-        [0x2F, rest @ ..] => service(context, rest, said),
-        [0x20..=0x3F] => {
-            *said = Said::Refused(Reason::UnknownUnit);
-            context.mode = Mode::Skip;
-            Fit::Whole
-        }
-        [0x40..=0x7F] => Fit::Open,
-        [row @ 0x40..=0x7F, column @ 0x20..=0x7F] => {
-            us_position(context, *row, *column, said);
-            Fit::Whole
-        }
-        _ => Fit::Misfit,
+        [byte, rest @ ..] => match *byte {
+            0x23 => drcs(context, rest, ended, said),
+            0x26 => colours(context, rest, ended, said),
+            0x2D => format_parts(context, rest, ended, said),
+            0x2F => service(context, rest, said),
+            0x20..=0x3F => complete(
+                context,
+                Mode::Skip,
+                Said::Refused(Reason::UnknownUnit),
+                rest,
+                said,
+            ),
+            0x40..=0x7F => position(context, *byte, rest, said), // APA
+            _ => Fit::Misfit,
+        },
     }
 }

@@ -1,4 +1,5 @@
-use Rattle.cept_parser.proofs.BeginningLemmas.{fits_beginning, beginning_fits, grows_continued, continued_grows}
+use Rattle.cept_parser.proofs.BeginningLemmas.{fits_beginning, beginning_fits, continued_grows}
+use Rattle.cept_parser.proofs.GrammarLemmas.{grows_continued}
 use Rattle.cept_parser.proofs.laws.beginnings.Goals as goal
 
 pub returns : goal.returns

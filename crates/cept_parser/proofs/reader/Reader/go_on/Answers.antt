@@ -1,7 +1,7 @@
 use Rattle.std.proofs.Common.{◌≡◌, ℕ, List, false, ap, arith, ◌∙◌}
 use Rattle.std.proofs.lemmas.Bool.{both_ways}
 use Rattle.cept_parser.specs.Items.{reading_at}
-use Rattle.cept_parser.specs.Fit.{fit}
+use Rattle.cept_parser.specs.Fit.{word}
 use Rattle.cept_parser.specs.Waits.{in_pattern}
 use Rattle.cept_parser.proofs.OneByteMoreLemmas.{whole_left, longer_left, open_left}
 use Rattle.cept_parser.proofs.PatternLemmas.{pattern_more}
@@ -29,34 +29,34 @@ returns-in-Whole-clause-left c =
     record {
       context = c.in-Whole.ensures.context whole_fit
           ∙ ap (λ (u : List ℕ). (reading_at c.args.self.now.context c.args.at u).context) all;
-      pending = c.clear.ensures ∙ whole_left _ c.args.at _ (c.in-Whole.ensures.fit ∙ ap (fit c.args.self.now.context) all);
+      pending = c.clear.ensures ∙ whole_left _ c.args.at _ (c.in-Whole.ensures.fit ∙ ap (word c.args.self.now.context) all);
       beside = nothing_beside _ _ _ _ c.clear.ensures c.requires.free;
     }
 
 pub returns-in-Open-clause-left : goal.returns-in-Open-clause-left
 returns-in-Open-clause-left c =
     let all = c.as_slice.ensures.value ∙ c.push.ensures in
-    let word = c.in-Open.ensures.fit ∙ ap (fit c.args.self.now.context) all in
+    let told = c.in-Open.ensures.fit ∙ ap (word c.args.self.now.context) all in
     let context = c.in-Open.ensures.context open_fit
     ∙ ap (λ (u : List ℕ). (reading_at c.args.self.now.context c.args.at u).context) all in
     record {
       context = context;
-      pending = c.push.ensures ∙ open_left _ c.args.at _ word;
+      pending = c.push.ensures ∙ open_left _ c.args.at _ told;
       beside = more_beside c.args.self.now.context _ c.args.self.now.bytes c.args.byte _ _ _ _
-          c.requires.waits.beside c.requires.free c.requires.some (context ∙ open_context _ c.args.at _ word)
+          c.requires.waits.beside c.requires.free c.requires.some (context ∙ open_context _ c.args.at _ told)
           c.push.ensures;
     }
 
 pub returns-in-Longer-clause-left : goal.returns-in-Longer-clause-left
 returns-in-Longer-clause-left c =
     let all = c.as_slice.ensures.value ∙ c.push.ensures in
-    let word = c.in-Longer.ensures.fit ∙ ap (fit c.args.self.now.context) all in
+    let told = c.in-Longer.ensures.fit ∙ ap (word c.args.self.now.context) all in
     let context = c.in-Longer.ensures.context longer_fit
     ∙ ap (λ (u : List ℕ). (reading_at c.args.self.now.context c.args.at u).context) all in
     record {
       context = context;
-      pending = c.push.ensures ∙ longer_left _ c.args.at _ word;
+      pending = c.push.ensures ∙ longer_left _ c.args.at _ told;
       beside = more_beside c.args.self.now.context _ c.args.self.now.bytes c.args.byte _ _ _ _
-          c.requires.waits.beside c.requires.free c.requires.some (context ∙ longer_context _ c.args.at _ word)
+          c.requires.waits.beside c.requires.free c.requires.some (context ∙ longer_context _ c.args.at _ told)
           c.push.ensures;
     }

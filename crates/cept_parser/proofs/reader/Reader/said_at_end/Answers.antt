@@ -1,8 +1,9 @@
 use Rattle.std.proofs.Common.{ℕ, List, ap, ◌∙◌}
 use Rattle.std.proofs.lemmas.Bool.{both_ways}
+use Rattle.cept_parser.specs.Fit.{Answer}
 use Rattle.cept_parser.specs.Grammar.{unit}
 use Rattle.cept_parser.specs.Items.{said_at_end}
-use Rattle.cept_parser.proofs.OneByteMoreLemmas.{end_says}
+use Rattle.cept_parser.proofs.OneByteMoreLemmas.{end_answer}
 use Rattle.cept_parser.proofs.ReaderLemmas.{beside_free, loaded, loaded_end}
 use Rattle.cept_parser.proofs.reader.Reader.said_at_end.Goals as goal
 
@@ -12,7 +13,7 @@ fit_of-requires-clause-other c h =
 
 pub returns : goal.returns
 returns c =
-    c.fit_of.ensures.said ∙ end_says _ _
+    ap (λ (a : Answer). a.said) c.fit_of.ensures ∙ end_answer _ _
     ∙ ap (λ (u : List ℕ). said_at_end (unit c.args.self.now.context u)) c.as_slice.ensures.value
 
 pub returns-then-self : goal.returns-then-self
