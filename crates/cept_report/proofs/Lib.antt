@@ -1,6 +1,7 @@
 pub mod Digits
 pub mod TextsInPieces
 pub mod LinesPut
+pub mod TextsGathered
 pub mod ScreenLines
 pub mod PhaseLines
 pub mod Worked

@@ -48,7 +48,7 @@ Gains-part s t u whole done line rest is gs part =
     }
 
 -- the lines up to the first marked place after a bound
-lines-next : (marks : List Bool) (g : List (List Look)) (label from : ℕ) (p : Place) → IsFirstFrom marks from p
+pub lines-next : (marks : List Bool) (g : List (List Look)) (label from : ℕ) (p : Place) → IsFirstFrom marks from p
     → change_lines label (marked_looks_below marks g (number p.row p.column + 1)) ≡ change_lines label
     (marked_looks_below marks g from) ++ change_line label p (look_at g p)
 lines-next marks g label from p first =
@@ -68,7 +68,7 @@ Gains-next s t u marks g label from p line first is before now =
     ∙ sym (lines-next marks g label from p first)) (Gains-append s t u _ line before now)
 
 -- the text of all marked places goes on after the next one
-text-goes_on : (marks : List Bool) (g : List (List Look)) (label from : ℕ) (p : Place) → IsFirstFrom marks from p
+pub text-goes_on : (marks : List Bool) (g : List (List Look)) (label from : ℕ) (p : Place) → IsFirstFrom marks from p
     → (rest : List ℕ) × (change_lines label (marked_looks marks g) ≡ (change_lines label
     (marked_looks_below marks g from) ++ change_line label p (look_at g p)) ++ rest)
 text-goes_on marks g label from p first =
@@ -95,14 +95,19 @@ Gains-failed s t u marks g label from p line first is before part =
     (more.1 ∙ ap (λ l. (change_lines label (marked_looks_below marks g from) ++ l) ++ more.0) (sym is)) before part
 
 -- no further place is marked
+pub below-all : (marks : List Bool) (g : List (List Look)) (from : ℕ) → from ≤ 960
+    → ((n : ℕ) → from ≤ n → is_marked marks n ≡ false)
+    → marked_looks_below marks g from ≡ marked_looks marks g
+below-all marks g from within none =
+    sym (sym (marked_looks_below-whole marks g) ∙ marked_looks_below-unmarked marks g from 960 within
+    (λ k low _. none k low))
+
 pub Gains-all : (s t : SinkState) (marks : List Bool) (g : List (List Look)) (label from : ℕ) → from ≤ 960
     → ((n : ℕ) → from ≤ n → is_marked marks n ≡ false)
     → Gains s (change_lines label (marked_looks_below marks g from)) t
     → Gains s (change_lines label (marked_looks marks g)) t
 Gains-all s t marks g label from within none before =
-    subst (λ (xs : List (Place × Look)). Gains s (change_lines label xs) t)
-    (sym (sym (marked_looks_below-whole marks g) ∙ marked_looks_below-unmarked marks g from 960 within
-    (λ k low _. none k low))) before
+    subst (λ (xs : List (Place × Look)). Gains s (change_lines label xs) t) (below-all marks g from within none) before
 
 -- before the first place nothing is listed
 pub Gains-none : (s : SinkState) (marks : List Bool) (g : List (List Look)) (label : ℕ)

@@ -2,3 +2,5 @@ pub mod Ascii
 pub mod Screen
 pub mod Text
 pub mod Phases
+pub mod Front
+pub mod Gathered

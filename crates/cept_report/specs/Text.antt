@@ -105,6 +105,10 @@ signs_text l =
     flash_letter l.flash ∷ flag_letter (ascii "c") l.conceal ∷ flag_letter (ascii "l") l.lined
     ∷ flag_letter (ascii "b") l.boxed ∷ []
 
+-- the fields after the shape: part, foreground, background, and the four signs
+abbrev pub fields_text : Look → List ℕ
+fields_text l = join_with_byte (ascii " ") (part_text l ∷ paint_text l.fore ∷ paint_text l.back ∷ signs_text l ∷ [])
+
 -- five fields: shape, part, foreground, background, and the four signs
 abbrev pub look_text : Look → List ℕ
 look_text l = join_with_byte (ascii " ")

@@ -5,11 +5,13 @@ ghost use Rattle.cept_report.specs.Text.{hex_digit, hex_byte, hex_word};
 use arrayvec::ArrayVec;
 use itoa::Buffer;
 
-/// The room of a line. The longest has 249 bytes: a change line of twenty digits, a place of two and
-/// two, and a pattern with nine words and sixteen inks.
-pub const ROOM: usize = 256;
+/// The room of a line, or of several that are gathered. The longest line has 249 bytes, a change
+/// line of twenty digits, a place of two and two, and a pattern with nine words and sixteen inks: one
+/// with a pattern is put in two parts.
+// So much is made ready without a call.
+pub const ROOM: usize = 248;
 
-/// A line while it is made.
+/// A line while it is made, or several.
 pub type Line = ArrayVec<u8, ROOM>;
 
 /// The hexadecimal digits, in upper case.
@@ -19,7 +21,7 @@ const HEX_DIGITS: [u8; 16] = [
 
 /// Adds one byte.
 pub fn add_byte(line: &mut Line, byte: u8)
-    requires { array_vec_len line.old < 256 }
+    requires { array_vec_len line.old < 248 }
     ensures text { line.new.items ≡ line.old.items ++ byte ∷ [] }
     ensures len { array_vec_len line.new ≡ array_vec_len line.old + 1 }
 {
@@ -28,7 +30,7 @@ pub fn add_byte(line: &mut Line, byte: u8)
 
 /// Adds a text.
 pub fn add_text(line: &mut Line, text: &[u8])
-    requires { array_vec_len line.old + length text.now ≤ 256 }
+    requires { array_vec_len line.old + length text.now ≤ 248 }
     ensures text { line.new.items ≡ line.old.items ++ text.now }
     ensures len { array_vec_len line.new ≡ array_vec_len line.old + length text.now }
 {
@@ -37,7 +39,7 @@ pub fn add_text(line: &mut Line, text: &[u8])
 
 /// Adds a number in decimal digits.
 pub fn add_number(line: &mut Line, number: u64)
-    requires { array_vec_len line.old + 20 ≤ 256 }
+    requires { array_vec_len line.old + 20 ≤ 248 }
     ensures text { line.new.items ≡ line.old.items ++ decimal number }
     ensures len { array_vec_len line.new ≤ array_vec_len line.old + 20 }
 {
@@ -49,7 +51,7 @@ pub fn add_number(line: &mut Line, number: u64)
 #[tactic(auto, using(crate::proofs::Digits::decimal_digits))]
 pub fn add_small(line: &mut Line, number: u8)
     requires small { number < 100 }
-    requires room { array_vec_len line.old + 2 ≤ 256 }
+    requires room { array_vec_len line.old + 2 ≤ 248 }
     ensures text { line.new.items ≡ line.old.items ++ decimal number }
     ensures len { array_vec_len line.new ≤ array_vec_len line.old + 2 }
     ensures digit { number < 10 → array_vec_len line.new ≤ array_vec_len line.old + 1 }
@@ -72,7 +74,7 @@ pub fn hex_digit(number: u8) -> u8
 
 /// Adds a byte as two hexadecimal digits.
 pub fn add_hex_byte(line: &mut Line, byte: u8)
-    requires { array_vec_len line.old + 2 ≤ 256 }
+    requires { array_vec_len line.old + 2 ≤ 248 }
     ensures text { line.new.items ≡ line.old.items ++ hex_byte byte }
     ensures len { array_vec_len line.new ≡ array_vec_len line.old + 2 }
 {
@@ -82,7 +84,7 @@ pub fn add_hex_byte(line: &mut Line, byte: u8)
 
 /// Adds a word as sixteen hexadecimal digits.
 pub fn add_hex_word(line: &mut Line, word: u64)
-    requires { array_vec_len line.old + 16 ≤ 256 }
+    requires { array_vec_len line.old + 16 ≤ 248 }
     ensures text { line.new.items ≡ line.old.items ++ hex_word word }
     ensures len { array_vec_len line.new ≡ array_vec_len line.old + 16 }
 {

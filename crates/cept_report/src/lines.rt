@@ -1,9 +1,10 @@
 ghost use Rattle.std.specs.Prelude.{◌≡◌, ◌+◌, ◌≤◌, ◌<◌, ◌∷◌, [], ◌++◌, length, decimal};
 ghost use Rattle.arrayvec.specs.ArrayVec.{array_vec_len};
 ghost use Rattle.cept_codes.specs.Look.{IsValidLook};
-ghost use Rattle.cept_report.specs.Screen.{cell_line, cell_text};
+ghost use Rattle.cept_report.specs.Front.{front_text, place_text};
+ghost use Rattle.cept_report.specs.Screen.{cell_text};
 ghost use Rattle.cept_report.specs.Ascii.{ascii};
-ghost use Rattle.cept_report.specs.Text.{reason_number, reason_name, change_line, check_line};
+ghost use Rattle.cept_report.specs.Text.{reason_number, reason_name, check_line};
 ghost use Rattle.cept_report.specs.Text.{refusal_line, nothing_line, script_fault_line, load_line};
 ghost use Rattle.cept_report.specs.Text.{line_reason_number, line_reason_name};
 
@@ -11,31 +12,30 @@ use crate::line::{Line, add_byte, add_number, add_small, add_text};
 use crate::look::add_look;
 use cept_codes::{LineReason, Look, Pos, Reason};
 
-/// Adds the line of a changed place.
-pub fn add_change_line(line: &mut Line, label: u64, at: Pos, look: &Look)
-    requires empty { line.old.items ≡ [] }
-    requires valid { IsValidLook look.now }
-    ensures { line.new.items ≡ change_line label at look.now }
+/// Adds a label and a place, with a space after each number.
+#[inline(always)]
+pub fn add_front(line: &mut Line, label: &[u8], at: Pos)
+    requires label { length label.now ≤ 20 }
+    requires room { array_vec_len line.old + 27 ≤ 248 }
+    ensures text { line.new.items ≡ line.old.items ++ front_text label.now at }
+    ensures len { array_vec_len line.new ≤ array_vec_len line.old + 27 }
 {
-    add_number(line, label);
+    add_text(line, label);
     add_byte(line, b' ');
-    add_cell_line(line, at, look);
+    add_place(line, at);
 }
 
-/// Adds the line of a place.
-// In place, so that the length of the line is kept at hand.
+/// Adds a place: the row and the column, with a space after each.
 #[inline(always)]
-fn add_cell_line(line: &mut Line, at: Pos, look: &Look)
-    requires room { array_vec_len line.old + 228 ≤ 256 }
-    requires valid { IsValidLook look.now }
-    ensures { line.new.items ≡ line.old.items ++ cell_line at look.now }
+fn add_place(line: &mut Line, at: Pos)
+    requires { array_vec_len line.old + 6 ≤ 248 }
+    ensures text { line.new.items ≡ line.old.items ++ place_text at }
+    ensures len { array_vec_len line.new ≤ array_vec_len line.old + 6 }
 {
     add_small(line, at.row());
     add_byte(line, b' ');
     add_small(line, at.col());
     add_byte(line, b' ');
-    add_look(line, look);
-    add_byte(line, b'\n');
 }
 
 /// The line of a place, and nothing where its look is blank.
@@ -46,7 +46,8 @@ pub fn cell_text(at: Pos, look: &Look) -> Line
 {
     let mut line = Line::new();
     if *look != Look::BLANK {
-        add_cell_line(&mut line, at, look);
+        add_place(&mut line, at);
+        add_look(&mut line, look);
     }
     line
 }
@@ -81,7 +82,7 @@ fn number_of(reason: Reason) -> u8
 
 #[tactic(auto, unfolding(crate::specs::Text::reason_name))]
 fn add_name(line: &mut Line, reason: Reason)
-    requires { array_vec_len line.old + 17 ≤ 256 }
+    requires { array_vec_len line.old + 17 ≤ 248 }
     ensures text { line.new.items ≡ line.old.items ++ reason_name reason }
     ensures len { array_vec_len line.new ≤ array_vec_len line.old + 17 }
 {
@@ -97,7 +98,7 @@ fn add_name(line: &mut Line, reason: Reason)
 }
 
 fn add_reason(line: &mut Line, reason: Reason)
-    requires { array_vec_len line.old + 38 ≤ 256 }
+    requires { array_vec_len line.old + 38 ≤ 248 }
     ensures text { line.new.items ≡ line.old.items
         ++ (decimal (reason_number reason) ++ ascii " " ∷ reason_name reason) }
     ensures len { array_vec_len line.new ≤ array_vec_len line.old + 38 }
@@ -149,7 +150,7 @@ fn line_number_of(reason: LineReason) -> u8
 
 #[tactic(auto, unfolding(crate::specs::Text::line_reason_name))]
 fn add_line_name(line: &mut Line, reason: LineReason)
-    requires { array_vec_len line.old + 11 ≤ 256 }
+    requires { array_vec_len line.old + 11 ≤ 248 }
     ensures text { line.new.items ≡ line.old.items ++ line_reason_name reason }
     ensures len { array_vec_len line.new ≤ array_vec_len line.old + 11 }
 {

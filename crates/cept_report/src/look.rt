@@ -1,12 +1,13 @@
 ghost use Rattle.std.specs.Prelude.{◌≡◌, ◌+◌, ◌≤◌, ◌<◌, ◌∷◌, [], ◌++◌, length};
 ghost use Rattle.arrayvec.specs.ArrayVec.{array_vec_len};
 ghost use Rattle.cept_codes.specs.Look.{IsValidInks, IsValidLook, IsValidPattern, IsValidShape};
-ghost use Rattle.cept_report.specs.Text.{set_letter, accent_text, sign_text, shape_text, part_text};
-ghost use Rattle.cept_report.specs.Text.{flash_letter, flag_letter, signs_text, look_text};
+ghost use Rattle.cept_report.specs.Ascii.{ascii};
+ghost use Rattle.cept_report.specs.Text.{set_letter, accent_text, sign_text, shape_text};
+ghost use Rattle.cept_report.specs.Text.{flash_letter, flag_letter, fields_text, look_text};
 ghost use Rattle.cept_report.specs.Text.{ink_texts, pattern_text};
 
-use crate::line::{Line, add_byte, add_hex_byte};
-use crate::paint::add_paint;
+use crate::line::{Line, add_byte, add_hex_byte, add_text, hex_digit};
+use crate::paint::paint_signs;
 use crate::pattern::{add_inks, add_pattern};
 use cept_codes::{Flash, Glyph, Inks, Look, Pattern, SetId, Shape};
 
@@ -23,7 +24,7 @@ fn letter_of_set(set: SetId) -> u8
 }
 
 fn add_accent(line: &mut Line, accent: u8)
-    requires { array_vec_len line.old + 3 ≤ 256 }
+    requires { array_vec_len line.old + 3 ≤ 248 }
     ensures text { line.new.items ≡ line.old.items ++ accent_text accent }
     ensures len { array_vec_len line.new ≤ array_vec_len line.old + 3 }
 {
@@ -33,19 +34,21 @@ fn add_accent(line: &mut Line, accent: u8)
     }
 }
 
-fn add_sign(line: &mut Line, glyph: Glyph)
-    requires { array_vec_len line.old + 6 ≤ 256 }
+/// Adds a sign: the letter of its set, its code and its accent.
+#[inline(always)]
+pub fn add_sign(line: &mut Line, glyph: Glyph)
+    requires { array_vec_len line.old + 6 ≤ 248 }
     ensures text { line.new.items ≡ line.old.items ++ sign_text glyph }
     ensures len { array_vec_len line.new ≤ array_vec_len line.old + 6 }
 {
-    add_byte(line, letter_of_set(glyph.set));
-    add_hex_byte(line, glyph.code);
+    let (high, low) = (hex_digit(glyph.code / 16), hex_digit(glyph.code % 16));
+    add_text(line, &[letter_of_set(glyph.set), high, low]);
     add_accent(line, glyph.accent);
 }
 
 #[tactic(auto, unfolding(crate::specs::Text::shape_text))]
 fn add_shape(line: &mut Line, shape: &Shape)
-    requires room { array_vec_len line.old + 202 ≤ 256 }
+    requires room { array_vec_len line.old + 202 ≤ 248 }
     requires valid { IsValidShape shape.now }
     ensures text { line.new.items ≡ line.old.items ++ shape_text shape.now }
     ensures len { array_vec_len line.new ≤ array_vec_len line.old + 202 }
@@ -60,8 +63,8 @@ fn add_shape(line: &mut Line, shape: &Shape)
 /// Adds a pattern and its inks.
 // A call of its own: patterns are rare and large.
 #[inline(never)]
-fn add_drawing(line: &mut Line, pattern: &Pattern, inks: &Inks)
-    requires room { array_vec_len line.old + 202 ≤ 256 }
+pub fn add_drawing(line: &mut Line, pattern: &Pattern, inks: &Inks)
+    requires room { array_vec_len line.old + 202 ≤ 248 }
     requires pattern { IsValidPattern pattern.now }
     requires inks { IsValidInks inks.now pattern.now.planes }
     ensures text { line.new.items
@@ -70,22 +73,6 @@ fn add_drawing(line: &mut Line, pattern: &Pattern, inks: &Inks)
 {
     add_pattern(line, pattern);
     add_inks(line, pattern.planes, inks);
-}
-
-fn add_part(line: &mut Line, look: &Look)
-    requires room { array_vec_len line.old + 5 ≤ 256 }
-    requires valid { IsValidLook look.now }
-    ensures text { line.new.items ≡ line.old.items ++ part_text look.now }
-    ensures len { array_vec_len line.new ≡ array_vec_len line.old + 5 }
-{
-    // Read before the line is written to, which might be the same memory for all the compiler knows.
-    let (height, width) = (b'0' + look.h, b'0' + look.w);
-    let (down, right) = (b'0' + look.dy, b'0' + look.dx);
-    add_byte(line, height);
-    add_byte(line, width);
-    add_byte(line, b'.');
-    add_byte(line, down);
-    add_byte(line, right);
 }
 
 fn letter_of_flash(flash: Flash) -> u8
@@ -108,36 +95,53 @@ fn letter_of_flag(letter: u8, flag: bool) -> u8
     if flag { letter } else { b'-' }
 }
 
-fn add_signs(line: &mut Line, look: &Look)
-    requires { array_vec_len line.old + 4 ≤ 256 }
-    ensures text { line.new.items ≡ line.old.items ++ signs_text look.now }
-    ensures len { array_vec_len line.new ≡ array_vec_len line.old + 4 }
+/// Adds the fields after the shape, each after a space, and a line feed.
+// All at once, since none of them is of another size for another look.
+#[inline(always)]
+pub fn add_fields(line: &mut Line, look: &Look)
+    requires room { array_vec_len line.old + 20 ≤ 248 }
+    requires valid { IsValidLook look.now }
+    ensures text { line.new.items
+        ≡ line.old.items ++ (ascii " " ∷ fields_text look.now ++ ascii "\n" ∷ []) }
+    ensures len { array_vec_len line.new ≡ array_vec_len line.old + 20 }
 {
-    let flash = letter_of_flash(look.flash);
-    let conceal = letter_of_flag(b'c', look.conceal);
-    let lined = letter_of_flag(b'l', look.lined);
-    let boxed = letter_of_flag(b'b', look.boxed);
-    add_byte(line, flash);
-    add_byte(line, conceal);
-    add_byte(line, lined);
-    add_byte(line, boxed);
+    let fore = paint_signs(&look.fore);
+    let back = paint_signs(&look.back);
+    add_text(
+        line,
+        &[
+            b' ',
+            b'0' + look.h,
+            b'0' + look.w,
+            b'.',
+            b'0' + look.dy,
+            b'0' + look.dx,
+            b' ',
+            fore.0,
+            fore.1,
+            fore.2,
+            b' ',
+            back.0,
+            back.1,
+            back.2,
+            b' ',
+            letter_of_flash(look.flash),
+            letter_of_flag(b'c', look.conceal),
+            letter_of_flag(b'l', look.lined),
+            letter_of_flag(b'b', look.boxed),
+            b'\n',
+        ],
+    );
 }
 
-/// Adds the five fields of a look: at most 221 bytes, where a pattern has nine words and sixteen
-/// inks.
+/// Adds the five fields of a look, and a line feed: at most 222 bytes, where a pattern has nine words
+/// and sixteen inks.
 pub fn add_look(line: &mut Line, look: &Look)
-    requires room { array_vec_len line.old + 221 ≤ 256 }
+    requires room { array_vec_len line.old + 222 ≤ 248 }
     requires valid { IsValidLook look.now }
-    ensures text { line.new.items ≡ line.old.items ++ look_text look.now }
-    ensures len { array_vec_len line.new ≤ array_vec_len line.old + 221 }
+    ensures text { line.new.items ≡ line.old.items ++ (look_text look.now ++ ascii "\n" ∷ []) }
+    ensures len { array_vec_len line.new ≤ array_vec_len line.old + 222 }
 {
     add_shape(line, &look.shape);
-    add_byte(line, b' ');
-    add_part(line, look);
-    add_byte(line, b' ');
-    add_paint(line, &look.fore);
-    add_byte(line, b' ');
-    add_paint(line, &look.back);
-    add_byte(line, b' ');
-    add_signs(line, look);
+    add_fields(line, look);
 }

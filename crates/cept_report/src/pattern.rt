@@ -20,7 +20,7 @@ fn pixel_words(pattern: &Pattern) -> &[u64]
 
 /// Adds words one after the other.
 fn add_words(line: &mut Line, words: &[u64])
-    requires { array_vec_len line.old + 16 * length words.now ≤ 256 }
+    requires { array_vec_len line.old + 16 * length words.now ≤ 248 }
     ensures text { line.new.items ≡ line.old.items ++ flat_map hex_word words.now }
     ensures len { array_vec_len line.new ≡ array_vec_len line.old + 16 * length words.now }
 {
@@ -32,7 +32,7 @@ fn add_words(line: &mut Line, words: &[u64])
 /// Adds a pattern: its size, the number of its planes, and its pixels.
 #[tactic(auto, unfolding(crate::specs::Text::pattern_text))]
 pub fn add_pattern(line: &mut Line, pattern: &Pattern)
-    requires room { array_vec_len line.old + 153 ≤ 256 }
+    requires room { array_vec_len line.old + 153 ≤ 248 }
     requires valid { IsValidPattern pattern.now }
     ensures text { line.new.items ≡ line.old.items ++ pattern_text pattern.now }
     ensures len { array_vec_len line.new ≤ array_vec_len line.old + 153 }
@@ -50,7 +50,7 @@ pub fn add_pattern(line: &mut Line, pattern: &Pattern)
 /// Adds the inks of a pattern of so many planes. One of one plane has none.
 #[tactic(auto, unfolding(crate::specs::Text::ink_texts))]
 pub fn add_inks(line: &mut Line, planes: u8, inks: &Inks)
-    requires room { array_vec_len line.old + 49 ≤ 256 }
+    requires room { array_vec_len line.old + 49 ≤ 248 }
     requires valid { IsValidInks inks.now planes }
     ensures text { line.new.items ≡ line.old.items ++ ink_texts planes inks.now }
     ensures len { array_vec_len line.new ≤ array_vec_len line.old + 49 }

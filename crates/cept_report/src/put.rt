@@ -9,15 +9,17 @@ ghost use Rattle.cept_report.specs.Screen.{cells_text, screen_text};
 ghost use Rattle.cept_report.specs.Text.{change_line, change_lines, check_line, refusal_line};
 ghost use Rattle.cept_report.specs.Text.{nothing_line, script_fault_line, load_line};
 
+use crate::gathering::{gather_change, gather_shape, put_gathered};
 use crate::line::Line;
 use crate::lines::{
-    add_change_line, cell_text, check_line, load_line, nothing_line, refusal_line,
-    script_fault_line,
+    add_front, cell_text, check_line, load_line, nothing_line, refusal_line, script_fault_line,
 };
+use crate::look::add_fields;
 use crate::signs::row_line;
 use cept_codes::{LineReason, Look, Pos, Reason};
 use cept_outside::{Sink, WriteFault, put_all};
 use cept_repaint::{Glass, Marks, Screen};
+use itoa::Buffer;
 
 /// Puts the line of refused bytes: the place of the first, their number, and the reason. After
 /// `WriteFault` a part of it was put, from its front on, and not the whole.
@@ -45,12 +47,15 @@ pub fn put_changes<T: Sink>(
         change_lines label (marked_looks marks.now (looks_of (core_of screen.now))) in
         PutsText (T.state sink.old) text result (T.state sink.new) }
 {
+    let mut digits = Buffer::new();
+    let number = digits.format(label).as_bytes();
+    let mut lines = Line::new();
     let mut from = 0u16;
     while let Some(at) = marks.next_from(from) {
-        put_change(sink, label, at, screen)?;
+        gather_change(sink, &mut lines, number, at, screen)?;
         from = at.number() + 1;
     }
-    Ok(())
+    put_gathered(sink, &lines)
 }
 
 /// Puts the lines of the marked places, where they are listed, and else nothing. After `WriteFault` a
@@ -75,26 +80,19 @@ pub fn put_changes_if<T: Sink>(
     }
 }
 
-/// Puts the line of a changed place.
-// A call of its own: most commands change no place or one, and without a line its memory needn't be
-// made ready.
-#[inline(never)]
-fn put_change<T: Sink>(sink: &mut T, label: u64, at: Pos, screen: &Screen) -> Result<(), WriteFault>
-    ensures { let text = change_line label at (look_at (looks_of (core_of screen.now)) at) in
-        PutsText (T.state sink.old) text result (T.state sink.new) }
-{
-    put_line(sink, label, at, &screen.look(at))
-}
-
 /// Puts the line of a place: the label, the place, and this look. After `WriteFault` a part of it was
 /// put, from its front on, and not the whole.
 pub fn put_line<T: Sink>(sink: &mut T, label: u64, at: Pos, look: &Look) -> Result<(), WriteFault>
     requires { IsValidLook look.now }
     ensures { PutsText (T.state sink.old) (change_line label at look.now) result (T.state sink.new) }
 {
+    let mut digits = Buffer::new();
     let mut line = Line::new();
-    add_change_line(&mut line, label, at, look);
-    put_all(sink, line.as_slice())
+    let number = digits.format(label).as_bytes();
+    add_front(&mut line, number, at);
+    gather_shape(sink, &mut line, &look.shape)?;
+    add_fields(&mut line, look);
+    put_gathered(sink, &line)
 }
 
 /// Puts how many items there are, and how many of them are refused. After `WriteFault` a part of

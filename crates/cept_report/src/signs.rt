@@ -11,7 +11,7 @@ use cept_repaint::Glass;
 
 #[tactic(auto, unfolding(crate::specs::Screen::shape_sign))]
 fn add_shape_sign(line: &mut Line, shape: &Shape)
-    requires room { array_vec_len line.old + 3 ≤ 256 }
+    requires room { array_vec_len line.old + 3 ≤ 248 }
     requires valid { IsValidShape shape.now }
     ensures text { line.new.items ≡ line.old.items ++ shape_sign shape.now }
     ensures len { array_vec_len line.new ≤ array_vec_len line.old + 3 }
@@ -25,7 +25,7 @@ fn add_shape_sign(line: &mut Line, shape: &Shape)
 
 #[tactic(auto, unfolding(crate::specs::Screen::look_sign))]
 fn add_look_sign(line: &mut Line, look: &Look)
-    requires room { array_vec_len line.old + 3 ≤ 256 }
+    requires room { array_vec_len line.old + 3 ≤ 248 }
     requires valid { IsValidLook look.now }
     ensures text { line.new.items ≡ line.old.items ++ look_sign look.now }
     ensures len { array_vec_len line.new ≤ array_vec_len line.old + 3 }

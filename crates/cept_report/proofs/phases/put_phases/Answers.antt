@@ -1,7 +1,5 @@
-use Rattle.std.proofs.Common.{◌≡◌, ◌+◌, ◌%◌, refl, ap, sym, ◌∙◌, arith}
+use Rattle.std.proofs.Common.{◌≡◌, ◌+◌, ◌%◌, refl, ap, ◌∙◌, arith}
 use Rattle.std.proofs.lemmas.Result.{err_from_is_err_and}
-use Rattle.cept_profile.specs.Look.{looks_of}
-use Rattle.cept_profile.specs.State.{core_of}
 use Rattle.cept_flash.specs.Phases.{next_phase}
 use Rattle.cept_report.proofs.LinesPut.{PutsText-whole, PutsText-part}
 use Rattle.cept_report.proofs.PhaseLines.{start-is, turn-is, phase_after, Gains-start, Gains-start_failed, Gains-turn}
