@@ -63,6 +63,24 @@ fn lists_what_each_turn_changes(rt: HostRuntime) -> Result<(), Fail> {
     Ok(())
 }
 
+/// The three fast flashes are seen at two phases each, one after the other.
+#[test]
+fn fast_flashes_are_seen_in_turn(rt: HostRuntime) -> Result<(), Fail> {
+    let want =
+        b"0 1 1 P41 11.00 FFF 000 S---\n2 1 1 - 11.00 FFF 000 S---\n2 1 2 P41 11.00 FFF 000 S---\n\
+        4 1 2 - 11.00 FFF 000 S---\n4 1 3 P41 11.00 FFF 000 S---\n6 1 1 P41 11.00 FFF 000 S---\n\
+        6 1 3 - 11.00 FFF 000 S---\n";
+    compare(
+        &rt,
+        rt.alloc(),
+        b"\x9B2AA\x9B3AA\x9B4AA",
+        "6",
+        4096,
+        want,
+        Status::Done,
+    )
+}
+
 /// A page of 20 rows, all of which flash and are lined, and so do the four that it doesn't show.
 #[test]
 fn lists_rows_past_the_format_too(rt: HostRuntime) -> Result<(), Fail> {

@@ -14,3 +14,7 @@ mod plot;
 mod revision;
 #[cfg(test)]
 mod run;
+#[cfg(test)]
+mod sizes;
+#[cfg(test)]
+mod tables;

@@ -413,11 +413,11 @@ fn paints_a_display_of_ones_own(rt: HostRuntime) -> Result<(), Fail> {
 }
 
 /// What a word puts of a page, and the status, with ample memory.
-fn put_of(alloc: Global, word: &str, page: &[u8]) -> Result<(Vec<u8>, Status), Fail> {
+pub(crate) fn put_of(alloc: Global, word: &str, page: &[u8]) -> Result<(Vec<u8>, Status), Fail> {
     let request = words(alloc, &[word, "page"])?;
     let mut shelf = MemShelf::new(alloc);
     shelf.add("page", page)?;
-    let mut sink = MemSink::new(alloc, 4096)?;
+    let mut sink = MemSink::new(alloc, 65_536)?;
     let mut glass = GridGlass::new(alloc)?;
     let ended = run(alloc, &request, &mut shelf, &mut sink, &mut glass);
     Ok((Vec::from_slice(alloc, sink.bytes())?, ended))

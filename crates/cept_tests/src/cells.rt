@@ -27,3 +27,14 @@ fn a_protected_cell_outlasts_erasing(rt: HostRuntime) -> Result<(), Fail> {
     assert!(rt; !grid.put(last, free));
     Ok(())
 }
+
+#[test]
+fn places_end_at_the_edges(rt: HostRuntime) {
+    for (row, column) in [(1, 1), (1, 40), (24, 1), (24, 40)] {
+        let place = Pos::new(row, column);
+        assert_eq!(rt; place.map(|at| (at.row(), at.col())), Some((row, column)));
+    }
+    for (row, column) in [(0, 1), (1, 0), (25, 1), (1, 41), (255, 1), (1, 255)] {
+        assert!(rt; Pos::new(row, column).is_none(), "{row} {column}");
+    }
+}

@@ -21,6 +21,51 @@ fn memory_is_there(rt: HostRuntime) -> Result<(), Fail> {
     Ok(())
 }
 
+/// The calls 2 to 17 fail, and 18 doesn't: its number is the seventeenth.
+#[test]
+fn sixteen_numbers_of_calls_are_kept(rt: HostRuntime) -> Result<(), Fail> {
+    let mut shelf = MemShelf::new(rt.alloc());
+    shelf.add("page", b"A")?;
+    let mut sink = MemSink::new(rt.alloc(), 4)?;
+    for call in 2..19u32 {
+        shelf.fail_at(call);
+        sink.fail_at(call);
+    }
+    let mut into = [0; 1];
+    assert!(rt; shelf.select("page").is_ok());
+    assert_eq!(rt; sink.put(b"A"), Ok(1));
+    for call in 2..18u32 {
+        assert!(rt; shelf.take(&mut into).is_err(), "call {call}");
+        assert!(rt; sink.put(b"B").is_err(), "call {call}");
+    }
+    assert_eq!(rt; shelf.take(&mut into), Ok(1));
+    assert_eq!(rt; sink.put(b"B"), Ok(1));
+    Ok(())
+}
+
+/// Three hundred files, and each of them again with other bytes.
+#[test]
+fn a_file_takes_the_place_of_the_one_with_its_name(rt: HostRuntime) -> Result<(), Fail> {
+    let alloc = rt.alloc();
+    let mut shelf = MemShelf::new(alloc);
+    let mut quiet = QuietShelf::new(alloc);
+    for bytes in [b"AB".as_slice(), b"CDE"] {
+        for k in 0..300u16 {
+            let name = format!(in alloc; "page {k}")?;
+            shelf.add(name.as_str(), bytes)?;
+            quiet.add(name.as_str(), bytes)?;
+        }
+    }
+    let mut into = [0; 4];
+    assert!(rt; shelf.select("page 299").is_ok());
+    assert_eq!(rt; shelf.take(&mut into), Ok(3));
+    assert_eq!(rt; into, *b"CDE\0");
+    assert!(rt; quiet.select("page 0").is_ok());
+    assert_eq!(rt; quiet.take(&mut into), Ok(3));
+    assert_eq!(rt; into, *b"CDE\0");
+    Ok(())
+}
+
 #[test]
 fn takes_a_file_of_the_machine(rt: HostRuntime) -> Result<(), Fail> {
     let path = format!(in rt.alloc(); "/tmp/cept_outside_{}", process::id(rt.process()))?;

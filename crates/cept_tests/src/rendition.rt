@@ -74,3 +74,63 @@ fn the_supplementary_set_is_shown_by_its_rows(rt: HostRuntime) -> Result<(), Fai
     }
     Ok(())
 }
+
+#[test]
+fn each_accent_adds_its_mark(rt: HostRuntime) -> Result<(), Fail> {
+    let rows = [
+        (0x40, "a"),
+        (0x41, "a\u{300}"),
+        (0x42, "a\u{301}"),
+        (0x43, "a\u{302}"),
+        (0x44, "a\u{303}"),
+        (0x45, "a\u{304}"),
+        (0x46, "a\u{306}"),
+        (0x47, "a\u{307}"),
+        (0x48, "a\u{308}"),
+        (0x49, "a"),
+        (0x4A, "a\u{30A}"),
+        (0x4B, "a\u{327}"),
+        (0x4C, "a"),
+        (0x4D, "a\u{30B}"),
+        (0x4E, "a\u{328}"),
+        (0x4F, "a\u{30C}"),
+    ];
+    for (accent, want) in rows {
+        let glyph = valid(P, 0x61, accent).ok_or("no sign")?;
+        assert_eq!(rt; unicode_of(glyph).as_str(), want, "{accent:x}");
+    }
+    Ok(())
+}
+
+/// The primary set is ASCII, and a square after its last sign.
+#[test]
+fn the_primary_set_is_shown_by_its_codes(rt: HostRuntime) -> Result<(), Fail> {
+    let signs =
+        " !\"#$%&'()*+,-./0123456789:;<=>?@ABCDEFGHIJKLMNOPQRSTUVWXYZ[\\]^_`abcdefghijklmnopqrstuvwxyz{|}~■";
+    assert_eq!(rt; signs.chars().count(), 96);
+    for (code, want) in (0x20..0x80u8).zip(signs.chars()) {
+        let glyph = valid(P, code, 0).ok_or("no sign")?;
+        assert_eq!(rt;
+            unicode_of(glyph).as_str().chars().next(),
+            Some(want),
+            "{code:x}"
+        );
+    }
+    Ok(())
+}
+
+/// Codes without a row in the supplementary set, and the mosaics and downloaded signs of each code.
+#[test]
+fn other_signs_are_shown_by_one_sign_each(rt: HostRuntime) -> Result<(), Fail> {
+    for code in 0x21..0x80u8 {
+        for (set, want) in [(M, "\u{2592}"), (N, "\u{2592}"), (D, "\u{25A1}")] {
+            let glyph = valid(set, code, 0).ok_or("no sign")?;
+            assert_eq!(rt; unicode_of(glyph).as_str(), want, "{code:x}");
+        }
+        if matches!(code, 0x56..=0x5F | 0x65 | 0x7F) {
+            let glyph = valid(S, code, 0).ok_or("no sign")?;
+            assert_eq!(rt; unicode_of(glyph).as_str(), "\u{FFFD}", "{code:x}");
+        }
+    }
+    Ok(())
+}

@@ -73,3 +73,48 @@ fn answers_for_what_is_given(rt: HostRuntime) -> Result<(), Fail> {
     }
     Ok(())
 }
+
+#[test]
+fn hands_on_a_number_after_the_page(rt: HostRuntime) -> Result<(), Fail> {
+    let found = call_with(rt.alloc(), b"flash", 4, 3, b"\x88A", b"", 64);
+    let lines = b"0 1 1 P41 11.00 FFF 000 S---\n3 1 1 - 11.00 FFF 000 S---\n";
+    assert_eq!(rt; found.status, 0);
+    assert_eq!(rt; &found.out[..56], lines.as_slice());
+    assert_eq!(rt; found.put, 56);
+    Ok(())
+}
+
+/// So often this line, and another.
+fn repeated(alloc: Global, line: &[u8], times: u32, last: &[u8]) -> Result<Vec<u8>, Fail> {
+    let mut lines = Vec::new(alloc);
+    for _time in 0..times {
+        lines.extend_from_slice(line)?;
+    }
+    lines.extend_from_slice(last)?;
+    Ok(lines)
+}
+
+/// A page of 100,000 bytes and a script of 48,001 lines, with room for a million bytes.
+#[test]
+fn takes_large_pages_scripts_and_rooms(rt: HostRuntime) -> Result<(), Fail> {
+    let alloc = rt.alloc();
+    let page = Vec::from_elem(alloc, 0u8, 100_000)?;
+    let script = repeated(alloc, b"up\n", 48_000, b"text A\n")?;
+    let mut out = Vec::from_elem(alloc, b'-', 1_000_000)?;
+    let mut put = 99;
+    let status = tamligub_run(
+        alloc,
+        b"edit",
+        2,
+        0,
+        page.as_slice(),
+        script.as_slice(),
+        out.as_mut_slice(),
+        &mut put,
+    );
+    let want = b"\x1F/B\x1F-Ap\x1FAA\x1B\"AA";
+    assert_eq!(rt; status, 0);
+    assert_eq!(rt; put, want.len() as u64);
+    assert_eq!(rt; out.as_slice().starts_with(want), true);
+    Ok(())
+}
