@@ -126,7 +126,9 @@
 
     turn(phase) {
       this.screen.turn(phase, part("reveal").checked);
-      if (this.screen.told) this.screen.show(this.film().phases[phase]);
+      const film = this.film();
+      // The clock may go on while another text is opened, and no film is there yet.
+      if (this.screen.told && film !== null) this.screen.show(film.phases[phase]);
     }
 
     // Lays the screen out for the room that there is, in whole pixels of the display.
