@@ -14,6 +14,7 @@ pub mod FollowedRows
 pub mod KeptAfter
 pub mod KeptNames
 pub mod LooksSeen
+pub mod LeftOfColumns
 pub mod LooksWritten
 pub mod MarkedDifferences
 pub mod MarkedRows

@@ -1,16 +1,15 @@
 -- Marked places painted one after the other, in reading order.
-use Rattle.std.proofs.Common.{◌≡◌, ℕ, ◌+◌, ◌*◌, ◌<◌, ◌≤◌, Bool, false, Option, List, [], ◌∷◌, ◌++◌, sym, ap, subst, ◌∙◌}
+use Rattle.std.proofs.Common.{◌≡◌, ℕ, ◌+◌, ◌≤◌, Bool, false, Option, List, [], ◌∷◌, ◌++◌, sym, ap, subst, ◌∙◌}
 use Rattle.std.proofs.Common.{append_assoc, arith}
 use Rattle.std.proofs.lemmas.List.{append-nil}
 use Rattle.cept_codes.specs.declared.look.Look.{Look}
-use Rattle.cept_codes.specs.Place.{Place, OnScreen, number}
+use Rattle.cept_codes.specs.Place.{Place, number}
 use Rattle.cept_codes.proofs.Laws.{place_of-number, number-lt}
 use Rattle.cept_profile.specs.Changes.{look_at, marked_looks, marked_looks_below, grid_with_paint, grid_with_paints}
 use Rattle.cept_profile.proofs.Laws.{grid_with_paints-append, marked_looks_below-none, marked_looks_below-next}
 use Rattle.cept_profile.proofs.Laws.{marked_looks_below-unmarked, marked_looks_below-whole}
 use Rattle.cept_repaint.specs.GlassState.{GlassState, Lists, Paints}
 use Rattle.cept_repaint.specs.Marks.{is_marked, IsFirstFrom}
-use Rattle.cept_repaint.specs.Painting.{IsPaintedBelow}
 
 -- the first marked place from `from` on comes next
 listed_below_first : (marks : List Bool) (g : List (List Look)) (from : ℕ) (p : Place) → IsFirstFrom marks from p
@@ -37,19 +36,25 @@ Lists-more {xs = xs} {ys = ys} a b = record {
       (start.0, start.1, first.2 ∙ ap (λ (l : List (Place × Look)). l ++ ys) start.2 ∙ append_assoc start.0 xs ys);
 }
 
-pub IsPaintedBelow-none : (marks : List Bool) (looks : List (List Look)) (s : GlassState) → IsPaintedBelow marks looks s s 0
+-- the marked places below `from` are painted and told, and no others
+pub record PaintedSoFar (marks : List Bool) (looks : List (List Look)) (old now : GlassState) (from : ℕ) : Type 0 where
+  pub within : from ≤ 960
+  pub grid : now.grid ≡ grid_with_paints old.grid (marked_looks_below marks looks from)
+  pub listed : Lists old.paints (marked_looks_below marks looks from) now.paints
+
+pub PaintedSoFar-none : (marks : List Bool) (looks : List (List Look)) (s : GlassState) → PaintedSoFar marks looks s s 0
 unfolding grid_with_paints
-IsPaintedBelow-none marks looks s = record {
+PaintedSoFar-none marks looks s = record {
   within = omega arith;
   grid = ap (λ (l : List (Place × Look)). grid_with_paints s.grid l) (sym (marked_looks_below-none marks looks));
   listed = subst (λ (l : List (Place × Look)). Lists s.paints l s.paints)
       (sym (marked_looks_below-none marks looks)) (Lists-none s.paints);
 }
 
-pub IsPaintedBelow-more : {marks : List Bool} {looks : List (List Look)} {old now : GlassState} {from : ℕ}
-    → IsPaintedBelow marks looks old now from → (p : Place) (next : GlassState) (n : ℕ) → IsFirstFrom marks from p
-    → Paints now p (look_at looks p) next → n ≡ number p.row p.column → IsPaintedBelow marks looks old next (n + 1)
-IsPaintedBelow-more {marks} {looks} {old} {now} {from} s p next n is paints e =
+pub PaintedSoFar-more : {marks : List Bool} {looks : List (List Look)} {old now : GlassState} {from : ℕ}
+    → PaintedSoFar marks looks old now from → (p : Place) (next : GlassState) (n : ℕ) → IsFirstFrom marks from p
+    → Paints now p (look_at looks p) next → n ≡ number p.row p.column → PaintedSoFar marks looks old next (n + 1)
+PaintedSoFar-more {marks} {looks} {old} {now} {from} s p next n is paints e =
     let below = number-lt p.row p.column is.on_screen in
     let more : marked_looks_below marks looks (n + 1) ≡ marked_looks_below marks looks from ++ (p, look_at looks p)
     ∷ [] = ap (λ k. marked_looks_below marks looks (k + 1)) e ∙ listed_below_first marks looks from p is in
@@ -62,39 +67,23 @@ IsPaintedBelow-more {marks} {looks} {old} {now} {from} s p next n is paints e =
           (Lists-more s.listed paints.listed);
     }
 
--- the number after that of a place is in its row, or begins the next one
-pub end_of_row : (p : Place) → OnScreen p.row p.column → number p.row p.column + 1 ≤ 40 * p.row
-end_of_row p on = omega (arith, on)
-
--- up to a number below which no more are marked
-pub IsPaintedBelow-none_between : {marks : List Bool} {looks : List (List Look)} {old now : GlassState} {from : ℕ}
-    → IsPaintedBelow marks looks old now from → (end : ℕ) → from ≤ end → end ≤ 960
-    → ((n : ℕ) → from ≤ n → n < end → is_marked marks n ≡ false) → IsPaintedBelow marks looks old now end
-IsPaintedBelow-none_between {marks} {looks} {old} {now} {from} s end above within none =
-    let same = marked_looks_below-unmarked marks looks from end above none in
-    record {
-      within = within;
-      grid = s.grid ∙ ap (λ (l : List (Place × Look)). grid_with_paints old.grid l) (sym same);
-      listed = subst (λ (l : List (Place × Look)). Lists old.paints l now.paints) (sym same) s.listed;
-    }
-
 -- no marked place is left
 whole_list : {marks : List Bool} {looks : List (List Look)} {old now : GlassState} {from : ℕ}
-    → IsPaintedBelow marks looks old now from → ((n : ℕ) → from ≤ n → is_marked marks n ≡ false)
+    → PaintedSoFar marks looks old now from → ((n : ℕ) → from ≤ n → is_marked marks n ≡ false)
     → marked_looks_below marks looks from ≡ marked_looks marks looks
 whole_list {marks} {looks} {from = from} s none =
     sym (marked_looks_below-unmarked marks looks from 960 s.within (λ k at_least _. none k at_least))
     ∙ marked_looks_below-whole marks looks
 
-pub IsPaintedBelow-grid : {marks : List Bool} {looks : List (List Look)} {old now : GlassState} {from : ℕ}
-    → IsPaintedBelow marks looks old now from → ((n : ℕ) → from ≤ n → is_marked marks n ≡ false) → now.grid
+pub PaintedSoFar-grid : {marks : List Bool} {looks : List (List Look)} {old now : GlassState} {from : ℕ}
+    → PaintedSoFar marks looks old now from → ((n : ℕ) → from ≤ n → is_marked marks n ≡ false) → now.grid
     ≡ grid_with_paints old.grid (marked_looks marks looks)
-IsPaintedBelow-grid {old =
+PaintedSoFar-grid {old =
     old} s none = s.grid ∙ ap (λ (l : List (Place × Look)). grid_with_paints old.grid l) (whole_list s none)
 
-pub IsPaintedBelow-marked_looks : {marks : List Bool} {looks : List (List Look)} {old now : GlassState} {from : ℕ}
-    → IsPaintedBelow marks looks old now from → ((n : ℕ) → from ≤ n → is_marked marks n ≡ false)
+pub PaintedSoFar-marked_looks : {marks : List Bool} {looks : List (List Look)} {old now : GlassState} {from : ℕ}
+    → PaintedSoFar marks looks old now from → ((n : ℕ) → from ≤ n → is_marked marks n ≡ false)
     → Lists old.paints (marked_looks marks looks) now.paints
-IsPaintedBelow-marked_looks {old =
+PaintedSoFar-marked_looks {old =
     old} {now = now} s none = subst (λ (l : List (Place × Look)). Lists old.paints l now.paints)
     (whole_list s none) s.listed

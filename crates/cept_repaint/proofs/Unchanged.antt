@@ -4,7 +4,7 @@ use Rattle.cept_codes.specs.declared.look.Look.{Look}
 use Rattle.cept_profile.specs.Changes.{changes_between, differences, grid_with_paints}
 use Rattle.cept_repaint.specs.GlassState.{GlassState, Lists}
 use Rattle.cept_repaint.specs.Marks.{is_marked, no_marks}
-use Rattle.cept_repaint.proofs.PaintedInOrder.{IsPaintedBelow-none, IsPaintedBelow-grid, IsPaintedBelow-marked_looks}
+use Rattle.cept_repaint.proofs.PaintedInOrder.{PaintedSoFar-none, PaintedSoFar-grid, PaintedSoFar-marked_looks}
 use Rattle.cept_repaint.proofs.Refreshed.{differences_none}
 use Rattle.cept_repaint.proofs.Unmarked.{is_marked-no_marks}
 
@@ -15,9 +15,9 @@ none_differs was now e n _ =
 pub unchanged_grid : (was now : List (List Look)) (s : GlassState) → was ≡ now
     → s.grid ≡ grid_with_paints s.grid (changes_between was now)
 unchanged_grid was now s e =
-    IsPaintedBelow-grid (IsPaintedBelow-none (differences was now) now s) (none_differs was now e)
+    PaintedSoFar-grid (PaintedSoFar-none (differences was now) now s) (none_differs was now e)
 
 pub unchanged_told : (was now : List (List Look)) (s : GlassState) → was ≡ now
     → Lists s.paints (changes_between was now) s.paints
 unchanged_told was now s e =
-    IsPaintedBelow-marked_looks (IsPaintedBelow-none (differences was now) now s) (none_differs was now e)
+    PaintedSoFar-marked_looks (PaintedSoFar-none (differences was now) now s) (none_differs was now e)

@@ -47,6 +47,11 @@ row_beneath above p r last =
     (look_in_row (definitions_of p) (contents_in p r) (row_pen_in p.row_pens r) p.screen_pen)
     (size_in_row (contents_in p r) (row_pen_in p.row_pens r) p.screen_pen) last
 
+-- two rows have the same looks to the left of a column
+abbrev pub IsLeftOf : ℕ → List Look → List Look → Type 0
+IsLeftOf from looks row =
+    (c : ℕ) → 1 ≤ c → c < from → column_entry blank_look looks c ≡ column_entry blank_look row c
+
 -- how what stands in a cell of a page looks by itself
 abbrev pub look_alone : Page → Place → Look
 look_alone p place =

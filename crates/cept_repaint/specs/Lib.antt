@@ -16,7 +16,6 @@ pub mod Resolved
 pub mod Tape
 pub mod TapeGlass
 pub mod ValidGrid
-pub mod Painting
 pub mod PutBack
 pub mod FlagsAnew
 pub mod Restored

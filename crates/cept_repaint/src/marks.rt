@@ -66,20 +66,6 @@ impl Marks {
         Pos::from_number(n as u16)
     }
 
-    /// The first marked place after this one in its row.
-    #[inline(always)]
-    pub(crate) fn next_in_row(&self, at: Pos) -> Option<Pos>
-        ensures none { IsNone result → (n : ℕ) → number at.row at.column < n → n < 40 * at.row
-            → is_marked self.now n ≡ false }
-        ensures row { IfSome result (λ place. place.row ≡ at.row) }
-        ensures first { IfSome result (IsFirstFrom self.now (number at.row at.column + 1)) }
-    {
-        let row = 40 * (usize::from(at.row()) - 1);
-        let from = usize::from(at.number()) + 1;
-        let n = first_within(&self.flags, from, self.end.min(row + 40))?;
-        Pos::new(at.row(), (n - row) as u8 + 1)
-    }
-
     /// Tells the prover that there are 960 flags: reading a field opens the model.
     pub(crate) fn places_by_type(&self)
         ensures { length self.now ≡ 960 }
@@ -205,21 +191,7 @@ fn first_marked(flags: &[bool], first: usize, end: usize, from: usize) -> Option
     ensures first { IfSome result (λ n. (k : ℕ) → from ≤ k → k < n
         → is_marked flags.now k ≡ false) }
 {
-    first_within(flags, first.max(from), end)
-}
-
-/// The first set flag at `from` or after it and before `end`.
-#[inline(always)]
-fn first_within(flags: &[bool], from: usize, end: usize) -> Option<usize>
-    requires within { end ≤ length flags.now }
-    ensures none { IsNone result → (n : ℕ) → from ≤ n → n < end → is_marked flags.now n ≡ false }
-    ensures there { IfSome result (λ n. n < end) }
-    ensures at_least { IfSome result (λ n. from ≤ n) }
-    ensures marked { IfSome result (λ n. is_marked flags.now n ≡ true) }
-    ensures first { IfSome result (λ n. (k : ℕ) → from ≤ k → k < n
-        → is_marked flags.now k ≡ false) }
-{
-    for n in from..end {
+    for n in first.max(from)..end {
         if flags[n] {
             return Some(n);
         }

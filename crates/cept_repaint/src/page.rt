@@ -14,7 +14,7 @@ ghost use Rattle.cept_profile.specs.Valid.{IsValidPage};
 ghost use Rattle.cept_repaint.specs.Drawn.{IsDrawn};
 ghost use Rattle.cept_repaint.specs.Due.{pens_of};
 ghost use Rattle.cept_repaint.specs.Exchanged.{page_exchanged};
-ghost use Rattle.cept_repaint.specs.Kept.{core_on, row_beneath};
+ghost use Rattle.cept_repaint.specs.Kept.{core_on, row_beneath, IsLeftOf};
 ghost use Rattle.cept_repaint.specs.MarkedRows.{StandsAlone};
 ghost use Rattle.cept_repaint.specs.Named.{names_beneath};
 ghost use Rattle.cept_repaint.specs.Noter.{page_behind};
@@ -31,7 +31,7 @@ use cept_codes::{Cell, NoMemory, Pen, Pos, Stroke, What};
 use cept_colours::Colours;
 use cept_drcs::Patterns;
 use cept_outside::Steps;
-use cept_rows::{RowLooks, RowNames, name_cells, resolve_cells};
+use cept_rows::{RowLooks, RowNames, name_cells, resolve_cells, resolve_cells_from};
 use std::alloc::Global;
 use std::marker::Model;
 use std::sync::ledger::Ledger;
@@ -188,6 +188,41 @@ impl Page {
         let cells = self.grid.cells(row);
         let pen = self.row_pen(row);
         resolve_cells(
+            cells,
+            pen,
+            &self.screen_pen,
+            above,
+            last,
+            &self.colours,
+            &self.patterns,
+            looks,
+            steps,
+        );
+    }
+
+    /// The same, where to the left of this column the row looks so already.
+    pub(crate) fn resolve_row_from<L: Ledger>(
+        &self,
+        row: u8,
+        from: u8,
+        above: &RowLooks,
+        last: bool,
+        looks: &mut RowLooks,
+        steps: &mut Steps<L>,
+    )
+        requires from_top { 1 ≤ row }
+        requires to_bottom { row ≤ 24 }
+        requires from_left { 1 ≤ from }
+        requires to_right { from ≤ 40 }
+        requires valid { IsValidPage self.now }
+        requires left { IsLeftOf from looks.old (row_beneath above.now self.now row last) }
+        ensures looks { looks.new ≡ row_beneath above.now self.now row last }
+        ensures tick { steps.new ≡ steps.old + 1 }
+    {
+        let cells = self.grid.cells(row);
+        let pen = self.row_pen(row);
+        resolve_cells_from(
+            from,
             cells,
             pen,
             &self.screen_pen,

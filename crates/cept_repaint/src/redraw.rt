@@ -34,10 +34,10 @@ ghost use Rattle.cept_profile.specs.State.{Core, page_after};
 ghost use Rattle.cept_profile.specs.Tiling.{column_entry};
 ghost use Rattle.cept_profile.specs.Valid.{IsValidPage};
 ghost use Rattle.cept_repaint.specs.Due.{came_from, followed, is_altered, is_due, pens_of, row_from, rows_due};
-ghost use Rattle.cept_repaint.specs.Due.{at_rest, OtherRowsStay};
+ghost use Rattle.cept_repaint.specs.Due.{at_rest, LeftStays, OtherRowsStay};
 ghost use Rattle.cept_repaint.specs.Kept.{AreEdges, AreLooksOn, core_on, is_other_above};
 ghost use Rattle.cept_repaint.specs.Kept.{look_alone, looks_differ};
-ghost use Rattle.cept_repaint.specs.Kept.{row_beneath};
+ghost use Rattle.cept_repaint.specs.Kept.{row_beneath, IsLeftOf};
 ghost use Rattle.cept_repaint.specs.Kept.{HasMarkedRow, IsRefreshedRow, OthersStay};
 ghost use Rattle.cept_repaint.specs.MarkedRows.{StandsAlone};
 ghost use Rattle.cept_repaint.specs.Marks.{no_marks};
@@ -59,7 +59,7 @@ use crate::redefined_rows::rows_redefined;
 use cept_codes::{Pos, Stroke};
 use cept_control::{Control, Edges};
 use cept_outside::Steps;
-use cept_rows::RowLooks;
+use cept_rows::{RowLooks, rows_show_what_stands_to_the_left};
 use std::sync::ledger::Ledger;
 
 /// Draws the strokes on the page, resolves the rows that they alter or cover otherwise and no others,
@@ -142,12 +142,17 @@ pub(crate) fn redraw_within<N: Noter, L: Ledger>(
     }
     match only_put(strokes) {
         Some(put) => {
+            // A law: a cell shows in no place to its left.
+            rows_show_what_stands_to_the_left();
             if page.put(put.place, put.cell, noter) {
                 refresh_place(page, put.place, kept, names, marks, steps);
             } else {
                 let row = put.place.row();
+                let from = put.place.col();
                 let edges = control.edges();
-                refresh_put(page, strokes, row, &edges, kept, names, fresh, marks, steps);
+                refresh_put(
+                    page, strokes, row, from, &edges, kept, names, fresh, marks, steps,
+                );
             }
         }
         None => {
@@ -285,13 +290,14 @@ fn redraw_defined<N: Noter, L: Ledger>(
     );
 }
 
-/// Resolves a row in which the strokes write, and the rows that are covered otherwise than before, where
-/// no row moved.
+/// Resolves a row in which the strokes write, from a column on to whose left it looks as it did, and the
+/// rows that are covered otherwise than before, where no row moved.
 #[inline(never)]
 fn refresh_put<L: Ledger>(
     page: &Page,
     strokes: &[Stroke],
     row: u8,
+    from: u8,
     edges: &Edges,
     kept: &mut KeptRows,
     names: &mut KeptNames,
@@ -302,9 +308,13 @@ fn refresh_put<L: Ledger>(
     requires strokes { AllByRecursion IsValidStroke strokes.now }
     requires from_top { 1 ≤ row }
     requires to_bottom { row ≤ 24 }
+    requires from_left { 1 ≤ from }
+    requires to_right { from ≤ 40 }
     requires none { marks.old ≡ no_marks }
     requires valid { IsValidPage page.now }
     requires edges { AreEdges edges.now }
+    requires left { (k : Core) → edges_of_core k ≡ edges.now
+        → LeftStays (list_by_index 1 24 (λ q. row == q)) from kept.old (core_on k page.now) }
     requires freed { (r : ℕ) → 1 ≤ r → r ≤ 24 → row_from (list_by_index 1 24 (followed strokes.now)) r ≡ None
         → entry false 1 (list_by_index 1 24 (λ q. row == q)) r ≡ true }
     requires still { (r q : ℕ) → 1 ≤ r → r ≤ 24
@@ -320,7 +330,7 @@ fn refresh_put<L: Ledger>(
         (list_by_index 1 24 (followed strokes.now)) kept.old kept.new }
 {
     let altered = row_alone(row);
-    refresh_rows(page, &altered, edges, kept, fresh, marks, steps);
+    refresh_rows_from(page, &altered, from, edges, kept, fresh, marks, steps);
     names.forget_marked(row, marks);
 }
 
@@ -399,20 +409,60 @@ pub(crate) fn refresh_rows<L: Ledger>(
     ensures marks { marks.new ≡ differences kept.old kept.new }
     ensures cost { steps.new ≡ steps.old + rows_due flags.now at_rest kept.old kept.new }
 {
+    refresh_rows_from(page, flags, 1, edges, kept, fresh, marks, steps);
+}
+
+/// The same, where to the left of this column the flagged rows look as they did.
+fn refresh_rows_from<L: Ledger>(
+    page: &Page,
+    flags: &[bool; 24],
+    from: u8,
+    edges: &Edges,
+    kept: &mut KeptRows,
+    fresh: &mut RowLooks,
+    marks: &mut Marks,
+    steps: &mut Steps<L>,
+)
+    requires flags { length flags.now ≡ 24 }
+    requires from_left { 1 ≤ from }
+    requires to_right { from ≤ 40 }
+    requires none { marks.old ≡ no_marks }
+    requires valid { IsValidPage page.now }
+    requires edges { AreEdges edges.now }
+    requires others { (k : Core) → edges_of_core k ≡ edges.now
+        → OtherRowsStay flags.now at_rest kept.old (core_on k page.now) }
+    requires left { (k : Core) → edges_of_core k ≡ edges.now
+        → LeftStays flags.now from kept.old (core_on k page.now) }
+    ensures kept { AreLooksOn kept.new page.now edges.now }
+    ensures marks { marks.new ≡ differences kept.old kept.new }
+    ensures cost { steps.new ≡ steps.old + rows_due flags.now at_rest kept.old kept.new }
+{
     kept.whole_by_type();
     let mut covered = false;
     for row in 1..25u8 {
-        if flags[usize::from(row) - 1] | covered {
-            covered = refresh_row(page, row, edges.is_last(row), kept, fresh, marks, steps);
+        let flag = flags[usize::from(row) - 1];
+        if flag | covered {
+            let column = first_column(flag, from);
+            let last = edges.is_last(row);
+            covered = refresh_row(page, row, column, last, kept, fresh, marks, steps);
         }
     }
 }
 
-/// Resolves a row beneath the looks kept of the row above, keeps its looks, and marks the places at
-/// which they differ from those before. Answers whether what covers the row below differs.
+/// From which column on a row is resolved: a flagged one from this.
+fn first_column(flag: bool, from: u8) -> u8
+    ensures { result ≡ (if flag then from else 1) }
+{
+    if flag { from } else { 1 }
+}
+
+/// Resolves a row beneath the looks kept of the row above, from a column on to whose left it looks so
+/// already, keeps its looks, and marks the places at which they differ from those before. Answers whether
+/// what covers the row below differs.
 pub(crate) fn refresh_row<L: Ledger>(
     page: &Page,
     row: u8,
+    from: u8,
     last: bool,
     kept: &mut KeptRows,
     fresh: &mut RowLooks,
@@ -421,14 +471,46 @@ pub(crate) fn refresh_row<L: Ledger>(
 ) -> bool
     requires from_top { 1 ≤ row }
     requires to_bottom { row ≤ 24 }
+    requires from_left { 1 ≤ from }
+    requires to_right { from ≤ 40 }
     requires valid { IsValidPage page.now }
+    requires left { IsLeftOf from (looks_in kept.old row)
+        (row_beneath (looks_in kept.old (row - 1)) page.now row last) }
     ensures refreshed { IsRefreshedRow (row_beneath (looks_in kept.old (row - 1)) page.now row last)
         row kept.old kept.new marks.old marks.new }
     ensures covering { result ≡ is_other_above (looks_in kept.old row) (looks_in kept.new row) }
     ensures tick { steps.new ≡ steps.old + 1 }
 {
-    page.resolve_row(row, kept.above(row), last, fresh, steps);
+    resolve_beneath(page, row, from, last, kept, fresh, steps);
     take_row(row, fresh, kept, marks)
+}
+
+/// Resolves a row so.
+fn resolve_beneath<L: Ledger>(
+    page: &Page,
+    row: u8,
+    from: u8,
+    last: bool,
+    kept: &KeptRows,
+    fresh: &mut RowLooks,
+    steps: &mut Steps<L>,
+)
+    requires from_top { 1 ≤ row }
+    requires to_bottom { row ≤ 24 }
+    requires from_left { 1 ≤ from }
+    requires to_right { from ≤ 40 }
+    requires valid { IsValidPage page.now }
+    requires left { IsLeftOf from (looks_in kept.now row)
+        (row_beneath (looks_in kept.now (row - 1)) page.now row last) }
+    ensures looks { fresh.new ≡ row_beneath (looks_in kept.now (row - 1)) page.now row last }
+    ensures tick { steps.new ≡ steps.old + 1 }
+{
+    if from == 1 {
+        page.resolve_row(row, kept.above(row), last, fresh, steps);
+    } else {
+        fresh.copy_from(kept.row(row));
+        page.resolve_row_from(row, from, kept.above(row), last, fresh, steps);
+    }
 }
 
 /// Keeps these looks of a row, and marks the places at which they differ from those before. Answers

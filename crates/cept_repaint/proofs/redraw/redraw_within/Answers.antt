@@ -1,9 +1,11 @@
-use Rattle.std.proofs.Common.{Bool, List, length, refl, sym, ap, subst, ◌∙◌, ◌==◌, arith}
+use Rattle.std.proofs.Common.{ℕ, Bool, List, [], ◌∷◌, length, refl, sym, ap, subst, ◌∙◌, ◌==◌, arith}
 use Rattle.std.proofs.lemmas.Bool.{eqb-true, true≢false}
-use Rattle.cept_profile.specs.State.{Page}
+use Rattle.cept_profile.specs.State.{Page, page_after}
+use Rattle.cept_codes.specs.declared.stroke.Stroke.TheVariants.{Put}
+use Rattle.cept_repaint.specs.declared.followed_rows.Followed.{Followed}
 use Rattle.cept_profile.specs.Valid.{IsValidPage}
 use Rattle.cept_codes.specs.Table.{list_by_index}
-use Rattle.cept_repaint.specs.Due.{followed, pens_of, rows_due}
+use Rattle.cept_repaint.specs.Due.{at_rest, followed, pens_of, rows_due, LeftStays, OtherRowsStay}
 use Rattle.cept_repaint.specs.Kept.{core_on, state_of_parts}
 use Rattle.cept_repaint.proofs.KeptAfter.{AreEdges-state}
 use Rattle.cept_profile.specs.Edges.{edges_of}
@@ -13,6 +15,8 @@ use Rattle.cept_repaint.proofs.Refreshed.{differences_none}
 use Rattle.cept_repaint.proofs.AlteredRows.{altered-put}
 use Rattle.cept_repaint.proofs.FollowedRows.{still-put}
 use Rattle.cept_repaint.proofs.NamesAfter.{AreNamedOn-drawn, AreNamedOn-put}
+use Rattle.cept_repaint.proofs.LeftOfColumns.{LeftStays-put}
+use Rattle.cept_repaint.proofs.RestingRows.{AreStill, OtherRowsStay-still}
 use Rattle.cept_repaint.proofs.RowsDue.{freed-altered, put-resolved, put_defines_nothing, rows_due-resolved}
 use Rattle.cept_repaint.proofs.WalkedRows.{OtherRowsStay-drawn}
 use Rattle.cept_repaint.proofs.redraw.redraw_within.Goals as goal
@@ -176,3 +180,24 @@ returns-in-None-clause-named g c k same = c.redraw_drawn.ensures.named k (same �
 pub returns-in-None-clause-cost : goal.returns-in-None-clause-cost
 returns-in-None-clause-cost g c k m ek em =
     c.redraw_drawn.ensures.cost k m (ek ∙ sym c.edges-within.ensures) (em ∙ sym c.edges-within.ensures)
+
+pub refresh_put-requires-clause-left : goal.refresh_put-requires-clause-left
+refresh_put-requires-clause-left g c k same =
+    let flags : List Bool = list_by_index 1 24 (λ q. c.row-row.result == q) in
+    let rows : List Followed = list_by_index 1 24 (followed c.args.strokes.now) in
+    let are : AreStill flags rows = record {
+      freed = refresh_put-requires-clause-freed g c;
+      still = refresh_put-requires-clause-still g c;
+    } in
+    let drawn = page_after-put_alone c.args.page.now c.put.new.self c.args.strokes.now c.in-Some.put.place
+    c.in-Some.put.cell.now c.in-Some.ensures c.put.ensures.drawn
+    ∙ ap (page_after c.args.page.now) c.in-Some.ensures in
+    subst (λ (q : Page). LeftStays flags c.col-from.result c.args.kept.now (core_on k q)) (sym drawn)
+    (subst (λ (n : ℕ). LeftStays flags n c.args.kept.now
+    (core_on k (page_after c.args.page.now (Put c.in-Some.put.place c.in-Some.put.cell.now ∷ [])))) (sym c.col-from.ensures.column)
+    (LeftStays-put c.rows_show_what_stands_to_the_left.ensures c.args.page.now c.requires.was_valid k c.in-Some.put.place
+    c.in-Some.put.cell.now c.args.kept.now c.row-row.result
+    (c.requires.kept k (same ∙ c.edges-edges.ensures)) (omega (arith, c.row-row.ensures.on_screen))
+    (subst (λ (q : Page). OtherRowsStay flags at_rest c.args.kept.now (core_on k q)) drawn
+    (OtherRowsStay-still are c.args.kept.now (core_on k c.put.new.self)
+    (refresh_put-requires-clause-others g c k same)))))
