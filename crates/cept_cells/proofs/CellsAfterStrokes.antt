@@ -1,9 +1,9 @@
 -- What a write of the grid's rows makes of the table of cells, against what a stroke makes of it.
 use Rattle.std.proofs.Common.{◌≡◌, ℕ, ◌+◌, ◌-◌, ◌<◌, ◌≤◌, ◌&&◌, ◌==◌, inl, inr, leb, not, Bool, true, false, cond, List}
-use Rattle.std.proofs.Common.{[], ◌++◌, get_or, set, take, drop, length, refl, sym, ap, ◌∙◌, subst, arith}
+use Rattle.std.proofs.Common.{[], ◌++◌, get_or, set, take, length, refl, sym, ap, ◌∙◌, subst, arith}
 use Rattle.std.proofs.lemmas.Bool.{and_parts, cases_eq, eqb-true}
 use Rattle.std.proofs.lemmas.Bool.Decides.{nat_tests}
-use Rattle.std.proofs.lemmas.List.{take_at, at_drop_more, at_drop_all, get_or_default}
+use Rattle.std.proofs.lemmas.List.{take_at, get_or_default}
 use Rattle.cept_codes.specs.declared.cell.Cell.{Cell}
 use Rattle.cept_codes.specs.declared.stroke.Stroke.{Stroke}
 use Rattle.cept_codes.specs.declared.stroke.Stroke.TheVariants as strokes
@@ -15,7 +15,7 @@ use Rattle.cept_codes.proofs.Laws.{length-list_by_index}
 use Rattle.cept_codes.proofs.Laws.{entry_from}
 use Rattle.cept_cells.specs.Erased.{cell_after_erasing}
 use Rattle.cept_cells.specs.declared.grid.TheConstants.{BLANK_ROW}
-use Rattle.cept_profile.specs.Cells.{is_at, cell_after, cells_after, cells_after_all}
+use Rattle.cept_profile.specs.Cells.{is_at, cell_after, cells_after}
 
 -- a place written, where it is free to be written
 free_choice : {X : Type 0} (here protected : Bool) (x y : X) → (here ≡ true → protected ≡ false) → cond here x y
@@ -153,18 +153,3 @@ cells_after-unchanged t strokes.ColourDefaults is none = sym (table-value_at t b
 cells_after-unchanged t strokes.DrcsClear is none = sym (table-value_at t blank_cell is)
 cells_after-unchanged t (strokes.Drcs code pattern) is none = sym (table-value_at t blank_cell is)
 cells_after-unchanged t (strokes.Format rows) is none = sym (table-value_at t blank_cell is)
-
--- the strokes that are left of a list, one stroke on and at the end
-pub cells_after_all-drop : (cells now : List (List Cell)) (xs : List Stroke) (i : ℕ) (x : Stroke) → i < length xs → x
-    ≡ get_or xs i x → now ≡ cells_after cells x
-    → cells_after_all now (drop (i + 1) xs) ≡ cells_after_all cells (drop i xs)
-unfolding cells_after_all
-cells_after_all-drop cells now xs i x below item one_more =
-    ap (λ (t : List (List Cell)). cells_after_all t (drop (i + 1) xs))
-    (one_more ∙ ap (λ (stroke : Stroke). cells_after cells stroke) item)
-    ∙ sym (at_drop_more (cells_after_all cells) xs i x below)
-
-pub cells_after_all-drop_all : (cells : List (List Cell)) (xs : List Stroke) (i : ℕ) → length xs ≤ i
-    → cells_after_all cells (drop i xs) ≡ cells
-unfolding cells_after_all
-cells_after_all-drop_all cells xs i past = at_drop_all (cells_after_all cells) xs i past

@@ -1,4 +1,3 @@
 mod CellsAfterStrokes
 mod CellsInSlots
 mod ShiftedRows
-pub mod Laws

@@ -40,7 +40,7 @@ use Rattle.cept_codes.specs.Same.{same_marker, same_what, same_cell, same_row, s
 use Rattle.cept_codes.specs.Same.{same_inks, same_shape, same_part, same_look, same_c1_set, same_way, same_form}
 use Rattle.cept_codes.specs.Same.{same_command, same_reason, same_said, same_item, same_stroke, same_place}
 use Rattle.cept_codes.proofs.EqualityTests.{Test, number_test, bool_test, bool_decides, option_decides, no_field}
-use Rattle.cept_codes.proofs.EqualityTests.{one_field, two_fields, three_fields, enum_decides}
+use Rattle.cept_codes.proofs.EqualityTests.{one_field, two_fields, three_fields, enum_decides, ◌⨾◌}
 
 pub set_decides : (a b : SetId) → Decides (same_set a b) (a ≡ b)
 set_decides a b = search rules
@@ -86,19 +86,8 @@ pen_decides a b =
       size = h.1.1.1.1.1.1.0 i;
       invert = h.1.1.1.1.1.1.1 i;
     })
-    (λ e. (
-      ap (λ p. p.fore) e,
-      (
-        ap (λ p. p.back) e,
-        (
-          ap (λ p. p.flash) e,
-          (
-            ap (λ p. p.conceal) e,
-            (ap (λ p. p.lined) e, (ap (λ p. p.boxed) e, (ap (λ p. p.size) e, ap (λ p. p.invert) e))),
-          ),
-        ),
-      ),
-    ))
+    (λ e. (ap (λ p. p.fore) e ⨾ ap (λ p. p.back) e ⨾ ap (λ p. p.flash) e ⨾ ap (λ p. p.conceal) e ⨾ ap (λ p. p.lined) e
+    ⨾ ap (λ p. p.boxed) e ⨾ ap (λ p. p.size) e ⨾ ap (λ p. p.invert) e))
     (Decides-and _ _ (option_decides number_test a.fore b.fore)
     (Decides-and _ _ (option_decides number_test a.back b.back)
     (Decides-and _ _ (option_decides flash_test a.flash b.flash)
@@ -124,19 +113,8 @@ full_decides a b =
       size = h.1.1.1.1.1.1.0 i;
       invert = h.1.1.1.1.1.1.1 i;
     })
-    (λ e. (
-      ap (λ p. p.fore) e,
-      (
-        ap (λ p. p.back) e,
-        (
-          ap (λ p. p.flash) e,
-          (
-            ap (λ p. p.conceal) e,
-            (ap (λ p. p.lined) e, (ap (λ p. p.boxed) e, (ap (λ p. p.size) e, ap (λ p. p.invert) e))),
-          ),
-        ),
-      ),
-    ))
+    (λ e. (ap (λ p. p.fore) e ⨾ ap (λ p. p.back) e ⨾ ap (λ p. p.flash) e ⨾ ap (λ p. p.conceal) e ⨾ ap (λ p. p.lined) e
+    ⨾ ap (λ p. p.boxed) e ⨾ ap (λ p. p.size) e ⨾ ap (λ p. p.invert) e))
     (Decides-and _ _ (Decides-eqb a.fore b.fore)
     (Decides-and _ _ (Decides-eqb a.back b.back)
     (Decides-and _ _ (flash_decides a.flash b.flash)
@@ -152,10 +130,7 @@ abbrev marker_test : Test Marker
 marker_test = (same_marker, marker_decides)
 
 pub what_decides : (a b : What) → Decides (same_what a b) (a ≡ b)
-what_decides a b = enum_decides what_enum (
-  no_field,
-  (one_field glyph_test, (two_fields glyph_test pen_test, (one_field marker_test, tt))),
-) a b
+what_decides a b = enum_decides what_enum (no_field ⨾ one_field glyph_test ⨾ two_fields glyph_test pen_test ⨾ one_field marker_test ⨾ tt) a b
 
 pub cell_decides : (a b : Cell) → Decides (same_cell a b) (a ≡ b)
 cell_decides a b =
@@ -209,10 +184,7 @@ abbrev inks_test : Test Inks
 inks_test = (same_inks, inks_decides)
 
 pub shape_decides : (a b : Shape) → Decides (same_shape a b) (a ≡ b)
-shape_decides a b = enum_decides shape_enum (
-  no_field,
-  (one_field glyph_test, (two_fields pattern_test inks_test, tt)),
-) a b
+shape_decides a b = enum_decides shape_enum (no_field ⨾ one_field glyph_test ⨾ two_fields pattern_test inks_test ⨾ tt) a b
 
 pub part_decides : (a b : Part) → Decides (same_part a b) (a ≡ b)
 part_decides a b = search rules
@@ -235,31 +207,9 @@ look_decides a b =
           h.1.1.1.1.1.1.1.1.1.0 i;
       boxed = h.1.1.1.1.1.1.1.1.1.1 i;
     })
-    (λ e. (
-      ap (λ p. p.shape) e,
-      (
-        ap (λ p. p.dy) e,
-        (
-          ap (λ p. p.dx) e,
-          (
-            ap (λ p. p.w) e,
-            (
-              ap (λ p. p.h) e,
-              (
-                ap (λ p. p.fore) e,
-                (
-                  ap (λ p. p.back) e,
-                  (
-                    ap (λ p. p.flash) e,
-                    (ap (λ p. p.conceal) e, (ap (λ p. p.lined) e, ap (λ p. p.boxed) e)),
-                  ),
-                ),
-              ),
-            ),
-          ),
-        ),
-      ),
-    ))
+    (λ e. (ap (λ p. p.shape) e ⨾ ap (λ p. p.dy) e ⨾ ap (λ p. p.dx) e ⨾ ap (λ p. p.w) e ⨾ ap (λ p. p.h) e
+    ⨾ ap (λ p. p.fore) e ⨾ ap (λ p. p.back) e ⨾ ap (λ p. p.flash) e ⨾ ap (λ p. p.conceal) e
+    ⨾ ap (λ p. p.lined) e ⨾ ap (λ p. p.boxed) e))
     (Decides-and _ _ (shape_decides a.shape b.shape)
     (Decides-and _ _ (Decides-eqb a.dy b.dy)
     (Decides-and _ _ (Decides-eqb a.dx b.dx)
@@ -290,142 +240,17 @@ abbrev form_test : Test Form
 form_test = (same_form, form_decides)
 
 pub command_decides : (a b : Command) → Decides (same_command a b) (a ≡ b)
-command_decides a b = enum_decides command_enum (
-  no_field,
-  (
-    no_field,
-    (
-      no_field,
-      (
-        no_field,
-        (
-          no_field,
-          (
-            no_field,
-            (
-              no_field,
-              (
-                no_field,
-                (
-                  no_field,
-                  (
-                    no_field,
-                    (
-                      no_field,
-                      (
-                        no_field,
-                        (
-                          one_field number_test,
-                          (
-                            one_field number_test,
-                            (
-                              one_field number_test,
-                              (
-                                one_field number_test,
-                                (
-                                  two_fields number_test number_test,
-                                  (
-                                    one_field number_test,
-                                    (
-                                      one_field number_test,
-                                      (
-                                        one_field c1_set_test,
-                                        (
-                                          two_fields number_test set_test,
-                                          (
-                                            one_field number_test,
-                                            (
-                                              one_field number_test,
-                                              (
-                                                no_field,
-                                                (
-                                                  no_field,
-                                                  (
-                                                    no_field,
-                                                    (
-                                                      one_field bool_test,
-                                                      (
-                                                        one_field bool_test,
-                                                        (
-                                                          one_field bool_test,
-                                                          (
-                                                            two_fields number_test number_test,
-                                                            (
-                                                              two_fields number_test number_test,
-                                                              (
-                                                                one_field number_test,
-                                                                (
-                                                                  one_field number_test,
-                                                                  (
-                                                                    one_field bool_test,
-                                                                    (
-                                                                      no_field,
-                                                                      (
-                                                                        one_field number_test,
-                                                                        (
-                                                                          two_fields number_test rgb_test,
-                                                                          (
-                                                                            two_fields number_test number_test,
-                                                                            (
-                                                                              two_fields bool_test form_test,
-                                                                              (
-                                                                                one_field number_test,
-                                                                                (
-                                                                                  two_fields number_test pattern_test,
-                                                                                  (
-                                                                                    two_fields number_test bool_test,
-                                                                                    (
-                                                                                      one_field number_test,
-                                                                                      (
-                                                                                        no_field,
-                                                                                        (
-                                                                                          one_field c1_set_test,
-                                                                                          (one_field c1_set_test, (one_field number_test, tt)),
-                                                                                        ),
-                                                                                      ),
-                                                                                    ),
-                                                                                  ),
-                                                                                ),
-                                                                              ),
-                                                                            ),
-                                                                          ),
-                                                                        ),
-                                                                      ),
-                                                                    ),
-                                                                  ),
-                                                                ),
-                                                              ),
-                                                            ),
-                                                          ),
-                                                        ),
-                                                      ),
-                                                    ),
-                                                  ),
-                                                ),
-                                              ),
-                                            ),
-                                          ),
-                                        ),
-                                      ),
-                                    ),
-                                  ),
-                                ),
-                              ),
-                            ),
-                          ),
-                        ),
-                      ),
-                    ),
-                  ),
-                ),
-              ),
-            ),
-          ),
-        ),
-      ),
-    ),
-  ),
-) a b
+command_decides a b = enum_decides command_enum (no_field ⨾ no_field ⨾ no_field ⨾ no_field ⨾ no_field ⨾ no_field ⨾ no_field ⨾ no_field ⨾ no_field ⨾ no_field
+    ⨾ no_field ⨾ no_field ⨾ one_field number_test ⨾ one_field number_test ⨾ one_field number_test
+    ⨾ one_field number_test ⨾ two_fields number_test number_test ⨾ one_field number_test ⨾ one_field number_test
+    ⨾ one_field c1_set_test ⨾ two_fields number_test set_test ⨾ one_field number_test ⨾ one_field number_test
+    ⨾ no_field ⨾ no_field ⨾ no_field ⨾ one_field bool_test ⨾ one_field bool_test ⨾ one_field bool_test
+    ⨾ two_fields number_test number_test ⨾ two_fields number_test number_test ⨾ one_field number_test
+    ⨾ one_field number_test ⨾ one_field bool_test ⨾ no_field ⨾ one_field number_test
+    ⨾ two_fields number_test rgb_test ⨾ two_fields number_test number_test ⨾ two_fields bool_test form_test
+    ⨾ one_field number_test ⨾ two_fields number_test pattern_test ⨾ two_fields number_test bool_test
+    ⨾ one_field number_test ⨾ no_field ⨾ one_field c1_set_test ⨾ one_field c1_set_test ⨾ one_field number_test
+    ⨾ tt) a b
 
 abbrev command_test : Test Command
 command_test = (same_command, command_decides)
@@ -453,40 +278,8 @@ abbrev place_test : Test Place
 place_test = (same_place, place_decides)
 
 pub stroke_decides : (a b : Stroke) → Decides (same_stroke a b) (a ≡ b)
-stroke_decides a b = enum_decides stroke_enum (
-  two_fields place_test cell_test,
-  (
-    two_fields number_test number_test,
-    (
-      no_field,
-      (
-        three_fields number_test number_test way_test,
-        (
-          three_fields number_test number_test way_test,
-          (
-            two_fields number_test attr_test,
-            (
-              one_field attr_test,
-              (
-                no_field,
-                (
-                  two_fields number_test paint_test,
-                  (
-                    two_fields number_test number_test,
-                    (
-                      no_field,
-                      (
-                        no_field,
-                        (two_fields number_test pattern_test, (one_field number_test, tt)),
-                      ),
-                    ),
-                  ),
-                ),
-              ),
-            ),
-          ),
-        ),
-      ),
-    ),
-  ),
-) a b
+stroke_decides a b = enum_decides stroke_enum (two_fields place_test cell_test ⨾ two_fields number_test number_test ⨾ no_field
+    ⨾ three_fields number_test number_test way_test ⨾ three_fields number_test number_test way_test
+    ⨾ two_fields number_test attr_test ⨾ one_field attr_test ⨾ no_field ⨾ two_fields number_test paint_test
+    ⨾ two_fields number_test number_test ⨾ no_field ⨾ no_field ⨾ two_fields number_test pattern_test
+    ⨾ one_field number_test ⨾ tt) a b

@@ -23,6 +23,11 @@ bool_decides a b = search rules
 abbrev pub bool_test : Test Bool
 bool_test = (beq, bool_decides)
 
+-- one before those after it
+infixr 20 ◌⨾◌
+abbrev pub ◌⨾◌ : {A B : Type 0} → A → B → A × B
+x ⨾ xs = (x, xs)
+
 -- ---- optional values
 
 pub option_decides : {T : Type 0} (t : Test T) (a b : Option T) → Decides (option_eq t.0 a b) (a ≡ b)

@@ -141,9 +141,6 @@ none_full f a u l k h =
     let n = longer f a u p g in both_ways _ (h n.byte) n.longer in
     full_grows f a u l k ∙ ap not (false_from_ne_true _ never)
 
-fresh_full : (f : Form) → is_full (fresh f) ≡ false
-fresh_full f = refl
-
 begins : (f : Form) → nat_lt 0 f.planes ≡ true → is_pattern f (0x30 ∷ []) ≡ true
 unfolding loads takes loading_after
 begins f h = unit_loads f 0x30 [] h

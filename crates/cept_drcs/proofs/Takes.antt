@@ -67,10 +67,7 @@ fed_pixels l new a more p em m en =
     let takes_it : takes l a ≡ true = takes_pixels l a p ∙ sym em ∙ m in
     let begun : l.begun ≡ true = (and_parts l.begun (nat_lt 0 (room l)) (sym em ∙ m)).0 in
     let drawn_now : loading_after l a ≡ loading_with l (adds l.form.w (room l) (before l) l.half a) = simp (begun, pixels_open a p) in
-    record {
-      taken_is = sym takes_it;
-      state = en ∙ sym (cond-true (takes l a) (loading_after l a) l takes_it ∙ drawn_now);
-    }
+    assumption (sym takes_it, en ∙ sym (cond-true (takes l a) (loading_after l a) l takes_it ∙ drawn_now))
 
 pub unfed_pixels : (l : Loading) (a : ℕ) (more : Bool) → has_pixels a ≡ true → more ≡ (l.begun && nat_lt 0 (room l))
     → more ≡ false → IsFed l a false l

@@ -2,12 +2,6 @@
 use Rattle.std.proofs.Common.{◌≡◌, Bool, true, false, cond, refl}
 use Rattle.cept_parser.specs.Bytes.{Table}
 
--- a relation holds of two choices by one test where it holds of both branches
-pub same_test : {A B : Type 0} (R : A → B → Type 0) (b : Bool) {p q : A} {p' q' : B} → (b ≡ true → R p p')
-    → (b ≡ false → R q q') → R (cond b p q) (cond b p' q')
-same_test R true t f = t refl
-same_test R false t f = f refl
-
 -- a fact holds of a choice where it holds of both branches
 pub each_test : {A : Type 0} (P : A → Type 0) (b : Bool) {p q : A} → (b ≡ true → P p) → (b ≡ false → P q)
     → P (cond b p q)

@@ -14,7 +14,7 @@ use Rattle.cept_parser.specs.declared.context.Context.{Context}
 use Rattle.cept_parser.specs.declared.context.Outcome.{Outcome}
 use Rattle.cept_parser.specs.declared.reader.Reader.{Reader}
 use Rattle.cept_parser.specs.declared.fit.Fit.TheVariants.{Misfit, Open, Whole, Longer}
-use Rattle.cept_parser.specs.Bytes.{is_fit, is_whole, is_longer, Standing}
+use Rattle.cept_parser.specs.Bytes.{is_whole, is_longer, Standing}
 use Rattle.cept_parser.specs.Grammar.{standing, unit, fits}
 use Rattle.cept_parser.specs.Items.{Reading, reading_at, reading_with_items, said_at_end}
 use Rattle.cept_parser.specs.Fit.{word}
@@ -24,7 +24,7 @@ use Rattle.cept_parser.specs.Runs.{pattern_fit, pattern_outcome}
 use Rattle.cept_parser.specs.Waits.{in_pattern, IsBeside, IsWaiting, HasLeft, outcome_at_misfit, cut_item}
 use Rattle.cept_parser.proofs.OneByteMoreLemmas.{read_open, read_as_longer}
 use Rattle.cept_parser.proofs.PatternLemmas.{pattern_run, pattern_more, alone_ends}
-use Rattle.cept_parser.proofs.UnitLemmas.{fits_word, never_open, first_is}
+use Rattle.cept_parser.proofs.UnitLemmas.{never_open}
 
 -- bytes that are no pattern need no loader
 pub free_beside : (x : Context) (u : List ℕ) (b : Bool) (l : Loading) → in_pattern x u ≡ false → b ≡ false
@@ -77,11 +77,6 @@ pub more_beside : (x y : Context) (p : List ℕ) (c : ℕ) (u : List ℕ) (b : B
     → b ≡ false → 1 ≤ length p → y ≡ x → u ≡ p ++ c ∷ [] → IsBeside y u b l
 more_beside x y p c u b l m k f n e q =
     free_beside y u b l (rw (e, q) (pattern_more x p c n ∙ beside_free x p b m k f)) f
-
--- a byte alone that begins a pattern is one
-pub first_pattern : (x : Context) (a : ℕ) → in_pattern x (a ∷ []) ≡ true → is_pattern x.form (a ∷ []) ≡ true
-first_pattern x a h =
-    fits_word _ _ (sym (ap (λ (s : Standing). is_fit s.fit) (pattern_run x (a ∷ []) h).stands) ∙ (first_is x a).first)
 
 -- what fits is no misfit
 pub whole_fit : Whole ≡ Misfit → ⊥
@@ -207,7 +202,4 @@ pub one_taken : (x : Context) (p : List ℕ) (c : ℕ) (b : Bool) (l m : Loading
     → ((g : Form) (a : ℕ) (u : List ℕ) → Leads g (a ∷ u) m → full ≡ not (unit_grows g (a ∷ u)))
     → HasTaken x (p ++ c ∷ []) b m full
 one_taken x p c b l m full h t k says =
-    record {
-      beside = loaded_beside x p c (p ++ c ∷ []) b l m h t (some_loaded x p b l h t) refl k;
-      says = full_says x.form p c m full says k;
-    }
+    assumption (loaded_beside x p c (p ++ c ∷ []) b l m h t (some_loaded x p b l h t) refl k, full_says x.form p c m full says k)

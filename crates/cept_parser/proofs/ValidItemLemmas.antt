@@ -53,11 +53,7 @@ cut_sound x u v b h =
     let none : unit x u ≡ None → IsSoundClosed (length u) (outcome_at_misfit x (unit x u)) = λ e.
     subst P (sym e) (record { valid = record { said = tt; next = text_valid x v }; measured = open_small x u h e }) in
     let some : (o : Outcome) → unit x u ≡ Some o → IsSoundClosed (length u) (outcome_at_misfit x (unit x u)) = λ o e.
-    subst P (sym e) (record {
-      valid = unit_valid x u o v b e;
-      measured =
-          said_measured o.said (length u) (fits_hundred x u v h) (refused_small x u o e);
-    }) in
+    subst P (sym e) (assumption (unit_valid x u o v b e, said_measured o.said (length u) (fits_hundred x u v h) (refused_small x u o e))) in
     elim (cases_outcome (unit x u)) [ inl e ↦ none e | inr p ↦ some p.0 p.1 ]
 
 -- a first item says what its bytes say where they are cut

@@ -270,12 +270,7 @@ planes_valid false false = refl
 form_valid : (u : List ℕ) → IsValidForm (drcs_form u)
 unfolding drcs_width drcs_height drcs_planes
 form_valid u =
-    record {
-      size =
-          size_valid (contains u 0x3A) (contains u 0x3B) (contains u 0x3C) (contains u 0x3F) (contains u 0x36);
-      planes =
-          planes_valid (contains u 0x42) (contains u 0x44);
-    }
+    assumption (size_valid (contains u 0x3A) (contains u 0x3B) (contains u 0x3C) (contains u 0x3F) (contains u 0x36), planes_valid (contains u 0x42) (contains u 0x44))
 
 drcs_code : (c : ℕ) → is_between 0x21 0x7E c ≡ true → (0x21 ≤ c) × (c ≤ 0x7E)
 drcs_code c h = (grind (arith, nat_tests), grind (arith, nat_tests))

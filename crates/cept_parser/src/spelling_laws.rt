@@ -60,7 +60,7 @@ pub fn spellings_are_units()
         → AreBytes (spellings cs) }
 {}
 
-/// Reading in parts: what bytes read as doesn't hang on what follows them.
+/// Reading in parts: what bytes read as doesn't depend on what follows them.
 pub fn reading_in_parts()
     ensures nothing { (x : Context) → Reads x [] [] x }
     ensures joined { (x y z : Context) (a b : List ℕ) (cs ds : List Command) → Reads x a cs y

@@ -1,6 +1,6 @@
 -- Cells by looking back are cells by one stroke after the other.
 use Rattle.std.proofs.Common.{◌≡◌, ℕ, ◌+◌, ◌-◌, Bool, true, false, not, ◌&&◌, cond, eqb, leb, List, [], ◌∷◌, ◌++◌, reverse}
-use Rattle.std.proofs.Common.{refl, sym, ◌∙◌, ap, append_assoc, arith}
+use Rattle.std.proofs.Common.{refl, sym, ◌∙◌, ap, append_assoc, rules}
 use Rattle.std.specs.List.{AllByRecursion}
 use Rattle.std.proofs.lemmas.Bool.{and_parts, eqb-false, leb-true}
 use Rattle.cept_codes.specs.declared.command.Up.{Up}
@@ -35,12 +35,7 @@ shifted-same a b ways.Up was other area same r c on =
     ∙ by_bool (eqb r b) (λ last. ap (λ (t : Bool). cond t blank_cell (was (r + 1) c)) last
     ∙ sym (ap (λ (t : Bool). cond t blank_cell (other (r + 1) c)) last))
     (λ more. let apart = eqb-false r b more in
-    ap (cond (eqb r b) blank_cell) (same (r + 1) c (record {
-      from_top = omega arith;
-      to_bottom = omega (arith, area, low, high, apart);
-      from_left = on.from_left;
-      to_right = on.to_right;
-    })))
+    ap (cond (eqb r b) blank_cell) (same (r + 1) c (search rules)))
     ∙ sym (ap (λ (t : Bool). cond t (cond (eqb r b) blank_cell (other (r + 1) c)) (other r c)) inside))
     (λ outside. ap (cond (leb a r && leb r b) (cond (eqb r b) blank_cell (was (r + 1) c))) (same r c on)
     ∙ ap (λ (t : Bool). cond t (cond (eqb r b) blank_cell (was (r + 1) c)) (other r c)) outside
@@ -54,12 +49,7 @@ shifted-same a b ways.Down was other area same r c on =
     ∙ by_bool (eqb r a) (λ first. ap (λ (t : Bool). cond t blank_cell (was (r - 1) c)) first
     ∙ sym (ap (λ (t : Bool). cond t blank_cell (other (r - 1) c)) first))
     (λ more. let apart = eqb-false r a more in
-    ap (cond (eqb r a) blank_cell) (same (r - 1) c (record {
-      from_top = omega (arith, area, low, high, apart);
-      to_bottom = omega (arith, on);
-      from_left = on.from_left;
-      to_right = on.to_right;
-    })))
+    ap (cond (eqb r a) blank_cell) (same (r - 1) c (search rules)))
     ∙ sym (ap (λ (t : Bool). cond t (cond (eqb r a) blank_cell (other (r - 1) c)) (other r c)) inside))
     (λ outside. ap (cond (leb a r && leb r b) (cond (eqb r a) blank_cell (was (r - 1) c))) (same r c on)
     ∙ ap (λ (t : Bool). cond t (cond (eqb r a) blank_cell (was (r - 1) c)) (other r c)) outside

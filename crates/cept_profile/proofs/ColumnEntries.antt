@@ -1,6 +1,6 @@
 -- Rows read by their columns, from 1: within the row, outside it, and row by row in a table.
 use Rattle.std.proofs.Common.{◌≡◌, ℕ, ◌+◌, ◌-◌, ◌<◌, ◌≤◌, ◌==◌, ◌⊎◌, inl, inr, zero, suc, Bool, false, List, length}
-use Rattle.std.proofs.Common.{map}
+use Rattle.std.proofs.Common.{map, rules}
 use Rattle.std.proofs.Common.{get_or}
 use Rattle.std.proofs.Common.{refl, sym, ap, ◌∙◌, arith}
 use Rattle.std.specs.List.{list_any, range_with_len}
@@ -127,12 +127,7 @@ off_or_on (suc r) (suc c) high =
     elim (cases_lt 40 (suc c)) [
       | inl past ↦ inl (inr (inr past))
       | inr right ↦
-          inr (record {
-            from_top = omega arith;
-            to_bottom = high;
-            from_left = omega arith;
-            to_right = right;
-          })
+          inr (search rules)
     ]
 
 -- there a table shows the default

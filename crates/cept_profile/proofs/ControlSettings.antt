@@ -234,13 +234,6 @@ control_effect-told s commands.ServiceEnd earlier known valid ended =
     ap (λ (kept : Option Working). settings_of (control_after_service s kept)) (ended refl)
 control_effect-told s _ earlier known valid ended = refl
 
--- an accent is no setting
-state_for_effect-same : (s : ControlState) (command : Command)
-    → settings_of (state_for_effect s command) ≡ settings_of s
-state_for_effect-same s command =
-    cond_both (finds_accent command) s.working (working_without_accent s.working)
-    (λ w. settings_of (control_with s w) ≡ settings_of s) (λ e. refl) (λ e. refl)
-
 -- ---- all commands
 
 -- the settings of one with rows, wrap, implicit scrolling, revision and area of another
@@ -258,7 +251,7 @@ pub record IsTold (s : ControlState) (history : List Command) : Type 0 where
   pub running : is_running history ≡ true → Brings s history s.kept
   pub idle : is_running history ≡ false → s.kept ≡ None
 
--- what is kept doesn't hang on an accent
+-- what is kept doesn't depend on an accent
 Brings-same : (s : ControlState) (history : List Command) (kept : Option Working) → Brings s history kept
     → Brings (control_with s (working_without_accent s.working)) history kept
 Brings-same s history None brings = brings

@@ -128,11 +128,7 @@ pub look-cleared : (s : State) (r c : ℕ) → OnScreen r c → IsScreenPen s.pa
 look-cleared s r c on is =
     look-unwritten (core_of (state_after s commands.Clear)) (IsUnwritten-cleared s is) r c on
     ∙ ap (λ (p : Page). look_of (definitions_of p) unset_pen p.screen_pen whats.Blank) (page-cleared_parts s)
-    ∙ look_of-blank_cell_same (record {
-      paints = list_of_colours (paint_in s.page.paints);
-      dclut = list_of_dclut (dclut_in s.page.dclut);
-      patterns = list_of_codes (pattern_in s.page.patterns);
-    }) (definitions_of s.page) s.page.screen_pen is (λ i below.
+    ∙ look_of-blank_cell_same (assumption (list_of_colours (paint_in s.page.paints), list_of_dclut (dclut_in s.page.dclut), list_of_codes (pattern_in s.page.patterns))) (definitions_of s.page) s.page.screen_pen is (λ i below.
     entry-list_by_index black_paint 0 32 (paint_in s.page.paints) i (omega arith) (omega (arith, below)))
 
 -- which leaves them as they are in a valid page

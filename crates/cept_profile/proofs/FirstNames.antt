@@ -1,5 +1,5 @@
 -- What the places of the first core name.
-use Rattle.std.proofs.Common.{◌≡◌, ℕ, ◌≤◌, List, [], ap, sym, ◌∙◌, arith}
+use Rattle.std.proofs.Common.{◌≡◌, ℕ, ◌≤◌, List, [], ap, sym, ◌∙◌, arith, rules}
 use Rattle.cept_codes.specs.declared.attribute.Full.{Full}
 use Rattle.cept_codes.specs.declared.attribute.Pen.{Pen}
 use Rattle.cept_codes.specs.declared.cell.Cell.{Cell}
@@ -65,10 +65,5 @@ names_at-first r c on =
     let whole : part_at (parts_of (core [])) r c ≡ single_part = whole_sign r c on in
     names_at-itself (core []) r c on (ap (λ (p : Part). p.dy) whole) (ap (λ (p : Part). p.dx) whole)
     ∙ blank_named (contents_of_row (core []) r) (row_pen_in (page []).row_pens r) (page []).screen_pen c on.from_left
-    (λ d from to. blank_there r d (record {
-      from_top = on.from_top;
-      to_bottom = on.to_bottom;
-      from_left = from;
-      to_right = omega (arith, to, on);
-    }))
+    (λ d from to. blank_there r d (search rules))
     (unset_there r on.from_top on.to_bottom) (ap (λ (p : Page). p.screen_pen) page-none)

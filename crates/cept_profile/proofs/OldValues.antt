@@ -16,7 +16,7 @@ use Rattle.cept_codes.proofs.Laws.{entry-list_by_index, list_by_index-entry, sam
 use Rattle.cept_codes.proofs.Laws.{value_at-table}
 use Rattle.cept_profile.specs.Control.{ControlState}
 use Rattle.cept_profile.specs.OldValues.{DifferWhereNoted, OldValues, first_noted, no_old_values, noted_where, old_cell}
-use Rattle.cept_profile.specs.OldValues.{old_dclut, old_paint, old_pattern, old_row_pen, page_unwound, unwound}
+use Rattle.cept_profile.specs.OldValues.{page_unwound, unwound}
 use Rattle.cept_profile.specs.OldValues.{with_cells, with_control, with_dclut, with_paints, with_patterns, with_row_pens}
 use Rattle.cept_profile.specs.OldValues.{with_screen_pen}
 use Rattle.cept_profile.specs.PageParts.{dclut_in, paint_in, pattern_in, row_pen_in}
@@ -83,15 +83,6 @@ list_none_back {X} d from count xs long =
     (λ k low high.
     ap (λ (o : Option X). unwrap_or o (entry d from xs k)) (entry-list_by_index None from count (λ _. None) k low high))
     ∙ list_by_index-entry d from count xs long
-
-list_stands : {X : Type 0} (from count : ℕ) (these : ℕ → Bool) (value : ℕ → X) (olds : List (Option X))
-    → length olds ≡ count
-    → ((k : ℕ) → from ≤ k → k < from + count → these k ≡ true → is_some (entry None from olds k) ≡ true)
-    → list_by_index from count (λ j. noted_where (these j) (value j) (entry None from olds j)) ≡ olds
-list_stands from count these value olds long noted =
-    same_indexed from count (λ j. noted_where (these j) (value j) (entry None from olds j)) (entry None from olds)
-    (λ k low high. stands (these k) (value k) (entry None from olds k) (noted k low high))
-    ∙ list_by_index-entry None from count olds long
 
 -- ---- noting what stands there
 
@@ -215,30 +206,3 @@ with_cells-again old these cell is noted =
     (same_table (λ r c. noted_where (these r c) (cell r c) (old_cell old r c)) (value_at None old.cells)
     (λ r c on. stands (these r c) (cell r c) (old_cell old r c) (noted r c on))
     ∙ table-value_at old.cells None is)
-
-pub with_row_pens-again : (old : OldValues) (these : ℕ → Bool) (pen : ℕ → Pen) → length old.row_pens ≡ 24
-    → ((r : ℕ) → 1 ≤ r → r ≤ 24 → these r ≡ true → is_some (old_row_pen old r) ≡ true)
-    → with_row_pens these pen old ≡ old
-with_row_pens-again old these pen long noted =
-    ap (λ (l : List (Option Pen)). record old { row_pens = l })
-    (list_stands 1 24 these pen old.row_pens long (λ r low high. noted r low (omega arith)))
-
-pub with_paints-again : (old : OldValues) (these : ℕ → Bool) (paint : ℕ → Paint) → length old.paints ≡ 32
-    → ((i : ℕ) → i < 32 → these i ≡ true → is_some (old_paint old i) ≡ true) → with_paints these paint old ≡ old
-with_paints-again old these paint long noted =
-    ap (λ (l : List (Option Paint)). record old { paints = l })
-    (list_stands 0 32 these paint old.paints long (λ i low high. noted i (omega arith)))
-
-pub with_dclut-again : (old : OldValues) (these : ℕ → Bool) (colour : ℕ → ℕ) → length old.dclut ≡ 4
-    → ((i : ℕ) → i < 4 → these i ≡ true → is_some (old_dclut old i) ≡ true) → with_dclut these colour old ≡ old
-with_dclut-again old these colour long noted =
-    ap (λ (l : List (Option ℕ)). record old { dclut = l })
-    (list_stands 0 4 these colour old.dclut long (λ i low high. noted i (omega arith)))
-
-pub with_patterns-again : (old : OldValues) (these : ℕ → Bool) (pattern : ℕ → Option Pattern)
-    → length old.patterns ≡ 94
-    → ((d : ℕ) → 0x21 ≤ d → d ≤ 0x7E → these d ≡ true → is_some (old_pattern old d) ≡ true)
-    → with_patterns these pattern old ≡ old
-with_patterns-again old these pattern long noted =
-    ap (λ (l : List (Option (Option Pattern))). record old { patterns = l })
-    (list_stands 0x21 94 these pattern old.patterns long (λ d low high. noted d low (omega arith)))

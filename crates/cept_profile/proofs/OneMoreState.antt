@@ -21,14 +21,7 @@ use Rattle.std.proofs.lemmas.List.{append-nil, reverse-append, reverse-reverse}
 -- the page that more strokes leave is the page before them with each drawn after the other
 page_back-page_after : (more earlier : List Stroke) → AllByRecursion IsValidStroke more
     → page_back (reverse more ++ earlier) ≡ page_after (page_back earlier) more
-page_back-page_after more earlier valid i = record {
-  cells = cells_after_all-cell_back more earlier valid i;
-  row_pens = row_pens-after_all more earlier valid i;
-  screen_pen = screen_pen-after_all more earlier i;
-  paints = paints-after_all more earlier i;
-  dclut = dclut-after_all more earlier i;
-  patterns = patterns-after_all more earlier i;
-}
+page_back-page_after more earlier valid i = assumption (cells_after_all-cell_back more earlier valid i, row_pens-after_all more earlier valid i, screen_pen-after_all more earlier i, paints-after_all more earlier i, dclut-after_all more earlier i, patterns-after_all more earlier i)
 
 -- ---- valid strokes
 
@@ -85,8 +78,7 @@ pub state-one_more : (history : List Command) (command : Command) → AllValid h
 state-one_more history command valid_history valid =
     ap (λ (p : Page). let s : State = record { page = p; control = control (history ++ command ∷ []) } in s)
     (page-one_more history command valid_history valid)
-    ∙ ap (λ (k : ControlState). let s : State = record
-    { page = page_after (page history) (strokes_of (control history) command); control = k } in s)
+    ∙ ap (λ (k : ControlState). let s : State = assumption (page_after (page history) (strokes_of (control history) command)) in s)
     (control-one_more history command)
 
 -- looking back over valid strokes gives the blank page with each drawn after the other

@@ -1,4 +1,5 @@
 -- A page on which no marker stands and nothing sets a size is seen cell by cell.
+use Rattle.std.proofs.Common.{rules}
 use Rattle.std.proofs.Common.{◌≡◌, ℕ, ◌-◌, ◌≤◌, ◌||◌, ◌++◌, Bool, false, List, [], ◌∷◌, ap, ◌∙◌, inl, inr, arith}
 use Rattle.std.specs.List.{list_any, range_with_len}
 use Rattle.std.proofs.lemmas.Bool.{cases_lt, or_parts}
@@ -64,12 +65,7 @@ single_there : (k : Core) → IsPlain k → (r : ℕ) → 1 ≤ r → r ≤ 24 �
     → own_size k r c ≡ sizes.Normal
 single_there k plain r low high c from to =
     size_in_row-single (contents_of_row k r) (row_pen_in k.page.row_pens r) k.page.screen_pen c from (λ d left right.
-    (or_parts (is_marker (contents_of_row k r d)) (sets_double_size (contents_of_row k r d)) (plain.cells r d (record {
-      from_top = low;
-      to_bottom = high;
-      from_left = left;
-      to_right = omega arith;
-    }))).1) (plain.rows r low high) plain.screen
+    (or_parts (is_marker (contents_of_row k r d)) (sets_double_size (contents_of_row k r d)) (plain.cells r d (search rules))).1) (plain.rows r low high) plain.screen
 
 nothing_above : (k : Core) → IsPlain k → (r : ℕ) → 1 ≤ r → r ≤ 24 → (c : ℕ)
     → covers_below (part_of (look_seen (looks_of k) (r - 1) c)) ≡ false
@@ -94,12 +90,7 @@ look-plain k plain r c on =
     (nothing_above k plain r on.from_top on.to_bottom)
     ∙ look_in_row-unmarked (definitions_of k.page) (contents_of_row k r) (row_pen_in k.page.row_pens r)
     k.page.screen_pen c on.from_left (λ d low high.
-    (or_parts (is_marker (contents_of_row k r d)) (sets_double_size (contents_of_row k r d)) (plain.cells r d (record {
-      from_top = on.from_top;
-      to_bottom = on.to_bottom;
-      from_left = low;
-      to_right = omega (arith, on);
-    }))).0)
+    (or_parts (is_marker (contents_of_row k r d)) (sets_double_size (contents_of_row k r d)) (plain.cells r d (search rules))).0)
 
 pub looks_of-plain : (k : Core) → IsPlain k → looks_of k ≡ table (plain_look k)
 looks_of-plain k plain = same_table (look k) (plain_look k) (look-plain k plain)

@@ -1,7 +1,7 @@
 -- Rows that are made alike under the same covers: they have the same parts, and what they show of their own cells and of
--- the row above hangs on the same origins.
+-- the row above depends on the same origins.
 use Rattle.std.proofs.Common.{◌≡◌, ℕ, ◌+◌, ◌-◌, ◌≤◌, cond, not, ◌&&◌, ◌==◌, inl, inr, zero, suc, Bool, true, false}
-use Rattle.std.proofs.Common.{Option, Some, None, refl, sym, ◌∙◌, ap, subst, arith}
+use Rattle.std.proofs.Common.{Option, Some, None, refl, sym, ◌∙◌, ap, subst, arith, rules}
 use Rattle.std.specs.Prelude.{IsTrue, is_none, is_some, nat_lt, option_map}
 use Rattle.std.proofs.lemmas.Bool.{and_parts, cases_Bool, eqb-true}
 use Rattle.cept_codes.specs.declared.attribute.Full.{Full}
@@ -128,12 +128,7 @@ part_at-made before after q r made from to low high (suc c) right =
     let earlier : part_at (parts_of after) r (suc c - 1) ≡ part_at (parts_of before) q (suc c - 1) =
     subst (λ d. part_at (parts_of after) r d ≡ part_at (parts_of before) q d) (sym back)
     (part_at-made before after q r made from to low high c (omega arith)) in
-    part_at-by (tiled_parts after) r (suc c) (record {
-      from_top = low;
-      to_bottom = high;
-      from_left = omega arith;
-      to_right = right;
-    })
+    part_at-by (tiled_parts after) r (suc c) (search rules)
     ∙ part_by-alike (part_at (parts_of after) (r - 1) (suc c)) (part_at (parts_of after) (r - 1) (suc c - 1))
     (part_at (parts_of after) (r - 1) (suc c + 1)) (part_at (parts_of after) r (suc c - 1))
     (part_at (parts_of before) (q - 1) (suc c)) (part_at (parts_of before) (q - 1) (suc c - 1))
@@ -142,12 +137,7 @@ part_at-made before after q r made from to low high (suc c) right =
     (cover-made before after q r made to high (suc c)) (cover-made before after q r made to high (suc c - 1))
     (cover-made before after q r made to high (suc c + 1)) earlier
     (own_size-made before after q r made (suc c) (omega arith) right) made.last
-    ∙ sym (part_at-by (tiled_parts before) q (suc c) (record {
-      from_top = from;
-      to_bottom = to;
-      from_left = omega arith;
-      to_right = right;
-    }))
+    ∙ sym (part_at-by (tiled_parts before) q (suc c) (search rules))
 
 -- ---- what is at the origins
 
@@ -215,12 +205,7 @@ pub names_at-made : (before after : Core) (q r : ℕ) → IsMadeAs before q afte
     → names_at after r c ≡ names_at before q c
 unfolding full_attributes contents_at_origin
 names_at-made before after q r made from to c on above =
-    let beneath : OnScreen q c = record {
-      from_top = from;
-      to_bottom = to;
-      from_left = on.from_left;
-      to_right = on.to_right;
-    } in
+    let beneath : OnScreen q c = assumption in
     let covers : covers_below (part_at (parts_of after) (r - 1) c) ≡ covers_below (part_at (parts_of before) (q - 1) c) =
     covers-by (part_at (parts_of after) (r - 1) c) (part_at (parts_of before) (q - 1) c)
     (cover-made before after q r made to on.to_bottom c) in

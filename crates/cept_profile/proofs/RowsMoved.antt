@@ -117,12 +117,7 @@ cells_after_all-from cells (x ∷ xs) r q c valid on is out =
     let parts = or_parts (writes_where x (row_before xs r)) (is_written xs r) out in
     let between : IsRow steps.0 = row_before-on xs r steps.0 valid.1 on.from_top on.to_bottom steps.1 in
     cells_after_all-from (cells_after cells x) xs r steps.0 c valid.1 on steps.1 parts.1
-    ∙ value_at-table (cell_after x (value_at blank_cell cells)) blank_cell steps.0 c (record {
-      from_top = between.0;
-      to_bottom = between.1;
-      from_left = on.from_left;
-      to_right = on.to_right;
-    })
+    ∙ value_at-table (cell_after x (value_at blank_cell cells)) blank_cell steps.0 c (assumption)
     ∙ cell_after-from x (value_at blank_cell cells) steps.0 q c steps.2
     (sym (ap (writes_where x) steps.1) ∙ parts.0)
 

@@ -112,12 +112,7 @@ made-as before after strokes q r leads low high from free same covers =
     (not (same_pen before.page.screen_pen after.page.screen_pen)) first.0 in
     record {
       contents = λ c left right.
-          contents-from before after strokes q r c leads (record {
-            from_top = low;
-            to_bottom = high;
-            from_left = left;
-            to_right = right;
-          }) from free;
+          contents-from before after strokes q r c leads (assumption) from free;
       pen = sym (pen-same (row_pen_in before.page.row_pens q) (row_pen_in after.page.row_pens r)
           (not-false (same_pen (row_pen_in before.page.row_pens q) (row_pen_in after.page.row_pens r)) pens.0));
       screen = sym (pen-same before.page.screen_pen after.page.screen_pen
@@ -310,12 +305,7 @@ look-free before after q r c made kept valid beneath on free =
     let column = origin_column after r c on in
     let d : ℕ = c - p.dx in
     let what_valid : IsValidWhat (contents_of_row after r d) =
-    subst IsValidWhat (sym (made.contents d column.0 column.1)) (valid.cells q d (record {
-      from_top = beneath.from_top;
-      to_bottom = beneath.to_bottom;
-      from_left = column.0;
-      to_right = column.1;
-    })) in
+    subst IsValidWhat (sym (made.contents d column.0 column.1)) (valid.cells q d (assumption)) in
     let named : KeepsNamed (definitions_of before.page) (definitions_of after.page) (own_attributes_in after r d)
     (contents_of_row after r d) (own_look after r d).shape =
     place-kept before after r c (own_attributes_in after r d) (contents_of_row after r d) (own_look after r d).shape kept
@@ -386,23 +376,14 @@ look-unreached before after strokes q r c leads on from out =
     let there : IsRow q = row_before-on strokes r q leads.each on.from_top on.to_bottom from in
     look-made before after q r c
     (made-as before after strokes q r leads on.from_top on.to_bottom from fail.free fail.attributes fail.covers)
-    (names-kept before after after strokes r leads fail.names) leads.valid (record {
-      from_top = there.0;
-      to_bottom = there.1;
-      from_left = on.from_left;
-      to_right = on.to_right;
-    }) on
+    (names-kept before after after strokes r leads fail.names) leads.valid (assumption) on
 
 -- ---- commands
 
 -- the strokes of a valid command lead from a valid state to the next
 pub LeadsTo-state_after : (s : State) (command : Command) → IsValidState s → IsValidCommand command
     → LeadsTo (core_of s) (core_of (state_after s command)) (strokes_of s.control command)
-LeadsTo-state_after s command is valid = record {
-  valid = is.page;
-  each = IsValidStroke-strokes_of s.control command is.control valid;
-  page = refl;
-}
+LeadsTo-state_after s command is valid = assumption (IsValidStroke-strokes_of s.control command is.control valid)
 
 pub reaches-by : (s : State) (command : Command) (r : ℕ)
     → reaches s command r

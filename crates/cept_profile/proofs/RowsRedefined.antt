@@ -1,4 +1,4 @@
--- Definitions that stay: what no stroke sets or clears is as before, so what a row hangs on stays where none of its names
+-- Definitions that stay: what no stroke sets or clears is as before, so what a row depends on stays where none of its names
 -- is defined anew.
 use Rattle.std.proofs.Common.{◌≡◌, ℕ, ◌+◌, ◌≤◌, ◌==◌, inl, inr, Bool, true, false, List, [], ◌∷◌}
 use Rattle.std.proofs.Common.{length, Option, Some, None, refl, sym, ◌∙◌, ap, arith}

@@ -1,5 +1,5 @@
 -- Tiled rows and tables: there is exactly one, and its parts are valid.
-use Rattle.std.proofs.Common.{◌≡◌, ℕ, ◌+◌, ◌-◌, ◌≤◌, zero, suc, inl, inr, cond, not, Bool, true, false, List}
+use Rattle.std.proofs.Common.{◌≡◌, ℕ, ◌+◌, ◌-◌, ◌≤◌, zero, suc, inl, inr, cond, not, Bool, true, false, List, rules}
 use Rattle.std.proofs.Common.{refl, sym, ap, subst, ◌∙◌, arith}
 use Rattle.std.proofs.lemmas.Bool.{and_parts, cases_Bool, cond-false, cond-true, false≢true}
 use Rattle.cept_codes.specs.declared.attribute.Size.{Size}
@@ -158,12 +158,7 @@ record IsWithin (r c : ℕ) (p : Part) : Type 0 where
 
 IsWithin-single : (r c : ℕ) → IsWithin r c single_part
 IsWithin-single r c = record {
-  valid = record {
-    down = omega arith;
-    right = omega arith;
-    wide = (omega arith, omega arith);
-    high = (omega arith, omega arith);
-  };
+  valid = search rules;
   down = omega arith;
   right = omega arith;
   below = λ on. absurd (false≢true on);
@@ -199,12 +194,7 @@ IsWithin-part_by above above_left above_right left size last r c low first up be
       | inr free ↦
           elim (cases_Bool (is_covered_from_left above_left left)) [
             | inl covered ↦ subst (IsWithin r c) (sym (cond-false _ _ _ free ∙ cond-true _ _ _ covered)) (record {
-              valid = record {
-                down = omega arith;
-                right = omega arith;
-                wide = before.valid.wide;
-                high = before.valid.high;
-              };
+              valid = search rules;
               down = omega arith;
               right = before.across (and_parts (not (covers_below above_left)) (covers_right left) covered).1;
               below = λ on. low;
@@ -217,12 +207,7 @@ IsWithin-part_by above above_left above_right left size last r c low first up be
 
 -- back within the screen
 OnScreen-back : (r c dy dx : ℕ) → OnScreen r c → dy ≤ r - 1 → dx ≤ c - 1 → OnScreen (r - dy) (c - dx)
-OnScreen-back r c dy dx on down right = record {
-  from_top = omega (arith, on, down);
-  to_bottom = omega (arith, on);
-  from_left = omega (arith, on, right);
-  to_right = omega (arith, on);
-}
+OnScreen-back r c dy dx on down right = search rules
 
 row_within : (wanted : ℕ → ℕ → Size) (is_last : ℕ → Bool) (t : List (List Part)) (r : ℕ) → IsTiled wanted is_last t
     → 1 ≤ r → r ≤ 24 → ((c : ℕ) → c ≤ 40 → IsWithin (r - 1) c (part_at t (r - 1) c)) → (c : ℕ) → c ≤ 40

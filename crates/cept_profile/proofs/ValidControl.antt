@@ -1,5 +1,5 @@
 -- Valid control: the initial state is valid, and every valid command keeps it valid.
-use Rattle.std.proofs.Common.{◌≡◌, ◌⊎◌, ℕ, ◌+◌, ◌-◌, ◌≤◌, ◌&&◌, zero, suc, Bool, false, min, cond, eqb, leb}
+use Rattle.std.proofs.Common.{◌≡◌, ◌⊎◌, ℕ, ◌+◌, ◌-◌, ◌≤◌, ◌&&◌, zero, suc, Bool, false, min, cond, eqb, leb, rules}
 use Rattle.std.proofs.Common.{Option, Some, None, inl, inr, refl, subst, arith}
 use Rattle.std.specs.Prelude.{IfSome}
 use Rattle.std.proofs.lemmas.Bool.{cond_both, eqb-false, leb-true}
@@ -50,16 +50,7 @@ AreValidSets-initial_control : AreValidSets initial_sets
 AreValidSets-initial_control = record { left = omega arith; right = (omega arith, omega arith); single = tt }
 
 pub IsValidWorking-initial_control : IsValidWorking initial_working
-IsValidWorking-initial_control = record {
-  place = record { from_top = omega arith; to_bottom = omega arith; from_left = omega arith; to_right = omega arith };
-  sets = AreValidSets-initial_control;
-  accent = tt;
-  last = tt;
-  pen = IsValidPen-unset_pen;
-  fast = omega arith;
-  step = inl refl;
-  table = omega arith;
-}
+IsValidWorking-initial_control = search rules
 
 pub IsValidControl-initial_control : IsValidControl initial_control
 IsValidControl-initial_control = record
@@ -76,49 +67,13 @@ IsWithin-control s is = record { valid = is.working; row = is.within }
 
 pub IsWithin-working_at : (rows r c : ℕ) (w : Working) → IsWithin rows w → OnScreen r c → r ≤ rows
     → IsWithin rows (working_at r c w)
-IsWithin-working_at rows r c w is on row = record {
-  valid = record {
-    place = on;
-    sets = is.valid.sets;
-    accent = is.valid.accent;
-    last = is.valid.last;
-    pen = is.valid.pen;
-    fast = is.valid.fast;
-    step = is.valid.step;
-    table = is.valid.table;
-  };
-  row = row;
-}
+IsWithin-working_at rows r c w is on row = assumption
 
 pub IsWithin-working_without_run : (rows : ℕ) (w : Working) → IsWithin rows w → IsWithin rows (working_without_run w)
-IsWithin-working_without_run rows w is = record {
-  valid = record {
-    place = is.valid.place;
-    sets = is.valid.sets;
-    accent = is.valid.accent;
-    last = is.valid.last;
-    pen = is.valid.pen;
-    fast = is.valid.fast;
-    step = inl refl;
-    table = is.valid.table;
-  };
-  row = is.row;
-}
+IsWithin-working_without_run rows w is = search rules
 
 pub IsWithin-working_without_pen : (rows : ℕ) (w : Working) → IsWithin rows w → IsWithin rows (working_without_pen w)
-IsWithin-working_without_pen rows w is = record {
-  valid = record {
-    place = is.valid.place;
-    sets = is.valid.sets;
-    accent = is.valid.accent;
-    last = is.valid.last;
-    pen = IsValidPen-unset_pen;
-    fast = omega arith;
-    step = is.valid.step;
-    table = is.valid.table;
-  };
-  row = is.row;
-}
+IsWithin-working_without_pen rows w is = search rules
 
 -- at another place, with no run and no pen
 pub IsWithin-fresh : (rows r c : ℕ) (w : Working) → IsWithin rows w → OnScreen r c → r ≤ rows
@@ -237,37 +192,13 @@ AreValidSets-sets_with s g set is =
 
 pub IsWithin-working_with_sets : (rows : ℕ) (sets : Sets) (w : Working) → IsWithin rows w → AreValidSets sets
     → IsWithin rows (working_with_sets sets w)
-IsWithin-working_with_sets rows sets w is valid = record {
-  valid = record {
-    place = is.valid.place;
-    sets = valid;
-    accent = is.valid.accent;
-    last = is.valid.last;
-    pen = is.valid.pen;
-    fast = is.valid.fast;
-    step = is.valid.step;
-    table = is.valid.table;
-  };
-  row = is.row;
-}
+IsWithin-working_with_sets rows sets w is valid = assumption
 
 -- ---- pens
 
 pub IsWithin-pen : (rows : ℕ) (pen : Pen) (fast : ℕ) (w : Working) → IsWithin rows w → IsValidPen pen → fast ≤ 3
     → IsWithin rows (record w { pen = pen; fast = fast })
-IsWithin-pen rows pen fast w is valid_pen valid_fast = record {
-  valid = record {
-    place = is.valid.place;
-    sets = is.valid.sets;
-    accent = is.valid.accent;
-    last = is.valid.last;
-    pen = valid_pen;
-    fast = valid_fast;
-    step = is.valid.step;
-    table = is.valid.table;
-  };
-  row = is.row;
-}
+IsWithin-pen rows pen fast w is valid_pen valid_fast = assumption
 
 pub IsValidPen-pen_with : (attribute : Attr) (p : Pen) → IsValidAttr attribute → IsValidPen p
     → IsValidPen (pen_with attribute p)
@@ -309,19 +240,7 @@ step_after-in_range _ step is = is
 -- another run and step, and another fast flash
 IsWithin-run : (rows : ℕ) (run : Bool) (step : ℕ) (w : Working) → IsWithin rows w → (step ≡ 1) ⊎ (step ≡ 2)
     → IsWithin rows (record w { run = run; step = step })
-IsWithin-run rows run step w is valid_step = record {
-  valid = record {
-    place = is.valid.place;
-    sets = is.valid.sets;
-    accent = is.valid.accent;
-    last = is.valid.last;
-    pen = is.valid.pen;
-    fast = is.valid.fast;
-    step = valid_step;
-    table = is.valid.table;
-  };
-  row = is.row;
-}
+IsWithin-run rows run step w is valid_step = assumption
 
 IsWithin-fast : (rows : ℕ) (fast : ℕ) (w : Working) → IsWithin rows w → fast ≤ 3
     → IsWithin rows (record w { fast = fast })
@@ -375,76 +294,27 @@ IsWithin-working_after_reveal s c1sets.Serial is = IsWithin-marker s (markers.Co
 
 -- under another C1 set
 IsWithin-with_c1 : (rows : ℕ) (set : C1Set) (w : Working) → IsWithin rows w → IsWithin rows (with_c1 set w)
-IsWithin-with_c1 rows set w is = record {
-  valid = record {
-    place = is.valid.place;
-    sets = is.valid.sets;
-    accent = is.valid.accent;
-    last = is.valid.last;
-    pen = is.valid.pen;
-    fast = is.valid.fast;
-    step = is.valid.step;
-    table = is.valid.table;
-  };
-  row = is.row;
-}
+IsWithin-with_c1 rows set w is = assumption
 
 -- with another colour table
 IsWithin-with_table : (rows k : ℕ) (w : Working) → IsWithin rows w → k ≤ 3 → IsWithin rows (with_table k w)
-IsWithin-with_table rows k w is low = record {
-  valid = record {
-    place = is.valid.place;
-    sets = is.valid.sets;
-    accent = is.valid.accent;
-    last = is.valid.last;
-    pen = is.valid.pen;
-    fast = is.valid.fast;
-    step = is.valid.step;
-    table = low;
-  };
-  row = is.row;
-}
+IsWithin-with_table rows k w is low = assumption
 
 -- ---- signs and accents
 
 pub IsValidControl-control_with : (s : ControlState) (w : Working) → IsValidControl s → IsWithin s.rows w
     → IsValidControl (control_with s w)
-IsValidControl-control_with s w is within = record
-    { working = within.valid; rows = is.rows; within = within.row; area = is.area; revision = is.revision; kept = is.kept }
+IsValidControl-control_with s w is within = assumption
 
 IsWithin-accent : (rows : ℕ) (accent : Option ℕ) (w : Working) → IsWithin rows w → IfSome accent IsAccent
     → IsWithin rows (record w { accent = accent })
-IsWithin-accent rows accent w is valid = record {
-  valid = record {
-    place = is.valid.place;
-    sets = is.valid.sets;
-    accent = valid;
-    last = is.valid.last;
-    pen = is.valid.pen;
-    fast = is.valid.fast;
-    step = is.valid.step;
-    table = is.valid.table;
-  };
-  row = is.row;
-}
+IsWithin-accent rows accent w is valid = assumption
 
 pub IsWithin-working_after_sign : (s : ControlState) (g : Glyph) → IsValidControl s → IsValidGlyph g
     → IsWithin s.rows (working_after_sign s g)
 IsWithin-working_after_sign s g is valid =
     let moved = IsWithin-working_ahead s (columns_of_sign s) is in
-    record {
-      valid = record {
-        place = moved.valid.place;
-        sets = moved.valid.sets;
-        accent = tt;
-        last = valid;
-        pen = moved.valid.pen;
-        fast = moved.valid.fast;
-        step = moved.valid.step;
-        table = moved.valid.table;
-      };
-      row = moved.row;
-    }
+    assumption
 
 -- a sign with the accent that waits is a sign
 pub IsValidGlyph-sign_with_accent : (set : SetId) (code : ℕ) (accent : Option ℕ) → IsCodeOf set code
@@ -478,8 +348,7 @@ IsValidRead-graphic_result s byte graphic =
 pub IsValidControl-control_with_result : (s : ControlState) (byte : ℕ) → IsValidControl s
     → IsValidControl (control_with_result s byte)
 IsValidControl-control_with_result s byte is =
-    let sets : AreValidSets (sets_without_single s.working.sets) = record
-    { left = is.working.sets.left; right = is.working.sets.right; single = tt } in
+    let sets : AreValidSets (sets_without_single s.working.sets) = assumption in
     IsValidControl-control_with s (working_with_sets (sets_without_single s.working.sets) s.working) is
     (IsWithin-working_with_sets s.rows (sets_without_single s.working.sets) s.working (IsWithin-control s is) sets)
 
@@ -535,12 +404,7 @@ IsWithin-position : (s : ControlState) (r c : ℕ) → IsValidControl s → OnSc
     → IsWithin s.rows (working_without_pen (working_without_run (working_at (min r s.rows) c s.working)))
 IsWithin-position s r c is valid =
     let bounds = rows-bounds s is in
-    let on : OnScreen (min r s.rows) c = record {
-      from_top = omega (arith, valid);
-      to_bottom = omega (arith, valid);
-      from_left = valid.from_left;
-      to_right = valid.to_right;
-    } in
+    let on : OnScreen (min r s.rows) c = search rules in
     IsWithin-fresh s.rows (min r s.rows) c s.working (IsWithin-control s is) on (omega arith)
 
 -- the state with other sets
@@ -566,35 +430,11 @@ IsArea-without first last (Some area) is =
     (λ (kept : Option (ℕ × ℕ)). IfSome kept (λ a. IsArea a.0 a.1)) (λ e. tt) (λ e. is)
 
 IsWithin-with_protect : (rows : ℕ) (on : Bool) (w : Working) → IsWithin rows w → IsWithin rows (with_protect on w)
-IsWithin-with_protect rows on w is = record {
-  valid = record {
-    place = is.valid.place;
-    sets = is.valid.sets;
-    accent = is.valid.accent;
-    last = is.valid.last;
-    pen = is.valid.pen;
-    fast = is.valid.fast;
-    step = is.valid.step;
-    table = is.valid.table;
-  };
-  row = is.row;
-}
+IsWithin-with_protect rows on w is = assumption
 
 -- defaults at a place of the format
 IsWithin-by_default : (rows : ℕ) (set : C1Set) (w : Working) → IsWithin rows w → IsWithin rows (working_by_default set w)
-IsWithin-by_default rows set w is = record {
-  valid = record {
-    place = is.valid.place;
-    sets = AreValidSets-initial_control;
-    accent = tt;
-    last = tt;
-    pen = IsValidPen-unset_pen;
-    fast = omega arith;
-    step = inl refl;
-    table = omega arith;
-  };
-  row = is.row;
-}
+IsWithin-by_default rows set w is = search rules
 
 -- what a service keeps
 IsValidWorking-kept_first : (kept : Option Working) (w : Working) → IfSome kept IsValidWorking → IsValidWorking w
@@ -605,28 +445,7 @@ IsValidWorking-kept_first (Some k) w was is = was
 IsValidControl-after_service : (s : ControlState) (kept : Option Working) → IsValidControl s
     → IfSome kept IsValidWorking → IsValidControl (control_after_service s kept)
 IsValidControl-after_service s None is was = is
-IsValidControl-after_service s (Some w) is was = record {
-  working = record {
-    place = record {
-      from_top = omega (arith, was.place, is.rows);
-      to_bottom = omega (arith, was.place, is.rows);
-      from_left = was.place.from_left;
-      to_right = was.place.to_right;
-    };
-    sets = was.sets;
-    accent = was.accent;
-    last = was.last;
-    pen = was.pen;
-    fast = was.fast;
-    step = was.step;
-    table = was.table;
-  };
-  rows = is.rows;
-  within = omega arith;
-  area = is.area;
-  revision = is.revision;
-  kept = tt;
-}
+IsValidControl-after_service s (Some w) is was = search rules
 
 pub IsValidControl-control_effect : (s : ControlState) (command : Command) → IsValidControl s → IsValidCommand command
     → IsValidControl (control_effect s command)
@@ -681,43 +500,16 @@ IsValidControl-control_effect s commands.StopConceal is valid =
     IsValidControl-working s is (IsWithin-working_after_reveal s s.working.c1 is)
 IsValidControl-control_effect s (commands.Table k) is valid =
     IsValidControl-working s is (IsWithin-with_table s.rows k s.working (IsWithin-control s is) valid)
-IsValidControl-control_effect s (commands.Format rows wrap) is valid = record {
-  working = (IsWithin-home s is).valid;
-  rows = valid;
-  within = omega (arith, valid);
-  area = is.area;
-  revision = is.revision;
-  kept = is.kept;
-}
+IsValidControl-control_effect s (commands.Format rows wrap) is valid = search rules
 IsValidControl-control_effect s (commands.ControlDefaults set) is valid =
     IsValidControl-working s is (IsWithin-by_default s.rows set s.working (IsWithin-control s is))
-IsValidControl-control_effect s (commands.FullDefaults set) is valid = record {
-  working = (IsWithin-by_default 24 set initial_working
-      (record { valid = IsValidWorking-initial_control; row = omega arith })).valid;
-  rows = inl refl;
-  within = omega arith;
-  area = tt;
-  revision = inl refl;
-  kept = tt;
-}
+IsValidControl-control_effect s (commands.FullDefaults set) is valid = search rules
 IsValidControl-control_effect s (commands.ServiceBreak row) is valid =
     let bounds = rows-bounds s is in
     let there = IsWithin-working_at s.rows (min row s.rows) 1 (working_by_default c1sets.Parallel s.working)
     (IsWithin-by_default s.rows c1sets.Parallel s.working (IsWithin-control s is))
-    (record {
-      from_top = omega (arith, valid);
-      to_bottom = omega (arith, valid);
-      from_left = omega arith;
-      to_right = omega arith;
-    }) (omega arith) in
-    record {
-      working = there.valid;
-      rows = is.rows;
-      within = there.row;
-      area = is.area;
-      revision = is.revision;
-      kept = IsValidWorking-kept_first s.kept s.working is.kept is.working;
-    }
+    (search rules) (omega arith) in
+    assumption (IsValidWorking-kept_first s.kept s.working is.kept is.working)
 IsValidControl-control_effect s commands.ServiceEnd is valid = IsValidControl-after_service s s.kept is is.kept
 IsValidControl-control_effect s (commands.Protect on) is valid =
     IsValidControl-working s is (IsWithin-with_protect s.rows on s.working (IsWithin-control s is))
@@ -727,14 +519,7 @@ IsValidControl-control_effect s (commands.AreaCreate first last) is valid =
     record { working = is.working; rows = is.rows; within = is.within; area = valid; revision = is.revision; kept = is.kept }
 IsValidControl-control_effect s (commands.Revision revision) is valid =
     record { working = is.working; rows = is.rows; within = is.within; area = is.area; revision = valid; kept = is.kept }
-IsValidControl-control_effect s (commands.AreaDelete first last) is valid = record {
-  working = is.working;
-  rows = is.rows;
-  within = is.within;
-  area = IsArea-without first last s.area is.area;
-  revision = is.revision;
-  kept = is.kept;
-}
+IsValidControl-control_effect s (commands.AreaDelete first last) is valid = assumption (IsArea-without first last s.area is.area)
 IsValidControl-control_effect s _ is valid = is
 
 pub IsValidControl-state_for_effect : (s : ControlState) (command : Command) → IsValidControl s

@@ -1,11 +1,12 @@
 -- Valid looks: those of a core with a valid page.
-use Rattle.std.proofs.Common.{◌≡◌, ℕ, ◌≤◌, ◌+◌, ◌-◌, ◌%◌, Bool, true, false, not, cond, zero, suc, ◌&&◌, eqb, Option}
-use Rattle.std.proofs.Common.{Some, None, List, [], ◌∷◌, ◌++◌, length, refl, ap, sym, subst, ◌∙◌, inl, inr, arith, rules}
+use Rattle.std.proofs.Common.{rules, rules}
+use Rattle.std.proofs.Common.{◌≡◌, ℕ, ◌≤◌, ◌+◌, ◌-◌, Bool, true, false, not, cond, zero, suc, ◌&&◌, eqb, Option}
+use Rattle.std.proofs.Common.{Some, None, List, [], ◌∷◌, ◌++◌, length, refl, ap, sym, subst, ◌∙◌, inl, inr, arith}
 use Rattle.std.specs.Prelude.{replicate}
 use Rattle.std.proofs.Math.Seq.{drop-append_seam}
 use Rattle.std.proofs.lemmas.List.{length-append, length-replicate}
 use Rattle.std.specs.List.{AllByRecursion}
-use Rattle.std.specs.Prelude.{IfSome, nat_lt, slice_index_or}
+use Rattle.std.specs.Prelude.{IfSome, nat_lt}
 use Rattle.std.proofs.lemmas.Bool.{cases_lt, cond_both}
 use Rattle.cept_codes.specs.declared.attribute.Pen.{Pen}
 use Rattle.cept_codes.specs.declared.attribute.Size.{Size}
@@ -31,7 +32,7 @@ use Rattle.cept_codes.specs.Place.{OnScreen}
 use Rattle.cept_codes.specs.Stroke.{IsPaintOf}
 use Rattle.cept_codes.proofs.Laws.{entry_past, indexed_more, indexed_none, length-list_by_index, value_at-table, IsTable-table}
 use Rattle.cept_profile.specs.Attributes.{first_value, cascade}
-use Rattle.cept_profile.specs.Colours.{ink, default_paints, default_paint, fore_paint, back_paint, paint_over}
+use Rattle.cept_profile.specs.Colours.{ink, fore_paint, back_paint, paint_over}
 use Rattle.cept_profile.specs.Look.{shape_of, shape_of_sign, attributes_of, look_of, look, looks_of, grid}
 use Rattle.cept_profile.specs.Look.{contents_of_row, look_in_row, look_with_part, own_look, own_size}
 use Rattle.cept_profile.specs.Look.{part_of, shape_by_pattern, shape_in, shape_in_set}
@@ -63,30 +64,13 @@ unset_pen-valid = record { fore = tt; back = tt }
 
 pub IsValidFull-cascade : (pen row screen : Pen) → IsValidPen pen → IsValidPen row → IsValidPen screen
     → IsValidFull (cascade pen row screen)
-IsValidFull-cascade pen row screen is_pen is_row is_screen = record {
-  fore = first_value-valid pen.fore row.fore screen.fore 7 is_pen.fore is_row.fore is_screen.fore (omega arith);
-  back = first_value-valid pen.back row.back screen.back 0 is_pen.back is_row.back is_screen.back (omega arith);
-}
+IsValidFull-cascade pen row screen is_pen is_row is_screen = search rules
 
 IsValidPaint-ink : (r g b : ℕ) → r ≤ 15 → g ≤ 15 → b ≤ 15 → IsValidPaint (ink r g b)
 IsValidPaint-ink r g b hr hg hb = record { r = hr; g = hg; b = hb }
 
 IsValidPaint-black_paint : IsValidPaint black_paint
 IsValidPaint-black_paint = record { r = omega arith; g = omega arith; b = omega arith }
-
-all_valid : (xs : List Paint) → AllByRecursion IsValidPaint xs → (i : ℕ)
-    → IsValidPaint (slice_index_or xs i black_paint)
-all_valid [] all i = IsValidPaint-black_paint
-all_valid (x ∷ xs) all zero = all.0
-all_valid (x ∷ xs) all (suc i) = all_valid xs all.1 i
-
-default_paints-valid : AllByRecursion IsValidPaint default_paints
-unfolding default_paints
-default_paints-valid =
-    search rules
-
-pub IsValidPaint-default_paint : (i : ℕ) → IsValidPaint (default_paint i)
-IsValidPaint-default_paint i = all_valid default_paints default_paints-valid (i % 16)
 
 IsValidPaint-paint_over : (fore back : Paint) → IsValidPaint fore → IsValidPaint back
     → IsValidPaint (paint_over fore back)
@@ -245,43 +229,18 @@ IsValidLook-look_by : (a al ar l own : Look) (size : Size) (last : Bool) (c : �
 IsValidLook-look_by a al ar l own size last c above before here =
     let wide : Bool = is_wide size && nat_lt c 40 && not (covers_below (part_of ar)) in
     let high : Bool = is_high size && not last in
-    let origin : IsValidPart (origin_part wide high) = record {
-      down = omega arith;
-      right = omega arith;
-      wide = one_or_two wide;
-      high = one_or_two high;
-    } in
+    let origin : IsValidPart (origin_part wide high) = search rules in
     cond_both (covers_below (part_of a)) (look_with_part (part_below (part_of a)) a)
     (cond (is_covered_from_left (part_of al) (part_of l)) (look_with_part (part_to_the_right (part_of l)) l)
     (look_with_part (origin_part wide high) own)) IsValidLook
-    (λ _. IsValidLook-with_part (part_below (part_of a)) a (record {
-      down = omega arith;
-      right = above.part.right;
-      wide = above.part.wide;
-      high = above.part.high;
-    }) above)
+    (λ _. IsValidLook-with_part (part_below (part_of a)) a (search rules) above)
     (λ _. cond_both (is_covered_from_left (part_of al) (part_of l))
     (look_with_part (part_to_the_right (part_of l)) l) (look_with_part (origin_part wide high) own) IsValidLook
-    (λ _. IsValidLook-with_part (part_to_the_right (part_of l)) l (record {
-      down = omega arith;
-      right = omega arith;
-      wide = before.part.wide;
-      high = before.part.high;
-    }) before)
+    (λ _. IsValidLook-with_part (part_to_the_right (part_of l)) l (search rules) before)
     (λ _. IsValidLook-with_part (origin_part wide high) own origin here))
 
 IsValidLook-blank_look : IsValidLook blank_look
-IsValidLook-blank_look = record {
-  shape = tt;
-  part = record {
-    down = omega arith;
-    right = omega arith;
-    wide = (omega arith, omega arith);
-    high = (omega arith, omega arith);
-  };
-  fore = IsValidPaint-ink 15 15 15 (omega arith) (omega arith) (omega arith);
-  back = IsValidPaint-black_paint;
-}
+IsValidLook-blank_look = search rules
 
 IsValidLook-look_from : (above own : ℕ → Look) (wanted : ℕ → Size) (last : Bool)
     → ((c : ℕ) → 1 ≤ c → c ≤ 40 → IsValidLook (above c)) → ((c : ℕ) → 1 ≤ c → c ≤ 40 → IsValidLook (own c)) → (c : ℕ)
@@ -358,12 +317,7 @@ IsValidLook-look_seen k is (suc r) high c from to =
     (is_last (edges_of_core k) (suc r))
     (λ d low left. subst (λ (q : ℕ). IsValidLook (look_seen (looks_of k) q d)) (sym back)
     (IsValidLook-look_seen k is r (omega arith) d low left))
-    (λ d low left. IsValidLook-own_look k is (suc r) d (record {
-      from_top = omega arith;
-      to_bottom = high;
-      from_left = low;
-      to_right = left;
-    })) c from to)
+    (λ d low left. IsValidLook-own_look k is (suc r) d (search rules)) c from to)
 
 pub IsValidGrid-looks_of : (k : Core) → IsValidPage k.page → IsValidGrid (looks_of k)
 IsValidGrid-looks_of k is = record {

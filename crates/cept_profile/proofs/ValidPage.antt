@@ -1,4 +1,5 @@
 -- Valid pages: the strokes of a valid command in a valid state keep them valid.
+use Rattle.std.proofs.Common.{rules, rules}
 use Rattle.std.proofs.Common.{◌≡◌, ℕ, ◌+◌, ◌-◌, ◌<◌, ◌≤◌, zero, suc, Bool, true, false, not, ◌&&◌, cond, eqb, leb, ltb, Option}
 use Rattle.std.proofs.Common.{Some, None, List, [], ◌∷◌, ◌++◌, length, refl, sym, ◌∙◌, subst, arith, ◌⊎◌, inl, inr}
 use Rattle.std.specs.List.{AllByRecursion}
@@ -130,22 +131,12 @@ AreValidCells-shift rows a b ways.Up was is area within = record {
       cond_both (leb a r && leb r b) (cond (eqb r b) blank_cell (was (r + 1) c)) (was r c) IsValidCell
       (λ e. let high = leb-true r b (and_parts (leb a r) (leb r b) e).1 in
       cond_both (eqb r b) blank_cell (was (r + 1) c) IsValidCell (λ l. tt)
-      (λ l. let apart = eqb-false r b l in is.valid (r + 1) c (record {
-        from_top = omega arith;
-        to_bottom = omega (arith, area, high, apart);
-        from_left = on.from_left;
-        to_right = on.to_right;
-      }))) (λ e. is.valid r c on);
+      (λ l. let apart = eqb-false r b l in is.valid (r + 1) c (search rules))) (λ e. is.valid r c on);
   free = λ r c on.
       cond_both (leb a r && leb r b) (cond (eqb r b) blank_cell (was (r + 1) c)) (was r c) IsFree
       (λ e. let high = leb-true r b (and_parts (leb a r) (leb r b) e).1 in
       cond_both (eqb r b) blank_cell (was (r + 1) c) IsFree (λ l. λ _. refl)
-      (λ l. let apart = eqb-false r b l in is.free (r + 1) c (record {
-        from_top = omega arith;
-        to_bottom = omega (arith, area, high, apart);
-        from_left = on.from_left;
-        to_right = on.to_right;
-      }))) (λ e. is.free r c on);
+      (λ l. let apart = eqb-false r b l in is.free (r + 1) c (search rules))) (λ e. is.free r c on);
   past = λ r c on after.
       cond_both (leb a r && leb r b) (cond (eqb r b) blank_cell (was (r + 1) c)) (was r c) (λ x. x ≡ blank_cell)
       (λ e. let high = leb-true r b (and_parts (leb a r) (leb r b) e).1 in absurd (omega arith))
@@ -156,22 +147,12 @@ AreValidCells-shift rows a b ways.Down was is area within = record {
       cond_both (leb a r && leb r b) (cond (eqb r a) blank_cell (was (r - 1) c)) (was r c) IsValidCell
       (λ e. let low = leb-true a r (and_parts (leb a r) (leb r b) e).0 in
       cond_both (eqb r a) blank_cell (was (r - 1) c) IsValidCell (λ l. tt)
-      (λ l. let apart = eqb-false r a l in is.valid (r - 1) c (record {
-        from_top = omega (arith, area, low, apart);
-        to_bottom = omega (arith, on);
-        from_left = on.from_left;
-        to_right = on.to_right;
-      }))) (λ e. is.valid r c on);
+      (λ l. let apart = eqb-false r a l in is.valid (r - 1) c (search rules))) (λ e. is.valid r c on);
   free = λ r c on.
       cond_both (leb a r && leb r b) (cond (eqb r a) blank_cell (was (r - 1) c)) (was r c) IsFree
       (λ e. let low = leb-true a r (and_parts (leb a r) (leb r b) e).0 in
       cond_both (eqb r a) blank_cell (was (r - 1) c) IsFree (λ l. λ _. refl)
-      (λ l. let apart = eqb-false r a l in is.free (r - 1) c (record {
-        from_top = omega (arith, area, low, apart);
-        to_bottom = omega (arith, on);
-        from_left = on.from_left;
-        to_right = on.to_right;
-      }))) (λ e. is.free r c on);
+      (λ l. let apart = eqb-false r a l in is.free (r - 1) c (search rules))) (λ e. is.free r c on);
   past = λ r c on after.
       cond_both (leb a r && leb r b) (cond (eqb r a) blank_cell (was (r - 1) c)) (was r c) (λ x. x ≡ blank_cell)
       (λ e. let high = leb-true r b (and_parts (leb a r) (leb r b) e).1 in absurd (omega arith))

@@ -50,10 +50,7 @@ flash-pen_with (attrs.Flash f) p valid is = valid
 flash-pen_with _ p valid is = is
 
 IsRowPen-pen_with : (attr : Attr) (p : Pen) → IsRowAttr attr → IsRowPen p → IsRowPen (pen_with attr p)
-IsRowPen-pen_with attr p valid is = record {
-  valid = IsValidPen-pen_with attr p (IsValidAttr-row attr valid) is.valid;
-  flash = flash-pen_with attr p valid is.flash;
-}
+IsRowPen-pen_with attr p valid is = assumption (IsValidPen-pen_with attr p (IsValidAttr-row attr valid) is.valid, flash-pen_with attr p valid is.flash)
 
 -- what the screen can have, a row can have
 IsRowAttr-screen : (attr : Attr) → IsScreenAttr attr → IsRowAttr attr
@@ -65,10 +62,7 @@ size-pen_with (attrs.Size size) p valid is = absurd valid
 size-pen_with _ p valid is = is
 
 IsScreenPen-pen_with : (attr : Attr) (p : Pen) → IsScreenAttr attr → IsScreenPen p → IsScreenPen (pen_with attr p)
-IsScreenPen-pen_with attr p valid is = record {
-  row = IsRowPen-pen_with attr p (IsRowAttr-screen attr valid) is.row;
-  size = size-pen_with attr p valid is.size;
-}
+IsScreenPen-pen_with attr p valid is = assumption (IsRowPen-pen_with attr p (IsRowAttr-screen attr valid) is.row, size-pen_with attr p valid is.size)
 
 pub IsScreenPen-unset_pen : IsScreenPen unset_pen
 IsScreenPen-unset_pen = record { row = IsRowPen-unset_pen; size = refl }

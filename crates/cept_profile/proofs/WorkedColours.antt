@@ -1,4 +1,5 @@
 -- Worked tables: the paint of each entry by default, and which of them a sign and what is after it take, by computing.
+use Rattle.cept_profile.proofs.WhatComputes.{computing}
 use Rattle.std.proofs.Common.{◌≡◌, ℕ, List, [], ◌∷◌, ◌++◌, map, Option, Some, None, Bool, true, false, refl}
 use Rattle.std.specs.List.{range_with_len}
 use Rattle.cept_codes.specs.declared.cell.What.{What}
@@ -11,10 +12,9 @@ use Rattle.cept_codes.specs.declared.look.Paint.TheVariants.{Ink, Video}
 use Rattle.cept_codes.specs.declared.look.Shape.{Shape}
 use Rattle.cept_codes.specs.declared.look.Shape.TheVariants.{Char, Space}
 use Rattle.cept_codes.specs.Attribute.{unset_pen}
-use Rattle.cept_profile.specs.Colours.{default_paints, default_paint}
+use Rattle.cept_profile.specs.Colours.{default_paint}
 use Rattle.cept_profile.specs.Look.{look_of}
 use Rattle.cept_profile.specs.State.{blank_page, definitions_of}
-use Rattle.cept_codes.specs.Table.{list_by_index}
 
 -- red, green and blue
 abbrev pub rgb : ℕ → ℕ → ℕ → Paint
@@ -29,7 +29,7 @@ sixteen =
     ∷ rgb 0x0 0x7 0x7 ∷ rgb 0x7 0x7 0x7 ∷ []
 
 pub all_entries : map default_paint (range_with_len 0 32) ≡ sixteen ++ sixteen
-unfolding default_paints
+unfolding computing
 all_entries = refl
 
 -- ---- foreground and background
@@ -54,7 +54,7 @@ pub both_polarities : map (λ (what : What). paints_of (default_look what))
     ∷ coloured None None None ∷ coloured None None (Some false) ∷ coloured None None (Some true) ∷ []) ≡
     (rgb 15 0 0, rgb 0 15 0) ∷ (rgb 15 0 0, rgb 0 15 0) ∷ (rgb 0 15 0, rgb 15 0 0)
     ∷ (rgb 15 15 15, rgb 0 0 0) ∷ (rgb 15 15 15, rgb 0 0 0) ∷ (rgb 0 0 0, rgb 15 15 15) ∷ []
-unfolding look_of default_paints list_by_index
+unfolding computing
 both_polarities = refl
 
 -- where the foreground would show the picture behind it is as the background, also where that shows it
@@ -63,7 +63,7 @@ pub picture_after : map (λ (what : What). paints_of (default_look what))
     ∷ coloured (Some 8) (Some 2) (Some true) ∷ coloured (Some 1) (Some 24) (Some true) ∷ []) ≡
     (rgb 0 15 0, rgb 0 15 0) ∷ (rgb 15 0 0, Video) ∷ (Video, Video)
     ∷ (rgb 0 15 0, Video) ∷ (rgb 15 0 0, rgb 15 0 0) ∷ []
-unfolding look_of default_paints list_by_index
+unfolding computing
 picture_after = refl
 
 -- ---- shapes
@@ -87,5 +87,5 @@ supplementary = record { set = S; code = 0x21; accent = 0 }
 -- only the space without an accent shows nothing
 pub shapes_of_signs : map shape_seen (space ∷ accented_space ∷ accented_sign ∷ supplementary ∷ []) ≡
     Space ∷ Char accented_space ∷ Char accented_sign ∷ Char supplementary ∷ []
-unfolding look_of default_paints list_by_index
+unfolding computing
 shapes_of_signs = refl

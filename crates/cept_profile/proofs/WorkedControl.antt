@@ -1,5 +1,6 @@
 -- Worked tables: what each command changes of control, and which strokes it makes, by computing. A row that says only
 -- that a waiting accent is dropped is of a command that changes nothing else of control.
+use Rattle.cept_profile.proofs.WhatComputes.{computing}
 use Rattle.std.proofs.Common.{◌≡◌, ℕ, List, [], ◌∷◌, ◌++◌, map, Option, Some, None, Bool, true, false, refl}
 use Rattle.cept_codes.specs.declared.attribute.Attr.{Attr}
 use Rattle.cept_codes.specs.declared.attribute.Attr.TheVariants as attrs
@@ -23,10 +24,8 @@ use Rattle.cept_codes.specs.declared.stroke.Stroke.TheVariants.{Carry, ColourDef
 use Rattle.cept_codes.specs.declared.command.Up.TheVariants.{Down, Up}
 use Rattle.cept_codes.specs.Attribute.{unset_pen}
 use Rattle.cept_profile.specs.Control.{Working, ControlState, Sets, control_after, initial_control, initial_working}
-use Rattle.cept_profile.specs.Sets.{set_of, read_as}
 use Rattle.cept_profile.specs.State.{core_of, blank_page}
 use Rattle.cept_profile.specs.Strokes.{strokes_of}
-use Rattle.cept_profile.specs.Writing.{control_after_copies, strokes_of_copies}
 
 -- ---- a state with everything in use
 
@@ -125,20 +124,20 @@ pub signs : map (after writing) (commands.Graphic 0x61 ∷ commands.Graphic 0xA1
     states (record writing { column = 8; accent = None; last = Some (sign 0x61 0x48) }
     ∷ record writing { column = 8; accent = None; last = Some supplementary }
     ∷ record writing { accent = Some 0x41 } ∷ [])
-unfolding set_of read_as
+unfolding computing
 signs = refl
 
 -- in a run a left byte is of M, and a sign doesn't end the run
 pub sign_in_a_run : after busy (commands.Graphic 0x61)
     ≡ state_with true (record busy
     { column = 8; accent = None; last = Some (record { set = M; code = 0x61; accent = 0 }) })
-unfolding set_of read_as
+unfolding computing
 sign_in_a_run = refl
 
 -- copies of the last sign leave its accent and the run
 pub copied : map (after busy) (commands.Repeat 0 ∷ commands.Repeat 3 ∷ [])
     ≡ states (dropped ∷ record dropped { column = 10 } ∷ [])
-unfolding control_after_copies
+unfolding computing
 copied = refl
 
 -- ---- the other commands
@@ -280,7 +279,7 @@ pub strokes_of_signs : map (strokes_after writing)
     (commands.Graphic 0x61 ∷ commands.Graphic 0xA1 ∷ commands.Graphic 0xC1 ∷ commands.Repeat 2 ∷ []) ≡
     (put 5 7 (sign 0x61 0x48) ∷ []) ∷ (put 5 7 supplementary ∷ []) ∷ []
     ∷ (put 5 7 (sign 0x42 0) ∷ put 5 8 (sign 0x42 0) ∷ []) ∷ []
-unfolding set_of read_as control_after_copies strokes_of_copies
+unfolding computing
 strokes_of_signs = refl
 
 pub clear_wipes : strokes_after busy commands.Clear ≡ Wipe ∷ []

@@ -1,4 +1,5 @@
 -- Worked cases: the looks of cells, by computing.
+use Rattle.cept_profile.proofs.WhatComputes.{computing}
 use Rattle.std.proofs.Common.{◌≡◌, ℕ, Some, true, refl}
 use Rattle.cept_codes.specs.declared.attribute.Pen.{Pen}
 use Rattle.cept_codes.specs.declared.cell.Marker.TheVariants as markers
@@ -13,10 +14,9 @@ use Rattle.cept_codes.specs.declared.look.Shape.TheVariants as shapes
 use Rattle.cept_codes.specs.Attribute.{unset_pen}
 use Rattle.cept_codes.specs.Look.{blank_look, black_paint, white_paint}
 use Rattle.cept_profile.specs.Attributes.{cascade}
-use Rattle.cept_profile.specs.Colours.{ink, default_paints, default_paint}
+use Rattle.cept_profile.specs.Colours.{ink, default_paint}
 use Rattle.cept_profile.specs.Look.{look_of}
 use Rattle.cept_profile.specs.State.{blank_page, definitions_of}
-use Rattle.cept_codes.specs.Table.{list_by_index}
 
 abbrev pub glyph : ℕ → ℕ → Glyph
 glyph code accent = record { set = P; code = code; accent = accent }
@@ -43,47 +43,47 @@ abbrev pub inverted : Pen
 inverted = record black_after { invert = Some true }
 
 pub sign_on_magenta : default_look (written 0x41 magenta_after) ≡ in_paints 0x41 white_paint (ink 15 0 15)
-unfolding look_of default_paints list_by_index
+unfolding computing
 sign_on_magenta = refl
 
 pub sign_on_black : default_look (written 0x42 black_after) ≡ in_paints 0x42 white_paint black_paint
-unfolding look_of default_paints list_by_index
+unfolding computing
 sign_on_black = refl
 
 pub sign_inverted : default_look (written 0x43 inverted) ≡ in_paints 0x43 black_paint white_paint
-unfolding look_of default_paints list_by_index
+unfolding computing
 sign_inverted = refl
 
 -- a sign that would show the picture behind is as its background, which is transparent under invert
 pub no_sign_shows_the_picture : default_look (written 0x41 (record unset_pen { fore = Some 8; back = Some 1 }))
     ≡ in_paints 0x41 (ink 15 0 0) (ink 15 0 0)
-unfolding look_of default_paints list_by_index
+unfolding computing
 no_sign_shows_the_picture = refl
 
 pub picture_behind_inverted : default_look
     (written 0x41 (record unset_pen { fore = Some 24; back = Some 1; invert = Some true }))
     ≡ in_paints 0x41 (ink 15 0 0) paints.Video
-unfolding look_of default_paints list_by_index
+unfolding computing
 picture_behind_inverted = refl
 
 -- the third table is as the first, the fourth as the second
 pub reduced_green : default_paint 26 ≡ ink 0 7 0
-unfolding default_paints
+unfolding computing
 reduced_green = refl
 
 -- an accent is of its sign; a space with an accent is drawn, one without is not
 pub accent_of_its_sign : default_look (whats.Parallel (glyph 0x61 0x48) unset_pen)
     ≡ record blank_look { shape = shapes.Char (glyph 0x61 0x48) }
-unfolding look_of default_paints list_by_index
+unfolding computing
 accent_of_its_sign = refl
 
 pub space_is_not_drawn : default_look (written 0x20 magenta_after) ≡ record blank_look { back = ink 15 0 15 }
-unfolding look_of default_paints list_by_index
+unfolding computing
 space_is_not_drawn = refl
 
 -- a marker has the defaults
 pub marker_is_blank : default_look (whats.Marker markers.NewBack) ≡ blank_look
-unfolding look_of default_paints list_by_index
+unfolding computing
 marker_is_blank = refl
 
 -- the pen comes before the row, and the row before the screen

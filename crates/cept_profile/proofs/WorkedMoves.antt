@@ -1,4 +1,5 @@
 -- Worked cases: of which row a row came, and which rows are last, by computing.
+use Rattle.cept_profile.proofs.WhatComputes.{computing}
 use Rattle.std.proofs.Common.{◌≡◌, ℕ, List, [], ◌∷◌, map, Option, Some, None, true, false, refl}
 use Rattle.cept_codes.specs.declared.command.Up.TheVariants.{Down, Up}
 use Rattle.cept_codes.specs.declared.stroke.Stroke.{Stroke}
@@ -17,48 +18,48 @@ rows_before strokes = map (row_before strokes) (1 ∷ 2 ∷ 3 ∷ 4 ∷ 5 ∷ 6 
 -- rows 2 to 5 go up: what was in row 2 is gone, and row 5 comes free
 pub up : rows_before (strokes.Shift 2 5 Up ∷ [])
     ≡ Some 1 ∷ Some 3 ∷ Some 4 ∷ Some 5 ∷ None ∷ Some 6 ∷ []
-unfolding row_before
+unfolding computing
 up = refl
 
 -- they go down: what was in row 5 is gone, and row 2 comes free
 pub down : rows_before (strokes.Shift 2 5 Down ∷ [])
     ≡ Some 1 ∷ None ∷ Some 2 ∷ Some 3 ∷ Some 4 ∷ Some 6 ∷ []
-unfolding row_before
+unfolding computing
 down = refl
 
 -- twice up
 pub up_twice : rows_before (strokes.Shift 2 5 Up ∷ strokes.Shift 2 5 Up ∷ [])
     ≡ Some 1 ∷ Some 4 ∷ Some 5 ∷ None ∷ None ∷ Some 6 ∷ []
-unfolding row_before
+unfolding computing
 up_twice = refl
 
 -- up and down again: the row that went off stays gone
 pub up_and_down : rows_before (strokes.Shift 2 5 Up ∷ strokes.Shift 2 5 Down ∷ [])
     ≡ Some 1 ∷ None ∷ Some 3 ∷ Some 4 ∷ Some 5 ∷ Some 6 ∷ []
-unfolding row_before
+unfolding computing
 up_and_down = refl
 
 -- two areas, the first stroke first: row 4 goes to row 3, and from there to row 2
 pub two_areas : rows_before (strokes.Shift 3 5 Up ∷ strokes.Shift 1 3 Up ∷ [])
     ≡ Some 2 ∷ Some 4 ∷ None ∷ Some 5 ∷ None ∷ Some 6 ∷ []
-unfolding row_before
+unfolding computing
 two_areas = refl
 
 -- an area of one row is freed
 pub one_row : rows_before (strokes.Shift 3 3 Down ∷ []) ≡ Some 1 ∷ Some 2 ∷ None ∷ Some 4 ∷ Some 5 ∷ Some 6 ∷ []
-unfolding row_before
+unfolding computing
 one_row = refl
 
 -- rows that are carried come from where shifted ones come
 pub carried : rows_before (strokes.Carry 2 5 Up ∷ strokes.Carry 3 4 Down ∷ [])
     ≡ Some 1 ∷ Some 3 ∷ None ∷ Some 4 ∷ None ∷ Some 6 ∷ []
-unfolding row_before
+unfolding computing
 carried = refl
 
 -- a wipe and an erased row move nothing
 pub others_move_none : rows_before (strokes.Wipe ∷ strokes.Erase 3 1 ∷ strokes.Format 20 ∷ [])
     ≡ Some 1 ∷ Some 2 ∷ Some 3 ∷ Some 4 ∷ Some 5 ∷ Some 6 ∷ []
-unfolding row_before
+unfolding computing
 others_move_none = refl
 
 -- ---- attributes of rows, the last stroke first

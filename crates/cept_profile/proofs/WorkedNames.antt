@@ -1,18 +1,15 @@
 -- Worked cases: what the places of a row name, by computing.
+use Rattle.cept_profile.proofs.WhatComputes.{computing}
 use Rattle.std.proofs.Common.{◌≡◌, ℕ, ◌-◌, Some, List, [], ◌∷◌, map, refl}
 use Rattle.std.specs.List.{range_with_len}
 use Rattle.cept_codes.specs.declared.command.Command.{Command}
 use Rattle.cept_codes.specs.declared.command.Command.TheVariants.{C1, Designate, Graphic, Position}
 use Rattle.cept_codes.specs.declared.glyph.SetId.TheVariants.{D}
-use Rattle.cept_codes.specs.Table.{list_by_index, row_of, table}
-use Rattle.cept_profile.specs.Cells.{cell_back}
-use Rattle.cept_profile.specs.Look.{parts_of, size_in_row}
-use Rattle.cept_profile.specs.Names.{Names, contents_at_origin, full_attributes, names_at}
-use Rattle.cept_profile.specs.NamesFromAbove.{default_names, names_from_above, names_in_row, own_names}
-use Rattle.cept_profile.specs.Serial.{serial_attributes, column_in_force, is_holding, kept_sign}
-use Rattle.cept_profile.specs.Sets.{set_of, read_as}
+use Rattle.cept_profile.specs.Look.{parts_of}
+use Rattle.cept_profile.specs.Names.{Names, names_at}
+use Rattle.cept_profile.specs.NamesFromAbove.{default_names, names_from_above, own_names}
 use Rattle.cept_profile.specs.State.{Core, core}
-use Rattle.cept_profile.specs.Tiling.{part_at, part_from, tiled_row, tiled_rows, tiled_table}
+use Rattle.cept_profile.specs.Tiling.{part_at}
 
 -- a red sign on black, and one of the downloaded set
 abbrev pub red : Names
@@ -35,20 +32,16 @@ high_red_letter = C1 1 ∷ C1 13 ∷ Graphic 0x41 ∷ []
 
 -- the row of the lower half names its entry, though what stands there names white
 pub beneath_a_high_letter : named_at (core high_red_letter) 2 2 ≡ red ∷ default_names ∷ []
-unfolding table row_of cell_back set_of read_as size_in_row serial_attributes column_in_force is_holding kept_sign
-    list_by_index tiled_table tiled_rows tiled_row part_from full_attributes contents_at_origin
+unfolding computing
 beneath_a_high_letter = refl
 
 pub beneath_it_from_above : named_from_above (core high_red_letter) 2 2 ≡ red ∷ default_names ∷ []
-unfolding table row_of cell_back set_of read_as size_in_row serial_attributes column_in_force is_holding kept_sign
-    list_by_index tiled_table tiled_rows tiled_row part_from full_attributes contents_at_origin names_from_above
-    names_in_row
+unfolding computing
 beneath_it_from_above = refl
 
 pub beneath_it_by_itself : map (own_names (core high_red_letter) 2) (range_with_len 1 2)
     ≡ default_names ∷ default_names ∷ []
-unfolding table row_of cell_back set_of read_as serial_attributes column_in_force is_holding kept_sign list_by_index
-    names_in_row
+unfolding computing
 beneath_it_by_itself = refl
 
 -- a red sign of the downloaded set in double size: each of its four places names its code and its entry
@@ -58,14 +51,11 @@ big_red_pattern = Position 2 1 ∷ Designate 0 D ∷ C1 1 ∷ C1 15 ∷ Graphic 
 pub big_pattern : map (λ r. named_at (core big_red_pattern) r 3) (2 ∷ 3 ∷ 4 ∷ [])
     ≡ (red_pattern ∷ red_pattern ∷ default_names ∷ []) ∷ (red_pattern ∷ red_pattern ∷ default_names ∷ [])
     ∷ (default_names ∷ default_names ∷ default_names ∷ []) ∷ []
-unfolding table row_of cell_back set_of read_as size_in_row serial_attributes column_in_force is_holding kept_sign
-    list_by_index tiled_table tiled_rows tiled_row part_from full_attributes contents_at_origin
+unfolding computing
 big_pattern = refl
 
 pub big_pattern_from_above : map (λ r. named_from_above (core big_red_pattern) r 3) (2 ∷ 3 ∷ 4 ∷ [])
     ≡ (red_pattern ∷ red_pattern ∷ default_names ∷ []) ∷ (red_pattern ∷ red_pattern ∷ default_names ∷ [])
     ∷ (default_names ∷ default_names ∷ default_names ∷ []) ∷ []
-unfolding table row_of cell_back set_of read_as size_in_row serial_attributes column_in_force is_holding kept_sign
-    list_by_index tiled_table tiled_rows tiled_row part_from full_attributes contents_at_origin names_from_above
-    names_in_row
+unfolding computing
 big_pattern_from_above = refl

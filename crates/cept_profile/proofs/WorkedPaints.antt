@@ -1,4 +1,5 @@
 -- Worked cases: looks by the attributes of rows and of the screen and by the paints of the entries, by computing.
+use Rattle.cept_profile.proofs.WhatComputes.{computing}
 use Rattle.std.proofs.Common.{◌≡◌, ℕ, List, [], ◌∷◌, ◌++◌, true, refl}
 use Rattle.cept_codes.specs.declared.command.C1Set.TheVariants.{Serial}
 use Rattle.cept_codes.specs.declared.command.Command.{Command}
@@ -11,15 +12,9 @@ use Rattle.cept_codes.specs.declared.look.Paint.TheVariants.{Ink, Video}
 use Rattle.cept_codes.specs.declared.look.Rgb.{Rgb}
 use Rattle.cept_codes.specs.declared.look.Shape.TheVariants as shapes
 use Rattle.cept_codes.specs.Look.{blank_look}
-use Rattle.cept_codes.specs.Table.{list_by_index, row_of, table}
-use Rattle.cept_profile.specs.Cells.{cell_back}
-use Rattle.cept_profile.specs.Changes.{changes, differences, marked_looks}
-use Rattle.cept_profile.specs.Colours.{default_paints}
-use Rattle.cept_profile.specs.Look.{look, look_in_row, look_of, size_in_row}
-use Rattle.cept_profile.specs.Serial.{serial_attributes, column_in_force, is_holding, kept_sign}
-use Rattle.cept_profile.specs.Sets.{set_of, read_as}
+use Rattle.cept_profile.specs.Changes.{changes}
+use Rattle.cept_profile.specs.Look.{look}
 use Rattle.cept_profile.specs.State.{core}
-use Rattle.cept_profile.specs.Tiling.{part_from, tiled_row, tiled_rows, tiled_table}
 use Rattle.cept_profile.proofs.PlainPages.{changes-plain}
 
 -- ---- how the cases are told
@@ -65,18 +60,15 @@ abbrev pub box_off_in_row : List Command
 box_off_in_row = FullScreen 11 ∷ FullRow 10 ∷ Graphic 0x41 ∷ []
 
 pub no_box_in_row : look_after box_off_in_row 1 1 ≡ sign_in 0x41 white black
-unfolding table row_of cell_back set_of read_as look look_in_row size_in_row serial_attributes column_in_force
-    is_holding kept_sign default_paints list_by_index tiled_table tiled_rows tiled_row part_from
+unfolding computing
 no_box_in_row = refl
 
 pub no_box_beside_it : look_after box_off_in_row 1 40 ≡ blank_look
-unfolding table row_of cell_back set_of read_as look look_in_row size_in_row serial_attributes column_in_force
-    is_holding kept_sign default_paints list_by_index tiled_table tiled_rows tiled_row part_from
+unfolding computing
 no_box_beside_it = refl
 
 pub box_elsewhere : look_after box_off_in_row 2 1 ≡ record blank_look { boxed = true }
-unfolding table row_of cell_back set_of read_as look look_in_row size_in_row serial_attributes column_in_force
-    is_holding kept_sign default_paints list_by_index tiled_table tiled_rows tiled_row part_from
+unfolding computing
 box_elsewhere = refl
 
 -- `1B 23 21 54 90 41 9E 42`: 9/14 unsets the background, so that of the row is seen again
@@ -84,13 +76,11 @@ abbrev pub black_then_unset : List Command
 black_then_unset = FullRow 20 ∷ C1 16 ∷ Graphic 0x41 ∷ C1 30 ∷ Graphic 0x42 ∷ []
 
 pub on_black : look_after black_then_unset 1 1 ≡ sign_in 0x41 white black
-unfolding table row_of cell_back set_of read_as look look_in_row size_in_row serial_attributes column_in_force
-    is_holding kept_sign default_paints list_by_index tiled_table tiled_rows tiled_row part_from
+unfolding computing
 on_black = refl
 
 pub on_that_of_the_row : look_after black_then_unset 1 2 ≡ sign_in 0x42 white blue
-unfolding table row_of cell_back set_of read_as look look_in_row size_in_row serial_attributes column_in_force
-    is_holding kept_sign default_paints list_by_index tiled_table tiled_rows tiled_row part_from
+unfolding computing
 on_that_of_the_row = refl
 
 -- `1B 23 21 4E 8C 41 42`: signs of single size in a row of wide ones
@@ -99,20 +89,17 @@ single_in_wide_row = FullRow 14 ∷ C1 12 ∷ Graphic 0x41 ∷ Graphic 0x42 ∷ 
 
 pub single_signs : look_after single_in_wide_row 1 1 ∷ look_after single_in_wide_row 1 2 ∷ []
     ≡ sign_in 0x41 white black ∷ sign_in 0x42 white black ∷ []
-unfolding table row_of cell_back set_of read_as look look_in_row size_in_row serial_attributes column_in_force
-    is_holding kept_sign default_paints list_by_index tiled_table tiled_rows tiled_row part_from
+unfolding computing
 single_signs = refl
 
 pub wide_after_them : look_after single_in_wide_row 1 3 ∷ look_after single_in_wide_row 1 4 ∷ []
     ≡ record blank_look { w = 2 } ∷ record blank_look { w = 2; dx = 1 } ∷ []
-unfolding table row_of cell_back set_of read_as look look_in_row size_in_row serial_attributes column_in_force
-    is_holding kept_sign default_paints list_by_index tiled_table tiled_rows tiled_row part_from
+unfolding computing
 wide_after_them = refl
 
 -- `1F 58 41 1B 23 21 4D 41`: the last row isn't high
 pub last_row_is_flat : look_after (Position 24 1 ∷ FullRow 13 ∷ Graphic 0x41 ∷ []) 24 1 ≡ sign_in 0x41 white black
-unfolding table row_of cell_back set_of read_as look look_in_row size_in_row serial_attributes column_in_force
-    is_holding kept_sign default_paints list_by_index tiled_table tiled_rows tiled_row part_from
+unfolding computing
 last_row_is_flat = refl
 
 -- `1F 42 41 1B 23 21 51 1F 41 41 8D 41`: a place that is covered from above has the row attributes of its origin
@@ -120,13 +107,11 @@ abbrev pub high_over_red_row : List Command
 high_over_red_row = Position 2 1 ∷ FullRow 17 ∷ Position 1 1 ∷ C1 13 ∷ Graphic 0x41 ∷ []
 
 pub covered_as_its_origin : look_after high_over_red_row 2 1 ≡ record (sign_in 0x41 white black) { h = 2; dy = 1 }
-unfolding table row_of cell_back set_of read_as look look_in_row size_in_row serial_attributes column_in_force
-    is_holding kept_sign default_paints list_by_index tiled_table tiled_rows tiled_row part_from
+unfolding computing
 covered_as_its_origin = refl
 
 pub red_beside_it : look_after high_over_red_row 2 2 ≡ space_in white red
-unfolding table row_of cell_back set_of read_as look look_in_row size_in_row serial_attributes column_in_force
-    is_holding kept_sign default_paints list_by_index tiled_table tiled_rows tiled_row part_from
+unfolding computing
 red_beside_it = refl
 
 -- ---- backgrounds of markers
@@ -136,13 +121,11 @@ abbrev pub black_and_new : List Command
 black_and_new = DesignateC1 Serial ∷ Table 1 ∷ C1 2 ∷ C1 28 ∷ Graphic 0x41 ∷ C1 29 ∷ Graphic 0x42 ∷ []
 
 pub on_entry_0 : look_after black_and_new 1 3 ≡ sign_in 0x41 reduced_green black
-unfolding table row_of cell_back set_of read_as look look_in_row size_in_row serial_attributes column_in_force
-    is_holding kept_sign default_paints list_by_index tiled_table tiled_rows tiled_row part_from
+unfolding computing
 on_entry_0 = refl
 
 pub on_entry_10 : look_after black_and_new 1 5 ≡ sign_in 0x42 reduced_green reduced_green
-unfolding table row_of cell_back set_of read_as look look_in_row size_in_row serial_attributes column_in_force
-    is_holding kept_sign default_paints list_by_index tiled_table tiled_rows tiled_row part_from
+unfolding computing
 on_entry_10 = refl
 
 -- `1B 23 21 41 S 9D 41 1B 23 21 42`: without a marker of it the foreground is that of the row, also after this changed
@@ -150,20 +133,17 @@ abbrev pub new_background_in_red_row : List Command
 new_background_in_red_row = FullRow 1 ∷ DesignateC1 Serial ∷ C1 29 ∷ Graphic 0x41 ∷ []
 
 pub red_on_red : look_after new_background_in_red_row 1 2 ≡ sign_in 0x41 red red
-unfolding table row_of cell_back set_of read_as look look_in_row size_in_row serial_attributes column_in_force
-    is_holding kept_sign default_paints list_by_index tiled_table tiled_rows tiled_row part_from
+unfolding computing
 red_on_red = refl
 
 pub green_on_green : look_after (new_background_in_red_row ++ FullRow 2 ∷ []) 1 2 ≡ sign_in 0x41 green green
-unfolding table row_of cell_back set_of read_as look look_in_row size_in_row serial_attributes column_in_force
-    is_holding kept_sign default_paints list_by_index tiled_table tiled_rows tiled_row part_from
+unfolding computing
 green_on_green = refl
 
 pub from_the_marker_to_the_end : look_after (new_background_in_red_row ++ FullRow 2 ∷ []) 1 1
     ∷ look_after (new_background_in_red_row ++ FullRow 2 ∷ []) 1 40 ∷ []
     ≡ space_in green green ∷ space_in green green ∷ []
-unfolding table row_of cell_back set_of read_as look look_in_row size_in_row serial_attributes column_in_force
-    is_holding kept_sign default_paints list_by_index tiled_table tiled_rows tiled_row part_from
+unfolding computing
 from_the_marker_to_the_end = refl
 
 -- ---- the picture behind
@@ -174,21 +154,18 @@ picture_in_front = Table 1 ∷ C1 0 ∷ Graphic 0x41 ∷ Table 0 ∷ C1 17 ∷ G
 
 pub as_the_background : look_after picture_in_front 1 1 ∷ look_after picture_in_front 1 2 ∷ []
     ≡ sign_in 0x41 black black ∷ sign_in 0x42 red red ∷ []
-unfolding table row_of cell_back set_of read_as look look_in_row size_in_row serial_attributes column_in_force
-    is_holding kept_sign default_paints list_by_index tiled_table tiled_rows tiled_row part_from
+unfolding computing
 as_the_background = refl
 
 -- `9B 31 40 80 9B 30 40 91 9D 41`: exchanged it is the background, and the foreground stays
 pub exchanged_first : look_after (Table 1 ∷ C1 0 ∷ Table 0 ∷ C1 17 ∷ C1 29 ∷ Graphic 0x41 ∷ []) 1 1
     ≡ sign_in 0x41 red Video
-unfolding table row_of cell_back set_of read_as look look_in_row size_in_row serial_attributes column_in_force
-    is_holding kept_sign default_paints list_by_index tiled_table tiled_rows tiled_row part_from
+unfolding computing
 exchanged_first = refl
 
 -- `9B 31 40 80 90 41`
 pub picture_on_picture : look_after (Table 1 ∷ C1 0 ∷ C1 16 ∷ Graphic 0x41 ∷ []) 1 1 ≡ sign_in 0x41 Video Video
-unfolding table row_of cell_back set_of read_as look look_in_row size_in_row serial_attributes column_in_force
-    is_holding kept_sign default_paints list_by_index tiled_table tiled_rows tiled_row part_from
+unfolding computing
 picture_on_picture = refl
 
 -- `9B 31 40 90 41 1F 26 30 38 40 40 1F 26 21`: entry 8 becomes black, and by the defaults the picture behind again
@@ -199,18 +176,15 @@ abbrev pub entry_8_black : List Command
 entry_8_black = sign_on_entry_8 ++ ColourStart 8 ∷ Entry 8 (rgb 0x0 0x0 0x0) ∷ []
 
 pub picture_behind_at_first : look_after sign_on_entry_8 1 1 ≡ sign_in 0x41 white Video
-unfolding table row_of cell_back set_of read_as look look_in_row size_in_row serial_attributes column_in_force
-    is_holding kept_sign default_paints list_by_index tiled_table tiled_rows tiled_row part_from
+unfolding computing
 picture_behind_at_first = refl
 
 pub black_by_the_entry : look_after entry_8_black 1 1 ≡ sign_in 0x41 white black
-unfolding table row_of cell_back set_of read_as look look_in_row size_in_row serial_attributes column_in_force
-    is_holding kept_sign default_paints list_by_index tiled_table tiled_rows tiled_row part_from
+unfolding computing
 black_by_the_entry = refl
 
 pub picture_behind_again : look_after (entry_8_black ++ ColourDefaults ∷ []) 1 1 ≡ sign_in 0x41 white Video
-unfolding table row_of cell_back set_of read_as look look_in_row size_in_row serial_attributes column_in_force
-    is_holding kept_sign default_paints list_by_index tiled_table tiled_rows tiled_row part_from
+unfolding computing
 picture_behind_again = refl
 
 -- ---- entries
@@ -220,16 +194,16 @@ abbrev pub red_sign : List Command
 red_sign = C1 1 ∷ Graphic 0x41 ∷ []
 
 pub entry_not_named : changes red_sign (Entry 9 (rgb 0xF 0x0 0xF)) ≡ []
-unfolding table row_of cell_back differences marked_looks set_of read_as look_of default_paints list_by_index
+unfolding computing
 entry_not_named = changes-plain red_sign (Entry 9 (rgb 0xF 0x0 0xF)) refl refl
 
 -- the paint that it has changes none either
 pub same_paint_again : changes red_sign (Entry 1 (rgb 0xF 0x0 0x0)) ≡ []
-unfolding table row_of cell_back differences marked_looks set_of read_as look_of default_paints list_by_index
+unfolding computing
 same_paint_again = changes-plain red_sign (Entry 1 (rgb 0xF 0x0 0x0)) refl refl
 
 -- another changes what names it
 pub another_paint : changes red_sign (Entry 1 (rgb 0x0 0xF 0x0))
     ≡ (record { row = 1; column = 1 }, sign_in 0x41 green black) ∷ []
-unfolding table row_of cell_back differences marked_looks set_of read_as look_of default_paints list_by_index
+unfolding computing
 another_paint = changes-plain red_sign (Entry 1 (rgb 0x0 0xF 0x0)) refl refl

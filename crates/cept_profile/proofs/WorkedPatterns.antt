@@ -1,4 +1,5 @@
 -- Worked cases: which pattern a code has, and what is drawn of a sign of the downloaded set, by computing.
+use Rattle.cept_profile.proofs.WhatComputes.{computing}
 use Rattle.std.proofs.Common.{◌≡◌, ℕ, Some, None, [], ◌∷◌, map, true, refl}
 use Rattle.cept_codes.specs.declared.attribute.Pen.{Pen}
 use Rattle.cept_codes.specs.declared.cell.What.{What}
@@ -12,9 +13,8 @@ use Rattle.cept_codes.specs.declared.look.Shape.{Shape}
 use Rattle.cept_codes.specs.declared.look.Shape.TheVariants.{Char, Drcs}
 use Rattle.cept_codes.specs.declared.stroke.Stroke.TheVariants as strokes
 use Rattle.cept_codes.specs.Attribute.{unset_pen}
-use Rattle.cept_codes.specs.Table.{list_by_index}
 use Rattle.cept_profile.specs.Colours.{default_paint, default_paints, ink}
-use Rattle.cept_profile.specs.Definitions.{Definitions, inks_of, inks_with}
+use Rattle.cept_profile.specs.Definitions.{Definitions, inks_with}
 use Rattle.cept_profile.specs.Look.{look_of, shape_of}
 use Rattle.cept_profile.specs.PageParts.{list_of_codes, list_of_colours, pattern_back, pattern_in}
 
@@ -38,7 +38,7 @@ deleted = refl
 
 -- code 7/15 has none
 pub none_for_the_last : pattern_in (list_of_codes (λ d. Some (pattern_of 1))) 0x7F ≡ None
-unfolding list_by_index
+unfolding computing
 none_for_the_last = refl
 
 -- ---- what is drawn
@@ -56,17 +56,17 @@ drawn code = whats.Serial (record { set = D; code = code; accent = 0 })
 
 -- one plane has no inks, two have those of the entries that the DCLUT names, the picture behind among them
 pub one_plane : shape_of defined (drawn 0x21) ≡ Drcs (pattern_of 1) (inks_with [])
-unfolding inks_of
+unfolding computing
 one_plane = refl
 
 pub two_planes : shape_of defined (drawn 0x22)
     ≡ Drcs (pattern_of 2) (inks_with (ink 0 0 15 ∷ ink 15 0 0 ∷ ink 7 7 7 ∷ Video ∷ []))
-unfolding inks_of default_paints list_by_index
+unfolding computing
 two_planes = refl
 
 -- four have those of entries 16 to 31, of which 24 shows the picture behind
 pub four_planes : shape_of defined (drawn 0x23) ≡ Drcs (pattern_of 4) (inks_with default_paints)
-unfolding inks_of default_paints list_by_index
+unfolding computing
 four_planes = refl
 
 -- a code without a pattern is drawn as itself, and so is the code of another set
@@ -88,5 +88,5 @@ pub inverted : map (λ (pen : Pen). seen (in_pen pen))
     ∷ record unset_pen { fore = Some 2; back = Some 1; invert = Some true } ∷ []) ≡
     (shape_of defined (drawn 0x22), ink 0 15 0, ink 15 0 0) ∷ (shape_of defined (drawn 0x22), ink 15 0 0, ink 0 15 0)
     ∷ []
-unfolding look_of inks_of default_paints list_by_index
+unfolding computing
 inverted = refl

@@ -1,4 +1,5 @@
 -- Worked cases: the rows that a command reaches, by computing.
+use Rattle.cept_profile.proofs.WhatComputes.{computing}
 use Rattle.std.proofs.Common.{rules, ◌≡◌, ℕ, ◌+◌, ◌-◌, ◌≤◌, cond, not, ◌&&◌, ◌||◌, Bool, true, false, List, [], ◌∷◌, ◌++◌}
 use Rattle.std.proofs.Common.{Option, Some, None, zero, suc, map, refl, sym, subst, ap, ◌∙◌, ◌==◌, inl, inr, arith}
 use Rattle.std.specs.Prelude.{nat_le}
@@ -14,23 +15,15 @@ use Rattle.cept_codes.specs.declared.stroke.Stroke.{Stroke}
 use Rattle.cept_codes.specs.declared.look.Look.{Look}
 use Rattle.cept_codes.specs.Command.{IsValidCommand}
 use Rattle.cept_codes.specs.Look.{blank_look}
-use Rattle.cept_codes.specs.Table.{list_by_index, row_of, table}
 use Rattle.cept_codes.proofs.Laws.{same_table}
-use Rattle.cept_profile.specs.Cells.{cell_back, cells_after_all}
-use Rattle.cept_profile.specs.Colours.{default_paints}
-use Rattle.cept_profile.specs.Definitions.{inks_of}
-use Rattle.cept_profile.specs.Look.{grid, look, look_in_row, looks_of, part_of, size_in_row}
+use Rattle.cept_profile.specs.Look.{grid, look, looks_of, part_of}
 use Rattle.cept_profile.specs.MovedRows.{row_before}
-use Rattle.cept_profile.specs.Names.{contents_at_origin, full_attributes, names_dclut, names_entry, names_pattern, names_some_pattern}
-use Rattle.cept_profile.specs.PageParts.{part_after_all}
-use Rattle.cept_profile.specs.Reach.{has_other_attributes, is_reached, is_reached_from}
+use Rattle.cept_profile.specs.Reach.{has_other_attributes, is_reached_from}
 use Rattle.cept_profile.specs.Reach.{is_redefined, is_written, reaches, rows_in_reach}
 use Rattle.cept_profile.specs.RowsFromAbove.{is_covered_otherwise, look_seen, looks_in}
-use Rattle.cept_profile.specs.Serial.{column_in_force, is_holding, kept_sign, serial_attributes}
-use Rattle.cept_profile.specs.Sets.{read_as, set_of}
 use Rattle.cept_profile.specs.State.{Core, State, core, core_of, state, state_after}
 use Rattle.cept_profile.specs.Strokes.{strokes_of}
-use Rattle.cept_profile.specs.Tiling.{column_entry, covers_below, part_from, tiled_row, tiled_rows, tiled_table}
+use Rattle.cept_profile.specs.Tiling.{column_entry, covers_below}
 use Rattle.cept_profile.specs.Valid.{IsValidState}
 use Rattle.cept_profile.proofs.ColumnEntries.{no_index}
 use Rattle.cept_profile.proofs.LooksFromAbove.{covering-none, covers_nothing-first, look-seen}
@@ -135,14 +128,11 @@ row_3_counted s command alone here =
     reached_among s command (range_with_len 1 2) (3 ∷ []) (range_with_len 4 21) refl alone.0 alone.1 ∙ here
 
 letter_far : row_3_alone (state two_rows_of_letters) (Graphic 0x45)
-unfolding table row_of cell_back set_of read_as list_by_index cells_after_all part_after_all row_before is_written
-    has_other_attributes is_redefined
+unfolding computing
 letter_far = (refl, refl)
 
 letter_here : count_by (reaches (state two_rows_of_letters) (Graphic 0x45)) (3 ∷ []) ≡ 1
-unfolding table row_of cell_back set_of read_as look look_in_row size_in_row serial_attributes column_in_force
-    is_holding kept_sign default_paints list_by_index tiled_table tiled_rows tiled_row part_from cells_after_all
-    part_after_all row_before is_written has_other_attributes is_redefined is_covered_otherwise is_reached reaches
+unfolding computing
 letter_here = refl
 
 -- a letter reaches its row
@@ -150,14 +140,11 @@ pub letter : rows_in_reach (state two_rows_of_letters) (Graphic 0x45) ≡ 1
 letter = row_3_counted (state two_rows_of_letters) (Graphic 0x45) letter_far letter_here
 
 erase_far : row_3_alone (state two_rows_of_letters) Cancel
-unfolding table row_of cell_back set_of read_as list_by_index cells_after_all part_after_all row_before is_written
-    has_other_attributes is_redefined
+unfolding computing
 erase_far = (refl, refl)
 
 erase_here : count_by (reaches (state two_rows_of_letters) Cancel) (3 ∷ []) ≡ 1
-unfolding table row_of cell_back set_of read_as look look_in_row size_in_row serial_attributes column_in_force
-    is_holding kept_sign default_paints list_by_index tiled_table tiled_rows tiled_row part_from cells_after_all
-    part_after_all row_before is_written has_other_attributes is_redefined is_covered_otherwise is_reached reaches
+unfolding computing
 erase_here = refl
 
 -- the erased end of a row reaches that row
@@ -165,14 +152,11 @@ pub erase : rows_in_reach (state two_rows_of_letters) Cancel ≡ 1
 erase = row_3_counted (state two_rows_of_letters) Cancel erase_far erase_here
 
 row_attribute_far : row_3_alone (state two_rows_of_letters) (FullRow 17)
-unfolding table row_of cell_back set_of read_as list_by_index cells_after_all part_after_all row_before is_written
-    has_other_attributes is_redefined
+unfolding computing
 row_attribute_far = (refl, refl)
 
 row_attribute_here : count_by (reaches (state two_rows_of_letters) (FullRow 17)) (3 ∷ []) ≡ 1
-unfolding table row_of cell_back set_of read_as look look_in_row size_in_row serial_attributes column_in_force
-    is_holding kept_sign default_paints list_by_index tiled_table tiled_rows tiled_row part_from cells_after_all
-    part_after_all row_before is_written has_other_attributes is_redefined is_covered_otherwise is_reached reaches
+unfolding computing
 row_attribute_here = refl
 
 -- a background of the row, `1B 23 21 51`, reaches that row
@@ -183,14 +167,11 @@ abbrev pub rows_that_scroll : List Command
 rows_that_scroll = two_rows_of_letters ++ AreaCreate 2 3 ∷ []
 
 shift_far : row_3_alone (state rows_that_scroll) ScrollUp
-unfolding table row_of cell_back set_of read_as list_by_index cells_after_all part_after_all row_before is_written
-    has_other_attributes is_redefined
+unfolding computing
 shift_far = (refl, refl)
 
 shift_here : count_by (reaches (state rows_that_scroll) ScrollUp) (3 ∷ []) ≡ 1
-unfolding table row_of cell_back set_of read_as look look_in_row size_in_row serial_attributes column_in_force
-    is_holding kept_sign default_paints list_by_index tiled_table tiled_rows tiled_row part_from cells_after_all
-    part_after_all row_before is_written has_other_attributes is_redefined is_covered_otherwise is_reached reaches
+unfolding computing
 shift_here = refl
 
 -- of an area of two rows that goes up, `9B 30 60`, the last is reached, which comes free; the first has the letters of the
@@ -208,8 +189,7 @@ abbrev pub with_a_red_row : List Command
 with_a_red_row = two_rows_of_letters ++ FullRow 17 ∷ []
 
 row_attribute_again_far : list_any (is_near (state with_a_red_row) (FullRow 17)) (range_with_len 1 24) ≡ false
-unfolding table row_of cell_back set_of read_as list_by_index cells_after_all part_after_all row_before is_written
-    has_other_attributes is_redefined
+unfolding computing
 row_attribute_again_far = refl
 
 -- the same background of the row once more reaches none
@@ -220,8 +200,7 @@ abbrev pub on_a_blue_screen : List Command
 on_a_blue_screen = two_rows_of_letters ++ FullScreen 20 ∷ []
 
 screen_attribute_again_far : list_any (is_near (state on_a_blue_screen) (FullScreen 20)) (range_with_len 1 24) ≡ false
-unfolding table row_of cell_back set_of read_as list_by_index cells_after_all part_after_all row_before is_written
-    has_other_attributes is_redefined
+unfolding computing
 screen_attribute_again_far = refl
 
 -- nor does the same background of the screen, `1B 23 20 54`
@@ -229,8 +208,7 @@ pub screen_attribute_again : rows_in_reach (state on_a_blue_screen) (FullScreen 
 screen_attribute_again = none_reached (state on_a_blue_screen) (FullScreen 20) screen_attribute_again_far
 
 position_far : list_any (is_near (state two_rows_of_letters) (Position 5 5)) (range_with_len 1 24) ≡ false
-unfolding table row_of cell_back set_of read_as list_by_index cells_after_all part_after_all row_before is_written
-    has_other_attributes is_redefined
+unfolding computing
 position_far = refl
 
 -- nor a position
@@ -245,14 +223,11 @@ high_signs_in_a_column = Position 1 1 ∷ C1 13 ∷ Graphic 0x41 ∷ Position 2 
     ∷ C1 13 ∷ Graphic 0x43 ∷ Position 4 1 ∷ C1 13 ∷ Graphic 0x44 ∷ Position 1 1 ∷ []
 
 column_far : list_any (is_near (state high_signs_in_a_column) (Graphic 0x41)) (range_with_len 6 19) ≡ false
-unfolding table row_of cell_back set_of read_as list_by_index cells_after_all part_after_all row_before is_written
-    has_other_attributes is_redefined
+unfolding computing
 column_far = refl
 
 column_counted : count_by (reaches (state high_signs_in_a_column) (Graphic 0x41)) (range_with_len 1 5) ≡ 5
-unfolding table row_of cell_back set_of read_as look look_in_row size_in_row serial_attributes column_in_force
-    is_holding kept_sign default_paints list_by_index tiled_table tiled_rows tiled_row part_from cells_after_all
-    part_after_all row_before is_written has_other_attributes is_redefined is_covered_otherwise is_reached reaches
+unfolding computing
 column_counted = refl
 
 -- where the first becomes of single size, the second and the fourth are seen, and the fourth covers row 5
@@ -266,14 +241,11 @@ abbrev pub beneath_a_high_sign : List Command
 beneath_a_high_sign = Position 1 1 ∷ C1 13 ∷ Graphic 0x41 ∷ Position 2 1 ∷ []
 
 beneath_far : list_any (is_near (state beneath_a_high_sign) (Graphic 0x41)) (range_with_len 3 22) ≡ false
-unfolding table row_of cell_back set_of read_as list_by_index cells_after_all part_after_all row_before is_written
-    has_other_attributes is_redefined
+unfolding computing
 beneath_far = refl
 
 beneath_counted : count_by (reaches (state beneath_a_high_sign) (Graphic 0x41)) (range_with_len 1 2) ≡ 1
-unfolding table row_of cell_back set_of read_as look look_in_row size_in_row serial_attributes column_in_force
-    is_holding kept_sign default_paints list_by_index tiled_table tiled_rows tiled_row part_from cells_after_all
-    part_after_all row_before is_written has_other_attributes is_redefined is_covered_otherwise is_reached reaches
+unfolding computing
 beneath_counted = refl
 
 -- a letter there reaches its row alone
@@ -304,13 +276,11 @@ one_row_stays s command q valid may still out same =
     ])
 
 beneath_still : (r : ℕ) → row_before (strokes_of (state beneath_a_high_sign).control (Graphic 0x41)) r ≡ Some r
-unfolding set_of read_as row_before
+unfolding computing
 beneath_still r = refl
 
 row_1_out : reaches (state beneath_a_high_sign) (Graphic 0x41) 1 ≡ false
-unfolding table row_of cell_back set_of read_as look look_in_row size_in_row serial_attributes column_in_force
-    is_holding kept_sign default_paints list_by_index tiled_table tiled_rows tiled_row part_from cells_after_all
-    part_after_all row_before is_written has_other_attributes is_redefined is_covered_otherwise is_reached reaches
+unfolding computing
 row_1_out = refl
 
 others_out : (r : ℕ) → 1 ≤ r → r ≤ 24 → (r == 2) ≡ false → reaches (state beneath_a_high_sign) (Graphic 0x41) r ≡ false
@@ -327,14 +297,12 @@ others_out r low high apart =
 
 row_2_stays : looks_in (looks_of (core_of (state_after (state beneath_a_high_sign) (Graphic 0x41)))) 2
     ≡ looks_in (looks_of (core_of (state beneath_a_high_sign))) 2
-unfolding table row_of cell_back set_of read_as look look_in_row size_in_row serial_attributes column_in_force
-    is_holding kept_sign default_paints list_by_index tiled_table tiled_rows tiled_row part_from cells_after_all
-    part_after_all
+unfolding computing
 row_2_stays = refl
 
 -- `1F 41 41 8D 41 1F 42 41 41`: the letter changes no look
 pub sign_beneath : grid (beneath_a_high_sign ++ Graphic 0x41 ∷ []) ≡ grid beneath_a_high_sign
-unfolding set_of read_as
+unfolding computing
 sign_beneath =
     looks_of-alike (core (beneath_a_high_sign ++ Graphic 0x41 ∷ []))
     (core_of (state_after (state beneath_a_high_sign) (Graphic 0x41)))
@@ -352,16 +320,11 @@ abbrev pub green_for_red : Command
 green_for_red = Entry 1 (record { r = 0; g = 15; b = 0 })
 
 green_far : list_any (is_near (state two_red_letters) green_for_red) (range_with_len 3 22) ≡ false
-unfolding table row_of cell_back set_of read_as look look_in_row size_in_row serial_attributes column_in_force
-    is_holding kept_sign default_paints list_by_index tiled_table tiled_rows tiled_row part_from cells_after_all
-    part_after_all row_before is_written has_other_attributes is_redefined names_entry full_attributes contents_at_origin
+unfolding computing
 green_far = refl
 
 green_counted : count_by (reaches (state two_red_letters) green_for_red) (range_with_len 1 2) ≡ 2
-unfolding table row_of cell_back set_of read_as look look_in_row size_in_row serial_attributes column_in_force
-    is_holding kept_sign default_paints list_by_index tiled_table tiled_rows tiled_row part_from cells_after_all
-    part_after_all row_before is_written has_other_attributes is_redefined names_entry full_attributes contents_at_origin
-    is_covered_otherwise is_reached reaches
+unfolding computing
 green_counted = refl
 
 -- another paint of a colour entry, `1F 26 30 31 52 52`, reaches the rows that name the entry
@@ -376,10 +339,7 @@ high_red_letter = C1 1 ∷ C1 13 ∷ Graphic 0x41 ∷ []
 
 -- the row of its lower half names its entry too
 pub green_below : map (reaches (state high_red_letter) green_for_red) (range_with_len 1 3) ≡ true ∷ true ∷ false ∷ []
-unfolding table row_of cell_back set_of read_as look look_in_row size_in_row serial_attributes column_in_force
-    is_holding kept_sign default_paints list_by_index tiled_table tiled_rows tiled_row part_from cells_after_all
-    part_after_all row_before is_written has_other_attributes is_redefined names_entry full_attributes contents_at_origin
-    is_covered_otherwise is_reached reaches
+unfolding computing
 green_below = refl
 
 -- ---- patterns
@@ -398,18 +358,12 @@ reached_of_three command = map (reaches (state two_rows_of_patterns) command) (r
 pub pattern_again : map reached_of_three (DrcsPattern 0x21 (pattern_of 1) ∷ DrcsPattern 0x22 (pattern_of 1)
     ∷ DrcsPattern 0x23 (pattern_of 1) ∷ [])
     ≡ (true ∷ false ∷ false ∷ []) ∷ (false ∷ true ∷ false ∷ []) ∷ (false ∷ false ∷ false ∷ []) ∷ []
-unfolding table row_of cell_back set_of read_as look look_in_row size_in_row serial_attributes column_in_force
-    is_holding kept_sign default_paints list_by_index tiled_table tiled_rows tiled_row part_from cells_after_all
-    part_after_all row_before is_written has_other_attributes is_redefined names_entry full_attributes contents_at_origin
-    is_covered_otherwise is_reached reaches names_dclut names_pattern names_some_pattern inks_of
+unfolding computing
 pattern_again = refl
 
 -- a header that deletes reaches the rows that name a code
 pub deleted : reached_of_three (DrcsHeader true (record { w = 6; h = 6; planes = 1 })) ≡ true ∷ true ∷ false ∷ []
-unfolding table row_of cell_back set_of read_as look look_in_row size_in_row serial_attributes column_in_force
-    is_holding kept_sign default_paints list_by_index tiled_table tiled_rows tiled_row part_from cells_after_all
-    part_after_all row_before is_written has_other_attributes is_redefined names_entry full_attributes contents_at_origin
-    is_covered_otherwise is_reached reaches names_dclut names_pattern names_some_pattern inks_of
+unfolding computing
 deleted = refl
 
 -- an entry of the DCLUT reaches the rows that show two planes, and so does a colour entry that one of them names, where no
@@ -417,8 +371,5 @@ deleted = refl
 pub inks_again : map reached_of_three (Dclut 3 5 ∷ Entry 2 (record { r = 1; g = 2; b = 3 })
     ∷ Entry 5 (record { r = 1; g = 2; b = 3 }) ∷ [])
     ≡ (true ∷ false ∷ false ∷ []) ∷ (true ∷ false ∷ false ∷ []) ∷ (false ∷ false ∷ false ∷ []) ∷ []
-unfolding table row_of cell_back set_of read_as look look_in_row size_in_row serial_attributes column_in_force
-    is_holding kept_sign default_paints list_by_index tiled_table tiled_rows tiled_row part_from cells_after_all
-    part_after_all row_before is_written has_other_attributes is_redefined names_entry full_attributes contents_at_origin
-    is_covered_otherwise is_reached reaches names_dclut names_pattern names_some_pattern inks_of
+unfolding computing
 inks_again = refl

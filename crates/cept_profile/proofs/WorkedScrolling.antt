@@ -1,4 +1,5 @@
 -- Worked cases: areas that scroll, and cells that are protected, by computing.
+use Rattle.cept_profile.proofs.WhatComputes.{computing}
 use Rattle.std.proofs.Common.{◌≡◌, ℕ, List, [], ◌∷◌, ◌++◌, map, reverse, Some, None, Bool, true, false, refl}
 use Rattle.cept_codes.specs.declared.cell.Cell.{Cell}
 use Rattle.cept_codes.specs.declared.cell.Marker.TheVariants.{Hold}
@@ -16,9 +17,7 @@ use Rattle.cept_codes.specs.Cell.{blank_cell}
 use Rattle.cept_profile.specs.Cells.{cell_back}
 use Rattle.cept_profile.specs.Control.{ControlState, initial_control}
 use Rattle.cept_profile.specs.Motions.{area_in_force}
-use Rattle.cept_profile.specs.Sets.{read_as, set_of}
 use Rattle.cept_profile.specs.Strokes.{strokes_back, strokes_in, strokes_of}
-use Rattle.cept_profile.specs.Writing.{control_after_copies, strokes_of_copies}
 
 -- a sign, protected or not
 abbrev pub cell : ℕ → Bool → Cell
@@ -43,34 +42,34 @@ abbrev pub over_the_end : List Command
 over_the_end = AreaCreate 1 24 ∷ Implicit true ∷ Position 24 40 ∷ Graphic 0x41 ∷ Graphic 0x42 ∷ []
 
 pub sign_before_the_shift : strokes_in over_the_end ≡ put 24 40 0x41 ∷ Shift 1 24 Up ∷ put 24 1 0x42 ∷ []
-unfolding read_as set_of
+unfolding computing
 sign_before_the_shift = refl
 
 pub sign_one_row_up : column_of over_the_end 40 (22 ∷ 23 ∷ 24 ∷ []) ≡ blank_cell ∷ cell 0x41 false ∷ blank_cell ∷ []
-unfolding cell_back read_as set_of
+unfolding computing
 sign_one_row_up = refl
 
 -- down from the last row and up from the first: the row stays
 pub down_at_the_last : strokes_in (scrolling ++ Position 5 7 ∷ commands.Down ∷ Graphic 0x41 ∷ [])
     ≡ Shift 2 5 Up ∷ put 5 7 0x41 ∷ []
-unfolding read_as set_of
+unfolding computing
 down_at_the_last = refl
 
 pub up_at_the_first : strokes_in (scrolling ++ Position 2 7 ∷ commands.Up ∷ Graphic 0x41 ∷ [])
     ≡ Shift 2 5 Down ∷ put 2 7 0x41 ∷ []
-unfolding read_as set_of
+unfolding computing
 up_at_the_first = refl
 
 -- back from the first column of the first row, to the last column of that row
 pub back_at_the_first : strokes_in (scrolling ++ Position 2 1 ∷ commands.Back ∷ Graphic 0x41 ∷ [])
     ≡ Shift 2 5 Down ∷ put 2 40 0x41 ∷ []
-unfolding read_as set_of
+unfolding computing
 back_at_the_first = refl
 
 -- forward from the last column of the last row
 pub forward_at_the_last : strokes_in (scrolling ++ Position 5 40 ∷ commands.Forward ∷ Graphic 0x41 ∷ [])
     ≡ Shift 2 5 Up ∷ put 5 1 0x41 ∷ []
-unfolding read_as set_of
+unfolding computing
 forward_at_the_last = refl
 
 -- and after a marker
@@ -82,19 +81,19 @@ marker_scrolls = refl
 pub no_edge : strokes_in (scrolling ++ Position 1 40 ∷ Graphic 0x41 ∷ Position 3 40 ∷ Graphic 0x42 ∷ Position 6 1
     ∷ commands.Up ∷ Position 24 1 ∷ commands.Down ∷ Position 1 1 ∷ commands.Up ∷ [])
     ≡ put 1 40 0x41 ∷ put 3 40 0x42 ∷ []
-unfolding read_as set_of
+unfolding computing
 no_edge = refl
 
 -- an area of one row frees it
 pub one_row : strokes_in (AreaCreate 3 3 ∷ Implicit true ∷ Position 3 1 ∷ Graphic 0x41 ∷ commands.Down ∷ Graphic 0x42
     ∷ []) ≡ put 3 1 0x41 ∷ Shift 3 3 Up ∷ put 3 2 0x42 ∷ []
-unfolding read_as set_of
+unfolding computing
 one_row = refl
 
 -- copies of a sign with a shift between them
 pub copies_scroll : strokes_in (AreaCreate 2 3 ∷ Implicit true ∷ Position 3 38 ∷ Graphic 0x41 ∷ Repeat 3 ∷ [])
     ≡ put 3 38 0x41 ∷ put 3 39 0x41 ∷ put 3 40 0x41 ∷ Shift 2 3 Up ∷ put 3 1 0x41 ∷ []
-unfolding read_as set_of control_after_copies strokes_of_copies
+unfolding computing
 copies_scroll = refl
 
 -- ---- which areas scroll
@@ -123,7 +122,7 @@ guarded = Protect true ∷ Graphic 0x41 ∷ Protect false ∷ Graphic 0x42 ∷ c
 
 pub guarded_cell_stays : map (λ c. cell_back (strokes_back (reverse guarded)) 1 c) (1 ∷ 2 ∷ 3 ∷ [])
     ≡ cell 0x41 true ∷ cell 0x43 false ∷ blank_cell ∷ []
-unfolding cell_back read_as set_of control_after_copies strokes_of_copies
+unfolding computing
 guarded_cell_stays = refl
 
 -- it moves with its row, and goes with the first
@@ -133,10 +132,10 @@ shifted = AreaCreate 2 5 ∷ Protect true ∷ Position 2 1 ∷ Graphic 0x41 ∷ 
 
 pub guarded_cells_move : column_of shifted 1 (1 ∷ 2 ∷ 3 ∷ 4 ∷ 5 ∷ 6 ∷ [])
     ≡ blank_cell ∷ blank_cell ∷ blank_cell ∷ cell 0x42 true ∷ blank_cell ∷ blank_cell ∷ []
-unfolding cell_back read_as set_of
+unfolding computing
 guarded_cells_move = refl
 
 pub guarded_cells_move_down : column_of (shifted ++ commands.ScrollDown ∷ commands.ScrollDown ∷ []) 1
     (2 ∷ 3 ∷ 4 ∷ 5 ∷ 6 ∷ []) ≡ blank_cell ∷ blank_cell ∷ blank_cell ∷ blank_cell ∷ blank_cell ∷ []
-unfolding cell_back read_as set_of
+unfolding computing
 guarded_cells_move_down = refl

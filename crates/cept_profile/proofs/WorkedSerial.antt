@@ -1,4 +1,5 @@
 -- Worked cases: rows of markers and signs, by computing.
+use Rattle.cept_profile.proofs.WhatComputes.{computing}
 use Rattle.std.proofs.Common.{◌≡◌, ℕ, ◌-◌, Bool, true, false, Option, Some, None, List, [], ◌∷◌, map, refl}
 use Rattle.std.proofs.Common.{slice_index_or}
 use Rattle.std.specs.List.{range_with_len}
@@ -15,8 +16,8 @@ use Rattle.cept_codes.specs.declared.glyph.SetId.{SetId}
 use Rattle.cept_codes.specs.declared.glyph.SetId.TheVariants as sets
 use Rattle.cept_codes.specs.Attribute.{unset_pen}
 use Rattle.cept_profile.specs.Serial.{Fore, Back, Hold, Flashing, Concealing, Lining, Boxing, Sizing}
-use Rattle.cept_profile.specs.Serial.{class_of, acts_at_once, column_in_force, serial_attributes, own_attributes}
-use Rattle.cept_profile.specs.Serial.{is_holding, kept_sign, held_sign}
+use Rattle.cept_profile.specs.Serial.{class_of, acts_at_once, serial_attributes, own_attributes}
+use Rattle.cept_profile.specs.Serial.{held_sign}
 
 -- a row that begins with these, and is blank after them
 abbrev pub beginning : List What → ℕ → What
@@ -89,29 +90,29 @@ after_each m = own_at (mark m ∷ []) 2
 
 pub fores_said : map (λ m. (after_each m).fore) (markers.Alpha 1 ∷ markers.Mosaic 2 ∷ markers.Hold ∷ [])
     ≡ 1 ∷ 2 ∷ 7 ∷ []
-unfolding serial_attributes column_in_force
+unfolding computing
 fores_said = refl
 
 pub flashes_said : map (λ m. (after_each m).flash) (markers.Flash flashes.Plain ∷ markers.Flash flashes.Inverted
     ∷ markers.Flash flashes.Fast3 ∷ markers.Alpha 1 ∷ [])
     ≡ flashes.Plain ∷ flashes.Inverted ∷ flashes.Fast3 ∷ flashes.Steady ∷ []
-unfolding serial_attributes column_in_force
+unfolding computing
 flashes_said = refl
 
 pub lines_said : map (λ m. (after_each m).lined) (markers.Lined true ∷ markers.Lined false ∷ markers.Alpha 1 ∷ [])
     ≡ true ∷ false ∷ false ∷ []
-unfolding serial_attributes column_in_force
+unfolding computing
 lines_said = refl
 
 pub boxes_said : map (λ m. (after_each m).boxed) (markers.Boxed true ∷ markers.Boxed false ∷ markers.Alpha 1 ∷ [])
     ≡ true ∷ false ∷ false ∷ []
-unfolding serial_attributes column_in_force
+unfolding computing
 boxes_said = refl
 
 pub sizes_said : map (λ m. (after_each m).size) (markers.Size sizes.High ∷ markers.Size sizes.Both ∷ markers.Alpha 1
     ∷ [])
     ≡ sizes.High ∷ sizes.Both ∷ sizes.Normal ∷ []
-unfolding serial_attributes column_in_force
+unfolding computing
 sizes_said = refl
 
 -- ---- attributes
@@ -120,7 +121,7 @@ sizes_said = refl
 pub flash : flashes_of (mark (markers.Flash flashes.Plain) ∷ sign sets.P 0x41 ∷ mark (markers.Flash flashes.Steady)
     ∷ sign sets.P 0x42 ∷ []) 4
     ≡ flashes.Steady ∷ flashes.Plain ∷ flashes.Steady ∷ flashes.Steady ∷ []
-unfolding serial_attributes column_in_force
+unfolding computing
 flash = refl
 
 -- `81 9D 82 41`: a new background takes the foreground at its own marker, though green is in force after it
@@ -128,65 +129,65 @@ abbrev pub new_back : List What
 new_back = mark (markers.Alpha 1) ∷ mark markers.NewBack ∷ mark (markers.Alpha 2) ∷ sign sets.P 0x41 ∷ []
 
 pub new_back_backs : backs new_back 5 ≡ 0 ∷ 1 ∷ 1 ∷ 1 ∷ 1 ∷ []
-unfolding serial_attributes column_in_force
+unfolding computing
 new_back_backs = refl
 
 pub new_back_fores : fores new_back 5 ≡ 7 ∷ 1 ∷ 1 ∷ 2 ∷ 2 ∷ []
-unfolding serial_attributes column_in_force
+unfolding computing
 new_back_fores = refl
 
 -- `81 9D 41 0D 82`: a new background changes with the foreground before it, though its marker stays
 pub new_back_moved : backs (mark (markers.Alpha 2) ∷ mark markers.NewBack ∷ sign sets.P 0x41 ∷ []) 3 ≡ 0 ∷ 2 ∷ 2 ∷ []
-unfolding serial_attributes column_in_force
+unfolding computing
 new_back_moved = refl
 
 -- `81 9D 41 9C 42`: the black background begins in its own cell
 pub black_back : backs (mark (markers.Alpha 1) ∷ mark markers.NewBack ∷ sign sets.P 0x41 ∷ mark markers.BlackBack
     ∷ sign sets.P 0x42 ∷ []) 5 ≡ 0 ∷ 1 ∷ 1 ∷ 0 ∷ 0 ∷ []
-unfolding serial_attributes column_in_force
+unfolding computing
 black_back = refl
 
 -- `98 41 81 42`: no colour ends concealing
 pub conceal_colour : concealed (mark (markers.Conceal true) ∷ sign sets.P 0x41 ∷ mark (markers.Alpha 1)
     ∷ sign sets.P 0x42 ∷ []) 4 ≡ true ∷ true ∷ true ∷ true ∷ []
-unfolding serial_attributes column_in_force
+unfolding computing
 conceal_colour = refl
 
 -- `98 41 9B 42 42`: what stops concealing ends it after its own cell
 pub conceal_stopped : concealed (mark (markers.Conceal true) ∷ sign sets.P 0x41 ∷ mark (markers.Conceal false)
     ∷ sign sets.P 0x42 ∷ []) 4 ≡ true ∷ true ∷ true ∷ false ∷ []
-unfolding serial_attributes column_in_force
+unfolding computing
 conceal_stopped = refl
 
 -- `81 1B 22 41 41 S 42`: a sign written in parallel has its own pen alone, the serial one after it the marker's colour
 pub parallel : fores (mark (markers.Alpha 1) ∷ whats.Parallel (glyph sets.P 0x41) unset_pen ∷ sign sets.P 0x42 ∷ []) 3
     ≡ 7 ∷ 7 ∷ 1 ∷ []
-unfolding serial_attributes column_in_force
+unfolding computing
 parallel = refl
 
 -- `81 41 82 42`: the marker that stands last is in force; where it is erased, the one before it
 pub last_marker : fores (mark (markers.Alpha 1) ∷ sign sets.P 0x41 ∷ mark (markers.Alpha 2) ∷ sign sets.P 0x42 ∷ []) 5
     ≡ 7 ∷ 1 ∷ 1 ∷ 2 ∷ 2 ∷ []
-unfolding serial_attributes column_in_force
+unfolding computing
 last_marker = refl
 
 pub marker_erased : fores (mark (markers.Alpha 1) ∷ sign sets.P 0x43 ∷ []) 5 ≡ 7 ∷ 1 ∷ 1 ∷ 1 ∷ 1 ∷ []
-unfolding serial_attributes column_in_force
+unfolding computing
 marker_erased = refl
 
 -- without a marker: the row's, else the screen's, else the default
 pub row_first : (serial_attributes (beginning []) (record unset_pen { fore = Some 3 })
     (record unset_pen { fore = Some 4 }) 5).fore ≡ 3
-unfolding serial_attributes column_in_force
+unfolding computing
 row_first = refl
 
 pub screen_next : (serial_attributes (beginning []) unset_pen (record unset_pen { fore = Some 4 }) 5).fore ≡ 4
-unfolding serial_attributes column_in_force
+unfolding computing
 screen_next = refl
 
 pub marker_first : (serial_attributes (beginning (mark (markers.Alpha 1) ∷ [])) (record unset_pen { fore = Some 3 })
     (record unset_pen { fore = Some 4 }) 5).fore ≡ 1
-unfolding serial_attributes column_in_force
+unfolding computing
 marker_first = refl
 
 -- ---- held signs
@@ -194,48 +195,48 @@ marker_first = refl
 -- `91 73 9E 9F 91`: hold begins in its own cell, release after its own
 pub hold_and_release : held_codes (mark (markers.Mosaic 1) ∷ sign sets.M 0x73 ∷ mark markers.Hold ∷ mark markers.Release
     ∷ mark (markers.Mosaic 1) ∷ []) 5 ≡ None ∷ None ∷ Some 0x73 ∷ Some 0x73 ∷ None ∷ []
-unfolding column_in_force is_holding kept_sign
+unfolding computing
 hold_and_release = refl
 
 -- `91 73 20 9E 92`: the nearest cell without a marker is the space, and no earlier mosaic is remembered
 pub space_between : held_codes (mark (markers.Mosaic 1) ∷ sign sets.M 0x73 ∷ sign sets.P 0x20 ∷ mark markers.Hold
     ∷ mark (markers.Mosaic 2) ∷ []) 5 ≡ None ∷ None ∷ None ∷ None ∷ None ∷ []
-unfolding column_in_force is_holding kept_sign
+unfolding computing
 space_between = refl
 
 -- `91 73 09 9E 92`: the same after a blank cell
 pub blank_between : held_codes (mark (markers.Mosaic 1) ∷ sign sets.M 0x73 ∷ nothing ∷ mark markers.Hold
     ∷ mark (markers.Mosaic 2) ∷ []) 5 ≡ None ∷ None ∷ None ∷ None ∷ None ∷ []
-unfolding column_in_force is_holding kept_sign
+unfolding computing
 blank_between = refl
 
 -- `91 73 9E 81 82`: an alpha colour doesn't drop the held sign
 pub alpha_holds : held_codes (mark (markers.Mosaic 1) ∷ sign sets.M 0x73 ∷ mark markers.Hold ∷ mark (markers.Alpha 1)
     ∷ mark (markers.Alpha 2) ∷ []) 5 ≡ None ∷ None ∷ Some 0x73 ∷ Some 0x73 ∷ Some 0x73 ∷ []
-unfolding column_in_force is_holding kept_sign
+unfolding computing
 alpha_holds = refl
 
 -- `0E 73 S 9E 91`: a mosaic that was written in parallel is not held
 pub parallel_mosaic : held_codes (whats.Parallel (glyph sets.M 0x73) unset_pen ∷ mark markers.Hold
     ∷ mark (markers.Mosaic 1) ∷ []) 3 ≡ None ∷ None ∷ None ∷ []
-unfolding column_in_force is_holding kept_sign
+unfolding computing
 parallel_mosaic = refl
 
 -- `1D 21 9E 91`: a sign of the second mosaic set is held
 pub second_mosaic : held_codes (sign sets.N 0x21 ∷ mark markers.Hold ∷ mark (markers.Mosaic 1) ∷ []) 3
     ≡ None ∷ Some 0x21 ∷ Some 0x21 ∷ []
-unfolding column_in_force is_holding kept_sign
+unfolding computing
 second_mosaic = refl
 
 -- `91 A1 9E 92`: one of the supplementary set is not
 pub supplementary : held_codes (mark (markers.Mosaic 1) ∷ sign sets.S 0x21 ∷ mark markers.Hold ∷ mark (markers.Mosaic 2)
     ∷ []) 4 ≡ None ∷ None ∷ None ∷ None ∷ []
-unfolding column_in_force is_holding kept_sign
+unfolding computing
 supplementary = refl
 
 -- `9E 91`: nothing but markers to the left
 pub markers_alone : held_codes (mark markers.Hold ∷ mark (markers.Mosaic 1) ∷ []) 2 ≡ None ∷ None ∷ []
-unfolding column_in_force is_holding kept_sign
+unfolding computing
 markers_alone = refl
 
 -- `91 73 9E 92 0D 41`: the markers still hold the sign, though its colour went with its marker
@@ -243,16 +244,16 @@ abbrev pub colour_gone : List What
 colour_gone = sign sets.P 0x41 ∷ sign sets.M 0x73 ∷ mark markers.Hold ∷ mark (markers.Mosaic 2) ∷ []
 
 pub colour_gone_held : held_codes colour_gone 4 ≡ None ∷ None ∷ Some 0x73 ∷ Some 0x73 ∷ []
-unfolding column_in_force is_holding kept_sign
+unfolding computing
 colour_gone_held = refl
 
 pub colour_gone_fores : fores colour_gone 5 ≡ 7 ∷ 7 ∷ 7 ∷ 7 ∷ 2 ∷ []
-unfolding serial_attributes column_in_force
+unfolding computing
 colour_gone_fores = refl
 
 -- a size marker ends holding, also one that changes nothing, and a mosaic after it is held again
 pub size_ends_hold : held_codes (sign sets.M 0x73 ∷ mark markers.Hold ∷ mark (markers.Size sizes.Normal)
     ∷ mark (markers.Mosaic 2) ∷ sign sets.M 0x71 ∷ mark (markers.Mosaic 3) ∷ []) 6
     ≡ None ∷ Some 0x73 ∷ None ∷ None ∷ None ∷ Some 0x71 ∷ []
-unfolding column_in_force is_holding kept_sign
+unfolding computing
 size_ends_hold = refl

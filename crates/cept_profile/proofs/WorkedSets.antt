@@ -1,5 +1,6 @@
 -- Worked tables: which set a byte is of, what its code gives, and what each shift and designation changes, by
 -- computing.
+use Rattle.cept_profile.proofs.WhatComputes.{computing}
 use Rattle.std.proofs.Common.{◌≡◌, ℕ, List, [], ◌∷◌, ◌++◌, map, Option, Some, None, true, false, refl}
 use Rattle.std.specs.List.{range_with_len}
 use Rattle.cept_codes.specs.declared.command.Command.{Command}
@@ -46,7 +47,7 @@ one_change_each = refl
 pub byte_spends_the_shift : map (λ byte. sets_after (shifted_before ++ Graphic byte ∷ []))
     (0x20 ∷ 0x41 ∷ 0xA0 ∷ 0xC8 ∷ []) ≡
     sets P M S N 1 3 None ∷ sets P M S N 1 3 None ∷ sets P M S N 1 3 None ∷ sets P M S N 1 3 None ∷ []
-unfolding set_of read_as
+unfolding computing
 byte_spends_the_shift = refl
 
 -- ---- the set of a byte
@@ -59,19 +60,19 @@ sets_of_bytes s = set_of s 0x41 false ∷ set_of s 0xC1 false ∷ set_of s 0x41 
 pub by_locks : map (λ (s : Sets). sets_of_bytes s)
     (sets P S N D 0 1 None ∷ sets P S N D 1 2 None ∷ sets P S N D 2 3 None ∷ sets P S N D 3 1 None ∷ []) ≡
     (P ∷ S ∷ M ∷ S ∷ []) ∷ (S ∷ N ∷ M ∷ N ∷ []) ∷ (N ∷ D ∷ M ∷ D ∷ []) ∷ (D ∷ S ∷ M ∷ S ∷ []) ∷ []
-unfolding set_of
+unfolding computing
 by_locks = refl
 
 -- by the single shift on either side, in a run too
 pub by_shifts : map (λ (s : Sets). sets_of_bytes s) (sets P S N D 0 1 (Some 2) ∷ sets P S N D 0 1 (Some 3) ∷ []) ≡
     (N ∷ N ∷ N ∷ N ∷ []) ∷ (D ∷ D ∷ D ∷ D ∷ []) ∷ []
-unfolding set_of
+unfolding computing
 by_shifts = refl
 
 -- the halves meet between 7/15 and 10/0
 pub edges_of_the_halves : map (λ byte. set_of (sets P S N D 0 1 None) byte false)
     (0x20 ∷ 0x7F ∷ 0xA0 ∷ 0xFF ∷ []) ≡ P ∷ P ∷ S ∷ S ∷ []
-unfolding set_of
+unfolding computing
 edges_of_the_halves = refl
 
 -- ---- codes
@@ -90,7 +91,7 @@ sign_read set code = reads.Glyph (record { set = set; code = code; accent = 0 })
 -- code 2/0 is the space of P in each set
 pub space_of_each_set : map (λ (set : SetId). read_as set 0x20) each_set ≡
     sign_read P 0x20 ∷ sign_read P 0x20 ∷ sign_read P 0x20 ∷ sign_read P 0x20 ∷ sign_read P 0x20 ∷ []
-unfolding read_as
+unfolding computing
 space_of_each_set = refl
 
 -- codes 2/1, 4/8 and 7/15 of each set: of S 4/8 is an accent
@@ -100,7 +101,7 @@ pub codes_of_each_set : map (λ (set : SetId). map (read_as set) (0x21 ∷ 0x48 
     ∷ (sign_read M 0x21 ∷ sign_read M 0x48 ∷ sign_read M 0x7F ∷ [])
     ∷ (sign_read N 0x21 ∷ sign_read N 0x48 ∷ sign_read N 0x7F ∷ [])
     ∷ (sign_read D 0x21 ∷ sign_read D 0x48 ∷ sign_read D 0x7F ∷ []) ∷ []
-unfolding read_as
+unfolding computing
 codes_of_each_set = refl
 
 -- the accents of S are its codes 4/0 to 4/15
@@ -111,5 +112,5 @@ pub accents_of_S : map (read_as S) (range_with_len 0x3F 18) ≡
     ∷ reads.Accent 0x48 ∷ reads.Accent 0x49 ∷ reads.Accent 0x4A ∷ reads.Accent 0x4B ∷ reads.Accent 0x4C
     ∷ reads.Accent 0x4D ∷ reads.Accent 0x4E ∷ reads.Accent 0x4F
     ∷ sign_read S 0x50 ∷ []
-unfolding read_as
+unfolding computing
 accents_of_S = refl

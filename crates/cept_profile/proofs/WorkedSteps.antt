@@ -1,5 +1,6 @@
 -- Worked cases: how far signs of each size and markers move on, by computing. Each list has the row and the column of
 -- every sign and marker in turn.
+use Rattle.cept_profile.proofs.WhatComputes.{computing}
 use Rattle.std.proofs.Common.{◌≡◌, ℕ, List, [], ◌∷◌, map, flat_map, Some, None, false, refl}
 use Rattle.std.specs.List.{range_with_len}
 use Rattle.cept_codes.specs.declared.attribute.Size.TheVariants.{Wide}
@@ -14,8 +15,7 @@ use Rattle.cept_codes.specs.declared.stroke.Stroke.{Stroke}
 use Rattle.cept_codes.specs.declared.stroke.Stroke.TheVariants as strokes
 use Rattle.cept_codes.specs.Attribute.{unset_pen}
 use Rattle.cept_codes.specs.Cell.{blank_cell}
-use Rattle.cept_codes.specs.Table.{row_of, table, value_at}
-use Rattle.cept_profile.specs.Cells.{cell_back}
+use Rattle.cept_codes.specs.Table.{value_at}
 use Rattle.cept_profile.specs.Control.{
   ControlState,
   initial_control,
@@ -24,10 +24,8 @@ use Rattle.cept_profile.specs.Control.{
   control_after,
   working_at,
 }
-use Rattle.cept_profile.specs.Sets.{set_of, read_as}
 use Rattle.cept_profile.specs.State.{page}
 use Rattle.cept_profile.specs.Strokes.{strokes_in}
-use Rattle.cept_profile.specs.Writing.{control_after_copies, strokes_of_copies}
 
 -- where a stroke puts something
 abbrev pub place_of : Stroke → List (ℕ × ℕ)
@@ -57,33 +55,33 @@ wide_sign column code =
     })
 
 pub two_wide_signs : strokes_in (C1 14 ∷ two_signs) ≡ wide_sign 1 0x41 ∷ wide_sign 3 0x42 ∷ []
-unfolding set_of read_as
+unfolding computing
 two_wide_signs = refl
 
 pub after_two_wide_signs : position_after (C1 14 ∷ two_signs) ≡ (1, 5)
-unfolding set_of read_as
+unfolding computing
 after_two_wide_signs = refl
 
 -- single size, high, wide, and both: at first, and after a wide sign
 pub by_size : map (λ n. placed (C1 n ∷ two_signs)) (range_with_len 12 4) ≡
     ((1, 1) ∷ (1, 2) ∷ []) ∷ ((1, 1) ∷ (1, 2) ∷ []) ∷ ((1, 1) ∷ (1, 3) ∷ []) ∷ ((1, 1) ∷ (1, 3) ∷ []) ∷ []
-unfolding set_of read_as
+unfolding computing
 by_size = refl
 
 pub by_size_after_a_wide_sign : map (λ n. placed (C1 14 ∷ Graphic 0x40 ∷ C1 n ∷ two_signs)) (range_with_len 12 4) ≡
     ((1, 1) ∷ (1, 3) ∷ (1, 4) ∷ []) ∷ ((1, 1) ∷ (1, 3) ∷ (1, 4) ∷ [])
     ∷ ((1, 1) ∷ (1, 3) ∷ (1, 5) ∷ []) ∷ ((1, 1) ∷ (1, 3) ∷ (1, 5) ∷ []) ∷ []
-unfolding set_of read_as
+unfolding computing
 by_size_after_a_wide_sign = refl
 
 -- from column 38 a wide sign goes on in column 40, from columns 39 and 40 in the row below
 pub at_the_end_of_a_row : map (λ column. placed (Position 1 column ∷ C1 14 ∷ two_signs)) (range_with_len 38 3) ≡
     ((1, 38) ∷ (1, 40) ∷ []) ∷ ((1, 39) ∷ (2, 1) ∷ []) ∷ ((1, 40) ∷ (2, 1) ∷ []) ∷ []
-unfolding set_of read_as
+unfolding computing
 at_the_end_of_a_row = refl
 
 pub at_the_end_of_the_last_row : placed (Position 24 39 ∷ C1 15 ∷ two_signs) ≡ (24, 39) ∷ (1, 1) ∷ []
-unfolding set_of read_as
+unfolding computing
 at_the_end_of_the_last_row = refl
 
 -- without wrap it stops in the last column
@@ -96,18 +94,18 @@ unwrapped column = record initial_control {
 pub stopped_in_the_last_column :
     map (λ column. (control_after (unwrapped column) (Graphic 0x41)).working.column) (range_with_len 37 4)
     ≡ 39 ∷ 40 ∷ 40 ∷ 40 ∷ []
-unfolding set_of read_as
+unfolding computing
 stopped_in_the_last_column = refl
 
 -- copies of a wide sign are wide, and copies of any sign take the pen of their own time
 pub copies_of_a_wide_sign : placed (Position 1 35 ∷ C1 14 ∷ Graphic 0x41 ∷ Repeat 3 ∷ [])
     ≡ (1, 35) ∷ (1, 37) ∷ (1, 39) ∷ (2, 1) ∷ []
-unfolding set_of read_as control_after_copies strokes_of_copies
+unfolding computing
 copies_of_a_wide_sign = refl
 
 pub copies_after_a_size : placed (Graphic 0x41 ∷ C1 14 ∷ Repeat 2 ∷ Graphic 0x42 ∷ [])
     ≡ (1, 1) ∷ (1, 2) ∷ (1, 4) ∷ (1, 6) ∷ []
-unfolding set_of read_as control_after_copies strokes_of_copies
+unfolding computing
 copies_after_a_size = refl
 
 -- what ends a run keeps the size of the pen, but where the pen is unset: by Home, Clear and Position
@@ -122,7 +120,7 @@ pub size_of_the_pen : map (λ (command : Command). (control (C1 14 ∷ command �
 size_of_the_pen = refl
 
 pub return_keeps_the_size : placed (C1 14 ∷ Graphic 0x40 ∷ Return ∷ two_signs) ≡ (1, 1) ∷ (1, 1) ∷ (1, 3) ∷ []
-unfolding set_of read_as
+unfolding computing
 return_keeps_the_size = refl
 
 -- ---- under the serial set, from the designation on
@@ -134,29 +132,29 @@ placed_serially history = placed (DesignateC1 Serial ∷ history)
 pub by_size_marker : map (λ n. placed_serially (C1 n ∷ two_signs)) (range_with_len 12 4) ≡
     ((1, 1) ∷ (1, 2) ∷ (1, 3) ∷ []) ∷ ((1, 1) ∷ (1, 2) ∷ (1, 3) ∷ [])
     ∷ ((1, 1) ∷ (1, 2) ∷ (1, 4) ∷ []) ∷ ((1, 1) ∷ (1, 2) ∷ (1, 4) ∷ []) ∷ []
-unfolding set_of read_as
+unfolding computing
 by_size_marker = refl
 
 -- a marker moves on by one column
 pub marker_after_a_size : placed_serially (C1 14 ∷ C1 1 ∷ two_signs) ≡ (1, 1) ∷ (1, 2) ∷ (1, 3) ∷ (1, 5) ∷ []
-unfolding set_of read_as
+unfolding computing
 marker_after_a_size = refl
 
 -- a single size makes the step 1 again
 pub single_size_after_a_wide_sign : placed_serially (C1 14 ∷ Graphic 0x40 ∷ C1 12 ∷ two_signs)
     ≡ (1, 1) ∷ (1, 2) ∷ (1, 4) ∷ (1, 5) ∷ (1, 6) ∷ []
-unfolding set_of read_as
+unfolding computing
 single_size_after_a_wide_sign = refl
 
 -- the step lives on over the end of a row
 pub over_the_end_of_a_row : placed_serially (Position 1 38 ∷ C1 14 ∷ Graphic 0x40 ∷ two_signs)
     ≡ (1, 38) ∷ (1, 39) ∷ (2, 1) ∷ (2, 3) ∷ []
-unfolding set_of read_as
+unfolding computing
 over_the_end_of_a_row = refl
 
 pub copies_under_a_size_marker : placed_serially (C1 15 ∷ Graphic 0x41 ∷ Repeat 2 ∷ [])
     ≡ (1, 1) ∷ (1, 2) ∷ (1, 4) ∷ (1, 6) ∷ []
-unfolding set_of read_as control_after_copies strokes_of_copies
+unfolding computing
 copies_under_a_size_marker = refl
 
 -- CAN keeps the step, and what ends a run makes it 1
@@ -165,7 +163,7 @@ pub step_after_each : map (λ (command : Command). (control (DesignateC1 Serial 
 step_after_each = refl
 
 pub cancel_keeps_the_step : placed_serially (C1 14 ∷ Cancel ∷ two_signs) ≡ (1, 1) ∷ (1, 2) ∷ (1, 4) ∷ []
-unfolding set_of read_as
+unfolding computing
 cancel_keeps_the_step = refl
 
 -- after Return signs move on by one column, while the size marker stays in its cell
@@ -173,15 +171,15 @@ abbrev pub returned : List Command
 returned = DesignateC1 Serial ∷ C1 14 ∷ Graphic 0x40 ∷ Return ∷ Forward ∷ two_signs
 
 pub return_makes_the_step_one : placed returned ≡ (1, 1) ∷ (1, 2) ∷ (1, 2) ∷ (1, 3) ∷ []
-unfolding set_of read_as
+unfolding computing
 return_makes_the_step_one = refl
 
 pub return_leaves_the_marker : value_at blank_cell (page returned).cells 1 1
     ≡ record { what = whats.Marker (markers.Size Wide); protected = false }
-unfolding table row_of cell_back set_of read_as
+unfolding computing
 return_leaves_the_marker = refl
 
 -- the size of the pen counts for nothing
 pub pen_counts_for_nothing : placed (C1 14 ∷ DesignateC1 Serial ∷ two_signs) ≡ (1, 1) ∷ (1, 2) ∷ []
-unfolding set_of read_as
+unfolding computing
 pen_counts_for_nothing = refl

@@ -1,4 +1,4 @@
--- Names (own): the colour entries, entries of the DCLUT and codes of patterns that what is seen in a row hangs on.
+-- Names (own): the colour entries, entries of the DCLUT and codes of patterns that what is seen in a row depends on.
 use Rattle.std.specs.Prelude.{ℕ, Bool, false, Option, Some, None, ◌-◌, ◌&&◌, ◌||◌, ◌==◌, nat_le, nat_lt}
 use Rattle.std.specs.Prelude.{if◌then◌else◌, is_some}
 use Rattle.std.specs.List.{list_any, range_with_len}

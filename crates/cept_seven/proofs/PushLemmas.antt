@@ -114,10 +114,6 @@ closed_by (a ∷ b) = texts_closed false a b
 pub seven_closed : (b : List ℕ) → seven b ≡ unclosed b ++ text_at_end (ends_right b)
 seven_closed b = closed_by b ∙ ap (λ r. unclosed b ++ text_at_end r) (sym (ends_last false b))
 
--- the last byte of bytes with one more
-pub ends_more : (b : List ℕ) (x : ℕ) → ends_right (b ++ x ∷ []) ≡ is_right x
-ends_more b x = ap (λ u. begins_right u false) (reverse-append b (x ∷ []))
-
 -- ---- from seven bits
 
 onto_reverse : (u h : List ℕ) → onto u h ≡ reverse u ++ h

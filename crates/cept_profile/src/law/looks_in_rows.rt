@@ -13,7 +13,7 @@ ghost use Rattle.cept_profile.specs.State.{Core};
 /// Rows that agree up to a column have the same look and the same size there. In a row without
 /// markers up to a column the cell there looks as it does by itself, and where nothing up to it,
 /// neither the row nor the screen, sets a double size, it is of single size.
-pub fn looks_hang_on_cells_to_the_left()
+pub fn looks_depend_on_cells_to_the_left()
     ensures alike { (defined : Definitions) (f g : ℕ → What) (pen screen : Pen) (c : ℕ) → 1 ≤ c
         → ((d : ℕ) → 1 ≤ d → d ≤ c → f d ≡ g d)
         → look_in_row defined f pen screen c ≡ look_in_row defined g pen screen c }

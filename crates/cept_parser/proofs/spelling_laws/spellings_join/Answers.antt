@@ -3,8 +3,4 @@ use Rattle.cept_parser.proofs.spelling_laws.spellings_join.Goals as goal
 
 pub returns : goal.returns
 returns c =
-    record {
-      bytes = spellings-append;
-      contexts = context_after_all-append;
-      spelled = spelled-append;
-    }
+    assumption (spellings-append, context_after_all-append, spelled-append)

@@ -30,11 +30,7 @@ returns-in-Open-clause-left c =
 
 pub returns-in-Longer-clause-left : goal.returns-in-Longer-clause-left
 returns-in-Longer-clause-left c =
-    record {
-      context = c.begin_pattern.ensures.context ∙ c.in-Longer.ensures.context longer_fit;
-      pending = c.begin_pattern.ensures.pending ∙ longer_left c.args.self.now.context c.args.at (c.args.byte ∷ []) c.in-Longer.ensures.fit;
-      beside = c.begin_pattern.ensures.beside;
-    }
+    assumption (c.begin_pattern.ensures.context ∙ c.in-Longer.ensures.context longer_fit, c.begin_pattern.ensures.pending ∙ longer_left c.args.self.now.context c.args.at (c.args.byte ∷ []) c.in-Longer.ensures.fit)
 
 pub begin_pattern-requires-clause-form : goal.begin_pattern-requires-clause-form
 begin_pattern-requires-clause-form c =

@@ -6,14 +6,4 @@ use Rattle.cept_profile.proofs.OldValues.{with_cells-again}
 use Rattle.cept_profile.proofs.law.old_values.noting_leaves_what_is_unwound_to.Goals as goal
 
 pub returns : goal.returns
-returns c = record {
-  cells = page_unwound-with_cells_of;
-  row_pens = page_unwound-with_row_pens_of;
-  screen_pen = page_unwound-with_screen_pen;
-  paints = page_unwound-with_paints_of;
-  dclut = page_unwound-with_dclut_of;
-  patterns = page_unwound-with_patterns_of;
-  control = unwound-with_control;
-  changed = page_unwound-differ;
-  again = with_cells-again;
-}
+returns c = assumption (page_unwound-with_cells_of, page_unwound-with_row_pens_of, page_unwound-with_screen_pen, page_unwound-with_paints_of, page_unwound-with_dclut_of, page_unwound-with_patterns_of, unwound-with_control, page_unwound-differ, with_cells-again)

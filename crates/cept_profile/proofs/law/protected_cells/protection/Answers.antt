@@ -5,19 +5,4 @@ use Rattle.cept_profile.proofs.ProtectedCells.{cell_after-wiped, cells_after_all
 use Rattle.cept_profile.proofs.law.protected_cells.protection.Goals as goal
 
 pub returns : goal.returns
-returns c = record {
-  written = cell_after-written;
-  elsewhere = cell_after-elsewhere;
-  erased =
-      cell_after-erased;
-  not_erased = cell_after-not_erased;
-  stays = cell_after-protected;
-  stays_on =
-      cells_after_all-protected;
-  up = cell_after-up;
-  up_last = cell_after-up_last;
-  down = cell_after-down;
-  down_first = cell_after-down_first;
-  wiped = cell_after-wiped;
-  wiped_last = cells_after_all-wiped;
-}
+returns c = assumption (cell_after-written, cell_after-elsewhere, cell_after-erased, cell_after-not_erased, cell_after-protected, cells_after_all-protected, cell_after-up, cell_after-up_last, cell_after-down, cell_after-down_first, cell_after-wiped, cells_after_all-wiped)

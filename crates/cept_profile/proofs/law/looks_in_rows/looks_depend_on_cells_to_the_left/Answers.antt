@@ -1,5 +1,5 @@
 use Rattle.cept_profile.proofs.Laws
-use Rattle.cept_profile.proofs.law.looks_in_rows.looks_hang_on_cells_to_the_left.Goals as goal
+use Rattle.cept_profile.proofs.law.looks_in_rows.looks_depend_on_cells_to_the_left.Goals as goal
 
 pub returns : goal.returns
 returns c = record {
