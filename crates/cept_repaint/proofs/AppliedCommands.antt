@@ -4,12 +4,14 @@ use Rattle.cept_codes.specs.Command.{IsValidCommand}
 use Rattle.cept_codes.specs.declared.command.Command.{Command}
 use Rattle.cept_profile.specs.Look.{looks_of}
 use Rattle.cept_profile.specs.State.{State, core_of, state, state_after}
+use Rattle.cept_profile.specs.Strokes.{strokes_of}
 use Rattle.cept_profile.specs.Valid.{AllValid}
 use Rattle.cept_profile.proofs.Laws.{state-one_more}
 use Rattle.cept_repaint.specs.Applied.{IsApplied}
 use Rattle.cept_repaint.specs.GlassState.{GlassState}
 use Rattle.cept_repaint.specs.Marks.{no_marks}
 use Rattle.cept_repaint.proofs.Refreshed.{differences_none}
+use Rattle.cept_repaint.proofs.RowsRenewed.{rows_renewed-none}
 use Rattle.cept_repaint.proofs.Unchanged.{unchanged_grid, unchanged_told}
 
 pub goes_on_after : (old new : State) (command : Command) → IsValidCommand command → new ≡ state_after old command
@@ -20,9 +22,9 @@ goes_on_after old new command good after history valid leads =
 -- no look was changed: nothing was marked, painted or resolved
 pub IsApplied-unseen : (old : State) (command : Command) (new : State) (marked : List Bool) (glass : GlassState)
     (ticks : ℕ) → IsValidCommand command → new ≡ state_after old command
-    → looks_of (core_of old) ≡ looks_of (core_of new) → marked ≡ no_marks
+    → looks_of (core_of old) ≡ looks_of (core_of new) → marked ≡ no_marks → strokes_of old.control command ≡ []
     → IsApplied old command new marked glass glass ticks ticks
-IsApplied-unseen old command new marked glass ticks good after same none = record {
+IsApplied-unseen old command new marked glass ticks good after same none strokes = record {
   goes_on = goes_on_after old new command good after;
   after = after;
   repainted = record {
@@ -31,5 +33,10 @@ IsApplied-unseen old command new marked glass ticks good after same none = recor
     told = unchanged_told (looks_of (core_of old)) (looks_of (core_of new)) glass same;
   };
   cost = omega arith;
+  least = omega (
+    arith,
+    rows_renewed-none (strokes_of old.control command) (looks_of (core_of old)) (looks_of (core_of (state_after old command)))
+        strokes (same ∙ ap (λ (s : State). looks_of (core_of s)) after),
+  );
   at_most_24 = omega arith;
 }

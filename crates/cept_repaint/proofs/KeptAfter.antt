@@ -16,6 +16,7 @@ use Rattle.cept_profile.proofs.Laws.{IsValidState-state_after}
 use Rattle.cept_profile.specs.Reach.{rows_in_reach}
 use Rattle.cept_repaint.specs.Kept.{AreEdges, AreLooksOn, core_on}
 use Rattle.cept_repaint.specs.Named.{AreNamed, AreNamedOn, IsKept, NamesOfRows}
+use Rattle.cept_repaint.specs.Renewed.{rows_renewed, rows_renewed_by}
 use Rattle.cept_repaint.specs.Resolved.{rows_resolved_by}
 use Rattle.cept_repaint.proofs.MixedCommands.{resolved-in_reach}
 use Rattle.cept_repaint.proofs.RedefinedRows.{AreNamed-alike}
@@ -88,6 +89,20 @@ pub resolved-of : {p : Page} {c : ControlState} (command : Command) (q : Page) (
 resolved-of {p} {c} command q d strokes es whole s e =
     (λ i. rows_resolved_by (core_of (record { page = p; control = c })) (core_of (whole i)) (es i))
     ∙ resolved-in_reach (record { page = p; control = c }) command ∙ ap (λ (t : State). rows_in_reach t command) e
+
+-- and as many as its strokes renew between the looks that are kept, the command renews
+pub renewed-of : {p : Page} {c : ControlState} (command : Command) (q : Page) (d : ControlState)
+    (strokes : List Stroke) → strokes ≡ strokes_of c command
+    → (let s : State = record { page = q; control = d } in s) ≡ state_after (record { page = p; control = c }) command
+    → (was now : List (List Look)) → was ≡ looks_of (core_of (record { page = p; control = c }))
+    → now ≡ looks_of (core_of (record { page = q; control = d }))
+    → (s : State) → (let was : State = record { page = p; control = c } in was) ≡ s
+    → rows_renewed strokes was now ≡ rows_renewed_by s command
+renewed-of {p} {c} command q d strokes es whole was now ew en s e =
+    (λ i. rows_renewed (es i) (ew i) (en i))
+    ∙ ap (λ (t : State). rows_renewed (strokes_of c command) (looks_of (core_of (record { page = p; control = c })))
+    (looks_of (core_of t))) whole
+    ∙ ap (λ (t : State). rows_renewed_by t command) e
 
 -- marks are the differences of two states' looks, where both are kept
 pub marks-kept : (s t u : State) (was now : List (List Look)) (marks : List Bool) → was ≡ looks_of (core_of s) → s ≡ t

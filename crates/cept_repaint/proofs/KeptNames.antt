@@ -227,7 +227,7 @@ AreNamed-last above rows known was e k are row n en low high last fresh made =
     (record { above = above; rows = set rows (n - 1) fresh; known = set known (n - 1) true })
     (λ i. record { above = (e i).above; rows = set (e i).rows (en i - 1) fresh; known = set known (n - 1) true })
 
--- one that isn't the last: whether the names of the row below are known hangs on whether it names the same
+-- one that isn't the last: whether the names of the row below are known depends on whether it names the same
 pub AreNamed-above : (above : RowNames) (rows : List RowNames) (known : List Bool) (was : NamesOfRows)
     → (let names : NamesOfRows = record { above = above; rows = rows; known = known } in names) ≡ was
     → (k : Core) → AreNamed was k → (row n : ℕ) → n ≡ row → 1 ≤ row → row < 24 → (fresh : RowNames)

@@ -44,3 +44,5 @@ pub mod NoneNoted
 pub mod FlaggedPlaces
 pub mod RedefinedPlaces
 pub mod RefreshedPlaces
+pub mod RowsRenewed
+pub mod PaintedRows

@@ -1,8 +1,8 @@
 -- The places of a row marked at which two rows of looks differ, and whether a look that differs covers the place below
 -- it.
-use Rattle.std.proofs.Common.{◌≡◌, ℕ, ◌+◌, ◌-◌, ◌<◌, ◌≤◌, ◌||◌, Bool, true, false, not, List, get_or}
-use Rattle.std.proofs.Common.{refl, sym, ap, ◌∙◌, inl, inr, arith}
-use Rattle.std.proofs.lemmas.Bool.{cases_eq, cases_lt, or_from, and_from, and_left}
+use Rattle.std.proofs.Common.{◌≡◌, ℕ, ◌+◌, ◌-◌, ◌≤◌, ◌||◌, Bool, false, not, List, get_or}
+use Rattle.std.proofs.Common.{refl, sym, ap, ◌∙◌, arith}
+use Rattle.std.proofs.lemmas.Bool.{or_from, and_left}
 use Rattle.cept_codes.specs.declared.look.Look.{Look}
 use Rattle.cept_codes.specs.Look.{blank_look}
 use Rattle.cept_codes.specs.Place.{number}
@@ -10,19 +10,16 @@ use Rattle.cept_codes.specs.Same.{same_look}
 use Rattle.cept_codes.specs.Table.{entry, list_by_index}
 use Rattle.cept_codes.proofs.Laws.{entry-list_by_index, entry_from}
 use Rattle.cept_profile.specs.Look.{part_of}
+use Rattle.cept_profile.specs.Names.{some_place}
 use Rattle.cept_profile.specs.RowsFromAbove.{is_other_covering}
 use Rattle.cept_profile.specs.Tiling.{column_entry, covers_below}
 use Rattle.cept_repaint.specs.Kept.{HasMarkedRow, is_other_above, looks_differ}
 use Rattle.cept_repaint.specs.Marks.{is_marked, HasFlags}
-use Rattle.cept_repaint.proofs.RowsOfLooks.{is_other_above-none, is_other_above-some, is_other_covering-same}
+use Rattle.cept_repaint.proofs.RowsOfLooks.{is_other_above-none}
 
 -- what stands in a column of two rows is the same
 abbrev pub is_same_in : List Look → List Look → ℕ → Bool
 is_same_in was fresh c = same_look (column_entry blank_look was c) (column_entry blank_look fresh c)
-
--- what covers the place below a column is not the same
-abbrev pub is_other_in : List Look → List Look → ℕ → Bool
-is_other_in was fresh c = is_other_covering (column_entry blank_look was c) (column_entry blank_look fresh c)
 
 -- the looks in this column cover the place below it, before or after
 abbrev pub is_covered_below : List Look → List Look → ℕ → Bool
@@ -65,44 +62,9 @@ uncovered was fresh before after =
     (or_from (covers_below (part_of (column_entry blank_look was c)))
     (covers_below (part_of (column_entry blank_look fresh c))) (before c) (after c)))
 
--- ---- compared without marking: no look that differs so far covers the place below it
-
-pub record UncoveredSoFar (was fresh : List Look) (from : ℕ) : Type 0 where
-  pub low : 1 ≤ from
-  pub none : (c : ℕ) → 1 ≤ c → c < from → c ≤ 40
-      → is_other_covering (column_entry blank_look was c) (column_entry blank_look fresh c) ≡ false
-
-pub UncoveredSoFar-more : {was fresh : List Look} {from : ℕ} → UncoveredSoFar was fresh from → (column : ℕ)
-    → from ≤ column → ((d : ℕ) → from ≤ d → d < column → is_same_in was fresh d ≡ true)
-    → is_covered_below was fresh column ≡ false → UncoveredSoFar was fresh (column + 1)
-UncoveredSoFar-more {was} {fresh} {from} m column low same free = record {
-  low = omega arith;
-  none = λ c l below h. elim (cases_lt c from) [
-    | inl earlier ↦ m.none c l earlier h
-    | inr later ↦ elim (cases_eq c column) [
-      | inl here ↦
-          and_left (is_covered_below was fresh c) (not (is_same_in was fresh c))
-          (ap (is_covered_below was fresh) here ∙ free)
-      | inr apart ↦
-          is_other_covering-same (column_entry blank_look was c) (column_entry blank_look fresh c)
-          (same c later (omega arith))
-    ]
-  ];
-}
-
-pub UncoveredSoFar-all : {was fresh : List Look} {from : ℕ} → UncoveredSoFar was fresh from
-    → ((d : ℕ) → from ≤ d → d ≤ 40 → is_same_in was fresh d ≡ true) → is_other_above was fresh ≡ false
-UncoveredSoFar-all {was} {fresh} {from} m same =
-    is_other_above-none was fresh (λ c low high. elim (cases_lt c from) [
-      | inl earlier ↦ m.none c low earlier high
-      | inr later ↦
-          is_other_covering-same (column_entry blank_look was c) (column_entry blank_look fresh c)
-          (same c later high)
-    ])
-
-pub other_above-found : (was fresh : List Look) (column : ℕ) → 1 ≤ column → column ≤ 40
-    → is_same_in was fresh column ≡ false → is_covered_below was fresh column ≡ true
-    → is_other_above was fresh ≡ true
-other_above-found was fresh column low high other covers =
-    is_other_above-some was fresh column low high
-    (and_from (is_covered_below was fresh column) (not (is_same_in was fresh column)) covers (ap not other))
+-- what covers the places below is not the same, where it is so in some place
+pub other_above : (was fresh : List Look)
+    → some_place (λ c. is_other_covering (column_entry blank_look was c) (column_entry blank_look fresh c))
+    ≡ is_other_above was fresh
+unfolding is_other_above
+other_above was fresh = refl

@@ -1,5 +1,5 @@
 -- Marks with a range outside of which no place is marked: made, widened, emptied and counted.
-use Rattle.std.proofs.Common.{◌≡◌, ◌≢◌, ℕ, ◌+◌, ◌-◌, ◌<◌, ◌≤◌, ◌||◌, ◌⊎◌, suc, Bool, true, false, cond, List, [], ◌∷◌, ◌++◌, set}
+use Rattle.std.proofs.Common.{◌≡◌, ◌≢◌, ℕ, ◌+◌, ◌-◌, ◌<◌, ◌≤◌, ◌||◌, suc, Bool, true, false, cond, List, [], ◌∷◌, ◌++◌, set}
 use Rattle.std.proofs.Common.{get_or, take, drop, length, refl, sym, ap, ◌∙◌, inl, inr, arith}
 use Rattle.std.specs.List.{count_by}
 use Rattle.std.proofs.lemmas.Bool.{cases_eq, cases_lt}
@@ -19,31 +19,6 @@ AreWithin-none = record {
   places = omega arith;
   before = λ n _. is_marked-no_marks n;
   after = λ n _. is_marked-no_marks n;
-}
-
--- the first place that is marked
-pub AreWithin-first : {marks : List Bool} {first end : ℕ} → AreWithin marks first end → first ≡ end → (n : ℕ)
-    → n < 960 → AreWithin (set marks n true) n (n + 1)
-AreWithin-first {marks} {first} {end} w e n below =
-    let none : (k : ℕ) → is_marked marks k
-    ≡ false = λ k. elim (cases_lt k first) [ inl up ↦ w.before k up | inr not_up ↦ w.after k (omega arith) ] in
-    record {
-      in_order = omega arith;
-      places = omega arith;
-      before = λ k up. let ne : k ≢ n = λ same. omega arith in get_or-set_other marks n k true false ne ∙ none k;
-      after = λ k past. let ne : k ≢ n = λ same. omega arith in get_or-set_other marks n k true false ne ∙ none k;
-    }
-
--- one place more
-pub AreWithin-more : {marks : List Bool} {first end : ℕ} → AreWithin marks first end → (n from to : ℕ) → n < 960
-    → from ≤ first → from ≤ n → end ≤ to → n < to → to ≤ 960 → AreWithin (set marks n true) from to
-AreWithin-more {marks} {first} {end} w n from to below lower low higher high within = record {
-  in_order = omega arith;
-  places = within;
-  before = λ k up. let ne : k ≢ n = λ same. omega arith in get_or-set_other marks n k true false ne
-      ∙ w.before k (omega arith);
-  after = λ k past. let ne : k ≢ n = λ same. omega arith in get_or-set_other marks n k true false ne
-      ∙ w.after k (omega arith);
 }
 
 -- flags of which none is set
@@ -207,23 +182,15 @@ HasFlags-none flags first marks places none = record {
   below = λ n down. refl;
 }
 
--- the range with the places of a row besides
-pub AreWithin-row : {marks : List Bool} {first end : ℕ} → AreWithin marks first end → (flags now : List Bool)
-    (row from to : ℕ) → HasFlags flags row marks now → row + 40 ≤ 960 → from ≤ row → row + 40 ≤ to → to ≤ 960
-    → (first ≡ end) ⊎ ((from ≤ first) × (end ≤ to)) → AreWithin now from to
-AreWithin-row {marks} {first} {end} w flags now row from to has within low high last wide =
-    record {
-      in_order = omega (arith, low, high);
-      places = last;
-      before = λ k up. has.above k (omega (arith, up, low)) ∙ outside k (inl up);
-      after = λ k past. has.below k (omega (arith, past, high)) ∙ outside k (inr past);
-    }
-  where
-    outside : (k : ℕ) → (k < from) ⊎ (to ≤ k) → is_marked marks k ≡ false
-    outside k where_ = elim wide [
-      | inl empty ↦ elim (cases_lt k first) [ inl up ↦ w.before k up | inr not_up ↦ w.after k (omega (arith, empty)) ]
-      | inr both ↦ elim where_ [
-        | inl up ↦ w.before k (omega (arith, up, both.0))
-        | inr past ↦ w.after k (omega (arith, past, both.1))
-      ]
-    ]
+-- no place of a row is marked
+pub row_unmarked : (flags : List Bool) (a d : ℕ) → d ≡ 40
+    → ((c : ℕ) → 1 ≤ c → c ≤ 40 → entry false 1 (take d (drop a flags)) c ≡ false) → (n : ℕ) → a ≤ n → n < a + 40
+    → is_marked flags n ≡ false
+row_unmarked flags a d e none n low high =
+    let at : n ≡ a + (n - a) = omega arith in
+    let back : n - a ≡ n - a + 1 - 1 = omega arith in
+    ap (is_marked flags) at ∙ sym (get_or-drop a flags (n - a) false)
+    ∙ sym (get_or-take d (drop a flags) (n - a) false (omega (arith, e, low, high)))
+    ∙ ap (λ i. get_or (take d (drop a flags)) i false) back
+    ∙ sym (entry_from false 1 (take d (drop a flags)) (n - a + 1) (omega arith))
+    ∙ none (n - a + 1) (omega arith) (omega (arith, low, high))

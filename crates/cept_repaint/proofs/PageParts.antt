@@ -27,8 +27,7 @@ use Rattle.cept_profile.specs.PageParts.{dclut_in, dclut_list_after, list_of_col
 use Rattle.cept_profile.specs.PageParts.{paint_in, paints_after, part_after_all, row_pen_in, row_pens_after}
 use Rattle.cept_profile.specs.PageParts.{list_of_codes, pattern_in, patterns_after, row_pen_after, screen_pen_after}
 use Rattle.cept_profile.specs.Pens.{pen_with}
-use Rattle.cept_profile.specs.Definitions.{AreWhole}
-use Rattle.cept_profile.specs.State.{Page, definitions_of, page, page_after}
+use Rattle.cept_profile.specs.State.{Page, page, page_after}
 use Rattle.cept_profile.specs.Valid.{IsValidPage}
 use Rattle.cept_profile.proofs.Laws.{row_pen_after-carried}
 use Rattle.cept_repaint.specs.Drawn.{IsDrawn}
@@ -201,10 +200,6 @@ page_start cells t patterns e et ep i = record {
   dclut = (et i).dclut;
   patterns = ep i;
 }
-
--- a valid page has all that signs are drawn with
-pub AreWhole-valid : (p : Page) → IsValidPage p → AreWhole (definitions_of p)
-AreWhole-valid p valid = record { colours = valid.colours; names = valid.names; codes = valid.codes }
 
 -- ---- all parts, stroke by stroke
 

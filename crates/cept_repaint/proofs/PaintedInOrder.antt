@@ -19,15 +19,15 @@ listed_below_first marks g from p is =
     ∙ ap (λ (q : Place). marked_looks_below marks g from ++ (q, look_at g q) ∷ []) (place_of-number p is.on_screen)
 
 -- one paint at the end of a painting
-painted_all_push : (g : List (List Look)) (xs : List (Place × Look)) (p : Place) (l : Look)
+pub painted_all_push : (g : List (List Look)) (xs : List (Place × Look)) (p : Place) (l : Look)
     → grid_with_paints g (xs ++ (p, l) ∷ []) ≡ grid_with_paint (grid_with_paints g xs) p l
 unfolding grid_with_paints
 painted_all_push g xs p l = grid_with_paints-append g xs ((p, l) ∷ [])
 
-Lists-none : (o : Option (List (Place × Look))) → Lists o [] o
+pub Lists-none : (o : Option (List (Place × Look))) → Lists o [] o
 Lists-none o = record { told = λ now e. (now, e, sym (append-nil now)) }
 
-Lists-more : {before mid after : Option (List (Place × Look))} {xs ys : List (Place × Look)} → Lists before xs mid
+pub Lists-more : {before mid after : Option (List (Place × Look))} {xs ys : List (Place × Look)} → Lists before xs mid
     → Lists mid ys after → Lists before (xs ++ ys) after
 Lists-more {xs = xs} {ys = ys} a b = record {
   told = λ now e.

@@ -128,7 +128,7 @@ implied true b so = or_right b true refl ∙ sym (so refl)
 implied false b so = or_false b
 
 -- where each that passes one passes the other
-fewer : (f g : ℕ → Bool) → ((r : ℕ) → 1 ≤ r → r ≤ 24 → f r ≡ true → g r ≡ true)
+pub fewer : (f g : ℕ → Bool) → ((r : ℕ) → 1 ≤ r → r ≤ 24 → f r ≡ true → g r ≡ true)
     → count_by f (range_with_len 1 24) ≤ count_by g (range_with_len 1 24)
 fewer f g so =
     let more : count_by f (range_with_len 1 24) ≤ count_by (λ r. g r || f r) (range_with_len 1 24) =

@@ -4,9 +4,9 @@ use Rattle.std.proofs.Common.{get_or, set, sym, ap, ◌∙◌, arith}
 use Rattle.std.specs.List.{list_any, range_with_len}
 use Rattle.std.proofs.lemmas.Bool.{and_right, cond-false}
 use Rattle.std.proofs.lemmas.Bool.Decides.{nat_tests}
-use Rattle.std.proofs.lemmas.List.{ext_get_or, get_or_default, get_or-set_same}
+use Rattle.std.proofs.lemmas.List.{ext_get_or, get_or_default, get_or-set_same, set-get_or}
 use Rattle.std.proofs.lemmas.List.Elements.{All-from_get_or}
-use Rattle.std.proofs.lemmas.List.Folds.{list_any_at, list_any_none}
+use Rattle.std.proofs.lemmas.List.Folds.{list_any_none}
 use Rattle.std.proofs.lemmas.List.FromFn.{get_or-range_with_len, length-range_with_len}
 use Rattle.cept_codes.specs.declared.look.Look.{Look}
 use Rattle.cept_codes.specs.Look.{blank_look}
@@ -88,6 +88,13 @@ looks_in-set g r looks is low high =
     column_entry-at blank_looks (set g (r - 1) looks) r low
     ∙ get_or-set_same g (r - 1) looks blank_looks (omega (arith, is.rows))
 
+-- a row set to what it is
+pub looks_in-kept : (g : List (List Look)) (r : ℕ) (looks : List Look) → 1 ≤ r → looks_in g r ≡ looks
+    → g ≡ set g (r - 1) looks
+looks_in-kept g r looks low e =
+    sym (ap (λ (l : List Look). set g (r - 1) l) (sym e ∙ column_entry-at blank_looks g r low)
+    ∙ set-get_or g (r - 1) blank_looks)
+
 -- ---- what covers the places below a row
 
 -- the same look covers the same
@@ -106,17 +113,6 @@ is_other_above-none was fresh none =
     list_any_none p (range_with_len 1 40) (All-from_get_or (λ c. p c ≡ false) (range_with_len 1 40) 0 (λ i below.
     let within : i < 40 = omega (arith, length-range_with_len 1 40) in
     ap p (get_or-range_with_len 1 40 i 0 within) ∙ none (1 + i) (omega arith) (omega arith)))
-
-pub is_other_above-some : (was fresh : List Look) (c : ℕ) → 1 ≤ c → c ≤ 40
-    → is_other_covering (column_entry blank_look was c) (column_entry blank_look fresh c) ≡ true
-    → is_other_above was fresh ≡ true
-unfolding is_other_above
-is_other_above-some was fresh c low high other =
-    let p : ℕ → Bool =
-    λ k. is_other_covering (column_entry blank_look was k) (column_entry blank_look fresh k) in
-    let column : get_or (range_with_len 1 40) (c - 1) 0 ≡ c =
-    get_or-range_with_len 1 40 (c - 1) 0 (omega arith) ∙ omega arith in
-    list_any_at p (range_with_len 1 40) (c - 1) 0 (omega (arith, length-range_with_len 1 40)) (ap p column ∙ other)
 
 pub is_other_above-same : (was fresh : List Look) → was ≡ fresh → is_other_above was fresh ≡ false
 is_other_above-same was fresh e =

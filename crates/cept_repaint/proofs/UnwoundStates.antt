@@ -1,5 +1,5 @@
 -- A state after old values were put back, by its parts.
-use Rattle.std.proofs.Common.{◌≡◌, List, Option, unwrap_or, sym, ap, subst, ◌∙◌}
+use Rattle.std.proofs.Common.{◌≡◌, List, [], Option, unwrap_or, sym, ap, subst, ◌∙◌}
 use Rattle.cept_profile.specs.Control.{ControlState}
 use Rattle.cept_codes.specs.declared.look.Look.{Look}
 use Rattle.cept_profile.specs.Edges.{Edges, edges_of}
@@ -8,6 +8,7 @@ use Rattle.cept_profile.specs.OldValues.{OldValues, page_unwound, unwound}
 use Rattle.cept_profile.specs.State.{Page, State, core_of}
 use Rattle.cept_profile.specs.Valid.{IsValidPage, IsValidState}
 use Rattle.cept_repaint.specs.Kept.{state_of_parts}
+use Rattle.cept_repaint.specs.Renewed.{rows_renewed}
 use Rattle.cept_repaint.specs.Restored.{rows_restored, rows_unwound}
 use Rattle.cept_repaint.proofs.KeptAfter.{same_state}
 
@@ -36,3 +37,11 @@ pub rows_restored-of : (old : OldValues) (s t u : State) (before after : Edges) 
 rows_restored-of old s t u before after was now e eb ea ew en =
     (λ i. rows_unwound old (eb i) (ea i) (ew i) (en i))
     ∙ ap (λ (x : State). rows_restored old (core_of x) (core_of u)) e
+
+-- as many rows are renewed between the looks that are kept as between those of two states
+pub renewed-kept : (s t u : State) (was now : List (List Look)) → was ≡ looks_of (core_of s) → s ≡ t
+    → now ≡ looks_of (core_of u)
+    → rows_renewed [] was now ≡ rows_renewed [] (looks_of (core_of t)) (looks_of (core_of u))
+renewed-kept s t u was now kept e looks =
+    let first : was ≡ looks_of (core_of t) = kept ∙ ap (λ (x : State). looks_of (core_of x)) e in
+    λ i. rows_renewed [] (first i) (looks i)

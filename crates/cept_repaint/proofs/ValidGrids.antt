@@ -1,10 +1,10 @@
 -- Valid grids: the blank one, and a grid with a valid look painted.
-use Rattle.std.proofs.Common.{ℕ, Bool, true, false, cond, List, sym, subst, arith}
+use Rattle.std.proofs.Common.{◌≡◌, ℕ, ◌-◌, ◌≤◌, ◌==◌, Bool, true, false, cond, List, length, set, sym, subst, arith}
 use Rattle.cept_codes.specs.declared.look.Look.{Look}
 use Rattle.cept_codes.specs.Look.{blank_look, IsValidLook}
 use Rattle.cept_codes.specs.Place.{Place, OnScreen}
-use Rattle.cept_codes.specs.Table.{table, value_at}
-use Rattle.cept_codes.proofs.Laws.{value_at-table, IsTable-table}
+use Rattle.cept_codes.specs.Table.{entry, table, value_at}
+use Rattle.cept_codes.proofs.Laws.{value_at-table, IsTable-table, set_row_is}
 use Rattle.cept_profile.specs.Cells.{is_at}
 use Rattle.cept_profile.specs.Changes.{grid_with_paint}
 use Rattle.cept_profile.specs.Valid.{IsValidGrid}
@@ -41,3 +41,13 @@ pub IsValidGrid-grid_with_paint : {g : List (List Look)} → IsValidGrid g → (
 IsValidGrid-grid_with_paint {g} is p l valid =
     IsValidGrid-table (λ r c. cond (is_at p r c) l (value_at blank_look g r c))
     (λ r c on. valid_choice (is_at p r c) l (value_at blank_look g r c) valid (is.looks r c on))
+
+pub IsValidGrid-with_row : {g : List (List Look)} → IsValidGrid g → (r : ℕ) (row : List Look) → 1 ≤ r → r ≤ 24
+    → length row ≡ 40 → ((c : ℕ) → 1 ≤ c → c ≤ 40 → IsValidLook (entry blank_look 1 row c))
+    → IsValidGrid (set g (r - 1) row)
+IsValidGrid-with_row {g} is r row low high long valid =
+    subst (λ (t : List (List Look)). IsValidGrid t)
+    (sym (set_row_is g blank_look (r - 1) r row is.table (omega arith) (omega arith) long))
+    (IsValidGrid-table (λ q c. cond (r == q) (entry blank_look 1 row c) (value_at blank_look g q c))
+    (λ q c on. valid_choice (r == q) (entry blank_look 1 row c) (value_at blank_look g q c)
+    (valid c on.from_left on.to_right) (is.looks q c on)))

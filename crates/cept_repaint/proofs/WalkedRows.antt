@@ -1,9 +1,8 @@
 -- One walk over the rows from the top: the rows above it are refreshed, and those that are due were resolved.
-use Rattle.std.proofs.Common.{◌≡◌, ◌≢◌, ◌==◌, cond, Option, Some, None, subst, ℕ, ◌+◌, ◌-◌, ◌*◌, ◌≤◌, ◌||◌, Bool, true, false, List, length}
+use Rattle.std.proofs.Common.{◌≡◌, Option, Some, None, subst, ℕ, ◌+◌, ◌-◌, ◌*◌, ◌≤◌, Bool, true, false, List, length}
 use Rattle.std.proofs.Common.{refl, sym, ap, ◌∙◌, inl, inr, arith}
 use Rattle.std.specs.List.{AllByRecursion}
-use Rattle.std.proofs.lemmas.Bool.{cases_eq, cond-false, cond-true, or_left, or_parts, or_right, true≢false}
-use Rattle.std.proofs.lemmas.Bool.Decides.{nat_tests}
+use Rattle.std.proofs.lemmas.Bool.{cases_eq, or_parts, or_right, true≢false}
 use Rattle.cept_codes.specs.declared.look.Look.{Look}
 use Rattle.cept_codes.specs.declared.stroke.Stroke.{Stroke}
 use Rattle.cept_codes.specs.Place.{OnScreen}
@@ -26,9 +25,9 @@ use Rattle.cept_repaint.specs.Kept.{AreEdges, AreLooksOn, IsRefreshedRow}
 use Rattle.cept_repaint.specs.Marks.{no_marks}
 use Rattle.cept_repaint.proofs.Refreshed.{IsRefreshed-looks, IsRefreshed-marks, IsRefreshed-none, IsRefreshed-row}
 use Rattle.cept_repaint.proofs.Refreshed.{IsRefreshed-row_kept}
-use Rattle.cept_repaint.proofs.RowsOfLooks.{covered_otherwise-above, covered_otherwise-below, covered_otherwise-first}
+use Rattle.cept_repaint.proofs.RowsOfLooks.{covered_otherwise-below, covered_otherwise-first}
 use Rattle.cept_repaint.proofs.RowsOfLooks.{is_other_above-same}
-use Rattle.cept_repaint.proofs.RowsOfLooks.{looks_in-alike, looks_in-same, looks_in-table}
+use Rattle.cept_repaint.proofs.RowsOfLooks.{looks_in-same, looks_in-table}
 use Rattle.cept_repaint.proofs.RowsDue.{due_above, look-unaltered, ticks-all, ticks-no, ticks-yes}
 use Rattle.cept_repaint.proofs.Unmarked.{length-no_marks}
 use Rattle.cept_profile.specs.MovedRows.{row_before}
@@ -98,56 +97,6 @@ walked {flags} {rows} {k} {was} {mid} {former} {between} {covered} {start} {step
           ∙ ap (is_other_above (looks_in was row)) new ∙ sym (covered_otherwise-below was (looks_of k) row),
     )
 
--- what is asked of the looks at hand is whether the row is covered otherwise than that of which it came
-pub WalkedTo-covered : {flags : List Bool} {rows : List Followed} {k : Core} {was now : List (List Look)}
-    {former marks : List Bool} {covered : Bool} {start steps row : ℕ}
-    → WalkedTo flags rows k was now former marks covered start steps row → 1 ≤ row → row ≤ 24
-    → (stood : List (List Look)) (q : ℕ) → (q ≢ row → stood ≡ was)
-    → cond (q == row) covered (is_other_above (looks_in stood (q - 1)) (looks_in now (row - 1)))
-    ≡ is_covered_otherwise was q (looks_of k) row
-WalkedTo-covered {flags} {rows} {k} {was} {now} {former} {marks} {covered} {start} {steps} {row} m top bottom stood q so =
-    let other : Bool = is_other_above (looks_in stood (q - 1)) (looks_in now (row - 1)) in
-    elim (cases_eq q row) [
-      | inl here ↦
-          let yes : (q == row) ≡ true = grind (arith, nat_tests) in
-          cond-true (q == row) covered other yes ∙ m.covering
-          ∙ ap (λ n. is_covered_otherwise was n (looks_of k) row) (sym here)
-      | inr away ↦
-          let no : (q == row) ≡ false = grind (arith, nat_tests) in
-          cond-false (q == row) covered other no
-          ∙ ap (λ (g : List (List Look)). is_other_above (looks_in g (q - 1)) (looks_in now (row - 1))) (so away)
-          ∙ ap (is_other_above (looks_in was (q - 1))) (above_is k was now former marks row top bottom m.refreshed)
-          ∙ sym (covered_otherwise-above was (looks_of k) q row)
-    ]
-
--- what is asked of a row is whether it is due
-pub due_by : {flags : List Bool} {rows : List Followed} {k : Core} {was now : List (List Look)} {former marks : List Bool}
-    {covered : Bool} {start steps row : ℕ}
-    → WalkedTo flags rows k was now former marks covered start steps row → 1 ≤ row → row ≤ 24
-    → (stood : List (List Look)) (came : ℕ) (flag covers : Bool) → flag ≡ entry false 1 flags row
-    → came ≡ came_from (row_from rows row) row
-    → covers ≡ cond (came == row) covered (is_other_above (looks_in stood (came - 1)) (looks_in now (row - 1)))
-    → (row_from rows row ≡ None → entry false 1 flags row ≡ true)
-    → ((q : ℕ) → row_from rows row ≡ Some q → q ≢ row → stood ≡ was)
-    → (flag || covers) ≡ is_due flags rows was (looks_of k) row
-due_by {flags} {rows} {k} {was} {now} {former} {marks} {covered} {start} {steps} {row} m top bottom stood came flag covers
-    ef ec ev free so =
-    by_row (row_from rows row) refl
-  where
-    by_row : (found : Option ℕ) → row_from rows row ≡ found
-        → (flag || covers) ≡ is_due flags rows was (looks_of k) row
-    by_row None e =
-        or_left flag covers (ef ∙ free e)
-        ∙ sym (or_left (entry false 1 flags row) (is_covered_from was (row_from rows row) (looks_of k) row) (free e))
-    by_row (Some q) e =
-        let here : came ≡ q = ec ∙ ap (λ found. came_from found row) e in
-        let is : covers ≡ is_covered_otherwise was q (looks_of k) row =
-        ev
-        ∙ ap (λ n. cond (n == row) covered (is_other_above (looks_in stood (n - 1)) (looks_in now (row - 1)))) here
-        ∙ WalkedTo-covered m top bottom stood q (so q e) in
-        (λ i. ef i || is i)
-        ∙ ap (λ found. entry false 1 flags row || is_covered_from was found (looks_of k) row) (sym e)
-
 -- a row that isn't due wasn't freed
 pub came_is : (flags : List Bool) (rows : List Followed) (k : Core) (was : List (List Look)) (row came : ℕ)
     → is_due flags rows was (looks_of k) row ≡ false → came ≡ came_from (row_from rows row) row
@@ -182,28 +131,6 @@ WalkedTo-kept {flags} {rows} {k} {was} {now} {former} {marks} {covered} {start} 
           none
           ∙ sym (covered_otherwise-below was (looks_of k) row
           ∙ is_other_above-same (looks_in was row) (looks_in (looks_of k) row) same);
-      ticks = ticks-no (is_due flags rows was (looks_of k)) row start steps top bottom undue m.ticks;
-    }
-
--- a row that moved and isn't due: it takes over the looks of the row of which it came
-pub WalkedTo-moved : {flags : List Bool} {rows : List Followed} {k : Core} {was mid : List (List Look)}
-    {former between : List Bool} {covered : Bool} {start steps row : ℕ}
-    → WalkedTo flags rows k was mid former between covered start steps row → IsTable was → 1 ≤ row → row ≤ 24
-    → OtherRowsStay flags rows was k → is_due flags rows was (looks_of k) row ≡ false → (q : ℕ)
-    → row_from rows row ≡ Some q → IsRow q
-    → (now : List (List Look)) (marks : List Bool) (next : Bool) → IsRefreshedRow (looks_in was q) row mid now between marks
-    → next ≡ is_other_above (looks_in mid row) (looks_in now row)
-    → WalkedTo flags rows k was now former marks next start steps (row + 1)
-WalkedTo-moved {flags} {rows} {k} {was} {mid} {former} {between} {covered} {start} {steps} {row} m is top bottom others
-    undue q came on_screen now marks next r en =
-    let fresh : looks_in was q ≡ row_of (look k row) =
-    looks_in-alike was (looks_of k) q row is (IsTable-table (look k)) on_screen.0 on_screen.1 top bottom
-    (λ c on. others row q c on undue came ∙ sym (value_at-table (look k) blank_look row c on))
-    ∙ looks_in-table (look k) row top bottom in
-    let done = walked m is top bottom (looks_in was q) fresh now marks next r en in
-    record {
-      refreshed = done.0;
-      covering = done.1;
       ticks = ticks-no (is_due flags rows was (looks_of k)) row start steps top bottom undue m.ticks;
     }
 

@@ -7,6 +7,7 @@ use Rattle.cept_profile.specs.Reach.{rows_in_reach}
 use Rattle.cept_profile.specs.State.{State, core_of, state, state_after}
 use Rattle.cept_profile.specs.Valid.{AllValid}
 use Rattle.cept_repaint.specs.GlassState.{GlassState, Lists}
+use Rattle.cept_repaint.specs.Renewed.{rows_renewed_by}
 
 -- from one state to another exactly the places whose look changes were marked, and each was painted once, in reading
 -- order, with its new look
@@ -16,7 +17,8 @@ pub record IsRepainted (old new : State) (marked : List Bool) (before now : Glas
       ≡ grid_with_paints before.grid (changes_between (looks_of (core_of old)) (looks_of (core_of new)))
   pub told : Lists before.paints (changes_between (looks_of (core_of old)) (looks_of (core_of new))) now.paints
 
--- a command was applied, what it changes repainted, and no more rows resolved than are in its reach
+-- a command was applied, what it changes repainted, and no more rows resolved than are in its reach and no fewer than it
+-- renews
 pub record IsApplied (old : State) (command : Command) (new : State) (marked : List Bool) (before now : GlassState)
     (from to : ℕ) : Type 0 where
   -- after whatever commands the state stood
@@ -25,4 +27,5 @@ pub record IsApplied (old : State) (command : Command) (new : State) (marked : L
   pub after : new ≡ state_after old command
   pub repainted : IsRepainted old new marked before now
   pub cost : to ≤ from + rows_in_reach old command
+  pub least : from + rows_renewed_by old command ≤ to
   pub at_most_24 : to ≤ from + 24

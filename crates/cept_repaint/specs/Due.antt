@@ -1,6 +1,6 @@
 -- Rows that are due to be resolved after strokes (this project's own): those that are altered of themselves, and those
 -- that are covered from above otherwise than before. Private clauses alone cite this file.
-use Rattle.std.specs.Prelude.{ℕ, ◌≡◌, ◌<◌, ◌||◌, Bool, true, false, not, List, [], Option, Some, None}
+use Rattle.std.specs.Prelude.{ℕ, ◌+◌, ◌≡◌, ◌<◌, ◌||◌, Bool, true, false, not, List, [], Option, Some, None}
 use Rattle.std.specs.List.{count_by, list_any, range_with_len}
 use Rattle.cept_codes.specs.declared.look.Look.{Look}
 use Rattle.cept_codes.specs.declared.stroke.Stroke.{Stroke}
@@ -90,10 +90,10 @@ is_due flags rows was now r = entry false 1 flags r || is_covered_from was (row_
 unfoldable pub rows_due : List Bool → List Followed → List (List Look) → List (List Look) → ℕ
 rows_due flags rows was now = count_by (is_due flags rows was now) (range_with_len 1 24)
 
--- to the left of a column each flagged row looks as it did
-abbrev pub LeftStays : List Bool → ℕ → List (List Look) → Core → Type 0
-LeftStays flags from was k =
-    (r c : ℕ) → OnScreen r c → entry false 1 flags r ≡ true → c < from → value_at blank_look was r c ≡ look k r c
+-- to the left of a column row `first` looks as it did, and each row further down to the left of one column less
+abbrev pub LeftStays : ℕ → ℕ → List (List Look) → Core → Type 0
+LeftStays first from was k =
+    (r c : ℕ) → OnScreen r c → c + r < from + first → value_at blank_look was r c ≡ look k r c
 
 -- each row that isn't due looks as the row did of which it came
 abbrev pub OtherRowsStay : List Bool → List Followed → List (List Look) → Core → Type 0

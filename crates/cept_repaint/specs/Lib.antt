@@ -20,3 +20,4 @@ pub mod PutBack
 pub mod FlagsAnew
 pub mod Restored
 pub mod Exchanged
+pub mod Renewed

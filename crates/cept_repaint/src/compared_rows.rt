@@ -1,8 +1,8 @@
-ghost use Rattle.std.specs.Prelude.{◌≡◌, ◌≤◌};
-ghost use Rattle.cept_repaint.specs.Kept.{HasMarkedRow, is_other_above};
+ghost use Rattle.std.specs.Prelude.{◌≡◌, ◌≤◌, false};
+ghost use Rattle.cept_repaint.specs.Kept.{HasMarkedRow, IsLeftOf, is_other_above};
 
 use crate::marks::Marks;
-use cept_rows::RowLooks;
+use cept_rows::{Differences, RowLooks};
 
 /// Marks the places of a row at which two rows of looks differ.
 pub(crate) fn mark_differences(row: u8, was: &RowLooks, now: &RowLooks, marks: &mut Marks)
@@ -10,7 +10,29 @@ pub(crate) fn mark_differences(row: u8, was: &RowLooks, now: &RowLooks, marks: &
     requires to_bottom { row ≤ 24 }
     ensures { HasMarkedRow was.now now.now row 41 marks.old marks.new }
 {
-    marks.mark_row(row, &was.differences(now));
+    let _found = mark_differences_from(row, 1, was, now, marks);
+}
+
+/// The same where they are known to be the same to the left of a column. Answers how they differ.
+pub(crate) fn mark_differences_from(
+    row: u8,
+    from: u8,
+    was: &RowLooks,
+    now: &RowLooks,
+    marks: &mut Marks,
+) -> Differences
+    requires from_top { 1 ≤ row }
+    requires to_bottom { row ≤ 24 }
+    requires from_left { 1 ≤ from }
+    requires to_right { from ≤ 40 }
+    requires left { IsLeftOf from was.now now.now }
+    ensures marked { HasMarkedRow was.now now.now row 41 marks.old marks.new }
+    ensures same { result.any ≡ false → was.now ≡ now.now }
+    ensures covering { result.covering ≡ is_other_above was.now now.now }
+{
+    let found = was.differences(now, from);
+    marks.mark_row(row, &found.columns);
+    found
 }
 
 /// Whether one of the looks that differ covers the place below it.
@@ -20,12 +42,5 @@ pub(crate) fn covers_otherwise(was: &RowLooks, now: &RowLooks) -> bool
     if was.covers_nothing() & now.covers_nothing() {
         return false;
     }
-    let mut from = 1;
-    while let Some(column) = was.next_difference(now, from) {
-        if was.covers_below(column) | now.covers_below(column) {
-            return true;
-        }
-        from = column + 1;
-    }
-    false
+    was.differences(now, 1).covering
 }

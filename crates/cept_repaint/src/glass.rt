@@ -1,10 +1,10 @@
-ghost use Rattle.std.specs.Prelude.{◌≡◌};
+ghost use Rattle.std.specs.Prelude.{◌≡◌, ◌≤◌, length};
 ghost use Rattle.cept_codes.specs.Look.{IsValidLook};
 ghost use Rattle.cept_profile.specs.Changes.{look_at};
 ghost use Rattle.cept_profile.specs.Look.{looks_of};
 ghost use Rattle.cept_profile.specs.State.{core_of};
 ghost use Rattle.cept_profile.specs.Valid.{IsValidGrid};
-ghost use Rattle.cept_repaint.specs.GlassState.{GlassState, Paints};
+ghost use Rattle.cept_repaint.specs.GlassState.{GlassState, Paints, PaintsRow};
 
 use crate::screen::Screen;
 use cept_codes::{Look, Pos};
@@ -18,6 +18,24 @@ pub trait Glass {
     fn paint(&mut self, at: Pos, screen: &Screen)
         ensures { Paints (state self.old) at (look_at (looks_of (core_of screen.now)) at)
             (state self.new) };
+
+    /// Paints the screen's looks in the flagged columns of a row, from the left. No other place
+    /// changes.
+    fn paint_row(&mut self, row: u8, flags: &[bool], screen: &Screen)
+        requires from_top { 1 ≤ row }
+        requires to_bottom { row ≤ 24 }
+        requires columns { length flags.now ≡ 40 }
+        ensures { PaintsRow (state self.old) flags.now row (looks_of (core_of screen.now))
+            (state self.new) }
+    {
+        for k in 0..40u8 {
+            if flags[usize::from(k)] {
+                if let Some(at) = Pos::new(row, k + 1) {
+                    self.paint(at, screen);
+                }
+            }
+        }
+    }
 
     /// The look that is shown at a place.
     fn shown(&self, at: Pos) -> Look

@@ -42,6 +42,12 @@ impl Glass for GridGlass {
         self.rows.copy_at(at, looks);
     }
 
+    fn paint_row(&mut self, row: u8, flags: &[bool], screen: &Screen) {
+        let looks = screen.row_looks(row);
+        looks.columns_by_type();
+        self.rows.copy_flagged(row, flags, looks);
+    }
+
     fn shown(&self, at: Pos) -> Look {
         self.rows.get(at)
     }

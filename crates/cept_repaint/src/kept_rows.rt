@@ -147,6 +147,19 @@ impl KeptRows {
         self.rows[self.order.index(place.row())].copy_at(place.col(), from);
     }
 
+    /// Takes over the looks of the flagged columns of a row from another's.
+    pub(crate) fn copy_flagged(&mut self, row: u8, flags: &[bool], from: &RowLooks)
+        requires from_top { 1 ≤ row }
+        requires to_bottom { row ≤ 24 }
+        requires columns { length flags.now ≡ 40 }
+        ensures { self.new ≡ slice_set self.old (row - 1) (row_of (λ c. if entry false 1 flags.now c
+            then column_entry blank_look from.now c
+            else column_entry blank_look (looks_in self.old row) c)) }
+    {
+        self.whole_by_type();
+        self.rows[self.order.index(row)].copy_flagged(flags, from);
+    }
+
     /// Resolves the cell at a place by itself, and keeps its look. Answers whether it differs from
     /// the one before. One tick.
     pub(crate) fn resolve_alone<L: Ledger>(

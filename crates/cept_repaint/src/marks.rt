@@ -1,4 +1,4 @@
-ghost use Rattle.std.specs.Prelude.{◌≡◌, ℕ, ◌≤◌, ◌<◌, ◌+◌, ◌*◌, ◌-◌, Bool, true, false, length, slice_set};
+ghost use Rattle.std.specs.Prelude.{◌≡◌, ℕ, ◌≤◌, ◌<◌, ◌+◌, ◌*◌, ◌-◌, Bool, true, false, length, slice_set, take, drop};
 ghost use Rattle.std.specs.Prelude.{count_by, IsNone, IfSome, ◌↔◌};
 ghost use Rattle.cept_codes.specs.Place.{number, OnScreen};
 ghost use Rattle.cept_codes.specs.Table.{entry};
@@ -66,6 +66,56 @@ impl Marks {
         Pos::from_number(n as u16)
     }
 
+    /// Whether no place can be marked.
+    pub(crate) fn has_none(&self) -> bool
+        ensures { result ≡ true → (n : ℕ) → is_marked self.now n ≡ false }
+    {
+        self.end == 0
+    }
+
+    /// The only marked place, where no other one can be.
+    pub(crate) fn only(&self) -> Option<Pos>
+        ensures first { IfSome result (IsFirstFrom self.now 0) }
+        ensures last { IfSome result (λ p. (n : ℕ) → number p.row p.column < n
+            → is_marked self.now n ≡ false) }
+    {
+        if self.first + 1 == self.end && self.flags[self.first] {
+            Pos::from_number(self.first as u16)
+        } else {
+            None
+        }
+    }
+
+    /// The next row from `from` on in which a place may be marked: none is before it.
+    pub(crate) fn next_row(&self, from: u8) -> Option<u8>
+        requires { 1 ≤ from }
+        ensures none { IsNone result → (n : ℕ) → number from 1 ≤ n
+            → is_marked self.now n ≡ false }
+        ensures within { IfSome result (λ r. (from ≤ r) × (r ≤ 24)) }
+        ensures before { IfSome result (λ r. (n : ℕ) → number from 1 ≤ n → n < number r 1
+            → is_marked self.now n ≡ false) }
+    {
+        let first = (self.first / 40).max(usize::from(from) - 1);
+        let end = (self.end + 39) / 40;
+        for k in first..end {
+            if has_one(&self.flags[40 * k..40 * k + 40]) {
+                return Some(k as u8 + 1);
+            }
+        }
+        None
+    }
+
+    /// The flags of a row, from the left.
+    pub(crate) fn row_flags(&self, row: u8) -> &[bool]
+        requires from_top { 1 ≤ row }
+        requires to_bottom { row ≤ 24 }
+        ensures flags { result.now ≡ take 40 (drop (number row 1) self.now) }
+        ensures columns { length result.now ≡ 40 }
+    {
+        let first = 40 * (usize::from(row) - 1);
+        &self.flags[first..first + 40]
+    }
+
     /// Tells the prover that there are 960 flags: reading a field opens the model.
     pub(crate) fn places_by_type(&self)
         ensures { length self.now ≡ 960 }
@@ -125,7 +175,7 @@ impl Marks {
 
 /// Whether a flag of a row is set.
 // Without an end before the last one, so that several are asked at once.
-fn has_one(flags: &[bool; 40]) -> bool
+fn has_one(flags: &[bool]) -> bool
     requires { length flags.now ≡ 40 }
     ensures { result ≡ false → (c : ℕ) → 1 ≤ c → c ≤ 40 → entry false 1 flags.now c ≡ false }
 {

@@ -15,9 +15,28 @@ pub(crate) fn paint_marked<G: Glass>(screen: &Screen, glass: &mut G, marks: &Mar
     ensures told { Lists (G.state glass.old).paints
         (marked_looks marks.now (looks_of (core_of screen.now))) (G.state glass.new).paints }
 {
-    let mut from = 0;
-    while let Some(place) = marks.next_from(from) {
+    if marks.has_none() {
+        return;
+    }
+    if let Some(place) = marks.only() {
         glass.paint(place, screen);
-        from = place.number() + 1;
+    } else {
+        paint_rows(screen, glass, marks);
+    }
+}
+
+/// The same of any marks, a row after the other.
+// A call of its own: most commands mark one place.
+#[inline(never)]
+fn paint_rows<G: Glass>(screen: &Screen, glass: &mut G, marks: &Marks)
+    ensures shown { (G.state glass.new).grid ≡ grid_with_paints (G.state glass.old).grid
+        (marked_looks marks.now (looks_of (core_of screen.now))) }
+    ensures told { Lists (G.state glass.old).paints
+        (marked_looks marks.now (looks_of (core_of screen.now))) (G.state glass.new).paints }
+{
+    let mut from = 1;
+    while let Some(row) = marks.next_row(from) {
+        glass.paint_row(row, marks.row_flags(row), screen);
+        from = row + 1;
     }
 }

@@ -15,8 +15,9 @@ ghost use Rattle.std.specs.Prelude.{
   None,
   IfSome,
   ◌≢◌,
+  ◌<◌,
+  slice_set,
   ◌==◌,
-  if◌then◌else◌,
 };
 ghost use Rattle.std.specs.List.{AllByRecursion, list_any, range_with_len};
 ghost use Rattle.cept_codes.specs.declared.cell.Cell.{Cell};
@@ -43,10 +44,11 @@ ghost use Rattle.cept_repaint.specs.MarkedRows.{StandsAlone};
 ghost use Rattle.cept_repaint.specs.Marks.{no_marks};
 ghost use Rattle.cept_repaint.specs.Named.{AreNamedOn, AreRemembered, IsStill};
 ghost use Rattle.cept_repaint.specs.Noter.{page_behind};
+ghost use Rattle.cept_repaint.specs.Renewed.{rows_renewed};
 ghost use Rattle.cept_repaint.specs.Resolved.{one_else, rows_resolved_by};
 
 use crate::altered_rows::{only_put, row_alone, rows_altered};
-use crate::compared_rows::{covers_otherwise, mark_differences};
+use crate::compared_rows::mark_differences_from;
 use crate::followed_rows::{follow_rows, one_else, one_moved};
 use crate::kept_names::KeptNames;
 use crate::kept_rows::KeptRows;
@@ -93,6 +95,7 @@ pub(crate) fn redraw<N: Noter, L: Ledger>(
     ensures named { AreNamedOn names.new page.new after.now }
     ensures cost { (k m : Core) → edges_of_core k ≡ before.now → edges_of_core m ≡ after.now
         → steps.new ≤ steps.old + rows_resolved_by (core_on k page.old) (core_on m page.new) strokes.now }
+    ensures least { steps.old + rows_renewed strokes.now kept.old kept.new ≤ steps.new }
 {
     marks.clear();
     if !before.is_same(after) {
@@ -135,6 +138,7 @@ pub(crate) fn redraw_within<N: Noter, L: Ledger>(
     ensures named { AreNamedOn names.new page.new (edges_of control.now) }
     ensures cost { (k m : Core) → edges_of_core k ≡ edges_of control.now → edges_of_core m ≡ edges_of control.now
         → steps.new ≤ steps.old + rows_resolved_by (core_on k page.old) (core_on m page.new) strokes.now }
+    ensures least { steps.old + rows_renewed strokes.now kept.old kept.new ≤ steps.new }
 {
     marks.clear();
     if strokes.is_empty() {
@@ -191,6 +195,7 @@ fn redraw_drawn<N: Noter, L: Ledger>(
     ensures named { AreNamedOn names.new page.new edges.now }
     ensures cost { (k m : Core) → edges_of_core k ≡ edges.now → edges_of_core m ≡ edges.now
         → steps.new ≤ steps.old + rows_resolved_by (core_on k page.old) (core_on m page.new) strokes.now }
+    ensures least { steps.old + rows_renewed strokes.now kept.old kept.new ≤ steps.new }
 {
     if one_else(strokes) {
         redraw_rows(
@@ -235,6 +240,7 @@ fn redraw_rows<N: Noter, L: Ledger>(
     ensures cost { steps.new ≡ steps.old + rows_due (list_by_index 1 24
         (is_altered strokes.now (pens_of page.old) before.now (pens_of page.new) after.now))
         (list_by_index 1 24 (followed strokes.now)) kept.old kept.new }
+    ensures least { steps.old + rows_renewed strokes.now kept.old kept.new ≤ steps.new }
 {
     let was = page.pens();
     page.draw_all(strokes, noter);
@@ -281,6 +287,7 @@ fn redraw_defined<N: Noter, L: Ledger>(
     ensures marks { marks.new ≡ differences kept.old kept.new }
     ensures cost { (k m : Core) → edges_of_core k ≡ edges.now → edges_of_core m ≡ edges.now
         → steps.new ≤ steps.old + rows_resolved_by (core_on k page.old) (core_on m page.new) strokes.now }
+    ensures least { steps.old + rows_renewed strokes.now kept.old kept.new ≤ steps.new }
 {
     names.find(page, kept);
     let redefined = rows_redefined(page, strokes, kept, names);
@@ -314,7 +321,7 @@ fn refresh_put<L: Ledger>(
     requires valid { IsValidPage page.now }
     requires edges { AreEdges edges.now }
     requires left { (k : Core) → edges_of_core k ≡ edges.now
-        → LeftStays (list_by_index 1 24 (λ q. row == q)) from kept.old (core_on k page.now) }
+        → LeftStays row from kept.old (core_on k page.now) }
     requires freed { (r : ℕ) → 1 ≤ r → r ≤ 24 → row_from (list_by_index 1 24 (followed strokes.now)) r ≡ None
         → entry false 1 (list_by_index 1 24 (λ q. row == q)) r ≡ true }
     requires still { (r q : ℕ) → 1 ≤ r → r ≤ 24
@@ -330,7 +337,7 @@ fn refresh_put<L: Ledger>(
         (list_by_index 1 24 (followed strokes.now)) kept.old kept.new }
 {
     let altered = row_alone(row);
-    refresh_rows_from(page, &altered, from, edges, kept, fresh, marks, steps);
+    refresh_rows_from(page, &altered, row, from, edges, kept, fresh, marks, steps);
     names.forget_marked(row, marks);
 }
 
@@ -409,13 +416,15 @@ pub(crate) fn refresh_rows<L: Ledger>(
     ensures marks { marks.new ≡ differences kept.old kept.new }
     ensures cost { steps.new ≡ steps.old + rows_due flags.now at_rest kept.old kept.new }
 {
-    refresh_rows_from(page, flags, 1, edges, kept, fresh, marks, steps);
+    refresh_rows_from(page, flags, 1, 1, edges, kept, fresh, marks, steps);
 }
 
-/// The same, where to the left of this column the flagged rows look as they did.
+/// The same, where to the left of this column row `first` looks as it did, and each row further down
+/// to the left of one column less.
 fn refresh_rows_from<L: Ledger>(
     page: &Page,
     flags: &[bool; 24],
+    first: u8,
     from: u8,
     edges: &Edges,
     kept: &mut KeptRows,
@@ -424,6 +433,7 @@ fn refresh_rows_from<L: Ledger>(
     steps: &mut Steps<L>,
 )
     requires flags { length flags.now ≡ 24 }
+    requires on_screen { first ≤ 24 }
     requires from_left { 1 ≤ from }
     requires to_right { from ≤ 40 }
     requires none { marks.old ≡ no_marks }
@@ -432,7 +442,7 @@ fn refresh_rows_from<L: Ledger>(
     requires others { (k : Core) → edges_of_core k ≡ edges.now
         → OtherRowsStay flags.now at_rest kept.old (core_on k page.now) }
     requires left { (k : Core) → edges_of_core k ≡ edges.now
-        → LeftStays flags.now from kept.old (core_on k page.now) }
+        → LeftStays first from kept.old (core_on k page.now) }
     ensures kept { AreLooksOn kept.new page.now edges.now }
     ensures marks { marks.new ≡ differences kept.old kept.new }
     ensures cost { steps.new ≡ steps.old + rows_due flags.now at_rest kept.old kept.new }
@@ -442,18 +452,22 @@ fn refresh_rows_from<L: Ledger>(
     for row in 1..25u8 {
         let flag = flags[usize::from(row) - 1];
         if flag | covered {
-            let column = first_column(flag, from);
+            let column = first_column(first, from, row);
             let last = edges.is_last(row);
             covered = refresh_row(page, row, column, last, kept, fresh, marks, steps);
         }
     }
 }
 
-/// From which column on a row is resolved: a flagged one from this.
-fn first_column(flag: bool, from: u8) -> u8
-    ensures { result ≡ (if flag then from else 1) }
+/// From which column on a row is resolved: row `first` from this one, each further down from one less.
+fn first_column(first: u8, from: u8, row: u8) -> u8
+    requires on_screen { first ≤ 24 }
+    requires to_right { from ≤ 40 }
+    ensures from_left { 1 ≤ result }
+    ensures within { result ≤ 40 }
+    ensures left { (c : ℕ) → 1 ≤ c → c < result → c + row < from + first }
 {
-    if flag { from } else { 1 }
+    (from + first).saturating_sub(row).clamp(1, 40)
 }
 
 /// Resolves a row beneath the looks kept of the row above, from a column on to whose left it looks so
@@ -482,7 +496,7 @@ pub(crate) fn refresh_row<L: Ledger>(
     ensures tick { steps.new ≡ steps.old + 1 }
 {
     resolve_beneath(page, row, from, last, kept, fresh, steps);
-    take_row(row, fresh, kept, marks)
+    take_row(row, from, fresh, kept, marks)
 }
 
 /// Resolves a row so.
@@ -513,17 +527,32 @@ fn resolve_beneath<L: Ledger>(
     }
 }
 
-/// Keeps these looks of a row, and marks the places at which they differ from those before. Answers
-/// whether what covers the row below differs.
-fn take_row(row: u8, looks: &RowLooks, kept: &mut KeptRows, marks: &mut Marks) -> bool
+/// Keeps these looks of a row, and marks the places at which they differ from those before, which are
+/// the same to the left of this column. Answers whether what covers the row below differs.
+fn take_row(row: u8, from: u8, looks: &RowLooks, kept: &mut KeptRows, marks: &mut Marks) -> bool
     requires from_top { 1 ≤ row }
     requires to_bottom { row ≤ 24 }
+    requires from_left { 1 ≤ from }
+    requires to_right { from ≤ 40 }
+    requires left { IsLeftOf from (looks_in kept.old row) looks.now }
     ensures refreshed { IsRefreshedRow looks.now row kept.old kept.new marks.old marks.new }
     ensures covering { result ≡ is_other_above (looks_in kept.old row) (looks_in kept.new row) }
 {
     kept.whole_by_type();
-    mark_differences(row, kept.row(row), looks, marks);
-    let covered = covers_otherwise(kept.row(row), looks);
-    kept.copy_row(row, looks);
-    covered
+    looks.columns_by_type();
+    let found = mark_differences_from(row, from, kept.row(row), looks, marks);
+    keep_row(row, looks, found.any, kept);
+    found.covering
+}
+
+/// Keeps these looks of a row, where they aren't known to be those that it has.
+fn keep_row(row: u8, looks: &RowLooks, differ: bool, kept: &mut KeptRows)
+    requires from_top { 1 ≤ row }
+    requires to_bottom { row ≤ 24 }
+    requires same { differ ≡ false → looks_in kept.old row ≡ looks.now }
+    ensures { kept.new ≡ slice_set kept.old (row - 1) looks.now }
+{
+    if differ {
+        kept.copy_row(row, looks);
+    }
 }

@@ -1,4 +1,4 @@
-ghost use Rattle.std.specs.Prelude.{◌≡◌, ◌≤◌, ◌+◌, length};
+ghost use Rattle.std.specs.Prelude.{◌≡◌, ◌≤◌, ◌+◌, [], length};
 ghost use Rattle.cept_codes.specs.Table.{list_by_index};
 ghost use Rattle.cept_profile.specs.Changes.{differences};
 ghost use Rattle.cept_profile.specs.OldValues.{page_unwound};
@@ -9,6 +9,7 @@ ghost use Rattle.cept_repaint.specs.Due.{at_rest, OtherRowsStay, rows_due};
 ghost use Rattle.cept_repaint.specs.Exchanged.{page_exchanged};
 ghost use Rattle.cept_repaint.specs.Kept.{AreEdges, AreLooksOn, core_on};
 ghost use Rattle.cept_repaint.specs.Named.{AreNamedOn};
+ghost use Rattle.cept_repaint.specs.Renewed.{rows_renewed};
 ghost use Rattle.cept_repaint.specs.Restored.{is_unwound, notes_screen, rows_unwound};
 
 use crate::altered_rows::is_last_under_one;
@@ -48,6 +49,7 @@ pub(crate) fn unwind<L: Ledger>(
     ensures marks { marks.new ≡ differences kept.old kept.new }
     ensures cost { steps.new
         ≡ steps.old + rows_unwound delta.now before.now after.now kept.old kept.new }
+    ensures least { steps.old + rows_renewed [] kept.old kept.new ≤ steps.new }
 {
     let rows = rows_unwound(delta, before, after);
     page.unwind(delta);
@@ -78,6 +80,7 @@ pub(crate) fn exchange<L: Ledger>(
     ensures marks { marks.new ≡ differences kept.old kept.new }
     ensures cost { steps.new
         ≡ steps.old + rows_unwound delta.old before.now after.now kept.old kept.new }
+    ensures least { steps.old + rows_renewed [] kept.old kept.new ≤ steps.new }
 {
     let rows = rows_unwound(delta, before, after);
     page.exchange(delta);
@@ -105,6 +108,7 @@ fn refresh_unwound<L: Ledger>(
     ensures named { AreNamedOn names.new page.now edges.now }
     ensures marks { marks.new ≡ differences kept.old kept.new }
     ensures cost { steps.new ≡ steps.old + rows_due flags.now at_rest kept.old kept.new }
+    ensures least { steps.old + rows_renewed [] kept.old kept.new ≤ steps.new }
 {
     marks.clear();
     refresh_rows(page, flags, edges, kept, fresh, marks, steps);

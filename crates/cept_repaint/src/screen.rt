@@ -12,6 +12,7 @@ ghost use Rattle.cept_profile.specs.PageParts.{dclut_in, paint_in, pattern_in, r
 ghost use Rattle.cept_profile.specs.Reach.{rows_in_reach};
 ghost use Rattle.cept_profile.specs.RowsFromAbove.{looks_in};
 ghost use Rattle.cept_profile.specs.State.{state, state_after, core_of};
+ghost use Rattle.cept_profile.specs.Strokes.{strokes_of};
 ghost use Rattle.cept_profile.specs.Tiling.{column_entry, part_at};
 ghost use Rattle.cept_profile.specs.Valid.{IsValidState};
 ghost use Rattle.cept_repaint.specs.Applied.{IsApplied, IsRepainted};
@@ -20,6 +21,7 @@ ghost use Rattle.cept_repaint.specs.Kept.{cell_at};
 ghost use Rattle.cept_repaint.specs.Marks.{no_marks};
 ghost use Rattle.cept_repaint.specs.MovedEdges.{may_move_edges};
 ghost use Rattle.cept_repaint.specs.Noter.{page_behind, state_behind};
+ghost use Rattle.cept_repaint.specs.Renewed.{rows_renewed, rows_renewed_by};
 ghost use Rattle.cept_repaint.specs.Restored.{rows_restored};
 
 use crate::delta::Delta;
@@ -165,6 +167,7 @@ impl Screen {
     fn write_attribute(&mut self, command: &Command, marks: &mut Marks) -> bool
         requires { IsValidCommand command.now }
         ensures after { result ≡ true → self.new ≡ state_after self.old command.now }
+        ensures strokes { result ≡ true → strokes_of self.old.control command.now ≡ [] }
         ensures looks { looks_of (core_of self.new) ≡ looks_of (core_of self.old) }
         ensures marks { result ≡ true → marks.new ≡ no_marks }
         ensures page { self.new.page ≡ self.old.page }
@@ -211,6 +214,7 @@ impl Screen {
         ensures marks { marks.new
             ≡ differences (looks_of (core_of self.old)) (looks_of (core_of self.new)) }
         ensures cost { steps.new ≤ steps.old + rows_in_reach self.old command.now }
+        ensures least { steps.old + rows_renewed_by self.old command.now ≤ steps.new }
         ensures at_most_24 { steps.new ≤ steps.old + 24 }
         ensures unwound { page_behind (N.noted noter.new) self.new.page
             ≡ page_behind (N.noted noter.old) self.old.page }
@@ -237,6 +241,7 @@ impl Screen {
         ensures marks { marks.new
             ≡ differences (looks_of (core_of self.old)) (looks_of (core_of self.new)) }
         ensures cost { steps.new ≤ steps.old + rows_in_reach self.old command.now }
+        ensures least { steps.old + rows_renewed_by self.old command.now ≤ steps.new }
         ensures at_most_24 { steps.new ≤ steps.old + 24 }
         ensures unwound { page_behind (N.noted noter.new) self.new.page
             ≡ page_behind (N.noted noter.old) self.old.page }
@@ -274,6 +279,7 @@ impl Screen {
         ensures marks { marks.new
             ≡ differences (looks_of (core_of self.old)) (looks_of (core_of self.new)) }
         ensures cost { steps.new ≤ steps.old + rows_in_reach self.old command.now }
+        ensures least { steps.old + rows_renewed_by self.old command.now ≤ steps.new }
         ensures at_most_24 { steps.new ≤ steps.old + 24 }
         ensures unwound { page_behind (N.noted noter.new) self.new.page
             ≡ page_behind (N.noted noter.old) self.old.page }
@@ -430,6 +436,8 @@ impl Screen {
             (G.state glass.new) }
         ensures cost { steps.new
             ≤ steps.old + rows_restored delta.now (core_of self.old) (core_of self.new) }
+        ensures least { steps.old
+            + rows_renewed [] (looks_of (core_of self.old)) (looks_of (core_of self.new)) ≤ steps.new }
         ensures at_most_24 { steps.new ≤ steps.old + 24 }
     {
         self.unwind(delta, marks, steps);
@@ -444,6 +452,8 @@ impl Screen {
             ≡ differences (looks_of (core_of self.old)) (looks_of (core_of self.new)) }
         ensures cost { steps.new
             ≤ steps.old + rows_restored delta.now (core_of self.old) (core_of self.new) }
+        ensures least { steps.old
+            + rows_renewed [] (looks_of (core_of self.old)) (looks_of (core_of self.new)) ≤ steps.new }
         ensures at_most_24 { steps.new ≤ steps.old + 24 }
     {
         let before = self.control.edges();
@@ -482,6 +492,8 @@ impl Screen {
             (G.state glass.new) }
         ensures cost { steps.new
             ≤ steps.old + rows_restored delta.old (core_of self.old) (core_of self.new) }
+        ensures least { steps.old
+            + rows_renewed [] (looks_of (core_of self.old)) (looks_of (core_of self.new)) ≤ steps.new }
         ensures at_most_24 { steps.new ≤ steps.old + 24 }
     {
         delta.places_by_type();
@@ -504,6 +516,8 @@ impl Screen {
             ≡ differences (looks_of (core_of self.old)) (looks_of (core_of self.new)) }
         ensures cost { steps.new
             ≤ steps.old + rows_restored delta.old (core_of self.old) (core_of self.new) }
+        ensures least { steps.old
+            + rows_renewed [] (looks_of (core_of self.old)) (looks_of (core_of self.new)) ≤ steps.new }
         ensures at_most_24 { steps.new ≤ steps.old + 24 }
     {
         let before = self.control.edges();

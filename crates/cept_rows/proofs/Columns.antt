@@ -1,5 +1,5 @@
 -- Rows by their columns, from 1: read, compared, and made one column after the other.
-use Rattle.std.proofs.Common.{◌≡◌, ℕ, ◌+◌, ◌-◌, ◌<◌, ◌≤◌, ◌==◌, false, cond, List, length, get_or, set, zero, suc}
+use Rattle.std.proofs.Common.{◌≡◌, ℕ, ◌+◌, ◌-◌, ◌<◌, ◌≤◌, ◌==◌, false, cond, List, length, get_or, set}
 use Rattle.std.proofs.Common.{inl, inr}
 use Rattle.std.proofs.Common.{refl, sym, ap, subst, ◌∙◌, arith, rules}
 use Rattle.std.proofs.lemmas.Bool.{cases_eq, cases_lt}
@@ -32,17 +32,6 @@ length-row_of f = length-map-range_with_len f 1 40
 -- and is read by the column
 pub column_entry-row_of : {X : Type 0} (d : X) (f : ℕ → X) (c : ℕ) → 1 ≤ c → c ≤ 40 → column_entry d (row_of f) c ≡ f c
 column_entry-row_of d f c low high = column_entry-at d (row_of f) c low ∙ get_or-row_of f c d low high
-
--- a function that gives the default outside the row
-pub column_entry-row_of_all : {X : Type 0} (d : X) (f : ℕ → X) → f 0 ≡ d → ((c : ℕ) → 40 < c → f c ≡ d) → (c : ℕ)
-    → column_entry d (row_of f) c ≡ f c
-column_entry-row_of_all d f first past zero = sym first
-column_entry-row_of_all d f first past (suc c) =
-    elim (cases_lt c 40) [
-      | inl below ↦ column_entry-row_of d f (suc c) (omega arith) (omega arith)
-      | inr beyond ↦
-          column_entry-past d (row_of f) (suc c) (length-row_of f) (omega arith) ∙ sym (past (suc c) (omega arith))
-    ]
 
 -- rows whose columns are the same
 pub same_rows : {X : Type 0} (f g : ℕ → X) → ((c : ℕ) → 1 ≤ c → c ≤ 40 → f c ≡ g c) → row_of f ≡ row_of g

@@ -1,8 +1,8 @@
 -- Looks in little room: with the drawing of its pattern each is kept whole, and they compare as they do.
 use Rattle.std.proofs.Common.{◌≡◌, ℕ, ◌-◌, ◌≤◌, ◌<◌, Bool, true, false, List}
-use Rattle.std.proofs.Common.{get_or, ◌⊎◌, Decides, inl, inr, ◌+◌, refl, sym, subst, ap, ◌∙◌}
+use Rattle.std.proofs.Common.{get_or, ◌⊎◌, Decides, inl, inr, refl, sym, subst, ap, ◌∙◌}
 use Rattle.std.proofs.Common.{arith, rules, replicate}
-use Rattle.std.proofs.lemmas.Bool.{cases_lt, false≢true}
+use Rattle.std.proofs.lemmas.Bool.{false≢true}
 use Rattle.std.proofs.lemmas.Bool.Decides.{same_from_decides}
 use Rattle.std.proofs.lemmas.List.{get_or-replicate}
 use Rattle.cept_codes.specs.declared.look.Look.{Look}
@@ -197,12 +197,3 @@ same_plain r a b l m ea eb plain decides =
       λ e. (look_decides l m).1 (sym (plain_is a l ea (off e)) ∙ ap (λ s. look_kept s no_drawing) e
           ∙ plain_is b m eb (ap has_pattern (sym e) ∙ off e)),
     )
-
--- one more column that compares alike
-pub alike_more : (f : ℕ → Bool) (from n : ℕ) → ((c : ℕ) → from ≤ c → c < n → f c ≡ true) → f n ≡ true → (c : ℕ)
-    → from ≤ c → c < n + 1 → f c ≡ true
-alike_more f from n below here c low high =
-    elim (cases_lt c n) [
-      | inl less ↦ below c low less
-      | inr past ↦ let e : c ≡ n = omega (arith, past, high) in ap f e ∙ here
-    ]

@@ -12,3 +12,4 @@ pub mod NamesKept
 pub mod RowsSearched
 pub mod RowsCompared
 mod FlaggedColumns
+mod CopiedColumns

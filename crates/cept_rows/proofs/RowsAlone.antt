@@ -17,7 +17,7 @@ use Rattle.cept_profile.specs.Attributes.{cascade, first_value}
 use Rattle.cept_profile.specs.Influence.{Influence, influence, influence_after, influence_in}
 use Rattle.cept_profile.specs.Definitions.{Definitions}
 use Rattle.cept_profile.specs.PageParts.{paint_in}
-use Rattle.cept_profile.specs.Look.{is_double_set, look_in_row, look_of, sets_double_size, look_with, look_with_part}
+use Rattle.cept_profile.specs.Look.{attributes_of, is_double_set, look_in_row, look_of, sets_double_size, look_with, look_with_part}
 use Rattle.cept_profile.specs.Look.{part_of}
 use Rattle.cept_profile.specs.Look.{shape_in, shape_of, size_in_row}
 use Rattle.cept_profile.specs.RowsFromAbove.{look_by, look_from}
@@ -53,6 +53,22 @@ pub low_alone : (s : SmallLook) (defined : Definitions) (row screen : Pen) (w : 
     → s ≡ small_of (look_of defined row screen w) → covers_below s.part ≡ false
 unfolding look_of
 low_alone s defined row screen w e = ap (λ x. covers_below x.part) e
+
+own_alone : (row screen : Pen) (w : What)
+    → own_attributes_of w row screen (cascade unset_pen row screen) ≡ attributes_of row screen w
+own_alone row screen whats.Blank = refl
+own_alone row screen (whats.Serial g) = refl
+own_alone row screen (whats.Parallel g pen) = refl
+own_alone row screen (whats.Marker m) = refl
+
+-- the look of what stands in a cell by itself
+pub look_by_itself : (defined : Definitions) (row screen : Pen) (w : What)
+    → look_with (paint_in defined.paints) (shape_of defined w)
+    (own_attributes_of w row screen (cascade unset_pen row screen))
+    ≡ look_of defined row screen w
+unfolding look_of
+look_by_itself defined row screen w =
+    ap (look_with (paint_in defined.paints) (shape_of defined w)) (own_alone row screen w)
 
 -- the look of a cell of such a row
 pub look_alone : (defined : Definitions) (row : ℕ → What) (pen screen : Pen) (c : ℕ) → 1 ≤ c

@@ -92,24 +92,25 @@ look_from-single above own wanted last c low uncovered alone single is =
     ∙ look_from-origin above own wanted last c single_part low uncovered alone
     (single_origin (wanted c) (ltb c 40) (not (covers_below (part_of (above (c + 1))))) (not last) single)
 
--- rows that agree up to a column show the same there
-pub look_from-alike : (defined : Definitions) (above : ℕ → Look) (f g : ℕ → What) (pen screen : Pen) (last : Bool)
-    (c : ℕ) → ((d : ℕ) → 1 ≤ d → d ≤ c → f d ≡ g d)
+-- rows that agree up to a column show the same there, beneath looks that agree up to the next one
+pub look_from-alike : (defined : Definitions) (above beside : ℕ → Look) (f g : ℕ → What) (pen screen : Pen) (last : Bool)
+    (c : ℕ) → ((d : ℕ) → d ≤ c + 1 → above d ≡ beside d) → ((d : ℕ) → 1 ≤ d → d ≤ c → f d ≡ g d)
     → look_from above (look_in_row defined f pen screen) (size_in_row f pen screen) last c
-    ≡ look_from above (look_in_row defined g pen screen) (size_in_row g pen screen) last c
-look_from-alike defined above f g pen screen last zero alike =
+    ≡ look_from beside (look_in_row defined g pen screen) (size_in_row g pen screen) last c
+look_from-alike defined above beside f g pen screen last zero over alike =
     look_from-0 above (look_in_row defined f pen screen) (size_in_row f pen screen) last
-    ∙ sym (look_from-0 above (look_in_row defined g pen screen) (size_in_row g pen screen) last)
-look_from-alike defined above f g pen screen last (suc c) alike =
+    ∙ sym (look_from-0 beside (look_in_row defined g pen screen) (size_in_row g pen screen) last)
+look_from-alike defined above beside f g pen screen last (suc c) over alike =
     let back : suc c - 1 ≡ c = omega arith in
     let left : look_from above (look_in_row defined f pen screen) (size_in_row f pen screen) last (suc c - 1)
-    ≡ look_from above (look_in_row defined g pen screen) (size_in_row g pen screen) last (suc c - 1) =
-    rw back (look_from-alike defined above f g pen screen last c (λ d low high. alike d low (omega arith))) in
+    ≡ look_from beside (look_in_row defined g pen screen) (size_in_row g pen screen) last (suc c - 1) =
+    rw back (look_from-alike defined above beside f g pen screen last c (λ d high. over d (omega (arith, high)))
+    (λ d low high. alike d low (omega (arith, high)))) in
     look_from-at above (look_in_row defined f pen screen) (size_in_row f pen screen) last (suc c) (omega arith)
-    ∙ (λ i. look_by (above (suc c)) (above (suc c - 1)) (above (suc c + 1)) (left i)
-    (look_in_row-alike defined f g pen screen (suc c) (omega arith) alike i)
+    ∙ (λ i. look_by (over (suc c) (omega arith) i) (over (suc c - 1) (omega arith) i) (over (suc c + 1) (omega arith) i)
+    (left i) (look_in_row-alike defined f g pen screen (suc c) (omega arith) alike i)
     (size_in_row-alike f g pen screen (suc c) (omega arith) alike i) last (suc c))
-    ∙ sym (look_from-at above (look_in_row defined g pen screen) (size_in_row g pen screen) last (suc c) (omega arith))
+    ∙ sym (look_from-at beside (look_in_row defined g pen screen) (size_in_row g pen screen) last (suc c) (omega arith))
 
 -- ---- what covers the place to the right
 

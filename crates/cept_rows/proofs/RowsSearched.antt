@@ -133,7 +133,8 @@ inks_of_plain shapes.Space plain = refl
 inks_of_plain (shapes.Char g) plain = refl
 inks_of_plain (shapes.Drcs pattern inks) plain = cc
 
-or_none : (a b : Bool) → b ≡ false → a ≡ (a || b)
+-- what isn't found in one place more
+pub or_none : (a b : Bool) → b ≡ false → a ≡ (a || b)
 or_none true b none = refl
 or_none false b none = sym none
 

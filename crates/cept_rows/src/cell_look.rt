@@ -137,6 +137,23 @@ pub(crate) struct Brush {
     pub(crate) size: Size,
 }
 
+/// The brush of the pen that sets nothing.
+#[inline(always)]
+pub(crate) fn unset_brush(row: &Pen, screen: &Pen, colours: &Colours) -> Brush
+    requires row { IsValidPen row.now }
+    requires screen { IsValidPen screen.now }
+    ensures pen { result.pen ≡ unset_pen }
+    ensures is { IsBrush colours.now row.now screen.now result }
+{
+    let full = cascade(&Pen::UNSET, row, screen);
+    Brush {
+        pen: Pen::UNSET,
+        bare: true,
+        space: small_with(Sign::NOTHING, &full, colours),
+        size: full.size,
+    }
+}
+
 /// Takes up a pen. Neighbours most often have the same one, so that attributes and paints are found
 /// only where it is another than before.
 #[inline(always)]

@@ -16,4 +16,4 @@ pub use naming::{RowNames, name_cells, name_row};
 pub use resolving::{
     resolve_cells, resolve_cells_from, resolve_row, rows_show_what_stands_to_the_left,
 };
-pub use row_looks::RowLooks;
+pub use row_looks::{Differences, RowLooks};

@@ -158,13 +158,14 @@ pub fn resolve_cells_from<L: Ledger>(
     );
 }
 
-/// The looks of a row hang on what stands to the left: rows that agree up to a column show the same
-/// there, beneath the same looks.
+/// The looks of a row depend on what stands to the left: rows that agree up to a column show the same
+/// there, beneath looks that agree up to the next one.
 pub fn rows_show_what_stands_to_the_left()
-    ensures { (defined : Definitions) (above : ℕ → Look) (f g : ℕ → What) (pen screen : Pen)
-        (last : Bool) (c : ℕ) → ((d : ℕ) → 1 ≤ d → d ≤ c → f d ≡ g d)
+    ensures { (defined : Definitions) (above beside : ℕ → Look) (f g : ℕ → What) (pen screen : Pen)
+        (last : Bool) (c : ℕ) → ((d : ℕ) → d ≤ c + 1 → above d ≡ beside d)
+        → ((d : ℕ) → 1 ≤ d → d ≤ c → f d ≡ g d)
         → look_from above (look_in_row defined f pen screen) (size_in_row f pen screen) last c
-        ≡ look_from above (look_in_row defined g pen screen) (size_in_row g pen screen) last c }
+        ≡ look_from beside (look_in_row defined g pen screen) (size_in_row g pen screen) last c }
 {}
 
 /// Whether a row wants the single size by its attributes, and nothing covers it from above.

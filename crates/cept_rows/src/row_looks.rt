@@ -1,24 +1,28 @@
-ghost use Rattle.std.specs.Prelude.{◌≡◌, ℕ, ◌+◌, ◌-◌, ◌<◌, ◌≤◌, ◌⊎◌, true, false, not, IfSome};
-ghost use Rattle.std.specs.Prelude.{IsNone, ◌||◌, if◌then◌else◌};
+ghost use Rattle.std.specs.Prelude.{◌≡◌, ℕ, ◌+◌, ◌-◌, ◌<◌, ◌≤◌, ◌⊎◌, true, false, not};
+ghost use Rattle.std.specs.Prelude.{◌||◌, if◌then◌else◌};
 ghost use Rattle.std.specs.Prelude.{length, slice_index_or, slice_set};
-ghost use Rattle.cept_codes.specs.Attribute.{IsValidPen};
+ghost use Rattle.cept_codes.specs.Attribute.{IsValidPen, unset_pen};
 ghost use Rattle.cept_codes.specs.Cell.{IsValidWhat};
 ghost use Rattle.cept_codes.specs.declared.look.Look.{Look};
+ghost use Rattle.cept_codes.specs.declared.look.Shape.TheVariants.{Space};
 ghost use Rattle.cept_codes.specs.Look.{IsValidLook, blank_look};
 ghost use Rattle.cept_codes.specs.Same.{same_look};
 ghost use Rattle.cept_codes.specs.Table.{entry, list_by_index, row_of};
-ghost use Rattle.cept_profile.specs.Look.{look_of, part_of};
+ghost use Rattle.cept_profile.specs.Attributes.{cascade};
+ghost use Rattle.cept_profile.specs.Look.{look_of, look_with, part_of};
 ghost use Rattle.cept_profile.specs.Names.{pattern_shown, some_place};
-ghost use Rattle.cept_profile.specs.RowsFromAbove.{blank_looks};
+ghost use Rattle.cept_profile.specs.PageParts.{paint_in};
+ghost use Rattle.cept_profile.specs.RowsFromAbove.{blank_looks, is_other_covering};
 ghost use Rattle.cept_profile.specs.Serial.{row_in};
 ghost use Rattle.cept_profile.specs.Tiling.{column_entry, covers_below};
+ghost use Rattle.cept_rows.specs.Brush.{IsBrush};
 ghost use Rattle.cept_rows.specs.DrawnWith.{drawn_with};
 ghost use Rattle.cept_rows.specs.KeptRows.{HasNoPatterns};
 ghost use Rattle.cept_rows.specs.Planes.{has_inks, has_planes};
 ghost use Rattle.cept_rows.specs.SmallLooks.{IsSmallLook, drawing_of, has_pattern, look_kept};
-ghost use Rattle.cept_rows.specs.SmallLooks.{no_drawing, small_of};
+ghost use Rattle.cept_rows.specs.SmallLooks.{blank_small, no_drawing, small_of};
 
-use crate::cell_look::{is_downloaded, small_alone, small_of_any};
+use crate::cell_look::{Brush, is_downloaded, small_alone, small_among, small_of_any, unset_brush};
 use crate::drawing::{Drawing, drawing_of, same_drawing};
 use crate::small_look::{SmallLook, look_kept, same};
 use cept_codes::{Cell, Look, Pen, What};
@@ -38,6 +42,15 @@ pub struct RowLooks {
     drawn: [Drawing; 40],
     patterned: bool,
     tall: bool,
+}
+
+/// How two rows of looks differ: in which columns, whether in any, and whether one of the looks that
+/// differ covers the place below it.
+#[derive(Clone, Copy)]
+pub struct Differences {
+    pub columns: [bool; 40],
+    pub any: bool,
+    pub covering: bool,
 }
 
 impl Model for RowLooks {
@@ -139,87 +152,112 @@ impl RowLooks {
         self.small(column).has_pattern() && self.drawing(column).pattern.planes != 1
     }
 
-    /// For each column from the left, whether two rows have different looks in it.
-    // By the search, whose loop ends at a difference: a loop over all columns would be made into
-    // vectors, a field of a look at a time, and take twice as long.
-    pub fn differences(&self, other: &RowLooks) -> [bool; 40]
-        ensures { result ≡ list_by_index 1 40 (λ c. not (same_look
+    /// In which columns two rows have different looks, whether in any, and whether one of the looks
+    /// that differ covers the place below it. To the left of a column they are known to be the same.
+    pub fn differences(&self, other: &RowLooks, from: u8) -> Differences
+        requires from_left { 1 ≤ from }
+        requires to_right { from ≤ 41 }
+        requires left { (c : ℕ) → 1 ≤ c → c < from
+            → column_entry blank_look self.now c ≡ column_entry blank_look other.now c }
+        ensures columns { result.columns ≡ list_by_index 1 40 (λ c. not (same_look
             (column_entry blank_look self.now c) (column_entry blank_look other.now c))) }
+        ensures any { result.any ≡ some_place (λ c. not (same_look
+            (column_entry blank_look self.now c) (column_entry blank_look other.now c))) }
+        ensures covering { result.covering ≡ some_place (λ c. is_other_covering
+            (column_entry blank_look self.now c) (column_entry blank_look other.now c)) }
+        ensures same { result.any ≡ false → self.now ≡ other.now }
     {
-        let mut differ = [false; 40];
-        let mut from = 1;
-        while let Some(column) = self.next_difference(other, from) {
-            differ[usize::from(column) - 1] = true;
-            from = column + 1;
-        }
-        differ
-    }
-
-    /// The first column from `from` on in which two rows have different looks.
-    #[inline(always)]
-    pub fn next_difference(&self, other: &RowLooks, from: u8) -> Option<u8>
-        requires { 1 ≤ from }
-        ensures none { IsNone result → (c : ℕ) → from ≤ c → c ≤ 40
-            → same_look (column_entry blank_look self.now c) (column_entry blank_look other.now c)
-            ≡ true }
-        ensures within { IfSome result (λ c. (from ≤ c) × (c ≤ 40)) }
-        ensures differs { IfSome result (λ c. same_look (column_entry blank_look self.now c)
-            (column_entry blank_look other.now c) ≡ false) }
-        ensures first { IfSome result (λ c. (d : ℕ) → from ≤ d → d < c
-            → same_look (column_entry blank_look self.now d) (column_entry blank_look other.now d)
-            ≡ true) }
-    {
+        self.columns_by_type();
+        other.columns_by_type();
         if self.is_plain() || other.is_plain() {
-            self.next_small_difference(other, from)
+            self.small_differences(other, from)
         } else {
-            self.next_drawn_difference(other, from)
+            self.drawn_differences(other, from)
         }
     }
 
     /// The same where one of the rows has no pattern.
+    // Flags are set in a branch: without one the loop would be made into vectors, a field of a look
+    // at a time, and take twice as long.
     #[inline(always)]
-    fn next_small_difference(&self, other: &RowLooks, from: u8) -> Option<u8>
-        requires from { 1 ≤ from }
+    fn small_differences(&self, other: &RowLooks, from: u8) -> Differences
+        requires from_left { 1 ≤ from }
+        requires to_right { from ≤ 41 }
+        requires left { (c : ℕ) → 1 ≤ c → c < from
+            → column_entry blank_look self.now c ≡ column_entry blank_look other.now c }
         requires plain { HasNoPatterns self.now ⊎ HasNoPatterns other.now }
-        ensures none { IsNone result → (c : ℕ) → from ≤ c → c ≤ 40
-            → same_look (column_entry blank_look self.now c) (column_entry blank_look other.now c)
-            ≡ true }
-        ensures within { IfSome result (λ c. (from ≤ c) × (c ≤ 40)) }
-        ensures differs { IfSome result (λ c. same_look (column_entry blank_look self.now c)
-            (column_entry blank_look other.now c) ≡ false) }
-        ensures first { IfSome result (λ c. (d : ℕ) → from ≤ d → d < c
-            → same_look (column_entry blank_look self.now d) (column_entry blank_look other.now d)
-            ≡ true) }
+        ensures columns { result.columns ≡ list_by_index 1 40 (λ c. not (same_look
+            (column_entry blank_look self.now c) (column_entry blank_look other.now c))) }
+        ensures any { result.any ≡ some_place (λ c. not (same_look
+            (column_entry blank_look self.now c) (column_entry blank_look other.now c))) }
+        ensures covering { result.covering ≡ some_place (λ c. is_other_covering
+            (column_entry blank_look self.now c) (column_entry blank_look other.now c)) }
     {
+        let mut columns = [false; 40];
+        let mut any = false;
+        let mut covering = false;
         for column in from..41 {
             if !self.same_small_at(other, column) {
-                return Some(column);
+                columns[usize::from(column) - 1] = true;
+                any = true;
+                covering = self.covers_besides(other, column, covering);
             }
         }
-        None
+        Differences {
+            columns,
+            any,
+            covering,
+        }
     }
 
     /// The same of any rows.
     // A call of its own: rows without patterns need less.
     #[inline(never)]
-    fn next_drawn_difference(&self, other: &RowLooks, from: u8) -> Option<u8>
-        requires { 1 ≤ from }
-        ensures none { IsNone result → (c : ℕ) → from ≤ c → c ≤ 40
-            → same_look (column_entry blank_look self.now c) (column_entry blank_look other.now c)
-            ≡ true }
-        ensures within { IfSome result (λ c. (from ≤ c) × (c ≤ 40)) }
-        ensures differs { IfSome result (λ c. same_look (column_entry blank_look self.now c)
-            (column_entry blank_look other.now c) ≡ false) }
-        ensures first { IfSome result (λ c. (d : ℕ) → from ≤ d → d < c
-            → same_look (column_entry blank_look self.now d) (column_entry blank_look other.now d)
-            ≡ true) }
+    fn drawn_differences(&self, other: &RowLooks, from: u8) -> Differences
+        requires from_left { 1 ≤ from }
+        requires to_right { from ≤ 41 }
+        requires left { (c : ℕ) → 1 ≤ c → c < from
+            → column_entry blank_look self.now c ≡ column_entry blank_look other.now c }
+        ensures columns { result.columns ≡ list_by_index 1 40 (λ c. not (same_look
+            (column_entry blank_look self.now c) (column_entry blank_look other.now c))) }
+        ensures any { result.any ≡ some_place (λ c. not (same_look
+            (column_entry blank_look self.now c) (column_entry blank_look other.now c))) }
+        ensures covering { result.covering ≡ some_place (λ c. is_other_covering
+            (column_entry blank_look self.now c) (column_entry blank_look other.now c)) }
     {
+        let mut columns = [false; 40];
+        let mut any = false;
+        let mut covering = false;
         for column in from..41 {
             if !self.same_at(other, column) {
-                return Some(column);
+                columns[usize::from(column) - 1] = true;
+                any = true;
+                covering = self.covers_besides(other, column, covering);
             }
         }
-        None
+        Differences {
+            columns,
+            any,
+            covering,
+        }
+    }
+
+    /// Whether it is known that a look covers the place below it, or the look in a column of one of
+    /// two rows does.
+    #[inline(always)]
+    fn covers_besides(&self, other: &RowLooks, column: u8, known: bool) -> bool
+        requires from_left { 1 ≤ column }
+        requires to_right { column ≤ 40 }
+        ensures { result ≡ (known || (covers_below (part_of (column_entry blank_look self.now column))
+            || covers_below (part_of (column_entry blank_look other.now column)))) }
+    {
+        if self.covers_nothing() & other.covers_nothing() {
+            return known;
+        }
+        if self.covers_below(column) | other.covers_below(column) {
+            return true;
+        }
+        known
     }
 
     /// Takes over the look in a column of another row.
@@ -252,6 +290,37 @@ impl RowLooks {
             self.put_drawn(column, look, from.drawing(column));
         } else {
             self.put(column, look);
+        }
+    }
+
+    /// Takes over the looks of the flagged columns of another row.
+    pub fn copy_flagged(&mut self, flags: &[bool], from: &RowLooks)
+        requires { length flags.now ≡ 40 }
+        ensures { self.new ≡ row_of (λ c. if entry false 1 flags.now c
+            then column_entry blank_look from.now c else column_entry blank_look self.old c) }
+    {
+        if from.patterned {
+            self.copy_flagged_drawn(flags, from);
+        } else {
+            copy_small(&mut self.looks, flags, &from.looks);
+            self.tall = self.tall | from.tall;
+        }
+    }
+
+    /// The same from a row in which a look may be a pattern.
+    // A call of its own: looks without one need less.
+    #[inline(never)]
+    fn copy_flagged_drawn(&mut self, flags: &[bool], from: &RowLooks)
+        requires { length flags.now ≡ 40 }
+        ensures { self.new ≡ row_of (λ c. if entry false 1 flags.now c
+            then column_entry blank_look from.now c else column_entry blank_look self.old c) }
+    {
+        self.columns_by_type();
+        for k in 0..40u8 {
+            let index = usize::from(k);
+            if flags[index] {
+                self.copy_drawn(k + 1, from);
+            }
         }
     }
 
@@ -321,15 +390,67 @@ impl RowLooks {
     {
         steps.tick();
         self.columns_by_type();
+        let mut brush = unset_brush(row, screen, colours);
+        let blank = brush.space;
         let mut differ = [false; 40];
         for k in 0..40u8 {
             let at = usize::from(k);
             if flags[at] {
                 let what = &cells[at].what;
-                differ[at] = self.resolve_cell(k + 1, what, row, screen, colours, patterns);
+                differ[at] = self.resolve_among(
+                    k + 1,
+                    what,
+                    &blank,
+                    &mut brush,
+                    row,
+                    screen,
+                    colours,
+                    patterns,
+                );
             }
         }
         differ
+    }
+
+    /// Resolves one cell by itself, in a row without markers in which a blank cell looks so, and
+    /// keeps its look. Of a sign with a pen the brush takes that up. Answers whether the look differs
+    /// from the one before.
+    #[inline(always)]
+    fn resolve_among(
+        &mut self,
+        column: u8,
+        what: &What,
+        blank: &SmallLook,
+        brush: &mut Brush,
+        row: &Pen,
+        screen: &Pen,
+        colours: &Colours,
+        patterns: &Patterns,
+    ) -> bool
+        requires from_left { 1 ≤ column }
+        requires to_right { column ≤ 40 }
+        requires valid { IsValidWhat what.now }
+        requires row { IsValidPen row.now }
+        requires screen { IsValidPen screen.now }
+        requires blank { blank.now
+            ≡ small_of (look_with (paint_in colours.now.paints) Space
+            (cascade unset_pen row.now screen.now)) }
+        requires brush { IsBrush colours.now row.now screen.now brush.old }
+        ensures looks { self.new
+            ≡ slice_set self.old (column - 1)
+            (look_of (drawn_with colours.now patterns.now) row.now screen.now what.now) }
+        ensures differs { result
+            ≡ not (same_look (column_entry blank_look self.old column)
+            (look_of (drawn_with colours.now patterns.now) row.now screen.now what.now)) }
+        ensures brush { IsBrush colours.now row.now screen.now brush.new }
+    {
+        if is_downloaded(what) {
+            return self.resolve_downloaded(column, what, row, screen, colours, patterns);
+        }
+        colours.valid_by_type();
+        patterns.valid_by_type();
+        let fresh = small_among(what, blank, brush, row, screen, colours);
+        self.replace(column, &fresh)
     }
 
     /// Resolves one cell by itself, in a row without markers, and keeps its look. Answers whether it
@@ -554,4 +675,22 @@ fn same_with(a: &SmallLook, a_drawn: &Drawing, b: &SmallLook, b_drawn: &Drawing)
         → result ≡ same_look l m }
 {
     same(a, b) && (!a.has_pattern() || same_drawing(a_drawn, b_drawn))
+}
+
+/// Takes over the flagged looks of a row.
+#[inline(always)]
+fn copy_small(looks: &mut [SmallLook; 40], flags: &[bool], from: &[SmallLook; 40])
+    requires looks { length looks.old ≡ 40 }
+    requires flags { length flags.now ≡ 40 }
+    requires from { length from.now ≡ 40 }
+    ensures columns { length looks.new ≡ 40 }
+    ensures copied { (k : ℕ) → k < 40 → slice_index_or looks.new k blank_small
+        ≡ (if slice_index_or flags.now k false then slice_index_or from.now k blank_small
+        else slice_index_or looks.old k blank_small) }
+{
+    for k in 0..40usize {
+        if flags[k] {
+            looks[k] = from[k];
+        }
+    }
 }

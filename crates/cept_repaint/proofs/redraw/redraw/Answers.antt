@@ -3,6 +3,7 @@ use Rattle.std.proofs.lemmas.Bool.{eqb-true}
 use Rattle.cept_repaint.proofs.OnePlace.{page_after-none}
 use Rattle.cept_repaint.proofs.Refreshed.{differences_none}
 use Rattle.cept_repaint.proofs.RowsDue.{mixes-edges, rows_due-resolved}
+use Rattle.cept_repaint.proofs.RowsRenewed.{rows_renewed-none, without}
 use Rattle.cept_repaint.proofs.redraw.redraw.Goals as goal
 
 pub returns-then-not-is_same-clause-cost : goal.returns-then-not-is_same-clause-cost
@@ -39,3 +40,12 @@ redraw_drawn-requires-clause-named g c =
 pub returns-clause-cost : goal.returns-clause-cost
 returns-clause-cost g c k m ek em =
     c.redraw_drawn.ensures.cost k m (ek ∙ c.is_same.ensures.same c.if-not-is_same.false) em
+
+pub returns-then-is_empty-clause-least : goal.returns-then-is_empty-clause-least
+returns-then-is_empty-clause-least g c =
+    omega (
+      arith,
+      rows_renewed-none c.args.strokes.now c.args.kept.now c.args.kept.now
+          (without c.args.strokes.now (eqb-true (length c.args.strokes.now) 0 (sym c.is_empty.ensures ∙ c.if-is_empty.true)))
+          refl,
+    )

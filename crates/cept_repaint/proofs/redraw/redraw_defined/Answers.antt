@@ -1,8 +1,12 @@
-use Rattle.std.proofs.Common.{arith, subst, sym}
+use Rattle.std.proofs.Common.{[], arith, refl, subst, sym}
 use Rattle.cept_profile.specs.State.{Page}
 use Rattle.cept_profile.specs.Valid.{IsValidPage}
+use Rattle.cept_repaint.specs.Due.{at_rest}
+use Rattle.cept_repaint.specs.Kept.{core_on}
 use Rattle.cept_repaint.proofs.RedefinedPlaces.{OtherPlacesStay-defined}
-use Rattle.cept_repaint.proofs.RedefinedRows.{AreNamedOn-defined, OtherRowsStay-defined, rows_due-defined}
+use Rattle.cept_repaint.proofs.RedefinedRows.{AreNamedOn-defined, OtherRowsStay-defined, came_defined, defined_cores}
+use Rattle.cept_repaint.proofs.RedefinedRows.{rows_due-defined}
+use Rattle.cept_repaint.proofs.RowsRenewed.{rows_renewed-due, rows_renewed-unmoved}
 use Rattle.cept_repaint.proofs.redraw.redraw_defined.Goals as goal
 
 pub returns-clause-named : goal.returns-clause-named
@@ -35,4 +39,22 @@ returns-clause-cost g c k m ek em =
           c.requires.strokes c.requires.kept c.refresh_redefined.ensures.kept c.draw_all.ensures.drawn c.requires.define
           (λ k same. c.rows_redefined-redefined.ensures k (c.requires.kept k same)
           (c.find.ensures.named k (c.requires.kept k same) (c.requires.named k same))) k m ek em,
+    )
+
+pub returns-clause-least : goal.returns-clause-least
+returns-clause-least g c =
+    let k = c.requires.edges.0 in
+    let same = c.requires.edges.1 in
+    let defined = defined_cores c.args.page.now c.draw_all.new.self c.args.strokes.now k k c.args.edges.now
+    c.requires.was_valid c.requires.strokes c.draw_all.ensures.drawn c.requires.define same same in
+    omega (
+      arith,
+      c.refresh_redefined.ensures.cost,
+      rows_renewed-unmoved c.args.strokes.now c.args.kept.now c.refresh_redefined.new.kept (came_defined defined),
+      rows_renewed-due [] c.rows_redefined-redefined.result at_rest c.args.kept.now c.refresh_redefined.new.kept
+          (core_on k c.draw_all.new.self) refl (c.refresh_redefined.ensures.kept k same)
+          (OtherRowsStay-defined c.args.page.now c.draw_all.new.self c.args.strokes.now c.args.edges.now c.args.kept.now
+          c.rows_redefined-redefined.result c.requires.was_valid c.requires.strokes c.requires.kept
+          c.draw_all.ensures.drawn c.requires.define (λ k same. c.rows_redefined-redefined.ensures k (c.requires.kept k same)
+          (c.find.ensures.named k (c.requires.kept k same) (c.requires.named k same))) k same),
     )

@@ -1,16 +1,18 @@
-use Rattle.std.proofs.Common.{◌+◌, List, ap, subst, sym, ◌∙◌}
+use Rattle.std.proofs.Common.{◌+◌, List, ap, subst, sym, ◌∙◌, refl, arith}
 use Rattle.cept_codes.specs.declared.look.Look.{Look}
+use Rattle.cept_codes.specs.Table.{list_by_index}
 use Rattle.cept_profile.specs.Changes.{differences}
 use Rattle.cept_profile.specs.RowsFromAbove.{looks_in}
 use Rattle.cept_profile.specs.State.{Page}
 use Rattle.cept_profile.specs.Valid.{IsValidPage}
-use Rattle.cept_repaint.specs.Due.{pens_of, rows_due, OtherRowsStay}
+use Rattle.cept_repaint.specs.Due.{followed, is_altered, pens_of, rows_due, OtherRowsStay}
 use Rattle.cept_repaint.specs.Kept.{core_on}
 use Rattle.cept_repaint.proofs.AlteredRows.{altered-pens}
 use Rattle.cept_repaint.proofs.FollowedRows.{came-followed, row_from-followed}
 use Rattle.cept_repaint.proofs.NamesAfter.{AreNamedOn-drawn}
 use Rattle.cept_repaint.proofs.RestingRows.{AreStill, OtherRowsStay-still, rows_due-still}
 use Rattle.cept_repaint.proofs.RowsDue.{freed-altered}
+use Rattle.cept_repaint.proofs.RowsRenewed.{rows_renewed-due}
 use Rattle.cept_repaint.proofs.WalkedRows.{OtherRowsStay-drawn}
 use Rattle.cept_repaint.proofs.redraw.redraw_rows.Goals as goal
 use Rattle.cept_repaint.proofs.redraw.redraw_rows.Goals.{then-one_moved, else-one_moved}
@@ -107,3 +109,20 @@ returns-clause-cost g c =
           ∙ (λ i. c.args.steps.now + rows_due (altered i) (c.follow_rows-rows.ensures i) c.args.kept.now
           (sym w.kept-is i))
     ]
+
+pub returns-clause-least : goal.returns-clause-least
+returns-clause-least g c =
+    let k = c.requires.to.0 in
+    let same = c.requires.to.1 in
+    let flags = list_by_index 1 24 (is_altered c.args.strokes.now (pens_of c.args.page.now) c.args.before.now
+    (pens_of c.draw_all.new.self) c.args.after.now) in
+    let rows = list_by_index 1 24 (followed c.args.strokes.now) in
+    omega (
+      arith,
+      returns-clause-cost g c,
+      rows_renewed-due c.args.strokes.now flags rows c.args.kept.now c.if-one_moved.kept
+          (core_on k c.draw_all.new.self) refl (returns-clause-kept g c k same)
+          (OtherRowsStay-drawn c.args.page.now c.draw_all.new.self c.args.strokes.now c.args.before.now
+          c.args.after.now c.args.kept.now flags rows c.requires.was_valid c.requires.strokes c.requires.from
+          c.requires.kept c.draw_all.ensures.drawn refl refl k same),
+    )

@@ -1,11 +1,9 @@
-use Rattle.std.proofs.Common.{ℕ, Bool, List, [], ◌∷◌, length, refl, sym, ap, subst, ◌∙◌, ◌==◌, arith}
+use Rattle.std.proofs.Common.{Bool, List, length, refl, sym, ap, subst, ◌∙◌, ◌==◌, arith}
 use Rattle.std.proofs.lemmas.Bool.{eqb-true, true≢false}
-use Rattle.cept_profile.specs.State.{Page, page_after}
-use Rattle.cept_codes.specs.declared.stroke.Stroke.TheVariants.{Put}
-use Rattle.cept_repaint.specs.declared.followed_rows.Followed.{Followed}
+use Rattle.cept_profile.specs.State.{Page, core_of, page_after}
 use Rattle.cept_profile.specs.Valid.{IsValidPage}
 use Rattle.cept_codes.specs.Table.{list_by_index}
-use Rattle.cept_repaint.specs.Due.{at_rest, followed, pens_of, rows_due, LeftStays, OtherRowsStay}
+use Rattle.cept_repaint.specs.Due.{followed, pens_of, rows_due, LeftStays}
 use Rattle.cept_repaint.specs.Kept.{core_on, state_of_parts}
 use Rattle.cept_repaint.proofs.KeptAfter.{AreEdges-state}
 use Rattle.cept_profile.specs.Edges.{edges_of}
@@ -16,8 +14,8 @@ use Rattle.cept_repaint.proofs.AlteredRows.{altered-put}
 use Rattle.cept_repaint.proofs.FollowedRows.{still-put}
 use Rattle.cept_repaint.proofs.NamesAfter.{AreNamedOn-drawn, AreNamedOn-put}
 use Rattle.cept_repaint.proofs.LeftOfColumns.{LeftStays-put}
-use Rattle.cept_repaint.proofs.RestingRows.{AreStill, OtherRowsStay-still}
 use Rattle.cept_repaint.proofs.RowsDue.{freed-altered, put-resolved, put_defines_nothing, rows_due-resolved}
+use Rattle.cept_repaint.proofs.RowsRenewed.{rows_renewed-due, rows_renewed-none, rows_renewed-put, without}
 use Rattle.cept_repaint.proofs.WalkedRows.{OtherRowsStay-drawn}
 use Rattle.cept_repaint.proofs.redraw.redraw_within.Goals as goal
 
@@ -183,21 +181,62 @@ returns-in-None-clause-cost g c k m ek em =
 
 pub refresh_put-requires-clause-left : goal.refresh_put-requires-clause-left
 refresh_put-requires-clause-left g c k same =
-    let flags : List Bool = list_by_index 1 24 (λ q. c.row-row.result == q) in
-    let rows : List Followed = list_by_index 1 24 (followed c.args.strokes.now) in
-    let are : AreStill flags rows = record {
-      freed = refresh_put-requires-clause-freed g c;
-      still = refresh_put-requires-clause-still g c;
-    } in
     let drawn = page_after-put_alone c.args.page.now c.put.new.self c.args.strokes.now c.in-Some.put.place
     c.in-Some.put.cell.now c.in-Some.ensures c.put.ensures.drawn
     ∙ ap (page_after c.args.page.now) c.in-Some.ensures in
-    subst (λ (q : Page). LeftStays flags c.col-from.result c.args.kept.now (core_on k q)) (sym drawn)
-    (subst (λ (n : ℕ). LeftStays flags n c.args.kept.now
-    (core_on k (page_after c.args.page.now (Put c.in-Some.put.place c.in-Some.put.cell.now ∷ [])))) (sym c.col-from.ensures.column)
-    (LeftStays-put c.rows_show_what_stands_to_the_left.ensures c.args.page.now c.requires.was_valid k c.in-Some.put.place
-    c.in-Some.put.cell.now c.args.kept.now c.row-row.result
-    (c.requires.kept k (same ∙ c.edges-edges.ensures)) (omega (arith, c.row-row.ensures.on_screen))
-    (subst (λ (q : Page). OtherRowsStay flags at_rest c.args.kept.now (core_on k q)) drawn
-    (OtherRowsStay-still are c.args.kept.now (core_on k c.put.new.self)
-    (refresh_put-requires-clause-others g c k same)))))
+    subst (λ (q : Page). LeftStays c.row-row.result c.col-from.result c.args.kept.now (core_on k q)) (sym drawn)
+    (λ r column on left.
+    LeftStays-put c.rows_show_what_stands_to_the_left.ensures c.args.page.now c.requires.was_valid k c.in-Some.put.place
+    c.in-Some.put.cell.now c.args.kept.now (c.requires.kept k (same ∙ c.edges-edges.ensures)) r column on
+    (omega (arith, left, c.row-row.ensures.row, c.col-from.ensures.column)))
+
+pub returns-then-is_empty-clause-least : goal.returns-then-is_empty-clause-least
+returns-then-is_empty-clause-least g c =
+    omega (
+      arith,
+      rows_renewed-none c.args.strokes.now c.args.kept.now c.args.kept.now
+          (without c.args.strokes.now (eqb-true (length c.args.strokes.now) 0 (sym c.is_empty.ensures ∙ c.if-is_empty.true)))
+          refl,
+    )
+
+-- the core of the control that is asked
+pub returns-then-put-clause-least : goal.returns-then-put-clause-least
+returns-then-put-clause-least g c =
+    let k = core_of (state_of_parts c.args.page.now c.args.control.now) in
+    let alone =
+    IsPutAlone-drawn c.args.page.now c.put.new.self c.args.strokes.now c.in-Some.put.place c.in-Some.put.cell.now
+    c.in-Some.ensures
+    c.put.ensures.drawn c.refresh_place.ensures.on_screen (c.put.ensures.before c.if-put.true)
+    (c.put.ensures.after c.if-put.true) c.requires.was_valid c.requires.strokes c.requires.valid in
+    let others = OthersStay-put c.args.page.now c.put.new.self k c.args.kept.now c.in-Some.put.place
+    (c.requires.kept k refl) alone in
+    omega (
+      arith,
+      c.refresh_place.ensures.cost,
+      rows_renewed-put c.in-Some.put.place c.in-Some.put.cell.now c.args.strokes.now c.args.kept.now
+          c.refresh_place.new.kept (core_on k c.put.new.self) c.in-Some.ensures (c.refresh_place.ensures.kept k others)
+          others,
+    )
+
+pub returns-else-put-clause-least : goal.returns-else-put-clause-least
+returns-else-put-clause-least g c =
+    let k = core_of (state_of_parts c.args.page.now c.args.control.now) in
+    let flags : List Bool = list_by_index 1 24 (λ q. c.row-row.result == q) in
+    let drawn = page_after-put_alone c.args.page.now c.put.new.self c.args.strokes.now c.in-Some.put.place
+    c.in-Some.put.cell.now c.in-Some.ensures c.put.ensures.drawn in
+    omega (
+      arith,
+      c.refresh_put.ensures.cost,
+      rows_renewed-due c.args.strokes.now flags
+          (list_by_index 1 24 (followed c.args.strokes.now)) c.args.kept.now c.refresh_put.new.kept
+          (core_on k c.put.new.self) refl (c.refresh_put.ensures.kept k (sym c.edges-edges.ensures))
+          (OtherRowsStay-drawn c.args.page.now c.put.new.self c.args.strokes.now (edges_of c.args.control.now)
+          (edges_of c.args.control.now) c.args.kept.now flags (list_by_index 1 24 (followed c.args.strokes.now))
+          c.requires.was_valid c.requires.strokes
+          (AreEdges-state (state_of_parts c.args.page.now c.args.control.now) (edges_of c.args.control.now) refl)
+          c.requires.kept drawn
+          (altered-put c.args.page.now c.put.new.self c.args.strokes.now c.in-Some.put.place c.in-Some.put.cell.now
+          (edges_of c.args.control.now) (edges_of c.args.control.now) flags c.row-row.result c.in-Some.ensures drawn
+          refl refl c.row-row.ensures.row)
+          refl k refl),
+    )

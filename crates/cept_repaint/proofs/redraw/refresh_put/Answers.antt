@@ -1,7 +1,7 @@
 use Rattle.std.proofs.Common.{◌≡◌, false, List, Bool, sym, subst, ap, ◌∙◌, arith}
 use Rattle.std.specs.Prelude.{◌==◌}
 use Rattle.cept_codes.specs.Table.{list_by_index}
-use Rattle.cept_repaint.specs.Due.{at_rest, followed, rows_due, LeftStays, OtherRowsStay}
+use Rattle.cept_repaint.specs.Due.{at_rest, followed, rows_due, OtherRowsStay}
 use Rattle.cept_repaint.specs.Kept.{core_on}
 use Rattle.std.proofs.lemmas.Bool.Decides.{nat_tests}
 use Rattle.cept_codes.proofs.Laws.{entry-list_by_index}
@@ -35,8 +35,3 @@ returns-clause-remembered g c =
     let no : (c.args.row == r) ≡ false = grind (arith, nat_tests, apart) in
     entry-list_by_index false 1 24 (λ q. c.args.row == q) r low (omega (arith, high)) ∙ no)
     c.requires.freed c.requires.still
-
-pub refresh_rows_from-requires-clause-left : goal.refresh_rows_from-requires-clause-left
-refresh_rows_from-requires-clause-left g c k same =
-    subst (λ (l : List Bool). LeftStays l c.args.from c.args.kept.now (core_on k c.args.page.now))
-    (sym c.row_alone-altered.ensures) (c.requires.left k same)

@@ -1,12 +1,12 @@
-use Rattle.std.proofs.Common.{◌≡◌, ℕ, ◌-◌, ◌||◌, false, get_or, sym, ap, subst, ◌∙◌, arith}
+use Rattle.std.proofs.Common.{◌≡◌, ◌-◌, ◌||◌, false, get_or, sym, ap, ◌∙◌, arith}
 use Rattle.cept_codes.proofs.Laws.{entry_from}
 use Rattle.cept_profile.specs.Edges.{Edges, edges_of_core, is_last}
 use Rattle.cept_profile.specs.Look.{looks_of}
-use Rattle.cept_profile.specs.RowsFromAbove.{is_covered_otherwise, looks_in}
+use Rattle.cept_profile.specs.RowsFromAbove.{is_covered_otherwise}
 use Rattle.cept_profile.specs.State.{Core}
 use Rattle.cept_repaint.specs.Due.{at_rest, is_due}
-use Rattle.cept_repaint.specs.Kept.{core_on, row_beneath, IsLeftOf}
-use Rattle.cept_repaint.proofs.LeftOfColumns.{left_is, stays_by, within_by}
+use Rattle.cept_repaint.specs.Kept.{core_on}
+use Rattle.cept_repaint.proofs.LeftOfColumns.{left_is}
 use Rattle.cept_repaint.proofs.RestingRows.{due-rest, row_from-rest}
 use Rattle.cept_repaint.proofs.WalkedRows.{WalkedTo-as, WalkedTo-cost, WalkedTo-first, WalkedTo-kept, WalkedTo-looks}
 use Rattle.cept_repaint.proofs.WalkedRows.{WalkedTo-marks, WalkedTo-more}
@@ -64,12 +64,8 @@ refresh_row-covered-requires-clause-left g c =
     let k = c.requires.edges.0 in
     let same = c.requires.edges.1 in
     let row = c.loop-row.row in
-    let flag = (λ i. get_or c.args.flags.now (c.from.ensures i - 1) false)
-    ∙ sym (entry_from false 1 c.args.flags.now row c.loop-row.auto.row) in
-    subst (λ (n : ℕ). IsLeftOf n (looks_in c.loop-row.kept row)
-    (row_beneath (looks_in c.loop-row.kept (row - 1)) c.args.page.now row c.is_last-last.result))
-    (sym c.first_column-column.ensures)
-    (left_is (c.loop-row.invariant k same) c.loop-row.auto.row (omega arith) _
-    (within_by (get_or c.args.flags.now (c.from.result - 1) false) c.args.from c.requires.to_right)
-    (stays_by c.args.flags.now c.args.from c.args.kept.now (core_on k c.args.page.now) row _ (c.requires.left k same) flag)
-    c.is_last-last.result (c.is_last-last.ensures ∙ ap (λ (e : Edges). is_last e row) (sym same)))
+    left_is (c.loop-row.invariant k same) c.loop-row.auto.row (omega arith) c.first_column-column.result
+    c.first_column-column.ensures.within
+    (λ column on below. c.requires.left k same row column on
+    (c.first_column-column.ensures.left column on.from_left below))
+    c.is_last-last.result (c.is_last-last.ensures ∙ ap (λ (e : Edges). is_last e row) (sym same))

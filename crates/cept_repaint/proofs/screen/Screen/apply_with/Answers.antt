@@ -30,6 +30,7 @@ returns-then-write_attribute-clause-applied g c =
     (g.G.Glass.state c.args.glass.now) c.args.steps.now c.requires
     (c.write_attribute.ensures.after c.if-write_attribute.true) (sym c.write_attribute.ensures.looks)
     (c.write_attribute.ensures.marks c.if-write_attribute.true)
+    (c.write_attribute.ensures.strokes c.if-write_attribute.true)
 
 pub returns-then-write_attribute-clause-unwound : goal.returns-then-write_attribute-clause-unwound
 returns-then-write_attribute-clause-unwound g c =

@@ -6,7 +6,7 @@ use Rattle.cept_repaint.specs.Exchanged.{exchanged, page_exchanged}
 use Rattle.cept_repaint.specs.Kept.{state_of_parts}
 use Rattle.cept_repaint.proofs.KeptAfter.{AreEdges-state, AreLooksOn-state, AreNamed-drawn, looks_of-drawn, marks-kept}
 use Rattle.cept_repaint.proofs.UnwoundRows.{rows_unwound-control, rows_unwound-le}
-use Rattle.cept_repaint.proofs.UnwoundStates.{rows_restored-of, state_unwound, valid_page_unwound, valid_unwound}
+use Rattle.cept_repaint.proofs.UnwoundStates.{renewed-kept, rows_restored-of, state_unwound, valid_page_unwound, valid_unwound}
 use Rattle.cept_repaint.proofs.screen.Screen.exchange_values.Goals as goal
 
 pub exchange-requires-clause-from : goal.exchange-requires-clause-from
@@ -68,6 +68,18 @@ returns-clause-cost g c =
           (state_of_parts c.exchange.new.page c.exchange_control.new.control) c.edges-before.result c.edges-after.result
           c.self.inside.rows c.exchange.new.kept c.self.view_is c.edges-before.ensures c.edges-after.ensures
           c.self.invariant.looks
+          (looks_of-drawn c.exchange.new.page c.exchange_control.new.control c.edges-after.result c.exchange.new.kept
+          c.edges-after.ensures c.exchange.ensures.kept),
+    )
+
+pub returns-clause-least : goal.returns-clause-least
+returns-clause-least g c =
+    omega (
+      arith,
+      c.exchange.ensures.least,
+      renewed-kept (state_of_parts c.self.inside.page c.self.inside.control) c.args.self.now
+          (state_of_parts c.exchange.new.page c.exchange_control.new.control) c.self.inside.rows c.exchange.new.kept c.self.invariant.looks
+          c.self.view_is
           (looks_of-drawn c.exchange.new.page c.exchange_control.new.control c.edges-after.result c.exchange.new.kept
           c.edges-after.ensures c.exchange.ensures.kept),
     )

@@ -3,7 +3,7 @@ use Rattle.cept_profile.specs.OldValues.{unwound}
 use Rattle.cept_repaint.specs.Kept.{state_of_parts}
 use Rattle.cept_repaint.proofs.KeptAfter.{AreEdges-state, AreLooksOn-state, AreNamed-drawn, looks_of-drawn, marks-kept}
 use Rattle.cept_repaint.proofs.UnwoundRows.{rows_unwound-le}
-use Rattle.cept_repaint.proofs.UnwoundStates.{rows_restored-of, state_unwound, valid_page_unwound, valid_unwound}
+use Rattle.cept_repaint.proofs.UnwoundStates.{renewed-kept, rows_restored-of, state_unwound, valid_page_unwound, valid_unwound}
 use Rattle.cept_repaint.proofs.screen.Screen.unwind.Goals as goal
 
 pub unwind-requires-clause-from : goal.unwind-requires-clause-from
@@ -52,6 +52,18 @@ returns-clause-cost g c =
           (state_of_parts c.unwind.new.page c.unwrap_or-self-inside.result) c.edges-before.result c.edges-after.result
           c.self.inside.rows c.unwind.new.kept c.self.view_is c.edges-before.ensures c.edges-after.ensures
           c.self.invariant.looks
+          (looks_of-drawn c.unwind.new.page c.unwrap_or-self-inside.result c.edges-after.result c.unwind.new.kept
+          c.edges-after.ensures c.unwind.ensures.kept),
+    )
+
+pub returns-clause-least : goal.returns-clause-least
+returns-clause-least g c =
+    omega (
+      arith,
+      c.unwind.ensures.least,
+      renewed-kept (state_of_parts c.self.inside.page c.self.inside.control) c.args.self.now
+          (state_of_parts c.unwind.new.page c.unwrap_or-self-inside.result) c.self.inside.rows c.unwind.new.kept c.self.invariant.looks
+          c.self.view_is
           (looks_of-drawn c.unwind.new.page c.unwrap_or-self-inside.result c.edges-after.result c.unwind.new.kept
           c.edges-after.ensures c.unwind.ensures.kept),
     )

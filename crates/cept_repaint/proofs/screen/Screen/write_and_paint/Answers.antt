@@ -22,5 +22,6 @@ returns-clause-applied g c =
             (ap (λ m. marked_looks m new) c.write.ensures.marks) c.paint_marked.ensures.told;
       };
       cost = c.write.ensures.cost;
+      least = c.write.ensures.least;
       at_most_24 = c.write.ensures.at_most_24;
     }

@@ -1,6 +1,7 @@
-use Rattle.std.proofs.Common.{ap, ◌∙◌}
+use Rattle.std.proofs.Common.{sym, ap, ◌∙◌}
 use Rattle.cept_profile.specs.Look.{looks_of}
 use Rattle.cept_profile.specs.State.{State, core_of, state_after}
+use Rattle.cept_profile.specs.Strokes.{strokes_of}
 use Rattle.cept_repaint.proofs.KeptAfter.{IsKept-still, looks_of-still, state_after-still}
 use Rattle.cept_repaint.proofs.screen.Screen.write_attribute.Goals as goal
 
@@ -16,6 +17,11 @@ returns-clause-after c = λ _.
     (c.step_attribute.ensures.state c.if-not-step_attribute.false)
     (c.step_attribute.ensures.strokes c.if-not-step_attribute.false)
     ∙ ap (λ (s : State). state_after s c.args.command.now) c.self.view_is
+
+pub returns-clause-strokes : goal.returns-clause-strokes
+returns-clause-strokes c = λ _.
+    sym (ap (λ (s : State). strokes_of s.control c.args.command.now) c.self.view_is)
+    ∙ c.step_attribute.ensures.strokes c.if-not-step_attribute.false
 
 pub returns-clause-looks : goal.returns-clause-looks
 returns-clause-looks c =

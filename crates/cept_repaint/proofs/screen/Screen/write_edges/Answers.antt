@@ -5,7 +5,7 @@ use Rattle.cept_profile.specs.Valid.{IsValidPage}
 use Rattle.cept_profile.proofs.Laws.{IsValidState-state_after}
 use Rattle.cept_repaint.specs.Kept.{state_of_parts}
 use Rattle.cept_repaint.proofs.KeptAfter.{AreEdges-state, AreLooksOn-state, IsKept-state_after, looks_of-drawn, marks-kept}
-use Rattle.cept_repaint.proofs.KeptAfter.{AreNamed-drawn, AreNamedOn-state, resolved-of, state_after-drawn}
+use Rattle.cept_repaint.proofs.KeptAfter.{AreNamed-drawn, AreNamedOn-state, renewed-of, resolved-of, state_after-drawn}
 use Rattle.cept_profile.proofs.Laws.{rows_in_reach-le}
 use Rattle.cept_repaint.proofs.screen.Screen.write_edges.Goals as goal
 
@@ -59,6 +59,22 @@ returns-clause-cost g c =
       c.redraw.ensures.cost (core_of was) (core_of next) (sym c.edges-before.ensures) (sym c.edges-after.ensures),
       resolved-of c.args.command.now c.redraw.new.page c.step_into.new.self c.as_slice-strokes.result.now strokes
           whole c.args.self.now c.self.view_is,
+    )
+
+-- and no fewer than were renewed
+pub returns-clause-least : goal.returns-clause-least
+returns-clause-least g c =
+    let strokes = c.as_slice-strokes.ensures.value ∙ c.step_into.ensures.strokes in
+    let whole = state_after-drawn c.self.inside.page c.self.inside.control c.args.command.now
+    c.redraw.new.page c.step_into.new.self c.as_slice-strokes.result.now strokes c.redraw.ensures.page
+    c.step_into.ensures.state in
+    omega (
+      arith,
+      c.redraw.ensures.least,
+      renewed-of c.args.command.now c.redraw.new.page c.step_into.new.self c.as_slice-strokes.result.now
+          strokes whole c.self.inside.rows c.redraw.new.kept c.self.invariant.looks
+          (looks_of-drawn c.redraw.new.page c.step_into.new.self c.edges-after.result c.redraw.new.kept
+          c.edges-after.ensures c.redraw.ensures.kept) c.args.self.now c.self.view_is,
     )
 
 pub returns-clause-at_most_24 : goal.returns-clause-at_most_24

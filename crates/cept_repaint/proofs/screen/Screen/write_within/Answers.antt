@@ -6,7 +6,7 @@ use Rattle.cept_profile.specs.Valid.{IsValidPage}
 use Rattle.cept_profile.proofs.Laws.{IsValidState-state_after, rows_in_reach-le}
 use Rattle.cept_repaint.specs.Kept.{state_of_parts}
 use Rattle.cept_repaint.proofs.KeptAfter.{AreLooksOn-state, AreNamed-drawn, AreNamedOn-state, IsKept-state_after}
-use Rattle.cept_repaint.proofs.KeptAfter.{looks_of-drawn, marks-kept, resolved-of, state_after-drawn}
+use Rattle.cept_repaint.proofs.KeptAfter.{looks_of-drawn, marks-kept, renewed-of, resolved-of, state_after-drawn}
 use Rattle.cept_repaint.proofs.MovedEdges.{edges-stay}
 use Rattle.cept_repaint.proofs.screen.Screen.write_within.Goals as goal
 
@@ -65,6 +65,22 @@ returns-clause-cost g c =
           c.step_into.ensures.state)) refl,
       resolved-of c.args.command.now c.redraw_within.new.page c.step_into.new.self c.as_slice-strokes.result.now
           strokes whole c.args.self.now c.self.view_is,
+    )
+
+-- and no fewer than were renewed
+pub returns-clause-least : goal.returns-clause-least
+returns-clause-least g c =
+    let strokes = c.as_slice-strokes.ensures.value ∙ c.step_into.ensures.strokes in
+    let whole = state_after-drawn c.self.inside.page c.self.inside.control c.args.command.now
+    c.redraw_within.new.page c.step_into.new.self c.as_slice-strokes.result.now strokes c.redraw_within.ensures.page
+    c.step_into.ensures.state in
+    omega (
+      arith,
+      c.redraw_within.ensures.least,
+      renewed-of c.args.command.now c.redraw_within.new.page c.step_into.new.self c.as_slice-strokes.result.now
+          strokes whole c.self.inside.rows c.redraw_within.new.kept c.self.invariant.looks
+          (looks_of-drawn c.redraw_within.new.page c.step_into.new.self (edges_of c.step_into.new.self) c.redraw_within.new.kept
+          refl c.redraw_within.ensures.kept) c.args.self.now c.self.view_is,
     )
 
 pub returns-clause-at_most_24 : goal.returns-clause-at_most_24

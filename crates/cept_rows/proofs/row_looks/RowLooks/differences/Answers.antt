@@ -1,14 +1,21 @@
-use Rattle.std.proofs.Common.{◌-◌, ap, refl}
-use Rattle.cept_rows.proofs.RowsCompared.{DifferBelow-all, DifferBelow-more, DifferBelow-none}
+use Rattle.std.proofs.Common.{inl, inr, sym, ◌∙◌}
+use Rattle.cept_rows.proofs.RowsCompared.{rows_alike}
 use Rattle.cept_rows.proofs.row_looks.RowLooks.differences.Goals as goal
+use Rattle.cept_rows.proofs.row_looks.RowLooks.differences.Goals.{then-is_plain, else-is_plain}
 
-pub loop-column-init : goal.loop-column-init
-loop-column-init c = DifferBelow-none c.args.self.now c.args.other.now
+pub small_differences-requires-clause-plain : goal.small_differences-requires-clause-plain
+small_differences-requires-clause-plain c =
+    elim c.if-is_plain.branch [
+      | then-is_plain w ↦ inl (c.is_plain.ensures w.if-is_plain.true)
+      | else-is_plain w ↦ inr (w.is_plain-else-is_plain.ensures (sym w.value-is ∙ c.if-is_plain-2.true))
+    ]
 
-pub loop-column-preserved : goal.loop-column-preserved
-loop-column-preserved c =
-    DifferBelow-more c.loop-column.invariant c.in-Some.column (c.from.result - 1) c.in-Some.ensures.within.0
-    c.in-Some.ensures.within.1 (ap (λ n. n - 1) c.from.ensures) c.in-Some.ensures.differs c.in-Some.ensures.first
+pub returns-then-is_plain-2-clause-same : goal.returns-then-is_plain-2-clause-same
+returns-then-is_plain-2-clause-same c none =
+    rows_alike c.args.self.now c.args.other.now c.columns_by_type.ensures.columns c.columns_by_type-2.ensures.columns
+    (sym c.small_differences.ensures.any ∙ none)
 
-pub returns : goal.returns
-returns c = DifferBelow-all c.loop-column.invariant (c.in_default.ensures.none refl)
+pub returns-else-is_plain-2-clause-same : goal.returns-else-is_plain-2-clause-same
+returns-else-is_plain-2-clause-same c none =
+    rows_alike c.args.self.now c.args.other.now c.columns_by_type.ensures.columns c.columns_by_type-2.ensures.columns
+    (sym c.drawn_differences.ensures.any ∙ none)
