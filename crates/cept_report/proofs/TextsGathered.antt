@@ -7,20 +7,13 @@ use Rattle.cept_outside.specs.Causes.{Rose, HasCause}
 use Rattle.cept_outside.specs.SinkState.{SinkState, Gains, GainsPart, PutsText}
 use Rattle.cept_outside.proofs.Laws.{Gains-nil, Gains-append}
 use Rattle.cept_profile.specs.Changes.{look_at, marked_looks, marked_looks_below}
+use Rattle.cept_profile.proofs.Laws.{marked_looks_below-unmarked}
 use Rattle.cept_repaint.specs.Marks.{IsFirstFrom}
 use Rattle.cept_report.specs.Front.{front_text}
 use Rattle.cept_report.specs.Gathered.{GainsFront, Gathers}
 use Rattle.cept_report.specs.Screen.{cell_line}
 use Rattle.cept_report.specs.Text.{change_line, change_lines, fields_text, shape_text}
 use Rattle.cept_report.proofs.LinesPut.{Gains-part, lines-next, text-goes_on}
-
--- nothing was put
-pub GainsFront-none : (s : SinkState) (text : List ℕ) → GainsFront s text s text
-GainsFront-none s text = record { front = []; gains = Gains-nil s; is = refl }
-
--- all was put
-pub GainsFront-put : (s t : SinkState) (text : List ℕ) → Gains s text t → GainsFront s text t []
-GainsFront-put s t text gains = record { front = text; gains = gains; is = append-nil text }
 
 -- more is gathered
 pub GainsFront-more : (s t : SinkState) (text rest more : List ℕ) → GainsFront s text t rest
@@ -175,11 +168,16 @@ GainsFront-line_failed s t u marks g label from p line rest first is before part
     Gains-front_failed s t u _ (change_lines label (marked_looks_below marks g from)) rest line more.0
     (more.1 ∙ ap (λ l. (change_lines label (marked_looks_below marks g from) ++ l) ++ more.0) (sym is)) before part
 
--- before the first place nothing is gathered
-pub GainsFront-start : (s : SinkState) (marks : List Bool) (g : List (List Look)) (label : ℕ) (rest : List ℕ)
-    → rest ≡ [] → GainsFront s (change_lines label (marked_looks_below marks g 0)) s rest
+-- before the first marked place nothing is gathered
+pub GainsFront-first : (s : SinkState) (marks : List Bool) (g : List (List Look)) (label from : ℕ) (p : Place)
+    (rest : List ℕ) → IsFirstFrom marks 0 p → from ≡ number p.row p.column → rest ≡ []
+    → GainsFront s (change_lines label (marked_looks_below marks g from)) s rest
 unfolding marked_looks_below change_lines
-GainsFront-start s marks g label rest is = record { front = []; gains = Gains-nil s; is = is }
+GainsFront-first s marks g label from p rest first at is =
+    subst (λ (xs : List (Place × Look)). GainsFront s (change_lines label xs) s rest)
+    (sym (marked_looks_below-unmarked marks g 0 (number p.row p.column) (omega arith) first.first)
+    ∙ ap (marked_looks_below marks g) (sym at))
+    (record { front = []; gains = Gains-nil s; is = is })
 
 -- a line in the parts that are gathered
 pub line_of-is : (label : ℕ) (digits none front : List ℕ) (p : Place) (l : Look) → digits ≡ decimal label → none ≡ []

@@ -20,9 +20,52 @@ pub fn add_front(line: &mut Line, label: &[u8], at: Pos)
     ensures text { line.new.items ≡ line.old.items ++ front_text label.now at }
     ensures len { array_vec_len line.new ≤ array_vec_len line.old + 27 }
 {
-    add_text(line, label);
-    add_byte(line, b' ');
-    add_place(line, at);
+    add_label(line, label);
+    add_spaced_place(line, at);
+}
+
+/// Adds a label. One of a length that most have is copied as so many bytes, without a call.
+#[inline(always)]
+#[tactic(auto, using(std::proofs::lemmas::List::take_all))]
+fn add_label(line: &mut Line, label: &[u8])
+    requires { array_vec_len line.old + length label.now ≤ 248 }
+    ensures text { line.new.items ≡ line.old.items ++ label.now }
+    ensures len { array_vec_len line.new ≡ array_vec_len line.old + length label.now }
+{
+    match label.len() {
+        5 => add_text(line, &label[..5]),
+        6 => add_text(line, &label[..6]),
+        7 => add_text(line, &label[..7]),
+        _ => add_text(line, label),
+    }
+}
+
+/// Adds a place after a space: the row and the column, with a space after each.
+// All at once, in each of the lengths that it may have.
+#[inline(always)]
+#[tactic(auto, using(crate::proofs::Digits::decimal_digits))]
+fn add_spaced_place(line: &mut Line, at: Pos)
+    requires { array_vec_len line.old + 7 ≤ 248 }
+    ensures text { line.new.items ≡ line.old.items ++ (ascii " " ∷ place_text at) }
+    ensures len { array_vec_len line.new ≤ array_vec_len line.old + 7 }
+{
+    let (row, column) = (at.row(), at.col());
+    let (row_ten, row_one) = (b'0' + row / 10, b'0' + row % 10);
+    let (column_ten, column_one) = (b'0' + column / 10, b'0' + column % 10);
+    if row < 10 {
+        if column < 10 {
+            add_text(line, &[b' ', row_one, b' ', column_one, b' ']);
+        } else {
+            add_text(line, &[b' ', row_one, b' ', column_ten, column_one, b' ']);
+        }
+    } else if column < 10 {
+        add_text(line, &[b' ', row_ten, row_one, b' ', column_one, b' ']);
+    } else {
+        add_text(
+            line,
+            &[b' ', row_ten, row_one, b' ', column_ten, column_one, b' '],
+        );
+    }
 }
 
 /// Adds a place: the row and the column, with a space after each.

@@ -5,6 +5,7 @@ ghost use Rattle.cept_outside.specs.SinkState.{PutsText};
 ghost use Rattle.cept_profile.specs.Changes.{look_at, marked_looks};
 ghost use Rattle.cept_profile.specs.Look.{looks_of};
 ghost use Rattle.cept_profile.specs.State.{core_of};
+ghost use Rattle.cept_repaint.specs.Marks.{IsFirstFrom};
 ghost use Rattle.cept_report.specs.Screen.{cells_text, screen_text};
 ghost use Rattle.cept_report.specs.Text.{change_line, change_lines, check_line, refusal_line};
 ghost use Rattle.cept_report.specs.Text.{nothing_line, script_fault_line, load_line};
@@ -47,10 +48,29 @@ pub fn put_changes<T: Sink>(
         change_lines label (marked_looks marks.now (looks_of (core_of screen.now))) in
         PutsText (T.state sink.old) text result (T.state sink.new) }
 {
+    match marks.next_from(0) {
+        Some(first) => put_changes_from(sink, label, marks, screen, first),
+        None => Ok(()),
+    }
+}
+
+/// Puts a line for each marked place, of which this is the first.
+fn put_changes_from<T: Sink>(
+    sink: &mut T,
+    label: u64,
+    marks: &Marks,
+    screen: &Screen,
+    first: Pos,
+) -> Result<(), WriteFault>
+    requires { IsFirstFrom marks.now 0 first }
+    ensures { let text =
+        change_lines label (marked_looks marks.now (looks_of (core_of screen.now))) in
+        PutsText (T.state sink.old) text result (T.state sink.new) }
+{
     let mut digits = Buffer::new();
     let number = digits.format(label).as_bytes();
     let mut lines = Line::new();
-    let mut from = 0u16;
+    let mut from = first.number();
     while let Some(at) = marks.next_from(from) {
         gather_change(sink, &mut lines, number, at, screen)?;
         from = at.number() + 1;

@@ -4,7 +4,7 @@ use Rattle.cept_profile.specs.Look.{looks_of}
 use Rattle.cept_profile.specs.State.{core_of}
 use Rattle.cept_report.specs.Gathered.{GainsFront}
 use Rattle.cept_report.specs.Text.{change_lines}
-use Rattle.cept_report.proofs.put.put_changes.Given as goal
+use Rattle.cept_report.proofs.put.put_changes_from.Given as goal
 
 abbrev pub invariant-loop-at : goal.invariant-loop-at
 invariant-loop-at g l = record {
