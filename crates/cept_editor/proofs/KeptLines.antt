@@ -1,4 +1,5 @@
 -- Lines that were read one after the other.
+use Rattle.std.proofs.Common.{rules}
 use Rattle.std.proofs.Common.{◌≡◌, ℕ, ◌+◌, ◌-◌, ◌<◌, ◌≤◌, ◌^◌, List, [], ◌∷◌, ◌++◌, map, length}
 use Rattle.std.proofs.Common.{zero, suc, take, drop, slice_index_or, Option, Some, None, Result, Ok, Err, Bor, refl, sym, ap, ◌∙◌, subst, arith}
 use Rattle.std.specs.List.{slice_split, AllByRecursion}
@@ -177,11 +178,7 @@ read_none bytes ps e =
 pub read_all : (bytes : List ℕ) (ps : List OrderLine) (n : ℕ) (left : List ℕ) → HasRead bytes ps n left
     → length left ≡ 0 → length bytes ≤ 2 ^ 20 → HasOrders bytes ps
 unfolding edits_from fault_from
-read_all bytes ps n [] r e few = record {
-  edits = r.edits ∙ append-nil (map (edit_at bytes) ps);
-  fault = r.fault;
-  places = record { few = few; count = omega (arith, r.count, r.number); each = r.places };
-}
+read_all bytes ps n [] r e few = search rules
 read_all bytes ps n (a ∷ left) r e few = absurd (omega arith)
 
 fault_said : (m : Result (Option Step) LineReason) (n : ℕ) (first later : Option Fault) (fault : ScriptFault)

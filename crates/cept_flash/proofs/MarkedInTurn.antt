@@ -1,10 +1,8 @@
 -- Places marked one after the other, in reading order.
-use Rattle.std.proofs.Common.{◌≡◌, ◌≢◌, ℕ, ◌+◌, ◌<◌, ◌≤◌, Bool, true, false, List, length, map, set, sym, ap, ◌∙◌}
+use Rattle.std.proofs.Common.{◌≡◌, ◌≢◌, ℕ, ◌+◌, ◌<◌, ◌≤◌, Bool, true, false, List, length, set, sym, ap, ◌∙◌}
 use Rattle.std.proofs.Common.{inl, inr, arith}
-use Rattle.std.specs.List.{range_with_len}
 use Rattle.std.proofs.lemmas.Bool.{cases_eq, cases_lt}
 use Rattle.std.proofs.lemmas.List.{get_or_past, get_or-replicate, get_or-set_other, get_or-set_same, length-replicate, length-set}
-use Rattle.std.proofs.lemmas.List.FromFn.{fill_by_all}
 use Rattle.cept_repaint.specs.Marks.{is_marked, no_marks}
 
 -- of the places with numbers below n those are marked of which the test holds, and no others
@@ -62,8 +60,3 @@ AreMarkedBelow-left {test} {marks} n was fails = record {
   ];
   left = λ m high. was.left m (omega (arith, high));
 }
-
-pub AreMarkedBelow-all : {test : ℕ → Bool} {marks : List Bool} (n : ℕ) → AreMarkedBelow test marks n → 960 ≤ n
-    → marks ≡ map test (range_with_len 0 960)
-AreMarkedBelow-all {test} {marks} n was high =
-    fill_by_all test marks 960 false was.places (λ m below. was.made m (omega (arith, high, below)) below)

@@ -47,7 +47,7 @@ module _ (k : Core) (f : ℕ → ℕ → Bool) where
       let same : ltb (number r c) (n + 1) ≡ ltb (number r c) n = grind (arith, nat_tests) in
       ap (λ (t : Bool). cell_by r c (t && is_written_anew k f r c)) same
 
-  -- whether a cell is written hangs on the rows of the format and on the cell itself
+  -- whether a cell is written depends on the rows of the format and on the cell itself
   pub written_by : (r c rows : ℕ) (cell : Cell) → rows ≡ k.rows → cell ≡ cell_in_core k r c
       → (leb r rows && not cell.protected && not (value_of cell.what == value_of_points f r c))
       ≡ is_written_anew k f r c

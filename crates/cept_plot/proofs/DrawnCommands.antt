@@ -1,4 +1,4 @@
--- The commands of a drawing: each is valid, and they hang on the points of the field alone.
+-- The commands of a drawing: each is valid, and they depend on the points of the field alone.
 use Rattle.std.proofs.Common.{◌≡◌, ℕ, ◌+◌, ◌-◌, ◌*◌, ◌/◌, ◌%◌, ◌<◌, ◌≤◌, ◌==◌, ◌&&◌, not, nat_le, nat_lt, Bool, true, false, cond}
 use Rattle.std.proofs.Common.{zero, suc, List, [], ◌∷◌, ◌++◌, refl, ap, inl, arith}
 use Rattle.std.specs.List.{flat_map, range_with_len}
@@ -103,7 +103,7 @@ module _ (k : Core) (f g : ℕ → ℕ → Bool) (same : (x y : ℕ) → OnField
   drawn_same =
       ap (λ (l : List Command). opening ++ (l ++ commands.Implicit k.implicit ∷ [])) (cells_same 0 960 (omega arith))
 
--- ---- what figures leave of a point hangs on that point alone
+-- ---- what figures leave of a point depends on that point alone
 
 pub point_after : (f g : ℕ → ℕ → Bool) (figures : List Figure) (x y : ℕ) → f x y ≡ g x y
     → points_after_all f figures x y ≡ points_after_all g figures x y

@@ -1,7 +1,6 @@
 -- Figures drawn one after the other.
-use Rattle.std.proofs.Common.{◌≡◌, ℕ, ◌+◌, ◌<◌, ◌≤◌, suc, Bool, List, [], ◌∷◌, drop, get_or, length, if◌then◌else◌}
+use Rattle.std.proofs.Common.{◌≡◌, ℕ, ◌+◌, ◌<◌, suc, Bool, List, [], ◌∷◌, drop, get_or, length, if◌then◌else◌}
 use Rattle.std.proofs.Common.{sym, ap, ◌∙◌, arith}
-use Rattle.std.proofs.Math.ListN.{drop_of_length-le}
 use Rattle.std.proofs.Math.Seq.{drop-cons}
 use Rattle.cept_plot.specs.declared.figure.Figure.{Figure}
 use Rattle.cept_plot.specs.Drawings.{points_after_all}
@@ -9,7 +8,7 @@ use Rattle.cept_plot.specs.Figures.{adds, is_of_figure, points_after}
 use Rattle.cept_plot.specs.Lit.{is_lit}
 use Rattle.cept_plot.specs.Points.{OnField}
 
--- a point after figures hangs on that point before them alone
+-- a point after figures depends on that point before them alone
 pub same_before : (was now : ℕ → ℕ → Bool) (list : List Figure) (x y : ℕ) → was x y ≡ now x y
     → points_after_all was list x y ≡ points_after_all now list x y
 same_before was now [] x y e = e
@@ -34,8 +33,3 @@ AreLeft-more start now next list items i d left same below drawn x y on =
     same_before (is_lit next) (points_after (is_lit now) (get_or list i d)) (drop (i + 1) list) x y
     (drawn x y on ∙ ap (λ (l : List Figure). points_after (is_lit now) (get_or l i d) x y) same)
     ∙ sym (ap (λ (fs : List Figure). points_after_all (is_lit now) fs x y) cut) ∙ left x y on
-
-pub AreLeft-none : (start now : List ℕ) (list : List Figure) (i : ℕ) → AreLeft start now list i → length list ≤ i
-    → (x y : ℕ) → OnField x y → is_lit now x y ≡ points_after_all (is_lit start) list x y
-AreLeft-none start now list i left past x y on =
-    sym (ap (λ (fs : List Figure). points_after_all (is_lit now) fs x y) (drop_of_length-le list past)) ∙ left x y on

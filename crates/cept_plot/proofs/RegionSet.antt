@@ -9,11 +9,6 @@ pub IsSet-same : (was now : List ℕ) (lit : Bool) (f g : ℕ → ℕ → Bool) 
 IsSet-same was now lit f g set same x y on =
     set x y on ∙ ap (λ t. if t then lit else is_lit was x y) (same x y on)
 
--- no point
-pub IsSet-none : (was : List ℕ) (lit : Bool) (f : ℕ → ℕ → Bool)
-    → ((x y : ℕ) → OnField x y → f x y ≡ false) → IsSet was was lit f
-IsSet-none was lit f none x y on = sym (ap (λ t. if t then lit else is_lit was x y) (none x y on))
-
 -- the points of one test and then those of another
 pub IsSet-more : (was mid now : List ℕ) (lit : Bool) (f g h : ℕ → ℕ → Bool) → IsSet was mid lit f
     → IsSet mid now lit g → ((x y : ℕ) → OnField x y → h x y ≡ (f x y || g x y)) → IsSet was now lit h

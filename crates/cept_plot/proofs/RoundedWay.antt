@@ -17,15 +17,6 @@ pub share_down : (m i a b : ℕ) → b ≤ a
     → 2 * ((m + 1) * a + i * b) ≡ 2 * (m * a + (i + 1) * b) + 2 * (a - b)
 share_down m i a b down = omega arith
 
--- shares of n are no more than n times the greater, and no less than n times the lesser
-pub share_most : (m i n a b : ℕ) → m + i ≡ n → a ≤ b → m * a + i * b ≤ n * b
-share_most m i n a b e up =
-    omega (arith, mul-le m a m b (omega arith) up, ap (λ k. k * b) e)
-
-pub share_least : (m i n a b : ℕ) → m + i ≡ n → b ≤ a → n * b ≤ m * a + i * b
-share_least m i n a b e down =
-    omega (arith, mul-le m b m a (omega arith) down, ap (λ k. k * b) e)
-
 -- at the start
 pub IsUnderWay-start : (c : Coordinate) (a b n : ℕ) → c.at ≡ a → c.rest ≡ n → 0 < n → IsUnderWay c a b n 0
 IsUnderWay-start c a b n at rest some = record {
@@ -73,23 +64,6 @@ IsUnderWay-next c d s a b n i slope way below up down rest = record {
         let now = ap (λ k. k * d.at) slope.whole in
         let was = ap (λ k. k * c.at) slope.whole in
         omega (arith, part, step, here, goes, now, was, way.sum)
-
--- there is room for a step up below the greater end, and for a step down above 0
-pub room_above : (c : Coordinate) (s : Slope) (a b n i : ℕ) → IsSlope s a b n → IsUnderWay c a b n i → i < n
-    → s.rises ≡ true → s.whole ≤ c.rest + s.part → c.at < b
-room_above c s a b n i slope way below rises over =
-    let le : a ≤ b = leb-true a b (sym slope.rises ∙ rises) in
-    let part : s.part ≡ 2 * (b - a) = omega (arith, slope.part, le) in
-    let shares : (n - (i + 1)) + 1 ≡ n - i = omega (arith, below) in
-    let step = share_up (n - (i + 1)) i a b le in
-    let here = ap (λ k. 2 * (k * a + i * b)) shares in
-    let most = share_most (n - (i + 1)) (i + 1) n a b (omega (arith, below)) le in
-    elim (cases_lt c.at b) [
-      | inl up ↦ up
-      | inr past ↦
-          let high = mul-le n b n c.at (omega arith) past in
-          absurd (omega (arith, part, step, here, most, way.sum, over, slope.whole, high, below))
-    ]
 
 pub room_below : (c : Coordinate) (s : Slope) (a b n i : ℕ) → IsSlope s a b n → IsUnderWay c a b n i → i < n
     → s.rises ≡ false → c.rest < s.part → 0 < c.at

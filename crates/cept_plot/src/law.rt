@@ -15,8 +15,8 @@ pub fn a_set_of_points_is_drawn()
         → IsDrawnOn (core_of s) f (core_of (state_after_all s (drawn (core_of s) f))) }
 {}
 
-/// The commands that draw a set of points are valid, and hang on its points on the field alone; and
-/// what figures leave of a point hangs on that point alone.
+/// The commands that draw a set of points are valid, and depend on its points on the field alone; and
+/// what figures leave of a point depends on that point alone.
 pub fn the_points_of_the_field_decide()
     ensures valid { (k : Core) (f : ℕ → ℕ → Bool) → AllValid (drawn k f) }
     ensures same { (k : Core) (f g : ℕ → ℕ → Bool)

@@ -21,9 +21,6 @@ use Rattle.cept_run.proofs.PaintedItems.{AreChained, chained-append, item_events
 
 -- ---- kept edits
 
-step_of : EditLine → Step
-step_of line = line.step
-
 pub kept_of-none : kept_of [] ≡ none_kept
 kept_of-none = kept-none
 

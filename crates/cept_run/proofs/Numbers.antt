@@ -9,9 +9,6 @@ use Rattle.std.specs.Result.{result_ok}
 use Rattle.std.specs.Str.Parse.{AllDigits, digits_value, without_leading_plus, ParsesUnsigned}
 use Rattle.cept_run.specs.Words.{number_of}
 
-small_digit : (c : ℕ) → digit_value c < 10 → is_ascii_digit c ≡ true
-small_digit c e = grind (arith, nat_tests)
-
 digit_small : (c : ℕ) → is_ascii_digit c ≡ true → digit_value c < 10
 digit_small c e = grind (arith, nat_tests)
 
@@ -23,10 +20,6 @@ all_digits [] e = tt
 all_digits (c ∷ cs) e =
     let parts = and_parts (is_ascii_digit c) (list_all is_ascii_digit cs) e in
     (digit_small c parts.0, all_digits cs parts.1)
-
-digits_only : (cs : List ℕ) → AllDigits 10 cs → list_all is_ascii_digit cs ≡ true
-digits_only [] all = refl
-digits_only (c ∷ cs) all = and_from _ _ (small_digit c all.0) (digits_only cs all.1)
 
 -- digits begin with no sign
 plain : (cs : List ℕ) → list_all is_ascii_digit cs ≡ true → without_leading_plus cs ≡ cs

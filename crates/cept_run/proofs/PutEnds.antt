@@ -1,17 +1,8 @@
 -- The text at the end, put and flushed.
-use Rattle.std.proofs.Common.{inl, inr, List, ℕ, Ok, Err, ◌∙◌, subst, arith}
+use Rattle.std.proofs.Common.{inr, List, ℕ, Ok, Err, ◌∙◌, subst, arith}
 use Rattle.cept_outside.specs.Causes.{Rose, HasCause}
 use Rattle.cept_outside.specs.SinkState.{SinkState, PutsText, Flushes}
 use Rattle.cept_run.specs.Outside.{PutsWhole, PutsUnflushed}
-
--- it wasn't put whole
-pub put_cut_off : {X E : Type 0} {f : E} (text : List ℕ) (before after : SinkState)
-    → PutsText {X = X} before text (Err f) after → PutsUnflushed text before after
-put_cut_off text before after puts = record {
-  cause = puts.cause.failed;
-  later = puts.cause.later;
-  put = inl puts.part;
-}
 
 module _ {X E Y F : Type 0} {x : X} (text : List ℕ) (before mid after : SinkState)
     (puts : PutsText {X = X} {E = E} before text (Ok x) mid) where

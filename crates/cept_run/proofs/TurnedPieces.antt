@@ -161,10 +161,6 @@ fault_since start mid after stays = subst (λ n. Rose n after) stays
 pub later_since : (start mid after : ℕ) → mid ≡ start → mid ≤ after → start ≤ after
 later_since start mid after stays l = omega arith
 
--- no text
-pub none_put : (start now : SinkState) (text whole : List ℕ) → Gains start text now → whole ≡ text ++ [] → Gains start whole now
-none_put start now text whole put is = subst (λ (t : List ℕ). Gains start t now) (sym (is ∙ append-nil text)) put
-
 -- the page can end, or not
 pub can_end : (left can : Bool) → left ≡ not can → left ≡ false → can ≡ true
 can_end left true e f = refl

@@ -5,7 +5,6 @@ use Rattle.std.proofs.Common.{length}
 use Rattle.std.proofs.lemmas.Option.{none-some, same_Some}
 use Rattle.cept_outside.specs.Causes.{Rose}
 use Rattle.cept_outside.specs.ShelfState.{ShelfState, Holds, KeepsFiles, IsSound}
-use Rattle.cept_outside.proofs.Laws.{HasPut-nothing, append_known-nil}
 use Rattle.cept_run.specs.declared.page.Stop.{Stop}
 use Rattle.cept_run.specs.declared.page.Stop.TheVariants as stops
 use Rattle.cept_run.specs.declared.run.Status.{Status}
@@ -216,38 +215,3 @@ ended words before after status P other runs by = by_request (request_of words) 
     by_request (Some request) is = by (course_of request) (runs.request request is).ends
 
 -- ---- there is no memory
-
--- the shelf isn't touched
-shelf_untouched : (course : Course) (page : Source) (shelf : ShelfState)
-    → TouchesShelf course page shelf shelf statuses.NoMemory
-shelf_untouched course (File name) shelf = record {
-  script_first = λ stopper. (refl, λ touched. cc);
-  missed = λ there scripts. refl;
-  selects = λ touched. cc;
-  files = record { files = refl; tells_selected = refl; tells_left = refl };
-  faults = omega arith;
-}
-shelf_untouched course (Given own) shelf = refl
-
--- for a screen or an editor; nothing was touched
-pub runs_without_memory : (course : Course) (before : Outside) → course.painting ≡ true
-    → RunsCourse course before before statuses.NoMemory
-runs_without_memory course before painting = record {
-  ends = record {
-    memory = painting;
-    unput = refl;
-    unpainted = refl;
-    untouched = λ own e. refl;
-    early = inl refl;
-    shelf_stays = refl;
-  };
-  shelf = shelf_untouched course course.page before.shelf;
-  bad_script = λ name script fault named given found. record {
-    unpainted = refl;
-    size = 0;
-    put = append_known-nil before.sink.bytes;
-  };
-  unpainted = λ idle. refl;
-  unflushed = λ early. HasPut-nothing before.sink;
-  sink_faults = omega arith;
-}

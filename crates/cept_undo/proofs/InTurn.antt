@@ -1,9 +1,9 @@
 -- States that are unwound in turn, and what becomes of them where the screen turns to the nearest.
 use Rattle.std.proofs.Common.{◌≡◌, ℕ, ◌≤◌, ◌+◌, zero, suc, Some, None, List, [], ◌∷◌, take, drop, length}
-use Rattle.std.proofs.Common.{refl, sym, ap, subst, ◌∙◌, ◌==◌, true, arith}
+use Rattle.std.proofs.Common.{refl, sym, ap, subst, ◌∙◌, arith}
 use Rattle.std.specs.List.{AllByRecursion}
 use Rattle.std.specs.Prelude.{is_some, slice_get}
-use Rattle.std.proofs.lemmas.Bool.{true≢false, eqb-true}
+use Rattle.std.proofs.lemmas.Bool.{true≢false}
 use Rattle.std.proofs.lemmas.List.{take_all}
 use Rattle.cept_profile.specs.OldValues.{OldValues, unwound}
 use Rattle.cept_profile.specs.State.{State}
@@ -39,10 +39,6 @@ none_in_turn now [] none = refl
 none_in_turn now (old ∷ older) none = absurd cc
 
 -- ---- the first of a list
-
-pub none_by_length : {X : Type 0} (xs : List X) → (length xs == 0) ≡ true → xs ≡ []
-none_by_length [] none = refl
-none_by_length (x ∷ xs) none = absurd (omega (arith, eqb-true (length (x ∷ xs)) 0 none))
 
 pub first_and_rest : (olds : List OldValues) (old : OldValues) → Some old ≡ slice_get olds 0 → olds ≡ old ∷ drop 1 olds
 first_and_rest [] old first = absurd (true≢false (ap is_some first))

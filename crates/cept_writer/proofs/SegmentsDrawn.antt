@@ -552,7 +552,7 @@ written_puts cells n =
 
 -- ---- any segment
 
--- what `==` answers on what a segment hangs on
+-- what `==` answers on what a segment depends on
 pub record Decides : Type 0 where
   pub set : (a b : SetId) → IsTrue (same_set a b) ↔ (a ≡ b)
   pub glyph : (a b : Glyph) → IsTrue (same_glyph a b) ↔ (a ≡ b)

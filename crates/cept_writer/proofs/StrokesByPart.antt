@@ -1,4 +1,4 @@
--- Strokes by the part of the page that they change: what a part keeps hangs on its own strokes alone, and where it is
+-- Strokes by the part of the page that they change: what a part keeps depends on its own strokes alone, and where it is
 -- kept by numbers, on those of one number.
 use Rattle.std.proofs.Common.{◌≡◌, ℕ, zero, suc, ◌+◌, ◌≤◌, ◌<◌, List, [], ◌∷◌, ◌++◌, flat_map, reverse, refl, sym, ap, ◌∙◌}
 use Rattle.std.proofs.Common.{append_assoc, inl, inr, arith}
@@ -146,7 +146,7 @@ module _ {X : Type 0} (step : Stroke → X → X) (own : Kind) (left : IsKeptByO
   past_cells : (Cells ≡ own → ⊥) → KeepsValue step p.cells
   past_cells apart = of_other Cells apart (λ e. absurd cc) (λ e. absurd cc) p.cells p.all_cells
 
--- each part hangs on its own strokes
+-- each part depends on its own strokes
 module _ {X : Type 0} (step : Stroke → X → X) (p : Pieces) (x : X) where
   pub of_colours : IsKeptByOthers step Colours → value_after step x (strokes_together p) ≡ value_after step x p.colours
   of_colours left =

@@ -1,5 +1,5 @@
 -- The commands of a written page (own): after a reset, the revision of the rules and the format what differs from the page
--- of the start, part by part. They hang on the core alone.
+-- of the start, part by part. They depend on the core alone.
 use Rattle.std.specs.Prelude.{ℕ, Bool, true, false, ◌&&◌, Option, Some, None, List, [], ◌∷◌, ◌++◌, flat_map, ◌==◌}
 use Rattle.std.specs.Prelude.{if◌then◌else◌}
 use Rattle.std.specs.List.{range_with_len}
