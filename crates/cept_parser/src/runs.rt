@@ -130,6 +130,18 @@ fn first_of_units(context: &mut Context, byte: u8, said: &mut Said) -> Fit
     }
 }
 
+/// Says that this graphic byte was read.
+// Most come after another: where one is said already, its byte alone is written, and not a whole large value.
+#[inline(always)]
+fn say_graphic(byte: u8, said: &mut Said)
+    ensures { said.new ≡ Said.Command (Command.Graphic byte) }
+{
+    match said {
+        Said::Command(Command::Graphic(known)) => *known = byte,
+        _ => *said = Said::Command(Command::Graphic(byte)),
+    }
+}
+
 /// How a plain byte stands to the mode with which a unit begins.
 #[inline(always)]
 pub fn first_of_run(context: &mut Context, byte: u8, said: &mut Said) -> Fit
@@ -139,7 +151,7 @@ pub fn first_of_run(context: &mut Context, byte: u8, said: &mut Said) -> Fit
 {
     match context.mode {
         Mode::Text => {
-            *said = Said::Command(Command::Graphic(byte));
+            say_graphic(byte, said);
             Fit::Whole
         }
         _ => first_of_units(context, byte, said),
