@@ -67,7 +67,7 @@ look-alone p m r c valid on alone =
 -- ---- one cell put in a row that stands alone before and after
 
 -- a cell that is put changes no other cell
-cell_elsewhere : (p : Page) (place : Place) (cell : Cell) (r c : ℕ) → OnScreen r c → is_at place r c ≡ false
+pub cell_elsewhere : (p : Page) (place : Place) (cell : Cell) (r c : ℕ) → OnScreen r c → is_at place r c ≡ false
     → value_at blank_cell (cells_after p.cells (strokes.Put place cell)) r c ≡ value_at blank_cell p.cells r c
 cell_elsewhere p place cell r c on other =
     let was : Cell = value_at blank_cell p.cells r c in

@@ -49,6 +49,16 @@ row_beneath-at above p r last c low high =
     (look_in_row (definitions_of p) (contents_in p r) (row_pen_in p.row_pens r) p.screen_pen)
     (size_in_row (contents_in p r) (row_pen_in p.row_pens r) p.screen_pen) last) c low high
 
+-- and left of the first column
+pub row_beneath-from : (above : List Look) (p : Page) (r : ℕ) (last : Bool) (c : ℕ) → c ≤ 40
+    → column_entry blank_look (row_beneath above p r last) c
+    ≡ look_from (column_entry blank_look above)
+    (look_in_row (definitions_of p) (contents_in p r) (row_pen_in p.row_pens r) p.screen_pen)
+    (size_in_row (contents_in p r) (row_pen_in p.row_pens r) p.screen_pen) last c
+unfolding look_from
+row_beneath-from above p r last zero high = refl
+row_beneath-from above p r last (suc c) high = row_beneath-at above p r last (suc c) (omega arith) high
+
 -- so where a walk comes to the row, it looks so already
 pub left_is : {flags : List Bool} {rows : List Followed} {k : Core} {was now : List (List Look)} {former marks : List Bool}
     {covered : Bool} {start steps row : ℕ} → WalkedTo flags rows k was now former marks covered start steps row
@@ -81,7 +91,7 @@ ShowsLeft =
     ≡ look_from beside (look_in_row defined g pen screen) (size_in_row g pen screen) last c
 
 -- a look of a row of a core, beneath these
-look_is : (k : Core) (above : List Look) (r c : ℕ) → OnScreen r c → above ≡ looks_in (looks_of k) (r - 1)
+pub look_is : (k : Core) (above : List Look) (r c : ℕ) → OnScreen r c → above ≡ looks_in (looks_of k) (r - 1)
     → look k r c
     ≡ look_from (column_entry blank_look above)
     (look_in_row (definitions_of k.page) (contents_in k.page r) (row_pen_in k.page.row_pens r) k.page.screen_pen)

@@ -36,6 +36,8 @@ pub mod TurnedLooks
 pub mod Unmarked
 pub mod ValidGrids
 pub mod WalkedRows
+pub mod WalkedDown
+pub mod BesideOfColumns
 mod Unchanged
 pub mod UnwoundStates
 pub mod UnwoundRows

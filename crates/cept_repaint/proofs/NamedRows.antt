@@ -157,6 +157,23 @@ pub grouped : (a b d : Bool) → ((a && b) && d) ≡ (a && (b && d))
 grouped true b d = refl
 grouped false b d = refl
 
+-- one that is named as foreground or background is named
+pub named_plainly : (a b f : Bool) → a ≡ true → true ≡ ((a || b) || f)
+named_plainly true b f named = refl
+named_plainly false b f named = cc
+
+-- of any other it is asked whether it is an ink of the DCLUT where a pattern has two planes
+pub inks_asked : (a b i f : Bool) → a ≡ false → b ≡ true → (i || f) ≡ ((a || (b && i)) || f)
+inks_asked true b i f none two = cc
+inks_asked false false i f none two = cc
+inks_asked false true i f none two = refl
+
+-- and where none has, not
+pub inks_unasked : (a b i f : Bool) → a ≡ false → b ≡ false → f ≡ ((a || (b && i)) || f)
+inks_unasked true b i f none other = cc
+inks_unasked false true i f none other = cc
+inks_unasked false false i f none other = refl
+
 two_planes : (o : Option Pattern) → has_planes 2 o ≡ shows_two_planes o
 two_planes None = refl
 two_planes (Some pattern) = refl

@@ -1,6 +1,6 @@
 -- Rows that are due to be resolved after strokes (this project's own): those that are altered of themselves, and those
 -- that are covered from above otherwise than before. Private clauses alone cite this file.
-use Rattle.std.specs.Prelude.{ℕ, ◌+◌, ◌≡◌, ◌<◌, ◌||◌, Bool, true, false, not, List, [], Option, Some, None}
+use Rattle.std.specs.Prelude.{ℕ, ◌+◌, ◌-◌, ◌≡◌, ◌<◌, ◌≤◌, ◌||◌, Bool, true, false, not, List, [], Option, Some, None}
 use Rattle.std.specs.List.{count_by, list_any, range_with_len}
 use Rattle.cept_codes.specs.declared.look.Look.{Look}
 use Rattle.cept_codes.specs.declared.stroke.Stroke.{Stroke}
@@ -14,8 +14,9 @@ use Rattle.cept_profile.specs.Look.{look, looks_of}
 use Rattle.cept_profile.specs.MovedRows.{moved_rows, row_before}
 use Rattle.cept_profile.specs.PageParts.{row_pen_in}
 use Rattle.cept_profile.specs.Reach.{is_written, just_one, writes}
-use Rattle.cept_profile.specs.RowsFromAbove.{is_covered_otherwise}
+use Rattle.cept_profile.specs.RowsFromAbove.{is_covered_otherwise, look_seen}
 use Rattle.cept_profile.specs.State.{Core, Page}
+use Rattle.cept_rows.specs.RowsByCell.{IsCoveredAlike}
 use Rattle.cept_repaint.specs.declared.followed_rows.Followed.{Followed}
 use Rattle.cept_repaint.specs.declared.page.Pens.{Pens}
 use Rattle.cept_repaint.specs.Resolved.{defines}
@@ -94,6 +95,18 @@ rows_due flags rows was now = count_by (is_due flags rows was now) (range_with_l
 abbrev pub LeftStays : ℕ → ℕ → List (List Look) → Core → Type 0
 LeftStays first from was k =
     (r c : ℕ) → OnScreen r c → c + r < from + first → value_at blank_look was r c ≡ look k r c
+
+-- around column c two grids have the same looks in row r
+abbrev pub AreSameAround : List (List Look) → List (List Look) → ℕ → ℕ → Type 0
+AreSameAround was now r c = (d : ℕ) → c ≤ d + 1 → d ≤ c + 1 → look_seen was r d ≡ look_seen now r d
+
+-- beneath looks that are as they were a place looks as it did, where its left neighbour covers it as much as before; in
+-- row `first` to the right of this column
+abbrev pub FollowsBeside : ℕ → ℕ → List (List Look) → Core → Type 0
+FollowsBeside first until was k =
+    (r c : ℕ) → OnScreen r c → (r ≡ first → until < c) → AreSameAround was (looks_of k) (r - 1) c
+    → IsCoveredAlike (look_seen was r (c - 1)) (look_seen (looks_of k) r (c - 1))
+    → value_at blank_look was r c ≡ look k r c
 
 -- each row that isn't due looks as the row did of which it came
 abbrev pub OtherRowsStay : List Bool → List Followed → List (List Look) → Core → Type 0

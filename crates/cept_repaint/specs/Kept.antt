@@ -52,6 +52,11 @@ abbrev pub IsLeftOf : ℕ → List Look → List Look → Type 0
 IsLeftOf from looks row =
     (c : ℕ) → 1 ≤ c → c < from → column_entry blank_look looks c ≡ column_entry blank_look row c
 
+-- and to the right of one
+abbrev pub IsRightOf : ℕ → List Look → List Look → Type 0
+IsRightOf until looks row =
+    (c : ℕ) → until < c → c ≤ 40 → column_entry blank_look looks c ≡ column_entry blank_look row c
+
 -- how what stands in a cell of a page looks by itself
 abbrev pub look_alone : Page → Place → Look
 look_alone p place =

@@ -9,7 +9,7 @@ use Rattle.cept_codes.specs.declared.cell.What.{What}
 use Rattle.cept_codes.specs.declared.stroke.Stroke.{Stroke}
 use Rattle.cept_codes.specs.declared.stroke.Stroke.TheVariants as strokes
 use Rattle.cept_codes.specs.Cell.{blank_cell}
-use Rattle.cept_codes.specs.Place.{OnScreen}
+use Rattle.cept_codes.specs.Place.{Place, OnScreen}
 use Rattle.cept_codes.specs.Table.{value_at, entry}
 use Rattle.cept_profile.specs.Cells.{value_after_move}
 use Rattle.cept_profile.specs.Look.{is_double, is_double_set, sets_double_size}
@@ -32,6 +32,12 @@ pub record StandsAlone (p : Page) (r : ℕ) : Type 0 where
   pub unmarked : HasNone is_marker p.cells r
   pub single : IsSingleRow p r
   pub single_above : 1 < r → IsSingleRow p (r - 1)
+
+-- neither a cell that is put in a page nor the one there is a marker, nor is one to the right of it in its row
+pub record IsPutAmongSigns (p : Page) (place : Place) (cell : Cell) : Type 0 where
+  pub put : is_marker cell.what ≡ false
+  pub others : (c : ℕ) → OnScreen place.row c → place.column ≤ c
+      → is_marker (value_at blank_cell p.cells place.row c).what ≡ false
 
 -- a flag for each row, set where this may not be so of it: where the flag is unset it is so
 pub record AreRowFlags (IsSo : ℕ → Type 0) (flags : List Bool) : Type 0 where

@@ -39,19 +39,6 @@ pub(crate) fn only_put(strokes: &[Stroke]) -> Option<PutCell>
     }
 }
 
-/// For each row from the top, whether it is this one.
-pub(crate) fn row_alone(row: u8) -> [bool; 24]
-    requires from_top { 1 ≤ row }
-    requires to_bottom { row ≤ 24 }
-    ensures { result ≡ list_by_index 1 24 (λ r. row == r) }
-{
-    let mut rows = [false; 24];
-    for i in 0..24u8 {
-        rows[usize::from(i)] = row == i + 1;
-    }
-    rows
-}
-
 /// For each row from the top, whether strokes alter it: it was freed, one of them writes in it or
 /// defines something, its attributes or the screen's became others, or it became last or is so no longer. The
 /// page had these attributes and edges before, and has those edges after; the rows are followed.

@@ -1,5 +1,5 @@
-ghost use Rattle.std.specs.Prelude.{◌≡◌, ◌≤◌, false};
-ghost use Rattle.cept_repaint.specs.Kept.{HasMarkedRow, IsLeftOf, is_other_above};
+ghost use Rattle.std.specs.Prelude.{◌≡◌, ◌≤◌, ◌+◌, false};
+ghost use Rattle.cept_repaint.specs.Kept.{HasMarkedRow, IsLeftOf, IsRightOf, is_other_above};
 
 use crate::marks::Marks;
 use cept_rows::{Differences, RowLooks};
@@ -10,13 +10,15 @@ pub(crate) fn mark_differences(row: u8, was: &RowLooks, now: &RowLooks, marks: &
     requires to_bottom { row ≤ 24 }
     ensures { HasMarkedRow was.now now.now row 41 marks.old marks.new }
 {
-    let _found = mark_differences_from(row, 1, was, now, marks);
+    let _found = mark_differences_between(row, 1, 40, was, now, marks);
 }
 
-/// The same where they are known to be the same to the left of a column. Answers how they differ.
-pub(crate) fn mark_differences_from(
+/// The same where they are known to be the same to the left of a column and to the right of another.
+/// Answers how they differ.
+pub(crate) fn mark_differences_between(
     row: u8,
     from: u8,
+    until: u8,
     was: &RowLooks,
     now: &RowLooks,
     marks: &mut Marks,
@@ -24,13 +26,15 @@ pub(crate) fn mark_differences_from(
     requires from_top { 1 ≤ row }
     requires to_bottom { row ≤ 24 }
     requires from_left { 1 ≤ from }
-    requires to_right { from ≤ 40 }
+    requires order { from ≤ until + 1 }
+    requires to_right { until ≤ 40 }
     requires left { IsLeftOf from was.now now.now }
+    requires right { IsRightOf until was.now now.now }
     ensures marked { HasMarkedRow was.now now.now row 41 marks.old marks.new }
     ensures same { result.any ≡ false → was.now ≡ now.now }
     ensures covering { result.covering ≡ is_other_above was.now now.now }
 {
-    let found = was.differences(now, from);
+    let found = was.differences(now, from, until);
     marks.mark_row(row, &found.columns);
     found
 }
@@ -42,5 +46,5 @@ pub(crate) fn covers_otherwise(was: &RowLooks, now: &RowLooks) -> bool
     if was.covers_nothing() & now.covers_nothing() {
         return false;
     }
-    was.differences(now, 1).covering
+    was.differences(now, 1, 40).covering
 }

@@ -8,30 +8,33 @@ ghost use Rattle.cept_codes.specs.Table.{value_at};
 ghost use Rattle.cept_profile.specs.PageParts.{row_pen_in};
 ghost use Rattle.cept_profile.specs.Look.{looks_of};
 ghost use Rattle.cept_profile.specs.OldValues.{page_unwound};
+ghost use Rattle.cept_codes.specs.Look.{blank_look};
 ghost use Rattle.cept_profile.specs.RowsFromAbove.{looks_in};
+ghost use Rattle.cept_profile.specs.Tiling.{column_entry};
 ghost use Rattle.cept_profile.specs.State.{Core, page, page_after};
 ghost use Rattle.cept_profile.specs.Valid.{IsValidPage};
 ghost use Rattle.cept_repaint.specs.Drawn.{IsDrawn};
 ghost use Rattle.cept_repaint.specs.Due.{pens_of};
 ghost use Rattle.cept_repaint.specs.Exchanged.{page_exchanged};
-ghost use Rattle.cept_repaint.specs.Kept.{core_on, row_beneath, IsLeftOf};
-ghost use Rattle.cept_repaint.specs.MarkedRows.{StandsAlone};
+ghost use Rattle.cept_repaint.specs.Kept.{core_on, row_beneath, IsLeftOf, IsRightOf};
+ghost use Rattle.cept_repaint.specs.MarkedRows.{IsPutAmongSigns, StandsAlone};
 ghost use Rattle.cept_repaint.specs.Named.{names_beneath};
 ghost use Rattle.cept_repaint.specs.Noter.{page_behind};
 ghost use Rattle.cept_rows.specs.KeptNames.{names_kept};
+ghost use Rattle.cept_rows.specs.RowsByCell.{FollowsToTheRight};
 
 use crate::delta::Delta;
 use crate::flags_anew::flag_unwound;
 use crate::noter::Noter;
 use crate::page_parts::{set_colours, set_patterns, set_row_pens, set_screen_pen};
-use crate::row_flags::{flag_put, flag_rows, is_unflagged};
+use crate::row_flags::{flag_put, flag_rows, has_marker_from, is_marker, is_unflagged};
 use crate::unwinding::unwind_page;
 use cept_cells::Grid;
 use cept_codes::{Cell, NoMemory, Pen, Pos, Stroke, What};
 use cept_colours::Colours;
 use cept_drcs::Patterns;
 use cept_outside::Steps;
-use cept_rows::{RowLooks, RowNames, name_cells, resolve_cells, resolve_cells_from};
+use cept_rows::{RowLooks, RowNames, name_cells, resolve_cells, resolve_cells_between};
 use std::alloc::Global;
 use std::marker::Model;
 use std::sync::ledger::Ledger;
@@ -200,29 +203,38 @@ impl Page {
         );
     }
 
-    /// The same, where to the left of this column the row looks so already.
-    pub(crate) fn resolve_row_from<L: Ledger>(
+    /// The same, where to the left of a column the row looks so already, and to the right of another
+    /// each place that follows one which does, or which covers nothing to its right before and after.
+    /// Answers a column to whose right all looks stay as they are.
+    pub(crate) fn resolve_row_between<L: Ledger>(
         &self,
         row: u8,
         from: u8,
+        until: u8,
         above: &RowLooks,
         last: bool,
         looks: &mut RowLooks,
         steps: &mut Steps<L>,
-    )
+    ) -> u8
         requires from_top { 1 ≤ row }
         requires to_bottom { row ≤ 24 }
         requires from_left { 1 ≤ from }
         requires to_right { from ≤ 40 }
         requires valid { IsValidPage self.now }
         requires left { IsLeftOf from looks.old (row_beneath above.now self.now row last) }
+        requires right { FollowsToTheRight until (column_entry blank_look looks.old)
+            (column_entry blank_look (row_beneath above.now self.now row last)) }
         ensures looks { looks.new ≡ row_beneath above.now self.now row last }
+        ensures order { from ≤ result + 1 }
+        ensures to_right { result ≤ 40 }
+        ensures stays { IsRightOf result looks.old looks.new }
         ensures tick { steps.new ≡ steps.old + 1 }
     {
         let cells = self.grid.cells(row);
         let pen = self.row_pen(row);
-        resolve_cells_from(
+        resolve_cells_between(
             from,
+            until,
             cells,
             pen,
             &self.screen_pen,
@@ -232,7 +244,7 @@ impl Page {
             &self.patterns,
             looks,
             steps,
-        );
+        )
     }
 
     /// What a row names, by its looks, beneath a row of which this is kept.
@@ -276,6 +288,22 @@ impl Page {
         let _ = self.grid.put(place, *cell);
         flag_put(place, cell, &mut self.marked, &mut self.sized);
         is_unflagged(place.row(), &self.marked, &self.sized)
+    }
+
+    /// Whether neither this cell nor the one there is known to be a marker, nor one to the right of it: then
+    /// no other cell looks otherwise by itself where it is put.
+    #[inline(always)]
+    pub(crate) fn puts_among_signs(&self, place: Pos, cell: &Cell) -> bool
+        ensures { result ≡ true → IsPutAmongSigns self.now place cell.now }
+    {
+        let row = place.row();
+        if is_marker(&cell.what) {
+            return false;
+        }
+        if self.marked[usize::from(row) - 1] {
+            return !has_marker_from(self.grid.cells(row), place.col());
+        }
+        true
     }
 
     /// Changes the page as a stroke does, and notes what it changes.

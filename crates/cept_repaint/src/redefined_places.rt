@@ -61,7 +61,7 @@ pub(crate) fn refresh_redefined<L: Ledger>(
         if alone {
             refresh_places(page, row, strokes, names.row(row), kept, marks, steps);
         } else if flag | covered {
-            covered = refresh_row(page, row, 1, edges.is_last(row), kept, fresh, marks, steps);
+            covered = refresh_row(page, row, edges.is_last(row), kept, fresh, marks, steps);
         }
     }
 }

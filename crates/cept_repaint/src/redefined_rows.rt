@@ -87,13 +87,19 @@ fn redefines(stroke: &Stroke, names: &RowNames, looks: &RowLooks, colours: &Colo
 }
 
 /// Whether a row names a colour entry: as a foreground, as a background, or as an ink of a pattern.
+// Few rows show patterns: the DCLUT is asked only where one has two planes.
 fn names_entry(entry: u8, names: &RowNames, looks: &RowLooks, colours: &Colours) -> bool
     ensures { (k : Core) (r : ℕ) → IsNamedRow k r names.now looks.now colours.now.dclut
         → result ≡ names_entry k r entry }
 {
-    let two = looks.shows_planes(2) & is_ink(entry, colours);
+    if names.has_entry(entry) {
+        return true;
+    }
     let four = looks.shows_planes(4) & (16 <= entry) & (entry < 32);
-    names.has_entry(entry) | two | four
+    if looks.shows_planes(2) {
+        return is_ink(entry, colours) | four;
+    }
+    four
 }
 
 /// Whether an entry of the DCLUT names this colour entry.

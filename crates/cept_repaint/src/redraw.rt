@@ -18,6 +18,7 @@ ghost use Rattle.std.specs.Prelude.{
   ◌<◌,
   slice_set,
   ◌==◌,
+  if◌then◌else◌,
 };
 ghost use Rattle.std.specs.List.{AllByRecursion, list_any, range_with_len};
 ghost use Rattle.cept_codes.specs.declared.cell.Cell.{Cell};
@@ -35,10 +36,10 @@ ghost use Rattle.cept_profile.specs.State.{Core, page_after};
 ghost use Rattle.cept_profile.specs.Tiling.{column_entry};
 ghost use Rattle.cept_profile.specs.Valid.{IsValidPage};
 ghost use Rattle.cept_repaint.specs.Due.{came_from, followed, is_altered, is_due, pens_of, row_from, rows_due};
-ghost use Rattle.cept_repaint.specs.Due.{at_rest, LeftStays, OtherRowsStay};
+ghost use Rattle.cept_repaint.specs.Due.{at_rest, FollowsBeside, LeftStays, OtherRowsStay};
 ghost use Rattle.cept_repaint.specs.Kept.{AreEdges, AreLooksOn, core_on, is_other_above};
 ghost use Rattle.cept_repaint.specs.Kept.{look_alone, looks_differ};
-ghost use Rattle.cept_repaint.specs.Kept.{row_beneath, IsLeftOf};
+ghost use Rattle.cept_repaint.specs.Kept.{row_beneath, IsLeftOf, IsRightOf};
 ghost use Rattle.cept_repaint.specs.Kept.{HasMarkedRow, IsRefreshedRow, OthersStay};
 ghost use Rattle.cept_repaint.specs.MarkedRows.{StandsAlone};
 ghost use Rattle.cept_repaint.specs.Marks.{no_marks};
@@ -46,9 +47,10 @@ ghost use Rattle.cept_repaint.specs.Named.{AreNamedOn, AreRemembered, IsStill};
 ghost use Rattle.cept_repaint.specs.Noter.{page_behind};
 ghost use Rattle.cept_repaint.specs.Renewed.{rows_renewed};
 ghost use Rattle.cept_repaint.specs.Resolved.{one_else, rows_resolved_by};
+ghost use Rattle.cept_rows.specs.RowsByCell.{FollowsToTheRight};
 
-use crate::altered_rows::{only_put, row_alone, rows_altered};
-use crate::compared_rows::mark_differences_from;
+use crate::altered_rows::{only_put, rows_altered};
+use crate::compared_rows::mark_differences_between;
 use crate::followed_rows::{follow_rows, one_else, one_moved};
 use crate::kept_names::KeptNames;
 use crate::kept_rows::KeptRows;
@@ -61,7 +63,7 @@ use crate::redefined_rows::rows_redefined;
 use cept_codes::{Pos, Stroke};
 use cept_control::{Control, Edges};
 use cept_outside::Steps;
-use cept_rows::{RowLooks, rows_show_what_stands_to_the_left};
+use cept_rows::{RowLooks, places_show_what_is_beside_them, rows_show_what_stands_to_the_left};
 use std::sync::ledger::Ledger;
 
 /// Draws the strokes on the page, resolves the rows that they alter or cover otherwise and no others,
@@ -148,14 +150,18 @@ pub(crate) fn redraw_within<N: Noter, L: Ledger>(
         Some(put) => {
             // A law: a cell shows in no place to its left.
             rows_show_what_stands_to_the_left();
+            // Another: a place shows what is beside it.
+            places_show_what_is_beside_them();
+            let among = page.puts_among_signs(put.place, put.cell);
             if page.put(put.place, put.cell, noter) {
                 refresh_place(page, put.place, kept, names, marks, steps);
             } else {
                 let row = put.place.row();
                 let from = put.place.col();
+                let until = last_otherwise(from, among);
                 let edges = control.edges();
                 refresh_put(
-                    page, strokes, row, from, &edges, kept, names, fresh, marks, steps,
+                    page, strokes, row, from, until, &edges, kept, names, fresh, marks, steps,
                 );
             }
         }
@@ -166,6 +172,14 @@ pub(crate) fn redraw_within<N: Noter, L: Ledger>(
             );
         }
     }
+}
+
+/// The last column of a row in which a cell may look otherwise by itself, where one is put in this column,
+/// among signs or not.
+fn last_otherwise(column: u8, among: bool) -> u8
+    ensures { result ≡ (if among then column else 41) }
+{
+    if among { column } else { 41 }
 }
 
 /// The same of any strokes, where nothing is marked yet. The page has these edges.
@@ -298,13 +312,15 @@ fn redraw_defined<N: Noter, L: Ledger>(
 }
 
 /// Resolves a row in which the strokes write, from a column on to whose left it looks as it did, and the
-/// rows that are covered otherwise than before, where no row moved.
+/// rows that are covered otherwise than before, where no row moved. To the right of another column it looks
+/// so already where nothing covers it otherwise.
 #[inline(never)]
 fn refresh_put<L: Ledger>(
     page: &Page,
     strokes: &[Stroke],
     row: u8,
     from: u8,
+    until: u8,
     edges: &Edges,
     kept: &mut KeptRows,
     names: &mut KeptNames,
@@ -322,6 +338,8 @@ fn refresh_put<L: Ledger>(
     requires edges { AreEdges edges.now }
     requires left { (k : Core) → edges_of_core k ≡ edges.now
         → LeftStays row from kept.old (core_on k page.now) }
+    requires beside { (k : Core) → edges_of_core k ≡ edges.now
+        → FollowsBeside row until kept.old (core_on k page.now) }
     requires freed { (r : ℕ) → 1 ≤ r → r ≤ 24 → row_from (list_by_index 1 24 (followed strokes.now)) r ≡ None
         → entry false 1 (list_by_index 1 24 (λ q. row == q)) r ≡ true }
     requires still { (r q : ℕ) → 1 ≤ r → r ≤ 24
@@ -336,9 +354,62 @@ fn refresh_put<L: Ledger>(
     ensures cost { steps.new ≡ steps.old + rows_due (list_by_index 1 24 (λ q. row == q))
         (list_by_index 1 24 (followed strokes.now)) kept.old kept.new }
 {
-    let altered = row_alone(row);
-    refresh_rows_from(page, &altered, row, from, edges, kept, fresh, marks, steps);
+    refresh_down(page, row, from, until, edges, kept, fresh, marks, steps);
     names.forget_marked(row, marks);
+}
+
+/// Resolves a row so, and each row below it as long as it is covered otherwise than before.
+fn refresh_down<L: Ledger>(
+    page: &Page,
+    row: u8,
+    from: u8,
+    until: u8,
+    edges: &Edges,
+    kept: &mut KeptRows,
+    fresh: &mut RowLooks,
+    marks: &mut Marks,
+    steps: &mut Steps<L>,
+)
+    requires from_top { 1 ≤ row }
+    requires to_bottom { row ≤ 24 }
+    requires from_left { 1 ≤ from }
+    requires to_right { from ≤ 40 }
+    requires none { marks.old ≡ no_marks }
+    requires valid { IsValidPage page.now }
+    requires edges { AreEdges edges.now }
+    requires left { (k : Core) → edges_of_core k ≡ edges.now
+        → LeftStays row from kept.old (core_on k page.now) }
+    requires beside { (k : Core) → edges_of_core k ≡ edges.now
+        → FollowsBeside row until kept.old (core_on k page.now) }
+    requires others { (k : Core) → edges_of_core k ≡ edges.now
+        → OtherRowsStay (list_by_index 1 24 (λ q. row == q)) at_rest kept.old (core_on k page.now) }
+    ensures kept { AreLooksOn kept.new page.now edges.now }
+    ensures marks { marks.new ≡ differences kept.old kept.new }
+    ensures cost { steps.new ≡ steps.old + rows_due (list_by_index 1 24 (λ q. row == q)) at_rest kept.old kept.new }
+{
+    kept.whole_by_type();
+    let mut first = from;
+    let mut end = until;
+    for at in row..25u8 {
+        let last = edges.is_last(at);
+        let found = refresh_row_between(page, at, first, end, last, kept, fresh, marks, steps);
+        if !found.covering {
+            return;
+        }
+        first = to_the_left(first);
+        end = found.end + 1;
+    }
+}
+
+/// The column to the left of a column, or the first.
+fn to_the_left(column: u8) -> u8
+    requires from_left { 1 ≤ column }
+    requires to_right { column ≤ 40 }
+    ensures from_left { 1 ≤ result }
+    ensures to_right { result ≤ 40 }
+    ensures less { (c : ℕ) → 1 ≤ c → c < result → c + 1 < column }
+{
+    if column == 1 { 1 } else { column - 1 }
 }
 
 /// Resolves one cell by itself: where all other places have the looks that are kept, so has this.
@@ -416,67 +487,22 @@ pub(crate) fn refresh_rows<L: Ledger>(
     ensures marks { marks.new ≡ differences kept.old kept.new }
     ensures cost { steps.new ≡ steps.old + rows_due flags.now at_rest kept.old kept.new }
 {
-    refresh_rows_from(page, flags, 1, 1, edges, kept, fresh, marks, steps);
-}
-
-/// The same, where to the left of this column row `first` looks as it did, and each row further down
-/// to the left of one column less.
-fn refresh_rows_from<L: Ledger>(
-    page: &Page,
-    flags: &[bool; 24],
-    first: u8,
-    from: u8,
-    edges: &Edges,
-    kept: &mut KeptRows,
-    fresh: &mut RowLooks,
-    marks: &mut Marks,
-    steps: &mut Steps<L>,
-)
-    requires flags { length flags.now ≡ 24 }
-    requires on_screen { first ≤ 24 }
-    requires from_left { 1 ≤ from }
-    requires to_right { from ≤ 40 }
-    requires none { marks.old ≡ no_marks }
-    requires valid { IsValidPage page.now }
-    requires edges { AreEdges edges.now }
-    requires others { (k : Core) → edges_of_core k ≡ edges.now
-        → OtherRowsStay flags.now at_rest kept.old (core_on k page.now) }
-    requires left { (k : Core) → edges_of_core k ≡ edges.now
-        → LeftStays first from kept.old (core_on k page.now) }
-    ensures kept { AreLooksOn kept.new page.now edges.now }
-    ensures marks { marks.new ≡ differences kept.old kept.new }
-    ensures cost { steps.new ≡ steps.old + rows_due flags.now at_rest kept.old kept.new }
-{
     kept.whole_by_type();
     let mut covered = false;
     for row in 1..25u8 {
         let flag = flags[usize::from(row) - 1];
         if flag | covered {
-            let column = first_column(first, from, row);
             let last = edges.is_last(row);
-            covered = refresh_row(page, row, column, last, kept, fresh, marks, steps);
+            covered = refresh_row(page, row, last, kept, fresh, marks, steps);
         }
     }
 }
 
-/// From which column on a row is resolved: row `first` from this one, each further down from one less.
-fn first_column(first: u8, from: u8, row: u8) -> u8
-    requires on_screen { first ≤ 24 }
-    requires to_right { from ≤ 40 }
-    ensures from_left { 1 ≤ result }
-    ensures within { result ≤ 40 }
-    ensures left { (c : ℕ) → 1 ≤ c → c < result → c + row < from + first }
-{
-    (from + first).saturating_sub(row).clamp(1, 40)
-}
-
-/// Resolves a row beneath the looks kept of the row above, from a column on to whose left it looks so
-/// already, keeps its looks, and marks the places at which they differ from those before. Answers whether
-/// what covers the row below differs.
+/// Resolves a row beneath the looks kept of the row above, keeps its looks, and marks the places at which
+/// they differ from those before. Answers whether what covers the row below differs.
 pub(crate) fn refresh_row<L: Ledger>(
     page: &Page,
     row: u8,
-    from: u8,
     last: bool,
     kept: &mut KeptRows,
     fresh: &mut RowLooks,
@@ -485,62 +511,83 @@ pub(crate) fn refresh_row<L: Ledger>(
 ) -> bool
     requires from_top { 1 ≤ row }
     requires to_bottom { row ≤ 24 }
-    requires from_left { 1 ≤ from }
-    requires to_right { from ≤ 40 }
     requires valid { IsValidPage page.now }
-    requires left { IsLeftOf from (looks_in kept.old row)
-        (row_beneath (looks_in kept.old (row - 1)) page.now row last) }
     ensures refreshed { IsRefreshedRow (row_beneath (looks_in kept.old (row - 1)) page.now row last)
         row kept.old kept.new marks.old marks.new }
     ensures covering { result ≡ is_other_above (looks_in kept.old row) (looks_in kept.new row) }
     ensures tick { steps.new ≡ steps.old + 1 }
 {
-    resolve_beneath(page, row, from, last, kept, fresh, steps);
-    take_row(row, from, fresh, kept, marks)
+    page.resolve_row(row, kept.above(row), last, fresh, steps);
+    take_row(row, 1, 40, fresh, kept, marks)
 }
 
-/// Resolves a row so.
-fn resolve_beneath<L: Ledger>(
+/// How a row was refreshed: whether what covers the row below differs, and a column to whose right it looks
+/// as it did.
+#[derive(Clone, Copy)]
+struct Refreshed {
+    covering: bool,
+    end: u8,
+}
+
+/// The same, where to the left of a column the row looks so already, and to the right of another each
+/// place that follows one which does, or which covers nothing to its right before and after.
+fn refresh_row_between<L: Ledger>(
     page: &Page,
     row: u8,
     from: u8,
+    until: u8,
     last: bool,
-    kept: &KeptRows,
+    kept: &mut KeptRows,
     fresh: &mut RowLooks,
+    marks: &mut Marks,
     steps: &mut Steps<L>,
-)
+) -> Refreshed
     requires from_top { 1 ≤ row }
     requires to_bottom { row ≤ 24 }
     requires from_left { 1 ≤ from }
     requires to_right { from ≤ 40 }
     requires valid { IsValidPage page.now }
-    requires left { IsLeftOf from (looks_in kept.now row)
-        (row_beneath (looks_in kept.now (row - 1)) page.now row last) }
-    ensures looks { fresh.new ≡ row_beneath (looks_in kept.now (row - 1)) page.now row last }
+    requires left { IsLeftOf from (looks_in kept.old row)
+        (row_beneath (looks_in kept.old (row - 1)) page.now row last) }
+    requires right { FollowsToTheRight until (column_entry blank_look (looks_in kept.old row))
+        (column_entry blank_look (row_beneath (looks_in kept.old (row - 1)) page.now row last)) }
+    ensures refreshed { IsRefreshedRow (row_beneath (looks_in kept.old (row - 1)) page.now row last)
+        row kept.old kept.new marks.old marks.new }
+    ensures covering { result.covering ≡ is_other_above (looks_in kept.old row) (looks_in kept.new row) }
+    ensures to_right { result.end ≤ 40 }
+    ensures stays { IsRightOf result.end (looks_in kept.old row) (looks_in kept.new row) }
     ensures tick { steps.new ≡ steps.old + 1 }
 {
-    if from == 1 {
-        page.resolve_row(row, kept.above(row), last, fresh, steps);
-    } else {
-        fresh.copy_from(kept.row(row));
-        page.resolve_row_from(row, from, kept.above(row), last, fresh, steps);
-    }
+    fresh.copy_from(kept.row(row));
+    let end = page.resolve_row_between(row, from, until, kept.above(row), last, fresh, steps);
+    let covering = take_row(row, from, end, fresh, kept, marks);
+    Refreshed { covering, end }
 }
 
 /// Keeps these looks of a row, and marks the places at which they differ from those before, which are
-/// the same to the left of this column. Answers whether what covers the row below differs.
-fn take_row(row: u8, from: u8, looks: &RowLooks, kept: &mut KeptRows, marks: &mut Marks) -> bool
+/// the same to the left of a column and to the right of another. Answers whether what covers the row below
+/// differs.
+fn take_row(
+    row: u8,
+    from: u8,
+    until: u8,
+    looks: &RowLooks,
+    kept: &mut KeptRows,
+    marks: &mut Marks,
+) -> bool
     requires from_top { 1 ≤ row }
     requires to_bottom { row ≤ 24 }
     requires from_left { 1 ≤ from }
-    requires to_right { from ≤ 40 }
+    requires order { from ≤ until + 1 }
+    requires to_right { until ≤ 40 }
     requires left { IsLeftOf from (looks_in kept.old row) looks.now }
+    requires right { IsRightOf until (looks_in kept.old row) looks.now }
     ensures refreshed { IsRefreshedRow looks.now row kept.old kept.new marks.old marks.new }
     ensures covering { result ≡ is_other_above (looks_in kept.old row) (looks_in kept.new row) }
 {
     kept.whole_by_type();
     looks.columns_by_type();
-    let found = mark_differences_from(row, from, kept.row(row), looks, marks);
+    let found = mark_differences_between(row, from, until, kept.row(row), looks, marks);
     keep_row(row, looks, found.any, kept);
     found.covering
 }

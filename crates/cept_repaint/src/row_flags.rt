@@ -4,7 +4,7 @@ ghost use Rattle.cept_codes.specs.Command.{IsArea};
 ghost use Rattle.cept_codes.specs.Table.{entry, list_by_index};
 ghost use Rattle.cept_profile.specs.Cells.{shifted};
 ghost use Rattle.cept_profile.specs.Look.{is_double, sets_double_size};
-ghost use Rattle.cept_profile.specs.Serial.{is_marker};
+ghost use Rattle.cept_profile.specs.Serial.{is_marker, row_in};
 ghost use Rattle.cept_repaint.specs.MarkedRows.{
   IsUnflagged,
   flag_after,
@@ -167,6 +167,21 @@ pub(crate) fn is_marker(what: &What) -> bool
         What::Marker(_) => true,
         What::Blank | What::Serial(_) | What::Parallel(_, _) => false,
     }
+}
+
+/// Whether a marker stands in one of the cells of a row from a column on.
+pub(crate) fn has_marker_from(cells: &[Cell; 40], column: u8) -> bool
+    requires from_left { 1 ≤ column }
+    requires columns { length cells.now ≡ 40 }
+    ensures { result ≡ false → (c : ℕ) → column ≤ c → c ≤ 40
+        → is_marker (row_in cells.now c) ≡ false }
+{
+    for c in column..41 {
+        if is_marker(&cells[usize::from(c) - 1].what) {
+            return true;
+        }
+    }
+    false
 }
 
 /// Whether what stands there sets a double size.

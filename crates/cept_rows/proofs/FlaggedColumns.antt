@@ -1,5 +1,5 @@
 -- A row of which the flagged columns are resolved, each by itself, one after the other.
-use Rattle.std.proofs.Common.{◌≡◌, ℕ, ◌+◌, ◌-◌, ◌<◌, ◌≤◌, Bool, true, false, not, cond, List, length, get_or, set}
+use Rattle.std.proofs.Common.{◌≡◌, ℕ, zero, suc, ◌+◌, ◌-◌, ◌<◌, ◌≤◌, Bool, true, false, not, List, length, get_or, set}
 use Rattle.std.proofs.Common.{inl, inr, replicate, sym, ap, subst, ◌∙◌, arith}
 use Rattle.std.proofs.lemmas.Bool.{cases_lt, cond-false, cond-true}
 use Rattle.std.proofs.lemmas.List.{get_or-replicate, length-replicate}
@@ -10,6 +10,7 @@ use Rattle.cept_codes.specs.Table.{HasMadeEntries, entry, list_by_index, row_of}
 use Rattle.cept_codes.proofs.Laws.{HasMadeEntries-all, HasMadeEntries-more, entry_from, look_decides, row_of-list_by_index}
 use Rattle.cept_codes.proofs.Laws.{same_indexed}
 use Rattle.cept_profile.specs.Tiling.{column_entry}
+use Rattle.cept_rows.specs.Flagged.{IsResolvedTo, differs_after, look_after}
 use Rattle.cept_rows.proofs.Columns.{column_entry-at, column_entry-row_of}
 
 -- an entry that is left as it was is made, where that is what it was to be
@@ -27,20 +28,6 @@ left_more {X} {d} {from} {count} {n} {f} {g} {list} m same = record {
 
 read : (looks : List Look) (c : ℕ) → 1 ≤ c → entry blank_look 1 looks c ≡ column_entry blank_look looks c
 read looks c low = entry_from blank_look 1 looks c low ∙ sym (column_entry-at blank_look looks c low)
-
--- the look of a column: of a flagged one that of its cell by itself
-abbrev pub look_after : List Bool → (ℕ → Look) → List Look → ℕ → Look
-look_after flags own was c = cond (entry false 1 flags c) (own c) (column_entry blank_look was c)
-
--- whether it differs from the one before
-abbrev pub differs_after : List Bool → (ℕ → Look) → List Look → ℕ → Bool
-differs_after flags own was c = not (same_look (column_entry blank_look was c) (look_after flags own was c))
-
--- the first n columns are resolved where they are flagged, and it is said which differ
-pub record IsResolvedTo (flags : List Bool) (own : ℕ → Look) (was now : List Look) (differ : List Bool) (n : ℕ)
-    : Type 0 where
-  pub looks : HasMadeEntries blank_look 1 40 (look_after flags own was) (column_entry blank_look was) now n
-  pub answers : HasMadeEntries false 1 40 (differs_after flags own was) (λ _. false) differ n
 
 pub IsResolvedTo-none : (flags : List Bool) (own : ℕ → Look) (was : List Look) → length was ≡ 40
     → IsResolvedTo flags own was was (replicate 40 false) 0
@@ -77,6 +64,12 @@ IsResolvedTo-as {flags} {own} {was} {now} {next} {differ} {more} {n} en em m =
     subst (λ (l : List Look). IsResolvedTo flags own was l more n) (sym en)
     (subst (λ (l : List Bool). IsResolvedTo flags own was now l n) (sym em) m)
 
+-- and of so many columns
+pub IsResolvedTo-to : {flags : List Bool} {own : ℕ → Look} {was now : List Look} {differ : List Bool} {n m : ℕ} → n ≡ m
+    → IsResolvedTo flags own was now differ n → IsResolvedTo flags own was now differ m
+IsResolvedTo-to {flags} {own} {was} {now} {differ} same r =
+    subst (λ i. IsResolvedTo flags own was now differ i) same r
+
 -- a flagged column
 pub IsResolvedTo-more : {flags : List Bool} {own : ℕ → Look} {was now : List Look} {differ : List Bool} {n : ℕ}
     → IsResolvedTo flags own was now differ n → n < 40 → get_or flags n false ≡ true → (fresh : Look) (differs : Bool)
@@ -112,6 +105,18 @@ IsResolvedTo-left {flags} {own} {was} {now} {differ} {n} m unflagged =
       answers = left_more m.answers (ap not ((look_decides (column_entry blank_look was (1 + n))
           (look_after flags own was (1 + n))).1 (sym stays)));
     }
+
+-- and several that aren't
+pub IsResolvedTo-skip : {flags : List Bool} {own : ℕ → Look} {was now : List Look} {differ : List Bool} {n : ℕ} (m : ℕ)
+    → IsResolvedTo flags own was now differ n → ((k : ℕ) → n ≤ k → k < n + m → get_or flags k false ≡ false)
+    → IsResolvedTo flags own was now differ (n + m)
+IsResolvedTo-skip {flags} {own} {was} {now} {differ} {n} zero r none =
+    let same : n ≡ n + zero = omega arith in IsResolvedTo-to same r
+IsResolvedTo-skip {flags} {own} {was} {now} {differ} {n} (suc m) r none =
+    let more : n + m + 1 ≡ n + suc m = omega arith in
+    IsResolvedTo-to more
+    (IsResolvedTo-left (IsResolvedTo-skip m r (λ k low below. none k low (omega (arith, below))))
+    (none (n + m) (omega arith) (omega arith)))
 
 pub IsResolvedTo-looks : {flags : List Bool} {own : ℕ → Look} {was now : List Look} {differ : List Bool} {n : ℕ}
     → IsResolvedTo flags own was now differ n → 40 ≤ n → now ≡ row_of (look_after flags own was)

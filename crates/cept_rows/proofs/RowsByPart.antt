@@ -1,7 +1,7 @@
 -- Rows beneath others: each look is that of the place above, of the one to the left, or of what stands there itself.
 use Rattle.std.proofs.Common.{◌≡◌, ℕ, ◌+◌, ◌-◌, ◌≤◌, ◌<◌, ◌&&◌, ltb, Bool, true, false, not, Option, List}
-use Rattle.std.proofs.Common.{zero, suc, length, get_or, refl, sym, ap, ◌∙◌, arith, subst, None, IfSome, inl, inr}
-use Rattle.std.proofs.lemmas.Bool.{cases_lt, cond-true, cond-false}
+use Rattle.std.proofs.Common.{zero, suc, length, get_or, refl, sym, ap, ◌∙◌, arith, subst, None, IfSome, inl, inr, cond}
+use Rattle.std.proofs.lemmas.Bool.{and_right, cases_lt, cond-true, cond-false}
 use Rattle.cept_codes.specs.declared.attribute.Full.{Full}
 use Rattle.cept_codes.specs.declared.attribute.Pen.{Pen}
 use Rattle.cept_codes.specs.declared.cell.Cell.{Cell}
@@ -13,7 +13,7 @@ use Rattle.cept_codes.specs.declared.look.Part.{Part}
 use Rattle.cept_codes.specs.declared.look.Pattern.{Pattern}
 use Rattle.cept_codes.specs.Cell.{IsValidWhat}
 use Rattle.cept_codes.specs.Look.{IsValidLook, IsValidPaint, IsValidPattern, blank_look}
-use Rattle.cept_codes.specs.Table.{HasMadeEntries, entry}
+use Rattle.cept_codes.specs.Table.{HasMadeEntries, entry, row_of}
 use Rattle.cept_codes.proofs.Laws.{entry_from, entry_past}
 use Rattle.cept_profile.specs.Definitions.{Definitions}
 use Rattle.cept_profile.specs.Look.{look_in_row, look_with_part, part_of, size_in_row}
@@ -25,7 +25,8 @@ use Rattle.cept_profile.specs.Tiling.{origin_part, part_below, part_to_the_right
 use Rattle.cept_profile.specs.Valid.{AreValidDefinitions}
 use Rattle.cept_profile.proofs.Laws.{IsValidLook-look_in_row, IsValidLook-row_from_above}
 use Rattle.cept_profile.proofs.Laws.{look_in_row-alike, size_in_row-alike}
-use Rattle.cept_rows.proofs.Columns.{column_entry-at, column_entry-row_of}
+use Rattle.cept_rows.specs.RowsByCell.{FollowsToTheRight, IsCoveredAlike}
+use Rattle.cept_rows.proofs.Columns.{column_entry-at, column_entry-row_of, made_all}
 
 -- ---- the recursion, by a column and its neighbours
 
@@ -112,6 +113,44 @@ look_from-alike defined above beside f g pen screen last (suc c) over alike =
     (size_in_row-alike f g pen screen (suc c) (omega arith) alike i) last (suc c))
     ∙ sym (look_from-at beside (look_in_row defined g pen screen) (size_in_row g pen screen) last (suc c) (omega arith))
 
+-- what a place shows, where the one to its left doesn't cover it
+uncovered_from_left : (above above_left above_right left own : Look) (size : Size) (last : Bool) (c : ℕ)
+    → covers_right (part_of left) ≡ false
+    → look_by above above_left above_right left own size last c
+    ≡ cond (covers_below (part_of above)) (look_with_part (part_below (part_of above)) above)
+    (look_with_part (origin_part (is_wide size && ltb c 40 && not (covers_below (part_of above_right)))
+    (is_high size && not last)) own)
+uncovered_from_left above above_left above_right left own size last c none =
+    ap (λ b. cond (covers_below (part_of above)) (look_with_part (part_below (part_of above)) above)
+    (cond b (look_with_part (part_to_the_right (part_of left)) left)
+    (look_with_part (origin_part (is_wide size && ltb c 40 && not (covers_below (part_of above_right)))
+    (is_high size && not last)) own)))
+    (and_right (not (covers_below (part_of above_left))) (covers_right (part_of left)) none)
+
+-- places that are the same by themselves show the same, where the looks beside them are
+pub look_from-beside : (above over own other : ℕ → Look) (wanted asked : ℕ → Size) (last : Bool) (c : ℕ) → 1 ≤ c
+    → ((d : ℕ) → c ≤ d + 1 → d ≤ c + 1 → above d ≡ over d) → own c ≡ other c → wanted c ≡ asked c
+    → IsCoveredAlike (look_from above own wanted last (c - 1)) (look_from over other asked last (c - 1))
+    → look_from above own wanted last c ≡ look_from over other asked last c
+look_from-beside above over own other wanted asked last c low near eo ew covered =
+    let left : Look = look_from above own wanted last (c - 1) in
+    let beside : Look = look_from over other asked last (c - 1) in
+    let here : above c ≡ over c = near c (omega arith) (omega arith) in
+    let before : above (c - 1) ≡ over (c - 1) = near (c - 1) (omega (arith, low)) (omega arith) in
+    let next : above (c + 1) ≡ over (c + 1) = near (c + 1) (omega arith) (omega arith) in
+    look_from-at above own wanted last c low
+    ∙ elim covered [
+      | inl same ↦
+          λ i. look_by (here i) (before i) (next i) (same i) (eo i) (ew i) last c
+      | inr none ↦
+          uncovered_from_left (above c) (above (c - 1)) (above (c + 1)) left (own c) (wanted c) last c none.0
+          ∙ (λ i. cond (covers_below (part_of (here i))) (look_with_part (part_below (part_of (here i))) (here i))
+          (look_with_part (origin_part (is_wide (ew i) && ltb c 40 && not (covers_below (part_of (next i))))
+          (is_high (ew i) && not last)) (eo i)))
+          ∙ sym (uncovered_from_left (over c) (over (c - 1)) (over (c + 1)) beside (other c) (asked c) last c none.1)
+    ]
+    ∙ sym (look_from-at over other asked last c low)
+
 -- ---- what covers the place to the right
 
 -- beneath what covers a place nothing does
@@ -190,6 +229,65 @@ left_made f g looks c made first low high =
           let e : c - 1 ≡ 0 = omega (arith, none) in
           ap (λ n. column_entry blank_look looks n) e ∙ sym first ∙ ap f (sym e)
     ]
+
+-- the places to the right of one, where neither look of it covers the next
+followed : (until : ℕ) (f g : ℕ → Look) → FollowsToTheRight until f g → (n : ℕ) → until ≤ n
+    → IsCoveredAlike (f n) (g n) → (k : ℕ) → n + suc k ≤ 40 → f (n + suc k) ≡ g (n + suc k)
+followed until f g follows n past here zero high =
+    let back : n ≡ n + 1 - 1 = omega arith in
+    follows (n + 1) (omega (arith, past)) high (subst (λ m. IsCoveredAlike (f m) (g m)) back here)
+followed until f g follows n past here (suc k) high =
+    let back : n + suc k ≡ n + suc (suc k) - 1 = omega arith in
+    follows (n + suc (suc k)) (omega (arith, past)) high
+    (subst (λ m. IsCoveredAlike (f m) (g m)) back (inl (followed until f g follows n past here k (omega (arith, high)))))
+
+pub follows_all : (until : ℕ) (f g : ℕ → Look) → FollowsToTheRight until f g → (n : ℕ) → until ≤ n
+    → IsCoveredAlike (f n) (g n) → (c : ℕ) → n < c → c ≤ 40 → f c ≡ g c
+follows_all until f g follows n past here c right high =
+    let e : n + suc (c - n - 1) ≡ c = omega (arith, right) in
+    subst (λ m. f m ≡ g m) e (followed until f g follows n past here (c - n - 1) (omega (arith, e, high)))
+
+-- a row that is made up to a column, and beyond it is so already
+pub made_rest : (f : ℕ → Look) (was looks : List Look) (n : ℕ)
+    → HasMadeEntries blank_look 1 40 f (entry blank_look 1 was) looks n
+    → ((c : ℕ) → n < c → c ≤ 40 → column_entry blank_look was c ≡ f c) → looks ≡ row_of f
+made_rest f was looks n made rest =
+    made_all blank_look f (entry blank_look 1 was) looks 41 (record {
+      long = made.long;
+      made = λ k low high below. elim (cases_lt n k) [
+        | inl past ↦
+            made.left k low high (omega (arith, past)) ∙ entry_from blank_look 1 was k low
+            ∙ sym (column_entry-at blank_look was k low) ∙ rest k past (omega arith)
+        | inr within ↦ made.made k low high (omega (arith, within))
+      ];
+      left = λ k low high past. absurd (omega (arith, high, past));
+    }) (omega arith)
+
+-- what is left beyond it stays
+pub made_stays : (f : ℕ → Look) (was looks : List Look) (n : ℕ)
+    → HasMadeEntries blank_look 1 40 f (entry blank_look 1 was) looks n
+    → (c : ℕ) → n < c → c ≤ 40 → column_entry blank_look looks c ≡ column_entry blank_look was c
+made_stays f was looks n made c past high =
+    column_entry-at blank_look looks c (omega (arith, past))
+    ∙ sym (entry_from blank_look 1 looks c (omega (arith, past)))
+    ∙ made.left c (omega (arith, past)) (omega (arith, high)) (omega (arith, past))
+    ∙ entry_from blank_look 1 was c (omega (arith, past)) ∙ sym (column_entry-at blank_look was c (omega (arith, past)))
+
+-- so a row is whole where the last look that was made covers nothing to its right before and after
+pub made_end : (until : ℕ) (f : ℕ → Look) (was mid looks : List Look) (n : ℕ)
+    → HasMadeEntries blank_look 1 40 f (entry blank_look 1 was) mid (n - 1)
+    → HasMadeEntries blank_look 1 40 f (entry blank_look 1 was) looks n → 1 ≤ n → n ≤ 40 → until ≤ n
+    → FollowsToTheRight until (column_entry blank_look was) f
+    → covers_right (part_of (column_entry blank_look mid n)) ≡ false
+    → covers_right (part_of (column_entry blank_look looks n)) ≡ false → looks ≡ row_of f
+made_end until f was mid looks n before made low high past follows was_free free =
+    let stood : column_entry blank_look mid n ≡ column_entry blank_look was n =
+    made_stays f was mid (n - 1) before n (omega (arith, low)) high in
+    let here : column_entry blank_look looks n ≡ f n =
+    column_entry-at blank_look looks n low ∙ sym (entry_from blank_look 1 looks n low)
+    ∙ made.made n low (omega (arith, high)) (omega arith) in
+    made_rest f was looks n made (follows_all until (column_entry blank_look was) f follows n past (inr
+    (ap (λ (l : Look). covers_right (part_of l)) (sym stood) ∙ was_free, ap (λ (l : Look). covers_right (part_of l)) (sym here) ∙ free)))
 
 -- ---- attributes
 

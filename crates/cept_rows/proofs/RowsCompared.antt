@@ -1,6 +1,6 @@
 -- Rows compared from the left: of the columns before one it is known whether the looks differ in them, and whether one
 -- of these looks covers the place below it.
-use Rattle.std.proofs.Common.{◌≡◌, ◌≢◌, ℕ, ◌+◌, ◌-◌, ◌<◌, ◌≤◌, ◌||◌, ◌&&◌, Bool, true, false, not, List, length, set, get_or}
+use Rattle.std.proofs.Common.{◌≡◌, ◌≢◌, ℕ, zero, suc, ◌+◌, ◌-◌, ◌<◌, ◌≤◌, ◌||◌, ◌&&◌, Bool, true, false, not, List, length, set, get_or}
 use Rattle.std.proofs.Common.{replicate, take, inl, inr, refl, sym, ap, subst, ◌∙◌, arith}
 use Rattle.std.specs.List.{list_any, range_with_len}
 use Rattle.std.proofs.lemmas.Bool.{and_right, cases_eq, cases_lt}
@@ -213,6 +213,30 @@ ComparedBelow-as {was} {now} {columns} {flags} {some} {any} {covers} {over} {col
     subst (λ (l : List Bool). ComparedBelow was now l any over column) (sym ef)
     (subst (λ b. ComparedBelow was now columns b over column) (sym ea)
     (subst (λ b. ComparedBelow was now columns some b column) (sym eo) m))
+
+-- columns in which they are known to be the same
+pub ComparedBelow-rest : {was now : List Look} {columns : List Bool} {some covers : Bool} {column : ℕ}
+    → ComparedBelow was now columns some covers column
+    → ((c : ℕ) → column ≤ c → c ≤ 40 → column_entry blank_look was c ≡ column_entry blank_look now c)
+    → (n : ℕ) → column + n ≤ 41 → ComparedBelow was now columns some covers (column + n)
+ComparedBelow-rest {was} {now} {columns} {some} {covers} {column} m same zero high =
+    let e : column ≡ column + 0 = omega arith in subst (ComparedBelow was now columns some covers) e m
+ComparedBelow-rest {was} {now} {columns} {some} {covers} {column} m same (suc n) high =
+    let e : column + n + 1 ≡ column + suc n = omega arith in
+    subst (ComparedBelow was now columns some covers) e
+    (ComparedBelow-same (ComparedBelow-rest m same n (omega (arith, high))) (omega (arith, high))
+    ((look_decides (column_entry blank_look was (column + n)) (column_entry blank_look now (column + n))).1
+    (same (column + n) (omega arith) (omega (arith, high)))))
+
+-- to the right of a column
+pub ComparedBelow-end : {was now : List Look} {columns : List Bool} {some covers : Bool} {column : ℕ} (until : ℕ)
+    → ComparedBelow was now columns some covers column → column ≤ 41 → until < column
+    → ((c : ℕ) → until < c → c ≤ 40 → column_entry blank_look was c ≡ column_entry blank_look now c)
+    → ComparedBelow was now columns some covers 41
+ComparedBelow-end {was} {now} {columns} {some} {covers} {column} until m high past same =
+    let e : column + (41 - column) ≡ 41 = omega (arith, high) in
+    subst (ComparedBelow was now columns some covers) e
+    (ComparedBelow-rest m (λ c low right. same c (omega (arith, past, low)) right) (41 - column) (omega (arith, high)))
 
 -- no column is left
 pub ComparedBelow-columns : {was now : List Look} {columns : List Bool} {some covers : Bool} {column : ℕ}

@@ -6,3 +6,4 @@ pub mod RowsByCell
 pub mod KeptNames
 pub mod Planes
 pub mod Walk
+pub mod Flagged

@@ -1,5 +1,5 @@
 -- Rows, place by place (own): what stands in a cell by itself, and what a place shows by its part.
-use Rattle.std.specs.Prelude.{ℕ, if◌then◌else◌, Bool, true, false, List, Option, None}
+use Rattle.std.specs.Prelude.{ℕ, ◌≡◌, ◌-◌, ◌<◌, ◌≤◌, ◌⊎◌, if◌then◌else◌, Bool, true, false, List, Option, None}
 use Rattle.cept_codes.specs.declared.cell.What.{What}
 use Rattle.cept_codes.specs.declared.cell.What.TheVariants as whats
 use Rattle.cept_codes.specs.declared.glyph.Glyph.{Glyph}
@@ -10,10 +10,10 @@ use Rattle.cept_codes.specs.declared.look.Pattern.{Pattern}
 use Rattle.cept_codes.specs.declared.attribute.Pen.{Pen}
 use Rattle.cept_codes.specs.Look.{blank_look}
 use Rattle.cept_profile.specs.Definitions.{Definitions}
-use Rattle.cept_profile.specs.Look.{look_in_row, size_in_row}
+use Rattle.cept_profile.specs.Look.{look_in_row, part_of, size_in_row}
 use Rattle.cept_profile.specs.PageParts.{pattern_in}
 use Rattle.cept_profile.specs.RowsFromAbove.{look_from}
-use Rattle.cept_profile.specs.Tiling.{column_entry}
+use Rattle.cept_profile.specs.Tiling.{column_entry, covers_right}
 
 -- the downloaded set
 abbrev pub is_set_d : SetId → Bool
@@ -34,3 +34,12 @@ pattern_of_sign patterns g = if is_set_d g.set then pattern_in patterns g.code e
 abbrev pub look_shown : Definitions → List Look → (ℕ → What) → Pen → Pen → Bool → ℕ → Look
 look_shown defined above row pen screen last =
     look_from (column_entry blank_look above) (look_in_row defined row pen screen) (size_in_row row pen screen) last
+
+-- two looks are the same, or neither covers the place to its right: what that place shows is as much the one's as the
+-- other's
+abbrev pub IsCoveredAlike : Look → Look → Type 0
+IsCoveredAlike a b = (a ≡ b) ⊎ ((covers_right (part_of a) ≡ false) × (covers_right (part_of b) ≡ false))
+
+-- to the right of a column two rows have the same look in each place whose left neighbours are so
+abbrev pub FollowsToTheRight : ℕ → (ℕ → Look) → (ℕ → Look) → Type 0
+FollowsToTheRight until f g = (c : ℕ) → until < c → c ≤ 40 → IsCoveredAlike (f (c - 1)) (g (c - 1)) → f c ≡ g c

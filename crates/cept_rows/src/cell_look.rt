@@ -190,26 +190,14 @@ fn holds(brush: &Brush, pen: &Pen) -> bool
 }
 
 /// Whether a pen sets no class but the colours.
+// All tags joined by `|`, since each end of its own makes a branch.
 #[inline(always)]
 fn is_bare(pen: &Pen) -> bool
     ensures { result ≡ true → IsBare pen.now }
 {
-    if pen.flash.is_some() {
-        return false;
-    }
-    if pen.conceal.is_some() {
-        return false;
-    }
-    if pen.lined.is_some() {
-        return false;
-    }
-    if pen.boxed.is_some() {
-        return false;
-    }
-    if pen.size.is_some() {
-        return false;
-    }
-    pen.invert.is_none()
+    let first = pen.flash.is_some() | pen.conceal.is_some() | pen.lined.is_some();
+    let second = pen.boxed.is_some() | pen.size.is_some() | pen.invert.is_some();
+    !(first | second)
 }
 
 /// Whether two pens are known to be the same.

@@ -14,6 +14,7 @@ mod walk;
 
 pub use naming::{RowNames, name_cells, name_row};
 pub use resolving::{
-    resolve_cells, resolve_cells_from, resolve_row, rows_show_what_stands_to_the_left,
+    places_show_what_is_beside_them, resolve_cells, resolve_cells_between, resolve_row,
+    rows_show_what_stands_to_the_left,
 };
 pub use row_looks::{Differences, RowLooks};

@@ -17,9 +17,9 @@ ghost use Rattle.cept_profile.specs.PageParts.{row_pen_in};
 ghost use Rattle.cept_profile.specs.RowsFromAbove.{look_from, looks_in, row_from_above};
 ghost use Rattle.cept_profile.specs.Serial.{row_in};
 ghost use Rattle.cept_profile.specs.State.{Core, definitions_of};
-ghost use Rattle.cept_profile.specs.Tiling.{column_entry, covers_below};
+ghost use Rattle.cept_profile.specs.Tiling.{column_entry, covers_below, covers_right};
 ghost use Rattle.cept_rows.specs.DrawnWith.{drawn_with};
-ghost use Rattle.cept_rows.specs.RowsByCell.{look_shown};
+ghost use Rattle.cept_rows.specs.RowsByCell.{look_shown, FollowsToTheRight, IsCoveredAlike};
 
 use crate::cell_look::{Brush, is_plain, small_among, small_with};
 use crate::places::{is_covered_from_left, put_place};
@@ -112,15 +112,17 @@ pub fn resolve_cells<L: Ledger>(
     if from == 41 {
         return;
     }
-    each_from(
-        from, cells, row, screen, above, last, colours, patterns, looks,
+    let _end = each_between(
+        from, 41, cells, row, screen, above, last, colours, patterns, looks,
     );
 }
 
 /// The same from a column on, where the looks to the left of it are already so: cells to the right
-/// count for nothing.
-pub fn resolve_cells_from<L: Ledger>(
+/// count for nothing. To the right of another column a look is already so if the place to its left is,
+/// or covers it neither before nor after. Answers a column to whose right all stay as they are.
+pub fn resolve_cells_between<L: Ledger>(
     from: u8,
+    until: u8,
     cells: &[Cell; 40],
     row: &Pen,
     screen: &Pen,
@@ -130,7 +132,7 @@ pub fn resolve_cells_from<L: Ledger>(
     patterns: &Patterns,
     looks: &mut RowLooks,
     steps: &mut Steps<L>,
-)
+) -> u8
     requires from_left { 1 ≤ from }
     requires to_right { from ≤ 41 }
     requires cells { (c : ℕ) → 1 ≤ c → c ≤ 40 → IsValidWhat (row_in cells.now c) }
@@ -140,6 +142,10 @@ pub fn resolve_cells_from<L: Ledger>(
         ≡ look_from (column_entry blank_look above.now)
         (look_in_row (drawn_with colours.now patterns.now) (row_in cells.now) row.now screen.now)
         (size_in_row (row_in cells.now) row.now screen.now) last c }
+    requires right { FollowsToTheRight until (column_entry blank_look looks.old)
+        (look_from (column_entry blank_look above.now)
+        (look_in_row (drawn_with colours.now patterns.now) (row_in cells.now) row.now screen.now)
+        (size_in_row (row_in cells.now) row.now screen.now) last) }
     ensures looks { looks.new
         ≡ row_from_above above.now
         (look_in_row (drawn_with colours.now patterns.now) (row_in cells.now) row.now screen.now)
@@ -150,12 +156,16 @@ pub fn resolve_cells_from<L: Ledger>(
         → row.now ≡ row_pen_in k.page.row_pens r → screen.now ≡ k.page.screen_pen
         → drawn_with colours.now patterns.now ≡ definitions_of k.page
         → last ≡ is_last (edges_of_core k) r → looks.new ≡ looks_in (looks_of k) r }
+    ensures order { from ≤ result + 1 }
+    ensures to_right { result ≤ 40 }
+    ensures stays { (c : ℕ) → result < c → c ≤ 40
+        → column_entry blank_look looks.new c ≡ column_entry blank_look looks.old c }
     ensures tick { steps.new ≡ steps.old + 1 }
 {
     steps.tick();
-    each_from(
-        from, cells, row, screen, above, last, colours, patterns, looks,
-    );
+    each_between(
+        from, until, cells, row, screen, above, last, colours, patterns, looks,
+    )
 }
 
 /// The looks of a row depend on what stands to the left: rows that agree up to a column show the same
@@ -166,6 +176,17 @@ pub fn rows_show_what_stands_to_the_left()
         → ((d : ℕ) → 1 ≤ d → d ≤ c → f d ≡ g d)
         → look_from above (look_in_row defined f pen screen) (size_in_row f pen screen) last c
         ≡ look_from beside (look_in_row defined g pen screen) (size_in_row g pen screen) last c }
+{}
+
+/// The look of a place depends on what stands there, and on the looks beside it: where these are the same
+/// above and to its left and right, and the place to its left is the same or covers it in neither row, it
+/// is the same.
+pub fn places_show_what_is_beside_them()
+    ensures { (above over own other : ℕ → Look) (wanted asked : ℕ → Size) (last : Bool) (c : ℕ) → 1 ≤ c
+        → ((d : ℕ) → c ≤ d + 1 → d ≤ c + 1 → above d ≡ over d) → own c ≡ other c
+        → wanted c ≡ asked c → IsCoveredAlike (look_from above own wanted last (c - 1))
+        (look_from over other asked last (c - 1))
+        → look_from above own wanted last c ≡ look_from over other asked last c }
 {}
 
 /// Whether a row wants the single size by its attributes, and nothing covers it from above.
@@ -254,11 +275,14 @@ fn each_plain(
     41
 }
 
-/// The looks of a row from a column on, where those to the left of it are already so.
+/// The looks of a row from a column on, where those to the left of it are already so, and to the right of
+/// another column those are so that follow one which is, or which covers nothing to its right before and
+/// after. Answers a column to whose right all stay as they are.
 // A call of its own: the walk along a plain row has then more at hand.
 #[inline(never)]
-fn each_from(
+fn each_between(
     from: u8,
+    until: u8,
     cells: &[Cell; 40],
     row: &Pen,
     screen: &Pen,
@@ -267,7 +291,7 @@ fn each_from(
     colours: &Colours,
     patterns: &Patterns,
     looks: &mut RowLooks,
-)
+) -> u8
     requires from_left { 1 ≤ from }
     requires to_right { from ≤ 41 }
     requires cells { (c : ℕ) → 1 ≤ c → c ≤ 40 → IsValidWhat (row_in cells.now c) }
@@ -276,10 +300,17 @@ fn each_from(
     requires left { (c : ℕ) → 1 ≤ c → c < from → column_entry blank_look looks.old c
         ≡ look_shown (drawn_with colours.now patterns.now) above.now (row_in cells.now) row.now
         screen.now last c }
-    ensures { looks.new
+    requires right { FollowsToTheRight until (column_entry blank_look looks.old)
+        (look_shown (drawn_with colours.now patterns.now) above.now (row_in cells.now) row.now
+        screen.now last) }
+    ensures looks { looks.new
         ≡ row_from_above above.now
         (look_in_row (drawn_with colours.now patterns.now) (row_in cells.now) row.now screen.now)
         (size_in_row (row_in cells.now) row.now screen.now) last }
+    ensures order { from ≤ result + 1 }
+    ensures to_right { result ≤ 40 }
+    ensures stays { (c : ℕ) → result < c → c ≤ 40
+        → column_entry blank_look looks.new c ≡ column_entry blank_look looks.old c }
 {
     above.columns_by_type();
     looks.columns_by_type();
@@ -288,8 +319,26 @@ fn each_from(
     let mut walk = Walk::before(from, cells, row, screen, colours);
     let mut covered = is_covered_from_left(looks, from, above);
     for column in from..41 {
+        let ended = may_end(looks, column, until);
         covered = put_place(
             looks, column, covered, &mut walk, cells, row, screen, above, last, colours, patterns,
         );
+        if ended & may_end(looks, column, until) {
+            return column;
+        }
     }
+    40
+}
+
+/// Whether a row may end in a column, which isn't left of this one: the look there covers nothing to its
+/// right.
+#[inline(always)]
+fn may_end(looks: &RowLooks, column: u8, until: u8) -> bool
+    requires from_left { 1 ≤ column }
+    requires to_right { column ≤ 40 }
+    ensures past { result ≡ true → until ≤ column }
+    ensures free { result ≡ true
+        → covers_right (part_of (column_entry blank_look looks.now column)) ≡ false }
+{
+    column >= until && !looks.covers_right(column)
 }

@@ -1,4 +1,4 @@
-ghost use Rattle.std.specs.Prelude.{◌≡◌, ℕ, ◌+◌, ◌-◌, ◌<◌, ◌≤◌, ◌⊎◌, true, false, not};
+ghost use Rattle.std.specs.Prelude.{◌≡◌, ℕ, ◌+◌, ◌-◌, ◌<◌, ◌≤◌, ◌⊎◌, true, false, not, List};
 ghost use Rattle.std.specs.Prelude.{◌||◌, if◌then◌else◌};
 ghost use Rattle.std.specs.Prelude.{length, slice_index_or, slice_set};
 ghost use Rattle.cept_codes.specs.Attribute.{IsValidPen, unset_pen};
@@ -14,9 +14,10 @@ ghost use Rattle.cept_profile.specs.Names.{pattern_shown, some_place};
 ghost use Rattle.cept_profile.specs.PageParts.{paint_in};
 ghost use Rattle.cept_profile.specs.RowsFromAbove.{blank_looks, is_other_covering};
 ghost use Rattle.cept_profile.specs.Serial.{row_in};
-ghost use Rattle.cept_profile.specs.Tiling.{column_entry, covers_below};
+ghost use Rattle.cept_profile.specs.Tiling.{column_entry, covers_below, covers_right};
 ghost use Rattle.cept_rows.specs.Brush.{IsBrush};
 ghost use Rattle.cept_rows.specs.DrawnWith.{drawn_with};
+ghost use Rattle.cept_rows.specs.Flagged.{IsResolvedTo};
 ghost use Rattle.cept_rows.specs.KeptRows.{HasNoPatterns};
 ghost use Rattle.cept_rows.specs.Planes.{has_inks, has_planes};
 ghost use Rattle.cept_rows.specs.SmallLooks.{IsSmallLook, drawing_of, has_pattern, look_kept};
@@ -110,6 +111,17 @@ impl RowLooks {
         part.dy == 0 && part.h == 2
     }
 
+    /// Whether the look in a column covers the place to its right, where nothing covers that from above.
+    #[inline(always)]
+    pub(crate) fn covers_right(&self, column: u8) -> bool
+        requires from_left { 1 ≤ column }
+        requires to_right { column ≤ 40 }
+        ensures { result ≡ covers_right (part_of (column_entry blank_look self.now column)) }
+    {
+        let part = self.small(column).part;
+        part.dx == 0 && part.w == 2
+    }
+
     /// Whether a pattern of so many planes is shown in the row.
     pub fn shows_planes(&self, planes: u8) -> bool
         ensures { result ≡ some_place (λ c. has_planes planes
@@ -153,11 +165,15 @@ impl RowLooks {
     }
 
     /// In which columns two rows have different looks, whether in any, and whether one of the looks
-    /// that differ covers the place below it. To the left of a column they are known to be the same.
-    pub fn differences(&self, other: &RowLooks, from: u8) -> Differences
+    /// that differ covers the place below it. To the left of a column they are known to be the same, and
+    /// to the right of another.
+    pub fn differences(&self, other: &RowLooks, from: u8, until: u8) -> Differences
         requires from_left { 1 ≤ from }
-        requires to_right { from ≤ 41 }
+        requires order { from ≤ until + 1 }
+        requires to_right { until ≤ 40 }
         requires left { (c : ℕ) → 1 ≤ c → c < from
+            → column_entry blank_look self.now c ≡ column_entry blank_look other.now c }
+        requires right { (c : ℕ) → until < c → c ≤ 40
             → column_entry blank_look self.now c ≡ column_entry blank_look other.now c }
         ensures columns { result.columns ≡ list_by_index 1 40 (λ c. not (same_look
             (column_entry blank_look self.now c) (column_entry blank_look other.now c))) }
@@ -170,9 +186,9 @@ impl RowLooks {
         self.columns_by_type();
         other.columns_by_type();
         if self.is_plain() || other.is_plain() {
-            self.small_differences(other, from)
+            self.small_differences(other, from, until)
         } else {
-            self.drawn_differences(other, from)
+            self.drawn_differences(other, from, until)
         }
     }
 
@@ -180,10 +196,13 @@ impl RowLooks {
     // Flags are set in a branch: without one the loop would be made into vectors, a field of a look
     // at a time, and take twice as long.
     #[inline(always)]
-    fn small_differences(&self, other: &RowLooks, from: u8) -> Differences
+    fn small_differences(&self, other: &RowLooks, from: u8, until: u8) -> Differences
         requires from_left { 1 ≤ from }
-        requires to_right { from ≤ 41 }
+        requires order { from ≤ until + 1 }
+        requires to_right { until ≤ 40 }
         requires left { (c : ℕ) → 1 ≤ c → c < from
+            → column_entry blank_look self.now c ≡ column_entry blank_look other.now c }
+        requires right { (c : ℕ) → until < c → c ≤ 40
             → column_entry blank_look self.now c ≡ column_entry blank_look other.now c }
         requires plain { HasNoPatterns self.now ⊎ HasNoPatterns other.now }
         ensures columns { result.columns ≡ list_by_index 1 40 (λ c. not (same_look
@@ -196,7 +215,7 @@ impl RowLooks {
         let mut columns = [false; 40];
         let mut any = false;
         let mut covering = false;
-        for column in from..41 {
+        for column in from..until + 1 {
             if !self.same_small_at(other, column) {
                 columns[usize::from(column) - 1] = true;
                 any = true;
@@ -213,10 +232,13 @@ impl RowLooks {
     /// The same of any rows.
     // A call of its own: rows without patterns need less.
     #[inline(never)]
-    fn drawn_differences(&self, other: &RowLooks, from: u8) -> Differences
+    fn drawn_differences(&self, other: &RowLooks, from: u8, until: u8) -> Differences
         requires from_left { 1 ≤ from }
-        requires to_right { from ≤ 41 }
+        requires order { from ≤ until + 1 }
+        requires to_right { until ≤ 40 }
         requires left { (c : ℕ) → 1 ≤ c → c < from
+            → column_entry blank_look self.now c ≡ column_entry blank_look other.now c }
+        requires right { (c : ℕ) → until < c → c ≤ 40
             → column_entry blank_look self.now c ≡ column_entry blank_look other.now c }
         ensures columns { result.columns ≡ list_by_index 1 40 (λ c. not (same_look
             (column_entry blank_look self.now c) (column_entry blank_look other.now c))) }
@@ -228,7 +250,7 @@ impl RowLooks {
         let mut columns = [false; 40];
         let mut any = false;
         let mut covering = false;
-        for column in from..41 {
+        for column in from..until + 1 {
             if !self.same_at(other, column) {
                 columns[usize::from(column) - 1] = true;
                 any = true;
@@ -393,15 +415,70 @@ impl RowLooks {
         let mut brush = unset_brush(row, screen, colours);
         let blank = brush.space;
         let mut differ = [false; 40];
-        for k in 0..40u8 {
+        for group in 0..5u8 {
+            let first = 8 * group;
+            if has_flag(flags, first) {
+                self.resolve_eight(
+                    first,
+                    flags,
+                    cells,
+                    &blank,
+                    &mut brush,
+                    row,
+                    screen,
+                    colours,
+                    patterns,
+                    &mut differ,
+                );
+            }
+        }
+        differ
+    }
+
+    /// Resolves the flagged ones of the eight columns after so many, in a row without markers in which
+    /// a blank cell looks so, and says for each whether its look differs from the one before.
+    #[inline(always)]
+    fn resolve_eight(
+        &mut self,
+        first: u8,
+        flags: &[bool; 40],
+        cells: &[Cell; 40],
+        blank: &SmallLook,
+        brush: &mut Brush,
+        row: &Pen,
+        screen: &Pen,
+        colours: &Colours,
+        patterns: &Patterns,
+        differ: &mut [bool; 40],
+    )
+        requires within { first ≤ 32 }
+        requires flags { length flags.now ≡ 40 }
+        requires columns { length differ.old ≡ 40 }
+        requires cells { (c : ℕ) → 1 ≤ c → c ≤ 40 → IsValidWhat (row_in cells.now c) }
+        requires row { IsValidPen row.now }
+        requires screen { IsValidPen screen.now }
+        requires blank { blank.now
+            ≡ small_of (look_with (paint_in colours.now.paints) Space
+            (cascade unset_pen row.now screen.now)) }
+        requires brush { IsBrush colours.now row.now screen.now brush.old }
+        ensures columns { (was : List Look) → IsResolvedTo flags.now
+            (λ c. look_of (drawn_with colours.now patterns.now) row.now screen.now (row_in cells.now c))
+            was self.old differ.old first
+            → IsResolvedTo flags.now
+            (λ c. look_of (drawn_with colours.now patterns.now) row.now screen.now (row_in cells.now c))
+            was self.new differ.new (first + 8) }
+        ensures long { length differ.new ≡ 40 }
+        ensures brush { IsBrush colours.now row.now screen.now brush.new }
+    {
+        for k in first..first + 8 {
             let at = usize::from(k);
             if flags[at] {
                 let what = &cells[at].what;
                 differ[at] = self.resolve_among(
                     k + 1,
                     what,
-                    &blank,
-                    &mut brush,
+                    blank,
+                    brush,
                     row,
                     screen,
                     colours,
@@ -409,7 +486,6 @@ impl RowLooks {
                 );
             }
         }
-        differ
     }
 
     /// Resolves one cell by itself, in a row without markers in which a blank cell looks so, and
@@ -664,6 +740,22 @@ impl RowLooks {
             self.tall = false;
         }
     }
+}
+
+/// Whether one of the eight columns after so many is flagged.
+// Without an end before the last one, so that all are asked at once.
+#[inline(always)]
+fn has_flag(flags: &[bool; 40], first: u8) -> bool
+    requires flags { length flags.now ≡ 40 }
+    requires within { first ≤ 32 }
+    ensures { result ≡ false → (k : ℕ) → first ≤ k → k < first + 8
+        → slice_index_or flags.now k false ≡ false }
+{
+    let mut found = false;
+    for i in 0..8u8 {
+        found = found | flags[usize::from(first + i)];
+    }
+    found
 }
 
 /// Whether two looks with their drawings are the same.

@@ -1,9 +1,14 @@
-use Rattle.std.proofs.Common.{Bool, List, length, refl, sym, ap, subst, ◌∙◌, ◌==◌, arith}
+use Rattle.std.proofs.Common.{◌≡◌, ◌⊎◌, ℕ, false, true, cond, inl, inr, [], ◌∷◌, Bool, List, length, refl, sym, ap, subst, ◌∙◌, ◌==◌, arith}
 use Rattle.std.proofs.lemmas.Bool.{eqb-true, true≢false}
 use Rattle.cept_profile.specs.State.{Page, core_of, page_after}
 use Rattle.cept_profile.specs.Valid.{IsValidPage}
 use Rattle.cept_codes.specs.Table.{list_by_index}
-use Rattle.cept_repaint.specs.Due.{followed, pens_of, rows_due, LeftStays}
+use Rattle.cept_codes.specs.declared.cell.Cell.{Cell}
+use Rattle.cept_codes.specs.declared.stroke.Stroke.TheVariants as strokes
+use Rattle.cept_codes.specs.Place.{Place}
+use Rattle.cept_repaint.specs.MarkedRows.{IsPutAmongSigns}
+use Rattle.cept_repaint.proofs.BesideOfColumns.{FollowsBeside-put}
+use Rattle.cept_repaint.specs.Due.{followed, pens_of, rows_due, FollowsBeside, LeftStays}
 use Rattle.cept_repaint.specs.Kept.{core_on, state_of_parts}
 use Rattle.cept_repaint.proofs.KeptAfter.{AreEdges-state}
 use Rattle.cept_profile.specs.Edges.{edges_of}
@@ -18,6 +23,13 @@ use Rattle.cept_repaint.proofs.RowsDue.{freed-altered, put-resolved, put_defines
 use Rattle.cept_repaint.proofs.RowsRenewed.{rows_renewed-due, rows_renewed-none, rows_renewed-put, without}
 use Rattle.cept_repaint.proofs.WalkedRows.{OtherRowsStay-drawn}
 use Rattle.cept_repaint.proofs.redraw.redraw_within.Goals as goal
+
+-- the column past which nothing looks otherwise by itself
+until_is : {p : Page} {place : Place} {cell : Cell} (among : Bool) (column until : ℕ) → until ≡ cond among column 41
+    → column ≡ place.column → (among ≡ true → IsPutAmongSigns p place cell)
+    → ((until ≡ place.column) × IsPutAmongSigns p place cell) ⊎ (until ≡ 41)
+until_is true column until e here signs = inl (e ∙ here, signs refl)
+until_is false column until e here signs = inr e
 
 pub refresh_put-requires-clause-freed : goal.refresh_put-requires-clause-freed
 refresh_put-requires-clause-freed g c =
@@ -189,6 +201,20 @@ refresh_put-requires-clause-left g c k same =
     LeftStays-put c.rows_show_what_stands_to_the_left.ensures c.args.page.now c.requires.was_valid k c.in-Some.put.place
     c.in-Some.put.cell.now c.args.kept.now (c.requires.kept k (same ∙ c.edges-edges.ensures)) r column on
     (omega (arith, left, c.row-row.ensures.row, c.col-from.ensures.column)))
+
+pub refresh_put-requires-clause-beside : goal.refresh_put-requires-clause-beside
+refresh_put-requires-clause-beside g c k same =
+    let drawn = page_after-put_alone c.args.page.now c.put.new.self c.args.strokes.now c.in-Some.put.place
+    c.in-Some.put.cell.now c.in-Some.ensures c.put.ensures.drawn
+    ∙ ap (page_after c.args.page.now) c.in-Some.ensures in
+    let row = sym c.row-row.ensures.row in
+    subst (λ (q : Page). FollowsBeside c.row-row.result c.last_otherwise-until.result c.args.kept.now (core_on k q)) (sym drawn)
+    (subst (λ n. FollowsBeside n c.last_otherwise-until.result c.args.kept.now
+    (core_on k (page_after c.args.page.now (strokes.Put c.in-Some.put.place c.in-Some.put.cell.now ∷ [])))) row
+    (FollowsBeside-put c.places_show_what_is_beside_them.ensures c.args.page.now c.requires.was_valid k c.in-Some.put.place
+    c.in-Some.put.cell.now c.last_otherwise-until.result c.row-row.ensures.on_screen
+    (until_is c.puts_among_signs-among.result c.col-from.result c.last_otherwise-until.result c.last_otherwise-until.ensures c.col-from.ensures.column
+    c.puts_among_signs-among.ensures) c.args.kept.now (c.requires.kept k (same ∙ c.edges-edges.ensures))))
 
 pub returns-then-is_empty-clause-least : goal.returns-then-is_empty-clause-least
 returns-then-is_empty-clause-least g c =

@@ -1,15 +1,16 @@
-use Rattle.std.proofs.Common.{List, subst, sym}
+use Rattle.std.proofs.Common.{List, ap, subst, ◌∙◌, arith}
 use Rattle.cept_codes.specs.declared.look.Look.{Look}
-use Rattle.cept_profile.specs.RowsFromAbove.{looks_in}
-use Rattle.cept_repaint.specs.Kept.{IsLeftOf, IsRefreshedRow}
+use Rattle.cept_repaint.specs.Kept.{row_beneath, IsRefreshedRow}
 use Rattle.cept_repaint.proofs.redraw.refresh_row.Goals as goal
+
+pub take_row-requires-clause-left : goal.take_row-requires-clause-left
+take_row-requires-clause-left g c = λ column low below. absurd (omega (arith, low, below))
+
+pub take_row-requires-clause-right : goal.take_row-requires-clause-right
+take_row-requires-clause-right g c = λ column past high. absurd (omega (arith, past, high))
 
 pub returns-clause-refreshed : goal.returns-clause-refreshed
 returns-clause-refreshed g c =
     subst (λ (l : List Look). IsRefreshedRow l c.args.row c.args.kept.now c.take_row.new.kept c.args.marks.now
-    c.take_row.new.marks) c.resolve_beneath.ensures.looks c.take_row.ensures.refreshed
-
-pub take_row-requires-clause-left : goal.take_row-requires-clause-left
-take_row-requires-clause-left g c =
-    subst (λ (l : List Look). IsLeftOf c.args.from (looks_in c.args.kept.now c.args.row) l)
-    (sym c.resolve_beneath.ensures.looks) c.requires.left
+    c.take_row.new.marks) (c.resolve_row.ensures.looks
+    ∙ ap (λ (l : List Look). row_beneath l c.args.page.now c.args.row c.args.last) c.above.ensures) c.take_row.ensures.refreshed

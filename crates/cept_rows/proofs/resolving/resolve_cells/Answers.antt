@@ -21,8 +21,8 @@ returns-then-from-eq41-clause-beneath g c =
     (drawn_with c.args.colours.now c.args.patterns.now) c.args.last
     c.each_first-from.new.looks (returns-then-from-eq41-clause-looks g c)
 
-pub each_from-requires-clause-left : goal.each_from-requires-clause-left
-each_from-requires-clause-left g c n low below =
+pub each_between-end-requires-clause-left : goal.each_between-end-requires-clause-left
+each_between-end-requires-clause-left g c n low below =
     made_columns
     (look_shown (drawn_with c.args.colours.now c.args.patterns.now) c.args.above.now (row_in c.args.cells.now)
     c.args.row.now c.args.screen.now c.args.last) _ c.each_first-from.new.looks c.each_first-from.result
@@ -31,4 +31,7 @@ each_from-requires-clause-left g c n low below =
 pub returns-clause-beneath : goal.returns-clause-beneath
 returns-clause-beneath g c =
     row_of_core c.args.above.now c.args.cells.now c.args.row.now c.args.screen.now
-    (drawn_with c.args.colours.now c.args.patterns.now) c.args.last c.each_from.new.looks c.each_from.ensures
+    (drawn_with c.args.colours.now c.args.patterns.now) c.args.last c.each_between-end.new.looks c.each_between-end.ensures.looks
+
+pub each_between-end-requires-clause-right : goal.each_between-end-requires-clause-right
+each_between-end-requires-clause-right g c n past high alike = absurd (omega (arith, past, high))

@@ -7,7 +7,7 @@ use Rattle.cept_profile.specs.Tiling.{column_entry, is_covered_from_left}
 use Rattle.cept_rows.specs.DrawnWith.{drawn_with}
 use Rattle.cept_rows.specs.RowsByCell.{look_shown}
 use Rattle.cept_rows.specs.Walk.{IsWalk}
-use Rattle.cept_rows.proofs.resolving.each_from.Given as goal
+use Rattle.cept_rows.proofs.resolving.each_between.Given as goal
 
 abbrev pub invariant-loop-column : goal.invariant-loop-column
 invariant-loop-column l = record {

@@ -4,7 +4,7 @@ use Rattle.cept_profile.specs.State.{Core}
 use Rattle.cept_repaint.specs.Due.{at_rest}
 use Rattle.cept_repaint.specs.Kept.{core_on}
 use Rattle.cept_repaint.proofs.WalkedRows.{WalkedTo}
-use Rattle.cept_repaint.proofs.redraw.refresh_rows_from.Given as goal
+use Rattle.cept_repaint.proofs.redraw.refresh_rows.Given as goal
 
 abbrev pub invariant-loop-row : goal.invariant-loop-row
 invariant-loop-row g l =

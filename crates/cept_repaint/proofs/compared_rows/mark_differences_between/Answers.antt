@@ -1,7 +1,7 @@
 use Rattle.std.proofs.Common.{refl, ◌∙◌}
 use Rattle.cept_codes.specs.Place.{number}
 use Rattle.cept_repaint.proofs.MarkedDifferences.{HasMarkedRow-flags, other_above}
-use Rattle.cept_repaint.proofs.compared_rows.mark_differences_from.Goals as goal
+use Rattle.cept_repaint.proofs.compared_rows.mark_differences_between.Goals as goal
 
 pub returns-clause-marked : goal.returns-clause-marked
 returns-clause-marked c =
