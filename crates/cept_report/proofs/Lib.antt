@@ -2,6 +2,7 @@ pub mod Digits
 pub mod TextsInPieces
 pub mod LinesPut
 pub mod TextsGathered
+pub mod Endings
 pub mod ScreenLines
 pub mod PhaseLines
 pub mod Worked

@@ -3,4 +3,5 @@ pub mod Screen
 pub mod Text
 pub mod Phases
 pub mod Front
+pub mod Ending
 pub mod Gathered

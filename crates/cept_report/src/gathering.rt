@@ -11,9 +11,10 @@ ghost use Rattle.cept_report.specs.Gathered.{Gathers};
 ghost use Rattle.cept_report.specs.Screen.{cell_line};
 ghost use Rattle.cept_report.specs.Text.{shape_text};
 
+use crate::ending::{Ending, add_ending};
 use crate::line::{Line, add_byte};
 use crate::lines::add_front;
-use crate::look::{add_drawing, add_fields, add_sign};
+use crate::look::{add_drawing, add_sign};
 use cept_codes::{Pos, Shape};
 use cept_outside::{Sink, WriteFault, put_all};
 use cept_repaint::Screen;
@@ -122,6 +123,7 @@ fn gather_seen<T: Sink>(
 pub fn gather_change<T: Sink>(
     sink: &mut T,
     lines: &mut Line,
+    kept: &mut Ending,
     label: &[u8],
     at: Pos,
     screen: &Screen,
@@ -135,6 +137,6 @@ pub fn gather_change<T: Sink>(
     add_front(lines, label, at);
     let look = screen.look(at);
     gather_seen(sink, lines, &look.shape, at, screen)?;
-    add_fields(lines, &look);
+    add_ending(lines, kept, &look, at, screen);
     Ok(())
 }

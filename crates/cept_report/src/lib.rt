@@ -2,6 +2,7 @@
 //! put exactly. It knows no bytes of a page and no history.
 #![tactic(auto)]
 
+mod ending;
 mod gathering;
 mod line;
 mod lines;

@@ -2,6 +2,7 @@ ghost use Rattle.std.specs.Prelude.{◌≡◌, ◌+◌, ◌≤◌, ◌<◌, ◌�
 ghost use Rattle.arrayvec.specs.ArrayVec.{array_vec_len};
 ghost use Rattle.cept_codes.specs.Look.{IsValidInks, IsValidLook, IsValidPattern, IsValidShape};
 ghost use Rattle.cept_report.specs.Ascii.{ascii};
+ghost use Rattle.cept_report.specs.Ending.{ending_text};
 ghost use Rattle.cept_report.specs.Text.{set_letter, accent_text, sign_text, shape_text};
 ghost use Rattle.cept_report.specs.Text.{flash_letter, flag_letter, fields_text, look_text};
 ghost use Rattle.cept_report.specs.Text.{ink_texts, pattern_text};
@@ -95,8 +96,40 @@ fn letter_of_flag(letter: u8, flag: bool) -> u8
     if flag { letter } else { b'-' }
 }
 
-/// Adds the fields after the shape, each after a space, and a line feed.
+/// The fields after the shape, each after a space, and a line feed.
 // All at once, since none of them is of another size for another look.
+#[inline(always)]
+pub fn ending_of(look: &Look) -> [u8; 20]
+    requires { IsValidLook look.now }
+    ensures { result ≡ ending_text look.now }
+{
+    let fore = paint_signs(&look.fore);
+    let back = paint_signs(&look.back);
+    [
+        b' ',
+        b'0' + look.h,
+        b'0' + look.w,
+        b'.',
+        b'0' + look.dy,
+        b'0' + look.dx,
+        b' ',
+        fore.0,
+        fore.1,
+        fore.2,
+        b' ',
+        back.0,
+        back.1,
+        back.2,
+        b' ',
+        letter_of_flash(look.flash),
+        letter_of_flag(b'c', look.conceal),
+        letter_of_flag(b'l', look.lined),
+        letter_of_flag(b'b', look.boxed),
+        b'\n',
+    ]
+}
+
+/// Adds the fields after the shape, each after a space, and a line feed.
 #[inline(always)]
 pub fn add_fields(line: &mut Line, look: &Look)
     requires room { array_vec_len line.old + 20 ≤ 248 }
@@ -105,33 +138,7 @@ pub fn add_fields(line: &mut Line, look: &Look)
         ≡ line.old.items ++ (ascii " " ∷ fields_text look.now ++ ascii "\n" ∷ []) }
     ensures len { array_vec_len line.new ≡ array_vec_len line.old + 20 }
 {
-    let fore = paint_signs(&look.fore);
-    let back = paint_signs(&look.back);
-    add_text(
-        line,
-        &[
-            b' ',
-            b'0' + look.h,
-            b'0' + look.w,
-            b'.',
-            b'0' + look.dy,
-            b'0' + look.dx,
-            b' ',
-            fore.0,
-            fore.1,
-            fore.2,
-            b' ',
-            back.0,
-            back.1,
-            back.2,
-            b' ',
-            letter_of_flash(look.flash),
-            letter_of_flag(b'c', look.conceal),
-            letter_of_flag(b'l', look.lined),
-            letter_of_flag(b'b', look.boxed),
-            b'\n',
-        ],
-    );
+    add_text(line, &ending_of(look));
 }
 
 /// Adds the five fields of a look, and a line feed: at most 222 bytes, where a pattern has nine words

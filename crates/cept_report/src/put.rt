@@ -10,6 +10,7 @@ ghost use Rattle.cept_report.specs.Screen.{cells_text, screen_text};
 ghost use Rattle.cept_report.specs.Text.{change_line, change_lines, check_line, refusal_line};
 ghost use Rattle.cept_report.specs.Text.{nothing_line, script_fault_line, load_line};
 
+use crate::ending::Ending;
 use crate::gathering::{gather_change, gather_shape, put_gathered};
 use crate::line::Line;
 use crate::lines::{
@@ -70,9 +71,10 @@ fn put_changes_from<T: Sink>(
     let mut digits = Buffer::new();
     let number = digits.format(label).as_bytes();
     let mut lines = Line::new();
+    let mut kept = Ending::blank();
     let mut from = first.number();
     while let Some(at) = marks.next_from(from) {
-        gather_change(sink, &mut lines, number, at, screen)?;
+        gather_change(sink, &mut lines, &mut kept, number, at, screen)?;
         from = at.number() + 1;
     }
     put_gathered(sink, &lines)

@@ -23,4 +23,4 @@ returns g c =
     Gathers-line _ _ _ _ _ _ _ (front_text c.args.label.now c.args.at) (shape_text c.look-look.result.shape) _
     (32 ∷ fields_text c.look-look.result ++ 10 ∷ []) _ c.in_ok-make_room.ensures.gathers.whole
     c.in_ok-make_room.ensures.gathers.cause.stays c.add_front.ensures.text c.in_ok-gather_seen.ensures.gathers.whole
-    c.in_ok-gather_seen.ensures.gathers.cause.stays line c.add_fields.ensures.text
+    c.in_ok-gather_seen.ensures.gathers.cause.stays line c.add_ending.ensures.text
