@@ -1,4 +1,4 @@
-ghost use Rattle.std.specs.Prelude.{◌≡◌, ◌≤◌, ◌+◌, ◌↔◌, false, [], drop, length};
+ghost use Rattle.std.specs.Prelude.{◌≡◌, ◌≤◌, ◌<◌, ◌+◌, ◌↔◌, false, [], drop, length};
 ghost use Rattle.std.specs.List.{AllByRecursion};
 ghost use Rattle.cept_profile.specs.Valid.{IsValidState};
 ghost use Rattle.cept_repaint.specs.Applied.{IsRepainted};
@@ -59,6 +59,23 @@ pub(crate) fn turn<G: Glass, L: Ledger>(
             *marks = Marks::new();
             false
         }
+    }
+}
+
+/// Takes an undone delta, which can't be made again, and where there is none a spare one.
+pub(crate) fn take_free(
+    undone: &mut HeapCircularBuffer<Delta>,
+    spare: &mut HeapCircularBuffer<Delta>,
+) -> Delta
+    requires some { 0 < length undone.old.items + length spare.old.items }
+    ensures others { length undone.new.items + length spare.new.items + 1
+        ≡ length undone.old.items + length spare.old.items }
+    ensures places { undone.new.capacity ≡ undone.old.capacity }
+    ensures spare_places { spare.new.capacity ≡ spare.old.capacity }
+{
+    match undone.pop_front() {
+        Some(delta) => delta,
+        None => spare.pop_front().unwrap(),
     }
 }
 

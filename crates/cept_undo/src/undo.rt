@@ -7,7 +7,7 @@ ghost use Rattle.cept_repaint.specs.Marks.{no_marks};
 ghost use Rattle.cept_undo.specs.Past.{FitsTogether, IsBegun, IsNotBegun, StaysBegun, at_begin};
 ghost use Rattle.cept_undo.specs.Past.{future, handed_on, most_kept, nearest, past};
 
-use crate::turn::{give_back, turn};
+use crate::turn::{give_back, take_free, turn};
 use cept_codes::{Command, NoMemory};
 use cept_outside::Steps;
 use cept_repaint::{Delta, Glass, Marks, Screen};
@@ -92,8 +92,8 @@ impl Undo {
         ensures at_begin { at_begin self.new screen.now ≡ Some screen.now }
         ensures fits { FitsTogether self.new screen.now }
     {
+        let mut delta = take_free(&mut self.undone, &mut self.spare);
         give_back(&mut self.undone, &mut self.spare);
-        let mut delta = self.spare.pop_front().unwrap();
         delta.reset(screen);
         self.begun = Some(delta);
     }
