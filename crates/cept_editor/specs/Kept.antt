@@ -102,7 +102,7 @@ editor_after page k = record {
 pub record StandsAfter (editor : EditorState) (page : List Command) (k : KeptEdits) : Type 0 where
   pub valid : AllValid (remaining page k)
   pub valid_again : AllValid (commands_of_edits k.undone)
-  -- each edit has a command, and as many are kept as can be taken back
+  -- each edit has a command, and at least as many are kept as can be taken back
   pub some : AllByRecursion (λ commands. 0 < length commands) (k.edits ++ k.undone)
   pub within : k.count ≤ length k.edits
   pub is : editor ≡ editor_after page k

@@ -1,5 +1,5 @@
--- Looks at a phase of flashing (ETS 300 072, flashing; that there are six phases of one length is this profile's own): the
--- phases 0 to 5 come one after the other in a circle.
+-- Looks at a phase of flashing (ETS 300 072, flashing; that there are six phases is this profile's own): the phases 0 to 5
+-- come one after the other in a circle.
 use Rattle.std.specs.Prelude.{ℕ, Bool, true, false, nat_le, nat_lt, ◌&&◌, ◌/◌, ◌%◌, ◌+◌, List, if◌then◌else◌}
 use Rattle.cept_codes.specs.declared.attribute.Flash.{Flash}
 use Rattle.cept_codes.specs.declared.attribute.Flash.TheVariants as flashes

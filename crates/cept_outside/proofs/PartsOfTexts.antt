@@ -5,7 +5,7 @@ use Rattle.std.specs.Io.KnownBytes.{append_known, prepend_known}
 use Rattle.std.proofs.Math.Seq.{take-append_seam, drop-append_seam}
 use Rattle.std.proofs.lemmas.List.{drop-drop, take-append-drop}
 use Rattle.std.proofs.lemmas.Option.{same_Some, none-some}
-use Rattle.cept_outside.specs.SinkState.{SinkState, Gains, HasPut, GainsPart}
+use Rattle.cept_outside.specs.SinkState.{SinkState, Gains, HasPut, GainsPart, count_after}
 
 -- what is left after what a take moved, and what it moved
 pub left_after : (whole front : List ℕ) (place n : ℕ) (old new : Option (List ℕ)) → length front ≡ n
@@ -34,10 +34,21 @@ pub append_known-nil : (known : Option (List ℕ)) → known ≡ append_known kn
 append_known-nil None = refl
 append_known-nil (Some xs) = ap Some (sym (append-nil xs))
 
+-- counts go on in parts, and stay where nothing is put
+pub count_after-nil : (count : Option ℕ) → count ≡ count_after count 0
+count_after-nil None = refl
+count_after-nil (Some n) = ap Some (omega arith)
+
+pub count_after-more : (count : Option ℕ) (a b : ℕ) → count_after (count_after count a) b ≡ count_after count (a + b)
+count_after-more None a b = refl
+count_after-more (Some n) a b = ap Some (omega arith)
+
 -- a sink gains nothing without a call
 pub Gains-nil : (s : SinkState) → Gains s [] s
 Gains-nil s = record {
   bytes = append_known-nil s.bytes;
+  counted = count_after-nil s.count;
+  room = refl;
   unflushed = λ h. absurd (omega (arith, h));
   unflushed_stays = λ _. refl;
 }
@@ -56,6 +67,9 @@ unflushed_after a b c xs (y ∷ ys) first second some = second.unflushed (omega 
 pub Gains-append : (a b c : SinkState) (xs ys : List ℕ) → Gains a xs b → Gains b ys c → Gains a (xs ++ ys) c
 Gains-append a b c xs ys first second = record {
   bytes = second.bytes ∙ ap (λ k. append_known k ys) first.bytes ∙ append_known-append_known a.bytes xs ys;
+  counted = second.counted ∙ ap (λ n. count_after n (length ys)) first.counted
+      ∙ count_after-more a.count (length xs) (length ys) ∙ ap (count_after a.count) (sym (length-append xs ys));
+  room = second.room ∙ first.room;
   unflushed = λ some. unflushed_after a b c xs ys first second some;
   unflushed_stays = λ none.
       let counts : length xs + length ys ≡ 0 = sym (length-append xs ys) ∙ ap length none in

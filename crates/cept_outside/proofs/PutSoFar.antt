@@ -4,8 +4,8 @@ use Rattle.std.proofs.Common.{length-drop, length-take, arith}
 use Rattle.std.specs.Io.KnownBytes.{append_known}
 use Rattle.std.proofs.lemmas.List.{drop-drop, take_all}
 use Rattle.std.proofs.Math.Seq.{take-add}
-use Rattle.cept_outside.proofs.PartsOfTexts.{append_known-append_known}
-use Rattle.cept_outside.specs.SinkState.{SinkState, Puts, Gains}
+use Rattle.cept_outside.proofs.PartsOfTexts.{append_known-append_known, count_after-more}
+use Rattle.cept_outside.specs.SinkState.{SinkState, Puts, Gains, count_after}
 
 -- what isn't left of the text was put
 pub record IsPutSoFar (text rest : List ℕ) (old now : SinkState) : Type 0 where
@@ -44,6 +44,17 @@ IsPutSoFar-more text rest next n old mid new is so_far puts stays =
       put = record {
         bytes = puts.appended ∙ ap (λ b. append_known b (take n rest)) so_far.put.bytes
             ∙ append_known-append_known old.bytes (take done text) (take n rest) ∙ ap (append_known old.bytes) front;
+        counted = puts.counted ∙ ap (λ k. count_after k n) so_far.put.counted
+            ∙ count_after-more old.count (length (take done text)) n
+            ∙ ap (count_after old.count) (omega (
+              arith,
+              length-take done text,
+              length-take (length text - length next) text,
+              puts.within,
+              so_far.within,
+              more,
+            ));
+        room = puts.room ∙ so_far.put.room;
         unflushed = λ _. puts.unflushed;
         unflushed_stays = λ e. absurd (omega (
           arith,

@@ -5,9 +5,11 @@ pub mod Calls
 pub mod Counted
 pub mod Files
 pub mod Rack
+pub mod PlainShelf
 pub mod MemShelf
 pub mod Sound
 pub mod QuietShelf
+pub mod PlainSink
 pub mod MemSink
 pub mod QuietSink
 pub mod FileShelf

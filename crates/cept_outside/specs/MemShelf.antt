@@ -2,7 +2,7 @@
 use Rattle.std.specs.Prelude.{ℕ, List}
 use Rattle.cept_outside.specs.declared.mem_shelf.MemShelf.{MemShelf}
 use Rattle.cept_outside.specs.Calls.{faults_of}
-use Rattle.cept_outside.specs.Rack.{rack_state}
+use Rattle.cept_outside.specs.PlainShelf.{plain_shelf_state}
 use Rattle.cept_outside.specs.ShelfState.{ShelfState}
 
 -- how many calls were made
@@ -15,5 +15,6 @@ mem_shelf_numbers shelf = shelf.calls.numbers.items
 
 -- it tells all; its faults are the numbers that are reached, and the files missed
 abbrev pub mem_shelf_state : MemShelf → ShelfState
-mem_shelf_state shelf = rack_state shelf.rack shelf.missed (faults_of shelf.calls.numbers.items shelf.calls.count
-    shelf.missed)
+mem_shelf_state shelf = record (plain_shelf_state shelf.files) {
+  faults = faults_of shelf.calls.numbers.items shelf.calls.count shelf.files.missed;
+}

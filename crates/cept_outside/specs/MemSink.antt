@@ -1,13 +1,14 @@
 -- A sink in memory, of a fixed room, whose calls fail where they are told to and at puts into a full list. This
 -- project's own.
-use Rattle.std.specs.Prelude.{ℕ, List, Some}
+use Rattle.std.specs.Prelude.{ℕ, List}
 use Rattle.cept_outside.specs.declared.mem_sink.MemSink.{MemSink}
 use Rattle.cept_outside.specs.Calls.{faults_of}
+use Rattle.cept_outside.specs.PlainSink.{plain_sink_room, plain_sink_state}
 use Rattle.cept_outside.specs.SinkState.{SinkState}
 
 -- how many bytes it holds at most
 abbrev pub mem_sink_room : MemSink → ℕ
-mem_sink_room sink = sink.room
+mem_sink_room sink = plain_sink_room sink.list
 
 -- how many calls were made
 abbrev pub mem_sink_count : MemSink → ℕ
@@ -19,12 +20,10 @@ mem_sink_numbers sink = sink.calls.numbers.items
 
 -- how many puts found it full
 abbrev pub mem_sink_refused : MemSink → ℕ
-mem_sink_refused sink = sink.refused
+mem_sink_refused sink = sink.list.refused
 
--- it tells its bytes; its faults are the numbers that are reached, and the puts into a full list
+-- it tells its bytes and its room; its faults are the numbers that are reached, and the puts into a full list
 abbrev pub mem_sink_state : MemSink → SinkState
-mem_sink_state sink = record {
-  bytes = Some sink.bytes.items;
-  unflushed = sink.unflushed;
-  faults = faults_of sink.calls.numbers.items sink.calls.count sink.refused;
+mem_sink_state sink = record (plain_sink_state sink.list) {
+  faults = faults_of sink.calls.numbers.items sink.calls.count sink.list.refused;
 }

@@ -1,35 +1,50 @@
 -- A sink: bytes are put at its end, and flushed. This project's own.
-use Rattle.std.specs.Prelude.{◌≡◌, ℕ, ◌<◌, ◌≤◌, Bool, true, false, List, [], take, length, Option, Result, OnOk}
-use Rattle.std.specs.Prelude.{OnErr, IfOk}
+use Rattle.std.specs.Prelude.{◌≡◌, ℕ, ◌+◌, ◌-◌, ◌^◌, ◌<◌, ◌≤◌, min, Bool, true, false, List, [], take, length, Option}
+use Rattle.std.specs.Prelude.{Result, OnOk, OnErr, IfOk}
 use Rattle.std.specs.Io.KnownBytes.{append_known}
+use Rattle.std.specs.Option.{option_map}
 use Rattle.cept_outside.specs.Causes.{HasCause}
 
 -- what a sink means
 pub record SinkState : Type 0 where
   -- the bytes put, where they are told
   pub bytes : Option (List ℕ)
+  -- how many were put, up to the greatest u64, where that is told
+  pub count : Option ℕ
+  -- how many it holds at most, where that is told: a number that stays
+  pub room : Option ℕ
   -- bytes were put since the last flush that succeeded
   pub unflushed : Bool
   -- the count of faults, which never falls: no call fails where it doesn't rise
   pub faults : ℕ
+
+-- a count after so many more bytes, where it is told: it stands still at the greatest u64
+abbrev pub count_after : Option ℕ → ℕ → Option ℕ
+count_after count more = option_map (λ n. n + min more (2 ^ 64 - 1 - n)) count
 
 -- the front of the piece is appended, at least a byte; a failure appends nothing
 pub record Puts {E : Type 0} (old : SinkState) (piece : List ℕ) (result : Result ℕ E) (new : SinkState) : Type 0 where
   pub some : IfOk result (λ n. 1 ≤ n)
   pub within : IfOk result (λ n. n ≤ length piece)
   pub appended : IfOk result (λ n. new.bytes ≡ append_known old.bytes (take n piece))
+  pub counted : IfOk result (λ n. new.count ≡ count_after old.count n)
+  pub room : new.room ≡ old.room
   pub unflushed : OnOk result (new.unflushed ≡ true)
-  pub failed : OnErr result ((new.bytes ≡ old.bytes) × (new.unflushed ≡ old.unflushed))
+  pub failed : OnErr result ((new.bytes ≡ old.bytes) × (new.count ≡ old.count) × (new.unflushed ≡ old.unflushed))
 
 -- nothing is appended, and after a success nothing is unflushed
 pub record Flushes {X E : Type 0} (old : SinkState) (result : Result X E) (new : SinkState) : Type 0 where
   pub bytes : new.bytes ≡ old.bytes
+  pub count : new.count ≡ old.count
+  pub room : new.room ≡ old.room
   pub flushed : OnOk result (new.unflushed ≡ false)
   pub failed : OnErr result (new.unflushed ≡ old.unflushed)
 
 -- these bytes were put, in one call or several; unflushed stays where there are none
 pub record Gains (old : SinkState) (part : List ℕ) (new : SinkState) : Type 0 where
   pub bytes : new.bytes ≡ append_known old.bytes part
+  pub counted : new.count ≡ count_after old.count (length part)
+  pub room : new.room ≡ old.room
   pub unflushed : 0 < length part → new.unflushed ≡ true
   pub unflushed_stays : part ≡ [] → new.unflushed ≡ old.unflushed
 

@@ -9,6 +9,8 @@ module _ {W : Type 0} where
   abbrev pub std_sink_state : StdSink W → SinkState
   std_sink_state sink = record {
     bytes = None;
+    count = None;
+    room = None;
     unflushed = nat_lt sink.sent (length sink.held.items) || sink.writer.unflushed;
     faults = sink.writer.faults.count;
   }

@@ -8,7 +8,7 @@ ghost use Rattle.cept_outside.specs.ShelfState.{Selects, Takes, bytes_under, emp
 
 use crate::calls::Calls;
 use crate::fault::Failed;
-use crate::rack::Rack;
+use crate::plain_shelf::PlainShelf;
 use crate::shelf::Shelf;
 use cept_codes::NoMemory;
 use std::alloc::Global;
@@ -18,9 +18,8 @@ use std::alloc::Global;
 /// call fails.
 #[derive(Drop)]
 pub struct MemShelf {
-    rack: Rack,
+    files: PlainShelf,
     calls: Calls,
-    missed: u64,
 }
 
 impl MemShelf {
@@ -34,9 +33,8 @@ impl MemShelf {
         ensures numbers { mem_shelf_numbers result ≡ [] }
     {
         MemShelf {
-            rack: Rack::new(alloc),
+            files: PlainShelf::new(alloc),
             calls: Calls::new(),
-            missed: 0,
         }
     }
 
@@ -58,7 +56,7 @@ impl MemShelf {
         ensures count { mem_shelf_count self.new ≡ mem_shelf_count self.old }
         ensures numbers { mem_shelf_numbers self.new ≡ mem_shelf_numbers self.old }
     {
-        self.rack.add(name, bytes)
+        self.files.add(name, bytes)
     }
 
     /// Lets the call with this number fail, counted from 1 over `select` and `take`. Sixteen
@@ -85,9 +83,9 @@ impl Shelf for MemShelf {
 
     ghost state = { mem_shelf_state };
 
-    ghost counted = { λ shelf. faults_counted shelf.calls.numbers.items shelf.calls.count shelf.missed };
+    ghost counted = { λ shelf. faults_counted shelf.calls.numbers.items shelf.calls.count shelf.files.missed };
 
-    ghost sound = { λ shelf. rack_state_is_sound shelf.rack _ _ };
+    ghost sound = { λ shelf. rack_state_is_sound shelf.files.rack _ _ };
 
     fn select(&mut self, name: &str) -> Result<(), Failed>
         ensures selects { Selects (mem_shelf_state self.old) name.now result
@@ -107,12 +105,9 @@ impl Shelf for MemShelf {
         ensures numbers { mem_shelf_numbers self.new ≡ mem_shelf_numbers self.old }
     {
         let fails = self.calls.next();
-        if !self.rack.select(name) {
-            self.missed = self.missed.saturating_add(1);
-            return Err(Failed);
-        }
+        self.files.select(name)?;
         if fails {
-            self.rack.deselect();
+            self.files.deselect();
             return Err(Failed);
         }
         Ok(())
@@ -137,6 +132,6 @@ impl Shelf for MemShelf {
         if self.calls.next() {
             return Err(Failed);
         }
-        Ok(self.rack.take(into))
+        self.files.take(into)
     }
 }

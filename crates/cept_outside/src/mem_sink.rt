@@ -1,6 +1,6 @@
 ghost use Rattle.std.specs.Prelude.{◌≡◌, ℕ, ◌+◌, ◌-◌, ◌^◌, ◌<◌, ◌≤◌, ◌⊎◌, ◌↔◌, min, List, []};
 ghost use Rattle.std.specs.Prelude.{length, Some, false};
-ghost use Rattle.std.specs.Prelude.{nat_lt, IsErr, IfOk, OnErr, Contains, vec_len, vec_capacity};
+ghost use Rattle.std.specs.Prelude.{nat_lt, IsErr, IfOk, Contains};
 ghost use Rattle.std.specs.Prelude.{if◌then◌else◌};
 ghost use Rattle.cept_outside.specs.Causes.{HasCause};
 ghost use Rattle.cept_outside.specs.Calls.{faults_of, numbers_with};
@@ -8,6 +8,7 @@ ghost use Rattle.cept_outside.specs.SinkState.{Puts, Flushes};
 
 use crate::calls::Calls;
 use crate::fault::Failed;
+use crate::plain_sink::PlainSink;
 use crate::sink::Sink;
 use cept_codes::NoMemory;
 use std::alloc::Global;
@@ -16,13 +17,8 @@ use std::alloc::Global;
 /// whose number was given to `fail_at`, counted from 1 over `put` and `flush`. No other call fails.
 #[derive(Drop)]
 pub struct MemSink {
-    bytes: Vec<u8>,
-    room: usize,
-    unflushed: bool,
-    refused: u64,
+    list: PlainSink,
     calls: Calls,
-    ghost reserved: { room ≤ vec_capacity bytes },
-    ghost within: { vec_len bytes ≤ room },
 }
 
 impl MemSink {
@@ -33,18 +29,14 @@ impl MemSink {
     /// An empty list with room for so many bytes, whose calls don't fail.
     pub fn new(alloc: Global, room: u32) -> Result<MemSink, NoMemory>
         ensures state { IfOk result (λ sink. mem_sink_state sink
-            ≡ record { bytes = Some []; unflushed = false; faults = 0 }) }
+            ≡ record { bytes = Some []; count = Some 0; room = Some room; unflushed = false; faults = 0 }) }
         ensures room { IfOk result (λ sink. mem_sink_room sink ≡ room) }
         ensures count { IfOk result (λ sink. mem_sink_count sink ≡ 0) }
         ensures numbers { IfOk result (λ sink. mem_sink_numbers sink ≡ []) }
         ensures refused { IfOk result (λ sink. mem_sink_refused sink ≡ 0) }
     {
-        let room = room as usize;
         Ok(MemSink {
-            bytes: Vec::with_capacity(alloc, room)?,
-            room,
-            unflushed: false,
-            refused: 0,
+            list: PlainSink::new(alloc, room)?,
             calls: Calls::new(),
         })
     }
@@ -70,7 +62,7 @@ impl MemSink {
     pub fn bytes(&self) -> &[u8]
         ensures { (mem_sink_state self.now).bytes ≡ Some result.now }
     {
-        self.bytes.as_slice()
+        self.list.bytes()
     }
 }
 
@@ -82,7 +74,7 @@ impl Sink for MemSink {
 
     ghost state = { mem_sink_state };
 
-    ghost counted = { λ sink. faults_counted sink.calls.numbers.items sink.calls.count sink.refused };
+    ghost counted = { λ sink. faults_counted sink.calls.numbers.items sink.calls.count sink.list.refused };
 
     fn put(&mut self, piece: &[u8]) -> Result<usize, Failed>
         requires { 0 < length piece.now }
@@ -106,18 +98,10 @@ impl Sink for MemSink {
         ensures numbers { mem_sink_numbers self.new ≡ mem_sink_numbers self.old }
     {
         let fails = self.calls.next();
-        let free = self.room - self.bytes.len();
-        if free == 0 {
-            self.refused = self.refused.saturating_add(1);
+        if fails && !self.list.is_full() {
             return Err(Failed);
         }
-        if fails {
-            return Err(Failed);
-        }
-        let count = free.min(piece.len());
-        self.bytes.extend_from_slice(&piece[..count]).unwrap();
-        self.unflushed = true;
-        Ok(count)
+        self.list.put(piece)
     }
 
     fn flush(&mut self) -> Result<(), Failed>
@@ -136,7 +120,6 @@ impl Sink for MemSink {
         if self.calls.next() {
             return Err(Failed);
         }
-        self.unflushed = false;
-        Ok(())
+        self.list.flush()
     }
 }

@@ -1,4 +1,4 @@
-ghost use Rattle.std.specs.Prelude.{◌≡◌, ◌+◌, ◌-◌, ◌^◌, ◌<◌, min, length, None, Ok, IsOk, false};
+ghost use Rattle.std.specs.Prelude.{◌≡◌, ◌+◌, ◌-◌, ◌^◌, ◌<◌, min, length, Some, None, Ok, IsOk, false};
 ghost use Rattle.cept_outside.specs.Causes.{HasCause};
 ghost use Rattle.cept_outside.specs.SinkState.{Puts, Flushes};
 
@@ -19,7 +19,7 @@ impl QuietSink {
     /// A sink that nothing was put into.
     pub fn new() -> QuietSink
         ensures state { quiet_sink_state result
-            ≡ record { bytes = None; unflushed = false; faults = 0 } }
+            ≡ record { bytes = None; count = Some 0; room = None; unflushed = false; faults = 0 } }
         ensures count { quiet_sink_count result ≡ 0 }
     {
         QuietSink {

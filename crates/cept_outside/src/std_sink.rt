@@ -32,7 +32,7 @@ impl<W: Write> StdSink<W> {
     /// Nothing is held back.
     pub fn new(out: W) -> StdSink<W>
         ensures state { std_sink_state result
-            ≡ record { bytes = None; unflushed = false; faults = 0 } }
+            ≡ record { bytes = None; count = None; room = None; unflushed = false; faults = 0 } }
         ensures held { held_bytes result ≡ [] }
         ensures free { free_room result ≡ 4096 }
         ensures kept { Keeps (W.contents out) (written_and_held W.contents result) }

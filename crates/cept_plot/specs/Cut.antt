@@ -9,7 +9,7 @@ abbrev pub parts_after : ℕ → Option (Bor (List ℕ)) → List (List ℕ)
 parts_after mark None = []
 parts_after mark (Some rest) = slice_split (λ a. a == mark) rest.now
 
--- bytes are this part alone, or this part, a mark and the rest
+-- bytes are this part alone; or this part is shorter, and the rest is what stands one byte after as many
 abbrev pub IsCut : List ℕ → List ℕ → Option (Bor (List ℕ)) → Type 0
 IsCut bytes part None = bytes ≡ part
 IsCut bytes part (Some rest) = (rest.now ≡ drop (length part + 1) bytes) × (length part < length bytes)

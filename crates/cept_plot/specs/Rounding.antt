@@ -11,7 +11,7 @@ pub record IsSlope (s : Slope) (a b n : ℕ) : Type 0 where
   pub part : s.part ≡ 2 * distance a b
   pub rises : s.rises ≡ nat_le a b
 
--- where it is after i of n steps from a to b: the rounded number, and what was rounded off
+-- where it is after i of n steps from a to b: the rounded number, halves up, and the rest of the division that rounds
 pub record IsUnderWay (c : Coordinate) (a b n i : ℕ) : Type 0 where
   pub sum : 2 * n * c.at + c.rest ≡ 2 * ((n - i) * a + i * b) + n
   pub rest : c.rest < 2 * n

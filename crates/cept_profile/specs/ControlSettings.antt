@@ -210,7 +210,8 @@ area_back = last_said (λ earlier. area_said (created_back earlier)) None
 
 -- ---- all settings
 
--- what control keeps that a command says at once: all but position, run, step, flash, what waits and the last sign
+-- what control keeps that a command says at once: all but position, run, step, flash, what waits, the last sign and what a
+-- service keeps
 pub record Settings : Type 0 where
   pub c1 : C1Set
   pub table : ℕ

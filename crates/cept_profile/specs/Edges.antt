@@ -1,11 +1,11 @@
--- Edges (own): in a row that is last no sign is high. Which rows are last is told by the edges alone.
+-- Edges (own): no sign that begins in a last row is high. Which rows are last depends on the edges alone.
 use Rattle.std.specs.Prelude.{ℕ, ◌+◌, ◌==◌, ◌||◌, Bool, false, Option, Some, None, nat_le}
 use Rattle.std.specs.Prelude.{if◌then◌else◌}
 use Rattle.cept_profile.specs.Motions.{area_within}
 use Rattle.cept_profile.specs.State.{Core}
 use Rattle.cept_profile.specs.Working.{ControlState}
 
--- what tells which rows are last: the number of rows of the format, and the area whose edges no sign crosses, where there
+-- what decides which rows are last: the number of rows of the format, and the area whose edges no sign crosses, where there
 -- is such
 pub record Edges : Type 0 where
   pub rows : ℕ

@@ -1,4 +1,4 @@
--- Old values noted before strokes (own): those of the locations that each changes.
+-- Old values noted before strokes (own): those of the locations that each may change.
 use Rattle.std.specs.Prelude.{ℕ, Bool, true, ◌==◌, ◌&&◌, nat_le, List, [], ◌∷◌}
 use Rattle.cept_codes.specs.declared.command.Command.{Command}
 use Rattle.cept_codes.specs.declared.stroke.Stroke.{Stroke}
@@ -32,7 +32,7 @@ with_dclut_of p these old = with_dclut these (dclut_in p.dclut) old
 abbrev pub with_patterns_of : Page → (ℕ → Bool) → OldValues → OldValues
 with_patterns_of p these old = with_patterns these (pattern_in p.patterns) old
 
--- old values after those that a stroke changes on a page are noted
+-- old values after those that a stroke may change on a page are noted
 abbrev pub with_stroke : Page → Stroke → OldValues → OldValues
 with_stroke p (strokes.Put place cell) old = with_cells_of p (is_at place) old
 with_stroke p (strokes.Erase row from) old = with_cells_of p (λ r c. row == r && nat_le from c) old
@@ -56,6 +56,6 @@ unfoldable pub with_strokes : Page → List Stroke → OldValues → OldValues
 with_strokes p [] old = old
 with_strokes p (stroke ∷ more) old = with_strokes (page_after p (stroke ∷ [])) more (with_stroke p stroke old)
 
--- old values after those that a command changes in a state are noted, and control's
+-- old values after those that a command may change in a state are noted, and control's
 abbrev pub with_command : State → Command → OldValues → OldValues
 with_command s command old = with_strokes s.page (strokes_of s.control command) (with_control s.control old)

@@ -34,7 +34,7 @@ pub record State : Type 0 where
   pub page : Page
   pub control : ControlState
 
--- what looks are made of: a page, and what of control is seen on it
+-- a page, and those settings of control that a written page brings back: looks are made of the page and of the edges alone
 pub record Core : Type 0 where
   pub page : Page
   pub rows : ℕ

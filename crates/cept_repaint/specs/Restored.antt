@@ -1,5 +1,6 @@
--- Rows that are resolved where old values are put back (this project's own): those of which an old value is noted, all
--- where one is noted by which any row may look, and those that are covered from above otherwise than before.
+-- Rows that may have to be resolved where old values are put back (this project's own): those of which an old value is
+-- noted, all where one is noted by which any row may look, those that are last only before or only after, and those that
+-- are covered from above otherwise than before.
 use Rattle.std.specs.Prelude.{ℕ, ◌-◌, ◌||◌, Bool, List, [], is_some, slice_index_or}
 use Rattle.std.specs.List.{count_by, list_any, range_with_len}
 use Rattle.cept_codes.specs.declared.look.Look.{Look}

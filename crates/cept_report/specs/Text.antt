@@ -157,7 +157,7 @@ check_line items refused =
     join_with_byte (ascii " ") (codes "items" ∷ decimal items ∷ codes "refused" ∷ decimal refused ∷ [])
     ++ ascii "\n" ∷ []
 
--- the line number of an undo before which no edit can be taken back
+-- the line of an undo where no edit can be taken back, or of a redo where none is undone: its number and a word
 abbrev pub nothing_line : ℕ → List ℕ
 nothing_line line = join_with_byte (ascii " ") (decimal line ∷ codes "nothing" ∷ []) ++ ascii "\n" ∷ []
 

@@ -35,8 +35,8 @@ abbrev pub look_shown : Definitions → List Look → (ℕ → What) → Pen →
 look_shown defined above row pen screen last =
     look_from (column_entry blank_look above) (look_in_row defined row pen screen) (size_in_row row pen screen) last
 
--- two looks are the same, or neither covers the place to its right: what that place shows is as much the one's as the
--- other's
+-- two looks are the same, or neither is of the left side of a wide sign: what the place to the right shows is as much the
+-- one's as the other's
 abbrev pub IsCoveredAlike : Look → Look → Type 0
 IsCoveredAlike a b = (a ≡ b) ⊎ ((covers_right (part_of a) ≡ false) × (covers_right (part_of b) ≡ false))
 

@@ -119,7 +119,8 @@ pub fn resolve_cells<L: Ledger>(
 
 /// The same from a column on, where the looks to the left of it are already so: cells to the right
 /// count for nothing. To the right of another column a look is already so if the place to its left is,
-/// or covers it neither before nor after. Answers a column to whose right all stay as they are.
+/// or shows the left side of a wide sign neither before nor after. Answers a column to whose right all
+/// stay as they are.
 pub fn resolve_cells_between<L: Ledger>(
     from: u8,
     until: u8,
@@ -276,8 +277,8 @@ fn each_plain(
 }
 
 /// The looks of a row from a column on, where those to the left of it are already so, and to the right of
-/// another column those are so that follow one which is, or which covers nothing to its right before and
-/// after. Answers a column to whose right all stay as they are.
+/// another column those are so that follow one which is, or which shows the left side of a wide sign
+/// neither before nor after. Answers a column to whose right all stay as they are.
 // A call of its own: the walk along a plain row has then more at hand.
 #[inline(never)]
 fn each_between(

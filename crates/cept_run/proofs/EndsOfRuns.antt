@@ -5,15 +5,17 @@ use Rattle.std.proofs.Common.{append_assoc, append-nil, min, take-take, length}
 use Rattle.std.proofs.lemmas.Option.{none-some, same_Some}
 use Rattle.cept_codes.specs.declared.command.Command.{Command}
 use Rattle.cept_codes.specs.declared.item.Item.{Item}
-use Rattle.cept_editor.specs.Events.{Event}
+use Rattle.cept_editor.specs.Events.{Event, report}
 use Rattle.cept_editor.specs.Made.{AreStill, output_of, AreMade, AreCutOff}
 use Rattle.cept_editor.specs.Script.{Fault}
 use Rattle.cept_editor.proofs.Laws.{AreCutOff-longer, cut_untouched}
 use Rattle.cept_outside.specs.Causes.{Rose, HasCause}
 use Rattle.cept_outside.specs.ShelfState.{ShelfState, Holds, Selects, IsSound}
-use Rattle.cept_outside.specs.SinkState.{SinkState, HasPut}
+use Rattle.cept_outside.specs.SinkState.{SinkState}
 use Rattle.cept_outside.proofs.Laws.{HasPut-nothing}
 use Rattle.cept_parser.specs.Items.{items, closed_items}
+use Rattle.cept_codes.specs.declared.look.Look.{Look}
+use Rattle.cept_profile.specs.Look.{grid}
 use Rattle.cept_profile.specs.State.{core}
 use Rattle.cept_writer.specs.CompactCommands.{page_text}
 use Rattle.cept_run.specs.declared.page.Stop.{Stop}
@@ -25,10 +27,10 @@ use Rattle.cept_run.specs.Course.{Course, Source, File, Gives, HasBytes, IsNamed
 use Rattle.cept_run.specs.Course.{first_fault_in, sequel_in, reporting}
 use Rattle.cept_run.specs.Events.{history, item_events, text_at_end, edited_events, sequel_events, Sequel, nothing_more}
 use Rattle.cept_run.specs.Events.{remaining_after, has_refusal}
-use Rattle.cept_run.specs.Outside.{Outside, outside_of, output, PutsWhole}
+use Rattle.cept_run.specs.Outside.{Outside, outside_of, output, PutsWhole, PutsFront}
 use Rattle.cept_run.specs.Page.{PageUnput, PageStops, PutsEnd, KeepsShelf}
 use Rattle.cept_run.specs.Reporting.{Plan, sequel_if_any, sequel_of, remaining_at_end}
-use Rattle.cept_run.specs.Run.{is_flushed, Restores, EndsWhole, IsReportCut, HasStopper, Ends}
+use Rattle.cept_run.specs.Run.{Restores, EndsWhole, IsReportCut, HasStopper, Ends}
 use Rattle.cept_run.specs.Run.{RunsCourse, status_of, status_at_end}
 use Rattle.cept_run.specs.ScriptReading.{ScriptKnown}
 use Rattle.cept_run.proofs.EditedLines.{edited_events-none}
@@ -37,9 +39,10 @@ use Rattle.cept_run.proofs.PagesInPieces.{KeepsFiles-more, nil_from_length}
 use Rattle.cept_run.proofs.PaintedItems.{still_idle}
 use Rattle.cept_run.proofs.ReportedFronts.{reports_front, reports_nothing, made_nothing}
 use Rattle.cept_run.proofs.ReportedRuns.{put_made, put_cut, all, edited, the_end, the_run, whole_report}
-use Rattle.cept_run.proofs.ReportedRuns.{cut_at_end, put_to_end}
+use Rattle.cept_run.proofs.FrontsPut.{cut_front}
+use Rattle.cept_run.proofs.ReportedRuns.{cut_at_end, put_to_end, front_at_end}
 use Rattle.cept_run.proofs.Selections.{nothing_selected, selected_is, given_left, under_same, holds_still}
-use Rattle.cept_run.proofs.Selections.{gives_still}
+use Rattle.cept_run.proofs.Selections.{gives_still, EndsPut, put_unless, room_kept}
 use Rattle.cept_run.proofs.StoppedScripts.{selected_so_long, name_in}
 
 -- ---- the script was read
@@ -107,6 +110,7 @@ module _ (plan : Plan) (grammar : Grammar) (name : List ℕ) (script : Source) (
     bad_script = λ other bytes fault named given found. absurd (no_fault other bytes fault named given found);
     unpainted = λ idle. refl;
     unflushed = λ early. HasPut-nothing before.sink;
+    room = refl;
     sink_faults = omega arith;
   }
 
@@ -147,7 +151,7 @@ module _ (plan : Plan) (grammar : Grammar) (name : List ℕ) (script : Source) (
 
     runs_course : (status : Status) → Ends course before after status
         → (asked.painting ≡ false → after.glass ≡ before.glass)
-        → (is_flushed status ≡ false → HasPut before.sink after.sink) → before.sink.faults ≤ after.sink.faults
+        → EndsPut status before.sink after.sink → before.sink.faults ≤ after.sink.faults
         → RunsCourse course before after status
     runs_course status ends idle puts later = record {
       ends = ends;
@@ -162,7 +166,8 @@ module _ (plan : Plan) (grammar : Grammar) (name : List ℕ) (script : Source) (
       };
       bad_script = λ other bytes fault named given found. absurd (no_fault other bytes fault named given found);
       unpainted = idle;
-      unflushed = puts;
+      unflushed = put_unless status before.sink after.sink puts;
+      room = room_kept status before.sink after.sink puts;
       sink_faults = later;
     }
 
@@ -172,22 +177,33 @@ module _ (plan : Plan) (grammar : Grammar) (name : List ℕ) (script : Source) (
         → RunsCourse course before after status
     runs_made status bytes made stays ends = runs_course status ends
         (λ idle. made.painted.untouched (still_idle asked (items bytes) idle))
-        (λ early. put_made (item_events asked (items bytes)) (output before) (output after) made)
+        (inl (put_made (item_events asked (items bytes)) (output before) (output after) made))
         (omega (arith, stays))
 
-    -- the events of some items are cut off of those of the whole run
-    cut_in_run : (page : List ℕ) (front others : List Item) → closed_items page ≡ front ++ others
-        → AreCutOff (item_events asked front) (output before) (output after)
-        → AreCutOff (the_run asked grammar page told after.glass.grid) (output before) (output after)
-    cut_in_run page front others is off =
-        let end = the_end asked grammar page told after.glass.grid ∷ [] in
+    -- the events of some items are cut off of those of the whole run, whatever the glass shows at its end
+    cut_in_run : (shown : List (List Look)) (page : List ℕ) (front others : List Item)
+        → closed_items page ≡ front ++ others → AreCutOff (item_events asked front) (output before) (output after)
+        → AreCutOff (the_run asked grammar page told shown) (output before) (output after)
+    cut_in_run shown page front others is off =
+        let end = the_end asked grammar page told shown ∷ [] in
         let script_part = sequel_events asked.edits_listed (history asked (closed_items page)) (sequel_in grammar told) in
         AreCutOff-longer (item_events asked front) (events_after asked front others ++ (script_part ++ end))
-        (the_run asked grammar page told after.glass.grid) (output before) (output after)
+        (the_run asked grammar page told shown) (output before) (output after)
         (append_assoc (item_events asked (closed_items page)) script_part end
         ∙ ap (λ (l : List Item). item_events asked l ++ (script_part ++ end)) is
         ∙ ap (λ (es : List Event). es ++ (script_part ++ end)) (item_events-append asked front others)
         ∙ append_assoc (item_events asked front) (events_after asked front others) (script_part ++ end)) off
+
+    -- the events of the run where the glass shows what remains
+    abbrev meant_run : List ℕ → List Event
+    meant_run page = the_run asked grammar page told (grid (all asked grammar page told))
+
+    -- so a front of the report was put
+    front_in_run : (page : List ℕ) (front others : List Item) → closed_items page ≡ front ++ others
+        → AreCutOff (item_events asked front) (output before) (output after)
+        → PutsFront (report (meant_run page)) before.sink after.sink
+    front_in_run page front others is off = cut_front (meant_run page) (output before) (output after)
+        (cut_in_run (grid (all asked grammar page told)) page front others is off)
 
     -- the sink failed at an item
     runs_cut : (reached : List Item) → AreCutOff (item_events asked reached) (output before) (output after)
@@ -196,7 +212,7 @@ module _ (plan : Plan) (grammar : Grammar) (name : List ℕ) (script : Source) (
     runs_cut reached off stays cut = runs_course statuses.WriteFault
         (record { write_fault = off.cause; cut = inl cut; shelf_stays = stays ∙ same_faults })
         (λ idle. cut_untouched (item_events asked reached) (output before) (output after) (still_idle asked reached idle) off)
-        (λ early. put_cut (item_events asked reached) (output before) (output after) off) off.later
+        (inl (put_cut (item_events asked reached) (output before) (output after) off)) off.later
 
     -- in the midst of the page: of the page that is told, or of the bytes that were taken
     front_cut : (left : Option (List ℕ)) → mid.left ≡ left
@@ -212,7 +228,8 @@ module _ (plan : Plan) (grammar : Grammar) (name : List ℕ) (script : Source) (
           script_is = known.has;
           good = known.good;
           script_not_too_long = known.few;
-          cut = inl (cut_in_run page ends.front there.0 there.1 ends.cut);
+          cut = inl (cut_in_run after.glass.grid page ends.front there.0 there.1 ends.cut);
+          front = λ blank. front_in_run page ends.front there.0 there.1 ends.cut;
           taken = λ other named. (
             selects_page other named,
             inr (record {
@@ -231,7 +248,8 @@ module _ (plan : Plan) (grammar : Grammar) (name : List ℕ) (script : Source) (
       script_is = known.has;
       good = known.good;
       script_not_too_long = known.few;
-      cut = inl (cut_in_run ends.bytes ends.front ends.are.0 ends.are.1 ends.cut);
+      cut = inl (cut_in_run after.glass.grid ends.bytes ends.front ends.are.0 ends.are.1 ends.cut);
+      front = λ blank. front_in_run ends.bytes ends.front ends.are.0 ends.are.1 ends.cut;
       taken = λ other named. (
         selects_page other named,
         inr (record {
@@ -248,8 +266,9 @@ module _ (plan : Plan) (grammar : Grammar) (name : List ℕ) (script : Source) (
         → (after.shelf.taken ≡ length bytes) × (after.shelf.ended ≡ true) × (length bytes ≤ 2 ^ 24)
         → AreCutOff (the_run asked grammar bytes told after.glass.grid) (output before) (output after)
         ⊎ AreMade (the_run asked grammar bytes told after.glass.grid) (output before) (output after)
+        → (before.glass.grid ≡ grid [] → PutsFront (report (meant_run bytes)) before.sink after.sink)
         → IsReportCut course before after
-    whole_cut bytes read taken cut = record {
+    whole_cut bytes read taken cut front = record {
       page = bytes;
       page_is = λ given gives. read given (left_of_given given gives);
       script = told;
@@ -257,6 +276,7 @@ module _ (plan : Plan) (grammar : Grammar) (name : List ℕ) (script : Source) (
       good = known.good;
       script_not_too_long = known.few;
       cut = cut;
+      front = front;
       taken = λ other named. (selects_page other named, inl taken);
     }
 
@@ -286,8 +306,11 @@ module _ (plan : Plan) (grammar : Grammar) (name : List ℕ) (script : Source) (
     ends_stopped stops.WriteFault sound_after (inl ends) =
         runs_cut ends.front ends.cut ends.stays (front_cut mid.left refl ends)
     ends_stopped stops.WriteFault sound_after (inr ends) = runs_cut (closed_items ends.bytes) ends.cut ends.stays
-        (whole_cut ends.bytes ends.known (ends.taken, ends.ended, ends.few) (inl (cut_in_run ends.bytes (closed_items ends.bytes) []
-        (sym (append-nil (closed_items ends.bytes))) ends.cut)))
+        (whole_cut ends.bytes ends.known (ends.taken, ends.ended, ends.few)
+        (inl (cut_in_run after.glass.grid ends.bytes (closed_items ends.bytes) []
+        (sym (append-nil (closed_items ends.bytes))) ends.cut))
+        (λ blank. front_in_run ends.bytes (closed_items ends.bytes) [] (sym (append-nil (closed_items ends.bytes)))
+        ends.cut))
     ends_stopped stops.TooLong sound_after ends = runs_made statuses.TooLong ends.bytes ends.made ends.sink_stays (record {
       which = inl (record {
         name = name;
@@ -341,10 +364,14 @@ module _ (plan : Plan) (grammar : Grammar) (name : List ℕ) (script : Source) (
           (runs_course statuses.WriteFault (record {
             write_fault = off.cause;
             cut = inl (whole_cut bytes read (taken.0, taken.1, few) (inl (AreCutOff-longer (edited asked grammar bytes told)
-                (the_end asked grammar bytes told after.glass.grid ∷ []) shown_run (output before) (output after) refl off)));
+                (the_end asked grammar bytes told after.glass.grid ∷ []) shown_run (output before) (output after) refl off))
+                (λ blank. cut_front (meant_run bytes) (output before) (output after)
+                (AreCutOff-longer (edited asked grammar bytes told)
+                (the_end asked grammar bytes told (grid (all asked grammar bytes told)) ∷ []) (meant_run bytes)
+                (output before) (output after) refl off)));
             shelf_stays = stays ∙ same_faults;
           }) (λ idle. cut_untouched (edited asked grammar bytes told) (output before) (output after) (still_edited idle) off)
-          (λ early. put_cut (edited asked grammar bytes told) (output before) (output after) off) off.later)
+          (inl (put_cut (edited asked grammar bytes told) (output before) (output after) off)) off.later)
 
       module _ (sink : SinkState)
           (made_all : AreMade (edited_events asked (closed_items bytes) (sequel_of plan)) (output before)
@@ -389,17 +416,18 @@ module _ (plan : Plan) (grammar : Grammar) (name : List ℕ) (script : Source) (
         by_end : (result : Result Bool Stop) → PutsEnd end_put (has_refusal (closed_items bytes)) sink result after.sink
             → RunsCourse course before after (status_at_end result)
         by_end (Ok false) puts = runs_course statuses.Done (whole_end false puts.1 puts.0) idle_run
-            (λ early. cc) (omega (arith, puts.0.stays, sink_stays))
+            (inr (refl, puts.0.room ∙ made.put.room)) (omega (arith, puts.0.stays, sink_stays))
         by_end (Ok true) puts = runs_course statuses.Refusals (whole_end true puts.1 puts.0) idle_run
-            (λ early. cc) (omega (arith, puts.0.stays, sink_stays))
+            (inr (refl, puts.0.room ∙ made.put.room)) (omega (arith, puts.0.stays, sink_stays))
         by_end (Err stop) puts =
             subst (λ (s : Stop). RunsCourse course before after (status_of s)) (sym puts.1)
             (runs_course statuses.WriteFault (record {
               write_fault = subst (λ n. Rose n after.sink.faults) sink_stays puts.0.cause;
-              cut = inl (whole_cut bytes read (taken.0, taken.1, few) (cut_at_end asked grammar bytes told before after sink made sink_stays puts.0));
+              cut = inl (whole_cut bytes read (taken.0, taken.1, few) (cut_at_end asked grammar bytes told before after sink made sink_stays puts.0)
+                  (front_at_end asked grammar bytes told before after sink made sink_stays puts.0));
               shelf_stays = stays ∙ same_faults;
             }) idle_run
-            (λ early. put_to_end asked grammar bytes told before after sink made sink_stays puts.0)
+            (inl (put_to_end asked grammar bytes told before after sink made sink_stays puts.0))
             (omega (arith, puts.0.later, sink_stays)))
 
         pub ends_put : (result : Result Bool Stop)

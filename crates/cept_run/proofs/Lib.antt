@@ -14,6 +14,8 @@ pub mod Selections
 pub mod ReadScripts
 pub mod ReportedFronts
 pub mod StoppedScripts
+pub mod FrontsPut
+pub mod NothingTouched
 pub mod ReportedRuns
 pub mod RestoredPages
 pub mod FreshDecoders

@@ -3,16 +3,17 @@ use Rattle.std.proofs.Common.{◌≡◌, inl, ℕ, ◌^◌, ◌≤◌, Bool, tru
 use Rattle.std.proofs.Common.{◌∙◌, ap, subst, arith, length, ◌⊎◌, inr}
 use Rattle.std.specs.Io.KnownBytes.{append_known}
 use Rattle.cept_codes.specs.declared.command.Command.{Command}
-use Rattle.cept_editor.specs.Events.{Event, paints}
+use Rattle.cept_editor.specs.Events.{Event, report, paints}
 use Rattle.cept_editor.specs.Made.{AreStill, ArePainted, output_of, AreMade, AreCutOff}
 use Rattle.cept_editor.proofs.Laws.{AreCutOff-longer, cut_untouched, report-one, ArePainted-still, AreMade-none}
 use Rattle.cept_editor.proofs.Laws.{AreMade-end, AreCutOff-end}
 use Rattle.cept_outside.specs.Causes.{Rose}
 use Rattle.cept_outside.specs.ShelfState.{ShelfState}
-use Rattle.cept_outside.specs.SinkState.{SinkState, HasPut, Gains, GainsPart}
+use Rattle.cept_outside.specs.SinkState.{SinkState, Gains, GainsPart, count_after}
 use Rattle.cept_profile.specs.Changes.{grid_with_paints}
 use Rattle.cept_repaint.specs.GlassState.{GlassState}
 use Rattle.cept_parser.specs.Items.{closed_items}
+use Rattle.cept_profile.specs.Look.{grid}
 use Rattle.cept_profile.specs.State.{core}
 use Rattle.cept_writer.specs.CompactCommands.{page_text}
 use Rattle.cept_run.specs.declared.page.Stop.{Stop}
@@ -23,15 +24,16 @@ use Rattle.cept_run.specs.declared.words.Asked.{Asked}
 use Rattle.cept_run.specs.Course.{Course, Given, Scripts, sequel_in, reporting, putting, text_event}
 use Rattle.cept_run.specs.Events.{history, item_events, text_at_end, edited_events, has_refusal, Sequel, nothing_more}
 use Rattle.cept_run.specs.Events.{remaining_after}
-use Rattle.cept_run.specs.Outside.{Outside, output, PutsWhole, PutsUnflushed}
+use Rattle.cept_run.specs.Outside.{Outside, output, PutsWhole, PutsUnflushed, PutsFront}
 use Rattle.cept_run.specs.Page.{PutsEnd}
 use Rattle.cept_run.specs.Reporting.{Plan, sequel_of, remaining_at_end}
-use Rattle.cept_run.specs.Run.{is_flushed, Restores, EndsWhole, IsReportCut, Ends, RunsCourse, status_at_end}
+use Rattle.cept_run.specs.Run.{Restores, EndsWhole, IsReportCut, Ends, RunsCourse, status_at_end}
 use Rattle.cept_run.proofs.EditedLines.{edited_events-none}
 use Rattle.cept_run.proofs.PaintedItems.{chained-one, each_shown, still_idle}
 use Rattle.cept_run.proofs.ReportedRuns.{put_cut, all, edited, the_end, the_run, whole_report, cut_at_end}
-use Rattle.cept_run.proofs.ReportedRuns.{put_to_end}
-use Rattle.cept_run.proofs.Selections.{put_either}
+use Rattle.cept_run.proofs.FrontsPut.{cut_front, either_front}
+use Rattle.cept_run.proofs.ReportedRuns.{put_to_end, front_at_end}
+use Rattle.cept_run.proofs.Selections.{put_either, EndsPut, put_unless, room_kept}
 use Rattle.cept_run.proofs.StoppedScripts.{sequel-none, first_fault-none}
 
 -- ---- the page is put
@@ -45,14 +47,15 @@ module _ (page : List ℕ) (before after : Outside) (shelf : after.shelf ≡ bef
   event = text_event page
 
   runs_bare : (status : Status) → Ends bare before after status
-      → (is_flushed status ≡ false → HasPut before.sink after.sink) → before.sink.faults ≤ after.sink.faults
+      → EndsPut status before.sink after.sink → before.sink.faults ≤ after.sink.faults
       → RunsCourse bare before after status
   runs_bare status ends puts later = record {
     ends = ends;
     shelf = shelf;
     bad_script = λ name script fault named given found. cc;
     unpainted = λ idle. same;
-    unflushed = puts;
+    unflushed = put_unless status before.sink after.sink puts;
+    room = room_kept status before.sink after.sink puts;
     sink_faults = later;
   }
 
@@ -64,6 +67,7 @@ module _ (page : List ℕ) (before after : Outside) (shelf : after.shelf ≡ bef
     script_is = refl;
     reports = record {
       put = puts.put ∙ ap (append_known before.sink.bytes) (sym (report-one event));
+      counted = puts.counted ∙ ap (λ t. count_after before.sink.count (length t)) (sym (report-one event));
       painted = subst (λ (g : GlassState). ArePainted (event ∷ []) before.glass g) (sym same)
           (ArePainted-still event before.glass refl);
       each = λ blank done e rest split. ap (λ g. grid_with_paints g (paints (done ++ e ∷ []))) blank
@@ -93,6 +97,7 @@ module _ (page : List ℕ) (before after : Outside) (shelf : after.shelf ≡ bef
     good = first_fault-none;
     script_not_too_long = omega arith;
     cut = by_text puts.put;
+    front = λ blank. either_front (event ∷ []) (output before) (output after) (by_text puts.put);
     taken = λ name e. cc;
   }
     where
@@ -105,7 +110,7 @@ module _ (page : List ℕ) (before after : Outside) (shelf : after.shelf ≡ bef
 
   pub runs_put : (result : Result Bool Stop) → PutsEnd page false before.sink result after.sink
       → RunsCourse bare before after (status_at_end result)
-  runs_put (Ok false) puts = runs_bare statuses.Done (whole puts.0) (λ early. cc) (omega (arith, puts.0.stays))
+  runs_put (Ok false) puts = runs_bare statuses.Done (whole puts.0) (inr (refl, puts.0.room)) (omega (arith, puts.0.stays))
   runs_put (Ok true) puts =
       let no = puts.1 in
       cc
@@ -115,7 +120,7 @@ module _ (page : List ℕ) (before after : Outside) (shelf : after.shelf ≡ bef
         write_fault = puts.0.cause;
         cut = inl (cut puts.0);
         shelf_stays = ap (λ (s : ShelfState). s.faults) shelf;
-      }) (λ early. put_either page before.sink after.sink puts.0.put) puts.0.later)
+      }) (inl (put_either page before.sink after.sink puts.0.put)) puts.0.later)
 
 -- ---- the page is read
 
@@ -132,14 +137,15 @@ module _ (plan : Plan) (page : List ℕ) (before after : Outside) (shelf : after
 
   runs_loaded : (status : Status) → Ends loaded before after status
       → (asked.painting ≡ false → after.glass ≡ before.glass)
-      → (is_flushed status ≡ false → HasPut before.sink after.sink) → before.sink.faults ≤ after.sink.faults
+      → EndsPut status before.sink after.sink → before.sink.faults ≤ after.sink.faults
       → RunsCourse loaded before after status
   runs_loaded status ends idle puts later = record {
     ends = ends;
     shelf = shelf;
     bad_script = λ name script fault named given found. cc;
     unpainted = idle;
-    unflushed = puts;
+    unflushed = put_unless status before.sink after.sink puts;
+    room = room_kept status before.sink after.sink puts;
     sink_faults = later;
   }
 
@@ -149,9 +155,14 @@ module _ (plan : Plan) (page : List ℕ) (before after : Outside) (shelf : after
   edited_is : edited_events asked (closed_items page) (sequel_of plan) ≡ item_events asked (closed_items page)
   edited_is = ap (edited_events asked (closed_items page)) alone ∙ edited_events-none asked (closed_items page)
 
+  -- the events where the glass shows what remains
+  abbrev meant_run : List Event
+  meant_run = the_run asked Scripts page [] (grid (all asked Scripts page []))
+
   loaded_cut : AreCutOff shown_run (output before) (output after) ⊎ AreMade shown_run (output before) (output after)
+      → (before.glass.grid ≡ grid [] → PutsFront (report meant_run) before.sink after.sink)
       → IsReportCut loaded before after
-  loaded_cut cut = record {
+  loaded_cut cut front = record {
     page = page;
     page_is = refl;
     script = [];
@@ -159,6 +170,7 @@ module _ (plan : Plan) (page : List ℕ) (before after : Outside) (shelf : after
     good = first_fault-none;
     script_not_too_long = omega arith;
     cut = cut;
+    front = front;
     taken = λ name e. cc;
   }
 
@@ -173,11 +185,15 @@ module _ (plan : Plan) (page : List ℕ) (before after : Outside) (shelf : after
       (runs_loaded statuses.WriteFault (record {
         write_fault = off.cause;
         cut = inl (loaded_cut (inl (AreCutOff-longer (edited asked Scripts page [])
-            (the_end asked Scripts page [] after.glass.grid ∷ []) shown_run (output before) (output after) refl own)));
+            (the_end asked Scripts page [] after.glass.grid ∷ []) shown_run (output before) (output after) refl own))
+            (λ blank. cut_front meant_run (output before) (output after)
+            (AreCutOff-longer (edited asked Scripts page [])
+            (the_end asked Scripts page [] (grid (all asked Scripts page [])) ∷ []) meant_run (output before)
+            (output after) refl own)));
         shelf_stays = ap (λ (s : ShelfState). s.faults) shelf;
       }) (λ idle. cut_untouched (edited_events asked (closed_items page) (sequel_of plan)) (output before) (output after)
       (subst AreStill (sym edited_is) (still_idle asked (closed_items page) idle)) off)
-      (λ early. put_cut (edited_events asked (closed_items page) (sequel_of plan)) (output before) (output after) off)
+      (inl (put_cut (edited_events asked (closed_items page) (sequel_of plan)) (output before) (output after) off))
       off.later)
 
   -- at an item
@@ -230,17 +246,19 @@ module _ (plan : Plan) (page : List ℕ) (before after : Outside) (shelf : after
     by_end : (result : Result Bool Stop)
         → PutsEnd (text_at_end asked after.glass.grid page (all asked Scripts page [])) (has_refusal (closed_items page)) sink
         result after.sink → RunsCourse loaded before after (status_at_end result)
-    by_end (Ok false) puts = runs_loaded statuses.Done (loaded_whole false puts.1 puts.0) idle_run (λ early. cc)
+    by_end (Ok false) puts = runs_loaded statuses.Done (loaded_whole false puts.1 puts.0) idle_run (inr (refl, puts.0.room ∙ made.put.room))
         (omega (arith, puts.0.stays, stays))
-    by_end (Ok true) puts = runs_loaded statuses.Refusals (loaded_whole true puts.1 puts.0) idle_run (λ early. cc)
+    by_end (Ok true) puts = runs_loaded statuses.Refusals (loaded_whole true puts.1 puts.0) idle_run
+        (inr (refl, puts.0.room ∙ made.put.room))
         (omega (arith, puts.0.stays, stays))
     by_end (Err stop) puts =
         subst (λ (s : Stop). RunsCourse loaded before after (status_at_end (Err s))) (sym puts.1)
         (runs_loaded statuses.WriteFault (record {
           write_fault = subst (λ n. Rose n after.sink.faults) stays puts.0.cause;
-          cut = inl (loaded_cut (cut_at_end asked Scripts page [] before after sink made stays puts.0));
+          cut = inl (loaded_cut (cut_at_end asked Scripts page [] before after sink made stays puts.0)
+              (front_at_end asked Scripts page [] before after sink made stays puts.0));
           shelf_stays = ap (λ (s : ShelfState). s.faults) shelf;
-        }) idle_run (λ early. put_to_end asked Scripts page [] before after sink made stays puts.0)
+        }) idle_run (inl (put_to_end asked Scripts page [] before after sink made stays puts.0))
         (omega (arith, puts.0.later, stays)))
 
     pub loads_read : (result : Result Bool Stop)

@@ -14,6 +14,8 @@ module _ {X E Y F : Type 0} {x : X} (text : List ℕ) (before mid after : SinkSt
     later = omega (arith, puts.cause.stays, cause.later);
     put = inr (record {
       bytes = flushes.bytes ∙ puts.whole.bytes;
+      counted = flushes.count ∙ puts.whole.counted;
+      room = flushes.room ∙ puts.whole.room;
       unflushed = λ some. flushes.failed ∙ puts.whole.unflushed some;
       unflushed_stays = λ none. flushes.failed ∙ puts.whole.unflushed_stays none;
     });
@@ -24,6 +26,8 @@ module _ {X E Y F : Type 0} {x : X} (text : List ℕ) (before mid after : SinkSt
       → PutsWhole text before after
   put_whole flushes cause = record {
     put = flushes.bytes ∙ puts.whole.bytes;
+    counted = flushes.count ∙ puts.whole.counted;
+    room = flushes.room ∙ puts.whole.room;
     flushed = flushes.flushed;
     stays = cause.stays ∙ puts.cause.stays;
   }

@@ -73,6 +73,7 @@ module _ {X E : Type 0} (name : List ℕ) (before mid after : ShelfState) (x : X
   file_taken bytes taken = record {
     known = λ script given. taken.known script (given_left before mid name script x selects given);
     taken = taken.taken;
+    ended = taken.ended;
     few = taken.few;
     stays = taken.stays ∙ selected;
   }
@@ -115,6 +116,7 @@ module _ (grammar : Grammar) (name : List ℕ) (before after : ShelfState) where
       found = found;
       few = whole.few;
       taken = whole.taken;
+      ended = whole.ended;
       stays = whole.stays;
     }
 

@@ -4,7 +4,7 @@ use Rattle.cept_editor.specs.Events.{Event, paints}
 use Rattle.cept_editor.specs.Made.{Output, AreMade}
 use Rattle.cept_editor.proofs.Laws.{report-none, AreMade-none}
 use Rattle.cept_outside.specs.SinkState.{SinkState, Gains}
-use Rattle.cept_outside.proofs.Laws.{append_known-nil}
+use Rattle.cept_outside.proofs.Laws.{append_known-nil, count_after-nil}
 use Rattle.cept_parser.specs.Items.{items, reading_within}
 use Rattle.cept_profile.specs.Changes.{grid_with_paints}
 use Rattle.cept_run.specs.declared.words.Asked.{Asked}
@@ -40,10 +40,12 @@ reports_nothing asked grammar page script before after same =
 
 pub same_sink : (s t : SinkState) → Gains s [] t → t.faults ≡ s.faults → t ≡ s
 same_sink s t gains stays =
-    same_parts s t (gains.bytes ∙ sym (append_known-nil s.bytes)) (gains.unflushed_stays refl) stays
+    same_parts s t (gains.bytes ∙ sym (append_known-nil s.bytes)) (gains.counted ∙ sym (count_after-nil s.count))
+    gains.room (gains.unflushed_stays refl) stays
   where
-    same_parts : (a b : SinkState) → b.bytes ≡ a.bytes → b.unflushed ≡ a.unflushed → b.faults ≡ a.faults → b ≡ a
-    same_parts a b bytes unflushed faults = grind (arith, bytes, unflushed, faults)
+    same_parts : (a b : SinkState) → b.bytes ≡ a.bytes → b.count ≡ a.count → b.room ≡ a.room
+        → b.unflushed ≡ a.unflushed → b.faults ≡ a.faults → b ≡ a
+    same_parts a b bytes count room unflushed faults = grind (arith, bytes, count, room, unflushed, faults)
 
 -- what was made of no bytes was nothing
 pub made_nothing : (asked : Asked) (bytes : List ℕ) (before after : Outside) → bytes ≡ []

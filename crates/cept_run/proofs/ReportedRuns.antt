@@ -1,5 +1,6 @@
 -- What was reported of a page that was read to its end, after what was done after it.
 use Rattle.std.proofs.Common.{◌≡◌, ◌⊎◌, inl, inr, ℕ, Bool, true, false, not, cond, length, List, [], ◌∷◌, ◌++◌, take, refl, sym, ◌∙◌, ap, subst}
+use Rattle.std.proofs.Common.{length-append}
 use Rattle.std.specs.Io.KnownBytes.{append_known}
 use Rattle.cept_codes.specs.declared.command.Command.{Command}
 use Rattle.cept_codes.specs.declared.look.Look.{Look}
@@ -7,8 +8,8 @@ use Rattle.cept_editor.specs.Events.{Event, report, paints}
 use Rattle.cept_editor.specs.Made.{Output, output_of, AreMade, AreCutOff}
 use Rattle.cept_editor.proofs.Laws.{report-append, report-one, AreMade-end, AreCutOff-end, ArePainted-more}
 use Rattle.cept_editor.proofs.Laws.{ArePainted-still}
-use Rattle.cept_outside.specs.SinkState.{SinkState, HasPut, Gains, GainsPart}
-use Rattle.cept_outside.proofs.Laws.{HasPut-more, append_known-append_known}
+use Rattle.cept_outside.specs.SinkState.{SinkState, HasPut, Gains, GainsPart, count_after}
+use Rattle.cept_outside.proofs.Laws.{HasPut-more, append_known-append_known, count_after-more}
 use Rattle.cept_parser.specs.Items.{closed_items}
 use Rattle.cept_profile.specs.Changes.{grid_with_paints}
 use Rattle.cept_profile.specs.Look.{grid}
@@ -17,7 +18,7 @@ use Rattle.cept_writer.specs.CompactCommands.{page_text}
 use Rattle.cept_run.specs.declared.words.Asked.{Asked}
 use Rattle.cept_run.specs.Events.{text_at_end, painted_end, end_event, edited_events, run_events, remaining_of, refused_count}
 use Rattle.cept_run.specs.Events.{Sequel}
-use Rattle.cept_run.specs.Outside.{Outside, output, PutsWhole, PutsUnflushed}
+use Rattle.cept_run.specs.Outside.{Outside, output, PutsWhole, PutsUnflushed, PutsFront}
 use Rattle.cept_run.specs.Course.{Source, Grammar, sequel_in, is_page, puts_page, reporting}
 use Rattle.cept_run.specs.declared.words.End.{End}
 use Rattle.cept_run.specs.declared.words.End.TheVariants as ends
@@ -25,6 +26,7 @@ use Rattle.cept_run.specs.Run.{Restores, ReportsWhole}
 use Rattle.cept_report.specs.Text.{check_line}
 use Rattle.std.proofs.lemmas.Bool.{and_parts}
 use Rattle.cept_run.proofs.EditedLines.{edited_events-chained}
+use Rattle.cept_run.proofs.FrontsPut.{either_front}
 use Rattle.cept_run.proofs.PaintedItems.{AreChained, chained-append, chained-one, chained_shown, each_shown}
 use Rattle.cept_run.proofs.Selections.{put_either}
 use Rattle.cept_run.proofs.SilentEvents.{silent_edits}
@@ -128,6 +130,9 @@ module _ (asked : Asked) (grammar : Grammar) (bytes script : List ℕ) where
         (silent_edits asked (closed_items bytes) sequel writes.listed writes.refusals writes.edits_listed)
         ∙ report-one last ∙ written_text asked after.glass.grid bytes all writes
 
+    whole_is : report (the_run after.glass.grid) ≡ report edited ++ report (last ∷ [])
+    whole_is = report-append edited (last ∷ [])
+
     -- it was put
     pub whole_report : (page source : Source) → Restores (page_text (core all)) all → PutsWhole the_text sink after.sink
         → ReportsWhole (reporting asked grammar page source) bytes script before after
@@ -135,7 +140,12 @@ module _ (asked : Asked) (grammar : Grammar) (bytes script : List ℕ) where
       put = puts.put ∙ ap (λ known. append_known known the_text) made.put.bytes
           ∙ append_known-append_known before.sink.bytes (report edited) the_text
           ∙ ap (λ t. append_known before.sink.bytes (report edited ++ t)) (sym (report-one last))
-          ∙ ap (append_known before.sink.bytes) (sym (report-append edited (last ∷ [])));
+          ∙ ap (append_known before.sink.bytes) (sym whole_is);
+      counted = puts.counted ∙ ap (λ n. count_after n (length the_text)) made.put.counted
+          ∙ count_after-more before.sink.count (length (report edited)) (length the_text)
+          ∙ ap (count_after before.sink.count) (sym (length-append (report edited) the_text))
+          ∙ ap (λ t. count_after before.sink.count (length (report edited ++ t))) (sym (report-one last))
+          ∙ ap (λ t. count_after before.sink.count (length t)) (sym whole_is);
       painted = ArePainted-more edited (last ∷ []) before.glass after.glass after.glass made.painted
           (ArePainted-still last after.glass refl);
       each = λ blank done event rest split. ap (λ g. grid_with_paints g (paints (done ++ event ∷ []))) blank
@@ -161,3 +171,10 @@ module _ (asked : Asked) (grammar : Grammar) (bytes script : List ℕ) where
     pub put_to_end : PutsUnflushed the_text sink after.sink → HasPut before.sink after.sink
     put_to_end puts = HasPut-more before.sink sink after.sink (put_made edited (output before) middle made)
         (put_either the_text sink after.sink puts.put)
+
+    -- a front of the report was put, where the glass was blank
+    pub front_at_end : PutsUnflushed the_text sink after.sink → before.glass.grid ≡ grid []
+        → PutsFront (report (the_run (grid all))) before.sink after.sink
+    front_at_end puts blank =
+        subst (λ (g : List (List Look)). PutsFront (report (the_run g)) before.sink after.sink) (meaning_at_end blank)
+        (either_front (the_run after.glass.grid) (output before) (output after) (cut_at_end puts))

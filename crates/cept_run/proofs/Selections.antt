@@ -1,12 +1,14 @@
 -- What is selected, and what is then left.
-use Rattle.std.proofs.Common.{◌≡◌, ◌≢◌, ◌⊎◌, inl, inr, ℕ, true, List, [], take}
+use Rattle.std.proofs.Common.{◌≡◌, ◌≢◌, ◌⊎◌, inl, inr, ℕ, true, false, List, [], take}
 use Rattle.std.proofs.Common.{Option, Some, None, is_some, Ok, refl, sym, ◌∙◌, ap}
 use Rattle.std.specs.Prelude.{option_and_then}
 use Rattle.std.proofs.lemmas.Option.{same_Some}
 use Rattle.cept_outside.specs.ShelfState.{ShelfState, Holds, Lacks, SelectsNothing, KeepsFiles, Selects, IsSound}
 use Rattle.cept_outside.specs.ShelfState.{bytes_under}
 use Rattle.cept_outside.specs.SinkState.{SinkState, HasPut, Gains, GainsPart}
+use Rattle.cept_run.specs.declared.run.Status.{Status}
 use Rattle.cept_run.specs.Course.{Gives}
+use Rattle.cept_run.specs.Run.{is_flushed}
 
 -- ---- the selection
 
@@ -97,3 +99,17 @@ gives_still before mid name bytes keeps (inr lacks) = inr (
 pub put_either : (text : List ℕ) (s t : SinkState) → GainsPart s text t ⊎ Gains s text t → HasPut s t
 put_either text s t (inl part) = record { part = take part.size text; gains = part.gains }
 put_either text s t (inr all) = record { part = text; gains = all }
+
+-- bytes were put and nothing flushed; or the run ended with a flush, and the sink kept its room
+abbrev pub EndsPut : Status → SinkState → SinkState → Type 0
+EndsPut status s t = HasPut s t ⊎ ((is_flushed status ≡ true) × (t.room ≡ s.room))
+
+pub put_unless : (status : Status) (s t : SinkState) → EndsPut status s t → is_flushed status ≡ false → HasPut s t
+put_unless status s t (inl put) early = put
+put_unless status s t (inr ended) early =
+    let no : false ≡ true = sym early ∙ ended.0 in
+    cc
+
+pub room_kept : (status : Status) (s t : SinkState) → EndsPut status s t → t.room ≡ s.room
+room_kept status s t (inl put) = put.gains.room
+room_kept status s t (inr ended) = ended.1

@@ -18,11 +18,11 @@ use Rattle.cept_run.specs.declared.words.Asked.{Asked}
 use Rattle.cept_run.specs.Course.{Course, Source, File, Given, Gives, Grammar, Scripts, first_fault_in, sequel_in, reporting}
 use Rattle.cept_run.specs.Events.{Sequel, Edits, nothing_more}
 use Rattle.cept_run.specs.Outside.{Outside, outside_of}
-use Rattle.cept_run.specs.Run.{is_flushed, fault_text, HasBadLine, PutsAtMost, Ends, RunsCourse}
+use Rattle.cept_run.specs.Run.{fault_text, HasBadLine, PutsAtMost, Ends, RunsCourse}
 use Rattle.cept_run.specs.Run.{status_of}
 use Rattle.cept_run.specs.ScriptReading.{ScriptBad, ScriptWhole, ScriptStops, SelectsScript, ScriptKnown}
 use Rattle.cept_run.proofs.ReportedFronts.{reports_nothing}
-use Rattle.cept_run.proofs.Selections.{put_either}
+use Rattle.cept_run.proofs.Selections.{put_either, EndsPut, put_unless, room_kept}
 
 -- the name of a file
 name_of : List ℕ → Source → List ℕ
@@ -108,7 +108,7 @@ module _ (asked : Asked) (grammar : Grammar) (page name : List ℕ) (before : Ou
   runs_script : (status : Status) → Ends course before now status
       → ((other script : List ℕ) (fault : Fault) → File name ≡ File other → Gives before.shelf other script
       → first_fault_in grammar script ≡ Some fault → PutsAtMost (fault_text fault) before now)
-      → (is_flushed status ≡ false → HasPut before.sink sink) → before.sink.faults ≤ sink.faults
+      → EndsPut status before.sink sink → before.sink.faults ≤ sink.faults
       → RunsCourse course before now status
   runs_script status ends bad puts later = record {
     ends = ends;
@@ -125,7 +125,8 @@ module _ (asked : Asked) (grammar : Grammar) (page name : List ℕ) (before : Ou
     };
     bad_script = bad;
     unpainted = λ idle. refl;
-    unflushed = puts;
+    unflushed = put_unless status before.sink sink puts;
+    room = room_kept status before.sink sink puts;
     sink_faults = later;
   }
 
@@ -137,7 +138,7 @@ module _ (asked : Asked) (grammar : Grammar) (page name : List ℕ) (before : Ou
         size = 0;
         put = ap (λ (s : SinkState). s.bytes) same ∙ append_known-nil before.sink.bytes;
       })
-      (λ early. subst (λ (s : SinkState). HasPut before.sink s) (sym same) (HasPut-nothing before.sink))
+      (inl (subst (λ (s : SinkState). HasPut before.sink s) (sym same) (HasPut-nothing before.sink)))
       (omega (arith, ap (λ (s : SinkState). s.faults) same))
 
   -- ---- a line of it is outside the grammar
@@ -211,10 +212,10 @@ module _ (asked : Asked) (grammar : Grammar) (page name : List ℕ) (before : Ou
   }) ends.1
   ends_at_script stops.WriteFault sound ends = runs_script statuses.WriteFault (record {
     write_fault = ends.put.cause;
-    cut = inr (record { bad = bad_line ends.bad; put = ends.put; taken = ends.bad.taken; unpainted = refl });
+    cut = inr (record { bad = bad_line ends.bad; put = ends.put; taken = ends.bad.taken; ended = ends.bad.ended; unpainted = refl });
     shelf_stays = ends.bad.stays;
   }) (most_as ends.bad (most_part ends.bad ends.put.put))
-      (λ early. put_either (text ends.bad) before.sink sink ends.put.put) ends.put.later
+      (inl (put_either (text ends.bad) before.sink sink ends.put.put)) ends.put.later
   ends_at_script stops.TooLong sound ends = runs_unput statuses.TooLong (record {
     which = inr (record {
       name = name;
@@ -231,12 +232,14 @@ module _ (asked : Asked) (grammar : Grammar) (page name : List ℕ) (before : Ou
   ends_at_script stops.Script sound ends = runs_script statuses.Script (record {
     bad = bad_line ends.bad;
     put = ends.put.put;
+    counted = ends.put.counted;
     unpainted = refl;
     flushed = ends.put.flushed;
     taken = ends.bad.taken;
+    ended = ends.bad.ended;
     shelf_stays = ends.bad.stays;
     sink_stays = ends.put.stays;
-  }) (most_as ends.bad (most_all ends.bad ends.put.put)) (λ early. cc)
+  }) (most_as ends.bad (most_all ends.bad ends.put.put)) (inr (refl, ends.put.room))
       (omega (arith, ends.put.stays))
   ends_at_script stops.NoMemory sound ends = runs_unput statuses.NoMemory (record {
     memory = painting;

@@ -10,7 +10,7 @@ use Rattle.cept_editor.specs.Made.{ArePainted, AreMade, AreCutOff}
 use Rattle.cept_editor.proofs.Laws.{report-one, ArePainted-still, AreMade-none, AreMade-end, AreCutOff-end}
 use Rattle.cept_outside.specs.Causes.{Rose, HasCause}
 use Rattle.cept_outside.specs.ShelfState.{ShelfState, Holds, Selects, IsSound}
-use Rattle.cept_outside.specs.SinkState.{SinkState, HasPut, Gains, GainsPart}
+use Rattle.cept_outside.specs.SinkState.{SinkState, Gains, GainsPart, count_after}
 use Rattle.cept_outside.proofs.Laws.{HasPut-nothing, Gains-nil}
 use Rattle.cept_profile.specs.Changes.{grid_with_paints}
 use Rattle.cept_repaint.specs.GlassState.{GlassState}
@@ -26,14 +26,15 @@ use Rattle.cept_run.specs.declared.words.BytesAction.TheVariants as actions
 use Rattle.cept_run.specs.Course.{Course, File, Gives, SelectsNoOther, turning, text_event}
 use Rattle.cept_run.specs.Outside.{Outside, outside_of, output, PutsUnflushed}
 use Rattle.cept_run.specs.Page.{KeepsShelf}
-use Rattle.cept_run.specs.Run.{is_flushed, EndsWhole, IsReportCut, IsUnreadable, IsEndOpen, Ends, ReportsFront, RunsCourse}
+use Rattle.cept_run.specs.Run.{EndsWhole, IsReportCut, IsUnreadable, IsEndOpen, Ends, ReportsFront, RunsCourse}
 use Rattle.cept_run.specs.Run.{status_at_end}
 use Rattle.cept_run.specs.Turned.{turned, turned_front, readable_front, can_end_there}
 use Rattle.cept_run.specs.Turning.{TurnsWhole, TurnsPart, TurnsCut, TurnsNot, PageTurned}
 use Rattle.cept_run.proofs.PagesInPieces.{KeepsFiles-more, nil_from_length}
 use Rattle.cept_run.proofs.PaintedItems.{chained-one, each_shown}
+use Rattle.cept_run.proofs.FrontsPut.{cut_front, either_front}
 use Rattle.cept_run.proofs.ReportedFronts.{same_sink}
-use Rattle.cept_run.proofs.Selections.{nothing_selected, selected_is, given_left, put_either}
+use Rattle.cept_run.proofs.Selections.{nothing_selected, selected_is, given_left, put_either, EndsPut, put_unless, room_kept}
 use Rattle.cept_run.proofs.StoppedScripts.{first_fault-none, selected_so_long, name_in}
 
 -- ---- what is turned
@@ -130,6 +131,7 @@ module _ (action : BytesAction) (name : List ℕ) (before : Outside) where
     bad_script = λ other bytes fault named given found. cc;
     unpainted = λ idle. refl;
     unflushed = λ early. HasPut-nothing before.sink;
+    room = refl;
     sink_faults = omega arith;
   }
 
@@ -158,7 +160,7 @@ module _ (action : BytesAction) (name : List ℕ) (before : Outside) where
     among_names chosen (inr is) = inr (inl is)
 
     runs_course : (status : Status) → Ends course before after status
-        → (is_flushed status ≡ false → HasPut before.sink after.sink) → before.sink.faults ≤ after.sink.faults
+        → EndsPut status before.sink after.sink → before.sink.faults ≤ after.sink.faults
         → RunsCourse course before after status
     runs_course status ends puts later = record {
       ends = ends;
@@ -171,14 +173,15 @@ module _ (action : BytesAction) (name : List ℕ) (before : Outside) where
       };
       bad_script = λ other bytes fault named given found. cc;
       unpainted = λ idle. same;
-      unflushed = puts;
+      unflushed = put_unless status before.sink after.sink puts;
+      room = room_kept status before.sink after.sink puts;
       sink_faults = later;
     }
 
     -- a text was put, and no fault of the sink was counted
     runs_put : (status : Status) (text : List ℕ) → Gains before.sink text after.sink
         → after.sink.faults ≡ before.sink.faults → Ends course before after status → RunsCourse course before after status
-    runs_put status text put stays ends = runs_course status ends (λ early. record { part = text; gains = put })
+    runs_put status text put stays ends = runs_course status ends (inl (record { part = text; gains = put }))
         (omega (arith, stays))
 
     whole : TurnsWhole action mid before.sink after.shelf after.sink → EndsWhole course before after false
@@ -189,6 +192,7 @@ module _ (action : BytesAction) (name : List ℕ) (before : Outside) where
       script_is = refl;
       reports = record {
         put = ends.put.put ∙ ap (append_known before.sink.bytes) (sym (report-one event_of));
+        counted = ends.put.counted ∙ ap (λ t. count_after before.sink.count (length t)) (sym (report-one event_of));
         painted = subst (λ (g : GlassState). ArePainted (event_of ∷ []) before.glass g) (sym same)
             (ArePainted-still event_of before.glass refl);
         each = λ blank done e rest split. ap (λ g. grid_with_paints g (paints (done ++ e ∷ []))) blank
@@ -237,6 +241,8 @@ module _ (action : BytesAction) (name : List ℕ) (before : Outside) where
           good = first_fault-none;
           script_not_too_long = omega arith;
           cut = inl (cut_of page (take size page) (drop size page) (take-append-drop size page) cut);
+          front = λ blank. cut_front (text_event (turned action page) ∷ []) (output before) (output after)
+              (cut_of page (take size page) (drop size page) (take-append-drop size page) cut);
           taken = λ other named. (
             selects_page other named,
             inr (record {
@@ -257,6 +263,8 @@ module _ (action : BytesAction) (name : List ℕ) (before : Outside) where
           script_not_too_long = omega arith;
           cut = inl (cut_of ends.bytes (take size ends.bytes) (drop size ends.bytes)
               (take-append-drop size ends.bytes) ends.cut);
+          front = λ blank. cut_front (text_event (turned action ends.bytes) ∷ []) (output before) (output after)
+              (cut_of ends.bytes (take size ends.bytes) (drop size ends.bytes) (take-append-drop size ends.bytes) ends.cut);
           taken = λ other named. (
             selects_page other named,
             inr (record {
@@ -308,7 +316,7 @@ module _ (action : BytesAction) (name : List ℕ) (before : Outside) where
 
     pub runs_turned : (result : Result Bool Stop) → PageTurned action mid before.sink result after.shelf after.sink
         → RunsCourse course before after (status_at_end result)
-    runs_turned (Ok false) ends = runs_course statuses.Done (whole ends.0) (λ early. cc) (omega (arith, ends.0.put.stays))
+    runs_turned (Ok false) ends = runs_course statuses.Done (whole ends.0) (inr (refl, ends.0.put.room)) (omega (arith, ends.0.put.stays))
     runs_turned (Ok true) ends =
         let no = ends.1 in
         cc
@@ -339,7 +347,7 @@ module _ (action : BytesAction) (name : List ℕ) (before : Outside) where
           write_fault = ends.cut.cause;
           cut = inl (cut_by mid.left refl ends);
           shelf_stays = ends.stays ∙ selected;
-        }) (λ early. record { part = take ends.cut.put.size _; gains = ends.cut.put.gains }) ends.cut.later
+        }) (inl (record { part = take ends.cut.put.size _; gains = ends.cut.put.gains })) ends.cut.later
     runs_turned (Err stops.WriteFault) (inr ends) =
         runs_course statuses.WriteFault (record {
           write_fault = ends.cut.cause;
@@ -351,10 +359,12 @@ module _ (action : BytesAction) (name : List ℕ) (before : Outside) where
             good = first_fault-none;
             script_not_too_long = omega arith;
             cut = by_put ends.bytes ends.cut;
+            front = λ blank. either_front (text_event (turned action ends.bytes) ∷ []) (output before) (output after)
+                (by_put ends.bytes ends.cut);
             taken = λ other named. (selects_page other named, inl (ends.taken, ends.ended, ends.few));
           });
           shelf_stays = ends.stays ∙ selected;
-        }) (λ early. put_either (turned action ends.bytes) before.sink after.sink ends.cut.put) ends.cut.later
+        }) (inl (put_either (turned action ends.bytes) before.sink after.sink ends.cut.put)) ends.cut.later
     runs_turned (Err stops.TooLong) ends =
         runs_put statuses.TooLong (turned_front action ends.bytes) ends.put ends.sink_stays (record {
           which = inl (record {

@@ -1,9 +1,9 @@
 -- What a run has from outside: a shelf to read, a sink to put into, and a glass to paint on. This project's own.
-use Rattle.std.specs.Prelude.{◌≡◌, ◌⊎◌, ◌≤◌, ℕ, false, List}
+use Rattle.std.specs.Prelude.{◌≡◌, ◌⊎◌, ◌≤◌, ℕ, false, List, ◌++◌, length}
 use Rattle.std.specs.Io.KnownBytes.{append_known}
 use Rattle.cept_outside.specs.ShelfState.{ShelfState}
 use Rattle.cept_outside.specs.Causes.{Rose}
-use Rattle.cept_outside.specs.SinkState.{SinkState, Gains, GainsPart}
+use Rattle.cept_outside.specs.SinkState.{SinkState, Gains, GainsPart, count_after}
 use Rattle.cept_repaint.specs.GlassState.{GlassState}
 use Rattle.cept_editor.specs.Made.{Output, output_of}
 
@@ -24,6 +24,8 @@ output o = output_of o.sink o.glass
 -- a text was put whole and flushed
 pub record PutsWhole (text : List ℕ) (before after : SinkState) : Type 0 where
   pub put : after.bytes ≡ append_known before.bytes text
+  pub counted : after.count ≡ count_after before.count (length text)
+  pub room : after.room ≡ before.room
   pub flushed : after.unflushed ≡ false
   pub stays : after.faults ≡ before.faults
 
@@ -32,3 +34,10 @@ pub record PutsUnflushed (text : List ℕ) (before after : SinkState) : Type 0 w
   pub cause : Rose before.faults after.faults
   pub later : before.faults ≤ after.faults
   pub put : GainsPart before text after ⊎ Gains before text after
+
+-- a front of a text was put: a part of it, or all
+pub record PutsFront (text : List ℕ) (before after : SinkState) : Type 0 where
+  pub part : List ℕ
+  pub rest : List ℕ
+  pub is : part ++ rest ≡ text
+  pub put : Gains before part after

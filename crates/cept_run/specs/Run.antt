@@ -9,7 +9,7 @@ use Rattle.cept_editor.specs.Made.{ArePainted, AreMade, AreCutOff}
 use Rattle.cept_editor.specs.Script.{Fault}
 use Rattle.cept_outside.specs.Causes.{Rose}
 use Rattle.cept_outside.specs.ShelfState.{ShelfState, Holds, KeepsFiles, bytes_under}
-use Rattle.cept_outside.specs.SinkState.{HasPut}
+use Rattle.cept_outside.specs.SinkState.{HasPut, count_after}
 use Rattle.cept_parser.specs.Items.{closed_items, commands, is_refusal}
 use Rattle.cept_profile.specs.Changes.{grid_with_paints}
 use Rattle.cept_profile.specs.Look.{grid}
@@ -21,7 +21,7 @@ use Rattle.cept_run.specs.declared.run.Status.{Status}
 use Rattle.cept_run.specs.declared.run.Status.TheVariants as statuses
 use Rattle.cept_run.specs.Course.{Course, Source, File, Given, Gives, HasBytes, IsNamed, SelectsNoOther, course_of}
 use Rattle.cept_run.specs.Events.{has_refusal}
-use Rattle.cept_run.specs.Outside.{Outside, output, PutsUnflushed}
+use Rattle.cept_run.specs.Outside.{Outside, output, PutsUnflushed, PutsFront}
 use Rattle.cept_run.specs.Words.{Request, request_of}
 
 -- the page was read to its end
@@ -49,11 +49,18 @@ pub record Restores (bytes : List ℕ) (history : List Command) : Type 0 where
 
 -- ---- what was reported
 
+-- the report of a page and a script: a glass that was blank shows at the end what all commands mean that remain
+abbrev pub report_of : Course → List ℕ → List ℕ → List ℕ
+report_of course page script = report (course.events page script (grid (course.remaining page script)))
+
 -- a page and a script that were read to their ends
 pub record ReportsWhole (course : Course) (page script : List ℕ) (before after : Outside) : Type 0 where
   -- the whole report was put
   pub put : after.sink.bytes
       ≡ append_known before.sink.bytes (report (course.events page script after.glass.grid))
+  -- its bytes were counted
+  pub counted : after.sink.count
+      ≡ count_after before.sink.count (length (report (course.events page script after.glass.grid)))
   -- exactly the changes of the events were painted, in their order
   pub painted : ArePainted (course.events page script after.glass.grid) before.glass after.glass
   -- so a glass that was blank shows after the paints of each event what the commands mean that remain after it
@@ -123,10 +130,12 @@ pub record EndsAtBadLine (course : Course) (before after : Outside) : Type 0 whe
   pub bad : HasBadLine course before.shelf
   -- the line that says so was put, and nothing else
   pub put : after.sink.bytes ≡ append_known before.sink.bytes (fault_text bad.fault)
+  pub counted : after.sink.count ≡ count_after before.sink.count (length (fault_text bad.fault))
   pub unpainted : after.glass ≡ before.glass
   pub flushed : after.sink.unflushed ≡ false
-  -- no more bytes were taken than the script has, and no fault was counted on the way
+  -- all bytes of the script were taken, up to where the shelf said that it ends, and no fault was counted on the way
   pub taken : after.shelf.taken ≡ length bad.script
+  pub ended : after.shelf.ended ≡ true
   pub shelf_stays : after.shelf.faults ≡ before.shelf.faults
   pub sink_stays : after.sink.faults ≡ before.sink.faults
 
@@ -181,6 +190,8 @@ pub record IsReportCut (course : Course) (before after : Outside) : Type 0 where
   -- at one event, which was painted and no later one; or the report was put, and not flushed
   pub cut : AreCutOff (course.events page script after.glass.grid) (output before) (output after)
       ⊎ AreMade (course.events page script after.glass.grid) (output before) (output after)
+  -- so where the glass was blank, a front of the report was put
+  pub front : before.glass.grid ≡ grid [] → PutsFront (report_of course page script) before.sink after.sink
   -- of a page in a file, beside which none is selected, all was taken, up to where the shelf said that it ends; or a front
   pub taken : (name : List ℕ) → course.page ≡ File name → SelectsNoOther name after.shelf
       × (((after.shelf.taken ≡ length page) × (after.shelf.ended ≡ true) × (length page ≤ 2 ^ 24))
@@ -191,6 +202,7 @@ pub record IsFaultCut (course : Course) (before after : Outside) : Type 0 where
   pub bad : HasBadLine course before.shelf
   pub put : PutsUnflushed (fault_text bad.fault) before.sink after.sink
   pub taken : after.shelf.taken ≡ length bad.script
+  pub ended : after.shelf.ended ≡ true
   pub unpainted : after.glass ≡ before.glass
 
 -- status 5: the sink failed
@@ -341,6 +353,8 @@ pub record RunsCourse (course : Course) (before after : Outside) (status : Statu
   pub unpainted : course.painting ≡ false → after.glass ≡ before.glass
   -- no early end flushes, but that at a script's bad line
   pub unflushed : is_flushed status ≡ false → HasPut before.sink after.sink
+  -- the sink keeps its room
+  pub room : after.sink.room ≡ before.sink.room
   pub sink_faults : before.sink.faults ≤ after.sink.faults
 
 -- the shelf gives at most 2^20 bytes of the script, if one is in a file

@@ -1,6 +1,6 @@
 -- How the reading of a script or of a drawing ends, before the page is selected. The bytes that were read are those of the
 -- file, where the shelf tells it. This project's own. Private clauses alone cite this file.
-use Rattle.std.specs.Prelude.{◌≡◌, ◌≢◌, ◌⊎◌, ℕ, ◌^◌, ◌<◌, ◌≤◌, false, List, length, Option, Some, None, IsSome}
+use Rattle.std.specs.Prelude.{◌≡◌, ◌≢◌, ◌⊎◌, ℕ, ◌^◌, ◌<◌, ◌≤◌, true, false, List, length, Option, Some, None, IsSome}
 use Rattle.std.specs.Prelude.{Result, Ok, Err}
 use Rattle.cept_editor.specs.declared.script.ScriptFault.{ScriptFault}
 use Rattle.cept_editor.specs.declared.script.ScriptFault.TheVariants as faults
@@ -20,10 +20,11 @@ use Rattle.cept_run.specs.Run.{fault_text}
 
 -- ---- the bytes that are selected are taken
 
--- all were taken
+-- all were taken, up to where the shelf said that there are no more
 pub record TakenWhole (bytes : List ℕ) (before after : ShelfState) : Type 0 where
   pub known : (script : List ℕ) → before.left ≡ Some script → bytes ≡ script
   pub taken : after.taken ≡ length bytes
+  pub ended : after.ended ≡ true
   pub few : length bytes ≤ 2 ^ 20
   pub stays : after.faults ≡ before.faults
 
@@ -54,6 +55,7 @@ TakingStops before stops.NotSeven after = ⊥
 pub record FileWhole (name bytes : List ℕ) (before after : ShelfState) : Type 0 where
   pub known : HasBytes before (File name) bytes
   pub taken : after.taken ≡ length bytes
+  pub ended : after.ended ≡ true
   pub few : length bytes ≤ 2 ^ 20
   pub stays : after.faults ≡ before.faults
 
@@ -97,6 +99,7 @@ pub record ScriptBad (grammar : Grammar) (name : List ℕ) (before after : Shelf
   pub found : first_fault_in grammar bytes ≡ Some fault
   pub few : length bytes ≤ 2 ^ 20
   pub taken : after.taken ≡ length bytes
+  pub ended : after.ended ≡ true
   pub stays : after.faults ≡ before.faults
 
 -- the line of a fault was put, whole and flushed, or the sink failed

@@ -1,26 +1,22 @@
--- What stands in the slice after a run to its end.
+-- What stands in the slice after a run, and what its status says.
 use Rattle.std.proofs.Common.{◌≡◌, ◌⊎◌, inl, inr, ℕ, ◌<◌, Bool, true, false, ◌&&◌, List, [], ◌∷◌, ◌++◌, Some, codes, cond}
-use Rattle.std.proofs.Common.{sym, ap, subst, ◌∙◌, arith}
+use Rattle.std.proofs.Common.{sym, ap, subst, ◌∙◌, arith, length, is_some, IsSome}
 use Rattle.std.proofs.Common.{take, drop, append_assoc, append-nil, take-append-drop}
-use Rattle.std.proofs.lemmas.Grind.{flat_map-append}
 use Rattle.std.proofs.lemmas.Option.{same_Some}
-use Rattle.cept_codes.specs.declared.look.Look.{Look}
-use Rattle.cept_editor.specs.Made.{AreMade, AreCutOff}
-use Rattle.cept_outside.specs.SinkState.{Gains, GainsPart}
-use Rattle.cept_run.specs.Outside.{output}
-use Rattle.cept_run.specs.Run.{EndsAtWriteFault, IsReportCut, IsFaultCut, fault_text}
-use Rattle.tamligub.specs.Called.{IsFront, IsFrontReported, FrontReported}
 use Rattle.std.specs.Io.KnownBytes.{append_known}
-use Rattle.cept_editor.specs.Events.{Event, report}
-use Rattle.cept_outside.specs.ShelfState.{ShelfState, Holds}
+use Rattle.cept_editor.specs.Events.{report}
+use Rattle.cept_outside.specs.ShelfState.{ShelfState, Holds, bytes_under}
+use Rattle.cept_outside.specs.SinkState.{SinkState, Gains, GainsPart}
 use Rattle.cept_parser.specs.Items.{closed_items}
 use Rattle.cept_run.specs.Course.{Course, Source, File, Given, HasBytes, course_of}
 use Rattle.cept_run.specs.Events.{has_refusal}
-use Rattle.cept_run.specs.Run.{EndsWhole, Ends, status_number}
+use Rattle.cept_run.specs.Run.{EndsWhole, EndsAtWriteFault, IsReportCut, IsFaultCut, Ends, RunsCourse, ReadsFiles}
+use Rattle.cept_run.specs.Run.{TouchesShelf, fault_text, report_of, status_number}
 use Rattle.cept_run.specs.declared.run.Status.{Status}
 use Rattle.cept_run.specs.declared.run.Status.TheVariants as statuses
-use Rattle.tamligub.specs.Called.{Holding, HasRun, Calls, Supplies, whole_report, IsReported}
-use Rattle.tamligub.specs.Called.{Reported}
+use Rattle.tamligub.specs.Called.{Holding, HasRun, Calls, Supplies, IsSupplied, IsReported, Reported, IsMissed}
+use Rattle.tamligub.specs.Called.{IsFront, IsCutOff, IsFrontReported, FrontReported, IsFaultReported, FaultReported}
+use Rattle.tamligub.specs.Called.{room_in}
 
 -- a source has the bytes that the call supplies
 supplied : (page script : List ℕ) (shelf : ShelfState) → Holds shelf (codes "page") page
@@ -34,18 +30,12 @@ supplied page script shelf paged scripted (File name) bytes read has (inr (is, e
     (subst (λ b. Holds shelf (codes "script") b) (sym e) scripted)))
 supplied page script shelf paged scripted (Given own) bytes read has e = has ∙ sym e
 
--- the texts of events, cut at one of them
-report_cut : (done : List Event) (cut : Event) (rest : List Event)
-    → report (done ++ cut ∷ rest) ≡ report done ++ (cut.text ++ report rest)
-unfolding report
-report_cut done cut rest = flat_map-append (λ (e : Event). e.text) done (cut ∷ rest)
-
 module _ (word : List ℕ) (given number : ℕ) (page script old new : List ℕ) (put answer : ℕ) (status : Status)
     (run : HasRun word given number page script old new put status) (course : Course) (read lines : List ℕ)
     (page_is : Supplies page script course.page read) (lines_are : Supplies page script course.script lines) where
   -- the text is the whole report, where the page was read to its end
   text_is : (refused : Bool) → EndsWhole course run.runs.before run.runs.after refused
-      → run.text ≡ whole_report course read lines
+      → run.text ≡ report_of course read lines
   text_is refused e =
       let on = run.runs in
       let same_page : e.page ≡ read =
@@ -55,9 +45,9 @@ module _ (word : List ℕ) (given number : ℕ) (page script old new : List ℕ)
       let shown = e.reports.meaning on.blank in
       let told : Some run.text ≡ Some (report (course.events e.page e.script on.after.glass.grid)) =
       sym run.is ∙ ap (λ s. s.bytes) (sym on.after_sink) ∙ e.reports.put
-      ∙ ap (λ s. append_known s.bytes (report (course.events e.page e.script on.after.glass.grid))) (on.before_sink ∙ run.room.empty) in
+      ∙ ap (λ s. append_known s.bytes (report (course.events e.page e.script on.after.glass.grid))) (on.before_sink ∙ run.empty) in
       same_Some run.text _ told ∙ ap (λ g. report (course.events e.page e.script g)) shown
-      ∙ ap (λ p. whole_report course p e.script) same_page ∙ ap (λ l. whole_report course read l) same_lines
+      ∙ ap (λ p. report_of course p e.script) same_page ∙ ap (λ l. report_of course read l) same_lines
 
   done : (refused : Bool) → EndsWhole course run.runs.before run.runs.after refused → answer ≡ cond refused 1 0
       → IsReported course read lines old new put answer
@@ -88,7 +78,7 @@ module _ (word : List ℕ) (given number : ℕ) (page script old new : List ℕ)
   put_is text gains =
       let on = run.runs in
       same_Some run.text text (sym run.is ∙ ap (λ s. s.bytes) (sym on.after_sink) ∙ gains.bytes
-      ∙ ap (λ s. append_known s.bytes text) (on.before_sink ∙ run.room.empty))
+      ∙ ap (λ s. append_known s.bytes text) (on.before_sink ∙ run.empty))
 
   -- a part of a text is its front
   part_is : (whole : List ℕ) → GainsPart run.runs.before.sink whole run.runs.after.sink → IsFront run.text whole
@@ -101,74 +91,51 @@ module _ (word : List ℕ) (given number : ℕ) (page script old new : List ℕ)
   whole_is : (whole : List ℕ) → Gains run.runs.before.sink whole run.runs.after.sink → IsFront run.text whole
   whole_is whole gains = record { rest = []; is = sym (put_is whole gains) ∙ sym (append-nil run.text) }
 
-  -- what was put is a front of these events' texts
-  cut_is : (events : List Event) → AreCutOff events (output run.runs.before) (output run.runs.after)
-      → IsFront run.text (report events)
-  cut_is events c =
-      let begun = report c.done in
-      let front = take c.size c.cut.text in
-      let rest = drop c.size c.cut.text ++ report c.rest in
-      let text : run.text ≡ begun ++ front = put_is (begun ++ front) c.put in
-      let parts : report events ≡ begun ++ (c.cut.text ++ report c.rest) =
-      ap report c.split ∙ report_cut c.done c.cut c.rest in
-      let split : c.cut.text ++ report c.rest ≡ front ++ rest =
-      ap (λ t. t ++ report c.rest) (sym (take-append-drop c.size c.cut.text))
-      ∙ append_assoc front (drop c.size c.cut.text) (report c.rest) in
-      record {
-        rest = rest;
-        is = parts ∙ ap (λ t. begun ++ t) split ∙ sym (append_assoc begun front rest) ∙ ap (λ t. t ++ rest) (sym text);
-      }
+  -- the room of the sink is used up
+  full_by : EndsAtWriteFault course run.runs.before run.runs.after
+      → run.runs.after.sink.room ≡ run.runs.before.sink.room → put ≡ room_in old
+  full_by e room =
+      let on = run.runs in
+      let faultless : on.before.sink.faults ≡ 0 = ap (λ (s : SinkState). s.faults) (on.before_sink ∙ run.empty) in
+      let counted : on.after.sink.faults ≡ run.end.faults = ap (λ (s : SinkState). s.faults) on.after_sink in
+      let some : 0 < run.end.faults = omega (arith, e.write_fault, faultless, counted) in
+      let used : Some (length run.text) ≡ Some (room_in old) =
+      sym (run.full some) ∙ ap (λ (s : SinkState). s.room) (sym on.after_sink) ∙ room
+      ∙ ap (λ (s : SinkState). s.room) (on.before_sink ∙ run.empty) in
+      run.holding.count ∙ same_Some (length run.text) (room_in old) used
 
   front_reported_by : EndsAtWriteFault course run.runs.before run.runs.after
-      → IsFrontReported course read lines old new put
-  front_reported_by e = by_cut e.cut
+      → run.runs.after.sink.room ≡ run.runs.before.sink.room → IsFrontReported course read lines old new put
+  front_reported_by e room =
+      record { text = run.text; holding = run.holding; cut = by_cut e.cut; full = full_by e room }
     where
       same : (source : Source) (bytes other : List ℕ) → HasBytes run.runs.before.shelf source bytes
           → Supplies page script source other → bytes ≡ other
       same source bytes other =
           supplied page script run.runs.before.shelf run.runs.has_page run.runs.has_script source bytes other
 
-      by_events : (shown : List (List Look)) → IsFront run.text (report (course.events read lines shown))
-          → IsFrontReported course read lines old new put
-      by_events shown front = record {
-        text = run.text;
-        holding = run.holding;
-        cut = record { shown = shown; front = inl front };
-      }
-
       of_cut : (c : IsReportCut course run.runs.before run.runs.after)
-          → IsFront run.text (report (course.events c.page c.script run.runs.after.glass.grid))
-      of_cut c = which c.cut
-        where
-          which : AreCutOff (course.events c.page c.script run.runs.after.glass.grid) (output run.runs.before)
-              (output run.runs.after)
-              ⊎ AreMade (course.events c.page c.script run.runs.after.glass.grid) (output run.runs.before)
-              (output run.runs.after)
-              → IsFront run.text (report (course.events c.page c.script run.runs.after.glass.grid))
-          which (inl cut) = cut_is _ cut
-          which (inr made) = whole_is _ made.put
+          → IsFront run.text (report_of course c.page c.script)
+      of_cut c =
+          let front = c.front run.runs.blank in
+          record {
+            rest = front.rest;
+            is = sym front.is ∙ ap (λ t. t ++ front.rest) (sym (put_is front.part front.put));
+          }
 
       by_cut : IsReportCut course run.runs.before run.runs.after ⊎ IsFaultCut course run.runs.before run.runs.after
-          → IsFrontReported course read lines old new put
+          → IsCutOff course read lines run.text
       by_cut (inl c) =
-          let grid = run.runs.after.glass.grid in
-          by_events grid (subst (λ l. IsFront run.text (report (course.events read l grid)))
+          inl (subst (λ l. IsFront run.text (report_of course read l))
           (same course.script c.script lines c.script_is lines_are)
-          (subst (λ p. IsFront run.text (report (course.events p c.script grid)))
+          (subst (λ p. IsFront run.text (report_of course p c.script))
           (same course.page c.page read c.page_is page_is) (of_cut c)))
       by_cut (inr c) =
           let bad = c.bad in
           let named = same course.script bad.script lines
           (subst (λ (s : Source). HasBytes run.runs.before.shelf s bad.script) (sym bad.named) bad.script_is)
           lines_are in
-          record {
-            text = run.text;
-            holding = run.holding;
-            cut = record {
-              shown = [];
-              front = inr (bad.fault, subst (λ l. course.fault l ≡ Some bad.fault) named bad.found, of_fault c.put.put);
-            };
-          }
+          inr (bad.fault, subst (λ l. course.fault l ≡ Some bad.fault) named bad.found, of_fault c.put.put)
         where
           of_fault : GainsPart run.runs.before.sink (fault_text c.bad.fault) run.runs.after.sink
               ⊎ Gains run.runs.before.sink (fault_text c.bad.fault) run.runs.after.sink
@@ -176,17 +143,72 @@ module _ (word : List ℕ) (given number : ℕ) (page script old new : List ℕ)
           of_fault (inl part) = part_is _ part
           of_fault (inr gains) = whole_is _ gains
 
-  front_by : (s : Status) → answer ≡ status_number s → Ends course run.runs.before run.runs.after s → answer ≡ 5
-      → IsFrontReported course read lines old new put
-  front_by statuses.WriteFault is e five = front_reported_by e
-  front_by statuses.Done is e five = absurd (omega (arith, is, five))
-  front_by statuses.Refusals is e five = absurd (omega (arith, is, five))
-  front_by statuses.Usage is e five = absurd (omega (arith, is, five))
-  front_by statuses.Script is e five = absurd (omega (arith, is, five))
-  front_by statuses.ReadFault is e five = absurd (omega (arith, is, five))
-  front_by statuses.NoMemory is e five = absurd (omega (arith, is, five))
-  front_by statuses.TooLong is e five = absurd (omega (arith, is, five))
-  front_by statuses.NotSeven is e five = absurd (omega (arith, is, five))
+  front_by : (s : Status) → answer ≡ status_number s → RunsCourse course run.runs.before run.runs.after s
+      → answer ≡ 5 → IsFrontReported course read lines old new put
+  front_by statuses.WriteFault is r five = front_reported_by r.ends r.room
+  front_by statuses.Done is r five = absurd (omega (arith, is, five))
+  front_by statuses.Refusals is r five = absurd (omega (arith, is, five))
+  front_by statuses.Usage is r five = absurd (omega (arith, is, five))
+  front_by statuses.Script is r five = absurd (omega (arith, is, five))
+  front_by statuses.ReadFault is r five = absurd (omega (arith, is, five))
+  front_by statuses.NoMemory is r five = absurd (omega (arith, is, five))
+  front_by statuses.TooLong is r five = absurd (omega (arith, is, five))
+  front_by statuses.NotSeven is r five = absurd (omega (arith, is, five))
+
+-- ---- a line outside the grammar, a file that isn't there
+
+module _ (word : List ℕ) (given number : ℕ) (page script old new : List ℕ) (put answer : ℕ) (status : Status)
+    (run : HasRun word given number page script old new put status) (course : Course) where
+  fault_by : (s : Status) (lines : List ℕ) → Supplies page script course.script lines → answer ≡ status_number s
+      → Ends course run.runs.before run.runs.after s → answer ≡ 3 → IsFaultReported course lines old new put
+  fault_by statuses.Script lines lines_are is e three =
+      let on = run.runs in
+      let bad = e.bad in
+      let same : bad.script ≡ lines =
+      supplied page script on.before.shelf on.has_page on.has_script course.script bad.script lines
+      (subst (λ (s : Source). HasBytes on.before.shelf s bad.script) (sym bad.named) bad.script_is) lines_are in
+      let told : Some run.text ≡ Some (fault_text bad.fault) =
+      sym run.is ∙ ap (λ (s : SinkState). s.bytes) (sym on.after_sink) ∙ e.put
+      ∙ ap (λ (s : SinkState). append_known s.bytes (fault_text bad.fault)) (on.before_sink ∙ run.empty) in
+      record {
+        fault = bad.fault;
+        found = subst (λ l. course.fault l ≡ Some bad.fault) same bad.found;
+        holding = subst (λ t. Holding t old new put) (same_Some run.text (fault_text bad.fault) told) run.holding;
+      }
+  fault_by statuses.Done lines lines_are is e three = absurd (omega (arith, is, three))
+  fault_by statuses.Refusals lines lines_are is e three = absurd (omega (arith, is, three))
+  fault_by statuses.Usage lines lines_are is e three = absurd (omega (arith, is, three))
+  fault_by statuses.ReadFault lines lines_are is e three = absurd (omega (arith, is, three))
+  fault_by statuses.WriteFault lines lines_are is e three = absurd (omega (arith, is, three))
+  fault_by statuses.NoMemory lines lines_are is e three = absurd (omega (arith, is, three))
+  fault_by statuses.TooLong lines lines_are is e three = absurd (omega (arith, is, three))
+  fault_by statuses.NotSeven lines lines_are is e three = absurd (omega (arith, is, three))
+
+  there : (name : List ℕ) → IsSupplied (File name) → IsSome (bytes_under run.runs.before.shelf name)
+  there name (inl is) =
+      subst (λ n. IsSome (bytes_under run.runs.before.shelf n)) (sym is) (ap is_some run.runs.has_page.under)
+  there name (inr is) =
+      subst (λ n. IsSome (bytes_under run.runs.before.shelf n)) (sym is) (ap is_some run.runs.has_script.under)
+
+  missed_by : (s : Status) → answer ≡ status_number s → RunsCourse course run.runs.before run.runs.after s → answer ≡ 4
+      → IsSupplied course.page → IsSupplied course.script → ⊥
+  missed_by statuses.ReadFault is r four page_there script_there =
+      let on = run.runs in
+      let name = r.ends.name in
+      let files : ReadsFiles course name on.before.shelf on.after.shelf statuses.ReadFault =
+      subst (λ (s : Source). TouchesShelf course s on.before.shelf on.after.shelf statuses.ReadFault) r.ends.named
+      r.shelf in
+      let stays = files.missed (there name (subst IsSupplied r.ends.named page_there))
+      (λ other named. there other (subst IsSupplied named script_there)) in
+      absurd (omega (arith, r.ends.read_fault, on.faultless, on.unmissed, on.missed, stays))
+  missed_by statuses.Done is r four page_there script_there = absurd (omega (arith, is, four))
+  missed_by statuses.Refusals is r four page_there script_there = absurd (omega (arith, is, four))
+  missed_by statuses.Usage is r four page_there script_there = absurd (omega (arith, is, four))
+  missed_by statuses.Script is r four page_there script_there = absurd (omega (arith, is, four))
+  missed_by statuses.WriteFault is r four page_there script_there = absurd (omega (arith, is, four))
+  missed_by statuses.NoMemory is r four page_there script_there = absurd (omega (arith, is, four))
+  missed_by statuses.TooLong is r four page_there script_there = absurd (omega (arith, is, four))
+  missed_by statuses.NotSeven is r four page_there script_there = absurd (omega (arith, is, four))
 
 -- what a call does, by what is asked for
 pub reported : (word : List ℕ) (given number : ℕ) (page script old new : List ℕ) (put answer : ℕ) (status : Status)
@@ -203,6 +225,24 @@ pub front_reported : (word : List ℕ) (given number : ℕ) (page script old new
     → FrontReported word given number page script old new put answer
 front_reported word given number page script old new put answer status is (inl run) request read lines asks page_is lines_are five =
     front_by word given number page script old new put answer status run (course_of request) read lines page_is lines_are
-    status is (run.runs.runs.request request asks).ends five
+    status is (run.runs.runs.request request asks) five
 front_reported word given number page script old new put answer status is (inr not) request read lines asks page_is lines_are five =
     let six = is ∙ ap status_number not.memory in absurd (omega (arith, six, five))
+
+pub fault_reported : (word : List ℕ) (given number : ℕ) (page script old new : List ℕ) (put answer : ℕ) (status : Status)
+    → answer ≡ status_number status → Calls word given number page script old new put status
+    → FaultReported word given number page script old new put answer
+fault_reported word given number page script old new put answer status is (inl run) request lines asks lines_are three =
+    fault_by word given number page script old new put answer status run (course_of request) status lines lines_are is
+    (run.runs.runs.request request asks).ends three
+fault_reported word given number page script old new put answer status is (inr not) request lines asks lines_are three =
+    let six = is ∙ ap status_number not.memory in absurd (omega (arith, six, three))
+
+pub is_missed : (word : List ℕ) (given number : ℕ) (page script old new : List ℕ) (put answer : ℕ) (status : Status)
+    → answer ≡ status_number status → Calls word given number page script old new put status
+    → IsMissed word given number answer
+is_missed word given number page script old new put answer status is (inl run) request asks four page_there script_there =
+    missed_by word given number page script old new put answer status run (course_of request) status is
+    (run.runs.runs.request request asks) four page_there script_there
+is_missed word given number page script old new put answer status is (inr not) request asks four page_there script_there =
+    let six = is ∙ ap status_number not.memory in absurd (omega (arith, six, four))

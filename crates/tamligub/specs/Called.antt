@@ -1,19 +1,15 @@
 -- What a call does: it is a run over a shelf, a sink and a glass in memory. This project's own.
 use Rattle.std.specs.Prelude.{◌≡◌, ◌⊎◌, ◌<◌, ◌-◌, ◌^◌, ℕ, false, ◌&&◌, min, List, [], ◌++◌, take, drop, length, Some, codes}
 use Rattle.std.specs.Prelude.{if◌then◌else◌}
-use Rattle.cept_codes.specs.declared.look.Look.{Look}
-use Rattle.cept_editor.specs.Events.{report}
 use Rattle.cept_editor.specs.Script.{Fault}
 use Rattle.cept_outside.specs.ShelfState.{Holds}
-use Rattle.cept_outside.specs.MemSink.{mem_sink_numbers, mem_sink_room, mem_sink_state}
 use Rattle.cept_outside.specs.SinkState.{SinkState}
-use Rattle.cept_outside.specs.declared.mem_sink.MemSink.{MemSink}
 use Rattle.cept_parser.specs.Items.{closed_items}
 use Rattle.cept_profile.specs.Look.{grid}
 use Rattle.cept_run.specs.Course.{Course, Source, File, Given, course_of}
 use Rattle.cept_run.specs.Events.{has_refusal}
 use Rattle.cept_run.specs.Outside.{Outside}
-use Rattle.cept_run.specs.Run.{Runs, fault_text, status_number}
+use Rattle.cept_run.specs.Run.{Runs, fault_text, report_of, status_number}
 use Rattle.cept_run.specs.Words.{Request, request_of}
 use Rattle.cept_run.specs.declared.run.Status.{Status}
 use Rattle.cept_run.specs.declared.run.Status.TheVariants as statuses
@@ -21,27 +17,28 @@ use Rattle.tamligub.specs.Words.{words_for}
 
 -- ---- the run
 
--- nothing was put into it
-abbrev pub empty_sink : SinkState
-empty_sink = record { bytes = Some []; unflushed = false; faults = 0 }
+-- a sink with so much room into which nothing was put
+abbrev pub empty_sink : ℕ → SinkState
+empty_sink room = record { bytes = Some []; count = Some 0; room = Some room; unflushed = false; faults = 0 }
 
--- a sink into which nothing was put, with the room of a slice, but 2^32 - 1 bytes at most, and of which no call is to fail
-pub record HasRoomOf (out : List ℕ) (sink : MemSink) : Type 0 where
-  pub empty : mem_sink_state sink ≡ empty_sink
-  pub room : mem_sink_room sink ≡ min (length out) (2 ^ 32 - 1)
-  pub good : mem_sink_numbers sink ≡ []
+-- how many bytes of a slice are used: as many as it has, but 2^32 - 1 at most
+abbrev pub room_in : List ℕ → ℕ
+room_in out = min (length out) (2 ^ 32 - 1)
 
--- the program ran over a shelf with this page and this script, a sink, and a glass that was blank
-pub record RunsOn (word : List ℕ) (given number : ℕ) (page script : List ℕ) (old new : MemSink) (status : Status)
+-- the program ran over a shelf with this page and this script, whose faults are the files that it missed, a sink, and a
+-- glass that was blank
+pub record RunsOn (word : List ℕ) (given number : ℕ) (page script : List ℕ) (start end : SinkState) (status : Status)
     : Type 0 where
   pub before : Outside
   pub after : Outside
   pub has_page : Holds before.shelf (codes "page") page
   pub has_script : Holds before.shelf (codes "script") script
   pub faultless : before.shelf.faults ≡ 0
+  pub unmissed : before.shelf.missed ≡ 0
+  pub missed : after.shelf.faults ≡ after.shelf.missed
   pub blank : before.glass.grid ≡ grid []
-  pub before_sink : before.sink ≡ mem_sink_state old
-  pub after_sink : after.sink ≡ mem_sink_state new
+  pub before_sink : before.sink ≡ start
+  pub after_sink : after.sink ≡ end
   pub runs : Runs (words_for word given number) before after status
 
 -- this text stands at the front of the slice, as far as there is room, and `put` is its length
@@ -52,12 +49,14 @@ pub record Holding (text old new : List ℕ) (put : ℕ) : Type 0 where
 -- the program ran over a sink with the room of the slice, and what it put stands in the slice
 pub record HasRun (word : List ℕ) (given number : ℕ) (page script old new : List ℕ) (put : ℕ) (status : Status) : Type 0
   where
-    pub sink : MemSink
-    pub room : HasRoomOf old sink
-    pub after : MemSink
-    pub runs : RunsOn word given number page script sink after status
+    pub start : SinkState
+    pub empty : start ≡ empty_sink (room_in old)
+    pub end : SinkState
+    pub runs : RunsOn word given number page script start end status
     pub text : List ℕ
-    pub is : (mem_sink_state after).bytes ≡ Some text
+    pub is : end.bytes ≡ Some text
+    -- a fault of the sink was counted only where there is no room for more
+    pub full : 0 < end.faults → end.room ≡ Some (length text)
     pub holding : Holding text old new put
 
 -- there was no memory to begin with
@@ -85,14 +84,14 @@ Supplies page script (File name) bytes =
     ((name ≡ codes "page") × (bytes ≡ page)) ⊎ ((name ≡ codes "script") × (bytes ≡ script))
 Supplies page script (Given own) bytes = bytes ≡ own
 
--- the whole report of a page and a script: a glass that was blank shows at the end what all commands mean that remain
-abbrev pub whole_report : Course → List ℕ → List ℕ → List ℕ
-whole_report course page script =
-    report (course.events page script (grid (course.remaining page script)))
+-- a source is one that a call supplies: the file `page` or the file `script`, or no file at all
+abbrev pub IsSupplied : Source → Type 0
+IsSupplied (File name) = (name ≡ codes "page") ⊎ (name ≡ codes "script")
+IsSupplied (Given own) = Unit {0}
 
--- that report stands in the slice, and the answer says whether an item of the page is refused
+-- the report stands in the slice, and the answer says whether an item of the page is refused
 pub record IsReported (course : Course) (page script old new : List ℕ) (put answer : ℕ) : Type 0 where
-  pub holding : Holding (whole_report course page script) old new put
+  pub holding : Holding (report_of course page script) old new put
   pub status : answer ≡ (if course.judged && has_refusal (closed_items page) then 1 else 0)
 
 -- a text is the front of another
@@ -100,17 +99,23 @@ pub record IsFront (text whole : List ℕ) : Type 0 where
   pub rest : List ℕ
   pub is : whole ≡ text ++ rest
 
--- the front of a report where the glass shows something at the end; or the front of the line of the script's first fault
-pub record IsCutOff (course : Course) (page script text : List ℕ) : Type 0 where
-  pub shown : List (List Look)
-  pub front : IsFront text (report (course.events page script shown))
-      ⊎ ((fault : Fault) × (course.fault script ≡ Some fault) × IsFront text (fault_text fault))
+-- the front of the report, or of the line of the script's first fault
+abbrev pub IsCutOff : Course → List ℕ → List ℕ → List ℕ → Type 0
+IsCutOff course page script text = IsFront text (report_of course page script)
+    ⊎ ((fault : Fault) × (course.fault script ≡ Some fault) × IsFront text (fault_text fault))
 
--- the front of what was to be put stands in the slice
+-- the front of what was to be put stands in the slice, as much as there is room for
 pub record IsFrontReported (course : Course) (page script old new : List ℕ) (put : ℕ) : Type 0 where
   pub text : List ℕ
   pub holding : Holding text old new put
   pub cut : IsCutOff course page script text
+  pub full : put ≡ room_in old
+
+-- the line of the script's first fault stands in the slice
+pub record IsFaultReported (course : Course) (script old new : List ℕ) (put : ℕ) : Type 0 where
+  pub fault : Fault
+  pub found : course.fault script ≡ Some fault
+  pub holding : Holding (fault_text fault) old new put
 
 -- what the words ask for was done to its end
 abbrev pub Reported : List ℕ → ℕ → ℕ → List ℕ → List ℕ → List ℕ → List ℕ → ℕ → ℕ → Type 0
@@ -125,3 +130,16 @@ FrontReported word given number page script old new put answer = (request : Requ
     → request_of (words_for word given number) ≡ Some request
     → Supplies page script (course_of request).page read → Supplies page script (course_of request).script lines
     → answer ≡ 5 → IsFrontReported (course_of request) read lines old new put
+
+-- a line of the script is outside the grammar
+abbrev pub FaultReported : List ℕ → ℕ → ℕ → List ℕ → List ℕ → List ℕ → List ℕ → ℕ → ℕ → Type 0
+FaultReported word given number page script old new put answer = (request : Request) (lines : List ℕ)
+    → request_of (words_for word given number) ≡ Some request
+    → Supplies page script (course_of request).script lines → answer ≡ 3
+    → IsFaultReported (course_of request) lines old new put
+
+-- a file that the words ask for isn't one that the call supplies
+abbrev pub IsMissed : List ℕ → ℕ → ℕ → ℕ → Type 0
+IsMissed word given number answer = (request : Request)
+    → request_of (words_for word given number) ≡ Some request → answer ≡ 4
+    → IsSupplied (course_of request).page → IsSupplied (course_of request).script → ⊥

@@ -1,10 +1,11 @@
 //! A call: the run over a shelf that has the page and the script, a sink, and a blank glass.
 ghost use Rattle.std.specs.Prelude.{◌≡◌, ◌++◌, ◌-◌, ◌^◌, length, take, drop, min, IfOk};
-ghost use Rattle.tamligub.specs.Called.{Calls, RunsOn};
+ghost use Rattle.cept_outside.specs.PlainSink.{plain_sink_state};
+ghost use Rattle.tamligub.specs.Called.{Calls, RunsOn, room_in};
 
 use crate::words::{PAGE, SCRIPT, words_for};
 use cept_codes::NoMemory;
-use cept_outside::{MemShelf, MemSink};
+use cept_outside::{PlainShelf, PlainSink};
 use cept_profile::the_first_grid;
 use cept_repaint::GridGlass;
 use cept_run::run::{Status, run};
@@ -18,15 +19,15 @@ fn run_on(
     number: u32,
     page: &[u8],
     script: &[u8],
-    sink: &mut MemSink,
+    sink: &mut PlainSink,
 ) -> Result<Status, NoMemory>
     ensures { IfOk result (λ status. RunsOn word.now given number page.now script.now
-        sink.old sink.new status) }
+        (plain_sink_state sink.old) (plain_sink_state sink.new) status) }
 {
     // A law: before any command each place has the blank look.
     the_first_grid();
     let words = words_for(alloc, word, given, number)?;
-    let mut shelf = MemShelf::new(alloc);
+    let mut shelf = PlainShelf::new(alloc);
     shelf.add(PAGE, page)?;
     shelf.add(SCRIPT, script)?;
     let mut glass = GridGlass::new(alloc)?;
@@ -45,7 +46,7 @@ fn copy_front(bytes: &[u8], out: &mut [u8]) -> u64
 
 /// How many bytes a call makes room for: as many as `out` has, but 2^32 - 1 at most.
 fn room_of(out: &[u8]) -> u32
-    ensures { result ≡ min (length out.now) (2 ^ 32 - 1) }
+    ensures { result ≡ room_in out.now }
 {
     u32::try_from(out.len()).unwrap_or(u32::MAX)
 }
@@ -64,7 +65,7 @@ pub fn call(
     ensures { Calls word.now given number page.now script.now out.old out.new put.new result }
 {
     *put = 0;
-    let Ok(mut sink) = MemSink::new(alloc, room_of(out)) else {
+    let Ok(mut sink) = PlainSink::new(alloc, room_of(out)) else {
         return Status::NoMemory;
     };
     let Ok(status) = run_on(alloc, word, given, number, page, script, &mut sink) else {

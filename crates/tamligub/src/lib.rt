@@ -7,7 +7,7 @@ mod calling;
 mod tests;
 mod words;
 
-ghost use Rattle.tamligub.specs.Called.{Called, FrontReported, Reported};
+ghost use Rattle.tamligub.specs.Called.{Called, FaultReported, FrontReported, IsMissed, Reported};
 
 use crate::calling::call;
 use std::alloc::Global;
@@ -32,6 +32,9 @@ pub extern "C" fn tamligub_run(
         result }
     ensures front { FrontReported word.now given number page.now script.now out.old out.new put.new
         result }
+    ensures fault { FaultReported word.now given number page.now script.now out.old out.new put.new
+        result }
+    ensures missed { IsMissed word.now given number result }
 {
     u32::from(call(alloc, word, given, number, page, script, out, put).number())
 }

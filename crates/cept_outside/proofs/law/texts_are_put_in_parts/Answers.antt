@@ -10,4 +10,6 @@ returns c = record {
   put_part = Laws.HasPut-part;
   no_bytes = Laws.append_known-nil;
   bytes = Laws.append_known-append_known;
+  no_count = Laws.count_after-nil;
+  count = Laws.count_after-more;
 }

@@ -6,8 +6,16 @@ use Rattle.cept_run.specs.Outside.{outside_of}
 use Rattle.cept_run.specs.Reporting.{sequel_of}
 use Rattle.cept_run.specs.Run.{RunsCourse, status_at_end}
 use Rattle.cept_run.specs.Words.{asked_to_load}
+use Rattle.std.proofs.lemmas.Result.{err_from_is_err_and}
+use Rattle.cept_run.proofs.NothingTouched.{runs_without_memory}
 use Rattle.cept_run.proofs.FreshDecoders.{plan_alone, nothing_alone, fresh_by, alone}
 use Rattle.cept_run.proofs.run.load.Goals as goal
+
+-- there is no memory
+pub returns-in_err-easel : goal.returns-in_err-easel
+returns-in_err-easel g c = λ shelf.
+    let p = err_from_is_err_and c.from_residual.result c.from_residual.ensures.1 in
+    rw (p.1, p.2) (runs_without_memory _ _ refl)
 
 pub report_generated-requires-clause-fresh : goal.report_generated-requires-clause-fresh
 report_generated-requires-clause-fresh g c = λ start.

@@ -66,6 +66,7 @@ returns-then-count-eq0-clause-whole g c =
           known.0 ∙ all_taken script (length c.loop-count.script.items)
           (c.in-Ok.ensures.takes.end c.if-count-eq0.true _ known.1);
       taken = omega (arith, c.in-Ok.ensures.takes.taken, so_far.taken, so_far.few);
+      ended = c.in-Ok.ensures.takes.ended c.if-count-eq0.true;
       few = so_far.few;
       stays = c.in-Ok.ensures.cause.stays ∙ so_far.stays;
     }

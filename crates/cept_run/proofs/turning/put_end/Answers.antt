@@ -24,6 +24,8 @@ returns g c = λ action b start has.
     let put = all_put start _ _ _ _ _ is has.put puts.whole in (
       record {
         put = c.in-Ok-flush.ensures.flushes.bytes ∙ put.bytes;
+        counted = c.in-Ok-flush.ensures.flushes.count ∙ put.counted;
+        room = c.in-Ok-flush.ensures.flushes.room ∙ put.room;
         flushed = c.in-Ok-flush.ensures.flushes.flushed;
         stays = c.in-Ok-flush.ensures.cause.stays ∙ puts.cause.stays ∙ has.stays;
       },
