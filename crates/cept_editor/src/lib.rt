@@ -16,8 +16,6 @@ mod order;
 mod places;
 mod script;
 mod table;
-#[cfg(test)]
-mod tests;
 
 pub use commands::{Commands, Edit};
 pub use editor::{Done, Editor};

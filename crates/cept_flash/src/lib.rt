@@ -4,7 +4,5 @@
 
 mod blink;
 mod phases;
-#[cfg(test)]
-mod tests;
 
 pub use blink::Blink;

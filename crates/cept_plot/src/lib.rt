@@ -10,8 +10,6 @@ mod figure;
 mod law;
 mod line;
 mod paint;
-#[cfg(test)]
-mod tests;
 mod word;
 
 pub use drawing::{DrawFault, Drawing};

@@ -26,8 +26,6 @@ mod restoring;
 mod row_flags;
 mod screen;
 mod tape_glass;
-#[cfg(test)]
-mod tests;
 mod unwinding;
 
 pub use delta::Delta;

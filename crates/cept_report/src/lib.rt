@@ -12,8 +12,6 @@ mod pattern;
 mod phases;
 mod put;
 mod signs;
-#[cfg(test)]
-mod tests;
 
 pub use phases::put_phases;
 pub use put::{

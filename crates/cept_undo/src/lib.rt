@@ -2,8 +2,6 @@
 //! lines.
 #![tactic(auto)]
 
-#[cfg(test)]
-mod tests;
 mod turn;
 mod undo;
 

@@ -15,8 +15,6 @@ mod patterns;
 mod put;
 mod segments;
 mod spelling;
-#[cfg(test)]
-mod tests;
 mod text;
 mod walk;
 

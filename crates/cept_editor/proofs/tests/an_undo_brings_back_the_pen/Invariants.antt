@@ -1,4 +1,0 @@
-use Rattle.cept_editor.proofs.tests.an_undo_brings_back_the_pen.Given as goal
-
-abbrev pub ghosts-make_edits : goal.ghosts-make_edits
-ghosts-make_edits g a = record { name = a.blank.name; parts = a.blank.parts }

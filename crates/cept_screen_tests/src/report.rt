@@ -1,0 +1,52 @@
+//! What is reported of a glass.
+
+ghost use Rattle.std.specs.Prelude.{◌≡◌, ◌<◌};
+
+use cept_codes::{Command, NoMemory};
+use cept_outside::{MemSink, Steps};
+use cept_repaint::{GridGlass, Marks, Screen};
+use cept_report::{put_cells, put_check, put_screen};
+use std::alloc::Global;
+use std::marker::Brand;
+use std::sync::ledger::{Blank, Ledger};
+use std::test::Fail;
+
+/// A glass on which an A was painted at the first place.
+fn painted<L: Ledger>(alloc: Global, blank: Blank) -> Result<GridGlass, NoMemory>
+    requires name { blank.name ≡ L.name }
+    requires parts { blank.parts ≡ L.parts }
+    requires some { 0 < blank.parts }
+{
+    let mut screen = Screen::new(alloc)?;
+    let mut glass = GridGlass::new(alloc)?;
+    let mut marks = Marks::new();
+    let mut steps = Steps::<L>::new(blank);
+    screen.apply(Command::Graphic(0x41), &mut glass, &mut marks, &mut steps);
+    Ok(glass)
+}
+
+#[test]
+fn an_empty_screen_is_24_rows_of_spaces(rt: HostRuntime) -> Result<(), Fail> {
+    let glass = GridGlass::new(rt.alloc())?;
+    let mut sink = MemSink::new(rt.alloc(), 1000)?;
+    put_screen(&mut sink, &glass, 24)?;
+    put_cells(&mut sink, &glass, 24)?;
+    let row = b"                                        \n".as_slice();
+    assert_eq!(rt; sink.bytes().len(), 24 * 41);
+    assert!(rt; sink.bytes().starts_with(row));
+    assert!(rt; sink.bytes().ends_with(row));
+    Ok(())
+}
+
+#[test]
+fn a_painted_sign_is_shown_and_reported(rt: HostRuntime) -> Result<(), Fail> {
+    let glass = painted::<Brand>(rt.alloc(), Blank::new(1))?;
+    let mut sink = MemSink::new(rt.alloc(), 128)?;
+    put_screen(&mut sink, &glass, 1)?;
+    put_cells(&mut sink, &glass, 1)?;
+    put_check(&mut sink, 3, 1)?;
+    let want =
+        b"A                                       \n1 1 P41 11.00 FFF 000 S---\nitems 3 refused 1\n";
+    assert_eq!(rt; sink.bytes(), want.as_slice());
+    Ok(())
+}
