@@ -1,9 +1,9 @@
 //! Runs of `flash`: the lines of each turn, the words, and an output that fails.
 
-use crate::run::words;
+use crate::running::{Outside, SOUND, count_lines, run_words, tried};
 use cept_outside::{MemShelf, MemSink};
 use cept_repaint::GridGlass;
-use cept_run::run::{Status, run};
+use cept_run::run::Status;
 use std::alloc::Global;
 use std::process::Abort;
 use std::test::Fail;
@@ -19,14 +19,10 @@ fn compare(
     want: &[u8],
     status: Status,
 ) -> Result<(), Fail> {
-    let request = words(alloc, &["flash", "page", turns])?;
-    let mut shelf = MemShelf::new(alloc);
-    shelf.add("page", page)?;
-    let mut sink = MemSink::new(alloc, room)?;
-    let mut glass = GridGlass::new(alloc)?;
-    let ended = run(alloc, &request, &mut shelf, &mut sink, &mut glass);
-    assert_eq!(rt; ended, status, "{turns} turns");
-    assert_eq!(rt; sink.bytes(), want, "{turns} turns");
+    let outside = Outside { room, ..SOUND };
+    let found = tried(alloc, &["flash", "page", turns], page, b"", outside)?;
+    assert_eq!(rt; found.status, status, "{turns} turns");
+    assert_eq!(rt; found.put.as_slice(), want, "{turns} turns");
     Ok(())
 }
 
@@ -84,61 +80,52 @@ fn fast_flashes_are_seen_in_turn(rt: HostRuntime) -> Result<(), Fail> {
 /// A page of 20 rows, all of which flash and are lined, and so do the four that it doesn't show.
 #[test]
 fn lists_rows_past_the_format_too(rt: HostRuntime) -> Result<(), Fail> {
-    let alloc = rt.alloc();
-    let request = words(alloc, &["flash", "page", "3"])?;
-    let mut shelf = MemShelf::new(alloc);
-    shelf.add("page", b"\x1F-B\x1B# H\x1B# Z")?;
-    let mut sink = MemSink::new(alloc, 65_536)?;
-    let mut glass = GridGlass::new(alloc)?;
-    let ended = run(alloc, &request, &mut shelf, &mut sink, &mut glass);
-    assert_eq!(rt; ended, Status::Done);
-    let lines = sink.bytes().iter().filter(|byte| **byte == b'\n').count();
-    assert_eq!(rt; lines, 1920);
-    assert!(rt; sink.bytes().starts_with(b"0 1 1 - 11.00 FFF 000 S-l-\n"));
-    assert!(rt; sink.bytes().ends_with(b"\n3 24 40 - 11.00 FFF 000 S---\n"));
+    let page = b"\x1F-B\x1B# H\x1B# Z";
+    let found = tried(rt.alloc(), &["flash", "page", "3"], page, b"", SOUND)?;
+    let put = found.put.as_slice();
+    assert_eq!(rt; found.status, Status::Done);
+    assert_eq!(rt; count_lines(put), 1920);
+    assert!(rt; put.starts_with(b"0 1 1 - 11.00 FFF 000 S-l-\n"));
+    assert!(rt; put.ends_with(b"\n3 24 40 - 11.00 FFF 000 S---\n"));
     Ok(())
 }
 
 #[test]
-fn takes_600_turns_at_most_and_a_page_named_as_they_are(rt: HostRuntime) -> Result<(), Fail> {
+fn takes_600_turns_at_most(rt: HostRuntime) -> Result<(), Fail> {
+    let requests: [(&[&str], Status); 13] = [
+        (&["flash", "page", "601"], Status::Usage),
+        (&["flash", "page", "4294967295"], Status::Usage),
+        (&["flash", "page", "65536"], Status::Usage),
+        (&["flash", "page", "00000000003"], Status::Usage),
+        (&["flash", "page", "+3"], Status::Usage),
+        (&["flash", "page", "3x"], Status::Usage),
+        (&["flash", "page", ""], Status::Usage),
+        (&["flash", "", "3"], Status::Usage),
+        (&["flash", "page"], Status::Usage),
+        (&["flash", "3", "page"], Status::Usage),
+        (&["flash", "page", "3", "3"], Status::Usage),
+        (&["flash", "missing", "601"], Status::Usage),
+        (&["flash", "missing", "3"], Status::ReadFault),
+    ];
+    for (request, status) in requests {
+        let found = tried(rt.alloc(), request, b"\x88A", b"", SOUND)?;
+        assert_eq!(rt; found.status, status, "{request:?}");
+        assert_eq!(rt; found.put.len(), 0, "{request:?}");
+    }
+    Ok(())
+}
+
+#[test]
+fn takes_a_page_named_as_the_turns(rt: HostRuntime) -> Result<(), Fail> {
     let alloc = rt.alloc();
     let mut shelf = MemShelf::new(alloc);
-    shelf.add("page", b"\x88A")?;
     shelf.add("600", b"\x88A")?;
     let mut sink = MemSink::new(alloc, 8192)?;
     let mut glass = GridGlass::new(alloc)?;
-    for bad in [
-        words(alloc, &["flash", "page", "601"])?,
-        words(alloc, &["flash", "page", "4294967295"])?,
-        words(alloc, &["flash", "page", "65536"])?,
-        words(alloc, &["flash", "page", "00000000003"])?,
-        words(alloc, &["flash", "page", "+3"])?,
-        words(alloc, &["flash", "page", "3x"])?,
-        words(alloc, &["flash", "page", ""])?,
-        words(alloc, &["flash", "", "3"])?,
-        words(alloc, &["flash", "page"])?,
-        words(alloc, &["flash", "3", "page"])?,
-        words(alloc, &["flash", "page", "3", "3"])?,
-        words(alloc, &["flash", "missing", "601"])?,
-    ] {
-        assert_eq!(rt;
-            run(alloc, &bad, &mut shelf, &mut sink, &mut glass),
-            Status::Usage
-        );
-    }
-    let missing = words(alloc, &["flash", "missing", "3"])?;
-    assert_eq!(rt;
-        run(alloc, &missing, &mut shelf, &mut sink, &mut glass),
-        Status::ReadFault
-    );
-    assert_eq!(rt; sink.bytes().len(), 0);
-    let longest = words(alloc, &["flash", "600", "600"])?;
-    assert_eq!(rt;
-        run(alloc, &longest, &mut shelf, &mut sink, &mut glass),
-        Status::Done
-    );
-    let lines = sink.bytes().iter().filter(|byte| **byte == b'\n').count();
-    assert_eq!(rt; lines, 201);
+    let request = ["flash", "600", "600"];
+    let status = run_words(alloc, &request, &mut shelf, &mut sink, &mut glass)?;
+    assert_eq!(rt; status, Status::Done);
+    assert_eq!(rt; count_lines(sink.bytes()), 201);
     assert!(rt;
         sink.bytes()
             .ends_with(b"\n600 1 1 P41 11.00 FFF 000 S---\n")

@@ -2,65 +2,16 @@
 //! status of what failed, what it put is a front of the whole output, and the glass shows what was painted
 //! up to there.
 
-use crate::run::words;
+use crate::running::{Ended, Outside, SOUND, tried};
 use cept_codes::{Look, Pos};
-use cept_outside::{MemShelf, MemSink};
 use cept_repaint::{Glass, GridGlass};
-use cept_run::run::{Status, run};
+use cept_run::run::Status;
 use std::alloc::Global;
 use std::process::Abort;
 use std::test::Fail;
 
 /// How long the line of a changed letter is.
 const LINE: usize = 29;
-
-/// Which call of the shelf fails and which of the sink, counted from 1, where they aren't 0, and how many
-/// bytes the sink has room for.
-#[derive(Clone, Copy)]
-struct Outside {
-    read: u32,
-    write: u32,
-    room: u32,
-}
-
-/// Nothing fails.
-const SOUND: Outside = Outside {
-    read: 0,
-    write: 0,
-    room: 4096,
-};
-
-/// How a run ended, what it put, and what the glass shows.
-#[derive(Drop)]
-struct Ended {
-    status: Status,
-    put: Vec<u8>,
-    glass: GridGlass,
-}
-
-/// Runs these words on a page and a script.
-fn tried(
-    alloc: Global,
-    request: &[&str],
-    page: &[u8],
-    script: &[u8],
-    outside: Outside,
-) -> Result<Ended, Fail> {
-    let request = words(alloc, request)?;
-    let mut shelf = MemShelf::new(alloc);
-    shelf.add("page", page)?;
-    shelf.add("script", script)?;
-    shelf.fail_at(outside.read);
-    let mut sink = MemSink::new(alloc, outside.room)?;
-    sink.fail_at(outside.write);
-    let mut glass = GridGlass::new(alloc)?;
-    let status = run(alloc, &request, &mut shelf, &mut sink, &mut glass);
-    Ok(Ended {
-        status,
-        put: Vec::from_slice(alloc, sink.bytes())?,
-        glass,
-    })
-}
 
 /// Whether a column of the first row shows something.
 fn shows(glass: &GridGlass, column: u8) -> Result<bool, Fail> {

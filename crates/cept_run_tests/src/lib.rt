@@ -15,6 +15,8 @@ mod revision;
 #[cfg(test)]
 mod run;
 #[cfg(test)]
+mod running;
+#[cfg(test)]
 mod sizes;
 #[cfg(test)]
 mod tables;

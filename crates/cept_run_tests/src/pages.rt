@@ -1,9 +1,7 @@
 //! What the words put of worked pages.
 
-use crate::run::words;
-use cept_outside::{MemShelf, MemSink};
-use cept_repaint::GridGlass;
-use cept_run::run::{Status, run};
+use crate::running::{count_lines, tried_page};
+use cept_run::run::Status;
 use std::alloc::Global;
 use std::process::Abort;
 use std::test::Fail;
@@ -17,14 +15,9 @@ pub(crate) fn compare(
     want: &str,
     status: Status,
 ) -> Result<(), Fail> {
-    let words = words(alloc, &[word, "page"])?;
-    let mut shelf = MemShelf::new(alloc);
-    shelf.add("page", page)?;
-    let mut sink = MemSink::new(alloc, 4096)?;
-    let mut glass = GridGlass::new(alloc)?;
-    let ended = run(alloc, &words, &mut shelf, &mut sink, &mut glass);
-    assert_eq!(rt; ended, status, "the page of {want}");
-    assert_eq!(rt; sink.bytes(), want.as_bytes(), "the page of {want}");
+    let found = tried_page(alloc, word, page)?;
+    assert_eq!(rt; found.status, status, "the page of {want}");
+    assert_eq!(rt; found.put.as_slice(), want.as_bytes(), "the page of {want}");
     Ok(())
 }
 
@@ -160,45 +153,37 @@ fn reports_double_sizes_and_colours(rt: HostRuntime) -> Result<(), Fail> {
     Ok(())
 }
 
+/// What `changes` puts of a page has so many lines, and these are the first and the last ones.
+fn compare_ends(
+    rt: &impl Abort,
+    alloc: Global,
+    page: &[u8],
+    lines: usize,
+    first: &[u8],
+    last: &[u8],
+) -> Result<(), Fail> {
+    let found = tried_page(alloc, "changes", page)?;
+    let put = found.put.as_slice();
+    assert_eq!(rt; found.status, Status::Done);
+    assert_eq!(rt; count_lines(put), lines);
+    assert!(rt; put.starts_with(first));
+    assert!(rt; put.ends_with(last));
+    Ok(())
+}
+
 /// A background of the screen changes every cell once; the letter keeps it.
 #[test]
 fn repaints_the_screen_behind(rt: HostRuntime) -> Result<(), Fail> {
-    let alloc = rt.alloc();
-    let request = words(alloc, &["changes", "page"])?;
-    let mut shelf = MemShelf::new(alloc);
-    shelf.add("page", b"\x1B# TA")?;
-    let mut sink = MemSink::new(alloc, 40960)?;
-    let mut glass = GridGlass::new(alloc)?;
-    assert_eq!(rt;
-        run(alloc, &request, &mut shelf, &mut sink, &mut glass),
-        Status::Done
-    );
-    let lines = sink.bytes().iter().filter(|byte| **byte == b'\n').count();
-    assert_eq!(rt; lines, 961);
-    assert!(rt; sink.bytes().starts_with(b"0 1 1 - 11.00 FFF 00F S---\n"));
+    let first = b"0 1 1 - 11.00 FFF 00F S---\n";
     let last = b"\n0 24 40 - 11.00 FFF 00F S---\n4 1 1 P41 11.00 FFF 00F S---\n";
-    assert!(rt; sink.bytes().ends_with(last));
-    Ok(())
+    compare_ends(&rt, rt.alloc(), b"\x1B# TA", 961, first, last)
 }
 
 #[test]
 fn repeats_to_the_end_of_the_second_row(rt: HostRuntime) -> Result<(), Fail> {
-    let alloc = rt.alloc();
-    let request = words(alloc, &["changes", "page"])?;
-    let mut shelf = MemShelf::new(alloc);
-    shelf.add("page", b"A\x12\x7F")?;
-    let mut sink = MemSink::new(alloc, 4096)?;
-    let mut glass = GridGlass::new(alloc)?;
-    assert_eq!(rt;
-        run(alloc, &request, &mut shelf, &mut sink, &mut glass),
-        Status::Done
-    );
-    let lines = sink.bytes().iter().filter(|byte| **byte == b'\n').count();
-    assert_eq!(rt; lines, 64);
     let first = b"0 1 1 P41 11.00 FFF 000 S---\n1 1 2 P41 11.00 FFF 000 S---\n";
-    assert!(rt; sink.bytes().starts_with(first));
-    assert!(rt; sink.bytes().ends_with(b"\n1 2 24 P41 11.00 FFF 000 S---\n"));
-    Ok(())
+    let last = b"\n1 2 24 P41 11.00 FFF 000 S---\n";
+    compare_ends(&rt, rt.alloc(), b"A\x12\x7F", 64, first, last)
 }
 
 #[test]
@@ -260,40 +245,17 @@ pub(crate) const WHOLE_PAGE: &[u8] =
 
 #[test]
 fn reports_a_whole_page(rt: HostRuntime) -> Result<(), Fail> {
-    let alloc = rt.alloc();
     assert_eq!(rt; WHOLE_PAGE.len(), 65);
-    let request = words(alloc, &["changes", "page"])?;
-    let mut shelf = MemShelf::new(alloc);
-    shelf.add("page", WHOLE_PAGE)?;
-    let mut sink = MemSink::new(alloc, 65536)?;
-    let mut glass = GridGlass::new(alloc)?;
-    assert_eq!(rt;
-        run(alloc, &request, &mut shelf, &mut sink, &mut glass),
-        Status::Done
-    );
-    let lines = sink.bytes().iter().filter(|byte| **byte == b'\n').count();
-    assert_eq!(rt; lines, 1011);
-    assert!(rt; sink.bytes().starts_with(b"4 1 1 - 11.00 FFF 00F S---\n"));
+    let first = b"4 1 1 - 11.00 FFF 00F S---\n";
     let last = b"\n49 3 1 %12x10x1/FFFFFFFFFFFFFFFF00FFFFFFFFFFFFFF 11.00 FFF F00 S---\n\
         58 24 1 P53 11.00 FFF 00F S---\n59 24 2 P59 11.00 FFF 00F S---\n\
         60 24 3 P53 11.00 FFF 00F S---\n64 3 2 P41 11.00 FFF F00 S---\n";
-    assert!(rt; sink.bytes().ends_with(last));
-    Ok(())
+    compare_ends(&rt, rt.alloc(), WHOLE_PAGE, 1011, first, last)
 }
 
 #[test]
 fn shows_a_whole_page(rt: HostRuntime) -> Result<(), Fail> {
-    let alloc = rt.alloc();
-    let request = words(alloc, &["show", "page"])?;
-    let mut shelf = MemShelf::new(alloc);
-    shelf.add("page", WHOLE_PAGE)?;
-    let mut sink = MemSink::new(alloc, 4096)?;
-    let mut glass = GridGlass::new(alloc)?;
-    assert_eq!(rt;
-        run(alloc, &request, &mut shelf, &mut sink, &mut glass),
-        Status::Done
-    );
-    let mut want = String::new(alloc);
+    let mut want = String::new(rt.alloc());
     for row in 1..25u8 {
         want.push_str(match row {
             1 => "BTX",
@@ -306,8 +268,7 @@ fn shows_a_whole_page(rt: HostRuntime) -> Result<(), Fail> {
         }
         want.push('\n')?;
     }
-    assert_eq!(rt; sink.bytes(), want.as_bytes());
-    Ok(())
+    compare(&rt, rt.alloc(), "show", WHOLE_PAGE, &want, Status::Done)
 }
 
 /// The bytes of the whole page, written.
@@ -323,14 +284,9 @@ pub(crate) fn compare_written(
     page: &[u8],
     want: &[u8],
 ) -> Result<(), Fail> {
-    let words = words(alloc, &["write", "page"])?;
-    let mut shelf = MemShelf::new(alloc);
-    shelf.add("page", page)?;
-    let mut sink = MemSink::new(alloc, 4096)?;
-    let mut glass = GridGlass::new(alloc)?;
-    let ended = run(alloc, &words, &mut shelf, &mut sink, &mut glass);
-    assert_eq!(rt; ended, Status::Done);
-    assert_eq!(rt; sink.bytes(), want);
+    let found = tried_page(alloc, "write", page)?;
+    assert_eq!(rt; found.status, Status::Done);
+    assert_eq!(rt; found.put.as_slice(), want);
     Ok(())
 }
 
@@ -359,18 +315,10 @@ fn writes_pages_back(rt: HostRuntime) -> Result<(), Fail> {
 
 #[test]
 fn shows_an_accented_letter(rt: HostRuntime) -> Result<(), Fail> {
-    let alloc = rt.alloc();
-    let request = words(alloc, &["show", "page"])?;
-    let mut shelf = MemShelf::new(alloc);
-    shelf.add("page", b"\xC8a")?;
-    let mut sink = MemSink::new(alloc, 4096)?;
-    let mut glass = GridGlass::new(alloc)?;
-    assert_eq!(rt;
-        run(alloc, &request, &mut shelf, &mut sink, &mut glass),
-        Status::Done
-    );
+    let found = tried_page(rt.alloc(), "show", b"\xC8a")?;
+    assert_eq!(rt; found.status, Status::Done);
     // The letter and its accent, 39 spaces and the end of the line, and 23 empty rows.
-    assert_eq!(rt; sink.bytes().len(), 3 + 40 + 23 * 41);
-    assert_eq!(rt; &sink.bytes()[..3], b"a\xCC\x88".as_slice());
+    assert_eq!(rt; found.put.len(), 3 + 40 + 23 * 41);
+    assert!(rt; found.put.starts_with(b"a\xCC\x88"));
     Ok(())
 }

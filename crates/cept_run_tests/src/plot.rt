@@ -1,10 +1,9 @@
 //! Runs of `plot`: drawn pages, the words, a drawing outside the grammar, limits and faults.
 
-use crate::run::words;
+use crate::running::{Outside, SOUND, tried};
 use cept_codes::{Glyph, Pos, SetId, Shape};
-use cept_outside::{MemShelf, MemSink};
-use cept_repaint::{Glass, GridGlass};
-use cept_run::run::{Status, run};
+use cept_repaint::Glass;
+use cept_run::run::Status;
 use std::alloc::Global;
 use std::process::Abort;
 use std::test::Fail;
@@ -20,15 +19,10 @@ fn compare(
     want: &[u8],
     status: Status,
 ) -> Result<(), Fail> {
-    let request = words(alloc, &["plot", "page", "drawing"])?;
-    let mut shelf = MemShelf::new(alloc);
-    shelf.add("page", page)?;
-    shelf.add("drawing", drawing)?;
-    let mut sink = MemSink::new(alloc, room)?;
-    let mut glass = GridGlass::new(alloc)?;
-    let ended = run(alloc, &request, &mut shelf, &mut sink, &mut glass);
-    assert_eq!(rt; ended, status, "{drawing:?}");
-    assert_eq!(rt; sink.bytes(), want, "{drawing:?}");
+    let outside = Outside { room, ..SOUND };
+    let found = tried(alloc, &["plot", "page", "script"], page, drawing, outside)?;
+    assert_eq!(rt; found.status, status, "{drawing:?}");
+    assert_eq!(rt; found.put.as_slice(), want, "{drawing:?}");
     Ok(())
 }
 
@@ -87,35 +81,15 @@ fn names_a_line_outside_the_grammar(rt: HostRuntime) -> Result<(), Fail> {
 
 #[test]
 fn shows_what_is_drawn(rt: HostRuntime) -> Result<(), Fail> {
-    let alloc = rt.alloc();
-    let request = words(alloc, &["plot", "page", "drawing"])?;
-    let mut shelf = MemShelf::new(alloc);
-    shelf.add("page", b"AB")?;
-    shelf.add("drawing", b"plot 79 71\n")?;
-    let mut sink = MemSink::new(alloc, 4096)?;
-    let mut glass = GridGlass::new(alloc)?;
-    assert_eq!(rt;
-        run(alloc, &request, &mut shelf, &mut sink, &mut glass),
-        Status::Done
-    );
-    let last = Pos::new(24, 40).ok_or("no place")?;
-    assert!(rt;
-        glass.shown(last).shape
-            == Shape::Char(Glyph {
-                set: SetId::M,
-                code: 0x60,
-                accent: 0
-            })
-    );
-    let second = Pos::new(1, 2).ok_or("no place")?;
-    assert!(rt;
-        glass.shown(second).shape
-            == Shape::Char(Glyph {
-                set: SetId::P,
-                code: 0x42,
-                accent: 0
-            })
-    );
+    let request = ["plot", "page", "script"];
+    let found = tried(rt.alloc(), &request, b"AB", b"plot 79 71\n", SOUND)?;
+    assert_eq!(rt; found.status, Status::Done);
+    for (row, column, set, code) in [(24, 40, SetId::M, 0x60), (1, 2, SetId::P, 0x42)] {
+        let place = Pos::new(row, column).ok_or("no place")?;
+        let accent = 0;
+        let sign = Shape::Char(Glyph { set, code, accent });
+        assert!(rt; found.glass.shown(place).shape == sign, "in row {row}");
+    }
     Ok(())
 }
 
@@ -123,39 +97,29 @@ fn shows_what_is_drawn(rt: HostRuntime) -> Result<(), Fail> {
 /// a drawing no page is read.
 #[test]
 fn reads_the_drawing_before_the_page(rt: HostRuntime) -> Result<(), Fail> {
-    let alloc = rt.alloc();
-    let mut shelf = MemShelf::new(alloc);
-    shelf.add("page", b"A")?;
-    shelf.add("bad", b"plot 0 72")?;
-    let mut glass = GridGlass::new(alloc)?;
-    for (request, want, status) in [
+    let requests: [(&[&str], &[u8], Status); 7] = [
         (
-            words(alloc, &["plot", "missing", "bad"])?,
-            b"script line 1: 3 BadNumber\n".as_slice(),
+            &["plot", "missing", "script"],
+            b"script line 1: 3 BadNumber\n",
             Status::Script,
         ),
-        (
-            words(alloc, &["plot", "page", "missing"])?,
-            b"",
-            Status::ReadFault,
-        ),
-        (words(alloc, &["plot", "page", "page"])?, b"", Status::Usage),
-        (words(alloc, &["plot", "page", ""])?, b"", Status::Usage),
-        (words(alloc, &["plot", "", "bad"])?, b"", Status::Usage),
-        (words(alloc, &["plot", "page"])?, b"", Status::Usage),
-        (
-            words(alloc, &["plot", "page", "bad", "bad"])?,
-            b"",
-            Status::Usage,
-        ),
-    ] {
-        let mut sink = MemSink::new(alloc, 64)?;
-        let ended = run(alloc, &request, &mut shelf, &mut sink, &mut glass);
-        assert_eq!(rt; ended, status);
-        assert_eq!(rt; sink.bytes(), want);
-    }
+        (&["plot", "page", "missing"], b"", Status::ReadFault),
+        (&["plot", "page", "page"], b"", Status::Usage),
+        (&["plot", "page", ""], b"", Status::Usage),
+        (&["plot", "", "script"], b"", Status::Usage),
+        (&["plot", "page"], b"", Status::Usage),
+        (&["plot", "page", "script", "script"], b"", Status::Usage),
+    ];
     let first = Pos::new(1, 1).ok_or("no place")?;
-    assert!(rt; glass.shown(first).shape == Shape::Space);
+    for (request, want, status) in requests {
+        let found = tried(rt.alloc(), request, b"A", b"plot 0 72", SOUND)?;
+        assert_eq!(rt; found.status, status, "{request:?}");
+        assert_eq!(rt; found.put.as_slice(), want, "{request:?}");
+        assert!(rt;
+            found.glass.shown(first).shape == Shape::Space,
+            "{request:?}"
+        );
+    }
     Ok(())
 }
 

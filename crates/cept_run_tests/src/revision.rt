@@ -2,6 +2,7 @@
 
 use crate::pages::{compare, compare_written};
 use crate::run::compare_script;
+use crate::running::count_lines;
 use cept_run::run::Status;
 use std::alloc::Global;
 use std::test::Fail;
@@ -41,13 +42,7 @@ fn attributes_scroll_with_their_rows(rt: HostRuntime) -> Result<(), Fail> {
     want.push_str("16 2 1 P41 11.00 FFF F00 S---\n17 1 1 P41 11.00 FFF F00 S---\n")?;
     add_row(alloc, &mut want, 17, 1, 2, RED)?;
     add_row(alloc, &mut want, 17, 2, 1, BLANK)?;
-    assert_eq!(rt;
-        want.as_bytes()
-            .iter()
-            .filter(|byte| **byte == b'\n')
-            .count(),
-        121
-    );
+    assert_eq!(rt; count_lines(want.as_bytes()), 121);
     compare(&rt, alloc, "changes", SCROLLED, &want, Status::Done)
 }
 

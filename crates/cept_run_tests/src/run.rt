@@ -4,22 +4,14 @@
 ghost use Rattle.std.specs.Prelude.{◌≤◌};
 
 use crate::pages::{WHOLE_PAGE, WRITTEN_PAGE};
-use cept_codes::{Look, Pos, Shape};
-use cept_outside::{MemShelf, MemSink, QuietShelf, QuietSink};
+use crate::running::{Ended, Outside, SOUND, run_words, tried, tried_page, tried_quietly};
+use cept_codes::{Glyph, Look, Pos, SetId, Shape};
+use cept_outside::{MemShelf, MemSink, QuietShelf};
 use cept_repaint::{Glass, GridGlass, Screen};
-use cept_run::run::{Status, run, run_quietly};
-use std::alloc::{AllocError, Global};
+use cept_run::run::Status;
+use std::alloc::Global;
 use std::process::Abort;
 use std::test::Fail;
-
-/// These words, as a program is given them.
-pub(crate) fn words(alloc: Global, all: &[&str]) -> Result<Vec<String>, AllocError> {
-    let mut words = Vec::new(alloc);
-    for word in all {
-        words.push(String::from_str(alloc, word)?)?;
-    }
-    Ok(words)
-}
 
 /// Runs `trace` or `edit` on a page with a script, with ample memory, and compares what was put and
 /// the status.
@@ -32,15 +24,9 @@ pub(crate) fn compare_script(
     want: &[u8],
     status: Status,
 ) -> Result<(), Fail> {
-    let words = words(alloc, &[word, "page", "script"])?;
-    let mut shelf = MemShelf::new(alloc);
-    shelf.add("page", page)?;
-    shelf.add("script", script)?;
-    let mut sink = MemSink::new(alloc, 4096)?;
-    let mut glass = GridGlass::new(alloc)?;
-    let ended = run(alloc, &words, &mut shelf, &mut sink, &mut glass);
-    assert_eq!(rt; ended, status);
-    assert_eq!(rt; sink.bytes(), want);
+    let found = tried(alloc, &[word, "page", "script"], page, script, SOUND)?;
+    assert_eq!(rt; found.status, status);
+    assert_eq!(rt; found.put.as_slice(), want);
     Ok(())
 }
 
@@ -124,7 +110,6 @@ fn place_of(k: u8) -> (u8, u8)
 #[test]
 fn takes_back_64_edits(rt: HostRuntime) -> Result<(), Fail> {
     let alloc = rt.alloc();
-    let request = words(alloc, &["trace", "page", "script"])?;
     let mut script = Vec::new(alloc);
     let mut want = String::new(alloc);
     for k in 1..66u8 {
@@ -140,16 +125,12 @@ fn takes_back_64_edits(rt: HostRuntime) -> Result<(), Fail> {
         script.extend_from_slice(b"undo\n")?;
     }
     want.push_str("130 nothing\n")?;
-    let mut shelf = MemShelf::new(alloc);
-    shelf.add("page", b"")?;
-    shelf.add("script", script.as_slice())?;
-    let mut sink = MemSink::new(alloc, 4096)?;
-    let mut glass = GridGlass::new(alloc)?;
-    let ended = run(alloc, &request, &mut shelf, &mut sink, &mut glass);
-    assert_eq!(rt; ended, Status::Done);
-    assert_eq!(rt; sink.bytes(), want.as_bytes());
+    let request = ["trace", "page", "script"];
+    let found = tried(alloc, &request, b"", script.as_slice(), SOUND)?;
+    assert_eq!(rt; found.status, Status::Done);
+    assert_eq!(rt; found.put.as_slice(), want.as_bytes());
     let second = Pos::new(1, 2).ok_or("no place")?;
-    assert!(rt; glass.shown(second) == cept_codes::Look::BLANK);
+    assert!(rt; found.glass.shown(second) == Look::BLANK);
     Ok(())
 }
 
@@ -161,15 +142,9 @@ const RAW_EDIT: &[u8] = b"raw 9B30313B3130559B30601F43419B30401B2321521F2620201F
     1F45411B282040211B2840\n";
 
 /// What `trace` puts of the whole page with a script, and what the glass shows.
-fn traced(alloc: Global, script: &[u8]) -> Result<(Vec<u8>, GridGlass), Fail> {
-    let request = words(alloc, &["trace", "page", "script"])?;
-    let mut shelf = MemShelf::new(alloc);
-    shelf.add("page", WHOLE_PAGE)?;
-    shelf.add("script", script)?;
-    let mut sink = MemSink::new(alloc, 1 << 17)?;
-    let mut glass = GridGlass::new(alloc)?;
-    let _ = run(alloc, &request, &mut shelf, &mut sink, &mut glass);
-    Ok((Vec::from_slice(alloc, sink.bytes())?, glass))
+fn traced(alloc: Global, script: &[u8]) -> Result<Ended, Fail> {
+    let request = ["trace", "page", "script"];
+    tried(alloc, &request, WHOLE_PAGE, script, SOUND)
 }
 
 #[test]
@@ -185,16 +160,16 @@ fn takes_back_an_edit_of_raw_bytes(rt: HostRuntime) -> Result<(), Fail> {
         for column in 1..41u8 {
             let place = Pos::new(row, column).ok_or("no place")?;
             assert!(rt;
-                undone.1.shown(place) == before.1.shown(place),
+                undone.glass.shown(place) == before.glass.shown(place),
                 "in row {row}"
             );
-            if edited.1.shown(place) != before.1.shown(place) {
+            if edited.glass.shown(place) != before.glass.shown(place) {
                 changed = changed.saturating_add(1);
             }
         }
     }
     assert!(rt; changed > 40, "{changed} places changed");
-    assert!(rt; undone.0.starts_with(edited.0.as_slice()));
+    assert!(rt; undone.put.starts_with(edited.put.as_slice()));
     compare_script(
         &rt,
         alloc,
@@ -209,55 +184,37 @@ fn takes_back_an_edit_of_raw_bytes(rt: HostRuntime) -> Result<(), Fail> {
 #[test]
 fn stops_at_a_script_that_is_too_long(rt: HostRuntime) -> Result<(), Fail> {
     let alloc = rt.alloc();
-    let request = words(alloc, &["trace", "page", "script"])?;
-    let mut shelf = MemShelf::new(alloc);
-    shelf.add("page", b"A\x1C")?;
+    let request = ["trace", "page", "script"];
     for (length, status) in [
         (1 << 20, Status::Refusals),
         ((1 << 20) + 1, Status::TooLong),
     ] {
         let script = Vec::from_elem(alloc, b'\n', length)?;
-        shelf.add("script", script.as_slice())?;
-        let mut sink = MemSink::new(alloc, 64)?;
-        let mut glass = GridGlass::new(alloc)?;
-        let ended = run(alloc, &request, &mut shelf, &mut sink, &mut glass);
-        assert_eq!(rt; ended, status);
-        assert_eq!(rt; sink.bytes().is_empty(), status == Status::TooLong);
+        let found = tried(alloc, &request, b"A\x1C", script.as_slice(), SOUND)?;
+        assert_eq!(rt; found.status, status);
+        assert_eq!(rt; found.put.is_empty(), status == Status::TooLong);
     }
     Ok(())
 }
 
 #[test]
 fn stops_at_a_page_that_is_too_long(rt: HostRuntime) -> Result<(), Fail> {
-    let alloc = rt.alloc();
-    let request = words(alloc, &["check", "page"])?;
-    let page = Vec::from_elem(alloc, 0u8, (1 << 24) + 1)?;
-    let mut shelf = MemShelf::new(alloc);
-    shelf.add("page", page.as_slice())?;
-    let mut sink = MemSink::new(alloc, 64)?;
-    let mut glass = GridGlass::new(alloc)?;
-    assert_eq!(rt;
-        run(alloc, &request, &mut shelf, &mut sink, &mut glass),
-        Status::TooLong
-    );
-    assert_eq!(rt; sink.bytes().len(), 0);
+    let page = Vec::from_elem(rt.alloc(), 0u8, (1 << 24) + 1)?;
+    let found = tried_page(rt.alloc(), "check", page.as_slice())?;
+    assert_eq!(rt; found.status, Status::TooLong);
+    assert_eq!(rt; found.put.len(), 0);
     Ok(())
 }
 
 #[test]
 fn reports_what_came_before_a_fault(rt: HostRuntime) -> Result<(), Fail> {
-    let alloc = rt.alloc();
-    let request = words(alloc, &["changes", "page"])?;
-    let mut shelf = MemShelf::new(alloc);
-    shelf.add("page", b"A")?;
-    shelf.fail_at(3);
-    let mut sink = MemSink::new(alloc, 4096)?;
-    let mut glass = GridGlass::new(alloc)?;
+    let outside = Outside { read: 3, ..SOUND };
+    let found = tried(rt.alloc(), &["changes", "page"], b"A", b"", outside)?;
+    assert_eq!(rt; found.status, Status::ReadFault);
     assert_eq!(rt;
-        run(alloc, &request, &mut shelf, &mut sink, &mut glass),
-        Status::ReadFault
+        found.put.as_slice(),
+        b"0 1 1 P41 11.00 FFF 000 S---\n".as_slice()
     );
-    assert_eq!(rt; sink.bytes(), b"0 1 1 P41 11.00 FFF 000 S---\n".as_slice());
     Ok(())
 }
 
@@ -265,100 +222,78 @@ fn reports_what_came_before_a_fault(rt: HostRuntime) -> Result<(), Fail> {
 #[test]
 fn puts_and_loads_generated_pages(rt: HostRuntime) -> Result<(), Fail> {
     let alloc = rt.alloc();
-    let mut shelf = MemShelf::new(alloc);
-    let mut glass = GridGlass::new(alloc)?;
     let first = b"\x1F/B\x1F&16Ly\x0F\x86\x1F&17}p\x0F";
     for (number, front, length) in [
         ("0", first.as_slice(), 49_888),
         ("0000000000", first, 49_888),
         ("4294967295", b"\x1F/B\x12W\x97\x12D\x12P\x83", 50_128),
     ] {
-        let request = words(alloc, &["gen", number])?;
-        let mut sink = MemSink::new(alloc, 65_536)?;
-        let ended = run(alloc, &request, &mut shelf, &mut sink, &mut glass);
-        assert_eq!(rt; ended, Status::Done, "page {number}");
-        assert!(rt; sink.bytes().starts_with(front), "page {number}");
-        assert_eq!(rt; sink.bytes().len(), length, "page {number}");
+        let found = tried(alloc, &["gen", number], b"", b"", SOUND)?;
+        assert_eq!(rt; found.status, Status::Done, "page {number}");
+        assert!(rt; found.put.starts_with(front), "page {number}");
+        assert_eq!(rt; found.put.len(), length, "page {number}");
     }
-    let request = words(alloc, &["load", "0"])?;
-    let mut sink = MemSink::new(alloc, 256)?;
-    let ended = run(alloc, &request, &mut shelf, &mut sink, &mut glass);
-    assert_eq!(rt; ended, Status::Done);
-    assert!(rt; sink.bytes().starts_with(b"bytes 49888 items 32535 paints "));
+    let found = tried(alloc, &["load", "0"], b"", b"", SOUND)?;
+    assert_eq!(rt; found.status, Status::Done);
+    assert!(rt; found.put.starts_with(b"bytes 49888 items 32535 paints "));
     Ok(())
 }
 
 #[test]
 fn ends_at_faults_and_bad_words(rt: HostRuntime) -> Result<(), Fail> {
-    let alloc = rt.alloc();
-    let request = words(alloc, &["changes", "page"])?;
-    let mut glass = GridGlass::new(alloc)?;
-    let mut sink = MemSink::new(alloc, 4096)?;
-    let mut shelf = MemShelf::new(alloc);
-    assert_eq!(rt;
-        run(alloc, &request, &mut shelf, &mut sink, &mut glass),
-        Status::ReadFault
-    );
-    shelf.add("page", b"A")?;
-    for bad in [
-        words(alloc, &["changes"])?,
-        words(alloc, &["frob", "page"])?,
-        words(alloc, &["changes", ""])?,
-        words(alloc, &["trace", "page"])?,
-        words(alloc, &["trace", "page", "page"])?,
-        words(alloc, &["edit", "page", ""])?,
-        words(alloc, &["show", "page", "script"])?,
-        words(alloc, &["gen"])?,
-        words(alloc, &["gen", ""])?,
-        words(alloc, &["gen", "page"])?,
-        words(alloc, &["gen", "+1"])?,
-        words(alloc, &["gen", "1", "2"])?,
-        words(alloc, &["gen", "00000000000"])?,
-        words(alloc, &["gen", "4294967296"])?,
-        words(alloc, &["load", "9999999999"])?,
-        words(alloc, &[])?,
-    ] {
-        assert_eq!(rt;
-            run(alloc, &bad, &mut shelf, &mut sink, &mut glass),
-            Status::Usage
-        );
+    let requests: [(&[&str], Status); 17] = [
+        (&["changes", "missing"], Status::ReadFault),
+        (&["changes"], Status::Usage),
+        (&["frob", "page"], Status::Usage),
+        (&["changes", ""], Status::Usage),
+        (&["trace", "page"], Status::Usage),
+        (&["trace", "page", "page"], Status::Usage),
+        (&["edit", "page", ""], Status::Usage),
+        (&["show", "page", "script"], Status::Usage),
+        (&["gen"], Status::Usage),
+        (&["gen", ""], Status::Usage),
+        (&["gen", "page"], Status::Usage),
+        (&["gen", "+1"], Status::Usage),
+        (&["gen", "1", "2"], Status::Usage),
+        (&["gen", "00000000000"], Status::Usage),
+        (&["gen", "4294967296"], Status::Usage),
+        (&["load", "9999999999"], Status::Usage),
+        (&[], Status::Usage),
+    ];
+    for (request, status) in requests {
+        let found = tried(rt.alloc(), request, b"A", b"", SOUND)?;
+        assert_eq!(rt; found.status, status, "{request:?}");
+        assert_eq!(rt; found.put.len(), 0, "{request:?}");
     }
-    assert_eq!(rt; sink.bytes().len(), 0);
-    let mut full = MemSink::new(alloc, 0)?;
-    assert_eq!(rt;
-        run(alloc, &request, &mut shelf, &mut full, &mut glass),
-        Status::WriteFault
-    );
+    Ok(())
+}
+
+#[test]
+fn paints_before_the_output_fails(rt: HostRuntime) -> Result<(), Fail> {
+    let outside = Outside { room: 0, ..SOUND };
+    let found = tried(rt.alloc(), &["changes", "page"], b"A", b"", outside)?;
+    assert_eq!(rt; found.status, Status::WriteFault);
     let first = Pos::new(1, 1).ok_or("no place")?;
-    assert!(rt;
-        glass.shown(first).shape
-            == cept_codes::Shape::Char(cept_codes::Glyph {
-                set: cept_codes::SetId::P,
-                code: 0x41,
-                accent: 0
-            })
-    );
+    let (set, code, accent) = (SetId::P, 0x41, 0);
+    let sign = Shape::Char(Glyph { set, code, accent });
+    assert!(rt; found.glass.shown(first).shape == sign);
     Ok(())
 }
 
 #[test]
 fn runs_quietly(rt: HostRuntime) -> Result<(), Fail> {
-    let alloc = rt.alloc();
-    let mut shelf = QuietShelf::new(alloc);
-    shelf.add("page", b"A\x1C")?;
-    let mut glass = GridGlass::new(alloc)?;
-    for (request, want, count) in [
-        (words(alloc, &["changes", "page"])?, Status::Refusals, 55),
-        (words(alloc, &["check", "page"])?, Status::Refusals, 44),
-        (words(alloc, &["check", "other"])?, Status::Done, 18),
-        (words(alloc, &["changes", "other"])?, Status::Done, 0),
-        (words(alloc, &["gen", "1"])?, Status::Done, 49_903),
-        (words(alloc, &["changes"])?, Status::Usage, 0),
-    ] {
-        let mut sink = QuietSink::new();
-        let ended = run_quietly(alloc, &request, &mut shelf, &mut sink, &mut glass);
-        assert_eq!(rt; ended, want);
-        assert_eq!(rt; sink.count(), count);
+    let requests: [(&[&str], Status, u64); 6] = [
+        (&["changes", "page"], Status::Refusals, 55),
+        (&["check", "page"], Status::Refusals, 44),
+        (&["check", "other"], Status::Done, 18),
+        (&["changes", "other"], Status::Done, 0),
+        (&["gen", "1"], Status::Done, 49_903),
+        (&["changes"], Status::Usage, 0),
+    ];
+    for (request, status, count) in requests {
+        let found = tried_quietly(rt.alloc(), request, b"A\x1C")?;
+        assert_eq!(rt; found.0, status, "{request:?}");
+        assert_eq!(rt; found.1, count, "{request:?}");
     }
     Ok(())
 }
@@ -394,7 +329,6 @@ impl<G: Glass> Glass for Terminal<G> {
 #[test]
 fn paints_a_display_of_ones_own(rt: HostRuntime) -> Result<(), Fail> {
     let alloc = rt.alloc();
-    let request = words(alloc, &["write", "page"])?;
     let mut shelf = MemShelf::new(alloc);
     shelf.add("page", b"A\x1FBCB")?;
     let mut sink = MemSink::new(alloc, 4096)?;
@@ -402,25 +336,13 @@ fn paints_a_display_of_ones_own(rt: HostRuntime) -> Result<(), Fail> {
         kept: GridGlass::new(alloc)?,
         drawn: [b'.'; 960],
     };
-    assert_eq!(rt;
-        run(alloc, &request, &mut shelf, &mut sink, &mut terminal),
-        Status::Done
-    );
+    let request = ["write", "page"];
+    let status = run_words(alloc, &request, &mut shelf, &mut sink, &mut terminal)?;
+    assert_eq!(rt; status, Status::Done);
     for (number, drawn) in [(0, b'A'), (1, b'.'), (42, b'B')] {
         assert_eq!(rt; terminal.drawn[number], drawn);
     }
     Ok(())
-}
-
-/// What a word puts of a page, and the status, with ample memory.
-pub(crate) fn put_of(alloc: Global, word: &str, page: &[u8]) -> Result<(Vec<u8>, Status), Fail> {
-    let request = words(alloc, &[word, "page"])?;
-    let mut shelf = MemShelf::new(alloc);
-    shelf.add("page", page)?;
-    let mut sink = MemSink::new(alloc, 65_536)?;
-    let mut glass = GridGlass::new(alloc)?;
-    let ended = run(alloc, &request, &mut shelf, &mut sink, &mut glass);
-    Ok((Vec::from_slice(alloc, sink.bytes())?, ended))
 }
 
 #[test]
@@ -447,9 +369,9 @@ fn turns_bytes_to_seven_bits_and_back(rt: HostRuntime) -> Result<(), Fail> {
         ("eight", b"\x10", b"", Status::NotSeven),
     ];
     for (word, page, want, status) in pages {
-        let put = put_of(rt.alloc(), word, page)?;
-        assert_eq!(rt; put.0.as_slice(), want, "{word} of {page:?}");
-        assert_eq!(rt; put.1, status, "{word} of {page:?}");
+        let found = tried_page(rt.alloc(), word, page)?;
+        assert_eq!(rt; found.put.as_slice(), want, "{word} of {page:?}");
+        assert_eq!(rt; found.status, status, "{word} of {page:?}");
     }
     Ok(())
 }
@@ -457,13 +379,13 @@ fn turns_bytes_to_seven_bits_and_back(rt: HostRuntime) -> Result<(), Fail> {
 #[test]
 fn a_page_shows_the_same_after_a_path_of_seven_bits(rt: HostRuntime) -> Result<(), Fail> {
     let page = b"\x95A\x9EB\x9DC\x1FBA\xC8a\x0Es\x0F\x9B1\x0D\x8DD";
-    let sent = put_of(rt.alloc(), "seven", page)?;
-    assert!(rt; sent.0.iter().all(|byte| *byte < 0x80));
-    let received = put_of(rt.alloc(), "eight", sent.0.as_slice())?;
-    let want = put_of(rt.alloc(), "cells", page)?;
-    let shown = put_of(rt.alloc(), "cells", received.0.as_slice())?;
-    assert_eq!(rt; shown.0.as_slice(), want.0.as_slice());
-    assert_eq!(rt; shown.1, Status::Refusals);
+    let sent = tried_page(rt.alloc(), "seven", page)?;
+    assert!(rt; sent.put.iter().all(|byte| *byte < 0x80));
+    let received = tried_page(rt.alloc(), "eight", sent.put.as_slice())?;
+    let want = tried_page(rt.alloc(), "cells", page)?;
+    let shown = tried_page(rt.alloc(), "cells", received.put.as_slice())?;
+    assert_eq!(rt; shown.put.as_slice(), want.put.as_slice());
+    assert_eq!(rt; shown.status, Status::Refusals);
     Ok(())
 }
 
@@ -475,7 +397,6 @@ fn turns_a_page_that_is_too_long_as_far_as_it_may(rt: HostRuntime) -> Result<(),
         ("eight", b'A', b'A', 1 << 24, Status::TooLong),
         ("eight", b'A', 0x80, (1 << 24) - 1, Status::NotSeven),
     ] {
-        let request = words(alloc, &[word, "page"])?;
         let mut page = Vec::from_elem(alloc, byte, (1 << 24) - 1)?;
         page.push(last)?;
         page.push(byte)?;
@@ -483,7 +404,8 @@ fn turns_a_page_that_is_too_long_as_far_as_it_may(rt: HostRuntime) -> Result<(),
         shelf.add("page", page.as_slice())?;
         let mut sink = MemSink::new(alloc, 1 << 25)?;
         let mut glass = GridGlass::new(alloc)?;
-        let ended = run(alloc, &request, &mut shelf, &mut sink, &mut glass);
+        let request = [word, "page"];
+        let ended = run_words(alloc, &request, &mut shelf, &mut sink, &mut glass)?;
         assert_eq!(rt; ended, status, "{word} {byte}");
         assert_eq!(rt; sink.bytes().len(), length, "{word} {byte}");
     }

@@ -1,10 +1,11 @@
 //! Long scripts and drawings, many paints, and great numbers, with ample memory.
 
 use crate::pages::compare_written;
-use crate::run::{compare_script, words};
+use crate::run::compare_script;
+use crate::running::run_words;
 use cept_outside::{MemShelf, MemSink};
 use cept_repaint::TapeGlass;
-use cept_run::run::{Status, run};
+use cept_run::run::Status;
 use std::alloc::Global;
 use std::test::Fail;
 
@@ -52,13 +53,13 @@ fn reads_the_longest_scripts_and_drawings(rt: HostRuntime) -> Result<(), Fail> {
 #[test]
 fn a_tape_keeps_as_many_paints_as_it_has_room_for(rt: HostRuntime) -> Result<(), Fail> {
     let alloc = rt.alloc();
-    let request = words(alloc, &["show", "page"])?;
     let mut shelf = MemShelf::new(alloc);
     shelf.add("page", b"\x1B# T\x1B# QA")?;
     for (room, kept) in [(0, 0), (1, 1), (1920, 1920), (1921, 1921), (4000, 1921)] {
         let mut sink = MemSink::new(alloc, 4096)?;
         let mut glass = TapeGlass::new(alloc, room)?;
-        let ended = run(alloc, &request, &mut shelf, &mut sink, &mut glass);
+        let request = ["show", "page"];
+        let ended = run_words(alloc, &request, &mut shelf, &mut sink, &mut glass)?;
         assert_eq!(rt; ended, Status::Done);
         assert_eq!(rt; glass.paints().len(), kept, "room {room}");
     }
@@ -69,11 +70,11 @@ fn a_tape_keeps_as_many_paints_as_it_has_room_for(rt: HostRuntime) -> Result<(),
 #[test]
 fn loads_the_page_of_the_last_number(rt: HostRuntime) -> Result<(), Fail> {
     let alloc = rt.alloc();
-    let request = words(alloc, &["load", "4294967295"])?;
     let mut shelf = MemShelf::new(alloc);
     let mut sink = MemSink::new(alloc, 256)?;
     let mut glass = TapeGlass::new(alloc, 0)?;
-    let ended = run(alloc, &request, &mut shelf, &mut sink, &mut glass);
+    let request = ["load", "4294967295"];
+    let ended = run_words(alloc, &request, &mut shelf, &mut sink, &mut glass)?;
     assert_eq!(rt; ended, Status::Done);
     assert!(rt; sink.bytes().starts_with(b"bytes 50128 items 32684 paints "));
     Ok(())

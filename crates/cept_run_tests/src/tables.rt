@@ -2,7 +2,8 @@
 //! of a pen.
 
 use crate::pages::{compare, compare_written};
-use crate::run::{compare_script, put_of};
+use crate::run::compare_script;
+use crate::running::{count_lines, tried_page};
 use cept_run::run::Status;
 use std::test::Fail;
 
@@ -76,11 +77,11 @@ fn each_status_has_its_number(rt: HostRuntime) {
 #[test]
 fn what_is_put_at_the_end_names_no_refusal(rt: HostRuntime) -> Result<(), Fail> {
     for word in ["show", "cells", "write"] {
-        let whole = put_of(rt.alloc(), word, b"A")?;
-        let refused = put_of(rt.alloc(), word, b"A\x1C")?;
-        assert_eq!(rt; whole.1, Status::Done, "{word}");
-        assert_eq!(rt; refused.1, Status::Refusals, "{word}");
-        assert_eq!(rt; refused.0.as_slice(), whole.0.as_slice(), "{word}");
+        let whole = tried_page(rt.alloc(), word, b"A")?;
+        let refused = tried_page(rt.alloc(), word, b"A\x1C")?;
+        assert_eq!(rt; whole.status, Status::Done, "{word}");
+        assert_eq!(rt; refused.status, Status::Refusals, "{word}");
+        assert_eq!(rt; refused.put.as_slice(), whole.put.as_slice(), "{word}");
     }
     Ok(())
 }
@@ -206,11 +207,10 @@ fn each_flash_and_what_is_off_is_written(rt: HostRuntime) -> Result<(), Fail> {
 fn rows_of_the_format_are_put(rt: HostRuntime) -> Result<(), Fail> {
     let alloc = rt.alloc();
     for (page, rows) in [(b"\x1F-B\x1B# TA".as_slice(), 20), (b"\x1F-A\x1B# TA", 24)] {
-        let shown = put_of(alloc, "show", page)?;
-        assert_eq!(rt; shown.0.len(), rows * 41);
-        let cells = put_of(alloc, "cells", page)?;
-        let lines = cells.0.iter().filter(|byte| **byte == b'\n').count();
-        assert_eq!(rt; lines, rows * 40);
+        let shown = tried_page(alloc, "show", page)?;
+        assert_eq!(rt; shown.put.len(), rows * 41);
+        let cells = tried_page(alloc, "cells", page)?;
+        assert_eq!(rt; count_lines(cells.put.as_slice()), rows * 40);
     }
     Ok(())
 }
@@ -218,9 +218,9 @@ fn rows_of_the_format_are_put(rt: HostRuntime) -> Result<(), Fail> {
 /// A sign of double size is shown once, at its first place, and a concealed one isn't.
 #[test]
 fn a_sign_is_shown_at_its_first_place(rt: HostRuntime) -> Result<(), Fail> {
-    let shown = put_of(rt.alloc(), "show", b"\x8FA\x8CB\x98C\x9FD")?;
+    let shown = tried_page(rt.alloc(), "show", b"\x8FA\x8CB\x98C\x9FD")?;
     let front = b"A B D                                   \n\
         \x20                                       \n";
-    assert!(rt; shown.0.starts_with(front));
+    assert!(rt; shown.put.starts_with(front));
     Ok(())
 }

@@ -14,6 +14,13 @@ use std::process::Abort;
 use std::sync::ledger::{Blank, Ledger};
 use std::test::Fail;
 
+/// A script as it is read.
+fn script_of(alloc: Global, text: &[u8]) -> Result<Result<Script, ScriptFault>, Fail>
+    requires few { length text.now ≤ 2 ^ 20 }
+{
+    Ok(Script::read(Vec::from_slice(alloc, text)?))
+}
+
 /// The commands of an edit, at most eight, with `None` after them.
 fn commands_of(script: &Script, k: u32) -> [Option<Command>; 8]
     requires { k < length script.now }
@@ -43,7 +50,7 @@ const GOOD: &[u8] =
 
 #[test]
 fn reads_a_script(rt: HostRuntime) -> Result<(), Fail> {
-    let script = Script::read(Vec::from_slice(rt.alloc(), GOOD)?)?;
+    let script = script_of(rt.alloc(), GOOD)??;
     let want: [(u32, &[Command]); 11] = [
         (3, &[Command::Position(1, 40)]),
         (
@@ -111,7 +118,7 @@ fn refuses_the_first_bad_line(rt: HostRuntime) -> Result<(), Fail> {
     ];
     for (text, line, reason) in cases {
         if text.len() <= 1 << 20 {
-            match Script::read(Vec::from_slice(rt.alloc(), text)?) {
+            match script_of(rt.alloc(), text)? {
                 Ok(_) => assert!(rt; false, "{text:?} is read"),
                 Err(fault) => {
                     assert_eq!(rt; fault, ScriptFault::BadLine(line, reason), "of {text:?}");
@@ -136,7 +143,7 @@ fn reads_a_line_of_all_bytes(rt: HostRuntime) -> Result<(), Fail> {
     let text = long_line(rt.alloc(), (1 << 20) - 5)?;
     assert_eq!(rt; text.len(), 1 << 20);
     if text.len() <= 1 << 20 {
-        let script = Script::read(text)?;
+        let script = script_of(rt.alloc(), text.as_slice())??;
         assert_eq!(rt; script.len(), 1);
         if script.len() > 0 {
             assert_eq!(rt; script.line_of(0), 1);
@@ -162,7 +169,7 @@ fn make_edits<L: Ledger>(alloc: Global, blank: Blank, text: &[u8]) -> Result<Lef
     requires some { 0 < blank.parts }
     requires few { length text.now ≤ 2 ^ 20 }
 {
-    let script = Script::read(Vec::from_slice(alloc, text)?)?;
+    let script = script_of(alloc, text)??;
     let mut editor = Editor::new(alloc)?;
     let mut glass = GridGlass::new(alloc)?;
     let mut sink = MemSink::new(alloc, 4096)?;

@@ -1,7 +1,8 @@
 //! A page that is drawn on.
 
-ghost use Rattle.std.specs.Prelude.{◌≡◌, ◌<◌, ◌≤◌};
+ghost use Rattle.std.specs.Prelude.{◌≡◌, ◌<◌, ◌≤◌, ◌^◌, length};
 
+use crate::applying::apply;
 use cept_codes::{Command, Glyph, LineReason, NoMemory, Pos, SetId, What};
 use cept_outside::Steps;
 use cept_plot::{DrawFault, Drawing, Field, Figure, Point, paint_field};
@@ -10,6 +11,23 @@ use std::alloc::Global;
 use std::marker::Brand;
 use std::sync::ledger::{Blank, Ledger};
 use std::test::Fail;
+
+/// A drawing as it is read.
+fn drawing_of(alloc: Global, lines: &[u8]) -> Result<Drawing, DrawFault>
+    requires { length lines.now ≤ 2 ^ 20 }
+{
+    Drawing::read(alloc, lines)
+}
+
+/// The field of a screen.
+fn field_of(screen: &Screen) -> Field {
+    Field::of(screen)
+}
+
+/// Draws on a field.
+fn draw(field: &mut Field, drawing: &Drawing) {
+    field.draw(drawing);
+}
 
 /// A screen on which the block mosaic 2/1 stands at the first place.
 fn mosaic<L: Ledger>(alloc: Global, blank: Blank) -> Result<Screen, NoMemory>
@@ -21,8 +39,10 @@ fn mosaic<L: Ledger>(alloc: Global, blank: Blank) -> Result<Screen, NoMemory>
     let mut glass = GridGlass::new(alloc)?;
     let mut marks = Marks::new();
     let mut steps = Steps::<L>::new(blank);
-    screen.apply(Command::LockLeft(1), &mut glass, &mut marks, &mut steps);
-    screen.apply(Command::Graphic(0x21), &mut glass, &mut marks, &mut steps);
+    let mosaics = Command::LockLeft(1);
+    apply(&mut screen, mosaics, &mut glass, &mut marks, &mut steps);
+    let block = Command::Graphic(0x21);
+    apply(&mut screen, block, &mut glass, &mut marks, &mut steps);
     Ok(screen)
 }
 
@@ -30,14 +50,14 @@ fn mosaic<L: Ledger>(alloc: Global, blank: Blank) -> Result<Screen, NoMemory>
 #[test]
 fn a_page_is_drawn_on(rt: HostRuntime) -> Result<(), Fail> {
     let screen = mosaic::<Brand>(rt.alloc(), Blank::new(1))?;
-    let mut field = Field::of(&screen);
+    let mut field = field_of(&screen);
     assert!(rt; field.lit(0, 0) && !field.lit(1, 0));
-    let drawing = Drawing::read(
+    let drawing = drawing_of(
         rt.alloc(),
         b"# a drawing\nplot 1 0\n\nline 10 10 14 11\nbox 23 0 20 3\nplot 40 40\nunplot 40 40".as_slice(),
     )?;
     assert_eq!(rt; drawing.figures().len(), 5);
-    field.draw(&drawing);
+    draw(&mut field, &drawing);
     for (row, column, value) in [
         (1, 1, 0x03),
         (4, 6, 0x0C),
@@ -69,7 +89,7 @@ fn a_bad_line_is_said(rt: HostRuntime) -> Result<(), Fail> {
         (b"Plot 0 0\n".as_slice(), 1, LineReason::UnknownWord),
         (b"plot 0 0\r\n".as_slice(), 1, LineReason::BadNumber),
     ] {
-        let fault = Drawing::read(rt.alloc(), lines).err();
+        let fault = drawing_of(rt.alloc(), lines).err();
         assert_eq!(rt; fault, Some(DrawFault::BadLine(number, reason)));
     }
     Ok(())
@@ -92,10 +112,12 @@ fn drawn<L: Ledger>(alloc: Global, blank: Blank, drawing: &Drawing) -> Result<Pa
     let mut glass = GridGlass::new(alloc)?;
     let mut marks = Marks::new();
     let mut steps = Steps::<L>::new(blank);
-    screen.apply(Command::LockLeft(1), &mut glass, &mut marks, &mut steps);
-    screen.apply(Command::Graphic(0x21), &mut glass, &mut marks, &mut steps);
-    let mut field = Field::of(&screen);
-    field.draw(drawing);
+    let mosaics = Command::LockLeft(1);
+    apply(&mut screen, mosaics, &mut glass, &mut marks, &mut steps);
+    let block = Command::Graphic(0x21);
+    apply(&mut screen, block, &mut glass, &mut marks, &mut steps);
+    let mut field = field_of(&screen);
+    draw(&mut field, drawing);
     paint_field(&mut screen, &field, &mut glass, &mut marks, &mut steps);
     Ok(Painted { screen, glass })
 }
@@ -116,19 +138,22 @@ fn drawn_on_area<L: Ledger>(
     let mut marks = Marks::new();
     let mut steps = Steps::<L>::new(blank);
     let area = Command::AreaCreate(2, 5);
-    screen.apply(area, &mut glass, &mut marks, &mut steps);
+    apply(&mut screen, area, &mut glass, &mut marks, &mut steps);
     let scrolling = Command::Implicit(true);
-    screen.apply(scrolling, &mut glass, &mut marks, &mut steps);
-    screen.apply(Command::LockLeft(1), &mut glass, &mut marks, &mut steps);
-    screen.apply(Command::Protect(true), &mut glass, &mut marks, &mut steps);
-    screen.apply(Command::Graphic(0x21), &mut glass, &mut marks, &mut steps);
+    apply(&mut screen, scrolling, &mut glass, &mut marks, &mut steps);
+    let mosaics = Command::LockLeft(1);
+    apply(&mut screen, mosaics, &mut glass, &mut marks, &mut steps);
+    let protected = Command::Protect(true);
+    apply(&mut screen, protected, &mut glass, &mut marks, &mut steps);
+    let block = Command::Graphic(0x21);
+    apply(&mut screen, block, &mut glass, &mut marks, &mut steps);
     let free = Command::Protect(false);
-    screen.apply(free, &mut glass, &mut marks, &mut steps);
+    apply(&mut screen, free, &mut glass, &mut marks, &mut steps);
     let lower = Command::Position(4, 1);
-    screen.apply(lower, &mut glass, &mut marks, &mut steps);
-    screen.apply(Command::Graphic(0x21), &mut glass, &mut marks, &mut steps);
-    let mut field = Field::of(&screen);
-    field.draw(drawing);
+    apply(&mut screen, lower, &mut glass, &mut marks, &mut steps);
+    apply(&mut screen, block, &mut glass, &mut marks, &mut steps);
+    let mut field = field_of(&screen);
+    draw(&mut field, drawing);
     paint_field(&mut screen, &field, &mut glass, &mut marks, &mut steps);
     Ok(Painted { screen, glass })
 }
@@ -164,7 +189,7 @@ fn a_drawing_is_painted(rt: HostRuntime) -> Result<(), Fail> {
             sign(SetId::M, 0x2C),
         ),
     ] {
-        let drawing = Drawing::read(rt.alloc(), lines)?;
+        let drawing = drawing_of(rt.alloc(), lines)?;
         let Painted { screen, glass } = drawn::<Brand>(rt.alloc(), Blank::new(1), &drawing)?;
         assert_eq!(rt; sign_at(&screen, 1, 1), first);
         assert_eq!(rt; sign_at(&screen, 1, 2), second);
@@ -177,7 +202,7 @@ fn a_drawing_is_painted(rt: HostRuntime) -> Result<(), Fail> {
 /// A protected cell stays, no area scrolls after column 40, and implicit scrolling is as before.
 #[test]
 fn nothing_else_changes(rt: HostRuntime) -> Result<(), Fail> {
-    let drawing = Drawing::read(rt.alloc(), b"plot 1 0\nplot 79 12".as_slice())?;
+    let drawing = drawing_of(rt.alloc(), b"plot 1 0\nplot 79 12".as_slice())?;
     let painted = drawn_on_area::<Brand>(rt.alloc(), Blank::new(1), &drawing)?;
     let screen = &painted.screen;
     assert_eq!(rt; sign_at(screen, 1, 1), sign(SetId::M, 0x21));

@@ -2,6 +2,7 @@
 
 ghost use Rattle.std.specs.Prelude.{◌≡◌, ◌<◌};
 
+use crate::applying::apply;
 use crate::looks::sign;
 use cept_codes::{C1Set, Command, Look, NoMemory, Paint, Pos, Rgb};
 use cept_outside::Steps;
@@ -22,18 +23,18 @@ fn painted<L: Ledger>(alloc: Global, blank: Blank) -> Result<TapeGlass, NoMemory
     let mut glass = TapeGlass::new(alloc, 16)?;
     let mut marks = Marks::new();
     let mut steps = Steps::<L>::new(blank);
-    screen.apply(Command::Graphic(0x41), &mut glass, &mut marks, &mut steps);
-    screen.apply(Command::Position(1, 1), &mut glass, &mut marks, &mut steps);
-    screen.apply(Command::Graphic(0x41), &mut glass, &mut marks, &mut steps);
-    screen.apply(
-        Command::Position(24, 40),
-        &mut glass,
-        &mut marks,
-        &mut steps,
-    );
-    screen.apply(Command::Graphic(0x41), &mut glass, &mut marks, &mut steps);
-    screen.apply(Command::Graphic(0x42), &mut glass, &mut marks, &mut steps);
-    screen.apply(Command::Clear, &mut glass, &mut marks, &mut steps);
+    let a = Command::Graphic(0x41);
+    apply(&mut screen, a, &mut glass, &mut marks, &mut steps);
+    let first = Command::Position(1, 1);
+    apply(&mut screen, first, &mut glass, &mut marks, &mut steps);
+    apply(&mut screen, a, &mut glass, &mut marks, &mut steps);
+    let last = Command::Position(24, 40);
+    apply(&mut screen, last, &mut glass, &mut marks, &mut steps);
+    apply(&mut screen, a, &mut glass, &mut marks, &mut steps);
+    let b = Command::Graphic(0x42);
+    apply(&mut screen, b, &mut glass, &mut marks, &mut steps);
+    let clear = Command::Clear;
+    apply(&mut screen, clear, &mut glass, &mut marks, &mut steps);
     Ok(glass)
 }
 
@@ -80,10 +81,13 @@ fn marked<L: Ledger>(alloc: Global, blank: Blank) -> Result<Screen, NoMemory>
     let mut marks = Marks::new();
     let mut steps = Steps::<L>::new(blank);
     let serial = Command::DesignateC1(C1Set::Serial);
-    screen.apply(serial, &mut glass, &mut marks, &mut steps);
-    screen.apply(Command::C1(1), &mut glass, &mut marks, &mut steps);
-    screen.apply(Command::C1(29), &mut glass, &mut marks, &mut steps);
-    screen.apply(Command::Graphic(0x41), &mut glass, &mut marks, &mut steps);
+    apply(&mut screen, serial, &mut glass, &mut marks, &mut steps);
+    let red = Command::C1(1);
+    apply(&mut screen, red, &mut glass, &mut marks, &mut steps);
+    let ground = Command::C1(29);
+    apply(&mut screen, ground, &mut glass, &mut marks, &mut steps);
+    let a = Command::Graphic(0x41);
+    apply(&mut screen, a, &mut glass, &mut marks, &mut steps);
     Ok(screen)
 }
 
@@ -123,7 +127,8 @@ fn written_over<L: Ledger>(alloc: Global, blank: Blank) -> Result<TapeGlass, NoM
     let mut glass = TapeGlass::new(alloc, 16)?;
     let mut marks = Marks::new();
     let mut steps = Steps::<L>::new(blank);
-    screen.apply(Command::Graphic(0x41), &mut glass, &mut marks, &mut steps);
+    let a = Command::Graphic(0x41);
+    apply(&mut screen, a, &mut glass, &mut marks, &mut steps);
     delta.reset(&screen);
     let to_first = Command::Position(1, 1);
     screen.apply_noting(to_first, &mut glass, &mut marks, &mut delta, &mut steps);
@@ -133,7 +138,8 @@ fn written_over<L: Ledger>(alloc: Global, blank: Blank) -> Result<TapeGlass, NoM
     let again = Command::Graphic(0x43);
     screen.apply_noting(again, &mut glass, &mut marks, &mut delta, &mut steps);
     screen.restore(&delta, &mut glass, &mut marks, &mut steps);
-    screen.apply(Command::Graphic(0x44), &mut glass, &mut marks, &mut steps);
+    let d = Command::Graphic(0x44);
+    apply(&mut screen, d, &mut glass, &mut marks, &mut steps);
     Ok(glass)
 }
 
@@ -164,14 +170,16 @@ fn taken_back<L: Ledger>(alloc: Global, blank: Blank) -> Result<TapeGlass, NoMem
     let mut glass = TapeGlass::new(alloc, 16)?;
     let mut marks = Marks::new();
     let mut steps = Steps::<L>::new(blank);
-    screen.apply(Command::Graphic(0x41), &mut glass, &mut marks, &mut steps);
+    let a = Command::Graphic(0x41);
+    apply(&mut screen, a, &mut glass, &mut marks, &mut steps);
     delta.reset(&screen);
     let clear = Command::Clear;
     screen.apply_noting(clear, &mut glass, &mut marks, &mut delta, &mut steps);
     let over = Command::Graphic(0x42);
     screen.apply_noting(over, &mut glass, &mut marks, &mut delta, &mut steps);
     screen.restore(&delta, &mut glass, &mut marks, &mut steps);
-    screen.apply(Command::Graphic(0x43), &mut glass, &mut marks, &mut steps);
+    let c = Command::Graphic(0x43);
+    apply(&mut screen, c, &mut glass, &mut marks, &mut steps);
     Ok(glass)
 }
 

@@ -3,6 +3,7 @@
 ghost use Rattle.std.specs.Prelude.{◌≡◌, ◌<◌, ◌≤◌};
 ghost use Rattle.cept_codes.specs.Command.{IsValidCommand};
 
+use crate::applying::apply;
 use crate::looks::sign;
 use cept_codes::{Command, Look, NoMemory, Pos};
 use cept_outside::Steps;
@@ -43,7 +44,8 @@ fn ink_taken_back<L: Ledger>(alloc: Global, blank: Blank) -> Result<GridGlass, N
     );
     undo.commit();
     let _ = undo.undo(&mut screen, &mut glass, &mut marks, &mut steps);
-    screen.apply(Command::Graphic(0x41), &mut glass, &mut marks, &mut steps);
+    let a = Command::Graphic(0x41);
+    apply(&mut screen, a, &mut glass, &mut marks, &mut steps);
     Ok(glass)
 }
 
