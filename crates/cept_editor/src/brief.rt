@@ -4,7 +4,7 @@ ghost use Rattle.cept_editor.specs.Order.{command_of};
 use cept_codes::{C1Set, Command, Rgb};
 
 /// A command that a line asks for by itself, in little room: a `Command` has room for a pattern.
-#[derive(Clone, Copy, Debug)]
+#[derive(Clone, Copy)]
 pub(crate) enum Brief {
     Position(u8, u8),
     DesignateC1(C1Set),

@@ -13,7 +13,7 @@ use crate::places::{Span, place_before};
 use cept_codes::LineReason;
 
 /// What an edit line asks for.
-#[derive(Clone, Copy, Debug)]
+#[derive(Clone, Copy)]
 pub(crate) enum Order {
     /// To take back the last kept edit.
     TakeBack,

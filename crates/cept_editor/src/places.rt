@@ -5,14 +5,14 @@ ghost use Rattle.cept_editor.specs.Places.{LiesIn, bytes_at};
 use crate::order::Order;
 
 /// Where bytes stand in a script: from their first one to before `end`.
-#[derive(Clone, Copy, Debug)]
+#[derive(Clone, Copy)]
 pub(crate) struct Span {
     pub(crate) start: u32,
     pub(crate) end: u32,
 }
 
 /// The number of an edit's line, and what the line asks for.
-#[derive(Clone, Copy, Debug)]
+#[derive(Clone, Copy)]
 pub(crate) struct OrderLine {
     pub(crate) line: u32,
     pub(crate) order: Order,

@@ -15,6 +15,16 @@ fn bit(pattern: &Pattern, n: usize) -> u8
     ((pattern.bits[n / 64] >> (n % 64)) & 1) as u8
 }
 
+/// Three bits from this one on as a number, the first one highest.
+fn three_bits(pattern: &Pattern, n: usize) -> u8
+    requires { n + 3 ≤ 576 }
+    ensures bits { result ≡ 4 * bit_of pattern.now.bits n + 2 * bit_of pattern.now.bits (n + 1)
+        + bit_of pattern.now.bits (n + 2) }
+    ensures few { result ≤ 7 }
+{
+    4 * bit(pattern, n) + 2 * bit(pattern, n + 1) + bit(pattern, n + 2)
+}
+
 /// Six pixels of a line of a plane, from a column on.
 #[tactic(auto, unfolding(cept_parser::specs::Spelling::half_line_byte))]
 fn half_line_byte(pattern: &Pattern, plane: u8, line: u8, column: u8) -> u8
@@ -25,9 +35,7 @@ fn half_line_byte(pattern: &Pattern, plane: u8, line: u8, column: u8) -> u8
     let height = usize::from(pattern.h);
     let lines = usize::from(plane) * height + usize::from(line);
     let n = lines * usize::from(pattern.w) + usize::from(column);
-    let left = 32 * bit(pattern, n) + 16 * bit(pattern, n + 1) + 8 * bit(pattern, n + 2);
-    let right = 4 * bit(pattern, n + 3) + 2 * bit(pattern, n + 4) + bit(pattern, n + 5);
-    0x40 + left + right
+    0x40 + 8 * three_bits(pattern, n) + three_bits(pattern, n + 3)
 }
 
 /// Adds a line of a plane: its left half, and its right half where it has one.
