@@ -1,19 +1,17 @@
 -- Lines that were read one after the other.
 use Rattle.std.proofs.Common.{rules}
 use Rattle.std.proofs.Common.{◌≡◌, ℕ, ◌+◌, ◌-◌, ◌<◌, ◌≤◌, ◌^◌, List, [], ◌∷◌, ◌++◌, map, length}
-use Rattle.std.proofs.Common.{zero, suc, take, drop, slice_index_or, Option, Some, None, Result, Ok, Err, Bor, refl, sym, ap, ◌∙◌, subst, arith}
-use Rattle.std.specs.List.{slice_split, AllByRecursion}
-use Rattle.std.proofs.lemmas.List.{append_assoc, append-nil, length-drop, length-append, drop-drop, map-append, take_all, get_or-map, length-map}
-use Rattle.std.proofs.lemmas.List.Splits.{length-slice_split}
+use Rattle.std.proofs.Common.{zero, suc, take, drop, slice_index_or, Option, Some, None, Result, Ok, Err, refl, sym, ap, ◌∙◌, subst, arith}
+use Rattle.std.specs.List.{AllByRecursion}
+use Rattle.std.proofs.lemmas.List.{append_assoc, drop_all, length-drop, length-append, drop-drop, map-append, get_or-map, length-map}
 use Rattle.cept_codes.specs.declared.line_reason.LineReason.{LineReason}
+use Rattle.cept_words.specs.Cut.{IsFirstLine}
+use Rattle.cept_words.specs.Lines.{lines}
 use Rattle.cept_editor.specs.declared.places.OrderLine.{OrderLine}
 use Rattle.cept_editor.specs.declared.script.ScriptFault.{ScriptFault}
 use Rattle.cept_editor.specs.declared.script.ScriptFault.TheVariants as faults
-use Rattle.cept_editor.specs.Cut.{parts_after, IsCut}
 use Rattle.cept_editor.specs.Fault.{SaysFault}
-use Rattle.cept_editor.specs.Lines.{ends_line, lines_of_parts, lines}
 use Rattle.cept_editor.specs.Meaning.{Step, line_meaning}
-use Rattle.cept_editor.specs.Order.{bytes_after}
 use Rattle.cept_editor.specs.Places.{EndsAt, IsPlacedOrder, step_at, edit_at, HasKept, IsUnkept, HasOrders}
 use Rattle.cept_editor.proofs.ValidOrders.{order_valid}
 use Rattle.cept_editor.specs.Script.{EditLine, Fault, edit_of, fault_or, edits_from, fault_from, edits, first_fault}
@@ -30,72 +28,35 @@ pub record HasRead (bytes : List ℕ) (ps : List OrderLine) (n : ℕ) (rest : Li
 
 -- ---- the first line
 
--- some parts before other parts
-lines_more : (part : List ℕ) (parts : List (List ℕ)) → 0 < length parts
-    → lines_of_parts (part ∷ parts) ≡ part ∷ lines_of_parts parts
-lines_more part [] l = absurd (omega arith)
-lines_more part (next ∷ parts) l = refl
-
-lines_last : (part : List ℕ) → 0 < length part → lines_of_parts (part ∷ []) ≡ part ∷ []
-lines_last [] l = absurd (omega arith)
-lines_last (a ∷ more) l = refl
-
-pub lines_first : (left part : List ℕ) (rest : Option (Bor (List ℕ))) → 0 < length left
-    → slice_split ends_line left ≡ part ∷ parts_after 0x0A rest → IsCut left part rest
-    → lines left ≡ part ∷ lines (bytes_after rest)
-lines_first left part None l e cut =
-    ap lines_of_parts e ∙ lines_last part (subst (λ (x : List ℕ). 0 < length x) cut l)
-lines_first left part (Some rest) l e cut =
-    ap lines_of_parts e
-    ∙ lines_more part (slice_split ends_line rest.now) (omega (arith, length-slice_split ends_line rest.now))
-
-drop_all : (xs : List ℕ) (n : ℕ) → n ≡ length xs → drop n xs ≡ []
-drop_all [] n e = ap (λ (k : ℕ). drop k []) e
-drop_all (x ∷ xs) n e = ap (λ (k : ℕ). drop k (x ∷ xs)) e ∙ drop_all xs (length xs) refl
-
-pub after_is : (bytes left part : List ℕ) (rest : Option (Bor (List ℕ))) → 0 < length left
-    → left ≡ drop (length bytes - length left) bytes → length left ≤ length bytes → IsCut left part rest
-    → (bytes_after rest ≡ drop (length bytes - length (bytes_after rest)) bytes)
-    × (length (bytes_after rest) < length left)
-after_is bytes left part None l e few cut = (sym (drop_all bytes (length bytes - 0) (omega arith)), l)
-after_is bytes left part (Some rest) l e few cut =
-    let shorter : length rest.now ≡ length left - (length part + 1) =
-    ap length cut.1 ∙ length-drop (length part + 1) left in
-    let place : (length bytes - length left) + (length part + 1) ≡ length bytes - length rest.now =
-    omega (arith, shorter, few, cut.2) in (
-      cut.1 ∙ ap (drop (length part + 1)) e ∙ drop-drop (length part + 1) (length bytes - length left) bytes
-          ∙ ap (λ (k : ℕ). drop k bytes) place,
-      omega (arith, shorter, cut.2),
-    )
+-- what stands after the first line of what is left
+after_is : (bytes left part rest : List ℕ) → left ≡ drop (length bytes - length left) bytes
+    → length left ≤ length bytes → rest ≡ drop (length part + 1) left → rest ≡ drop (length bytes - length rest) bytes
+after_is bytes left part [] e few after = sym (drop_all (length bytes - 0) bytes (omega arith))
+after_is bytes left part (a ∷ more) e few after =
+    let size : length (a ∷ more) ≡ length left - (length part + 1) =
+    ap length after ∙ length-drop (length part + 1) left in
+    let place : (length bytes - length left) + (length part + 1) ≡ length bytes - length (a ∷ more) =
+    omega (arith, size, few) in
+    after ∙ ap (drop (length part + 1)) e ∙ drop-drop (length part + 1) (length bytes - length left) bytes
+    ∙ ap (λ (k : ℕ). drop k bytes) place
 
 -- ---- one line more
 
 -- the first line of what is left ends there
-pub line_ends : (bytes left part : List ℕ) (rest : Option (Bor (List ℕ))) (end : ℕ)
-    → left ≡ drop (length bytes - length left) bytes → length left ≤ length bytes → IsCut left part rest
+line_ends : (bytes left part : List ℕ) (end : ℕ) → left ≡ drop (length bytes - length left) bytes
+    → length left ≤ length bytes → part ≡ take (length part) left → length part ≤ length left
     → end ≡ (length bytes - length left) + length part → EndsAt bytes end part
-line_ends bytes left part rest end e few cut is =
-    let size : length part ≤ length left = part_long left part rest cut in
+line_ends bytes left part end e few begins size is =
     let count : end - (end - length part) ≡ length part = omega (arith, is) in
     let place : end - length part ≡ length bytes - length left = omega (arith, is) in
     record {
       long = omega (arith, is);
       within = omega (arith, is, size, few);
       is =
-          part_first left part rest cut ∙ ap (take (length part)) e
+          begins ∙ ap (take (length part)) e
           ∙ ap (λ (i : ℕ). take (length part) (drop i bytes)) (sym place)
           ∙ ap (λ (i : ℕ). take i (drop (end - length part) bytes)) (sym count);
     }
-  where
-    part_long : (left part : List ℕ) (rest : Option (Bor (List ℕ))) → IsCut left part rest → length part ≤ length left
-    part_long left part None cut = let e : length left ≡ length part = ap length cut in omega (arith, e)
-    part_long left part (Some rest) cut = omega (arith, cut.2)
-
-    part_first : (left part : List ℕ) (rest : Option (Bor (List ℕ))) → IsCut left part rest
-        → part ≡ take (length part) left
-    part_first left part None cut =
-        sym (take_all (length part) part (omega arith)) ∙ ap (take (length part)) (sym cut)
-    part_first left part (Some rest) cut = cut.0
 
 kept_edits : (bytes : List ℕ) (ps qs : List OrderLine) (m : Result (Option Step) LineReason) (n : ℕ)
     (more : List EditLine) → HasKept bytes n m ps qs
@@ -138,28 +99,25 @@ kept_count bytes ps qs (Ok (Some step)) n (p, after, at, placed) =
     omega (arith, e, length-append ps (p ∷ []))
 kept_count bytes ps qs (Err reason) n kept = absurd kept
 
-pub read_more : (bytes : List ℕ) (ps qs : List OrderLine) (n end : ℕ) (left part : List ℕ)
-    (rest : Option (Bor (List ℕ))) → HasRead bytes ps n left → 0 < length left
-    → slice_split ends_line left ≡ part ∷ parts_after 0x0A rest → IsCut left part rest
-    → end ≡ (length bytes - length left) + length part
+pub read_more : (bytes : List ℕ) (ps qs : List OrderLine) (n end : ℕ) (left part rest : List ℕ) → HasRead bytes ps n left
+    → IsFirstLine left part rest → end ≡ (length bytes - length left) + length part
     → ((script : List ℕ) → EndsAt script end part → HasKept script (n + 1) (line_meaning part) ps qs)
-    → HasRead bytes qs (n + 1) (bytes_after rest)
+    → HasRead bytes qs (n + 1) rest
 unfolding edits_from fault_from
-read_more bytes ps qs n end left part rest r l parts cut place keeps =
-    let line : lines left ≡ part ∷ lines (bytes_after rest) = lines_first left part rest l parts cut in
-    let after = after_is bytes left part rest l r.left (omega (arith, r.number)) cut in
-    let kept = keeps bytes (line_ends bytes left part rest end r.left (omega (arith, r.number)) cut place) in
+read_more bytes ps qs n end left part rest r first place keeps =
+    let few : length left ≤ length bytes = omega (arith, r.number) in
+    let kept = keeps bytes (line_ends bytes left part end r.left few first.start first.within place) in
     record {
       edits =
-          r.edits ∙ ap (λ (ls : List (List ℕ)). map (edit_at bytes) ps ++ edits_from (n + 1) ls) line
-          ∙ kept_edits bytes ps qs (line_meaning part) (n + 1) (edits_from (n + 1 + 1) (lines (bytes_after rest))) kept;
+          r.edits ∙ ap (λ (ls : List (List ℕ)). map (edit_at bytes) ps ++ edits_from (n + 1) ls) first.lines
+          ∙ kept_edits bytes ps qs (line_meaning part) (n + 1) (edits_from (n + 1 + 1) (lines rest)) kept;
       fault =
-          r.fault ∙ ap (λ (ls : List (List ℕ)). fault_from (n + 1) ls) line
-          ∙ kept_fault bytes ps qs (line_meaning part) (n + 1) (fault_from (n + 1 + 1) (lines (bytes_after rest))) kept;
+          r.fault ∙ ap (λ (ls : List (List ℕ)). fault_from (n + 1) ls) first.lines
+          ∙ kept_fault bytes ps qs (line_meaning part) (n + 1) (fault_from (n + 1 + 1) (lines rest)) kept;
       places = kept_places bytes ps qs (line_meaning part) (n + 1) kept r.places;
       count = omega (arith, kept_count bytes ps qs (line_meaning part) (n + 1) kept, r.count);
-      number = omega (arith, r.number, after.1);
-      left = after.0;
+      number = omega (arith, r.number, first.shorter);
+      left = after_is bytes left part rest r.left few first.after;
     }
 
 -- ---- the first and the last
@@ -188,17 +146,15 @@ fault_said m n first later (faults.BadLine k reason) e u =
     ∙ ap (λ (j : ℕ). Some (record { line = j; reason = reason })) (sym u.0)
 fault_said m n first later faults.NoMemory e u = tt
 
-pub read_fault : (bytes : List ℕ) (ps : List OrderLine) (n end : ℕ) (left part : List ℕ)
-    (rest : Option (Bor (List ℕ))) (fault : ScriptFault) → HasRead bytes ps n left → 0 < length left
-    → slice_split ends_line left ≡ part ∷ parts_after 0x0A rest → IsCut left part rest
-    → end ≡ (length bytes - length left) + length part
+pub read_fault : (bytes : List ℕ) (ps : List OrderLine) (n end : ℕ) (left part rest : List ℕ) (fault : ScriptFault)
+    → HasRead bytes ps n left → IsFirstLine left part rest → end ≡ (length bytes - length left) + length part
     → ((script : List ℕ) → EndsAt script end part → IsUnkept (line_meaning part) (n + 1) fault)
     → SaysFault (first_fault bytes) fault
 unfolding fault_from
-read_fault bytes ps n end left part rest fault r l parts cut place unkept =
-    fault_said (line_meaning part) (n + 1) (first_fault bytes) (fault_from (n + 1 + 1) (lines (bytes_after rest))) fault
-    (r.fault ∙ ap (λ (ls : List (List ℕ)). fault_from (n + 1) ls) (lines_first left part rest l parts cut))
-    (unkept bytes (line_ends bytes left part rest end r.left (omega (arith, r.number)) cut place))
+read_fault bytes ps n end left part rest fault r first place unkept =
+    fault_said (line_meaning part) (n + 1) (first_fault bytes) (fault_from (n + 1 + 1) (lines rest)) fault
+    (r.fault ∙ ap (λ (ls : List (List ℕ)). fault_from (n + 1) ls) first.lines)
+    (unkept bytes (line_ends bytes left part end r.left (omega (arith, r.number)) first.start first.within place))
 
 valid_each : (bytes : List ℕ) (ps : List OrderLine) → AllByRecursion (λ l. IsPlacedOrder bytes l.order) ps
     → AreValidEdits (map (edit_at bytes) ps)

@@ -1,5 +1,3 @@
-pub mod FirstParts
-pub mod CountedWords
 pub mod DigitPairs
 pub mod BytesSaid
 pub mod RawWords

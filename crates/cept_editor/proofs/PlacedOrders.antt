@@ -1,17 +1,18 @@
 -- Orders whose bytes stand in a script.
 use Rattle.std.proofs.Common.{◌≡◌, ℕ, ◌+◌, ◌-◌, true, List, [], ◌∷◌, length, take, drop, Option, Some, None}
 use Rattle.std.proofs.Common.{Result, Ok, Err, IfOk, Bor, slice_range, refl, sym, ap, ◌∙◌, subst, arith}
-use Rattle.std.specs.List.{slice_split, list_all}
+use Rattle.std.specs.List.{list_all}
 use Rattle.std.proofs.lemmas.List.{drop-drop, drop-take, drop_all, length-drop}
 use Rattle.cept_codes.specs.declared.line_reason.LineReason.{LineReason}
 use Rattle.cept_parser.specs.Items.{commands}
 use Rattle.cept_editor.specs.declared.order.Order.{Order}
 use Rattle.cept_editor.specs.declared.order.Order.TheVariants as orders
 use Rattle.cept_editor.specs.declared.places.Span.{Span}
-use Rattle.cept_editor.specs.Cut.{parts_after, IsCut}
-use Rattle.cept_editor.specs.Lines.{parts_words, words}
+use Rattle.cept_words.specs.Cut.{IsCut}
+use Rattle.cept_words.specs.Lines.{words}
+use Rattle.cept_words.specs.Words.{words_after, bytes_after}
 use Rattle.cept_editor.specs.Meaning.{Edit, HasCommand, is_sign, text_commands, step_by, step_of_words}
-use Rattle.cept_editor.specs.Order.{raw_bytes, words_after, bytes_after, order_step, step_meant, AreSoundDigits, IsSoundOrder}
+use Rattle.cept_editor.specs.Order.{raw_bytes, order_step, step_meant, AreSoundDigits, IsSoundOrder}
 use Rattle.cept_editor.specs.Order.{IsPlainOrder}
 use Rattle.cept_editor.specs.Places.{LiesIn, bytes_at, EndsAt, step_at, placed_step, IsPlacedOrder}
 use Rattle.cept_editor.specs.Table.{row_of}
@@ -111,13 +112,13 @@ rest_ends script line word (Some rest) end start at cut e =
     )
 
 pub words_meant : (line word : List ℕ) (rest : Option (Bor (List ℕ)))
-    → slice_split parts_words line ≡ word ∷ parts_after 0x20 rest → IsCut line word rest
+    → words line ≡ word ∷ words_after rest → IsCut line word rest
     → step_by (row_of word) (words_after rest) (bytes_after rest) ≡ step_of_words (words line) line
-words_meant line word None parts cut =
+words_meant line word None e cut =
     let none : drop (length word + 1) line ≡ [] =
     drop_all (length word + 1) line (let same : length line ≡ length word = ap length cut in omega (arith, same)) in
     ap (step_by (row_of word) []) (sym none)
-    ∙ ap (λ (ws : List (List ℕ)). step_of_words ws line) (sym parts)
-words_meant line word (Some rest) parts cut =
+    ∙ ap (λ (ws : List (List ℕ)). step_of_words ws line) (sym e)
+words_meant line word (Some rest) e cut =
     ap (step_by (row_of word) (words rest.now)) cut.1
-    ∙ ap (λ (ws : List (List ℕ)). step_of_words ws line) (sym parts)
+    ∙ ap (λ (ws : List (List ℕ)). step_of_words ws line) (sym e)

@@ -8,7 +8,7 @@ use Rattle.std.proofs.lemmas.List.Elements.{All-nil, All-cons, All-weaker, All-h
 use Rattle.std.proofs.lemmas.List.Kept.{AllPairs-cons}
 use Rattle.cept_codes.specs.declared.line_reason.LineReason.{LineReason}
 use Rattle.cept_codes.specs.Table.{entry}
-use Rattle.cept_editor.specs.Lines.{lines}
+use Rattle.cept_words.specs.Lines.{lines}
 use Rattle.cept_editor.specs.Meaning.{Step, line_meaning}
 use Rattle.cept_editor.specs.Script.{EditLine, Fault, edit_of, edits, edits_from, fault_from, fault_or, first_fault, numbered_line}
 use Rattle.cept_editor.specs.Script.{IsFirstFault}

@@ -6,7 +6,6 @@ use Rattle.cept_codes.specs.declared.line_reason.LineReason.{LineReason}
 use Rattle.cept_codes.specs.declared.command.Command.TheVariants as commands
 use Rattle.cept_codes.specs.declared.command.C1Set.TheVariants.{Serial, Parallel}
 use Rattle.cept_codes.specs.declared.line_reason.LineReason.TheVariants as reasons
-use Rattle.cept_editor.specs.Lines.{lines}
 use Rattle.cept_editor.specs.Meaning.{Step, Turn, TakeBack, MakeAgain, Edit, hex_bytes, line_meaning}
 use Rattle.cept_editor.specs.Script.{edits, first_fault, edits_from, fault_from}
 use Rattle.cept_editor.specs.Table.{row_of}
@@ -96,18 +95,6 @@ unfolding line_meaning row_of hex_bytes
 each_reason = refl
 
 -- ---- lines
-
-lines-none : lines [] ≡ []
-lines-none = refl
-
-lines-of_line_end : lines (0x0A ∷ []) ≡ [] ∷ []
-lines-of_line_end = refl
-
-lines-last : lines (0x41 ∷ 0x0A ∷ 0x0A ∷ 0x42 ∷ []) ≡ (0x41 ∷ []) ∷ [] ∷ (0x42 ∷ []) ∷ []
-lines-last = refl
-
-lines-ended : lines (0x41 ∷ 0x0A ∷ []) ≡ (0x41 ∷ []) ∷ []
-lines-ended = refl
 
 -- a comment, an edit, an empty line and undo
 abbrev script : List ℕ

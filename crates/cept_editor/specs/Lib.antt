@@ -1,5 +1,3 @@
-pub mod Cut
-pub mod Lines
 pub mod Table
 pub mod Meaning
 pub mod Script

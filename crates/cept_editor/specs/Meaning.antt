@@ -1,6 +1,6 @@
 -- What a line of a script means (this project's own): nothing, a step, or the reason for which it is outside the
 -- grammar.
-use Rattle.std.specs.Prelude.{ℕ, ◌+◌, ◌*◌, ◌<◌, Bool, ◌&&◌, ◌==◌, List, [], ◌∷◌, map, length, drop, Option, Some, None}
+use Rattle.std.specs.Prelude.{ℕ, ◌+◌, ◌*◌, ◌<◌, Bool, ◌==◌, List, [], ◌∷◌, map, length, drop, Option, Some, None}
 use Rattle.std.specs.Prelude.{Result, Ok, Err, if◌then◌else◌}
 use Rattle.std.specs.List.{list_all, list_any, AllByRecursion}
 use Rattle.hex.specs.Hex.{hex_digit_value}
@@ -9,9 +9,9 @@ use Rattle.cept_codes.specs.declared.command.Command.{Command}
 use Rattle.cept_codes.specs.declared.command.Command.TheVariants.{LockLeft, Graphic}
 use Rattle.cept_codes.specs.declared.line_reason.LineReason.{LineReason}
 use Rattle.cept_codes.specs.declared.line_reason.LineReason.TheVariants as reasons
-use Rattle.cept_parser.specs.Bytes.{is_between, is_digit, digit, two_digits}
+use Rattle.cept_parser.specs.Bytes.{is_between}
 use Rattle.cept_parser.specs.Items.{is_refusal, closed_items, commands}
-use Rattle.cept_editor.specs.Lines.{words}
+use Rattle.cept_words.specs.Lines.{number, words}
 use Rattle.cept_editor.specs.Table.{Row, row_of, Alone, One, Two, Four, Text, Raw, Undo, Redo}
 
 -- what a turn does: it takes back the last kept edit, or makes the last undone edit again
@@ -38,13 +38,6 @@ HasCommand (Edit cs) = 0 < length cs
 abbrev pub command_count : Step → ℕ
 command_count (Turn turn) = 1
 command_count (Edit cs) = length cs
-
--- the number of a word: one or two digits
-abbrev pub number : List ℕ → Option ℕ
-number [] = None
-number (a ∷ []) = if is_digit a then Some (digit a) else None
-number (a ∷ b ∷ []) = if is_digit a && is_digit b then Some (two_digits a b) else None
-number (a ∷ b ∷ c ∷ more) = None
 
 -- what a number decides, where the word is one
 abbrev pub given : Option ℕ → (ℕ → Result Step LineReason) → Result Step LineReason

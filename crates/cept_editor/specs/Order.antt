@@ -1,7 +1,6 @@
 -- Commands in brief, orders, and what a parser goes on to say (this project's own). Private clauses alone cite this file.
-use Rattle.std.specs.Prelude.{ℕ, ◌≡◌, ◌≢◌, ◌-◌, ◌<◌, ◌^◌, true, List, [], ◌∷◌, ◌++◌, length, Option, Some, None, Result, Ok, Err}
+use Rattle.std.specs.Prelude.{ℕ, ◌≡◌, ◌-◌, ◌<◌, ◌^◌, true, List, [], ◌∷◌, ◌++◌, length, Result, Ok, Err}
 use Rattle.std.specs.Prelude.{false, IsSome}
-use Rattle.std.specs.Borrow.{Bor}
 use Rattle.std.specs.Option.{unwrap_or}
 use Rattle.std.specs.List.{AllByRecursion, list_all}
 use Rattle.cept_codes.specs.Command.{IsValidCommand}
@@ -17,7 +16,6 @@ use Rattle.cept_editor.specs.declared.brief.Brief.TheVariants as briefs
 use Rattle.cept_editor.specs.declared.order.Order.{Order}
 use Rattle.cept_editor.specs.declared.order.Order.TheVariants as orders
 use Rattle.cept_editor.specs.declared.places.Span.{Span}
-use Rattle.cept_editor.specs.Lines.{words}
 use Rattle.cept_editor.specs.Meaning.{Step, Turn, TakeBack, MakeAgain, Edit, HasCommand, text_commands, is_sign, hex_bytes}
 
 -- the command of a brief one
@@ -45,36 +43,6 @@ command_of briefs.ScrollUp = commands.ScrollUp
 command_of briefs.ScrollDown = commands.ScrollDown
 command_of (briefs.Implicit on) = commands.Implicit on
 command_of (briefs.Revision number) = commands.Revision number
-
--- the words in what stands after a word, if a space does
-abbrev pub words_after : Option (Bor (List ℕ)) → List (List ℕ)
-words_after None = []
-words_after (Some rest) = words rest.now
-
--- the words from a first one on, if there is one
-abbrev pub first_words : Option (Bor (List ℕ) × Option (Bor (List ℕ))) → List (List ℕ)
-first_words None = []
-first_words (Some parts) = parts.0.now ∷ words_after parts.1
-
--- the words are this one, or aren't one
-abbrev pub IsOneWord : List (List ℕ) → Option (Bor (List ℕ)) → Type 0
-IsOneWord ws None = length ws ≢ 1
-IsOneWord ws (Some v) = ws ≡ v.now ∷ []
-
--- the words are these two, or aren't two
-abbrev pub AreTwoWords : List (List ℕ) → Option (Bor (List ℕ) × Bor (List ℕ)) → Type 0
-AreTwoWords ws None = length ws ≢ 2
-AreTwoWords ws (Some vs) = ws ≡ vs.0.now ∷ vs.1.now ∷ []
-
--- the words are these four, or aren't four
-abbrev pub AreFourWords : List (List ℕ) → Option (Bor (List ℕ) × Bor (List ℕ) × Bor (List ℕ) × Bor (List ℕ)) → Type 0
-AreFourWords ws None = length ws ≢ 4
-AreFourWords ws (Some vs) = ws ≡ vs.0.now ∷ vs.1.now ∷ vs.2.now ∷ vs.3.now ∷ []
-
--- what stands after a word and a space
-abbrev pub bytes_after : Option (Bor (List ℕ)) → List ℕ
-bytes_after None = []
-bytes_after (Some rest) = rest.now
 
 -- the bytes of hexadecimal digits, none where they can't be read
 abbrev pub raw_bytes : List ℕ → List ℕ

@@ -3,7 +3,7 @@ use Rattle.std.specs.Prelude.{◌≡◌, ℕ, ◌+◌, ◌≤◌, ◌<◌, List,
 use Rattle.std.specs.List.{AllByRecursion}
 use Rattle.cept_codes.specs.declared.line_reason.LineReason.{LineReason}
 use Rattle.cept_codes.specs.Table.{entry}
-use Rattle.cept_editor.specs.Lines.{lines}
+use Rattle.cept_words.specs.Lines.{lines}
 use Rattle.cept_editor.specs.Meaning.{Step, IsValidStep, line_meaning}
 
 -- an edit: the number of its line, and what it does

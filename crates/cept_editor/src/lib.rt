@@ -4,7 +4,6 @@
 
 mod brief;
 mod commands;
-mod cut;
 mod decoding;
 mod digits;
 mod editor;

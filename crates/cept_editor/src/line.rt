@@ -1,13 +1,12 @@
 ghost use Rattle.std.specs.Prelude.{◌≡◌, ◌≤◌, ◌<◌, ◌^◌, ℕ, List, length, IfOk, IfSome};
-ghost use Rattle.cept_editor.specs.Lines.{words};
+ghost use Rattle.cept_words.specs.Lines.{words};
 ghost use Rattle.cept_editor.specs.Meaning.{line_meaning, step_of_words};
 ghost use Rattle.cept_editor.specs.Places.{EndsAt, placed_step, placed_line, IsPlacedOrder};
 
-use crate::cut::cut;
-use crate::number::SPACE;
 use crate::order::Order;
 use crate::table::order_of;
 use cept_codes::LineReason;
+use cept_words::first_word;
 
 /// What the words of a line ask for, which ends there in a script.
 fn words_order(line: &[u8], end: u32) -> Result<Order, LineReason>
@@ -18,7 +17,7 @@ fn words_order(line: &[u8], end: u32) -> Result<Order, LineReason>
     ensures sound { (script : List ℕ) → EndsAt script end line.now
         → IfOk result (IsPlacedOrder script) }
 {
-    let (word, rest) = cut(line, SPACE);
+    let (word, rest) = first_word(line);
     order_of(word, rest, end)
 }
 

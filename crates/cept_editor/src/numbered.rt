@@ -4,8 +4,9 @@ ghost use Rattle.cept_codes.specs.Look.{IsValidRgb};
 ghost use Rattle.cept_codes.specs.Place.{OnScreen};
 ghost use Rattle.cept_codes.specs.declared.command.Command.TheVariants as commands;
 ghost use Rattle.cept_parser.specs.Bytes.{is_between};
+ghost use Rattle.cept_words.specs.Words.{words_after, bytes_after};
 ghost use Rattle.cept_editor.specs.Meaning.{one, two, four};
-ghost use Rattle.cept_editor.specs.Order.{words_after, bytes_after, step_meant, IsPlainOrder};
+ghost use Rattle.cept_editor.specs.Order.{step_meant, IsPlainOrder};
 ghost use Rattle.cept_editor.specs.Table.{is_place, is_c1, is_screen_c1, is_colour, is_area};
 ghost use Rattle.cept_editor.specs.Table.{entry_command};
 

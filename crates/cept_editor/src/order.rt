@@ -1,16 +1,18 @@
 ghost use Rattle.std.specs.Prelude.{◌≡◌, ◌≤◌, ◌<◌, ◌^◌, ◌∷◌, ℕ, List, [], length, true, IfOk};
 ghost use Rattle.std.specs.List.{list_all};
 ghost use Rattle.cept_codes.specs.Command.{IsValidCommand};
+ghost use Rattle.cept_words.specs.Words.{words_after, bytes_after};
 ghost use Rattle.cept_editor.specs.Meaning.{Turn, TakeBack, MakeAgain, Edit, ranged, alone, is_sign};
 ghost use Rattle.cept_editor.specs.Meaning.{text, raw, bytes_step, hex_bytes};
-ghost use Rattle.cept_editor.specs.Order.{words_after, bytes_after, order_step, step_meant};
+ghost use Rattle.cept_editor.specs.Order.{order_step, step_meant};
 ghost use Rattle.cept_editor.specs.Order.{command_of, place_before, IsSoundOrder, IsPlainOrder};
 
 use crate::brief::Brief;
 use crate::digits::{are_digits, has_refusal};
-use crate::number::{is_between, one_word};
+use crate::number::is_between;
 use crate::places::{Span, place_before};
 use cept_codes::LineReason;
+use cept_words::{next_word, one_word};
 
 /// What an edit line asks for.
 #[derive(Clone, Copy)]
@@ -47,7 +49,7 @@ fn alone(order: Order, rest: Option<&[u8]>) -> Result<Order, LineReason>
         ≡ alone (order_step (bytes_after rest.entry) order) (words_after rest.entry) }
     ensures plain { IfOk result IsPlainOrder }
 {
-    match rest {
+    match next_word(rest) {
         None => Ok(order),
         Some(_) => Err(LineReason::WrongCount),
     }

@@ -1,22 +1,18 @@
 ghost use Rattle.std.specs.Prelude.{◌≡◌, ◌≤◌, ◌<◌, ◌^◌, ℕ, List, [], length, IfOk, OnOk, IfErr, None, ◌==◌};
 ghost use Rattle.std.specs.Prelude.{slice_index_or};
 ghost use Rattle.cept_editor.specs.Fault.{SaysFault};
-ghost use Rattle.cept_editor.specs.Order.{bytes_after};
 ghost use Rattle.cept_editor.specs.Meaning.{line_meaning, IsValidStep, HasCommand};
 ghost use Rattle.cept_editor.specs.Places.{EndsAt, HasKept, IsUnkept, HasOrders};
 ghost use Rattle.cept_editor.specs.Edit.{edit_step};
 ghost use Rattle.cept_editor.specs.Script.{EditLine, edits, first_fault, AreValidEdits};
 
 use crate::commands::Edit;
-use crate::cut::cut;
 use crate::line::line_order;
 use crate::places::OrderLine;
 use cept_codes::LineReason;
+use cept_words::{LINE_END, first_line};
 use std::alloc::{AllocError, AllocFailed};
 use std::marker::Model;
-
-/// The byte that ends a line.
-const LINE_END: u8 = 0x0A;
 
 /// Why a script isn't read.
 #[derive(Clone, Copy, Debug, PartialEq, Eq)]
@@ -63,16 +59,6 @@ fn count_edits(bytes: &[u8]) -> usize
     count
 }
 
-/// What stands after a mark.
-fn after(rest: Option<&[u8]>) -> &[u8]
-    ensures { result.now ≡ bytes_after rest.entry }
-{
-    match rest {
-        None => &[],
-        Some(rest) => rest,
-    }
-}
-
 /// Keeps the order of the line of this number, which ends there in a script, where it is an edit.
 fn keep_line(
     orders: &mut Vec<OrderLine>,
@@ -111,10 +97,10 @@ fn keep_lines(orders: &mut Vec<OrderLine>, bytes: &[u8]) -> Result<(), ScriptFau
     let mut left = bytes;
     while !left.is_empty() {
         let start = bytes.len() - left.len();
-        let (line, rest) = cut(left, LINE_END);
+        let (line, rest) = first_line(left);
         number += 1;
         keep_line(orders, line, number, (start + line.len()) as u32)?;
-        left = after(rest);
+        left = rest;
     }
     Ok(())
 }

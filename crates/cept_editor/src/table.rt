@@ -1,7 +1,8 @@
 //! The words with which lines begin: what each asks for.
 ghost use Rattle.std.specs.Prelude.{◌≡◌, ◌<◌, ◌≤◌, ◌^◌, length, IfOk};
+ghost use Rattle.cept_words.specs.Words.{words_after, bytes_after};
 ghost use Rattle.cept_editor.specs.Meaning.{step_by};
-ghost use Rattle.cept_editor.specs.Order.{words_after, bytes_after, place_before, step_meant, IsSoundOrder};
+ghost use Rattle.cept_editor.specs.Order.{place_before, step_meant, IsSoundOrder};
 ghost use Rattle.cept_editor.specs.Table.{row_of};
 
 use crate::brief::Brief;

@@ -1,20 +1,18 @@
 -- Lines that were read one after the other.
-use Rattle.std.proofs.Common.{◌≡◌, ℕ, ◌+◌, ◌-◌, ◌<◌, ◌≤◌, ◌==◌, true, false, List, [], ◌∷◌, ◌++◌, length}
-use Rattle.std.proofs.Common.{Option, Some, None, Result, Ok, Err, Bor, refl, sym, ap, ◌∙◌, subst, arith}
-use Rattle.std.specs.List.{slice_split}
+use Rattle.std.proofs.Common.{◌≡◌, ℕ, ◌+◌, ◌≤◌, ◌==◌, true, List, [], ◌∷◌, ◌++◌, length}
+use Rattle.std.proofs.Common.{Option, Some, None, Result, Ok, Err, refl, sym, ap, ◌∙◌, subst, arith}
 use Rattle.std.proofs.lemmas.Bool.{eqb-true}
-use Rattle.std.proofs.lemmas.List.{append_assoc, append-nil, length-drop}
-use Rattle.std.proofs.lemmas.List.Splits.{length-slice_split}
+use Rattle.std.proofs.lemmas.List.{append_assoc, append-nil}
 use Rattle.cept_codes.specs.declared.line_reason.LineReason.{LineReason}
+use Rattle.cept_words.specs.Cut.{IsFirstLine}
+use Rattle.cept_words.specs.Lines.{lines}
 use Rattle.cept_plot.specs.declared.drawing.DrawFault.{DrawFault}
 use Rattle.cept_plot.specs.declared.drawing.DrawFault.TheVariants as faults
 use Rattle.cept_plot.specs.declared.figure.Figure.{Figure}
-use Rattle.cept_plot.specs.Cut.{IsCut, bytes_after, parts_after}
 use Rattle.cept_plot.specs.Drawings.{AreValidFigures, Fault, SaysFault, fault_from, fault_or, figure_in, figures_in}
 use Rattle.cept_plot.specs.Drawings.{figures_of, first_fault, line_meaning}
 use Rattle.cept_plot.specs.Figures.{IsValidFigure}
 use Rattle.cept_plot.specs.Kept.{HasFigures, HasKept, IsUnkept}
-use Rattle.cept_plot.specs.Lines.{ends_line, lines, lines_of_parts}
 
 -- so many lines were read, and these bytes are left
 pub record HasRead (bytes : List ℕ) (list : List Figure) (n : ℕ) (rest : List ℕ) : Type 0 where
@@ -26,39 +24,6 @@ pub record HasRead (bytes : List ℕ) (list : List Figure) (n : ℕ) (rest : Lis
 pub no_length : (bytes : List ℕ) → (length bytes == 0) ≡ true → length bytes ≡ 0
 no_length [] e = refl
 no_length (a ∷ more) e = eqb-true (length (a ∷ more)) 0 e
-
-pub some_length : (bytes : List ℕ) → (length bytes == 0) ≡ false → 0 < length bytes
-some_length [] e = absurd cc
-some_length (a ∷ more) e = omega arith
-
--- ---- the first line
-
--- some parts before other parts
-lines_more : (part : List ℕ) (parts : List (List ℕ)) → 0 < length parts
-    → lines_of_parts (part ∷ parts) ≡ part ∷ lines_of_parts parts
-lines_more part [] l = absurd (omega arith)
-lines_more part (next ∷ parts) l = refl
-
-lines_last : (part : List ℕ) → 0 < length part → lines_of_parts (part ∷ []) ≡ part ∷ []
-lines_last [] l = absurd (omega arith)
-lines_last (a ∷ more) l = refl
-
-lines_first : (left part : List ℕ) (rest : Option (Bor (List ℕ))) → 0 < length left
-    → slice_split ends_line left ≡ part ∷ parts_after 0x0A rest → IsCut left part rest
-    → lines left ≡ part ∷ lines (bytes_after rest)
-lines_first left part None l e cut =
-    ap lines_of_parts e ∙ lines_last part (subst (λ (x : List ℕ). 0 < length x) cut l)
-lines_first left part (Some rest) l e cut =
-    ap lines_of_parts e
-    ∙ lines_more part (slice_split ends_line rest.now) (omega (arith, length-slice_split ends_line rest.now))
-
-pub shorter_after : (left part : List ℕ) (rest : Option (Bor (List ℕ))) → 0 < length left → IsCut left part rest
-    → length (bytes_after rest) < length left
-shorter_after left part None l cut = l
-shorter_after left part (Some rest) l cut =
-    let shorter : length rest.now ≡ length left - (length part + 1) =
-    ap length cut.0 ∙ length-drop (length part + 1) left in
-    omega (arith, shorter, cut.1)
 
 -- ---- one line more
 
@@ -85,22 +50,20 @@ kept_valid list more (Ok None) kept all = subst AreValidFigures (sym kept) all
 kept_valid list more (Ok (Some figure)) kept all = subst AreValidFigures (sym kept.0) (one_more list figure all kept.1)
 kept_valid list more (Err reason) kept all = absurd kept
 
-pub read_more : (bytes : List ℕ) (list more : List Figure) (n : ℕ) (left part : List ℕ) (rest : Option (Bor (List ℕ)))
-    → HasRead bytes list n left → 0 < length left → slice_split ends_line left ≡ part ∷ parts_after 0x0A rest
-    → IsCut left part rest → HasKept (line_meaning part) list more → HasRead bytes more (n + 1) (bytes_after rest)
+pub read_more : (bytes : List ℕ) (list more : List Figure) (n : ℕ) (left part rest : List ℕ)
+    → HasRead bytes list n left → IsFirstLine left part rest → HasKept (line_meaning part) list more
+    → HasRead bytes more (n + 1) rest
 unfolding figures_in fault_from
-read_more bytes list more n left part rest r l parts cut kept =
-    let line : lines left ≡ part ∷ lines (bytes_after rest) = lines_first left part rest l parts cut in
-    record {
-      figures =
-          r.figures ∙ ap (λ (ls : List (List ℕ)). list ++ figures_in ls) line
-          ∙ kept_figures list more (figures_in (lines (bytes_after rest))) (line_meaning part) kept;
-      fault =
-          r.fault ∙ ap (λ (ls : List (List ℕ)). fault_from (n + 1) ls) line
-          ∙ kept_fault list more (line_meaning part) (n + 1) (fault_from (n + 1 + 1) (lines (bytes_after rest))) kept;
-      valid = kept_valid list more (line_meaning part) kept r.valid;
-      number = omega (arith, r.number, shorter_after left part rest l cut);
-    }
+read_more bytes list more n left part rest r first kept = record {
+  figures =
+      r.figures ∙ ap (λ (ls : List (List ℕ)). list ++ figures_in ls) first.lines
+      ∙ kept_figures list more (figures_in (lines rest)) (line_meaning part) kept;
+  fault =
+      r.fault ∙ ap (λ (ls : List (List ℕ)). fault_from (n + 1) ls) first.lines
+      ∙ kept_fault list more (line_meaning part) (n + 1) (fault_from (n + 1 + 1) (lines rest)) kept;
+  valid = kept_valid list more (line_meaning part) kept r.valid;
+  number = omega (arith, r.number, first.shorter);
+}
 
 -- ---- the first and the last
 
@@ -126,11 +89,10 @@ fault_said m n first later (faults.BadLine k reason) e u =
     ∙ ap (λ (j : ℕ). Some (record { line = j; reason = reason })) (sym u.0)
 fault_said m n first later faults.NoMemory e u = tt
 
-pub read_fault : (bytes : List ℕ) (list : List Figure) (n : ℕ) (left part : List ℕ) (rest : Option (Bor (List ℕ)))
-    (fault : DrawFault) → HasRead bytes list n left → 0 < length left
-    → slice_split ends_line left ≡ part ∷ parts_after 0x0A rest → IsCut left part rest
-    → IsUnkept (line_meaning part) (n + 1) fault → SaysFault (first_fault bytes) fault
+pub read_fault : (bytes : List ℕ) (list : List Figure) (n : ℕ) (left part rest : List ℕ) (fault : DrawFault)
+    → HasRead bytes list n left → IsFirstLine left part rest → IsUnkept (line_meaning part) (n + 1) fault
+    → SaysFault (first_fault bytes) fault
 unfolding fault_from
-read_fault bytes list n left part rest fault r l parts cut unkept =
-    fault_said (line_meaning part) (n + 1) (first_fault bytes) (fault_from (n + 1 + 1) (lines (bytes_after rest))) fault
-    (r.fault ∙ ap (λ (ls : List (List ℕ)). fault_from (n + 1) ls) (lines_first left part rest l parts cut)) unkept
+read_fault bytes list n left part rest fault r first unkept =
+    fault_said (line_meaning part) (n + 1) (first_fault bytes) (fault_from (n + 1 + 1) (lines rest)) fault
+    (r.fault ∙ ap (λ (ls : List (List ℕ)). fault_from (n + 1) ls) first.lines) unkept

@@ -2,12 +2,10 @@ mod CellDrawn
 mod CellsInDrawing
 mod CommandsInTurn
 mod ControlInDrawing
-mod CountedWords
 mod DrawnCommands
 mod DrawnInTurn
 mod FieldDrawn
 mod FiguresInTurn
-mod FirstParts
 mod KeptLines
 pub mod Laws
 mod LineSet

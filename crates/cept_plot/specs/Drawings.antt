@@ -4,23 +4,15 @@ use Rattle.std.specs.Prelude.{Result, Ok, Err, if◌then◌else◌}
 use Rattle.std.specs.List.{AllByRecursion}
 use Rattle.cept_codes.specs.declared.line_reason.LineReason.{LineReason}
 use Rattle.cept_codes.specs.declared.line_reason.LineReason.TheVariants as reasons
-use Rattle.cept_parser.specs.Bytes.{digit, is_digit, two_digits}
 use Rattle.cept_plot.specs.declared.drawing.DrawFault.{DrawFault}
 use Rattle.cept_plot.specs.declared.drawing.DrawFault.TheVariants as faults
 use Rattle.cept_plot.specs.declared.figure.Figure.{Figure}
 use Rattle.cept_plot.specs.declared.figure.Figure.TheVariants as figures
 use Rattle.cept_plot.specs.declared.figure.Point.{Point}
 use Rattle.cept_plot.specs.Figures.{IsValidFigure, points_after}
-use Rattle.cept_plot.specs.Lines.{lines, words}
+use Rattle.cept_words.specs.Lines.{lines, number, words}
 
 -- ---- what a line means
-
--- the number of a word: one or two digits
-abbrev pub number : List ℕ → Option ℕ
-number [] = None
-number (a ∷ []) = if is_digit a then Some (digit a) else None
-number (a ∷ b ∷ []) = if is_digit a && is_digit b then Some (two_digits a b) else None
-number (a ∷ b ∷ c ∷ more) = None
 
 -- the point of two numbers, where it is on the field
 abbrev pub point_of : Option ℕ → Option ℕ → Option Point

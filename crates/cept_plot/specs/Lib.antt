@@ -1,10 +1,8 @@
 pub mod Commands
-pub mod Cut
 pub mod Drawing
 pub mod Drawings
 pub mod Figures
 pub mod Kept
-pub mod Lines
 pub mod Lit
 pub mod Painted
 pub mod Points

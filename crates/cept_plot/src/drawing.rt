@@ -1,17 +1,13 @@
 ghost use Rattle.std.specs.Prelude.{◌≡◌, ◌≤◌, ◌^◌, [], length, IfErr, IfOk, None, OnOk};
-ghost use Rattle.cept_plot.specs.Cut.{bytes_after};
 ghost use Rattle.cept_plot.specs.Drawings.{AreValidFigures, SaysFault, figures_of, first_fault, line_meaning};
 ghost use Rattle.cept_plot.specs.Kept.{HasFigures, HasKept, IsUnkept};
 
-use crate::cut::cut;
 use crate::figure::Figure;
 use crate::line::line_figure;
 use cept_codes::LineReason;
+use cept_words::first_line;
 use std::alloc::{AllocFailed, Global};
 use std::marker::Model;
-
-/// The byte that ends a line.
-const LINE_END: u8 = 0x0A;
 
 /// Why a drawing isn't read.
 #[derive(Clone, Copy, Debug, PartialEq, Eq)]
@@ -78,16 +74,6 @@ impl Drawing {
     }
 }
 
-/// What stands after a mark.
-fn after(rest: Option<&[u8]>) -> &[u8]
-    ensures { result.now ≡ bytes_after rest.entry }
-{
-    match rest {
-        None => &[],
-        Some(rest) => rest,
-    }
-}
-
 /// Keeps the figure of the line of this number, where it has one.
 fn keep_line(figures: &mut Vec<Figure>, line: &[u8], number: u32) -> Result<(), DrawFault>
     ensures kept { OnOk result (HasKept (line_meaning line.now) figures.old.items figures.new.items) }
@@ -113,10 +99,10 @@ fn keep_lines(figures: &mut Vec<Figure>, bytes: &[u8]) -> Result<(), DrawFault>
     let mut number = 0u32;
     let mut left = bytes;
     while !left.is_empty() {
-        let (line, rest) = cut(left, LINE_END);
+        let (line, rest) = first_line(left);
         number += 1;
         keep_line(figures, line, number)?;
-        left = after(rest);
+        left = rest;
     }
     Ok(())
 }

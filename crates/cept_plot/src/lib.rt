@@ -3,7 +3,6 @@
 #![tactic(auto)]
 
 mod coordinate;
-mod cut;
 mod drawing;
 mod field;
 mod figure;

@@ -1,13 +1,13 @@
 ghost use Rattle.std.specs.Prelude.{◌≡◌, IfOk, IfSome};
-ghost use Rattle.cept_plot.specs.Cut.{words_after};
+ghost use Rattle.cept_words.specs.Lines.{words};
+ghost use Rattle.cept_words.specs.Words.{words_after};
 ghost use Rattle.cept_plot.specs.Drawings.{figure_of, figure_of_words, line_meaning};
 ghost use Rattle.cept_plot.specs.Figures.{IsValidFigure};
-ghost use Rattle.cept_plot.specs.Lines.{words};
 
-use crate::cut::cut;
 use crate::figure::Figure;
-use crate::word::{SPACE, one_point, two_points};
+use crate::word::{one_point, two_points};
 use cept_codes::LineReason;
+use cept_words::first_word;
 
 /// The figure of a word, with what stands after it.
 #[tactic(auto, unfolding(crate::specs::Drawings::figure_of))]
@@ -38,7 +38,7 @@ fn words_figure(line: &[u8]) -> Result<Figure, LineReason>
     ensures meant { result ≡ figure_of_words (words line.now) }
     ensures valid { IfOk result IsValidFigure }
 {
-    let (word, rest) = cut(line, SPACE);
+    let (word, rest) = first_word(line);
     figure_of(word, rest)
 }
 

@@ -1,6 +1,6 @@
 use Rattle.std.proofs.Common.{sym, ◌∙◌}
 use Rattle.std.proofs.lemmas.Result.{err_from_is_err_and}
-use Rattle.cept_plot.proofs.KeptLines.{no_length, read_all, read_fault, read_more, read_none, some_length}
+use Rattle.cept_plot.proofs.KeptLines.{no_length, read_all, read_fault, read_more, read_none}
 use Rattle.cept_plot.proofs.drawing.keep_lines.Goals as goal
 
 pub loop-left-init : goal.loop-left-init
@@ -9,15 +9,12 @@ loop-left-init c = read_none _ _ c.requires.none
 pub returns-in_err-keep_line-clause-fault : goal.returns-in_err-keep_line-clause-fault
 returns-in_err-keep_line-clause-fault c =
     let p = err_from_is_err_and c.from_residual.result c.from_residual.ensures.1 in
-    rw (p.1, p.2) (read_fault _ _ _ _ _ _ _ c.loop-left.invariant
-    (some_length _ (sym c.is_empty.ensures ∙ c.loop-left-test.true)) c.cut.ensures.parts c.cut.ensures.places
+    rw (p.1, p.2) (read_fault _ _ _ _ _ _ _ c.loop-left.invariant c.first_line.ensures
     c.in_err-keep_line.ensures.fault)
 
 pub loop-left-preserved : goal.loop-left-preserved
 loop-left-preserved c =
-    rw c.after-left.ensures (read_more _ _ _ _ _ _ _ c.loop-left.invariant
-    (some_length _ (sym c.is_empty.ensures ∙ c.loop-left-test.true)) c.cut.ensures.parts c.cut.ensures.places
-    c.in_ok-keep_line.ensures.kept)
+    read_more _ _ _ _ _ _ _ c.loop-left.invariant c.first_line.ensures c.in_ok-keep_line.ensures.kept
 
 pub returns-clause-figures : goal.returns-clause-figures
 returns-clause-figures c =

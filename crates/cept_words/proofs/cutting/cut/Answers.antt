@@ -1,6 +1,6 @@
 use Rattle.std.proofs.Common.{rules, ◌==◌, arith}
-use Rattle.cept_plot.proofs.FirstParts.{part_in, part_alone}
-use Rattle.cept_plot.proofs.cut.cut.Goals as goal
+use Rattle.cept_words.proofs.FirstParts.{part_in, part_alone}
+use Rattle.cept_words.proofs.cutting.cut.Goals as goal
 
 pub returns-then-bytes-index-clause-parts : goal.returns-then-bytes-index-clause-parts
 returns-then-bytes-index-clause-parts c =

@@ -1,7 +1,7 @@
--- Lines and words of a script (this project's own).
-use Rattle.std.specs.Prelude.{ℕ, Bool, List, [], ◌∷◌, ◌==◌, if◌then◌else◌}
+-- Lines and words of scripts and drawings (this project's own), and the numbers that words are.
+use Rattle.std.specs.Prelude.{ℕ, Bool, ◌&&◌, List, [], ◌∷◌, ◌==◌, Option, Some, None, if◌then◌else◌}
 use Rattle.std.specs.List.{slice_split}
-use Rattle.cept_parser.specs.Bytes.{is_empty}
+use Rattle.cept_parser.specs.Bytes.{is_empty, is_digit, digit, two_digits}
 
 -- the byte that ends a line
 abbrev pub ends_line : ℕ → Bool
@@ -24,3 +24,10 @@ lines bytes = lines_of_parts (slice_split ends_line bytes)
 -- the words of a line, cut at each single space
 abbrev pub words : List ℕ → List (List ℕ)
 words line = slice_split parts_words line
+
+-- the number of a word: one or two digits
+abbrev pub number : List ℕ → Option ℕ
+number [] = None
+number (a ∷ []) = if is_digit a then Some (digit a) else None
+number (a ∷ b ∷ []) = if is_digit a && is_digit b then Some (two_digits a b) else None
+number (a ∷ b ∷ c ∷ more) = None

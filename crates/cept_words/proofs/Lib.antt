@@ -1,0 +1,4 @@
+mod CountedWords
+mod FirstLines
+mod FirstParts
+mod WorkedLines
