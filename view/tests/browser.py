@@ -18,6 +18,10 @@ class BrowserFault(Exception):
     pass
 
 
+class PageLeft(BrowserFault):
+    """The page in which a script ran was left for another before it ended."""
+
+
 def found():
     """The browser of this machine, or None."""
     return next((path for path in map(shutil.which, NAMES) if path), None)
@@ -86,7 +90,8 @@ class Browser:
             message = self.message()
             if message.get("id") == self.number:
                 if "error" in message:
-                    raise BrowserFault(f"{method}: {message['error']}")
+                    left = "navigated" in message["error"].get("message", "")
+                    raise (PageLeft if left else BrowserFault)(f"{method}: {message['error']}")
                 return message["result"]
             self.note(message)
 
@@ -126,9 +131,16 @@ class Browser:
                 self.call("Target.closeTarget", targetId=old)
         self.join(target)
 
+    def holds(self, condition):
+        """Whether the condition is true; not while one page is left for another."""
+        try:
+            return self.value(condition)
+        except PageLeft:
+            return False
+
     def until(self, condition, seconds=20):
         deadline = time.monotonic() + seconds
-        while not self.value(condition):
+        while not self.holds(condition):
             if time.monotonic() > deadline:
                 raise BrowserFault(f"never true: {condition}")
             time.sleep(0.05)
