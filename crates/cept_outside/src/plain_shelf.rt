@@ -3,7 +3,7 @@ ghost use Rattle.std.specs.Prelude.{length, take, drop};
 ghost use Rattle.std.specs.Prelude.{Some, None, is_some, IsOk, IsErr, IfOk, OnOk, OnErr};
 ghost use Rattle.std.specs.Prelude.{false, bytes_eq, if◌then◌else◌};
 ghost use Rattle.cept_outside.specs.Causes.{HasCause};
-ghost use Rattle.cept_outside.specs.ShelfState.{Selects, SelectsNothing, Takes, bytes_under};
+ghost use Rattle.cept_outside.specs.ShelfState.{Selects, Takes, bytes_under};
 ghost use Rattle.cept_outside.specs.ShelfState.{empty_shelf};
 
 use crate::fault::Failed;

@@ -29,7 +29,14 @@ impl PlainSink {
 
     /// An empty list with room for so many bytes.
     pub fn new(alloc: Global, room: u32) -> Result<PlainSink, NoMemory>
-        ensures { IfOk result (λ sink. plain_sink_state sink ≡ record { bytes = Some []; count = Some 0; room = Some room; unflushed = false; faults = 0 }) }
+        ensures { IfOk result (λ sink. plain_sink_state sink
+            ≡ record {
+              bytes = Some [];
+              count = Some 0;
+              room = Some room;
+              unflushed = false;
+              faults = 0;
+            }) }
     {
         let room = room as usize;
         Ok(PlainSink {
