@@ -1,5 +1,5 @@
 //! The attributes of cells: each class by what was set for the sign, its row or the screen. It
-//! knows no page, no colours after the entries and no history.
+//! knows no page, no paints of colour entries and no history.
 #![tactic(auto)]
 
 mod attributes;

@@ -91,6 +91,7 @@ impl Influence {
         requires from_left { 1 ≤ column }
         requires to_right { column ≤ 40 }
         requires there { row_in cells.now column ≡ stands marker }
+        ensures acts { result.at_once ≡ acts_at_once marker }
         ensures influence { (row screen : Pen)
             → IsInfluence (row_in cells.now) row screen (column - 1) self.old
             → IsInfluence (row_in cells.now) row screen column self.new }

@@ -5,6 +5,7 @@ use Rattle.std.proofs.lemmas.Bool.Decides.{Decides-like, Decides-and, Decides-eq
 use Rattle.std.proofs.lemmas.Slice.Eq.{slice_eq-Decides}
 use Rattle.cept_codes.specs.declared.glyph.SetId.{SetId}
 use Rattle.cept_codes.specs.declared.glyph.Glyph.{Glyph}
+use Rattle.cept_codes.specs.declared.glyph.Read.{Read}
 use Rattle.cept_codes.specs.declared.attribute.Size.{Size}
 use Rattle.cept_codes.specs.declared.attribute.Flash.{Flash}
 use Rattle.cept_codes.specs.declared.attribute.Attr.{Attr}
@@ -28,8 +29,10 @@ use Rattle.cept_codes.specs.declared.command.Command.{Command}
 use Rattle.cept_codes.specs.declared.item.Reason.{Reason}
 use Rattle.cept_codes.specs.declared.item.Said.{Said}
 use Rattle.cept_codes.specs.declared.item.Item.{Item}
+use Rattle.cept_codes.specs.declared.line_reason.LineReason.{LineReason}
 use Rattle.cept_codes.specs.declared.stroke.Stroke.{Stroke}
 use Rattle.cept_codes.specs.contracts.cell.What.{enum as what_enum}
+use Rattle.cept_codes.specs.contracts.glyph.Read.{enum as read_enum}
 use Rattle.cept_codes.specs.contracts.look.Shape.{enum as shape_enum}
 use Rattle.cept_codes.specs.contracts.command.Command.{enum as command_enum}
 use Rattle.cept_codes.specs.contracts.item.Said.{enum as said_enum}
@@ -38,7 +41,7 @@ use Rattle.cept_codes.specs.Place.{Place}
 use Rattle.cept_codes.specs.Same.{same_set, same_glyph, same_size, same_flash, same_attr, same_pen, same_full}
 use Rattle.cept_codes.specs.Same.{same_marker, same_what, same_cell, same_row, same_rgb, same_paint, same_pattern}
 use Rattle.cept_codes.specs.Same.{same_inks, same_shape, same_part, same_look, same_c1_set, same_way, same_form}
-use Rattle.cept_codes.specs.Same.{same_command, same_reason, same_said, same_item, same_stroke, same_place}
+use Rattle.cept_codes.specs.Same.{same_command, same_reason, same_said, same_item, same_stroke, same_place, same_read, same_line_reason}
 use Rattle.cept_codes.proofs.EqualityTests.{Test, number_test, bool_test, bool_decides, option_decides, no_field}
 use Rattle.cept_codes.proofs.EqualityTests.{one_field, two_fields, three_fields, enum_decides, ◌⨾◌}
 
@@ -53,6 +56,9 @@ glyph_decides a b = search rules
 
 abbrev glyph_test : Test Glyph
 glyph_test = (same_glyph, glyph_decides)
+
+pub read_decides : (a b : Read) → Decides (same_read a b) (a ≡ b)
+read_decides a b = enum_decides read_enum (one_field glyph_test ⨾ one_field number_test ⨾ tt) a b
 
 pub size_decides : (a b : Size) → Decides (same_size a b) (a ≡ b)
 size_decides a b = search rules
@@ -270,6 +276,9 @@ item_decides a b =
     (λ h. λ i. record { at = h.0 i; len = h.1.0 i; what = h.1.1 i })
     (λ e. (ap (λ p. p.at) e, (ap (λ p. p.len) e, ap (λ p. p.what) e)))
     (Decides-and _ _ (Decides-eqb a.at b.at) (Decides-and _ _ (Decides-eqb a.len b.len) (said_decides a.what b.what)))
+
+pub line_reason_decides : (a b : LineReason) → Decides (same_line_reason a b) (a ≡ b)
+line_reason_decides a b = search rules
 
 pub place_decides : (a b : Place) → Decides (same_place a b) (a ≡ b)
 place_decides a b = search rules

@@ -1,8 +1,9 @@
--- Equality (own): what `==` answers on the values of this crate. That it says whether the two are the same is a law of
--- `law::equality`.
+-- Equality (own): what `==` answers on the values of this crate. That it says whether two values are the same is a law
+-- of `law::equality`.
 use Rattle.std.specs.Prelude.{Bool}
 use Rattle.cept_codes.specs.declared.glyph.SetId.{SetId}
 use Rattle.cept_codes.specs.declared.glyph.Glyph.{Glyph}
+use Rattle.cept_codes.specs.declared.glyph.Read.{Read}
 use Rattle.cept_codes.specs.declared.attribute.Size.{Size}
 use Rattle.cept_codes.specs.declared.attribute.Flash.{Flash}
 use Rattle.cept_codes.specs.declared.attribute.Attr.{Attr}
@@ -26,6 +27,7 @@ use Rattle.cept_codes.specs.declared.command.Command.{Command}
 use Rattle.cept_codes.specs.declared.item.Reason.{Reason}
 use Rattle.cept_codes.specs.declared.item.Said.{Said}
 use Rattle.cept_codes.specs.declared.item.Item.{Item}
+use Rattle.cept_codes.specs.declared.line_reason.LineReason.{LineReason}
 use Rattle.cept_codes.specs.declared.stroke.Stroke.{Stroke}
 use Rattle.cept_codes.specs.declared.memory.NoMemory.{NoMemory}
 use Rattle.cept_codes.specs.Place.{Place}
@@ -33,6 +35,7 @@ use Rattle.cept_codes.specs.contracts.memory.NoMemoryPartialEq.TheImpl.{ghosts a
 use Rattle.cept_codes.specs.contracts.position.PosPartialEq.TheImpl.{ghosts as place_comparison}
 use Rattle.cept_codes.specs.contracts.glyph.SetIdPartialEq.TheImpl.{ghosts as set_comparison}
 use Rattle.cept_codes.specs.contracts.glyph.GlyphPartialEq.TheImpl.{ghosts as glyph_comparison}
+use Rattle.cept_codes.specs.contracts.glyph.ReadPartialEq.TheImpl.{ghosts as read_comparison}
 use Rattle.cept_codes.specs.contracts.attribute.SizePartialEq.TheImpl.{ghosts as size_comparison}
 use Rattle.cept_codes.specs.contracts.attribute.FlashPartialEq.TheImpl.{ghosts as flash_comparison}
 use Rattle.cept_codes.specs.contracts.attribute.AttrPartialEq.TheImpl.{ghosts as attr_comparison}
@@ -56,6 +59,7 @@ use Rattle.cept_codes.specs.contracts.command.CommandPartialEq.TheImpl.{ghosts a
 use Rattle.cept_codes.specs.contracts.item.ReasonPartialEq.TheImpl.{ghosts as reason_comparison}
 use Rattle.cept_codes.specs.contracts.item.SaidPartialEq.TheImpl.{ghosts as said_comparison}
 use Rattle.cept_codes.specs.contracts.item.ItemPartialEq.TheImpl.{ghosts as item_comparison}
+use Rattle.cept_codes.specs.contracts.line_reason.LineReasonPartialEq.TheImpl.{ghosts as line_reason_comparison}
 use Rattle.cept_codes.specs.contracts.stroke.StrokePartialEq.TheImpl.{ghosts as stroke_comparison}
 
 -- what `==` answers on places
@@ -89,6 +93,10 @@ same_set = set_comparison.eq
 -- on signs
 abbrev pub same_glyph : Glyph → Glyph → Bool
 same_glyph = glyph_comparison.eq
+
+-- on what graphic bytes give
+abbrev pub same_read : Read → Read → Bool
+same_read = read_comparison.eq
 
 -- on markers
 abbrev pub same_marker : Marker → Marker → Bool
@@ -161,6 +169,10 @@ same_said = said_comparison.eq
 -- on items
 abbrev pub same_item : Item → Item → Bool
 same_item = item_comparison.eq
+
+-- on reasons of lines
+abbrev pub same_line_reason : LineReason → LineReason → Bool
+same_line_reason = line_reason_comparison.eq
 
 -- on strokes
 abbrev pub same_stroke : Stroke → Stroke → Bool

@@ -17,9 +17,10 @@ use Rattle.cept_profile.specs.State.{State, state, state_after, core_of}
 use Rattle.cept_profile.specs.Valid.{AllValid}
 use Rattle.cept_repaint.specs.Applied.{IsApplied, IsRepainted}
 use Rattle.cept_repaint.specs.GlassState.{GlassState, Lists}
+use Rattle.cept_repaint.specs.Renewed.{rows_renewed_by}
 use Rattle.cept_report.specs.Text.{change_lines}
 use Rattle.cept_editor.specs.Applying.{state_after_all, rows_in_reach_of_all, AppliesOne, HasApplied}
-use Rattle.cept_editor.specs.Applying.{AppliesAll, MarksLast}
+use Rattle.cept_editor.specs.Applying.{AppliesAll, MarksLast, ResolvesRenewed, rows_renewed_by_all}
 use Rattle.cept_editor.specs.Events.{Event, event_changes, report}
 use Rattle.cept_editor.specs.Made.{Output, output_of, IsMade, AreMade}
 use Rattle.cept_editor.specs.Stepping.{event_from, edit_events}
@@ -92,6 +93,24 @@ rows-first : (s : State) (c : Command) (cs : List Command)
 unfolding rows_in_reach_of_all
 rows-first s c cs = refl
 
+renewed-append : (s : State) (cs ds : List Command)
+    → rows_renewed_by_all s (cs ++ ds) ≡ rows_renewed_by_all s cs + rows_renewed_by_all (state_after_all s cs) ds
+unfolding state_after_all rows_renewed_by_all
+renewed-append s [] ds = omega arith
+renewed-append s (c ∷ cs) ds = let rest = renewed-append (state_after s c) cs ds in omega (arith, rest)
+
+renewed-one : (s : State) (c : Command) → rows_renewed_by_all s (c ∷ []) ≡ rows_renewed_by s c
+unfolding rows_renewed_by_all
+renewed-one s c = omega arith
+
+-- with a command more
+renewed-more : (old mid : State) (done : List Command) (c : Command) (start ticks ticks' : ℕ)
+    → mid ≡ state_after_all old done → start + rows_renewed_by_all old done ≤ ticks
+    → ticks + rows_renewed_by mid c ≤ ticks' → start + rows_renewed_by_all old (done ++ c ∷ []) ≤ ticks'
+renewed-more old mid done c start ticks ticks' stands had one =
+    let renewed = ap (λ s. rows_renewed_by s c) stands in
+    omega (arith, had, one, renewed, renewed-append old done (c ∷ []), renewed-one (state_after_all old done) c)
+
 -- ---- so far
 
 -- some of the commands were applied, and the others are left
@@ -106,11 +125,12 @@ pub record HasGone (listed : Bool) (line : ℕ) (whole left : List Command) (old
   pub faults : after.sink.faults ≡ before.sink.faults
   pub marked : 0 < length done → MarksLast {X = Unit {0}} {E = Unit {0}} done old (Ok tt) new marks
   pub cost : ticks ≤ start + rows_in_reach_of_all old done
+  pub least : start + rows_renewed_by_all old done ≤ ticks
   pub at_most : ticks ≤ start + 24 * length done
 
 pub gone_none : (listed : Bool) (line : ℕ) (whole : List Command) (old : State) (before : Output) (marks : List Bool)
     (start : ℕ) → HasGone listed line whole whole old before old before marks start start
-unfolding state_after_all
+unfolding state_after_all rows_renewed_by_all
 gone_none listed line whole old before marks start = record {
   done = [];
   split = refl;
@@ -124,6 +144,7 @@ gone_none listed line whole old before marks start = record {
   faults = refl;
   marked = λ some. absurd (omega (arith, some));
   cost = omega arith;
+  least = omega arith;
   at_most = omega arith;
 }
 
@@ -165,6 +186,7 @@ gone_more listed line whole left c old before mid now new after marks marks' sta
       cost =
           let reach = ap (λ s. rows_in_reach s c) g.stands in
           omega (arith, g.cost, one.applied.cost, reach, rows-append old g.done (c ∷ []), rows-one (state_after_all old g.done) c);
+      least = renewed-more old mid g.done c start ticks ticks' g.stands g.least one.applied.least;
       at_most = omega (arith, g.at_most, one.applied.at_most_24, length-append g.done (c ∷ []));
     }
 
@@ -222,6 +244,19 @@ all_cost listed line whole old before new after marks start ticks g =
       subst (λ cs. ticks ≤ start + rows_in_reach_of_all old cs) same g.cost,
       subst (λ cs. ticks ≤ start + 24 * length cs) same g.at_most,
     )
+
+pub all_least : {X E : Type 0} {x : X} (listed : Bool) (line : ℕ) (whole : List Command) (old : State)
+    (before : Output) (new : State) (after : Output) (marks : List Bool) (start ticks : ℕ)
+    → HasGone listed line whole [] old before new after marks start ticks
+    → ResolvesRenewed {X = X} {E = E} whole old (Ok x) new start ticks
+all_least listed line whole old before new after marks start ticks g = record {
+  done = g.done;
+  rest = [];
+  split = g.split;
+  all = refl;
+  applied = g.stands;
+  least = g.least;
+}
 
 -- ---- the sink failed
 
@@ -291,3 +326,18 @@ stopped_cost listed line whole left c old before mid now marks start ticks ticks
     let first = rows-first (state_after_all old g.done) c left in
     let size = ap length g.split ∙ length-append g.done (c ∷ left) in
     (omega (arith, g.cost, one.cost, reach, rows, first), omega (arith, g.at_most, one.at_most_24, size))
+
+pub stopped_least : {X E : Type 0} {f : E} {marks' : List Bool} {glass : GlassState} (listed : Bool) (line : ℕ)
+    (whole left : List Command) (c : Command) (old : State) (before : Output) (mid : State) (now : Output) (new : State)
+    (marks : List Bool) (start ticks ticks' : ℕ)
+    → HasGone listed line whole (c ∷ left) old before mid now marks start ticks
+    → IsApplied mid c new marks' now.glass glass ticks ticks'
+    → ResolvesRenewed {X = X} {E = E} whole old (Err f) new start ticks'
+stopped_least listed line whole left c old before mid now new marks start ticks ticks' g one = record {
+  done = g.done ++ c ∷ [];
+  rest = left;
+  split = g.split ∙ sym (append_assoc g.done (c ∷ []) left);
+  all = tt;
+  applied = one.after ∙ ap (λ s. state_after s c) g.stands ∙ sym (state_after_all-more old g.done c);
+  least = renewed-more old mid g.done c start ticks ticks' g.stands g.least one.least;
+}

@@ -1,6 +1,6 @@
 -- Commands that are applied to a screen one after the other, what they cost, and which marks they leave (this project's
 -- own).
-use Rattle.std.specs.Prelude.{◌≡◌, ◌≢◌, ℕ, ◌+◌, Bool, List, [], ◌∷◌, ◌++◌, length, take, drop, Result, OnOk, OnErr}
+use Rattle.std.specs.Prelude.{◌≡◌, ◌≢◌, ℕ, ◌+◌, ◌≤◌, Bool, List, [], ◌∷◌, ◌++◌, length, take, drop, Result, OnOk, OnErr}
 use Rattle.cept_codes.specs.declared.command.Command.{Command}
 use Rattle.cept_profile.specs.Changes.{changes_between, differences}
 use Rattle.cept_profile.specs.Look.{looks_of}
@@ -8,6 +8,7 @@ use Rattle.cept_profile.specs.Reach.{rows_in_reach}
 use Rattle.cept_profile.specs.State.{State, state, state_after, core_of}
 use Rattle.cept_profile.specs.Valid.{AllValid}
 use Rattle.cept_repaint.specs.Applied.{IsApplied}
+use Rattle.cept_repaint.specs.Renewed.{rows_renewed, rows_renewed_by}
 use Rattle.cept_undo.specs.Past.{most_kept, nearest, handed_on}
 use Rattle.cept_editor.specs.Kept.{EditorState}
 use Rattle.cept_editor.specs.Made.{Output, IsMade, AreMade, AreCutOff}
@@ -28,6 +29,11 @@ rows_in_reach_of_all s (c ∷ cs) = rows_in_reach s c + rows_in_reach_of_all (st
 abbrev pub rows_of_step : State → Step → ℕ
 rows_of_step s (Turn turn) = 24
 rows_of_step s (Edit commands) = rows_in_reach_of_all s commands
+
+-- how many rows commands renew, each after the ones before it
+unfoldable pub rows_renewed_by_all : State → List Command → ℕ
+rows_renewed_by_all s [] = 0
+rows_renewed_by_all s (c ∷ cs) = rows_renewed_by s c + rows_renewed_by_all (state_after s c) cs
 
 -- ---- edit lines by the states alone
 
@@ -122,3 +128,22 @@ pub record MarksLast {X E : Type 0} (commands : List Command) (old : State) (res
 abbrev pub MarksStep : {X E : Type 0} → Step → State → Result X E → State → List Bool → Type 0
 MarksStep (Turn turn) old result new marks = marks ≡ differences (looks_of (core_of old)) (looks_of (core_of new))
 MarksStep (Edit commands) old result new marks = MarksLast commands old result new marks
+
+-- ---- rows resolved
+
+-- no fewer rows were resolved than the commands renew that were applied: all of these, or a front of them where the sink
+-- failed
+pub record ResolvesRenewed {X E : Type 0} (commands : List Command) (old : State) (result : Result X E) (new : State)
+    (from to : ℕ) : Type 0 where
+  pub done : List Command
+  pub rest : List Command
+  pub split : commands ≡ done ++ rest
+  pub all : OnOk result (rest ≡ [])
+  pub applied : new ≡ state_after_all old done
+  pub least : from + rows_renewed_by_all old done ≤ to
+
+-- no fewer than those commands of an edit renew that were applied, or than look otherwise after a turn
+abbrev pub ResolvesStep : {X E : Type 0} → Step → State → Result X E → State → ℕ → ℕ → Type 0
+ResolvesStep (Turn turn) old result new from to =
+    from + rows_renewed [] (looks_of (core_of old)) (looks_of (core_of new)) ≤ to
+ResolvesStep (Edit commands) old result new from to = ResolvesRenewed commands old result new from to

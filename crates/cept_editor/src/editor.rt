@@ -9,8 +9,10 @@ ghost use Rattle.cept_profile.specs.Changes.{changes_between, differences};
 ghost use Rattle.cept_profile.specs.Look.{looks_of};
 ghost use Rattle.cept_profile.specs.State.{core_of, state};
 ghost use Rattle.cept_repaint.specs.Applied.{IsApplied};
+ghost use Rattle.cept_repaint.specs.Renewed.{rows_renewed};
 ghost use Rattle.cept_undo.specs.Past.{FitsTogether, IsBegun, StaysBegun, future};
 ghost use Rattle.cept_editor.specs.Applying.{AppliesOne, AppliesAll, HasMade, MarksLast, MarksStep};
+ghost use Rattle.cept_editor.specs.Applying.{ResolvesRenewed, ResolvesStep};
 ghost use Rattle.cept_editor.specs.Applying.{rows_in_reach_of_all, rows_of_step};
 ghost use Rattle.cept_editor.specs.Kept.{none_kept, StandsAfter};
 ghost use Rattle.cept_editor.specs.Made.{output_of};
@@ -93,6 +95,7 @@ fn apply_commands<G: Glass, T: Sink, L: Ledger>(
     ensures marks { 0 < length commands.entry
         → MarksLast commands.entry screen.old result screen.new marks.new }
     ensures cost { steps.new ≤ steps.old + rows_in_reach_of_all screen.old commands.entry }
+    ensures least { ResolvesRenewed commands.entry screen.old result screen.new steps.old steps.new }
     ensures at_most_24 { steps.new ≤ steps.old + 24 * length commands.entry }
 {
     while let Some(command) = commands.next() {
@@ -195,6 +198,8 @@ impl Editor {
             MarksStep edit.step self.old.screen result self.new.screen marks.new }
         ensures cost { (default : EditLine) → let edit = slice_index_or script.now k default in
             steps.new ≤ steps.old + rows_of_step self.old.screen edit.step }
+        ensures least { (default : EditLine) → let edit = slice_index_or script.now k default in
+            ResolvesStep edit.step self.old.screen result self.new.screen steps.old steps.new }
         ensures at_most_24 { (default : EditLine)
             → let edit = slice_index_or script.now k default in
             steps.new ≤ steps.old + 24 * command_count edit.step }
@@ -232,6 +237,8 @@ impl Editor {
         ensures marks { MarksLast commands.entry self.old.screen result self.new.screen marks.new }
         ensures cost { steps.new
             ≤ steps.old + rows_in_reach_of_all self.old.screen commands.entry }
+        ensures least { ResolvesRenewed commands.entry self.old.screen result self.new.screen
+            steps.old steps.new }
         ensures at_most_24 { steps.new ≤ steps.old + 24 * length commands.entry }
         ensures done { result ≢ Ok Done.Nothing }
     {
@@ -270,6 +277,8 @@ impl Editor {
         ensures quiet { listed ≡ false → IsOk result × (T.state sink.new ≡ T.state sink.old) }
         ensures marks { marks.new ≡ differences (looks_of (core_of self.old.screen))
             (looks_of (core_of self.new.screen)) }
+        ensures least { steps.old + rows_renewed [] (looks_of (core_of self.old.screen))
+            (looks_of (core_of self.new.screen)) ≤ steps.new }
         ensures at_most_24 { steps.new ≤ steps.old + 24 }
         ensures unticked { result ≡ Ok Done.Nothing → steps.new ≡ steps.old }
     {
@@ -300,6 +309,8 @@ impl Editor {
         ensures quiet { listed ≡ false → IsOk result × (T.state sink.new ≡ T.state sink.old) }
         ensures marks { marks.new ≡ differences (looks_of (core_of self.old.screen))
             (looks_of (core_of self.new.screen)) }
+        ensures least { steps.old + rows_renewed [] (looks_of (core_of self.old.screen))
+            (looks_of (core_of self.new.screen)) ≤ steps.new }
         ensures at_most_24 { steps.new ≤ steps.old + 24 }
         ensures unticked { result ≡ Ok Done.Nothing → steps.new ≡ steps.old }
     {

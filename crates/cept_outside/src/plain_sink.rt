@@ -47,9 +47,12 @@ impl PlainSink {
         })
     }
 
-    /// The bytes that were put. A fault was counted only where there is no room for more.
+    /// The bytes that were put, as many as there is room for at most. A fault was counted only where
+    /// there is no room for more.
     pub fn bytes(&self) -> &[u8]
         ensures bytes { (plain_sink_state self.now).bytes ≡ Some result.now }
+        ensures within { (room : ℕ) → (plain_sink_state self.now).room ≡ Some room
+            → length result.now ≤ room }
         ensures full { 0 < (plain_sink_state self.now).faults
             → (plain_sink_state self.now).room ≡ Some (length result.now) }
     {

@@ -4,6 +4,7 @@ pub mod FlagsAnew
 pub mod UnwoundPages
 pub mod PutBack
 pub mod NotedPages
+pub mod NotedInOrder
 pub mod KeptDelta
 pub mod NotedInTurn
 pub mod NotedValues
@@ -48,3 +49,4 @@ pub mod RedefinedPlaces
 pub mod RefreshedPlaces
 pub mod RowsRenewed
 pub mod PaintedRows
+pub mod TapedRows

@@ -32,11 +32,11 @@ unfoldable pub flagged_below : List Bool → ℕ → List (List Look) → ℕ �
 flagged_below flags r g n =
     filter (λ x. entry false 1 flags x.0.column) (map (place_with_look g r) (range_with_len 1 n))
 
-flagged_below-none : (flags : List Bool) (r : ℕ) (g : List (List Look)) → flagged_below flags r g 0 ≡ []
+pub flagged_below-none : (flags : List Bool) (r : ℕ) (g : List (List Look)) → flagged_below flags r g 0 ≡ []
 unfolding flagged_below
 flagged_below-none flags r g = refl
 
-flagged_below-all : (flags : List Bool) (r : ℕ) (g : List (List Look))
+pub flagged_below-all : (flags : List Bool) (r : ℕ) (g : List (List Look))
     → flagged_below flags r g 40 ≡ flagged_looks flags r g
 unfolding flagged_below flagged_looks
 flagged_below-all flags r g = refl
@@ -51,12 +51,12 @@ flagged_below-more flags r g n b e =
     ∙ ap (λ f. filter (λ (x : Place × Look). entry false 1 flags x.0.column)
     (map (place_with_look g r) (range_with_len 1 n)) ++ cond f (place_with_look g r (n + 1) ∷ []) []) e
 
-flagged_below-set : (flags : List Bool) (r : ℕ) (g : List (List Look)) (n : ℕ) → entry false 1 flags (n + 1) ≡ true
+pub flagged_below-set : (flags : List Bool) (r : ℕ) (g : List (List Look)) (n : ℕ) → entry false 1 flags (n + 1) ≡ true
     → flagged_below flags r g (n + 1) ≡ flagged_below flags r g n ++ place_with_look g r (n + 1) ∷ []
 flagged_below-set flags r g n e = flagged_below-more flags r g n true e
 
-flagged_below-unset : (flags : List Bool) (r : ℕ) (g : List (List Look)) (n : ℕ) → entry false 1 flags (n + 1) ≡ false
-    → flagged_below flags r g (n + 1) ≡ flagged_below flags r g n
+pub flagged_below-unset : (flags : List Bool) (r : ℕ) (g : List (List Look)) (n : ℕ)
+    → entry false 1 flags (n + 1) ≡ false → flagged_below flags r g (n + 1) ≡ flagged_below flags r g n
 flagged_below-unset flags r g n e = flagged_below-more flags r g n false e ∙ append-nil (flagged_below flags r g n)
 
 -- a flag, from 0

@@ -1,6 +1,6 @@
 -- The fields of `Delta`, and what they hold (this project's own). Beside the old values stands for each row whether a cell
--- of it may be noted, and for attributes of rows, for colours and for patterns whether any may. Private clauses alone
--- cite this file.
+-- of it may be noted, and for attributes of rows, for colours and for patterns whether any may. The model and private
+-- clauses alone cite this file.
 use Rattle.std.specs.Prelude.{ℕ, ◌≡◌, Bool, false, None, List, length}
 use Rattle.cept_codes.specs.Place.{OnScreen}
 use Rattle.cept_codes.specs.Table.{IsTable, entry}

@@ -19,7 +19,7 @@ RowHasNone is_such cells = (c : ℕ) → 1 ≤ c → c ≤ 40 → is_such (entry
 abbrev pub IsSingle : List Cell → Pen → Type 0
 IsSingle cells pen = RowHasNone sets_double_size cells × (is_double_set pen.size ≡ false)
 
--- a flag for each row, as before but for row k: where its flag is unset, this is so
+-- a flag for each row, as before but for row k: where the flag of row k is unset, this is so
 pub record IsFlagMade (IsSo : Type 0) (k : ℕ) (was now : List Bool) : Type 0 where
   pub rows : length now ≡ 24
   pub others : (r : ℕ) → 1 ≤ r → r ≤ 24 → k ≢ r → entry false 1 now r ≡ entry false 1 was r
@@ -30,7 +30,7 @@ pub record IsRowUnnoted (old : OldValues) (r : ℕ) : Type 0 where
   pub cells : (c : ℕ) → OnScreen r c → old_cell old r c ≡ None
   pub pen : old_row_pen old r ≡ None
 
--- this is so of row r, or it is as it was, and its flag was unset
+-- this is so of row r, or its flag was unset and no old value of it is noted
 abbrev pub IsSoOrStays : Type 0 → OldValues → List Bool → ℕ → Type 0
 IsSoOrStays IsSo old was r = IsSo ⊎ ((entry false 1 was r ≡ false) × IsRowUnnoted old r)
 
@@ -38,11 +38,11 @@ IsSoOrStays IsSo old was r = IsSo ⊎ ((entry false 1 was r ≡ false) × IsRowU
 abbrev pub row_in_table : List (List Cell) → ℕ → List Cell
 row_in_table cells r = slice_index_or cells (r - 1) []
 
--- no marker stands in row r, or it is as it was
+-- no marker stands in row r, or its flag was unset and no old value of it is noted
 abbrev pub IsUnmarkedRow : List (List Cell) → OldValues → List Bool → ℕ → Type 0
 IsUnmarkedRow cells old was r = IsSoOrStays (RowHasNone is_marker (row_in_table cells r)) old was r
 
--- row r sets no double size, or it is as it was
+-- row r sets no double size, or its flag was unset and no old value of it is noted
 abbrev pub IsSingleRowAnew : List (List Cell) → List Pen → OldValues → List Bool → ℕ → Type 0
 IsSingleRowAnew cells pens old was r = IsSoOrStays (IsSingle (row_in_table cells r) (row_pen_in pens r)) old was r
 

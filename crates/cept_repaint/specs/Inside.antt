@@ -2,6 +2,7 @@
 use Rattle.cept_repaint.specs.declared.page.Page.TheInside.{Inside}
 use Rattle.cept_profile.specs.State.{Page}
 
+-- the page that the fields hold
 abbrev pub page_of : Inside → Page
 page_of p = record {
   cells = p.grid;

@@ -1,5 +1,5 @@
--- What a screen keeps beside its state (this project's own): the look at each place, and when looks are refreshed.
--- Private clauses alone cite this file, but for the cell of a page.
+-- What a screen keeps beside its state (this project's own): the look at each place, and what it is for looks to be
+-- refreshed. Private clauses alone cite this file, but for the cell of a page.
 use Rattle.std.specs.Prelude.{ℕ, ◌≡◌, ◌<◌, ◌≤◌, ◌*◌, ◌-◌, ◌||◌, Bool, false, not, List, length}
 use Rattle.std.specs.List.{list_any, range_with_len}
 use Rattle.cept_codes.specs.declared.cell.Cell.{Cell}
@@ -70,7 +70,7 @@ looks_differ a b = not (same_look a b)
 abbrev pub state_of_parts : Page → ControlState → State
 state_of_parts p c = record { page = p; control = c }
 
--- what covers the row below is not the same under two lists of looks
+-- what covers the row below differs between two rows of looks
 unfoldable pub is_other_above : List Look → List Look → Bool
 is_other_above was fresh =
     list_any (λ c. is_other_covering (column_entry blank_look was c) (column_entry blank_look fresh c))
@@ -80,7 +80,7 @@ is_other_above was fresh =
 abbrev pub OthersStay : List (List Look) → Core → Place → Type 0
 OthersStay was k place = (r c : ℕ) → OnScreen r c → is_at place r c ≡ false → value_at blank_look was r c ≡ look k r c
 
--- the places of row r in which two lists of looks differ are marked besides, in columns below `end`, and no others
+-- the places of row r left of column `end` in which two lists of looks differ are marked besides, and no others
 pub record HasMarkedRow (was fresh : List Look) (r end : ℕ) (before marks : List Bool) : Type 0 where
   pub places : length marks ≡ 960
   pub marked : (c : ℕ) → OnScreen r c → c < end

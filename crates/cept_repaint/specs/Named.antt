@@ -1,6 +1,6 @@
 -- Names of rows as a screen keeps them (this project's own): what each row names, and of which rows that is known. Names
--- that are known come from the row's own cells and parts and from what is kept as the names of the row above. Private
--- clauses alone cite this file.
+-- that are known come from the row's own cells and parts and from what is kept as the names of the row above. The model
+-- and private clauses alone cite this file.
 use Rattle.std.specs.Prelude.{ℕ, ◌≡◌, ◌≤◌, ◌<◌, ◌-◌, Bool, true, false, List, length, Some}
 use Rattle.cept_codes.specs.declared.look.Look.{Look}
 use Rattle.cept_codes.specs.Place.{OnScreen, number}
@@ -54,7 +54,8 @@ AreAllKnown names = (r : ℕ) → 1 ≤ r → r ≤ 24 → is_known names r ≡ 
 
 -- ---- names that are forgotten
 
--- of no more rows than before are the names known, of these as they were, and of none that isn't so
+-- the same names as before, with a flag for each row; those of a row are known only where they were known before and
+-- this is so of the row
 pub record AreRemembered (was now : NamesOfRows) (IsSo : ℕ → Type 0) : Type 0 where
   pub above : now.above ≡ was.above
   pub rows : now.rows ≡ was.rows

@@ -1,5 +1,5 @@
--- What a noter makes of values (this project's own): one that notes none has none, and no state behind. Private clauses
--- alone cite this file.
+-- A page of its parts, and the page and the state to which others unwind by what a noter has noted, none where it takes
+-- no notes (this project's own). Private clauses alone cite this file.
 use Rattle.std.specs.Prelude.{Option, List, option_map}
 use Rattle.cept_codes.specs.declared.attribute.Pen.{Pen}
 use Rattle.cept_codes.specs.declared.cell.Cell.{Cell}
@@ -29,6 +29,6 @@ pub record PageBehind : Type 0 where
 unfoldable pub page_behind : Option OldValues → Page → Option PageBehind
 page_behind noted p = option_map (λ old. record { page = page_unwound p old; control = old.control }) noted
 
--- the state to which this one unwinds
+-- the state to which this one unwinds by what is noted, where anything may be noted
 unfoldable pub state_behind : Option OldValues → State → Option State
 state_behind noted s = option_map (unwound s) noted

@@ -4,7 +4,7 @@ use Rattle.cept_codes.specs.declared.cell.Cell.{Cell}
 use Rattle.cept_codes.specs.Cell.{blank_cell}
 use Rattle.cept_codes.specs.Table.{entry, list_by_index, table, value_at}
 
--- a value, or the old one in its place, where this is one of the locations
+-- a value, or the old one in its place where this is one of the locations and there is an old one
 abbrev pub value_back : {X : Type 0} → Bool → Option X → X → X
 value_back here old value = if here then unwrap_or old value else value
 
@@ -12,7 +12,7 @@ value_back here old value = if here then unwrap_or old value else value
 abbrev pub cells_back : (ℕ → ℕ → Bool) → (ℕ → ℕ → Option Cell) → List (List Cell) → List (List Cell)
 cells_back these old cells = table (λ r c. value_back (these r c) (old r c) (value_at blank_cell cells r c))
 
--- the entries of a list, by an index that starts at `from`
+-- a list of so many entries, by an index that starts at `from`, after the old ones are put back at these indexes
 abbrev pub entries_back : {X : Type 0} → X → ℕ → ℕ → (ℕ → Bool) → (ℕ → Option X) → List X → List X
 entries_back default from count these old list =
     list_by_index from count (λ k. value_back (these k) (old k) (entry default from list k))

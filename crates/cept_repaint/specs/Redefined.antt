@@ -72,7 +72,8 @@ places_resolved xs names looks p r =
     row_of (λ c. if is_place_redefined xs names looks c then look_alone p (record { row = r; column = c }) else
     column_entry blank_look looks c)
 
--- each place of a row that stands alone looks as its cell does by itself, unless it is redefined, and covers nothing
+-- in a row that stands alone each place that isn't redefined looks as its cell does by itself, and no place, redefined
+-- or not, covers the one below it
 pub record OtherPlacesStay (xs : List Stroke) (names : NamesOfRows) (looks : List (List Look)) (p : Page) : Type 0 where
   pub stay : (r c : ℕ) → OnScreen r c → StandsAlone p r
       → is_place_redefined xs (row_named names r) (looks_in looks r) c ≡ false

@@ -1,6 +1,6 @@
--- Rows that strokes may resolve (this project's own): those that they reach; and all, where they define a colour or a
--- pattern and do something else besides. Those of a command do so where they wipe every row, which are all in its reach.
--- Private clauses alone cite this file.
+-- Rows that strokes may resolve (this project's own): those that they reach; and all, where they define a colour entry,
+-- an entry of the DCLUT or a pattern, and one of them defines nothing or the edges become others. Of all commands full
+-- defaults alone make such strokes: they wipe every row, and so reach all. Private clauses alone cite this file.
 use Rattle.std.specs.Prelude.{ℕ, Bool, true, false, not, ◌||◌, ◌&&◌, ◌==◌, List, Option, Some, None}
 use Rattle.std.specs.List.{count_by, list_any, range_with_len}
 use Rattle.cept_codes.specs.declared.stroke.Stroke.{Stroke}
@@ -41,7 +41,7 @@ is_same_area _ _ = false
 abbrev pub are_same_edges : Edges → Edges → Bool
 are_same_edges edges others = edges.rows == others.rows && is_same_area edges.area others.area
 
--- strokes between these edges define something, and do something else besides
+-- one of the strokes defines something, and one of them defines nothing or the edges before and after differ
 unfoldable pub mixes : Edges → Edges → List Stroke → Bool
 mixes before after strokes = list_any defines strokes && (one_else strokes || not (are_same_edges before after))
 

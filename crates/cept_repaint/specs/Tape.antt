@@ -14,6 +14,11 @@ abbrev pub tape_after : Tape → Place → Look → Tape
 tape_after t p l = if nat_lt (length t.kept) t.room then record t { kept = t.kept ++ (p, l) ∷ [] }
     else record t { over = true }
 
+-- and after several, one after the other
+unfoldable pub tape_after_all : Tape → List (Place × Look) → Tape
+tape_after_all t [] = t
+tape_after_all t (x ∷ xs) = tape_after_all (tape_after t x.0 x.1) xs
+
 -- all paints, as long as there was room for them
 abbrev pub tape_paints : Tape → Option (List (Place × Look))
 tape_paints t = if t.over then None else Some t.kept

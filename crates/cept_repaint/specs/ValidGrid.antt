@@ -27,7 +27,7 @@ IsValidPaintAt paint = OnScreen paint.0.row paint.0.column × IsValidLook paint.
 abbrev pub AreValidPaints : List (Place × Look) → Type 0
 AreValidPaints paints = AllByRecursion IsValidPaintAt paints
 
--- one of two facts that exclude each other
+-- where two facts with one proof at most exclude each other, the fact that one of them holds has one proof at most too
 either-prop : {A B : Type 0} → IsProp A → IsProp B → (A → B → ⊥) → IsProp (A ⊎ B)
 either-prop a b apart (inl x) (inl y) = ap inl (a x y)
 either-prop a b apart (inl x) (inr y) = absurd (apart x y)

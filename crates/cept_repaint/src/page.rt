@@ -1,4 +1,5 @@
 ghost use Rattle.std.specs.Prelude.{◌≡◌, ◌≤◌, ◌+◌, ◌-◌, ℕ, true, [], IfOk, length, slice_index_or};
+ghost use Rattle.std.specs.Prelude.{option_map};
 ghost use Rattle.std.specs.List.{AllByRecursion};
 ghost use Rattle.cept_codes.specs.Attribute.{IsRowPen, IsScreenPen};
 ghost use Rattle.cept_codes.specs.Cell.{IsValidWhat, blank_cell};
@@ -7,6 +8,7 @@ ghost use Rattle.cept_codes.specs.Stroke.{IsValidStroke};
 ghost use Rattle.cept_codes.specs.Table.{value_at};
 ghost use Rattle.cept_profile.specs.PageParts.{row_pen_in};
 ghost use Rattle.cept_profile.specs.Look.{looks_of};
+ghost use Rattle.cept_profile.specs.NotedStrokes.{with_stroke, with_strokes};
 ghost use Rattle.cept_profile.specs.OldValues.{page_unwound};
 ghost use Rattle.cept_codes.specs.Look.{blank_look};
 ghost use Rattle.cept_profile.specs.RowsFromAbove.{looks_in};
@@ -268,6 +270,8 @@ impl Page {
         requires { AllByRecursion IsValidStroke strokes.now }
         ensures drawn { self.new ≡ page_after self.old strokes.now }
         ensures unwound { page_behind (N.noted noter.new) self.new ≡ page_behind (N.noted noter.old) self.old }
+        ensures noted { N.noted noter.new
+            ≡ option_map (with_strokes self.old strokes.now) (N.noted noter.old) }
     {
         for stroke in strokes {
             self.draw(stroke, noter);
@@ -283,6 +287,8 @@ impl Page {
         ensures before { result ≡ true → StandsAlone self.old place.row }
         ensures after { result ≡ true → StandsAlone self.new place.row }
         ensures unwound { page_behind (N.noted noter.new) self.new ≡ page_behind (N.noted noter.old) self.old }
+        ensures noted { N.noted noter.new
+            ≡ option_map (with_stroke self.old (Stroke.Put place cell.now)) (N.noted noter.old) }
     {
         noter.note_put(place, &self.grid);
         let _ = self.grid.put(place, *cell);
@@ -311,6 +317,8 @@ impl Page {
         requires { IsValidStroke stroke.now }
         ensures drawn { IsDrawn self.old stroke.now self.new }
         ensures unwound { page_behind (N.noted noter.new) self.new ≡ page_behind (N.noted noter.old) self.old }
+        ensures noted { N.noted noter.new
+            ≡ option_map (with_stroke self.old stroke.now) (N.noted noter.old) }
     {
         noter.note_stroke(
             stroke,

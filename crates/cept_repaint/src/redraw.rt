@@ -11,6 +11,7 @@ ghost use Rattle.std.specs.Prelude.{
   [],
   ◌∷◌,
   length,
+  option_map,
   Some,
   None,
   IfSome,
@@ -30,6 +31,7 @@ ghost use Rattle.cept_profile.specs.Cells.{is_at};
 ghost use Rattle.cept_profile.specs.Changes.{differences, grid_with_paint, look_at};
 ghost use Rattle.cept_profile.specs.Edges.{edges_of, edges_of_core};
 ghost use Rattle.cept_profile.specs.Look.{look, looks_of};
+ghost use Rattle.cept_profile.specs.NotedStrokes.{with_strokes};
 ghost use Rattle.cept_profile.specs.RowsFromAbove.{is_covered_otherwise, is_other_covering};
 ghost use Rattle.cept_profile.specs.RowsFromAbove.{looks_in};
 ghost use Rattle.cept_profile.specs.State.{Core, page_after};
@@ -92,6 +94,8 @@ pub(crate) fn redraw<N: Noter, L: Ledger>(
     requires valid { IsValidPage (page_after page.old strokes.now) }
     ensures page { page.new ≡ page_after page.old strokes.now }
     ensures unwound { page_behind (N.noted noter.new) page.new ≡ page_behind (N.noted noter.old) page.old }
+    ensures noted { N.noted noter.new
+        ≡ option_map (with_strokes page.old strokes.now) (N.noted noter.old) }
     ensures kept { AreLooksOn kept.new page.new after.now }
     ensures marks { marks.new ≡ differences kept.old kept.new }
     ensures named { AreNamedOn names.new page.new after.now }
@@ -135,6 +139,8 @@ pub(crate) fn redraw_within<N: Noter, L: Ledger>(
     requires valid { IsValidPage (page_after page.old strokes.now) }
     ensures page { page.new ≡ page_after page.old strokes.now }
     ensures unwound { page_behind (N.noted noter.new) page.new ≡ page_behind (N.noted noter.old) page.old }
+    ensures noted { N.noted noter.new
+        ≡ option_map (with_strokes page.old strokes.now) (N.noted noter.old) }
     ensures kept { AreLooksOn kept.new page.new (edges_of control.now) }
     ensures marks { marks.new ≡ differences kept.old kept.new }
     ensures named { AreNamedOn names.new page.new (edges_of control.now) }
@@ -204,6 +210,8 @@ fn redraw_drawn<N: Noter, L: Ledger>(
     requires valid { IsValidPage (page_after page.old strokes.now) }
     ensures page { page.new ≡ page_after page.old strokes.now }
     ensures unwound { page_behind (N.noted noter.new) page.new ≡ page_behind (N.noted noter.old) page.old }
+    ensures noted { N.noted noter.new
+        ≡ option_map (with_strokes page.old strokes.now) (N.noted noter.old) }
     ensures kept { AreLooksOn kept.new page.new edges.now }
     ensures marks { marks.new ≡ differences kept.old kept.new }
     ensures named { AreNamedOn names.new page.new edges.now }
@@ -248,6 +256,8 @@ fn redraw_rows<N: Noter, L: Ledger>(
     requires valid { IsValidPage (page_after page.old strokes.now) }
     ensures page { page.new ≡ page_after page.old strokes.now }
     ensures unwound { page_behind (N.noted noter.new) page.new ≡ page_behind (N.noted noter.old) page.old }
+    ensures noted { N.noted noter.new
+        ≡ option_map (with_strokes page.old strokes.now) (N.noted noter.old) }
     ensures kept { AreLooksOn kept.new page.new after.now }
     ensures named { AreNamedOn names.new page.new after.now }
     ensures marks { marks.new ≡ differences kept.old kept.new }
@@ -296,6 +306,8 @@ fn redraw_defined<N: Noter, L: Ledger>(
     requires define { one_else strokes.now ≡ false }
     ensures page { page.new ≡ page_after page.old strokes.now }
     ensures unwound { page_behind (N.noted noter.new) page.new ≡ page_behind (N.noted noter.old) page.old }
+    ensures noted { N.noted noter.new
+        ≡ option_map (with_strokes page.old strokes.now) (N.noted noter.old) }
     ensures kept { AreLooksOn kept.new page.new edges.now }
     ensures named { AreNamedOn names.new page.new edges.now }
     ensures marks { marks.new ≡ differences kept.old kept.new }

@@ -1,5 +1,5 @@
 ghost use Rattle.std.specs.Prelude.{◌≡◌, ◌≤◌, ◌<◌, ◌+◌, ℕ, [], true, false};
-ghost use Rattle.std.specs.Prelude.{IfOk, IfSome};
+ghost use Rattle.std.specs.Prelude.{IfOk, IfSome, option_map};
 ghost use Rattle.cept_codes.specs.Attribute.{IsEntry, IsRowPen, IsScreenPen};
 ghost use Rattle.cept_codes.specs.Cell.{IsValidCell};
 ghost use Rattle.cept_codes.specs.Command.{IsValidCommand};
@@ -7,6 +7,7 @@ ghost use Rattle.cept_codes.specs.Look.{IsValidLook, IsValidPattern, blank_look}
 ghost use Rattle.cept_codes.specs.Stroke.{IsPaintOf};
 ghost use Rattle.cept_profile.specs.Changes.{look_at, differences};
 ghost use Rattle.cept_profile.specs.Look.{looks_of, part_of, parts_of};
+ghost use Rattle.cept_profile.specs.NotedStrokes.{with_command, with_strokes};
 ghost use Rattle.cept_profile.specs.OldValues.{unwound};
 ghost use Rattle.cept_profile.specs.PageParts.{dclut_in, paint_in, pattern_in, row_pen_in};
 ghost use Rattle.cept_profile.specs.Reach.{rows_in_reach};
@@ -121,7 +122,8 @@ impl Screen {
     }
 
     /// Applies a command in the same way, and notes in a delta the old value of each location that
-    /// it changes, unless one is noted already: the state to which the delta unwinds stays.
+    /// its strokes may change, and the old control, unless one is noted already, and no other: the
+    /// state to which the delta unwinds stays.
     pub fn apply_noting<G: Glass, L: Ledger>(
         &mut self,
         command: Command,
@@ -134,6 +136,7 @@ impl Screen {
         ensures applied { IsApplied self.old command self.new marks.new (G.state glass.old)
             (G.state glass.new) steps.old steps.new }
         ensures unwound { unwound self.new delta.new ≡ unwound self.old delta.old }
+        ensures noted { delta.new ≡ with_command self.old command delta.old }
     {
         self.apply_with(&command, glass, marks, delta, steps);
     }
@@ -153,6 +156,8 @@ impl Screen {
             (G.state glass.new) steps.old steps.new }
         ensures unwound { state_behind (N.noted noter.new) self.new
             ≡ state_behind (N.noted noter.old) self.old }
+        ensures noted { N.noted noter.new
+            ≡ option_map (with_command self.old command.now) (N.noted noter.old) }
     {
         noter.note_control(&self.control);
         if self.write_attribute(command, marks) {
@@ -196,6 +201,9 @@ impl Screen {
             (G.state glass.new) steps.old steps.new }
         ensures unwound { page_behind (N.noted noter.new) self.new.page
             ≡ page_behind (N.noted noter.old) self.old.page }
+        ensures noted { N.noted noter.new
+            ≡ option_map (with_strokes self.old.page (strokes_of self.old.control command.now))
+            (N.noted noter.old) }
     {
         self.write(command, marks, noter, steps);
         paint_marked(self, glass, marks);
@@ -218,6 +226,9 @@ impl Screen {
         ensures at_most_24 { steps.new ≤ steps.old + 24 }
         ensures unwound { page_behind (N.noted noter.new) self.new.page
             ≡ page_behind (N.noted noter.old) self.old.page }
+        ensures noted { N.noted noter.new
+            ≡ option_map (with_strokes self.old.page (strokes_of self.old.control command.now))
+            (N.noted noter.old) }
     {
         if may_move_edges(command) {
             self.write_edges(command, marks, noter, steps);
@@ -245,6 +256,9 @@ impl Screen {
         ensures at_most_24 { steps.new ≤ steps.old + 24 }
         ensures unwound { page_behind (N.noted noter.new) self.new.page
             ≡ page_behind (N.noted noter.old) self.old.page }
+        ensures noted { N.noted noter.new
+            ≡ option_map (with_strokes self.old.page (strokes_of self.old.control command.now))
+            (N.noted noter.old) }
     {
         let before = self.control.edges();
         self.control.step_into(command, &mut self.strokes);
@@ -283,6 +297,9 @@ impl Screen {
         ensures at_most_24 { steps.new ≤ steps.old + 24 }
         ensures unwound { page_behind (N.noted noter.new) self.new.page
             ≡ page_behind (N.noted noter.old) self.old.page }
+        ensures noted { N.noted noter.new
+            ≡ option_map (with_strokes self.old.page (strokes_of self.old.control command.now))
+            (N.noted noter.old) }
     {
         self.control.step_into(command, &mut self.strokes);
         let strokes = self.strokes.as_slice();

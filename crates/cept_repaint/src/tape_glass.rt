@@ -5,8 +5,8 @@ ghost use Rattle.cept_codes.specs.Table.{table};
 ghost use Rattle.cept_profile.specs.Changes.{look_at};
 ghost use Rattle.cept_profile.specs.Look.{looks_of};
 ghost use Rattle.cept_profile.specs.State.{core_of};
-ghost use Rattle.cept_repaint.specs.GlassState.{Paints};
-ghost use Rattle.cept_repaint.specs.Tape.{tape_after};
+ghost use Rattle.cept_repaint.specs.GlassState.{Paints, PaintsRow, flagged_looks};
+ghost use Rattle.cept_repaint.specs.Tape.{tape_after, tape_after_all};
 ghost use Rattle.cept_repaint.specs.ValidGrid.{AreValidPaints, AreValidPaints-prop};
 
 use crate::glass::Glass;
@@ -89,6 +89,27 @@ impl Glass for TapeGlass {
             self.paints.push((at, look_in_row(screen, at))).unwrap();
         } else {
             self.over = true;
+        }
+    }
+
+    // The trait's own loop and conditions, here with what becomes of the tape.
+    fn paint_row(&mut self, row: u8, flags: &[bool], screen: &Screen)
+        requires from_top { 1 ≤ row }
+        requires to_bottom { row ≤ 24 }
+        requires columns { length flags.now ≡ 40 }
+        ensures paints { PaintsRow (tape_glass_state self.old) flags.now row
+            (looks_of (core_of screen.now)) (tape_glass_state self.new) }
+        ensures tape { tape_of self.new
+            ≡ tape_after_all (tape_of self.old)
+            (flagged_looks flags.now row (looks_of (core_of screen.now))) }
+        ensures room { tape_room self.new ≡ tape_room self.old }
+    {
+        for k in 0..40u8 {
+            if flags[usize::from(k)] {
+                if let Some(at) = Pos::new(row, k + 1) {
+                    self.paint(at, screen);
+                }
+            }
         }
     }
 

@@ -65,7 +65,8 @@ pub fn a_blank_glass_shows_each_event()
 
 /// What remains of a page and a drawing is the page with the drawing on it: a point whose cell is
 /// within the format and not protected is in its field exactly where it is among the points that the
-/// figures leave of the page's own, and all else stays.
+/// figures leave of the page's own. A cell whose points stay is as it was, and so is all else but
+/// cells.
 pub fn a_drawing_is_drawn_on_its_page()
     ensures { (page : List Command) (figures : List Figure) → AllValid page
         → IsDrawnOn (core page) (points_after_all (is_in_field (core page)) figures)

@@ -1,12 +1,12 @@
 //! The run of the program as a call: it reads the words, a stored page and the commands in it, paints a
-//! screen, and puts the report. It knows no real file, output and display.
+//! screen, and puts the report. It knows no real file, output or display.
 #![tactic(auto)]
 
 mod decoder;
 mod easel;
 mod edits;
 mod generated;
-mod laws;
+pub mod laws;
 mod page;
 mod reporter;
 pub mod run;

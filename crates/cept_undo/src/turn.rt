@@ -1,8 +1,11 @@
 ghost use Rattle.std.specs.Prelude.{◌≡◌, ◌≤◌, ◌<◌, ◌+◌, ◌↔◌, false, [], drop, length};
 ghost use Rattle.std.specs.List.{AllByRecursion};
+ghost use Rattle.cept_profile.specs.Look.{looks_of};
+ghost use Rattle.cept_profile.specs.State.{core_of};
 ghost use Rattle.cept_profile.specs.Valid.{IsValidState};
 ghost use Rattle.cept_repaint.specs.Applied.{IsRepainted};
 ghost use Rattle.cept_repaint.specs.Marks.{no_marks};
+ghost use Rattle.cept_repaint.specs.Renewed.{rows_renewed};
 ghost use Rattle.cept_undo.specs.Past.{handed_on, nearest, unwound_in_turn};
 
 use cept_outside::Steps;
@@ -38,6 +41,8 @@ pub(crate) fn turn<G: Glass, L: Ledger>(
     ensures to_places { to.new.capacity ≡ to.old.capacity }
     ensures repainted { IsRepainted screen.old screen.new marks.new (G.state glass.old)
         (G.state glass.new) }
+    ensures least { steps.old
+        + rows_renewed [] (looks_of (core_of screen.old)) (looks_of (core_of screen.new)) ≤ steps.new }
     ensures at_most_24 { steps.new ≤ steps.old + 24 }
 
     // Where there is none.

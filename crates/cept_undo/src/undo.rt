@@ -1,9 +1,11 @@
 ghost use Rattle.std.specs.Prelude.{◌≡◌, ◌≤◌, ◌+◌, ◌↔◌, true, [], ◌∷◌, Some, IfOk, length, take, drop};
 ghost use Rattle.cept_codes.specs.Command.{IsValidCommand};
-ghost use Rattle.cept_profile.specs.State.{State};
+ghost use Rattle.cept_profile.specs.Look.{looks_of};
+ghost use Rattle.cept_profile.specs.State.{State, core_of};
 ghost use Rattle.cept_profile.specs.Valid.{IsValidState};
 ghost use Rattle.cept_repaint.specs.Applied.{IsApplied, IsRepainted};
 ghost use Rattle.cept_repaint.specs.Marks.{no_marks};
+ghost use Rattle.cept_repaint.specs.Renewed.{rows_renewed};
 ghost use Rattle.cept_undo.specs.Past.{FitsTogether, IsBegun, IsNotBegun, StaysBegun, at_begin};
 ghost use Rattle.cept_undo.specs.Past.{future, handed_on, most_kept, nearest, past};
 
@@ -226,6 +228,8 @@ impl Undo {
         ensures state { screen.new ≡ nearest (past self.old screen.old) screen.old }
         ensures repainted { IsRepainted screen.old screen.new marks.new (G.state glass.old)
             (G.state glass.new) }
+        ensures least { steps.old
+            + rows_renewed [] (looks_of (core_of screen.old)) (looks_of (core_of screen.new)) ≤ steps.new }
         ensures at_most_24 { steps.new ≤ steps.old + 24 }
 
         // Where no edit is kept.
@@ -270,6 +274,8 @@ impl Undo {
         ensures state { screen.new ≡ nearest (future self.old screen.old) screen.old }
         ensures repainted { IsRepainted screen.old screen.new marks.new (G.state glass.old)
             (G.state glass.new) }
+        ensures least { steps.old
+            + rows_renewed [] (looks_of (core_of screen.old)) (looks_of (core_of screen.new)) ≤ steps.new }
         ensures at_most_24 { steps.new ≤ steps.old + 24 }
 
         // Where no edit is undone.

@@ -1,22 +1,26 @@
 -- What stands in the slice after a run, and what its status says.
 use Rattle.std.proofs.Common.{◌≡◌, ◌⊎◌, inl, inr, ℕ, ◌<◌, Bool, true, false, ◌&&◌, List, [], ◌∷◌, ◌++◌, Some, codes, cond}
-use Rattle.std.proofs.Common.{sym, ap, subst, ◌∙◌, arith, length, is_some, IsSome}
+use Rattle.std.proofs.Common.{refl, sym, ap, subst, ◌∙◌, ◌≤◌, Option, None, arith, length, is_some, IsSome}
 use Rattle.std.proofs.Common.{take, drop, append_assoc, append-nil, take-append-drop}
 use Rattle.std.proofs.lemmas.Option.{same_Some}
 use Rattle.std.specs.Io.KnownBytes.{append_known}
 use Rattle.cept_editor.specs.Events.{report}
-use Rattle.cept_outside.specs.ShelfState.{ShelfState, Holds, bytes_under}
+use Rattle.cept_outside.specs.ShelfState.{ShelfState, Holds, bytes_under, empty_shelf}
+use Rattle.std.specs.Prelude.{bytes_eq}
 use Rattle.cept_outside.specs.SinkState.{SinkState, Gains, GainsPart}
 use Rattle.cept_parser.specs.Items.{closed_items}
 use Rattle.cept_run.specs.Course.{Course, Source, File, Given, HasBytes, course_of}
 use Rattle.cept_run.specs.Events.{has_refusal}
 use Rattle.cept_run.specs.Run.{EndsWhole, EndsAtWriteFault, IsReportCut, IsFaultCut, Ends, RunsCourse, ReadsFiles}
-use Rattle.cept_run.specs.Run.{TouchesShelf, fault_text, report_of, status_number}
+use Rattle.cept_run.specs.Run.{TouchesShelf, Runs, fault_text, report_of, status_number}
+use Rattle.cept_run.specs.Outside.{Outside}
+use Rattle.cept_run.specs.Words.{Request, request_of}
 use Rattle.cept_run.specs.declared.run.Status.{Status}
 use Rattle.cept_run.specs.declared.run.Status.TheVariants as statuses
 use Rattle.tamligub.specs.Called.{Holding, HasRun, Calls, Supplies, IsSupplied, IsReported, Reported, IsMissed}
 use Rattle.tamligub.specs.Called.{IsFront, IsCutOff, IsFrontReported, FrontReported, IsFaultReported, FaultReported}
-use Rattle.tamligub.specs.Called.{room_in}
+use Rattle.tamligub.specs.Called.{RunsOn, empty_sink, file_in, room_in}
+use Rattle.tamligub.specs.Words.{words_for}
 
 -- a source has the bytes that the call supplies
 supplied : (page script : List ℕ) (shelf : ShelfState) → Holds shelf (codes "page") page
@@ -155,6 +159,28 @@ module _ (word : List ℕ) (given number : ℕ) (page script old new : List ℕ)
   front_by statuses.TooLong is r five = absurd (omega (arith, is, five))
   front_by statuses.NotSeven is r five = absurd (omega (arith, is, five))
 
+-- ---- the room
+
+room_stays_by : (words : List (List ℕ)) (before after : Outside) (status : Status) (asked : Option Request)
+    → request_of words ≡ asked → Runs words before after status → after.sink.room ≡ before.sink.room
+room_stays_by words before after status (Some request) is runs = (runs.request request is).room
+room_stays_by words before after status None is runs = ap (λ (o : Outside). o.sink.room) (runs.untouched (runs.usage.1 is))
+
+-- after a run over an empty sink its room is still that of the slice
+pub room_in_run : (word : List ℕ) (given number : ℕ) (page script old : List ℕ) (start end : SinkState) (status : Status)
+    → RunsOn word given number page script start end status → start ≡ empty_sink (room_in old)
+    → end.room ≡ Some (room_in old)
+room_in_run word given number page script old start end status on empty =
+    ap (λ (s : SinkState). s.room) (sym on.after_sink)
+    ∙ room_stays_by (words_for word given number) on.before on.after status (request_of (words_for word given number)) refl
+    on.runs
+    ∙ ap (λ (s : SinkState). s.room) (on.before_sink ∙ empty)
+
+pub put_within : (word : List ℕ) (given number : ℕ) (page script old new : List ℕ) (put : ℕ) (status : Status)
+    → Calls word given number page script old new put status → put ≤ room_in old
+put_within word given number page script old new put status (inl run) = omega (arith, run.holding.count, run.within)
+put_within word given number page script old new put status (inr not) = omega (arith, not.none)
+
 -- ---- a line outside the grammar, a file that isn't there
 
 module _ (word : List ℕ) (given number : ℕ) (page script old new : List ℕ) (put answer : ℕ) (status : Status)
@@ -246,3 +272,16 @@ is_missed word given number page script old new put answer status is (inl run) r
     (run.runs.runs.request request asks) four page_there script_there
 is_missed word given number page script old new put answer status is (inr not) request asks four page_there script_there =
     let six = is ∙ ap status_number not.memory in absurd (omega (arith, six, four))
+
+-- ---- the files of the shelf
+
+pub files_added : (page script name : List ℕ) (none one both : ShelfState) → none ≡ empty_shelf
+    → ((other : List ℕ) → bytes_under one other
+    ≡ cond (bytes_eq (codes "page") other) (Some page) (bytes_under none other))
+    → ((other : List ℕ) → bytes_under both other
+    ≡ cond (bytes_eq (codes "script") other) (Some script) (bytes_under one other))
+    → bytes_under both name ≡ file_in page script name
+files_added page script name none one both is first second =
+    second name
+    ∙ ap (cond (bytes_eq (codes "script") name) (Some script))
+    (first name ∙ ap (λ (s : ShelfState). cond (bytes_eq (codes "page") name) (Some page) (bytes_under s name)) is)

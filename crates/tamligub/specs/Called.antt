@@ -1,8 +1,9 @@
 -- What a call does: it is a run over a shelf, a sink and a glass in memory. This project's own.
-use Rattle.std.specs.Prelude.{◌≡◌, ◌⊎◌, ◌<◌, ◌-◌, ◌^◌, ℕ, false, ◌&&◌, min, List, [], ◌++◌, take, drop, length, Some, codes}
+use Rattle.std.specs.Prelude.{◌≡◌, ◌⊎◌, ◌<◌, ◌≤◌, ◌-◌, ◌^◌, ℕ, false, ◌&&◌, min, List, [], ◌++◌, take, drop, length, codes}
+use Rattle.std.specs.Prelude.{Option, Some, None, bytes_eq}
 use Rattle.std.specs.Prelude.{if◌then◌else◌}
 use Rattle.cept_editor.specs.Script.{Fault}
-use Rattle.cept_outside.specs.ShelfState.{Holds}
+use Rattle.cept_outside.specs.ShelfState.{Holds, bytes_under}
 use Rattle.cept_outside.specs.SinkState.{SinkState}
 use Rattle.cept_parser.specs.Items.{closed_items}
 use Rattle.cept_profile.specs.Look.{grid}
@@ -25,14 +26,20 @@ empty_sink room = record { bytes = Some []; count = Some 0; room = Some room; un
 abbrev pub room_in : List ℕ → ℕ
 room_in out = min (length out) (2 ^ 32 - 1)
 
--- the program ran over a shelf with this page and this script, whose faults are the files that it missed, a sink, and a
--- glass that was blank
+-- the file of a name: of `page` the page, of `script` the script, and no other
+abbrev pub file_in : List ℕ → List ℕ → List ℕ → Option (List ℕ)
+file_in page script name =
+    if bytes_eq (codes "script") name then Some script else if bytes_eq (codes "page") name then Some page else None
+
+-- the program ran over a shelf with this page, this script and no other file, whose faults are the files that it missed, a
+-- sink, and a glass that was blank
 pub record RunsOn (word : List ℕ) (given number : ℕ) (page script : List ℕ) (start end : SinkState) (status : Status)
     : Type 0 where
   pub before : Outside
   pub after : Outside
   pub has_page : Holds before.shelf (codes "page") page
   pub has_script : Holds before.shelf (codes "script") script
+  pub files : (name : List ℕ) → bytes_under before.shelf name ≡ file_in page script name
   pub faultless : before.shelf.faults ≡ 0
   pub unmissed : before.shelf.missed ≡ 0
   pub missed : after.shelf.faults ≡ after.shelf.missed
@@ -57,6 +64,7 @@ pub record HasRun (word : List ℕ) (given number : ℕ) (page script old new : 
     pub is : end.bytes ≡ Some text
     -- a fault of the sink was counted only where there is no room for more
     pub full : 0 < end.faults → end.room ≡ Some (length text)
+    pub within : length text ≤ room_in old
     pub holding : Holding text old new put
 
 -- there was no memory to begin with

@@ -7,7 +7,9 @@ mod calling;
 mod tests;
 mod words;
 
+ghost use Rattle.std.specs.Prelude.{◌≤◌};
 ghost use Rattle.tamligub.specs.Called.{Called, FaultReported, FrontReported, IsMissed, Reported};
+ghost use Rattle.tamligub.specs.Called.{room_in};
 
 use crate::calling::call;
 use std::alloc::Global;
@@ -35,6 +37,7 @@ pub extern "C" fn tamligub_run(
     ensures fault { FaultReported word.now given number page.now script.now out.old out.new put.new
         result }
     ensures missed { IsMissed word.now given number result }
+    ensures within { put.new ≤ room_in out.old }
 {
     u32::from(call(alloc, word, given, number, page, script, out, put).number())
 }

@@ -8,6 +8,7 @@ ghost use Rattle.cept_codes.specs.Same.{same_marker, same_what, same_cell, same_
 ghost use Rattle.cept_codes.specs.Same.{same_paint, same_pattern, same_inks, same_shape, same_part};
 ghost use Rattle.cept_codes.specs.Same.{same_look, same_c1_set, same_way, same_form, same_command};
 ghost use Rattle.cept_codes.specs.Same.{same_reason, same_said, same_item, same_stroke};
+ghost use Rattle.cept_codes.specs.Same.{same_read, same_line_reason};
 ghost use Rattle.cept_codes.specs.declared.attribute.Size.{Size};
 ghost use Rattle.cept_codes.specs.declared.attribute.Flash.{Flash};
 ghost use Rattle.cept_codes.specs.declared.attribute.Attr.{Attr};
@@ -15,6 +16,7 @@ ghost use Rattle.cept_codes.specs.declared.attribute.Pen.{Pen};
 ghost use Rattle.cept_codes.specs.declared.attribute.Full.{Full};
 ghost use Rattle.cept_codes.specs.declared.glyph.SetId.{SetId};
 ghost use Rattle.cept_codes.specs.declared.glyph.Glyph.{Glyph};
+ghost use Rattle.cept_codes.specs.declared.glyph.Read.{Read};
 ghost use Rattle.cept_codes.specs.declared.cell.Marker.{Marker};
 ghost use Rattle.cept_codes.specs.declared.cell.What.{What};
 ghost use Rattle.cept_codes.specs.declared.cell.Cell.{Cell};
@@ -33,6 +35,7 @@ ghost use Rattle.cept_codes.specs.declared.command.Command.{Command};
 ghost use Rattle.cept_codes.specs.declared.item.Reason.{Reason};
 ghost use Rattle.cept_codes.specs.declared.item.Said.{Said};
 ghost use Rattle.cept_codes.specs.declared.item.Item.{Item};
+ghost use Rattle.cept_codes.specs.declared.line_reason.LineReason.{LineReason};
 ghost use Rattle.cept_codes.specs.declared.stroke.Stroke.{Stroke};
 ghost use Rattle.cept_codes.specs.declared.memory.NoMemory.{NoMemory};
 
@@ -51,11 +54,12 @@ pub fn pens_compare_by_their_fields()
     ensures full { (a b : Full) → IsTrue (same_full a b) ↔ (a ≡ b) }
 {}
 
-/// Two cells compare as equal exactly where they are the same, and so do rows of cells and what
-/// cells are made of.
+/// Two cells compare as equal exactly where they are the same, and so do rows of cells, what cells
+/// are made of, and what graphic bytes give.
 pub fn cells_compare_by_their_fields()
     ensures set { (a b : SetId) → IsTrue (same_set a b) ↔ (a ≡ b) }
     ensures glyph { (a b : Glyph) → IsTrue (same_glyph a b) ↔ (a ≡ b) }
+    ensures read { (a b : Read) → IsTrue (same_read a b) ↔ (a ≡ b) }
     ensures marker { (a b : Marker) → IsTrue (same_marker a b) ↔ (a ≡ b) }
     ensures what { (a b : What) → IsTrue (same_what a b) ↔ (a ≡ b) }
     ensures cell { (a b : Cell) → IsTrue (same_cell a b) ↔ (a ≡ b) }
@@ -73,8 +77,8 @@ pub fn looks_compare_by_their_fields()
     ensures look { (a b : Look) → IsTrue (same_look a b) ↔ (a ≡ b) }
 {}
 
-/// Two commands compare as equal exactly where they are the same, and so do items and what they are
-/// made of.
+/// Two commands compare as equal exactly where they are the same, and so do items, what they are made
+/// of, and reasons of lines.
 pub fn commands_compare_by_their_fields()
     ensures c1_set { (a b : C1Set) → IsTrue (same_c1_set a b) ↔ (a ≡ b) }
     ensures way { (a b : Up) → IsTrue (same_way a b) ↔ (a ≡ b) }
@@ -83,6 +87,7 @@ pub fn commands_compare_by_their_fields()
     ensures reason { (a b : Reason) → IsTrue (same_reason a b) ↔ (a ≡ b) }
     ensures said { (a b : Said) → IsTrue (same_said a b) ↔ (a ≡ b) }
     ensures item { (a b : Item) → IsTrue (same_item a b) ↔ (a ≡ b) }
+    ensures line_reason { (a b : LineReason) → IsTrue (same_line_reason a b) ↔ (a ≡ b) }
 {}
 
 /// Two strokes compare as equal exactly where they are the same.

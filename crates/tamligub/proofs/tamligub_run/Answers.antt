@@ -1,4 +1,4 @@
-use Rattle.tamligub.proofs.Reports.{reported, front_reported, fault_reported, is_missed}
+use Rattle.tamligub.proofs.Reports.{reported, front_reported, fault_reported, is_missed, put_within}
 use Rattle.tamligub.proofs.tamligub_run.Goals as goal
 
 pub returns-clause-reported : goal.returns-clause-reported
@@ -20,3 +20,8 @@ pub returns-clause-missed : goal.returns-clause-missed
 returns-clause-missed c =
     is_missed c.args.word.now c.args.given c.args.number c.args.page.now c.args.script.now c.args.out.now
     c.call.new.out c.call.new.put c.from.result c.call.result (cc) c.call.ensures
+
+pub returns-clause-within : goal.returns-clause-within
+returns-clause-within c =
+    put_within c.args.word.now c.args.given c.args.number c.args.page.now c.args.script.now c.args.out.now c.call.new.out
+    c.call.new.put c.call.result c.call.ensures

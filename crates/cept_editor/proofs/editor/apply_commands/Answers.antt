@@ -1,7 +1,7 @@
 use Rattle.std.proofs.Common.{◌∙◌, refl}
 use Rattle.std.proofs.lemmas.Result.{err_from_is_err_and}
 use Rattle.cept_editor.proofs.AppliedInTurn.{gone_none, gone_more, gone_left, all_applied, all_marked, all_cost}
-use Rattle.cept_editor.proofs.AppliedInTurn.{all_stopped, stopped_marked, stopped_cost}
+use Rattle.cept_editor.proofs.AppliedInTurn.{all_least, all_stopped, stopped_marked, stopped_cost, stopped_least}
 use Rattle.cept_editor.proofs.EditsKept.{StaysBegun-more}
 use Rattle.cept_editor.proofs.editor.apply_commands.Goals as goal
 
@@ -49,6 +49,12 @@ returns-in_err-apply_command-clause-at_most_24 g c =
     (stopped_cost c.args.listed c.args.line _ _ c.in-Some.command _ _ _ _ _ _ _ _
     (gone_left c.in-Some.ensures.next c.loop-command.invariant.gone) c.apply_command.ensures.applies.applied).1
 
+pub returns-in_err-apply_command-clause-least : goal.returns-in_err-apply_command-clause-least
+returns-in_err-apply_command-clause-least g c =
+    rw (err_from_is_err_and c.from_residual.result c.from_residual.ensures.1).1 (stopped_least c.args.listed
+    c.args.line _ _ c.in-Some.command _ _ _ _ _ _ _ _ _ (gone_left c.in-Some.ensures.next c.loop-command.invariant.gone)
+    c.apply_command.ensures.applies.applied)
+
 pub returns-clause-applies : goal.returns-clause-applies
 returns-clause-applies g c = all_applied c.args.listed c.args.line _ _ _ _ _ _ _ _
     (gone_left c.in_default.ensures.next.0 c.loop-command.invariant.gone)
@@ -64,3 +70,7 @@ returns-clause-cost g c = (all_cost c.args.listed c.args.line _ _ _ _ _ _ _ _
 pub returns-clause-at_most_24 : goal.returns-clause-at_most_24
 returns-clause-at_most_24 g c = (all_cost c.args.listed c.args.line _ _ _ _ _ _ _ _
     (gone_left c.in_default.ensures.next.0 c.loop-command.invariant.gone)).1
+
+pub returns-clause-least : goal.returns-clause-least
+returns-clause-least g c = all_least c.args.listed c.args.line _ _ _ _ _ _ _ _
+    (gone_left c.in_default.ensures.next.0 c.loop-command.invariant.gone)

@@ -4,6 +4,7 @@ use Rattle.cept_repaint.proofs.OnePlace.{page_after-none}
 use Rattle.cept_repaint.proofs.Refreshed.{differences_none}
 use Rattle.cept_repaint.proofs.RowsDue.{mixes-edges, rows_due-resolved}
 use Rattle.cept_repaint.proofs.RowsRenewed.{rows_renewed-none, without}
+use Rattle.cept_repaint.proofs.NotedInOrder.{noted-none}
 use Rattle.cept_repaint.proofs.redraw.redraw.Goals as goal
 
 pub returns-then-not-is_same-clause-cost : goal.returns-then-not-is_same-clause-cost
@@ -49,3 +50,8 @@ returns-then-is_empty-clause-least g c =
           (without c.args.strokes.now (eqb-true (length c.args.strokes.now) 0 (sym c.is_empty.ensures ∙ c.if-is_empty.true)))
           refl,
     )
+
+pub returns-then-is_empty-clause-noted : goal.returns-then-is_empty-clause-noted
+returns-then-is_empty-clause-noted g c =
+    noted-none c.args.page.now c.args.strokes.now (g.N.Noter.noted c.args.noter.now)
+    (eqb-true (length c.args.strokes.now) 0 (sym c.is_empty.ensures ∙ c.if-is_empty.true))

@@ -22,6 +22,7 @@ use Rattle.cept_repaint.proofs.LeftOfColumns.{LeftStays-put}
 use Rattle.cept_repaint.proofs.RowsDue.{freed-altered, put-resolved, put_defines_nothing, rows_due-resolved}
 use Rattle.cept_repaint.proofs.RowsRenewed.{rows_renewed-due, rows_renewed-none, rows_renewed-put, without}
 use Rattle.cept_repaint.proofs.WalkedRows.{OtherRowsStay-drawn}
+use Rattle.cept_repaint.proofs.NotedInOrder.{noted-none, noted-one}
 use Rattle.cept_repaint.proofs.redraw.redraw_within.Goals as goal
 
 -- the column past which nothing looks otherwise by itself
@@ -266,3 +267,18 @@ returns-else-put-clause-least g c =
           refl refl c.row-row.ensures.row)
           refl k refl),
     )
+
+pub returns-then-is_empty-clause-noted : goal.returns-then-is_empty-clause-noted
+returns-then-is_empty-clause-noted g c =
+    noted-none c.args.page.now c.args.strokes.now (g.N.Noter.noted c.args.noter.now)
+    (eqb-true (length c.args.strokes.now) 0 (sym c.is_empty.ensures ∙ c.if-is_empty.true))
+
+pub returns-then-put-clause-noted : goal.returns-then-put-clause-noted
+returns-then-put-clause-noted g c =
+    noted-one c.args.page.now c.args.strokes.now (strokes.Put c.in-Some.put.place c.in-Some.put.cell.now)
+    (g.N.Noter.noted c.args.noter.now) (g.N.Noter.noted c.put.new.noter) c.in-Some.ensures c.put.ensures.noted
+
+pub returns-else-put-clause-noted : goal.returns-else-put-clause-noted
+returns-else-put-clause-noted g c =
+    noted-one c.args.page.now c.args.strokes.now (strokes.Put c.in-Some.put.place c.in-Some.put.cell.now)
+    (g.N.Noter.noted c.args.noter.now) (g.N.Noter.noted c.put.new.noter) c.in-Some.ensures c.put.ensures.noted

@@ -1,4 +1,4 @@
-use Rattle.std.proofs.Common.{List, drop, sym, ap, ◌∙◌}
+use Rattle.std.proofs.Common.{List, drop, sym, ap, ◌∙◌, arith}
 use Rattle.cept_profile.specs.Look.{looks_of}
 use Rattle.cept_profile.specs.OldValues.{OldValues}
 use Rattle.cept_profile.specs.State.{State, core_of}
@@ -6,7 +6,7 @@ use Rattle.circular_buffer.specs.Buffer.{Buffer}
 use Rattle.cept_undo.specs.Past.{handed_on, nearest, unwound_in_turn}
 use Rattle.cept_undo.proofs.InTurn.{empty_in_turn, nearest_valid, none_first, turned_from, turned_from_valid, turned_on}
 use Rattle.cept_undo.proofs.InTurn.{turned_on_valid, turned_to}
-use Rattle.cept_undo.proofs.Unchanged.{differences-same, shown-same, told-same}
+use Rattle.cept_undo.proofs.Unchanged.{differences-same, rows_renewed-same, shown-same, told-same}
 use Rattle.cept_undo.proofs.turn.turn.Goals as goal
 
 pub exchange-requires : goal.exchange-requires
@@ -66,3 +66,6 @@ returns-in-None-clause-repainted g c = record {
   shown = shown-same (g.G.Glass.state c.args.glass.now).grid (looks_of (core_of c.args.screen.now));
   told = told-same (g.G.Glass.state c.args.glass.now).paints (looks_of (core_of c.args.screen.now));
 }
+
+pub returns-in-None-clause-least : goal.returns-in-None-clause-least
+returns-in-None-clause-least g c = omega (arith, rows_renewed-same (looks_of (core_of c.args.screen.now)))

@@ -1,5 +1,5 @@
 use Rattle.cept_codes.proofs.EqualityDecides.{c1_set_decides, way_decides, form_decides, command_decides}
-use Rattle.cept_codes.proofs.EqualityDecides.{reason_decides, said_decides, item_decides}
+use Rattle.cept_codes.proofs.EqualityDecides.{reason_decides, said_decides, item_decides, line_reason_decides}
 use Rattle.cept_codes.proofs.law.equality.commands_compare_by_their_fields.Goals as goal
 
 pub returns-clause-c1_set : goal.returns-clause-c1_set
@@ -22,3 +22,6 @@ returns-clause-said c = said_decides
 
 pub returns-clause-item : goal.returns-clause-item
 returns-clause-item c = item_decides
+
+pub returns-clause-line_reason : goal.returns-clause-line_reason
+returns-clause-line_reason c = line_reason_decides

@@ -4,6 +4,8 @@ use Rattle.cept_repaint.specs.Inside.{page_of}
 use Rattle.cept_repaint.specs.Noter.{page_behind}
 use Rattle.cept_repaint.proofs.MarkedRows.{IsAreaOf-valid, IsKeptPage-after}
 use Rattle.cept_repaint.proofs.NotedPages.{page_behind-stroke}
+use Rattle.std.specs.Prelude.{option_map}
+use Rattle.cept_profile.specs.NotedStrokes.{with_stroke}
 use Rattle.cept_repaint.proofs.page.Page.draw.Goals as goal
 
 pub invariant_of-self : goal.invariant_of-self
@@ -39,3 +41,9 @@ returns-clause-unwound g c =
       dclut = c.set_colours.ensures.dclut;
       patterns = c.set_patterns.ensures;
     }) c.note_stroke.ensures)
+
+pub returns-clause-noted : goal.returns-clause-noted
+returns-clause-noted g c =
+    subst (λ (p : Page). g.N.Noter.noted c.note_stroke.new.self
+    ≡ option_map (with_stroke p c.args.stroke.now) (g.N.Noter.noted c.args.noter.now))
+    c.self.view_is c.note_stroke.ensures

@@ -8,6 +8,8 @@ use Rattle.cept_repaint.specs.Noter.{page_behind}
 use Rattle.cept_repaint.proofs.MarkedRows.{IsKeptPage-after, IsUnflagged-before, StandsAlone-unflagged}
 use Rattle.cept_repaint.proofs.NotedPages.{page_behind-stroke}
 use Rattle.cept_repaint.proofs.PageParts.{IsDrawn-put}
+use Rattle.std.specs.Prelude.{option_map}
+use Rattle.cept_profile.specs.NotedStrokes.{with_stroke}
 use Rattle.cept_repaint.proofs.page.Page.put.Goals as goal
 
 pub returns-clause-drawn : goal.returns-clause-drawn
@@ -52,3 +54,9 @@ returns-clause-unwound g c =
     (strokes.Put c.args.place c.args.cell.now) q
     (IsDrawn-put (page_of c.self.inside) c.args.place c.args.cell.now c.put.new.self c.self.invariant.rows
     c.self.invariant.colours c.self.invariant.names c.self.invariant.codes c.put.ensures.cells) c.note_put.ensures)
+
+pub returns-clause-noted : goal.returns-clause-noted
+returns-clause-noted g c =
+    subst (λ (p : Page). g.N.Noter.noted c.note_put.new.self
+    ≡ option_map (with_stroke p (strokes.Put c.args.place c.args.cell.now)) (g.N.Noter.noted c.args.noter.now))
+    c.self.view_is c.note_put.ensures

@@ -6,6 +6,11 @@ use Rattle.cept_repaint.specs.Applied.{IsApplied}
 use Rattle.cept_repaint.specs.Noter.{page_behind}
 use Rattle.cept_repaint.proofs.AppliedCommands.{IsApplied-unseen}
 use Rattle.cept_repaint.proofs.NotedPages.{state_behind-control}
+use Rattle.std.proofs.Common.{List, length}
+use Rattle.cept_codes.specs.declared.stroke.Stroke.{Stroke}
+use Rattle.cept_profile.specs.NotedStrokes.{with_strokes}
+use Rattle.cept_profile.specs.Strokes.{strokes_of}
+use Rattle.cept_repaint.proofs.NotedInOrder.{noted-command, noted-none}
 use Rattle.cept_repaint.proofs.screen.Screen.apply_with.Goals as goal
 
 pub returns-clause-applied : goal.returns-clause-applied
@@ -39,3 +44,24 @@ returns-then-write_attribute-clause-unwound g c =
     (subst (λ (s : State). g.N.Noter.noted c.note_control.new.self
     ≡ option_map (with_control s.control) (g.N.Noter.noted c.args.noter.now)) c.self.view_is c.note_control.ensures)
     (ap (λ (p : Page). page_behind (g.N.Noter.noted c.note_control.new.self) p) c.write_attribute.ensures.page)
+
+pub returns-clause-noted : goal.returns-clause-noted
+returns-clause-noted g c =
+    noted-command c.args.self.now c.args.command.now (g.N.Noter.noted c.args.noter.now)
+    (g.N.Noter.noted c.note_control.new.self) (g.N.Noter.noted c.write_and_paint.new.noter)
+    (subst (λ (s : State). g.N.Noter.noted c.note_control.new.self
+    ≡ option_map (with_control s.control) (g.N.Noter.noted c.args.noter.now)) c.self.view_is c.note_control.ensures)
+    (subst (λ (s : State). g.N.Noter.noted c.write_and_paint.new.noter
+    ≡ option_map (with_strokes s.page (strokes_of s.control c.args.command.now))
+    (g.N.Noter.noted c.note_control.new.self))
+    (c.write_attribute.ensures.left c.if-write_attribute.false) c.write_and_paint.ensures.noted)
+
+pub returns-then-write_attribute-clause-noted : goal.returns-then-write_attribute-clause-noted
+returns-then-write_attribute-clause-noted g c =
+    noted-command c.args.self.now c.args.command.now (g.N.Noter.noted c.args.noter.now)
+    (g.N.Noter.noted c.note_control.new.self) (g.N.Noter.noted c.note_control.new.self)
+    (subst (λ (s : State). g.N.Noter.noted c.note_control.new.self
+    ≡ option_map (with_control s.control) (g.N.Noter.noted c.args.noter.now)) c.self.view_is c.note_control.ensures)
+    (noted-none c.args.self.now.page (strokes_of c.args.self.now.control c.args.command.now)
+    (g.N.Noter.noted c.note_control.new.self)
+    (ap (λ (l : List Stroke). length l) (c.write_attribute.ensures.strokes c.if-write_attribute.true)))

@@ -7,6 +7,7 @@ use Rattle.cept_repaint.specs.Kept.{state_of_parts}
 use Rattle.cept_repaint.proofs.KeptAfter.{AreEdges-state, AreLooksOn-state, IsKept-state_after, looks_of-drawn, marks-kept}
 use Rattle.cept_repaint.proofs.KeptAfter.{AreNamed-drawn, AreNamedOn-state, renewed-of, resolved-of, state_after-drawn}
 use Rattle.cept_profile.proofs.Laws.{rows_in_reach-le}
+use Rattle.cept_repaint.proofs.NotedInOrder.{noted-strokes_of}
 use Rattle.cept_repaint.proofs.screen.Screen.write_edges.Goals as goal
 
 pub redraw-requires-clause-kept : goal.redraw-requires-clause-kept
@@ -97,3 +98,9 @@ invariant_of-self g c =
     c.edges-after.ensures c.redraw.ensures.kept)
     (AreNamed-drawn c.redraw.new.page c.step_into.new.self c.edges-after.result c.redraw.new.names
     c.edges-after.ensures c.redraw.ensures.named)
+
+pub returns-clause-noted : goal.returns-clause-noted
+returns-clause-noted g c =
+    noted-strokes_of (state_of_parts c.self.inside.page c.self.inside.control) c.args.self.now c.args.command.now
+    c.as_slice-strokes.result.now (g.N.Noter.noted c.args.noter.now) (g.N.Noter.noted c.redraw.new.noter) c.self.view_is
+    (c.as_slice-strokes.ensures.value ∙ c.step_into.ensures.strokes) c.redraw.ensures.noted

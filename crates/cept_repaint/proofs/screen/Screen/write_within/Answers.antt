@@ -8,6 +8,7 @@ use Rattle.cept_repaint.specs.Kept.{state_of_parts}
 use Rattle.cept_repaint.proofs.KeptAfter.{AreLooksOn-state, AreNamed-drawn, AreNamedOn-state, IsKept-state_after}
 use Rattle.cept_repaint.proofs.KeptAfter.{looks_of-drawn, marks-kept, renewed-of, resolved-of, state_after-drawn}
 use Rattle.cept_repaint.proofs.MovedEdges.{edges-stay}
+use Rattle.cept_repaint.proofs.NotedInOrder.{noted-strokes_of}
 use Rattle.cept_repaint.proofs.screen.Screen.write_within.Goals as goal
 
 pub redraw_within-requires-clause-kept : goal.redraw_within-requires-clause-kept
@@ -99,3 +100,9 @@ invariant_of-self g c =
     c.redraw_within.new.kept refl c.redraw_within.ensures.kept)
     (AreNamed-drawn c.redraw_within.new.page c.step_into.new.self (edges_of c.step_into.new.self)
     c.redraw_within.new.names refl c.redraw_within.ensures.named)
+
+pub returns-clause-noted : goal.returns-clause-noted
+returns-clause-noted g c =
+    noted-strokes_of (state_of_parts c.self.inside.page c.self.inside.control) c.args.self.now c.args.command.now
+    c.as_slice-strokes.result.now (g.N.Noter.noted c.args.noter.now) (g.N.Noter.noted c.redraw_within.new.noter)
+    c.self.view_is (c.as_slice-strokes.ensures.value ∙ c.step_into.ensures.strokes) c.redraw_within.ensures.noted
