@@ -5,7 +5,7 @@ use Rattle.cept_codes.specs.declared.cell.What.{What}
 use Rattle.cept_profile.specs.Influence.{Influence, influence}
 use Rattle.cept_profile.specs.Serial.{is_marker, mosaic_of}
 
--- what is carried after a cell whose own sign wasn't taken up yet
+-- what is carried once the sign of the cell to the left is taken up; a marker has none to take up
 abbrev pub influence_with_sign : What → Influence → Influence
 influence_with_sign left s = record s { kept_sign = if is_marker left then s.kept_sign else mosaic_of left }
 

@@ -1,4 +1,4 @@
--- Replaced cells (own): one is replaced by another, also where it is protected. No stroke does that.
+-- Replaced cells (own): one is replaced by another, a protected one too, which the stroke `Put` leaves as it is.
 use Rattle.std.specs.Prelude.{List, if◌then◌else◌}
 use Rattle.cept_codes.specs.declared.cell.Cell.{Cell}
 use Rattle.cept_codes.specs.Cell.{blank_cell}

@@ -7,6 +7,6 @@ use Rattle.cept_codes.specs.Table.{entry, list_by_index}
 abbrev pub list_of_codes : {X : Type 0} → (ℕ → X) → List X
 list_of_codes f = list_by_index 0x21 94 f
 
--- the pattern of a code; none where it has none, nor below 2/1 and past 7/14
+-- the pattern of a code; none where it has none, and none below 2/1 or past 7/14
 abbrev pub pattern_in : List (Option Pattern) → ℕ → Option Pattern
 pattern_in patterns d = entry None 0x21 patterns d

@@ -1,4 +1,5 @@
--- Which commands set attributes alone (this project's own).
+-- The C1 codes under the parallel set (this project's own): each sets an attribute of the pen and makes no stroke.
+-- Flash modes and stop conceal do the same under this set, but aren't meant here.
 use Rattle.std.specs.Prelude.{Bool, true, false}
 use Rattle.cept_codes.specs.declared.command.C1Set.{C1Set}
 use Rattle.cept_codes.specs.declared.command.C1Set.TheVariants as c1sets

@@ -1,4 +1,4 @@
--- The states of control that the fields of the code's own types stand for, and back.
+-- The states of control for which the fields of the code's own types stand, and the fields that stand for them.
 use Rattle.cept_profile.specs.Control.{Working, ControlState}
 use Rattle.cept_control.specs.declared.control.Control.TheInside.{Inside as ControlInside}
 use Rattle.cept_control.specs.declared.working.Working.TheInside.{Inside as WorkingInside}

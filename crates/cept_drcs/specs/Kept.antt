@@ -10,7 +10,8 @@ use Rattle.cept_drcs.specs.Strips.{strips_in}
 abbrev pub plane_end : Form → ℕ → ℕ
 plane_end f p = strips_in f.w (p * f.h + f.h)
 
--- a valid form, one of its planes, and strips to somewhere in this plane
+-- a valid form, one of its planes, and strips to somewhere in this plane; `stop` is how many there are when it has all
+-- its lines, and 0 before the first byte
 pub record IsKeptDrawing (f : Form) (begun : Bool) (plane stop : ℕ) (strips : List ℕ) : Type 0 where
   pub form : IsValidForm f
   pub open_plane : plane < f.planes

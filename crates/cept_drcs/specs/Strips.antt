@@ -50,7 +50,7 @@ unfoldable pub number_of : ℕ → ℕ → List ℕ → ℕ
 number_of zero i ss = 0
 number_of (suc n) i ss = strip_of (slice_index ss i) + 64 * number_of n (i + 1) ss
 
--- what stands in the room after the strips is 0
+-- at most 96 strips, and what stands in the room after them is 0
 pub record AreKeptStrips (room : List ℕ) (count : ℕ) : Type 0 where
   pub few : count ≤ 96
   pub clear : (k : ℕ) → count ≤ k → slice_index room k ≡ 0

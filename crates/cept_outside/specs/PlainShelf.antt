@@ -1,4 +1,4 @@
--- A shelf in memory, of which selections of unknown names alone fail. This project's own.
+-- A shelf in memory that fails only where an unknown name is selected. This project's own.
 use Rattle.cept_outside.specs.declared.plain_shelf.PlainShelf.{PlainShelf}
 use Rattle.cept_outside.specs.Rack.{rack_state}
 use Rattle.cept_outside.specs.ShelfState.{ShelfState}

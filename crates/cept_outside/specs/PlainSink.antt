@@ -1,4 +1,4 @@
--- A sink in memory, of a fixed room, of which puts into a full list alone fail. This project's own.
+-- A sink in memory, of a fixed room, that fails only at a put into a full list. This project's own.
 use Rattle.std.specs.Prelude.{ℕ, List, Some, length}
 use Rattle.cept_outside.specs.declared.plain_sink.PlainSink.{PlainSink}
 use Rattle.cept_outside.specs.SinkState.{SinkState}

@@ -1,4 +1,4 @@
--- A rack of files is told soundly. This project's own. It holds proofs: a ghost member of an object
+-- What a rack of files tells as a shelf is sound. This project's own. It holds proofs: a ghost member of an object
 -- can cite specs alone, and `sound` cites these.
 use Rattle.std.proofs.Common.{◌≡◌, ℕ, ◌≤◌, List, [], Option, Some, None, option_map, unwrap_or, string_bytes, refl}
 use Rattle.std.proofs.Common.{drop, length, zero, suc, sym, ap, subst, ◌∙◌}
@@ -50,7 +50,7 @@ within_is files at (Some file) named within name bytes e found =
     subst (λ n. bytes_of files n ≡ Some bytes) (sym (same_Some (string_bytes file.name) name e)) found in
     subst (λ l. at ≤ length l) (same_Some file.bytes.items bytes (sym (named file refl) ∙ same)) within
 
--- where a take has answered that none are left, none are
+-- where at least as many bytes were taken as there are, none are left
 end_is : (at : ℕ) (whole bytes : List ℕ) → length whole ≤ at → Some (drop at whole) ≡ Some bytes → bytes ≡ []
 end_is at whole bytes within e = sym (same_Some (drop at whole) bytes e) ∙ drop_all at whole within
 

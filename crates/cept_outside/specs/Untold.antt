@@ -1,5 +1,5 @@
--- A shelf that tells nothing is told soundly. This project's own. It holds proofs: a ghost member of an object
--- can cite specs alone, and `sound` cites these.
+-- What a shelf tells is sound where it tells no files and no selection. This project's own. It holds proofs: a ghost
+-- member of an object can cite specs alone, and `sound` cites these.
 use Rattle.std.specs.Prelude.{ℕ, Bool, List, Option, Some, None, refl}
 use Rattle.std.proofs.lemmas.Option.{none-some}
 use Rattle.cept_outside.specs.FileShelf.{untold_shelf}

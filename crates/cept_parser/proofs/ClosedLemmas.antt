@@ -9,12 +9,12 @@ room_left is n f l =
     let e : length (take n is) ≡ n = length-take-le n is (rw f.1 f.0) in
     omega (arith, f.1)
 
--- an item is put behind those that are taken
+-- an item is put after those that are taken
 pub one_more : (is v : List Item) (n : ℕ) (i : Item) → (n ≤ 2) × (length is ≡ 2) → take n is ≡ v → length v < 2
     → take (n + 1) (set is n i) ≡ v ++ i ∷ []
 one_more is v n i f e l =
     take_more_set is n i (room_left is n f (rw e l)) ∙ ap (λ (w : List Item). w ++ i ∷ []) e
 
--- an item in the room behind them changes nothing
+-- an item in the room after them changes nothing
 pub no_more : (is v : List Item) (n : ℕ) (i : Item) → take n is ≡ v → take n (set is n i) ≡ v
 no_more is v n i e = take-set is n i ∙ e

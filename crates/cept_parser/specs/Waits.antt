@@ -1,5 +1,5 @@
--- Pending bytes of a parser (this project's own), and what becomes of them where the next byte doesn't fit. Private
--- clauses alone cite this file.
+-- Pending bytes of a parser (this project's own), and what becomes of them where the next byte doesn't fit. The model
+-- and private clauses alone cite this file.
 use Rattle.std.specs.Prelude.{◌≡◌, ℕ, ◌≤◌, Bool, true, false, ◌&&◌, List, [], ◌∷◌, length, Option, Some, None}
 use Rattle.cept_codes.specs.declared.item.Item.{Item}
 use Rattle.cept_codes.specs.declared.item.Reason.TheVariants.{Interrupted}
@@ -32,12 +32,12 @@ begins_in (TableRun i) x a = false
 begins_in (DclutRun i) x a = false
 begins_in (DrcsRun c) x a = starts_pattern x c a
 
--- bytes that a pattern begins with
+-- bytes of which the first begins a pattern in this context
 abbrev pub in_pattern : Context → List ℕ → Bool
 in_pattern x [] = false
 in_pattern x (a ∷ u) = is_plain a && begins_in x.mode x a
 
--- a loader is beside pending bytes: it loads them exactly where they are a pattern, and they lead to its state
+-- a loader reads pending bytes exactly where the first of them begins a pattern, and then they lead to its state
 pub record IsBeside (x : Context) (u : List ℕ) (loading : Bool) (l : Loading) : Type 0 where
   pub pattern : loading ≡ in_pattern x u
   pub leads : loading ≡ true → Leads x.form u l
@@ -51,12 +51,12 @@ outcome_at_misfit x None = record { said = Refused Interrupted; next = with_mode
 abbrev pub cut_item : Context → ℕ → List ℕ → Item
 cut_item x at p = record { at = at; len = length p; what = (outcome_at_misfit x (unit x p)).said }
 
--- a reader waits right before the place, and its loader is beside what is pending
+-- the bytes of a reader wait in its context and stand right before the place, and its loader reads them as above
 pub record IsWaiting (s : Reader) (place : ℕ) : Type 0 where
   pub waits : Waits s.context place s.bytes
   pub beside : IsBeside s.context s.bytes s.loading s.loader
 
--- a reader has what a reading leaves, and its loader is beside it
+-- a reader has what a reading leaves, and its loader reads what is pending as above
 pub record HasLeft (r : Reading) (s : Reader) : Type 0 where
   pub context : s.context ≡ r.context
   pub pending : s.bytes ≡ r.pending

@@ -1,4 +1,4 @@
--- Looks in little room: with the drawing of its pattern each is kept whole, and they compare as they do.
+-- Looks in little space: with the drawing of its pattern each is kept whole, and they compare as they do.
 use Rattle.std.proofs.Common.{◌≡◌, ℕ, ◌-◌, ◌≤◌, ◌<◌, Bool, true, false, List}
 use Rattle.std.proofs.Common.{get_or, ◌⊎◌, Decides, inl, inr, refl, sym, subst, ap, ◌∙◌}
 use Rattle.std.proofs.Common.{arith, rules, replicate}

@@ -1,4 +1,4 @@
--- Looks of places, in little room: those of the places above and to the left, and those of what stands in a cell.
+-- Looks of places, in little space: those of the places above and to the left, and those of what stands in a cell.
 use Rattle.std.proofs.Common.{◌≡◌, ℕ, ◌==◌, Bool, true, false, refl, sym, ap, ◌∙◌}
 use Rattle.cept_codes.specs.declared.look.Look.{Look}
 use Rattle.cept_codes.specs.declared.look.Part.{Part}

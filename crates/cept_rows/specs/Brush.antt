@@ -14,7 +14,8 @@ use Rattle.cept_rows.specs.SmallLooks.{small_of}
 abbrev pub IsBare : Pen → Type 0
 IsBare pen = pen ≡ record unset_pen { fore = pen.fore; back = pen.back }
 
--- how a space looks that is written with the pen, and in which size, beneath these attributes of row and screen
+-- how a space looks that is written with the pen, and in which size, under these attributes of row and screen; with the
+-- flag `bare` the pen sets no class but the colours
 pub record IsBrush (colours : ColourTables) (row screen : Pen) (brush : Brush) : Type 0 where
   pub space : brush.space
       ≡ small_of (look_with (paint_in colours.paints) shapes.Space (cascade brush.pen row screen))

@@ -6,7 +6,7 @@ use Rattle.cept_codes.specs.Same.{same_look}
 use Rattle.cept_codes.specs.Table.{HasMadeEntries, entry}
 use Rattle.cept_profile.specs.Tiling.{column_entry}
 
--- the look of a column: of a flagged one that of its cell by itself
+-- the look of a column: of a flagged one that of its cell by itself, of any other the one before
 abbrev pub look_after : List Bool → (ℕ → Look) → List Look → ℕ → Look
 look_after flags own was c = if entry false 1 flags c then own c else column_entry blank_look was c
 

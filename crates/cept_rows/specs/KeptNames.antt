@@ -1,4 +1,4 @@
--- Names of a row in little room (own): three numbers for each column.
+-- Names of a row in little space (own): three numbers for each column.
 use Rattle.std.specs.Prelude.{ℕ, ◌-◌, ◌==◌, Option, Some, None, slice_index_or, if◌then◌else◌}
 use Rattle.cept_profile.specs.Names.{Names}
 use Rattle.cept_rows.specs.declared.naming.PlaceNames.{PlaceNames}

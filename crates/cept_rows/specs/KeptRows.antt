@@ -1,4 +1,4 @@
--- Rows of looks in little room (own): forty small looks, and beside each the drawing of its pattern.
+-- Rows of looks in little space (own): forty small looks, and beside each the drawing of its pattern.
 use Rattle.std.specs.Prelude.{ℕ, ◌≡◌, ◌-◌, ◌<◌, false, List, length, slice_index_or}
 use Rattle.cept_codes.specs.declared.look.Look.{Look}
 use Rattle.cept_codes.specs.Look.{blank_look}
@@ -18,7 +18,8 @@ kept_in looks drawn c =
 abbrev pub looks_kept : Inside → List Look
 looks_kept a = row_of (kept_in a.looks a.drawn)
 
--- forty of each, without the flag `patterned` no pattern, and without `tall` none that covers the place below it
+-- forty of each, in each column a small look with its drawing; without the flag `patterned` no pattern, and without
+-- `tall` none that covers the place below it
 pub record IsKeptRow (a : Inside) : Type 0 where
   pub columns : length a.looks ≡ 40
   pub drawings : length a.drawn ≡ 40

@@ -1,5 +1,5 @@
--- Looks in little room (own): a look in fields of one byte, of a pattern only that it is one; the pattern with its inks
--- beside it; and the look that both stand for.
+-- Looks in little space (own): a look in fields of one byte, of a pattern only that it is one; the pattern with its
+-- inks beside it; and the look that both stand for.
 use Rattle.std.specs.Prelude.{◌≡◌, Bool, true, false, replicate, if◌then◌else◌}
 use Rattle.cept_codes.specs.declared.glyph.SetId.TheVariants as sets
 use Rattle.cept_codes.specs.declared.look.Look.{Look}
@@ -23,7 +23,7 @@ nothing = record { kind = kinds.Space; set = sets.P; code = 0; accent = 0 }
 abbrev pub some_pattern : Sign
 some_pattern = record { kind = kinds.Drcs; set = sets.P; code = 0; accent = 0 }
 
--- a shape
+-- what is kept of a shape: of a pattern only that it is one
 abbrev pub sign_of : Shape → Sign
 sign_of shapes.Space = nothing
 sign_of (shapes.Char g) = record { kind = kinds.Char; set = g.set; code = g.code; accent = g.accent }
@@ -42,12 +42,12 @@ drawing_of shapes.Space = no_drawing
 drawing_of (shapes.Char g) = no_drawing
 drawing_of (shapes.Drcs pattern inks) = record { pattern = pattern; inks = inks }
 
--- a paint
+-- a paint as it is kept
 abbrev pub tint_of : Paint → Tint
 tint_of (paints.Ink c) = record { video = false; r = c.r; g = c.g; b = c.b }
 tint_of paints.Video = record { video = true; r = 0; g = 0; b = 0 }
 
--- a look
+-- a look as it is kept, without its drawing
 abbrev pub small_of : Look → SmallLook
 small_of l = record {
   sign = sign_of l.shape;

@@ -12,7 +12,7 @@ use Rattle.cept_rows.specs.Brush.{IsBrush}
 use Rattle.cept_rows.specs.declared.walk.Walk.{Walk}
 use Rattle.cept_rows.specs.SmallLooks.{small_of}
 
--- what the cells up to a column leave, and how a space looks after them; and a brush
+-- what the cells up to a column leave, with valid attributes, and how a space looks after them; and a brush
 pub record IsWalk (colours : ColourTables) (cells : ℕ → What) (row screen : Pen) (c : ℕ) (walk : Walk) : Type 0 where
   pub influence : IsInfluence cells row screen c walk.influence
   pub valid : IsValidFull walk.influence.full

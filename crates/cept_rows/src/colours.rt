@@ -33,7 +33,7 @@ pub(crate) fn back_of(full: &Full, colours: &Colours) -> Tint
     tint_of(colours.paint(if full.invert { full.fore } else { full.back }))
 }
 
-/// A paint in little room.
+/// A paint in little space.
 #[inline(always)]
 pub(crate) fn tint_of(paint: Paint) -> Tint
     ensures { result ≡ tint_of paint }

@@ -1,4 +1,4 @@
-//! Rows of looks in little room, each resolved from its own cells and the looks of the row above
+//! Rows of looks in little space, each resolved from its own cells and the looks of the row above
 //! it. It knows no pages, no control and no histories.
 #![tactic(auto)]
 

@@ -143,7 +143,7 @@ fn written_over<L: Ledger>(alloc: Global, blank: Blank) -> Result<TapeGlass, NoM
     Ok(glass)
 }
 
-/// The first place shows the first of its old signs again, and the pen stands behind it as before.
+/// The first place shows the first of its old signs again, and the pen stands after it as before.
 #[test]
 fn the_first_of_two_old_signs_is_noted(rt: HostRuntime) -> Result<(), Fail> {
     let glass = written_over::<Brand>(rt.alloc(), Blank::new(1))?;

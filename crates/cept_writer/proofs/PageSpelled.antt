@@ -307,7 +307,7 @@ header_anywhere [] p h x = tt
 header_anywhere (c ∷ cs) p (inl e) x = absurd cc
 header_anywhere (c ∷ cs) p (inr h) x = (tt, h, p.spelled Skip x.form)
 
--- the four entries of the DCLUT stand behind their header
+-- the four entries of the DCLUT stand after their header
 dclut_spelled : (x : Context) (a b c d : ℕ) → a < 32 → b < 32 → c < 32 → d < 32
     → AreSpelled x (command.ColourHeader true ∷ command.ColourStart 0 ∷ command.Dclut 0 a ∷ command.Dclut 1 b
     ∷ command.Dclut 2 c ∷ command.Dclut 3 d ∷ [])

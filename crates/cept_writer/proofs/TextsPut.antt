@@ -57,7 +57,7 @@ Gains-part s t u done line rest gs part =
       gains = subst (λ (l : List ℕ). Gains s l u) (sym e) (Gains-append s t u done (take n line) gs part.gains);
     }
 
--- a text was put in part behind one that was put
+-- a text was put in part after one that was put
 pub PutsText-failed : {X Y E : Type 0} {e f : E} (s t u : SinkState) (done line rest : List ℕ) → Gains s done t
     → t.faults ≡ s.faults → PutsText {X = X} {E = E} t line (Err e) u
     → PutsText {X = Y} {E = E} s ((done ++ line) ++ rest) (Err f) u
@@ -96,7 +96,7 @@ PutsText-join {X} {Y} {E} (Err e) s t u first more a b =
 
 -- ---- commands by numbers
 
--- the text goes on behind the next commands
+-- the text goes on after the next commands
 rest_of : (f : ℕ → List Command) (from n d : ℕ) → (rest : List Command)
     × (flat_map f (range_with_len from (n + d)) ≡ flat_map f (range_with_len from n) ++ rest)
 rest_of f from n zero = (

@@ -59,7 +59,7 @@ pub stop_concealing : spellings (cell_commands at_third false (whats.Marker (mar
 unfolding spelling
 stop_concealing = refl
 
--- entry 17 green, behind its header
+-- entry 17 green, after its header
 pub green_entry : spellings (with_colour_header (entry_commands 17 (paints.Ink (record { r = 0; g = 15; b = 0 }))))
     ≡ 0x1F ∷ 0x26 ∷ 0x20 ∷ 0x20 ∷ 0x1F ∷ 0x26 ∷ 0x31 ∷ 0x37 ∷ 0x52 ∷ 0x52 ∷ []
 unfolding spelling default_paints

@@ -215,7 +215,7 @@ row_ends = refl
 abbrev colour : ℕ → ℕ → NumberedColour
 colour n shade = record { number = n; colour = record { r = 0; g = shade; b = 0 } }
 
--- neighbours stand behind the number of the first, over the end of a table too
+-- neighbours stand after the number of the first, over the end of a table too
 pub entries_in_runs : spellings (flat_map colours_commands (chains is_next_entry (colour 1 0 ∷ colour 2 15 ∷ colour 4 15
     ∷ colour 7 0 ∷ colour 8 0 ∷ [])))
     ≡ 0x1F ∷ 0x26 ∷ 0x30 ∷ 0x31 ∷ 0x40 ∷ 0x40 ∷ 0x52 ∷ 0x52 ∷ 0x1F ∷ 0x26 ∷ 0x30 ∷ 0x34 ∷ 0x52 ∷ 0x52 ∷ 0x1F ∷ 0x26

@@ -12,7 +12,7 @@ code_of reaches.Signs n = commands.C1 n
 code_of reaches.Row n = commands.FullRow n
 code_of reaches.Screen n = commands.FullScreen n
 
--- commands behind their header; none where it stands alone
+-- commands after their header; none where it stands alone
 abbrev pub after_header : List Command → List Command
 after_header [] = []
 after_header (header ∷ []) = []

@@ -1,4 +1,5 @@
--- The entries and the patterns of the compact text piece by piece, each by the last one before it (own).
+-- The order in which a page is put (own): its colour entries and patterns, a piece for each, by the last one before it.
+-- `CompactCommands` defines the page. Private clauses alone cite what stands from "by what is kept of the last one" on.
 use Rattle.std.specs.Prelude.{ℕ, zero, suc, ◌+◌, Bool, false, List, [], ◌∷◌, ◌==◌, flat_map, Option, Some, None}
 use Rattle.std.specs.Prelude.{if◌then◌else◌}
 use Rattle.std.specs.List.{range_with_len}
@@ -21,7 +22,7 @@ abbrev pub later_of : {X : Type 0} → List X → List X → List X
 later_of [] earlier = earlier
 later_of (x ∷ more) earlier = x ∷ []
 
--- the last one of the first n numbers
+-- the last of what stands for the first n numbers
 unfoldable pub last_below : {X : Type 0} → (ℕ → List X) → ℕ → List X
 last_below of_number zero = []
 last_below of_number (suc n) = later_of (of_number n) (last_below of_number n)
@@ -38,7 +39,7 @@ pieces_in_turn piece of_number n =
 
 -- ---- colour entries
 
--- an entry, after its number where it isn't the next one
+-- an entry, after its number where none is before it or it isn't the next one
 abbrev pub entry_piece : List NumberedColour → NumberedColour → List Command
 entry_piece [] e = commands.ColourStart e.number ∷ commands.Entry e.number e.colour ∷ []
 entry_piece (d ∷ more) e =
@@ -56,7 +57,8 @@ abbrev pub headed_piece : CodedPattern → List Command
 headed_piece d =
     commands.DrcsHeader false (form_of d.pattern) ∷ commands.DrcsStart d.code ∷ commands.DrcsPattern d.code d.pattern ∷ []
 
--- after its header where its form is another one, and after its code there and where it isn't the next one
+-- a pattern, after its header and its code where none is before it or its form is another one, and after its code where
+-- it isn't the next one
 abbrev pub pattern_piece : List CodedPattern → CodedPattern → List Command
 pattern_piece [] d = headed_piece d
 pattern_piece (c ∷ more) d =
@@ -75,7 +77,7 @@ abbrev pub number_after : List NumberedColour → Option ℕ
 number_after [] = None
 number_after (d ∷ more) = Some (d.number + 1)
 
--- this number comes after that of the last entry
+-- this number comes directly after that of the last entry
 abbrev pub is_next_number : Option ℕ → ℕ → Bool
 is_next_number None i = false
 is_next_number (Some next) i = next == i
@@ -86,11 +88,12 @@ entry_after next e =
     if is_next_number next e.number then commands.Entry e.number e.colour ∷ []
     else commands.ColourStart e.number ∷ commands.Entry e.number e.colour ∷ []
 
--- none or one of them, and the number after the last one then
+-- none or one of them, by that number
 abbrev pub entries_after : Option ℕ → List NumberedColour → List Command
 entries_after next [] = []
 entries_after next (e ∷ more) = entry_after next e
 
+-- the number after that of the last entry then
 abbrev pub number_then : Option ℕ → List NumberedColour → Option ℕ
 number_then next [] = next
 number_then next (e ∷ more) = number_after (e ∷ more)
@@ -105,7 +108,7 @@ abbrev pub has_form : Option LastPattern → Form → Bool
 has_form None form = false
 has_form (Some last) form = same_form last.form form
 
--- this code comes after that of the last pattern
+-- this code comes directly after that of the last pattern
 abbrev pub is_code_next : Option LastPattern → ℕ → Bool
 is_code_next None code = false
 is_code_next (Some last) code = last.next == code
@@ -117,11 +120,12 @@ pattern_after last d =
     else commands.DrcsStart d.code ∷ commands.DrcsPattern d.code d.pattern ∷ [])
     else headed_piece d
 
--- none or one of them, and what is kept of the last one then
+-- none or one of them, by what is kept of the last one
 abbrev pub patterns_after : Option LastPattern → List CodedPattern → List Command
 patterns_after last [] = []
 patterns_after last (d ∷ more) = pattern_after last d
 
+-- what is kept of the last pattern then
 abbrev pub last_then : Option LastPattern → List CodedPattern → Option LastPattern
 last_then last [] = last
 last_then last (d ∷ more) = last_pattern (d ∷ more)

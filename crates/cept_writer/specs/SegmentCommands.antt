@@ -1,5 +1,5 @@
--- The commands that write cells in segments (own): neighbours of a row that can be written on after one another stand
--- behind one position, with their protection, their C1 set and their pen said once. Within a segment signs of one set
+-- The commands that write cells in segments (own): neighbours of a row that can be written on one after the other stand
+-- after one position, with their protection, their C1 set and their pen said once. Within a segment signs of one set
 -- stand together, and equal signs are repeated where that is shorter.
 use Rattle.std.specs.Prelude.{ℕ, ◌+◌, ◌*◌, Bool, true, false, not, ◌&&◌, List, [], ◌∷◌, ◌++◌, ◌==◌, nat_le, length, flat_map}
 use Rattle.std.specs.Prelude.{map, if◌then◌else◌}

@@ -1,4 +1,5 @@
--- The segments of a page piece by piece, a piece for each cell, by what stands left and right of it (own).
+-- The order in which a page is put (own): its segments, a piece for each cell, by what stands left and right of it.
+-- `SegmentCommands` defines the page. Private clauses alone cite this file, but for `pieces_below`, which a law cites.
 use Rattle.std.specs.Prelude.{ℕ, zero, suc, ◌+◌, Bool, true, false, List, [], ◌∷◌, ◌++◌, flat_map, if◌then◌else◌}
 use Rattle.std.specs.List.{range_with_len}
 use Rattle.cept_codes.specs.declared.cell.Cell.{Cell}
@@ -73,19 +74,19 @@ closing_in (whats.Serial g) = closing_commands g.set
 closing_in (whats.Parallel g pen) = closing_commands g.set
 closing_in _ = []
 
--- where the cell doesn't go on with a sign of the set before it
+-- what comes before the signs of a set, where the cell doesn't go on with signs of the same set
 abbrev pub opening_after : Link → What → List Command
 opening_after links.Apart what = opening_in what
 opening_after links.Segment what = opening_in what
 opening_after _ what = []
 
--- where the next one doesn't go on with a sign of this set
+-- what comes after them, where the next cell doesn't go on with a sign of this set
 abbrev pub closing_before : What → Link → List Command
 closing_before what links.Apart = closing_in what
 closing_before what links.Segment = closing_in what
 closing_before what _ = []
 
--- a sign and as many copies of it
+-- a sign and so many copies of it
 abbrev pub units_of : ℕ → Glyph → List Command
 units_of zero g = unit_commands g
 units_of (suc n) g = unit_commands g ++ units_of n g

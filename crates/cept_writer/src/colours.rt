@@ -16,7 +16,7 @@ use cept_outside::{Sink, WriteFault};
 use cept_profile::validity_is_kept;
 use cept_repaint::Screen;
 
-/// Whether this number comes after that of the last entry.
+/// Whether this number comes directly after that of the last entry.
 fn is_next_number(next: Option<u8>, i: u8) -> bool
     ensures { result ≡ is_next_number next i }
 {

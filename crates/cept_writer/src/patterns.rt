@@ -34,7 +34,7 @@ fn has_form(last: Option<LastPattern>, form: &Form) -> bool
     }
 }
 
-/// Whether this code comes after that of the last pattern.
+/// Whether this code comes directly after that of the last pattern.
 fn is_code_next(last: Option<LastPattern>, code: u8) -> bool
     ensures { result ≡ is_code_next last code }
 {

@@ -65,7 +65,7 @@ pub fn put_commands<T: Sink>(sink: &mut T, commands: &[Command]) -> Result<(), W
     put_commands_in(sink, &mut Text::new(), commands)
 }
 
-/// Puts the bytes of commands behind their header, nothing where it stands alone.
+/// Puts the bytes of commands after their header, nothing where it stands alone.
 pub fn put_headed<T: Sink>(sink: &mut T, commands: &[Command]) -> Result<(), WriteFault>
     requires few { length commands.now ≤ 72 }
     requires valid { AllValid commands.now }
