@@ -1,6 +1,6 @@
-"""Writes one file with the page editor and the decoder in it, to open in a browser: pages are written and drawn there, and all that it shows
-is what the decoder says of page and script. Nothing in it is fetched from elsewhere, nothing leaves the machine, and no script runs in it
-but the editor's own."""
+"""Writes one file with the page editor and the decoder in it, to open in a browser: pages are written and drawn there, and all that it
+shows is what the decoder says of page and script. Nothing in it is fetched from elsewhere, nothing leaves the machine, and no script runs
+in it but the editor's own."""
 import os
 import re
 

@@ -1,6 +1,6 @@
 """Writes one file with the viewer and the decoder in it, to open in a browser: stored pages that are dropped on it, opened or pasted are
-decoded there, several and whole folders too. Nothing in it is fetched from elsewhere, nothing leaves the machine, and no script runs in it but
-the viewer's own."""
+decoded there, several and whole folders too. Nothing in it is fetched from elsewhere, nothing leaves the machine, and no script runs in
+it but the viewer's own."""
 import base64
 import os
 import shutil

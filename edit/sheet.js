@@ -2,7 +2,7 @@
 //
 // A long page or a long script needs no rerun at each key: `edit` puts what page and script have come to as bytes, which stand in the
 // place of both from then on, and only the lines after these run. The next action begins with a line that sets control back to its start
-// there, so that page and lines before it, and the bytes, lead to the same. An undo that reaches behind that line is answered with
+// there, so that page and lines before it, and the bytes, lead to the same. An undo that reaches back past that line is answered with
 // `nothing`, and then the whole script runs again; so it does after a change by hand of what stands before.
 (function (tamligub) {
   "use strict";
@@ -15,7 +15,7 @@
   const isEdit = (line) => line !== "" && !line.startsWith("#");
   const textOf = (lines) => lines.map((line) => `${line}\n`).join("");
 
-  // Whether each line of these that isn't undone stands behind one that sets control back: whatever control was before, they do the same.
+  // Whether each line of these that isn't undone stands after one that sets control back: whatever control was before, they do the same.
   function areAnew(lines) {
     let [kept, undone] = [0, 0];
     for (const line of lines.filter(isEdit)) {
@@ -126,7 +126,7 @@
 
     ran(lines) {
       const { course, at } = this.asker.traceTo(...this.standing(lines), this.known);
-      // Behind the bytes there is no past; before a script there is none either.
+      // Before the bytes there is no past; before a script there is none either.
       if (this.base && this.base.count && course.nothings.length) {
         this.base = this.baseOfPage(lines);
         this.ran(lines);

@@ -1,4 +1,4 @@
-/* The heap of the module for the web, in the place of malloc: blocks are put behind one another, beginning at the end of the memory as
+/* The heap of the module for the web, in the place of malloc: blocks are put one after another, beginning at the end of the memory as
  * the host made it, and only the last one can grow or be given back. So the host grows the memory for what it hands in first, and a
  * module serves one call. What the three functions must do is the contract of the kit's heap (rattle/libc/src/heap.rt). It exports
  * nothing: an export would make a table of functions. */

@@ -27,7 +27,7 @@ enum {
 enum {
     TAMLIGUB_DONE = 0,       /* the page was read to its end, and nothing in it is refused */
     TAMLIGUB_REFUSALS = 1,   /* the page was read to its end, and something in it is refused; the text is whole */
-    TAMLIGUB_USAGE = 2,      /* there is no such word, or it takes something else than is given, or no such number; no text */
+    TAMLIGUB_USAGE = 2,      /* no such word, or it takes something else than is given (but for 4), or no such number; no text */
     TAMLIGUB_BAD_SCRIPT = 3, /* a line of the script can't be read; the text says which */
     TAMLIGUB_UNREAD = 4,     /* a number is given where the word takes a page or a script */
     TAMLIGUB_NO_ROOM = 5,    /* the text is longer than `room`: its front was put */
@@ -42,7 +42,7 @@ enum {
  *   given   one of the numbers above
  *   number  0 to 4294967295; looked at only where a number is given
  *   page    0 to 2^24 bytes; looked at only where a page is given, as is the script, which has 0 to 2^20
- *   out     the text is put at its front, which has room for `room` bytes, of which 2^32 - 1 are used at most; what stands behind
+ *   out     the text is put at its front, which has room for `room` bytes, of which 2^32 - 1 are used at most; what stands after
  *           the text stays
  *   put     how many bytes of text were put, at most `room`
  *

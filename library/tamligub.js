@@ -1,6 +1,6 @@
 // The program as a function, in browsers and in Node: run(module, word, { page, script, number }) answers { status, text }.
 // `module` is a WebAssembly.Module made of tamligub.wasm. A call has an instance of its own, and so keeps nothing; what is handed in
-// is put behind the module's own memory, for which the memory is grown first. Where the text doesn't fit (status 5) it asks again
+// is put after the module's own memory, for which the memory is grown first. Where the text doesn't fit (status 5) it asks again
 // with more room.
 "use strict";
 

@@ -398,7 +398,7 @@ def a_bad_line_is_told(hand):
         assert hand.text("script-fault").startswith(f"Zeile {said}"), hand.text("script-fault")
         files = hand.written("stored.btx", b""), hand.written("bad.txt", bad.encode())
         assert hand.put("edit", *files, wanted=(3,)).decode() == f"script line {said}\n"
-    # Nothing is added behind a bad line.
+    # Nothing is added after a bad line.
     hand.tab.value("Tamligub.part('typing').focus()")
     hand.type("x")
     assert hand.script() == "raw 1C\n" and "berichtigen" in hand.text("fault"), hand.text("fault")
