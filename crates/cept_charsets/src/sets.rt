@@ -120,6 +120,27 @@ impl Sets {
         self.single = Some(g);
     }
 
+    /// Which of G0 to G3 is locked to the left bytes, 0 to 3.
+    pub fn left(&self) -> u8
+        ensures { result ≡ self.now.left }
+    {
+        self.left
+    }
+
+    /// Which of G1 to G3 is locked to the right bytes, 1 to 3.
+    pub fn right(&self) -> u8
+        ensures { result ≡ self.now.right }
+    {
+        self.right
+    }
+
+    /// Which of G2 and G3 a single shift that waits takes, 2 or 3; `None` where none waits.
+    pub fn waiting(&self) -> Option<u8>
+        ensures { result ≡ self.now.single }
+    {
+        self.single
+    }
+
     /// What a graphic byte gives, 20 to 7F or A0 to FF, where `run` says whether a mosaic run is
     /// on.
     pub fn graphic(&mut self, byte: u8, run: bool) -> Read
@@ -136,7 +157,8 @@ impl Sets {
         read_as(set, code_of(byte))
     }
 
-    fn set_in(&self, g: u8) -> SetId
+    /// The set that is designated to G0, G1, G2 or G3, by its number 0 to 3; a greater one means G3.
+    pub fn set_in(&self, g: u8) -> SetId
         ensures { result ≡ set_in self.now g }
     {
         match g {

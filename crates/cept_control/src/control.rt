@@ -9,7 +9,8 @@ ghost use Rattle.cept_profile.specs.Valid.{IsValidControl};
 
 use crate::working::Working;
 use arrayvec::ArrayVec;
-use cept_codes::{Command, Pos, Stroke, Up};
+use cept_charsets::Sets;
+use cept_codes::{C1Set, Command, Pen, Pos, Stroke, Up};
 use std::marker::Model;
 
 /// The state of control: the position, the sets, a waiting accent, the pen and the modes.
@@ -110,6 +111,48 @@ impl Control {
         ensures column { result.column ≡ self.now.working.column }
     {
         Pos::new(self.working.row, self.working.column).unwrap()
+    }
+
+    /// The C1 set in force.
+    pub fn c1(&self) -> C1Set
+        ensures c1 { result ≡ self.now.working.c1 }
+    {
+        self.working.c1
+    }
+
+    /// The sets that are designated, and the shifts in force.
+    pub fn sets(&self) -> Sets
+        ensures sets { result ≡ self.now.working.sets }
+    {
+        self.working.sets
+    }
+
+    /// The accent that waits for its sign, 4/0 to 4/15, `None` where none waits.
+    pub fn accent(&self) -> Option<u8>
+        ensures accent { result ≡ self.now.working.accent }
+    {
+        self.working.accent
+    }
+
+    /// The attributes with which signs are written under the parallel set.
+    pub fn pen(&self) -> Pen
+        ensures pen { result ≡ self.now.working.pen }
+    {
+        self.working.pen
+    }
+
+    /// The colour table from which colours are taken, 0 to 3.
+    pub fn table(&self) -> u8
+        ensures table { result ≡ self.now.working.table }
+    {
+        self.working.table
+    }
+
+    /// Whether cells that are written become protected.
+    pub fn protect(&self) -> bool
+        ensures protect { result ≡ self.now.working.protect }
+    {
+        self.working.protect
     }
 
     /// How many rows the page has, 24 or 20.

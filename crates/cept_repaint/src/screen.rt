@@ -392,8 +392,8 @@ impl Screen {
         self.page.patterns().get(code)
     }
 
-    /// The control, where it stands.
-    pub(crate) fn control(&self) -> &Control
+    /// The state beside the page, where it stands: the position, the sets, the pen and the modes.
+    pub fn control(&self) -> &Control
         ensures control { result.now ≡ self.now.control }
         ensures valid { IsValidState self.now }
     {
