@@ -51,6 +51,14 @@ def unknown(word):
     return 2
 
 
+def program_for(beside):
+    """The path of the program; of an unproved one that nobody has named it says so."""
+    path = program.found(beside)
+    if path == program.QUICK and not os.environ.get("BTX_PROGRAM"):
+        say(f"this program is unproved and slow, as ./build --quick keeps it; {program.PROVES}")
+    return path
+
+
 def pass_through(path, word, words):
     """Runs the program with its words, and says on standard error what its status means."""
     status = subprocess.run([path, word, *words], close_fds=False).returncode
@@ -87,14 +95,14 @@ def run(words, beside):
         return 2
     word, rest = words[0], words[1:]
     if word in program.WORDS and rest[:1] not in (["--help"], ["-h"]):
-        return pass_through(program.found(beside), word, rest)
+        return pass_through(program_for(beside), word, rest)
     if not word.startswith("-") and word not in program.WORDS and word not in OWN:
         return unknown(word)
     if words == archive.WORKER:
         return archive.work(program.found(beside))
     options = parser.parse_args(words)
     options.beside = beside
-    path = None if options.word in BY_THEMSELVES else program.found(beside)
+    path = None if options.word in BY_THEMSELVES else program_for(beside)
     return own(path, OWN[options.word], options)
 
 

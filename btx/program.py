@@ -1,6 +1,7 @@
-"""The proved program: where it is, its words, and running it."""
+"""The program: where it is, its words, and running it."""
 import contextlib
 import os
+import shlex
 import shutil
 import stat
 import subprocess
@@ -9,6 +10,13 @@ import tempfile
 ROOT = os.path.dirname(os.path.dirname(os.path.abspath(__file__)))
 CRATE = os.path.join(ROOT, "crates", "cept_tool")
 NAME = "cept_tool"
+BUILD = os.path.join(ROOT, "build")
+# Where `./build --quick` keeps the program as `rt try` compiles it: unproved.
+QUICK = os.path.join(ROOT, "out", "quick", NAME)
+PROOF = "about 40 minutes on four processors"
+PROVES = f"{shlex.quote(BUILD)} proves and builds it, in {PROOF}"
+KEEPS = f"{shlex.quote(BUILD)} --quick keeps an unproved one, in about a minute"
+NEEDED = {"rt": "the Rattle kit with its command rt", "wasm-opt": "wasm-opt (Debian: apt-get install binaryen)"}
 
 # Each word of the program: what stands after it, and what it puts.
 WORDS = {
@@ -41,20 +49,48 @@ class Ended(Exception):
         self.word, self.words, self.status = word, words, status
 
 
-def found(beside):
-    """The program's path: BTX_PROGRAM, or beside this command, or in the checkout."""
+def is_there(path):
+    return os.access(path, os.X_OK) and os.path.isfile(path)
+
+
+def build_needs(*tools):
+    """What a build needs that isn't on this machine, as a sentence ends."""
+    absent = [NEEDED[tool] for tool in tools if not shutil.which(tool)]
+    return f"; that needs {' and '.join(absent)}, which this machine doesn't have" if absent else ""
+
+
+def standing(beside):
+    """The path of the proved program, or None: BTX_PROGRAM, or beside this command, or in the checkout."""
     named = os.environ.get("BTX_PROGRAM")
     if named:
         path = shutil.which(named)
         if path:
             return os.path.abspath(path)
         raise Missing(f"BTX_PROGRAM is {named}, and no program is there")
-    for path in (os.path.join(beside, NAME), os.path.join(CRATE, "out", NAME)):
-        if os.access(path, os.X_OK) and os.path.isfile(path):
-            return path
-    if os.path.isdir(CRATE):
-        raise Missing(f"the proved program isn't built; this builds it:\n    (cd {CRATE} && rt run -- show data/welcome)")
-    raise Missing(f"the proved program isn't beside this command, in {beside}; BTX_PROGRAM can name it")
+    return next(filter(is_there, (os.path.join(beside, NAME), os.path.join(CRATE, "out", NAME))), None)
+
+
+def missing(beside, *ways):
+    """Why no program was found, and the ways in which it can be built."""
+    if not os.path.exists(BUILD):
+        return Missing(f"the proved program isn't beside this command, in {beside}; BTX_PROGRAM can name it")
+    return Missing(f"the program isn't built: {', and '.join(ways)}{build_needs('rt')}")
+
+
+def proved(beside):
+    """The path of the proved program."""
+    path = standing(beside)
+    if path is None:
+        raise missing(beside, PROVES)
+    return path
+
+
+def found(beside):
+    """The path of the proved program, or else of the unproved one that `./build --quick` keeps."""
+    path = standing(beside) or (QUICK if is_there(QUICK) else None)
+    if path is None:
+        raise missing(beside, PROVES, KEEPS)
+    return path
 
 
 def put(program, word, *words):

@@ -3,8 +3,6 @@ decoded there, several and whole folders too. Nothing in it is fetched from else
 it but the viewer's own."""
 import base64
 import os
-import shutil
-import subprocess
 import sys
 
 from btx import html, program
@@ -12,13 +10,12 @@ from btx import html, program
 SUMMARY = "a file that shows stored pages that are dropped on it, in a browser"
 LIBRARY = os.path.join(program.ROOT, "library")
 MODULE = os.path.join(LIBRARY, "out", "tamligub.wasm")
-MAKER = os.path.join(LIBRARY, "web")
 NOT_THERE = 127
 
 
 def arguments(parser):
     parser.add_argument("-o", "--output", metavar="FILE", help="where to write it; without this to standard output")
-    parser.add_argument("--module", metavar="MODULE", help="a tamligub.wasm that library/web has made; without this that of library/out")
+    parser.add_argument("--module", metavar="MODULE", help="a tamligub.wasm that library/build has made; without this that of library/out")
 
 
 def caller():
@@ -50,30 +47,19 @@ def html_with(module):
     return f"{head}{html.DATA}\n{data_of(module)}\n{inside(scripts)}\n{tail.lstrip()}"
 
 
-def absent():
-    """Why the module isn't there and can't be made here, or None where library/web can be asked to make it."""
-    if not os.path.exists(MAKER):
+def missing():
+    """What is said where the module isn't there."""
+    if not os.path.exists(program.BUILD):
         return f"the decoder's module isn't installed, in {MODULE}; --module can name it"
-    if not shutil.which("rt"):
-        return "the decoder's module isn't built, and the Rattle kit that makes it (library/web) isn't on this machine; --module can name one"
-    return None
-
-
-def made(word):
-    """Whether library/web has made the module; it proves the library first, and says itself what it lacks."""
-    print(f"btx: {word}: library/web makes the module, and proves the library first, which can take minutes", file=sys.stderr)
-    done = subprocess.run([MAKER, os.path.dirname(MODULE)], stdin=subprocess.DEVNULL, stdout=sys.stderr, close_fds=False)
-    return done.returncode == 0 and os.path.exists(MODULE)
+    return f"the decoder's module isn't built: {program.PROVES}{program.build_needs('rt', 'wasm-opt')}; --module can name one"
 
 
 def write(options, document_with):
-    """Writes the document that stands over the module, which is made where it isn't there."""
+    """Writes the document that stands over the module."""
     path = options.module or MODULE
     if not options.module and not os.path.exists(path):
-        why = absent()
-        if why or not made(options.word):
-            print(f"btx: {options.word}: {why or 'the module was not made'}", file=sys.stderr)
-            return NOT_THERE
+        print(f"btx: {options.word}: {missing()}", file=sys.stderr)
+        return NOT_THERE
     with open(path, "rb") as file:
         document = document_with(file.read())
     with html.output(options.output) as file:

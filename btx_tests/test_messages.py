@@ -1,6 +1,5 @@
 """What btx says of each status. The statuses, limits and reasons are those of the man page of cept_tool."""
 import os
-import shutil
 import signal
 import subprocess
 
@@ -132,16 +131,8 @@ class Messages(stand.Case):
             output, error = run.communicate(timeout=60)
         self.assertEqual((run.returncode, output, error), (-signal.SIGINT, b"", b""))
 
-    def test_a_program_that_is_not_built(self):
-        # A tree without the program, as a fresh clone is.
-        tree = self.path("clone")
-        for part in ("bin", "btx"):
-            shutil.copytree(os.path.join(stand.ROOT, part), os.path.join(tree, part))
-        os.makedirs(os.path.join(tree, "crates", "cept_tool"))
-        command = os.path.join(tree, "bin", "btx")
-        environment = {name: value for name, value in stand.environment().items() if name != "BTX_PROGRAM"}
-        self.ends(["show", "x"], 127, f"(cd {tree}/crates/cept_tool && rt run -- show data/welcome)", command=command, env=environment)
-        self.ends(["show", "x"], 127, "BTX_PROGRAM is nowhere", env={**environment, "BTX_PROGRAM": "nowhere"})
+    def test_a_program_that_is_named_and_not_there(self):
+        self.ends(["show", "x"], 127, "BTX_PROGRAM is nowhere", env=stand.environment(BTX_PROGRAM="nowhere"))
 
     def test_help_and_version(self):
         for word in ("changes", "check", "show", "cells", "write", "trace", "edit", "plot", "gen", "load", "terminal", "html", "png"):

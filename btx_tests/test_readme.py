@@ -18,44 +18,54 @@ class Readme(stand.Case):
         block = re.search(r"```sh\n(.*?)```", HEAD, re.DOTALL)[1]
         return [re.sub(r"\s+#.*", "", line) for line in block.splitlines()]
 
-    def clone(self):
-        """A copy of what a clone has, and the program where `rt run` leaves it."""
+    def tree(self):
+        """A fresh clone: a copy of what is kept of this tree."""
         tree = self.path("clone")
-        ignored = shutil.ignore_patterns("out", ".git", "__pycache__", "proofs", "specs")
-        shutil.copytree(stand.ROOT, tree, ignore=ignored)
+        shutil.copytree(stand.ROOT, tree, ignore=shutil.ignore_patterns("out", ".git", "__pycache__", "proofs", "must-fail"))
+        return tree
+
+    def clone(self):
+        """A clone with the program where `./build` leaves it."""
+        tree = self.tree()
         os.makedirs(os.path.join(tree, "crates", "cept_tool", "out"))
         shutil.copy(stand.program, os.path.join(tree, "crates", "cept_tool", "out", "cept_tool"))
         return tree
 
-    def run_in(self, tree, command):
+    def run_in(self, tree, command, **more):
         bare = {name: value for name, value in stand.environment().items() if name != "BTX_PROGRAM"}
-        keys = {"stdout": subprocess.PIPE, "stderr": subprocess.PIPE, "timeout": 120, "env": bare, "cwd": tree}
-        return subprocess.run(["bash", "-c", command], **keys)
+        keys = {"stdin": subprocess.DEVNULL, "stdout": subprocess.PIPE, "stderr": subprocess.PIPE, "timeout": 120, "env": bare, "cwd": tree}
+        return subprocess.run(["bash", "-c", command], **{**keys, **more})
 
-    def test_it_says_what_it_is_in_three_lines_and_shows_the_picture(self):
+    def test_it_says_what_it_is_in_three_lines_and_what_rt_is_in_two(self):
         parts = HEAD.split("\n\n")
-        self.assertEqual(len(parts[1].splitlines()), 3)
-        picture = re.fullmatch(r"!\[[^\]]+\]\(([^)]+)\)", parts[2])
+        self.assertEqual([len(part.splitlines()) for part in parts[1:3]], [3, 2])
+        self.assertTrue(parts[2].startswith("`rt` is "))
+        self.assertTrue(parts[3].startswith("```sh"))
+        picture = re.fullmatch(r"!\[[^\]]+\]\(([^)]+)\)", parts[4])
         self.assertTrue(os.path.exists(os.path.join(stand.ROOT, picture[1])))
-        self.assertIn("`.ci/run`", HEAD)
 
-    def test_the_first_command_is_that_which_builds(self):
-        first, second = self.commands()
-        folder, page = re.fullmatch(r"\(cd (\S+) && rt run -- show (\S+)\)", first).groups()
+    def test_the_commands_show_a_page_prove_and_run_the_gate(self):
+        first, quick, build, gate = self.commands()
+        folder, page = re.fullmatch(r"\(cd (\S+) && rt try -- show (\S+)\)", first).groups()
         self.assertTrue(os.path.exists(os.path.join(stand.ROOT, folder, page)))
-        self.assertEqual(second, "bin/btx terminal pages/title.btx")
+        self.assertEqual((quick, build, gate), ("./build --quick && bin/btx terminal pages/title.btx", "./build", ".ci/run"))
+        for command in ("build", ".ci/run"):
+            self.assertTrue(os.access(os.path.join(stand.ROOT, command), os.X_OK))
+        for line, said in zip(re.search(r"```sh\n(.*?)```", HEAD, re.DOTALL)[1].splitlines(), ("a minute", "a minute", "40 minutes", "hour")):
+            self.assertIn(said, line)
 
-    def test_without_the_program_the_second_command_names_the_first(self):
-        tree = self.clone()
-        shutil.rmtree(os.path.join(tree, "crates", "cept_tool", "out"))
-        first, second = self.commands()
-        done = self.run_in(tree, second)
-        self.assertEqual(done.returncode, 127)
-        self.assertIn(first.replace("cd ", f"cd {tree}/"), done.stderr.decode())
+    def test_a_fresh_clone_shows_a_page(self):
+        """By the second command, which has the kit run the first."""
+        if not stand.there("rt"):
+            self.skipTest("the Rattle kit is not on this machine")
+        done = self.run_in(self.tree(), self.commands()[1], timeout=400)
+        self.assertEqual(done.returncode, 0, done.stderr.decode())
+        self.assertIn("B I L D S C H I R M T E X T", done.stdout.decode())
+        self.assertEqual(done.stderr.decode().count("unproved"), 1)
 
     def test_each_command_of_btx_runs(self):
         tree = self.clone()
-        commands = [self.commands()[1], *re.findall(r"`(bin/btx [^`]+)`", HEAD)]
+        commands = [self.commands()[1].split(" && ")[1], *re.findall(r"`(bin/btx [^`]+)`", HEAD)]
         commands = [re.sub(r"--replay \d+", "--replay 1000000", command) for command in commands if shlex.split(command)[1:]]
         self.assertGreater(len(commands), 4)
         for command in commands:

@@ -19,9 +19,9 @@ def why_not():
     targets = subprocess.run([clang, "--print-targets"], stdout=subprocess.PIPE, stderr=subprocess.DEVNULL, timeout=60).stdout
     if b"wasm64" not in targets:
         return "the clang of the kit has no WebAssembly on this machine"
-    if not os.path.exists(os.path.join(stand.ROOT, "crates", "tamligub", "out", "libtamligub.a")):
+    if not os.path.exists(os.path.join(LIBRARY, "out", "libtamligub.a")):
         return "the library isn't proved (library/build library/out)"
-    return "the module isn't made (library/web library/out)"
+    return "the module isn't made (library/build library/out, with binaryen)"
 
 
 class Viewer(stand.Case):
