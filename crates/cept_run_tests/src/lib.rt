@@ -1,22 +1,12 @@
-//! Tests of whole runs: worked pages and scripts, an outside that fails, and hostile pages. Nothing
-//! calls it.
+//! Tests of whole runs, of what no run of the built program shows: an outside that fails at any call, glasses
+//! and a display of one's own, and quiet runs. Nothing calls it.
 #![tactic(auto)]
 
 #[cfg(test)]
-mod flash;
+mod glasses;
 #[cfg(test)]
 mod hostile;
 #[cfg(test)]
-mod pages;
-#[cfg(test)]
-mod plot;
-#[cfg(test)]
-mod revision;
-#[cfg(test)]
-mod run;
+mod quiet;
 #[cfg(test)]
 mod running;
-#[cfg(test)]
-mod sizes;
-#[cfg(test)]
-mod tables;

@@ -1,14 +1,14 @@
 //! Runs, as the tests take them. No function here has a clause: a test sees what a run left, and nothing of
 //! the contract of `run`.
 
-use cept_outside::{MemShelf, MemSink, QuietShelf, QuietSink, Shelf, Sink};
+use cept_outside::{MemShelf, MemSink, Shelf, Sink};
 use cept_repaint::{Glass, GridGlass};
-use cept_run::run::{Status, run, run_quietly};
+use cept_run::run::{Status, run};
 use std::alloc::{AllocError, Global};
 use std::test::Fail;
 
 /// These words, as a program is given them.
-fn words(alloc: Global, all: &[&str]) -> Result<Vec<String>, AllocError> {
+pub(crate) fn words(alloc: Global, all: &[&str]) -> Result<Vec<String>, AllocError> {
     let mut words = Vec::new(alloc);
     for word in all {
         words.push(String::from_str(alloc, word)?)?;
@@ -26,6 +26,20 @@ pub(crate) fn run_words<F: Shelf, T: Sink, G: Glass>(
 ) -> Result<Status, Fail> {
     let request = words(alloc, request)?;
     Ok(run(alloc, &request, shelf, sink, glass))
+}
+
+/// A shelf with these files, whose call of this number fails, where it isn't 0.
+fn shelf_of(alloc: Global, page: &[u8], script: &[u8], read: u32) -> Result<MemShelf, Fail> {
+    let mut shelf = MemShelf::new(alloc);
+    shelf.add("page", page)?;
+    shelf.add("script", script)?;
+    shelf.fail_at(read);
+    Ok(shelf)
+}
+
+/// A shelf with a page alone.
+pub(crate) fn shelf_with(alloc: Global, page: &[u8]) -> Result<MemShelf, Fail> {
+    shelf_of(alloc, page, b"", 0)
 }
 
 /// Which call of the shelf fails and which of the sink, counted from 1, where they aren't 0, and how many
@@ -60,42 +74,11 @@ pub(crate) fn tried(
     script: &[u8],
     outside: Outside,
 ) -> Result<Ended, Fail> {
-    let mut shelf = MemShelf::new(alloc);
-    shelf.add("page", page)?;
-    shelf.add("script", script)?;
-    shelf.fail_at(outside.read);
+    let mut shelf = shelf_of(alloc, page, script, outside.read)?;
     let mut sink = MemSink::new(alloc, outside.room)?;
     sink.fail_at(outside.write);
     let mut glass = GridGlass::new(alloc)?;
     let status = run_words(alloc, request, &mut shelf, &mut sink, &mut glass)?;
-    Ok(Ended {
-        status,
-        put: Vec::from_slice(alloc, sink.bytes())?,
-        glass,
-    })
-}
-
-/// Runs a word on a page, where nothing fails.
-pub(crate) fn tried_page(alloc: Global, word: &str, page: &[u8]) -> Result<Ended, Fail> {
-    tried(alloc, &[word, "page"], page, b"", SOUND)
-}
-
-/// Runs these words quietly on a page, and answers the status and how many bytes were put.
-pub(crate) fn tried_quietly(
-    alloc: Global,
-    request: &[&str],
-    page: &[u8],
-) -> Result<(Status, u64), Fail> {
-    let request = words(alloc, request)?;
-    let mut shelf = QuietShelf::new(alloc);
-    shelf.add("page", page)?;
-    let mut sink = QuietSink::new();
-    let mut glass = GridGlass::new(alloc)?;
-    let status = run_quietly(alloc, &request, &mut shelf, &mut sink, &mut glass);
-    Ok((status, sink.count()))
-}
-
-/// How many lines were put.
-pub(crate) fn count_lines(put: &[u8]) -> usize {
-    put.iter().filter(|byte| **byte == b'\n').count()
+    let put = Vec::from_slice(alloc, sink.bytes())?;
+    Ok(Ended { status, put, glass })
 }

@@ -1,6 +1,6 @@
 -- as many bytes were pushed as the loop has seen, and the input hasn't ended
 use Rattle.std.proofs.Common.{◌≡◌, false}
-use Rattle.cept_tests.proofs.pages.items_of.Given as goal
+use Rattle.cept_parser_tests.proofs.sweep.items_of.Given as goal
 
 abbrev pub invariant-loop-byte : goal.invariant-loop-byte
 invariant-loop-byte l =
