@@ -1,5 +1,5 @@
-/* A decoder and page editor for Bildschirmtext (videotex, CEPT profile 1) as one function. Link libtamligub.a, and nothing but a
- * C library.
+/* A decoder and page editor for Bildschirmtext (videotex, CEPT profile 1): the whole program as one function, and a decoder that is fed
+ * bytes as they come. Link libtamligub.a, and nothing but a C library.
  *
  * A page is a stored page as bytes, as it came over the line. A script is a text of lines, each an edit of the page, such as
  * "at 1 2" or "text XY", or "undo" or "redo". A drawing is a text of lines, each a figure, such as "line 0 0 79 71"; it is handed in as
@@ -7,12 +7,15 @@
 #ifndef TAMLIGUB_H
 #define TAMLIGUB_H
 
+#include <stdbool.h>
 #include <stddef.h>
 #include <stdint.h>
 
 #ifdef __cplusplus
 extern "C" {
 #endif
+
+/* ---- The program as a function ---- */
 
 /* What is given after the word. Any other number means TAMLIGUB_NOTHING. */
 enum {
@@ -52,6 +55,126 @@ enum {
 uint32_t tamligub_run(const uint8_t *word, size_t word_length, uint32_t given, uint32_t number,
                       const uint8_t *page, size_t page_length, const uint8_t *script, size_t script_length,
                       uint8_t *out, size_t room, uint64_t *put);
+
+/* ---- A decoder that is fed bytes as they come ----
+ *
+ * Whatever pieces the bytes come in, it says the same as the word `changes` does of the whole page: for each item in turn the places that
+ * it changes, with their new looks, or its refusal. Each call may be made at any time and in any order, also on a decoder that isn't open,
+ * whose page has ended, or that was closed before. What the host must see to:
+ *
+ * - A decoder begins with all of it zero, and from then on these functions alone write into it. It isn't copied while it is open. No two
+ *   calls have the same one at a time, and it stays on the thread that opened it; different ones may be used by different threads.
+ * - No pointer is null, not even where the length is 0, and none leads into what another one leads to.
+ * - All that a call may write to was written before, with anything: a list of notices may begin as zeros. What stands behind the notices
+ *   that are put stays as it is.
+ * - The room for notices is that for a byte, or for a phase of flashing, or more. Where it is less nothing is done.
+ *
+ * A decoder takes all its memory by malloc when it is opened, about 580 KB; after that only tamligub_write takes some, and gives it back.
+ * Where a call answers 1 no more was done than that `notices` is 0. */
+
+/* A decoder, where one is open: begin with = {0}. */
+typedef struct {
+    void *at;
+    bool is_open;
+} tamligub_decoder;
+
+/* For how many notices there must be room: one byte, or the end of the page, ends two items at most, each of which changes 960 places at
+ * most; a phase of flashing changes 960 at most. */
+enum { TAMLIGUB_ROOM_FOR_A_BYTE = 1920, TAMLIGUB_ROOM_FOR_A_PHASE = 960 };
+
+/* A colour: red, green and blue, 0 to 15 each; behind is 1 where what lies behind the screen is shown. */
+typedef struct {
+    uint8_t red, green, blue, behind;
+} tamligub_colour;
+
+/* What is drawn at a place: kind 0 nothing, 1 a sign, 2 a downloaded pattern. A sign has its set (0 primary, 1 supplementary, 2 and 3
+ * mosaics, 4 downloaded), its code, 0x20 to 0x7F, and the code of its accent, or 0. */
+typedef struct {
+    uint8_t kind, set, code, accent;
+} tamligub_sign;
+
+/* A downloaded pattern of w by h pixels in 1, 2 or 4 planes; all 0 where there is none. The pixel of plane p, line y and column x is bit n
+ * of `bits`, counted from the lowest bit of the first word on, where n is (p * h + y) * w + x. With 2 or 4 planes there are 4 or 16 inks,
+ * the colours of the values of a pixel, of which plane 0 is the lowest bit. With one plane there are none: a pixel is the foreground. */
+typedef struct {
+    uint64_t bits[9];
+    uint8_t w, h, planes, inks;
+    tamligub_colour colours[16];
+} tamligub_pattern;
+
+/* What an item says. Kind 1: a place looks otherwise now. Kind 2: bytes are refused. What is said of the other kind alone is 0. */
+typedef struct {
+    uint64_t at;                   /* how many bytes stand before the item */
+    uint8_t kind;
+    uint8_t length, reason;        /* 2: how many bytes, and why: 1 to 7, as in cept_tool(1) */
+    uint8_t row, column;           /* 1: 1 to 24 from the top, 1 to 40 from the left */
+    tamligub_sign sign;            /* 1, and so all that follows */
+    uint8_t dy, dx, w, h;          /* how far down and right the place is in its sign, of w by h places, 1 or 2 each */
+    tamligub_colour fore, back;
+    uint8_t flash;                 /* 0 steady, 1 plain, 2 inverted, 3 reduced, 4 to 6 the fast ones */
+    uint8_t conceal, lined, boxed; /* 0 or 1 */
+    tamligub_pattern pattern;
+} tamligub_notice;
+
+/* Attributes that the codes of the parallel C1 set have set for the next signs; 255 stands for one that isn't set. */
+typedef struct {
+    uint8_t fore, back;            /* entries of the colour table, 0 to 31 */
+    uint8_t flash;                 /* as in a notice */
+    uint8_t conceal, lined, boxed; /* 0 or 1 */
+    uint8_t size;                  /* 0 normal, 1 twice as high, 2 twice as wide, 3 both */
+    uint8_t invert;                /* 0 or 1 */
+} tamligub_pen;
+
+/* Where a decoder stands. */
+typedef struct {
+    uint64_t fed;                  /* how many bytes were taken */
+    uint8_t pending, ended;        /* how many of the last ones are no item yet; 1 where the page has ended */
+    uint8_t row, column;           /* the active position */
+    uint8_t rows, wrap;            /* how many rows the format has, 20 or 24; 1 where a line goes on in the next one */
+    uint8_t first, last;           /* the rows of the scrolling area, 0 and 0 where there is none */
+    uint8_t implicit, revision;    /* 1 where it scrolls at its edges; the revision of the rules, 1 or 2 */
+    uint8_t c1;                    /* the C1 set: 0 serial, 1 parallel */
+    uint8_t g[4], left, right;     /* the sets G0 to G3, numbered as in a sign; which of the four left and right bytes take, 0 to 3 */
+    uint8_t single, accent;        /* which of them the next byte alone takes, or 0; the accent that waits for its sign, or 0 */
+    uint8_t table, protect;        /* the colour table, 0 to 3; 1 where what is written is protected */
+    tamligub_pen pen;
+} tamligub_decoder_state;
+
+/* Opens a decoder before the first byte; one that is open is closed first. Answers 0, or 6 where there is no memory: none is open then. */
+uint32_t tamligub_open(tamligub_decoder *decoder);
+
+/* Feeds bytes, as long as `list` has room for as many more notices as one byte may need. Puts the notices at the front of `list`, which
+ * has room for `room` of them, and their number in `notices`, and answers how many bytes were taken. It takes none, and nothing is done,
+ * where no decoder is open, the page has ended, `room` is too little, or 2^32 bytes were taken. */
+uint64_t tamligub_feed(tamligub_decoder *decoder, const uint8_t *bytes, size_t length, tamligub_notice *list, size_t room,
+                       uint64_t *notices);
+
+/* Ends the page: puts the notices of the item that is left at the front of `list`, and their number in `notices`. Answers 0; or 1 where no
+ * decoder is open, the page had ended, or `room` is below TAMLIGUB_ROOM_FOR_A_BYTE. */
+uint32_t tamligub_finish(tamligub_decoder *decoder, tamligub_notice *list, size_t room, uint64_t *notices);
+
+/* Puts the look at a place in `notice`, as of an item that has all bytes before it that were taken; what flashes is as it was fed. Answers
+ * 0; or 1 where no decoder is open or there is no such place. */
+uint32_t tamligub_look(tamligub_decoder *decoder, uint8_t row, uint8_t column, tamligub_notice *notice);
+
+/* Puts in `state` where the decoder stands. Answers 0; or 1 where none is open. */
+uint32_t tamligub_state(tamligub_decoder *decoder, tamligub_decoder_state *state);
+
+/* Puts the page as bytes, as the word `write` does, at the front of `out`, which has room for `room` of them, and their number in `put`.
+ * Answers 0; 1 where no decoder is open; 5 where there is no room for all of them; 6 where there is no memory. In the last three cases
+ * `put` is 0 and `out` stays. */
+uint32_t tamligub_write(tamligub_decoder *decoder, uint8_t *out, size_t room, uint64_t *put);
+
+/* What flashes looks otherwise from one of six phases to the next, as under the word `flash`; when they come is for the host to say. The
+ * first call begins the first phase over a blank display, and puts all places that aren't blank. The second begins the next phase, after
+ * the last one the first again, and puts the places that are shown otherwise: a place that was fed since the phase began shows its look as
+ * it was fed. Without the first call the second begins the first phase over what was fed. Both answer 0; or 1 where no decoder is open or
+ * `room` is below TAMLIGUB_ROOM_FOR_A_PHASE. */
+uint32_t tamligub_flash_start(tamligub_decoder *decoder, tamligub_notice *list, size_t room, uint64_t *notices);
+uint32_t tamligub_flash_turn(tamligub_decoder *decoder, tamligub_notice *list, size_t room, uint64_t *notices);
+
+/* Closes a decoder and gives its memory back; where none is open nothing is done. */
+void tamligub_close(tamligub_decoder *decoder);
 
 #ifdef __cplusplus
 }

@@ -1,11 +1,25 @@
-// The program as a function, in browsers and in Node: run(module, word, { page, script, number }) answers { status, text }.
-// `module` is a WebAssembly.Module made of tamligub.wasm. A call has an instance of its own, and so keeps nothing; what is handed in
-// is put after the module's own memory, for which the memory is grown first. Where the text doesn't fit (status 5) it asks again
-// with more room.
+// The program, in browsers and in Node, over a WebAssembly.Module made of tamligub.wasm.
+//
+// run(module, word, { page, script, number }) answers { status, text }. A call has an instance of its own, and so keeps nothing; what is
+// handed in is put after the module's own memory, for which the memory is grown first. Where the text doesn't fit (status 5) it asks
+// again with more room.
+//
+// new Decoder(module) is a decoder that is fed bytes as they come, and so is new Decoder(instance), of which one instance may have many:
+//
+//   feed(bytes)         the notices of what these bytes say, in an array
+//   finish()            those of the end of the page
+//   look(row, column)   how a place looks, as a notice
+//   state()             what the decoder keeps beside the page
+//   write()             the page as bytes
+//   flashStart()        the places seen at the start of flashing; flashTurn(): those that the next turn changes
+//   close()             gives its memory back
+//
+// Notices and states are objects with the fields of tamligub.h; where there is no pattern it is null. What can't be done is thrown.
 "use strict";
 
 const PAGE_OF_MEMORY = 65536;
 const NO_ROOM = 5;
+const NO_MEMORY = 6;
 const MOST_ROOM = 1 << 29;
 
 // What is given: nothing, a page, a page and a script, a number, a page and a number.
@@ -41,4 +55,185 @@ function run(module, word, things = {}) {
     }
 }
 
-if (typeof exports !== "undefined") exports.run = run;
+// ---- decoders ----
+
+const ROOM_FOR_A_BYTE = 1920;
+const ROOM = 2 * ROOM_FOR_A_BYTE;
+const BYTES_AT_ONCE = 4096;
+const SIZE_OF_HANDLE = 16;
+const SIZE_OF_NOTICE = 184;
+const SIZE_OF_STATE = 40;
+const PATTERN = 2;
+
+function fieldsAt(view, at, names) {
+    return Object.fromEntries(names.map((name, number) => [name, view.getUint8(at + number)]));
+}
+
+function colourAt(view, at) {
+    return fieldsAt(view, at, ["red", "green", "blue", "behind"]);
+}
+
+function patternAt(view, at) {
+    const bits = Array.from({ length: 9 }, (_, number) => view.getBigUint64(at + 8 * number, true));
+    const colours = Array.from({ length: 16 }, (_, number) => colourAt(view, at + 76 + 4 * number));
+    return { bits, ...fieldsAt(view, at + 72, ["w", "h", "planes", "inks"]), colours };
+}
+
+function noticeAt(view, at) {
+    const sign = fieldsAt(view, at + 13, ["kind", "set", "code", "accent"]);
+    return {
+        at: Number(view.getBigUint64(at, true)),
+        ...fieldsAt(view, at + 8, ["kind", "length", "reason", "row", "column"]),
+        sign,
+        ...fieldsAt(view, at + 17, ["dy", "dx", "w", "h"]),
+        fore: colourAt(view, at + 21),
+        back: colourAt(view, at + 25),
+        ...fieldsAt(view, at + 29, ["flash", "conceal", "lined", "boxed"]),
+        pattern: sign.kind === PATTERN ? patternAt(view, at + 40) : null,
+    };
+}
+
+function stateAt(view, at) {
+    return {
+        fed: Number(view.getBigUint64(at, true)),
+        ...fieldsAt(view, at + 8, ["pending", "ended", "row", "column", "rows", "wrap", "first", "last", "implicit", "revision", "c1"]),
+        g: Array.from({ length: 4 }, (_, number) => view.getUint8(at + 19 + number)),
+        ...fieldsAt(view, at + 23, ["left", "right", "single", "accent", "table", "protect"]),
+        pen: fieldsAt(view, at + 29, ["fore", "back", "flash", "conceal", "lined", "boxed", "size", "invert"]),
+    };
+}
+
+// What the decoders of an instance share: room for what one call hands in and out, and places for what the module keeps of each.
+class Shared {
+    constructor(instance) {
+        this.wasm = instance.exports;
+        this.number = this.grown(8 + SIZE_OF_STATE + BYTES_AT_ONCE + ROOM * SIZE_OF_NOTICE);
+        this.record = this.number + 8;
+        this.bytes = this.record + SIZE_OF_STATE;
+        this.list = this.bytes + BYTES_AT_ONCE;
+        this.out = this.list;
+        this.room = ROOM * SIZE_OF_NOTICE;
+        this.handles = [];
+    }
+
+    // Memory of the host's own: the heap of the module keeps away from it.
+    grown(size) {
+        return this.wasm.memory.grow(Math.ceil(size / PAGE_OF_MEMORY)) * PAGE_OF_MEMORY;
+    }
+
+    handle() {
+        if (this.handles.length === 0) {
+            const page = this.grown(PAGE_OF_MEMORY);
+            for (let at = page; at < page + PAGE_OF_MEMORY; at += SIZE_OF_HANDLE) this.handles.push(at);
+        }
+        return this.handles.pop();
+    }
+
+    // More room for a page as bytes.
+    makeRoom() {
+        this.out = this.grown(2 * this.room);
+        this.room *= 2;
+    }
+
+    view() {
+        return new DataView(this.wasm.memory.buffer);
+    }
+
+    put() {
+        return Number(this.view().getBigUint64(this.number, true));
+    }
+
+    notices() {
+        const view = this.view();
+        return Array.from({ length: this.put() }, (_, number) => noticeAt(view, this.list + number * SIZE_OF_NOTICE));
+    }
+}
+
+const shared = new WeakMap();
+
+function sharedOf(instance) {
+    if (!shared.has(instance)) shared.set(instance, new Shared(instance));
+    return shared.get(instance);
+}
+
+class Decoder {
+    constructor(host) {
+        this.shared = sharedOf(host instanceof WebAssembly.Instance ? host : new WebAssembly.Instance(host));
+        this.handle = this.shared.handle();
+        if (this.call("tamligub_open") !== 0) {
+            this.close();
+            throw new Error("there is no memory for a decoder");
+        }
+    }
+
+    // A call of the module; its pointers and lengths are BigInt.
+    call(name, ...things) {
+        if (this.handle === null) throw new Error("the decoder is closed");
+        return this.shared.wasm[name](BigInt(this.handle), ...things);
+    }
+
+    // The notices of a call that puts them into the list.
+    noticesOf(name, fault) {
+        const { list, number } = this.shared;
+        if (this.call(name, ...[list, ROOM, number].map(BigInt)) !== 0) throw new Error(fault);
+        return this.shared.notices();
+    }
+
+    feed(bytes) {
+        const { wasm, bytes: at, list, number } = this.shared;
+        let said = [];
+        while (bytes.length > 0) {
+            const piece = bytes.subarray(0, BYTES_AT_ONCE);
+            new Uint8Array(wasm.memory.buffer).set(piece, at);
+            const taken = Number(this.call("tamligub_feed", ...[at, piece.length, list, ROOM, number].map(BigInt)));
+            if (taken === 0) throw new Error("the decoder takes no more bytes");
+            said = said.concat(this.shared.notices());
+            bytes = bytes.subarray(taken);
+        }
+        return said;
+    }
+
+    finish() {
+        return this.noticesOf("tamligub_finish", "the page has ended");
+    }
+
+    look(row, column) {
+        const { list } = this.shared;
+        if (this.call("tamligub_look", row, column, BigInt(list)) !== 0) throw new RangeError("there is no such place");
+        return noticeAt(this.shared.view(), list);
+    }
+
+    state() {
+        const { record } = this.shared;
+        this.call("tamligub_state", BigInt(record));
+        return stateAt(this.shared.view(), record);
+    }
+
+    write() {
+        const { number } = this.shared;
+        for (;;) {
+            const { out, room } = this.shared;
+            const status = this.call("tamligub_write", ...[out, room, number].map(BigInt));
+            if (status === NO_MEMORY) throw new Error("there is no memory for the page");
+            if (status !== NO_ROOM) return new Uint8Array(this.shared.wasm.memory.buffer, out, this.shared.put()).slice();
+            this.shared.makeRoom();
+        }
+    }
+
+    flashStart() {
+        return this.noticesOf("tamligub_flash_start");
+    }
+
+    flashTurn() {
+        return this.noticesOf("tamligub_flash_turn");
+    }
+
+    close() {
+        if (this.handle === null) return;
+        this.call("tamligub_close");
+        this.shared.handles.push(this.handle);
+        this.handle = null;
+    }
+}
+
+if (typeof exports !== "undefined") Object.assign(exports, { run, Decoder });

@@ -1,2 +1,6 @@
+mod BlockValues
+mod NoticesRead
+mod Taken
 mod Texts
 mod Reports
+mod ReportsTold

@@ -1,2 +1,5 @@
 pub mod Words
 pub mod Called
+pub mod Decoders
+pub mod Owned
+pub mod Told

@@ -1,8 +1,15 @@
-//! The program as one function for C and for the web: a word, a page and a script in slices, and room for
-//! the text. It keeps nothing between calls.
+//! The program for C and for the web: as one function over a word, a page and a script in slices, with room
+//! for the text, that keeps nothing between calls; and as a decoder that is fed bytes as they come.
 #![tactic(auto)]
 
+mod block;
 mod calling;
+mod handle;
+mod law;
+mod live;
+#[cfg(test)]
+mod live_tests;
+mod parts;
 #[cfg(test)]
 mod tests;
 mod words;
@@ -12,6 +19,7 @@ ghost use Rattle.tamligub.specs.Called.{Called, FaultReported, FrontReported, Is
 ghost use Rattle.tamligub.specs.Called.{room_in};
 
 use crate::calling::call;
+pub use law::{notices_are_read_back, what_is_told_is_the_report};
 use std::alloc::Global;
 
 /// Runs the program on a word and what is given after it: 0 nothing, 1 the page, 2 the page and the

@@ -1,0 +1,16 @@
+//! A decoder that is fed bytes as they come, and tells which places each item changes, in records of
+//! one size. It makes no texts but a written page, and knows no host and no clock.
+#![tactic(auto)]
+
+mod flashing;
+mod law;
+mod live;
+mod notice;
+mod state;
+mod tell;
+mod writing;
+
+pub use law::{displays_show_what_is_told, lines_of_sayings, pieces_tell_the_same};
+pub use live::{Fed, Live, ROOM_FOR_A_BYTE, ROOM_FOR_A_PHASE};
+pub use notice::{Colour, Notice, Pixels, Sign};
+pub use state::{DecoderState, PenRecord, UNSET};

@@ -1,0 +1,323 @@
+//! A decoder that keeps its place between pieces of a page.
+ghost use Rattle.std.specs.Prelude.{◌≡◌, ℕ, ◌+◌, ◌*◌, ◌^◌, ◌<◌, ◌≤◌, ◌⊎◌, ◌∷◌, [], length, take};
+ghost use Rattle.std.specs.Prelude.{true, false, IfOk, IfSome, IsNone};
+ghost use Rattle.cept_codes.specs.Look.{blank_look};
+ghost use Rattle.cept_codes.specs.Table.{table};
+ghost use Rattle.cept_profile.specs.Changes.{look_at};
+ghost use Rattle.cept_profile.specs.Look.{looks_of};
+ghost use Rattle.cept_profile.specs.State.{core_of};
+ghost use Rattle.cept_writer.specs.CompactCommands.{page_text};
+
+use crate::flashing::{tell_phase, tell_turned, turn_on};
+use crate::notice::Notice;
+use crate::state::DecoderState;
+use crate::tell::take_items;
+use crate::writing::put_page;
+use cept_codes::{NoMemory, Pos};
+use cept_flash::Blink;
+use cept_outside::Steps;
+use cept_parser::{Closed, Parser};
+use cept_repaint::{GridGlass, Marks, Screen};
+use std::alloc::Global;
+use std::marker::{Brand, Model};
+use std::sync::ledger::{Blank, Ledger};
+
+/// How many notices one byte may need: it closes two items at most, each of 960 places at most.
+pub const ROOM_FOR_A_BYTE: usize = 1920;
+
+/// How many notices a phase of flashing may need.
+pub const ROOM_FOR_A_PHASE: usize = 960;
+
+/// How many bytes were taken, and how many notices were put.
+#[derive(Clone, Copy, Debug, PartialEq, Eq)]
+pub struct Fed {
+    pub taken: usize,
+    pub notices: usize,
+}
+
+/// A decoder, the screen of its commands, and the looks that flash on it. All its memory is taken at
+/// the start.
+#[derive(Drop)]
+pub struct Live {
+    parser: Parser,
+    screen: Screen,
+    glass: GridGlass,
+    marks: Marks,
+    closed: Closed,
+    ended: bool,
+    blink: Blink,
+    phase: Option<u8>,
+    renewed: Marks,
+    fresh: bool,
+}
+
+impl Model for Live {
+    ghost use Rattle.cept_live.specs.Live.{LiveState};
+    ghost use Rattle.cept_live.specs.Inside.{IsInStep};
+
+    ghost Value = { LiveState };
+
+    ghost view = { λ l. record {
+      parser = l.parser;
+      screen = l.screen;
+      phase = l.phase;
+      renewed = l.renewed;
+    } };
+
+    ghost invariant = { λ l. IsInStep l.parser l.screen l.phase l.ended l.blink l.fresh };
+}
+
+impl Live {
+    ghost use Rattle.cept_live.specs.Live.{HasFed, Feeds, FeedsNothing, Ends, Stays, Stops, TakesNoMore, live_start};
+    ghost use Rattle.cept_live.specs.Notices.{change_notice};
+    ghost use Rattle.cept_live.specs.Shown.{Begins, phase_after, shown};
+    ghost use Rattle.cept_live.specs.States.{state_record};
+    ghost use Rattle.cept_live.specs.Written.{Writes};
+
+    /// A decoder before the first byte.
+    pub fn new(alloc: Global) -> Result<Live, NoMemory>
+        ensures start { IfOk result (λ live. live ≡ live_start) }
+        ensures fed { IfOk result (λ live. HasFed live []) }
+    {
+        Ok(Live {
+            parser: Parser::new(),
+            screen: Screen::new(alloc)?,
+            glass: GridGlass::new(alloc)?,
+            marks: Marks::new(),
+            closed: Closed::new(),
+            ended: false,
+            blink: Blink::new(alloc)?,
+            phase: None,
+            renewed: Marks::new(),
+            fresh: false,
+        })
+    }
+
+    /// Feeds one byte, and tells what its items say from a place of the list on. Answers where that
+    /// ends.
+    fn feed_byte<L: Ledger>(
+        &mut self,
+        byte: u8,
+        list: &mut [Notice],
+        from: usize,
+        steps: &mut Steps<L>,
+    ) -> usize
+        requires running { self.old.parser.finished ≡ false }
+        requires few { self.old.parser.place < 2 ^ 32 }
+        requires room { from + 1920 ≤ length list.old }
+        ensures feeds { Feeds self.old (byte ∷ []) list.old from self.new result list.new }
+        ensures running { self.new.parser.finished ≡ false }
+        ensures most { result ≤ from + 1920 }
+    {
+        self.parser.push_into(byte, &mut self.closed);
+        self.fresh = false;
+        take_items(
+            self.closed.as_slice(),
+            &mut self.screen,
+            &mut self.glass,
+            &mut self.marks,
+            steps,
+            &mut self.renewed,
+            list,
+            from,
+        )
+    }
+
+    /// Whether it takes more bytes: the page has not ended, and fewer than 2^32 were fed.
+    fn takes_more(&self) -> bool
+        ensures more { result ≡ true
+            → (self.now.parser.finished ≡ false) × (self.now.parser.place < 2 ^ 32) }
+        ensures no_more { result ≡ false → TakesNoMore self.now }
+    {
+        !self.ended && self.parser.place() < 1 << 32
+    }
+
+    /// Feeds bytes, as long as there is room for all that the next one may change.
+    fn feed_counted<L: Ledger>(
+        &mut self,
+        bytes: &[u8],
+        list: &mut [Notice],
+        steps: &mut Steps<L>,
+    ) -> Fed
+        ensures feeds { Feeds self.old (take result.taken bytes.now) list.old 0 self.new
+            result.notices list.new }
+        ensures most { result.taken ≤ length bytes.now }
+        ensures room { result.notices ≤ length list.old }
+        ensures stops { Stops bytes.now list.new result.taken result.notices self.new }
+        ensures refused { TakesNoMore self.old ⊎ (length list.old < 1920)
+            → FeedsNothing self.old list.old result.taken result.notices self.new list.new }
+    {
+        let mut taken = 0usize;
+        let mut notices = 0usize;
+        while taken < bytes.len() && list.len() - notices >= ROOM_FOR_A_BYTE && self.takes_more() {
+            notices = self.feed_byte(bytes[taken], list, notices, steps);
+            taken += 1;
+        }
+        Fed { taken, notices }
+    }
+
+    /// Feeds with a ledger that nobody reads.
+    fn feed_by<L: Ledger>(&mut self, bytes: &[u8], list: &mut [Notice], blank: Blank) -> Fed
+        requires name { blank.name ≡ L.name }
+        requires parts { blank.parts ≡ L.parts }
+        requires some { 0 < blank.parts }
+        ensures feeds { Feeds self.old (take result.taken bytes.now) list.old 0 self.new
+            result.notices list.new }
+        ensures most { result.taken ≤ length bytes.now }
+        ensures room { result.notices ≤ length list.old }
+        ensures stops { Stops bytes.now list.new result.taken result.notices self.new }
+        ensures refused { TakesNoMore self.old ⊎ (length list.old < 1920)
+            → FeedsNothing self.old list.old result.taken result.notices self.new list.new }
+    {
+        let mut steps = Steps::<L>::new(blank);
+        self.feed_counted(bytes, list, &mut steps)
+    }
+
+    /// Feeds bytes, as long as there is room for all that the next one may change, and tells what
+    /// their items say from the start of the list on. What stands there after the notices stays.
+    pub fn feed(&mut self, bytes: &[u8], list: &mut [Notice]) -> Fed
+        ensures feeds { Feeds self.old (take result.taken bytes.now) list.old 0 self.new
+            result.notices list.new }
+        ensures most { result.taken ≤ length bytes.now }
+        ensures room { result.notices ≤ length list.old }
+        ensures stops { Stops bytes.now list.new result.taken result.notices self.new }
+        // It takes none where there is no room for all that the first may change, or no more are taken.
+        ensures refused { TakesNoMore self.old ⊎ (length list.old < 1920)
+            → FeedsNothing self.old list.old result.taken result.notices self.new list.new }
+    {
+        let blank = Blank::new(1);
+        self.feed_by::<Brand>(bytes, list, blank)
+    }
+
+    /// Ends the page and tells what its last item says.
+    fn end_by<L: Ledger>(&mut self, list: &mut [Notice], blank: Blank) -> usize
+        requires running { self.old.parser.finished ≡ false }
+        requires room { 1920 ≤ length list.old }
+        requires name { blank.name ≡ L.name }
+        requires parts { blank.parts ≡ L.parts }
+        requires some { 0 < blank.parts }
+        ensures { Ends self.old list.old 0 self.new result list.new }
+    {
+        let mut steps = Steps::<L>::new(blank);
+        let items = self.parser.finish();
+        self.ended = true;
+        self.fresh = false;
+        take_items(
+            items.as_slice(),
+            &mut self.screen,
+            &mut self.glass,
+            &mut self.marks,
+            &mut steps,
+            &mut self.renewed,
+            list,
+            0,
+        )
+    }
+
+    /// Whether the page has ended.
+    pub fn has_ended(&self) -> bool
+        ensures { result ≡ self.now.parser.finished }
+    {
+        self.ended
+    }
+
+    /// Ends the page, and tells what its last item says from the start of the list on. Answers how
+    /// many notices were put; none where the page had ended before, or the list has room for fewer
+    /// than 1,920: all stays then.
+    pub fn finish(&mut self, list: &mut [Notice]) -> Option<usize>
+        ensures ends { IfSome result (λ notices. Ends self.old list.old 0 self.new notices
+            list.new) }
+        ensures causes { IsNone result → (self.old.parser.finished ≡ true)
+            ⊎ (length list.old < 1920) }
+        ensures stays { IsNone result → Stays self.old list.old self.new list.new }
+    {
+        if self.has_ended() || list.len() < ROOM_FOR_A_BYTE {
+            return None;
+        }
+        let blank = Blank::new(1);
+        Some(self.end_by::<Brand>(list, blank))
+    }
+
+    /// The look at a place as it was fed, as a notice after the bytes fed so far.
+    pub fn notice_at(&self, at: Pos) -> Notice
+        ensures { result ≡ change_notice self.now.parser.place at
+            (look_at (looks_of (core_of self.now.screen)) at) }
+    {
+        Notice::of_change(self.parser.place(), at, &self.screen.look(at))
+    }
+
+    /// Where it stands.
+    pub fn state(&self) -> DecoderState
+        ensures { result ≡ state_record self.now }
+    {
+        let pending = self.parser.pending() as u8;
+        DecoderState::of(
+            self.parser.place(),
+            pending,
+            self.ended,
+            self.screen.control(),
+        )
+    }
+
+    /// Puts the page, written, at the front of `out`, where there is room for all of it, and answers
+    /// how many bytes it has; `None` where it is longer than `out`, which stays.
+    pub fn write(&self, alloc: Global, out: &mut [u8]) -> Result<Option<usize>, NoMemory>
+        ensures { Writes (page_text (core_of self.now.screen)) out.old result out.new }
+    {
+        put_page(alloc, &self.screen, out)
+    }
+
+    /// Begins the first phase of flashing over a blank display: tells the places that are not blank
+    /// at it, with their looks there, from the start of the list on. Answers how many; none where the
+    /// list has room for fewer than 960: all stays then.
+    pub fn flash_start(&mut self, list: &mut [Notice]) -> Option<usize>
+        ensures begins { IfSome result (λ notices. Begins self.old (table (λ _ _. blank_look)) 0
+            list.old self.new notices list.new) }
+        ensures cause { IsNone result → length list.old < 960 }
+        ensures stays { IsNone result → Stays self.old list.old self.new list.new }
+    {
+        if list.len() < ROOM_FOR_A_PHASE {
+            return None;
+        }
+        self.blink.start(&self.screen, &mut self.marks);
+        self.renewed.clear();
+        self.phase = Some(0);
+        self.fresh = true;
+        Some(tell_phase(self.parser.place(), &self.marks, &self.blink, list))
+    }
+
+    /// Begins the next phase of flashing over what is shown, after the last the first, and where none
+    /// had begun the first: tells the places that are shown otherwise at it, with their looks there,
+    /// from the start of the list on. Answers how many; none where the list has room for fewer than
+    /// 960: all stays then.
+    pub fn flash_turn(&mut self, list: &mut [Notice]) -> Option<usize>
+        ensures begins { IfSome result (λ notices. Begins self.old (shown self.old)
+            (phase_after self.old.phase) list.old self.new notices list.new) }
+        ensures cause { IsNone result → length list.old < 960 }
+        ensures stays { IsNone result → Stays self.old list.old self.new list.new }
+    {
+        if list.len() < ROOM_FOR_A_PHASE {
+            return None;
+        }
+        turn_on(
+            &mut self.blink,
+            &self.screen,
+            self.phase,
+            self.fresh,
+            &mut self.marks,
+        );
+        let to = tell_turned(
+            self.parser.place(),
+            self.phase,
+            &self.renewed,
+            &self.marks,
+            &self.screen,
+            &self.blink,
+            list,
+        );
+        self.renewed.clear();
+        self.phase = Some(self.blink.phase());
+        self.fresh = true;
+        Some(to)
+    }
+}

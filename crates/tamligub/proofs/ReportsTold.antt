@@ -1,0 +1,100 @@
+-- The lines of what the items of a page say are the report of `changes`.
+use Rattle.std.proofs.Common.{◌≡◌, ℕ, List, [], ◌∷◌, ◌++◌, map, take, refl, sym, ap, ◌∙◌, append-nil}
+use Rattle.std.specs.List.{flat_map}
+use Rattle.std.proofs.lemmas.Grind.{flat_map-append}
+use Rattle.std.proofs.lemmas.List.{map-append}
+use Rattle.cept_codes.specs.declared.command.Command.{Command}
+use Rattle.cept_codes.specs.declared.item.Item.{Item}
+use Rattle.cept_codes.specs.declared.item.Said.{Said}
+use Rattle.cept_codes.specs.declared.item.Said.TheVariants as said
+use Rattle.cept_codes.specs.declared.look.Look.{Look}
+use Rattle.cept_parser.specs.Items.{closed_items, commands_of, items, reading_within}
+use Rattle.cept_profile.specs.Changes.{changes_between}
+use Rattle.cept_profile.specs.Look.{grid}
+use Rattle.cept_report.specs.Text.{change_lines}
+use Rattle.cept_editor.specs.Events.{Event, report}
+use Rattle.cept_live.specs.declared.notice.Notice.{Notice}
+use Rattle.cept_live.specs.Lines.{item_lines, line_of, lines_after, lines_of, said_lines}
+use Rattle.cept_live.specs.Live.{Ends, HasFed, LiveState, TellsAll}
+use Rattle.cept_live.specs.Notices.{Saying, notice_of, sayings_after}
+use Rattle.cept_live.proofs.Laws.{lines_of-items, sayings_after-append}
+use Rattle.cept_run.specs.declared.words.Asked.{Asked}
+use Rattle.cept_run.specs.declared.words.PageAction.TheVariants as pages
+use Rattle.cept_run.specs.Events.{end_event, history, item_events, nothing_more, remaining_of, run_events}
+use Rattle.cept_run.specs.Events.{script_events, text_of_said}
+use Rattle.cept_run.specs.Words.{asked_of_page}
+use Rattle.cept_run.proofs.EventsOfItems.{events_after, history-command, item_events-after}
+use Rattle.tamligub.specs.Told.{lines_in}
+use Rattle.tamligub.proofs.NoticesRead.{saying_read}
+
+abbrev asked : Asked
+asked = asked_of_page pages.Changes
+
+-- ---- of items
+
+-- the text of an item's event
+text_told : (earlier : List Item) (item : Item) (s : Said) → item.what ≡ s
+    → text_of_said asked item s (changes_between (grid (history asked earlier)) (grid (history asked (earlier ++ item ∷ []))))
+    ≡ said_lines item (commands_of earlier) s
+text_told earlier item (said.Command command) is =
+    ap (λ (h : List Command). change_lines item.at (changes_between (grid (commands_of earlier)) (grid h)))
+    (history-command asked earlier item command refl is)
+text_told earlier item (said.Refused reason) is = refl
+
+texts_told : (earlier more : List Item) → flat_map (λ (e : Event). e.text) (events_after asked earlier more) ≡ lines_after earlier more
+unfolding events_after lines_after
+texts_told earlier [] = refl
+texts_told earlier (item ∷ more) =
+    ap (λ l. l ++ flat_map (λ (e : Event). e.text) (events_after asked (earlier ++ item ∷ []) more)) (text_told earlier item item.what refl)
+    ∙ ap (λ l. item_lines earlier item ++ l) (texts_told (earlier ++ item ∷ []) more)
+
+-- ---- of a whole page
+
+report-items : (page : List ℕ) (shown : List (List Look))
+    → report (run_events asked page nothing_more shown) ≡ flat_map (λ (e : Event). e.text) (item_events asked (closed_items page))
+unfolding report script_events
+report-items page shown =
+    ap (flat_map (λ (e : Event). e.text)) (ap (λ (l : List Event). l ++ end_event asked shown page (remaining_of asked page nothing_more) ∷ [])
+    (append-nil (item_events asked (closed_items page))))
+    ∙ flat_map-append (λ (e : Event). e.text) (item_events asked (closed_items page))
+    (end_event asked shown page (remaining_of asked page nothing_more) ∷ [])
+    ∙ append-nil _
+
+pub lines_of-page : (page : List ℕ) (shown : List (List Look))
+    → lines_of (sayings_after [] (closed_items page)) ≡ report (run_events asked page nothing_more shown)
+lines_of-page page shown =
+    lines_of-items [] (closed_items page) ∙ sym (texts_told [] (closed_items page))
+    ∙ ap (flat_map (λ (e : Event). e.text)) (sym (item_events-after asked (closed_items page))) ∙ sym (report-items page shown)
+
+-- ---- of notices
+
+lines_in-notices : (list : List Saying) → lines_in (map notice_of list) ≡ lines_of list
+lines_in-notices [] = refl
+lines_in-notices (s ∷ ss) =
+    ap (λ (t : Saying). line_of t ++ lines_in (map notice_of ss)) (saying_read s) ∙ ap (λ l. line_of s ++ l) (lines_in-notices ss)
+
+no_items : items [] ≡ []
+unfolding reading_within
+no_items = refl
+
+-- what is told of all bytes of a page and of its end
+notices_told : (page : List ℕ) (closed left : List Item) (notices more : List Notice) → items page ≡ items [] ++ closed
+    → notices ≡ map notice_of (sayings_after (items []) closed) → closed_items page ≡ items page ++ left
+    → more ≡ map notice_of (sayings_after (items page) left)
+    → notices ++ more ≡ map notice_of (sayings_after [] (closed_items page))
+notices_told page closed left notices more are is ends is_more =
+    let all : items page ≡ closed = are ∙ ap (λ (l : List Item). l ++ closed) no_items in
+    ap (λ l. l ++ more) (is ∙ ap (λ (l : List Item). map notice_of (sayings_after l closed)) no_items)
+    ∙ ap (λ l. map notice_of (sayings_after [] closed) ++ l) (is_more ∙ ap (λ (l : List Item). map notice_of (sayings_after l left)) all)
+    ∙ sym (map-append notice_of (sayings_after [] closed) (sayings_after closed left))
+    ∙ ap (map notice_of) (sym (sayings_after-append [] closed left)
+    ∙ ap (sayings_after []) (ap (λ (l : List Item). l ++ left) (sym all) ∙ sym ends))
+
+pub lines_in-page : (page : List ℕ) (shown : List (List Look)) (old mid new : LiveState) (notices other after : List Notice) (to : ℕ)
+    → HasFed old [] → TellsAll old page notices → HasFed mid page → Ends mid other 0 new to after
+    → lines_in (notices ++ take to after) ≡ report (run_events asked page nothing_more shown)
+lines_in-page page shown old mid new notices other after to opened told fed ended =
+    let one = told.tells [] opened in
+    let two = ended.tells page fed in
+    ap lines_in (notices_told page one.0 two.closed notices (take to after) one.1 one.2 two.are two.tells.front)
+    ∙ lines_in-notices (sayings_after [] (closed_items page)) ∙ lines_of-page page shown

@@ -1,0 +1,71 @@
+-- What calls do to a decoder that C keeps. This project's own.
+use Rattle.std.specs.Prelude.{◌≡◌, ◌⊎◌, ◌<◌, ◌≤◌, ℕ, true, false, List, length}
+use Rattle.cept_codes.specs.declared.look.Look.{Look}
+use Rattle.cept_codes.specs.Look.{blank_look}
+use Rattle.cept_codes.specs.Place.{Place, OnScreen}
+use Rattle.cept_codes.specs.Table.{table}
+use Rattle.cept_live.specs.declared.notice.Notice.{Notice}
+use Rattle.cept_live.specs.Live.{LiveState, TakesNoMore}
+use Rattle.cept_live.specs.Notices.{change_notice}
+use Rattle.cept_live.specs.Written.{IsPut}
+use Rattle.cept_profile.specs.Changes.{look_at}
+use Rattle.cept_profile.specs.Look.{looks_of}
+use Rattle.cept_profile.specs.State.{core_of}
+use Rattle.cept_writer.specs.CompactCommands.{page_text}
+use Rattle.tamligub.specs.declared.handle.Decoder.{Decoder}
+
+-- ---- what is left as it was
+
+-- a decoder is open, or not, as it was, and one that is open is in the state that it was in
+pub record IsKept (old new : Decoder) : Type 0 where
+  pub is_open : new.is_open ≡ old.is_open
+  pub state : old.is_open ≡ true → new.block.value ≡ old.block.value
+
+-- nothing is done: the decoder is kept, the list stays, and it has no notice
+pub record IsRefused (old new : Decoder) (list now : List Notice) (notices : ℕ) : Type 0 where
+  pub kept : IsKept old new
+  pub stays : now ≡ list
+  pub none : notices ≡ 0
+
+-- ---- why nothing is done
+
+-- no byte is taken: no decoder is open, it takes no more, or the list has no room for what one byte may change
+abbrev pub TakesNone : Decoder → List Notice → Type 0
+TakesNone decoder list = (decoder.is_open ≡ false) ⊎ (TakesNoMore decoder.block.value ⊎ (length list < 1920))
+
+-- a page can't end: no decoder is open, it has ended, or the list has no room for what its end may change
+abbrev pub CannotEnd : Decoder → List Notice → Type 0
+CannotEnd decoder list =
+    (decoder.is_open ≡ false) ⊎ ((decoder.block.value.parser.finished ≡ true) ⊎ (length list < 1920))
+
+-- there is no look: no decoder is open, or there is no such place
+abbrev pub HasNoLook : Decoder → Place → Type 0
+HasNoLook decoder place = (decoder.is_open ≡ false) ⊎ ¬ (OnScreen place.row place.column)
+
+-- no phase can begin: no decoder is open, or the list has no room for what a phase may change
+abbrev pub CannotFlash : Decoder → List Notice → Type 0
+CannotFlash decoder list = (decoder.is_open ≡ false) ⊎ (length list < 960)
+
+-- ---- what is told
+
+-- the look of a state at a place, after all bytes that were taken
+abbrev pub notice_at : LiveState → Place → Notice
+notice_at live place = change_notice live.parser.place place (look_at (looks_of (core_of live.screen)) place)
+
+-- a display before anything is shown
+abbrev pub blank_display : List (List Look)
+blank_display = table (λ _ _. blank_look)
+
+-- the page of a state, as bytes
+abbrev pub page_of : LiveState → List ℕ
+page_of live = page_text (core_of live.screen)
+
+-- the page was put: 0 and all of it; or it wasn't, and nothing was put: 1, no decoder is open; 5, there is no room for it; 6, there
+-- was no memory
+pub record PutsPage (decoder : Decoder) (old new : List ℕ) (put answer : ℕ) : Type 0 where
+  pub answers : (answer ≡ 0) ⊎ ((answer ≡ 1) ⊎ ((answer ≡ 5) ⊎ (answer ≡ 6)))
+  pub whole : answer ≡ 0 → (decoder.is_open ≡ true) × IsPut (page_of decoder.block.value) old put new
+  pub closed : answer ≡ 1 → decoder.is_open ≡ false
+  pub longer : answer ≡ 5 → (decoder.is_open ≡ true) × (length old < length (page_of decoder.block.value))
+  pub memory : answer ≡ 6 → decoder.is_open ≡ true
+  pub none : (answer ≡ 0) ⊎ ((new ≡ old) × (put ≡ 0))
