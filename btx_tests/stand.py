@@ -1,12 +1,22 @@
 """What the tests stand on: the program, btx as a user runs it, and a folder that goes away."""
 import os
 import shutil
+import signal
 import subprocess
+import sys
 import tempfile
 import unittest
 
 ROOT = os.path.dirname(os.path.dirname(os.path.abspath(__file__)))
-PACKAGES = {"sshd": "openssh-server", "ssh": "openssh-client", "ssh-keygen": "openssh-client", "man": "man-db", "dpkg-deb": "dpkg"}
+sys.path.append(os.path.join(ROOT, "view", "tests"))
+import absent  # noqa: E402
+
+# In seconds: what hasn't ended by then hangs, however much else the machine has to do.
+LONG = 600
+# What a shell, nohup or Python may have ignored for all that they start.
+SIGNALS = (signal.SIGHUP, signal.SIGINT, signal.SIGQUIT, signal.SIGPIPE, signal.SIGTERM, signal.SIGTSTP, signal.SIGTTIN, signal.SIGTTOU)
+# Variables of the user's own terminal.
+OF_TERMINALS = ("NO_COLOR", "COLORTERM", "COLUMNS", "LINES")
 PAGES = os.path.join(ROOT, "pages")
 BTX = os.path.join(ROOT, "bin", "btx")
 program = os.path.join(ROOT, "crates", "cept_tool", "out", "cept_tool")
@@ -22,23 +32,38 @@ def all_pages():
 
 def there(name):
     """The path of a program of this machine, or None."""
-    return shutil.which(name, path=os.environ.get("PATH", "") + ":/usr/sbin:/sbin")
+    return absent.found(name)
 
 
 def put(*words):
     """What the program itself puts."""
-    return subprocess.run([program, *words], stdout=subprocess.PIPE, timeout=60).stdout
+    return subprocess.run([program, *words], stdout=subprocess.PIPE, timeout=LONG).stdout
 
 
 def environment(**more):
     """The variables that btx sees, without those of the user's own terminal."""
-    kept = {name: value for name, value in os.environ.items() if name not in ("NO_COLOR", "COLORTERM")}
+    kept = {name: value for name, value in os.environ.items() if name not in OF_TERMINALS}
     return {**kept, "BTX_PROGRAM": program, **more}
+
+
+def as_from_a_terminal():
+    """Has a child begin with all signals as they are by default: one that is ignored stays so in all that is started, as interrupts do
+    where a shell runs the tests in the background."""
+    for number in SIGNALS:
+        signal.signal(number, signal.SIG_DFL)
+    signal.pthread_sigmask(signal.SIG_SETMASK, ())
+
+
+def begun(*words, **more):
+    """A run of btx that can be signalled, in a group of its own."""
+    keys = {"stdout": subprocess.PIPE, "stderr": subprocess.PIPE, "stdin": subprocess.DEVNULL, "env": environment()}
+    keys |= {"start_new_session": True, "preexec_fn": as_from_a_terminal}
+    return subprocess.Popen([BTX, *words], **{**keys, **more})
 
 
 def btx(*words, command=BTX, **more):
     """A run of btx: its status, its output as bytes, and what it says on standard error."""
-    keys = {"stdout": subprocess.PIPE, "stderr": subprocess.PIPE, "stdin": subprocess.DEVNULL, "timeout": 120, "env": environment()}
+    keys = {"stdout": subprocess.PIPE, "stderr": subprocess.PIPE, "stdin": subprocess.DEVNULL, "timeout": LONG, "env": environment()}
     return subprocess.run([command, *words], **{**keys, **more})
 
 
@@ -62,7 +87,17 @@ class Case(unittest.TestCase):
     def needs(self, *names):
         """The paths of programs that this test needs; it is skipped where one is absent."""
         paths = [there(name) for name in names]
-        for name, path in zip(names, paths):
-            if not path:
-                self.skipTest(f"{name} is not on this machine (Debian: {PACKAGES.get(name, name)})")
+        if None in paths:
+            self.leave_out(names[paths.index(None)])
         return paths
+
+    def leave_out(self, name=None, why=None):
+        """Skips this test, since a program is absent, or for another reason that the machine gives."""
+        self.skipTest(absent.left_out(f"btx_tests/run: {self.id()}", name, why))
+
+    def module(self):
+        """The path of the decoder's module; this test is skipped where it can't be made."""
+        path = absent.module(f"btx_tests/run: {self.id()}")
+        if not path:
+            self.skipTest("there is no module")
+        return path

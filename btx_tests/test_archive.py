@@ -1,5 +1,6 @@
 """Archives: each page with the viewer, the index, the report, going on after a stop, and over GNU parallel."""
 import base64
+import contextlib
 import csv
 import json
 import os
@@ -14,8 +15,7 @@ import zlib
 
 import stand
 
-sys.path.insert(0, os.path.join(stand.ROOT, "view", "tests"))
-import browser  # noqa: E402
+import browser
 
 NAMES = "[...document.querySelectorAll('#tiles .name')].map((one) => one.textContent)"
 ODD = "odd #1 & 50% ü.btx"
@@ -105,18 +105,16 @@ class Archive(stand.Case):
         self.assertGreater(os.path.getmtime(made), 1)
 
     def test_a_stop_leaves_what_goes_on(self):
-        # A program that is interrupted with btx at its fourth page.
+        # A program that waits at its sixteenth run, after more than one page, and is interrupted there with btx.
         runs = self.path("runs")
-        lines = ["#!/bin/sh", f"echo x >> {runs}", f"[ $(wc -l < {runs}) -lt 16 ] || sleep 30", f'exec {stand.program} "$@"', ""]
+        lines = ["#!/bin/sh", f"echo x >> {runs}", f"[ $(wc -l < {runs}) -ne 16 ] || sleep 3600", f'exec {stand.program} "$@"', ""]
         slow = self.written("slow", "\n".join(lines).encode())
         os.chmod(slow, 0o755)
-        words = [stand.BTX, "archive", self.source, "-o", self.out, "--jobs", "1"]
-        run = subprocess.Popen(words, stdout=subprocess.PIPE, stderr=subprocess.PIPE, start_new_session=True, env=stand.environment(BTX_PROGRAM=slow))
-        end = time.monotonic() + 60
-        while not (os.path.exists(self.path("runs")) and os.path.getsize(self.path("runs")) >= 32) and time.monotonic() < end:
+        run = stand.begun("archive", self.source, "-o", self.out, "--jobs", "1", env=stand.environment(BTX_PROGRAM=slow))
+        while run.poll() is None and not (os.path.exists(runs) and os.path.getsize(runs) >= 32):
             time.sleep(0.05)
         os.killpg(run.pid, signal.SIGINT)
-        output, error = run.communicate(timeout=60)
+        output, error = run.communicate(timeout=stand.LONG)
         self.assertEqual((run.returncode, output, error), (-signal.SIGINT, b"", b""))
         done = self.archive()
         self.assertRegex(done.stdout, rb"; [1-9]\d* were there")
@@ -124,12 +122,17 @@ class Archive(stand.Case):
 
     def test_the_progress_is_told_on_a_terminal(self):
         master, slave = os.openpty()
-        done = stand.btx("archive", self.source, "-o", self.out, "--jobs", "1", stderr=slave, env=stand.environment(TERM="xterm"))
+        run = stand.begun("archive", self.source, "-o", self.out, "--jobs", "1", stderr=slave, env=stand.environment(TERM="xterm"))
         os.close(slave)
-        said = os.read(master, 1 << 16).decode()
+        said = b""
+        # Where nobody has a terminal open any more, reading from its other side is a fault.
+        with contextlib.suppress(OSError):
+            while piece := os.read(master, 1 << 16):
+                said += piece
         os.close(master)
-        self.assertEqual(done.returncode, 0)
-        self.assertRegex(said, r"\r\x1b\[K18 of 18 pages, 1 with refused items, 0 not read\r?\n$")
+        run.communicate(timeout=stand.LONG)
+        self.assertEqual(run.returncode, 0)
+        self.assertRegex(said.decode(), r"\r\x1b\[K18 of 18 pages, 1 with refused items, 0 not read\r?\n$")
         self.assertEqual(self.archive().stderr, b"")
 
     def test_a_folder_that_is_not_there(self):
@@ -158,10 +161,10 @@ class Archive(stand.Case):
     def test_over_ssh_on_this_machine(self):
         self.needs("parallel", "sshd", "ssh", "ssh-keygen")
         words = [os.path.join(stand.ROOT, "btx_tests", "over_ssh"), self.source, self.out]
-        keys = {"stdout": subprocess.PIPE, "stderr": subprocess.STDOUT, "env": stand.environment(), "timeout": 120}
+        keys = {"stdout": subprocess.PIPE, "stderr": subprocess.STDOUT, "env": stand.environment(), "timeout": stand.LONG}
         done = subprocess.run(words, **keys)
         if done.returncode == 77:
-            self.skipTest(done.stdout.decode().strip())
+            self.leave_out(why=done.stdout.decode().strip())
         self.assertEqual(done.returncode, 0, done.stdout.decode())
         self.is_whole()
 
@@ -169,10 +172,7 @@ class Archive(stand.Case):
 class Index(stand.Case):
     def setUp(self):
         super().setUp()
-        found = browser.found()
-        if not found:
-            self.skipTest("Chromium is not on this machine (Debian: chromium)")
-        self.tab = browser.Browser(found)
+        self.tab = browser.Browser(*self.needs("chromium"))
         self.addCleanup(self.tab.close)
 
     def archive(self, source):
@@ -192,7 +192,7 @@ class Index(stand.Case):
         self.tab.value(f"(({{ id, value }}) => {{ const part = document.getElementById(id); part.value = value; "
                        f"part.dispatchEvent(new Event(id === 'search' ? 'input' : 'change')); }})({json.dumps({'id': name, 'value': value})})")
 
-    def test_an_index_of_2000_pages_opens_quickly(self):
+    def test_an_index_of_2000_pages_makes_what_is_in_sight(self):
         source = self.path("source")
         os.mkdir(source)
         shutil.copy(stand.page("boat"), source)
@@ -204,12 +204,17 @@ class Index(stand.Case):
         many = json.dumps([[f"{number}.btx", *entry[1:]] for number in range(2000)])
         with open(index, "w", encoding="utf-8") as file:
             file.write(text.replace(json.dumps([entry], separators=(",", ":")), many))
-        self.open(index)
-        self.tab.until("document.querySelector('#tiles canvas').width === 240")
+        with self.tab.beforehand(browser.WORK):
+            self.open(index)
+        # Pictures are made once all that is in sight is there.
+        in_sight = "[...document.querySelectorAll('#tiles canvas')].filter((one) => one.getBoundingClientRect().top < innerHeight)"
+        self.tab.until(f"{in_sight}.length > 0 && {in_sight}.every((one) => one.width === 240)")
         self.assertEqual(self.tab.value("document.getElementById('count').textContent"), "2,000 of 2,000 pages")
-        self.assertLess(self.tab.value("performance.getEntriesByType('navigation')[0].loadEventEnd"), 2000)
-        made = self.tab.value("[...document.querySelectorAll('#tiles canvas')].filter((canvas) => canvas.width === 240).length")
-        self.assertTrue(0 < made < 100, made)
+        seen, tiles = self.tab.value(f"[{in_sight}.length, document.querySelectorAll('#tiles li').length]")
+        painted, read = (self.tab.value(f"work.of('{name}').count") for name in ("paintStill", "readCells"))
+        # Those in sight, and those of one more screen; tiles, of which the next are made before they come into sight, for five.
+        self.assertTrue(seen <= painted == read <= 2 * seen, (seen, painted, read))
+        self.assertTrue(seen <= tiles <= 5 * seen, (seen, tiles))
 
     def test_index_filters_searches_and_leads_to_the_viewer(self):
         source = self.path("source")

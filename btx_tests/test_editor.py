@@ -6,22 +6,20 @@ import re
 import subprocess
 
 import stand
-from test_viewer import MODULE, why_not
 
 KEPT = rb'<script type="application/%s" id="%s">([^<]*)</script>'
 
 
 class Editor(stand.Case):
     def document(self, *words, **more):
-        if not os.path.exists(MODULE):
-            self.skipTest(f"there is no module: {why_not()}")
+        self.module()
         done = stand.btx("editor", *words, **more)
         self.assertEqual((done.returncode, done.stderr), (0, b""))
         return done.stdout
 
     def test_the_module_is_inside(self):
         found = re.search(KEPT % (b"wasm-base64", b"module"), self.document())
-        with open(MODULE, "rb") as file:
+        with open(self.module(), "rb") as file:
             self.assertEqual(base64.b64decode(found[1]), file.read())
 
     def test_the_viewer_is_inside(self):
@@ -37,7 +35,7 @@ class Editor(stand.Case):
 
     def test_output_and_module_can_be_named(self):
         whole = self.document()
-        self.assertEqual(self.document("-o", self.path("editor.html"), "--module", MODULE), b"")
+        self.assertEqual(self.document("-o", self.path("editor.html"), "--module", self.module()), b"")
         with open(self.path("editor.html"), "rb") as file:
             self.assertEqual(file.read(), whole)
 
@@ -46,8 +44,8 @@ class Editor(stand.Case):
 
     def test_make_editor_is_the_same(self):
         whole = self.document()
-        for words in ((), (MODULE,)):
-            made = subprocess.run([os.path.join(stand.ROOT, "edit", "make_editor"), *words], stdout=subprocess.PIPE, timeout=60)
+        for words in ((), (self.module(),)):
+            made = subprocess.run([os.path.join(stand.ROOT, "edit", "make_editor"), *words], stdout=subprocess.PIPE, timeout=stand.LONG)
             self.assertEqual(made.stdout, whole)
 
     def test_a_module_that_is_not_there(self):

@@ -10,10 +10,7 @@ import zlib
 
 import stand
 
-sys.path.insert(0, os.path.join(stand.ROOT, "view", "tests"))
-import looks  # noqa: E402
-
-BROWSERS = ("chromium", "chromium-browser", "google-chrome", "chromium-headless-shell")
+import looks
 
 
 def rows_of(picture):
@@ -90,7 +87,7 @@ class Html(stand.Case):
 
     def test_page_to_html_is_the_same(self):
         words = [os.path.join(stand.ROOT, "view", "page_to_html"), "--program", stand.program, stand.page("title")]
-        document = subprocess.run(words, stdout=subprocess.PIPE, timeout=60).stdout
+        document = subprocess.run(words, stdout=subprocess.PIPE, timeout=stand.LONG).stdout
         self.assertEqual(document, stand.btx("html", stand.page("title")).stdout)
 
     def test_a_page_that_cannot_be_read(self):
@@ -100,13 +97,8 @@ class Html(stand.Case):
 
 
 class Png(stand.Case):
-    def setUp(self):
-        super().setUp()
-        self.browser = any(os.access(os.path.join(folder, name), os.X_OK) for name in BROWSERS for folder in os.get_exec_path())
-
     def picture(self, *words):
-        if not self.browser:
-            self.skipTest("Chromium is not on this machine (Debian: chromium)")
+        self.needs("chromium")
         path = self.path("out.png")
         done = stand.btx("png", *words, "-o", path)
         self.assertEqual((done.returncode, done.stderr), (0, b""))

@@ -10,7 +10,7 @@ INSTALL = os.path.join(stand.ROOT, "install")
 
 class Install(stand.Case):
     def run_of(self, *words, **more):
-        keys = {"stdout": subprocess.PIPE, "stderr": subprocess.PIPE, "timeout": 120, "env": self.bare()}
+        keys = {"stdout": subprocess.PIPE, "stderr": subprocess.PIPE, "timeout": stand.LONG, "env": self.bare()}
         return subprocess.run(words, **{**keys, **more})
 
     def bare(self):
@@ -73,7 +73,7 @@ class Install(stand.Case):
         self.is_right(self.run_of(*dpkg, "--install", path))
         usr = os.path.join(system, "usr")
         self.works(usr)
-        if stand.there("man"):
+        if stand.absent.needed(f"btx_tests/run: {self.id()}, the manual", "man"):
             self.reads_manual(usr)
         self.is_right(self.run_of(*dpkg, "--remove", "tamligub"))
         left = [name for _, _, names in os.walk(usr) for name in names]

@@ -43,17 +43,17 @@ class Messages(stand.Case):
     def test_a_page_that_can_be_read_once_is_not_read_again(self):
         page = self.path("pipe")
         os.mkfifo(page)
-        run = subprocess.Popen([stand.BTX, "check", page], stdout=subprocess.PIPE, stderr=subprocess.PIPE, env=stand.environment())
+        run = stand.begun("check", page)
         with open(page, "wb") as file:
             file.write(b"\x9b1\rB")
-        output, error = run.communicate(timeout=60)
+        output, error = run.communicate(timeout=stand.LONG)
         self.assertEqual(output, b"! 0 2 6 Interrupted\nitems 3 refused 1\n")
         self.assertEqual((run.returncode, error), (1, b"btx: some items of the page are refused\n"))
 
     def test_a_page_that_a_shell_hands_over(self):
         for word in ("show", "terminal", "html"):
             line = f"{stand.BTX} {word} <(cat {stand.page('title')})"
-            done = subprocess.run(["bash", "-c", line], stdout=subprocess.PIPE, stderr=subprocess.PIPE, env=stand.environment(), timeout=60)
+            done = subprocess.run(["bash", "-c", line], stdout=subprocess.PIPE, stderr=subprocess.PIPE, env=stand.environment(), timeout=stand.LONG)
             self.assertEqual((done.returncode, done.stderr), (0, b""))
             self.assertIn(b"Guten Tag!" if word != "html" else b"items 315 refused 0", done.stdout)
 
@@ -109,26 +109,26 @@ class Messages(stand.Case):
 
     def test_a_broken_pipe_ends_quietly(self):
         # The changes of a generated page are far more than a pipe holds.
-        words = [stand.BTX, "changes", self.written("page", stand.put("gen", "1"))]
-        run = subprocess.Popen(words, stdout=subprocess.PIPE, stderr=subprocess.PIPE, env=stand.environment())
+        words = ["changes", self.written("page", stand.put("gen", "1"))]
+        run = stand.begun(*words)
         run.stdout.read(1)
         run.stdout.close()
-        self.assertEqual((run.stderr.read(), run.wait(60)), (b"", -signal.SIGPIPE))
+        self.assertEqual((run.stderr.read(), run.wait(stand.LONG)), (b"", -signal.SIGPIPE))
         run.stderr.close()
         shell = f"{stand.BTX} terminal {stand.page('title')} | head -n 1 > /dev/null; echo ${{PIPESTATUS[0]}}"
-        done = subprocess.run(["bash", "-c", shell], stdout=subprocess.PIPE, stderr=subprocess.PIPE, env=stand.environment())
+        keys = {"stdout": subprocess.PIPE, "stderr": subprocess.PIPE, "env": stand.environment(), "timeout": stand.LONG}
+        done = subprocess.run(["bash", "-c", shell], preexec_fn=stand.as_from_a_terminal, **keys)
         self.assertIn(done.stdout, (b"0\n", b"141\n"))
         self.assertEqual(done.stderr, b"")
 
     def test_an_interrupt_ends_quietly(self):
         page = self.path("pipe")
         os.mkfifo(page)
-        keys = {"stdout": subprocess.PIPE, "stderr": subprocess.PIPE, "env": stand.environment(), "start_new_session": True}
-        run = subprocess.Popen([stand.BTX, "show", page], **keys)
+        run = stand.begun("show", page)
         # The program has begun once the pipe has a reader.
         with open(page, "wb"):
             os.killpg(run.pid, signal.SIGINT)
-            output, error = run.communicate(timeout=60)
+            output, error = run.communicate(timeout=stand.LONG)
         self.assertEqual((run.returncode, output, error), (-signal.SIGINT, b"", b""))
 
     def test_a_program_that_is_named_and_not_there(self):

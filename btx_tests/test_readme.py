@@ -33,7 +33,7 @@ class Readme(stand.Case):
 
     def run_in(self, tree, command, **more):
         bare = {name: value for name, value in stand.environment().items() if name != "BTX_PROGRAM"}
-        keys = {"stdin": subprocess.DEVNULL, "stdout": subprocess.PIPE, "stderr": subprocess.PIPE, "timeout": 120, "env": bare, "cwd": tree}
+        keys = {"stdin": subprocess.DEVNULL, "stdout": subprocess.PIPE, "stderr": subprocess.PIPE, "timeout": stand.LONG, "env": bare, "cwd": tree}
         return subprocess.run(["bash", "-c", command], **{**keys, **more})
 
     def test_it_says_what_it_is_in_three_lines_and_what_rt_is_in_two(self):

@@ -1,23 +1,26 @@
 """What a terminal holds after `btx terminal`, against what the program shows. Signs of mosaics are compared by their names in Unicode."""
+import importlib
 import itertools
 import os
 import re
 import shlex
 import subprocess
-import sys
 import time
 import unicodedata
 
 import stand
 
-sys.path.append("/usr/lib/python3/dist-packages")  # where Debian's pyte is for any Python of the machine
-try:
-    import pyte
-except ImportError:
-    pyte = None
-
 MOSAIC, PATTERN = "▒", "□"
 FULL = stand.environment(COLORTERM="truecolor")
+# A clock of Python's own that goes on by sleep alone, and puts the seconds that it has come to between two zero bytes.
+CLOCK = """import os, time
+now = 0.0
+def sleep(seconds):
+    global now
+    now += seconds
+    os.write(1, b"\\0%.6f\\0" % now)
+time.sleep, time.monotonic = sleep, lambda: now
+"""
 SEQUENCE = re.compile("\x1b\\[([0-9;?]*)([A-Za-z])")
 
 
@@ -114,23 +117,19 @@ class Terminal(stand.Case):
         self.assertEqual(re.findall("\x1b\\[(\\d+;\\d+)H", after), ["3;5", "25;1"])
 
     def test_a_replay_shows_each_byte_when_it_has_come(self):
-        # At 1,200 bits a second the bytes 60 and 120 have come after 0.5 and 1 second.
+        """By a clock that goes on where btx sleeps alone, and tells then what it shows: a byte takes ten bits."""
+        os.mkdir(self.path("clock"))
+        self.written("clock/sitecustomize.py", CLOCK.encode())
         page = self.written("page", b"A" * 120)
-        run = subprocess.Popen([stand.BTX, "terminal", page, "--replay", "1200"], stdout=subprocess.PIPE, env=FULL)
-        text, begun, times = b"", None, {}
-        while True:
-            piece = os.read(run.stdout.fileno(), 1 << 16)
-            now = time.monotonic()
-            begun = begun or now
-            text += piece
-            for count in (60, 120):
-                if text.count(b"mA") + text.count(b"AA") >= count:
-                    times.setdefault(count, now - begun)
-            if not piece:
-                break
-        run.stdout.close()
-        self.assertEqual(run.wait(60), 0)
-        self.assertTrue(0.45 <= times[60] < 3.0 and 0.95 <= times[120] < 4.0, times)
+        for bits in (1200, 9600):
+            words = (page, "--replay", str(bits))
+            before, *waits = re.split("\0", self.run_of(*words, env={**FULL, "PYTHONPATH": self.path("clock")}))
+            self.assertEqual(before.count("A"), 0)
+            count = 0
+            for told, after in zip(waits[::2], waits[1::2]):
+                count += after.count("A")
+                self.assertEqual(count, int(float(told) * bits / 10 + 1e-3), (bits, told))
+            self.assertEqual((count, round(float(waits[-2]), 4)), (120, round(1200 / bits, 4)))
 
     def test_colours_are_those_of_the_cells(self):
         for name in ("title", "boat", "colours", "rows"):
@@ -194,8 +193,9 @@ class Terminal(stand.Case):
         ])
 
     def test_pyte_holds_the_page(self):
-        if not pyte:
-            self.skipTest("pyte is not on this machine (Debian: python3-pyte)")
+        if not stand.absent.has_library("pyte"):
+            self.leave_out("pyte")
+        pyte = importlib.import_module("pyte")
         for name in stand.all_pages():
             screen = pyte.Screen(80, 30)
             pyte.Stream(screen).feed(self.run_of(stand.page(name)).replace("\n", "\r\n"))
@@ -215,15 +215,17 @@ class Terminal(stand.Case):
     def in_tmux(self, page, *options):
         """Runs a terminal in tmux, and compares its pane with what the program shows. Every tmux knows the widths of these signs."""
         tmux, = self.needs("tmux")
-        socket = self.path("socket")
+        env = {**FULL, "LANG": "C.UTF-8", "LC_ALL": "C.UTF-8", "TERM": "xterm-256color", "SHELL": "/bin/sh"}
+        env.pop("TMUX", None)
 
         def ask(*words):
-            done = subprocess.run([tmux, "-f", "/dev/null", "-S", socket, *words], stdout=subprocess.PIPE, stderr=subprocess.STDOUT, timeout=60, env=env)
+            # By a short name, since that of a socket has little room.
+            words = [tmux, "-f", "/dev/null", "-S", "socket", *words]
+            keys = {"stdout": subprocess.PIPE, "stderr": subprocess.STDOUT, "timeout": stand.LONG, "env": env, "cwd": self.folder}
+            done = subprocess.run(words, **keys)
             self.assertEqual(done.returncode, 0, done.stdout.decode())
             return done.stdout.decode()
 
-        env = {**FULL, "LANG": "C.UTF-8", "LC_ALL": "C.UTF-8", "TERM": "xterm-256color"}
-        env.pop("TMUX", None)
         command = shlex.join([stand.BTX, "terminal", page, *options]) + "; echo ready; exec cat"
         ask("-u", "new-session", "-d", "-x", "80", "-y", "30", command)
         try:
@@ -236,7 +238,7 @@ class Terminal(stand.Case):
         self.is_shown([signs_of(row.ljust(40))[:40] for row in found[: len(want)]], name)
 
     def comes(self, condition):
-        end = time.monotonic() + 30
+        end = time.monotonic() + stand.LONG
         while not condition():
             if time.monotonic() > end:
                 return False

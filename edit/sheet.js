@@ -66,7 +66,7 @@
       if (lines[lines.length - 1] === "") lines.pop();
       if (!this.base || !this.isBefore(this.base.count, lines)) this.base = this.baseOfPage(lines);
       this.lines = lines;
-      this.byHand = this.base !== null;
+      this.byHand = this.base !== null && lines.length > 0;
       this.run();
     }
 

@@ -4,13 +4,11 @@ import json
 import os
 import random
 import subprocess
-import time
 import unicodedata
 
 from hands import BLANK, CONTROL, ROOT, SHIFT
 
 PAGES = os.path.join(ROOT, "pages")
-CAN_PLOT = "Tamligub.editor.asker.canPlot"
 
 
 def page(name):
@@ -24,7 +22,7 @@ def read(path):
 
 def btx(hand, *words):
     command, environment = os.path.join(ROOT, "bin", "btx"), {**os.environ, "BTX_PROGRAM": hand.program}
-    done = subprocess.run([command, *words], stdout=subprocess.PIPE, env=environment, timeout=120)
+    done = subprocess.run([command, *words], stdout=subprocess.PIPE, env=environment)
     assert done.returncode == 0, f"btx {words}: status {done.returncode}"
     return done.stdout
 
@@ -36,7 +34,7 @@ def still(hand):
 
 
 def draw_a_page(hand):
-    """A title in double size, a coloured row, mosaics, a drawing where the module can, a downloaded sign, an area."""
+    """A title in double size, a coloured row, mosaics, a drawing, a downloaded sign, an area."""
     hand.cell(2, 5)
     hand.click('[data-size="both"]')
     hand.click('.swatch[data-kind="fore"]', 3)
@@ -54,13 +52,12 @@ def draw_a_page(hand):
     hand.cell(8, 10)
     for number in (2, 30, 62, 5):
         hand.click("button.sign", number)
-    if hand.tab.value(CAN_PLOT):
-        hand.tab_of("draw")
-        hand.click('[data-tool="box"]')
-        hand.drag((30, 30), (60, 50))
-        hand.click('[data-tool="line"]')
-        hand.drag((30, 30), (60, 50))
-        hand.click("#draw button.main")
+    hand.tab_of("draw")
+    hand.click('[data-tool="box"]')
+    hand.drag((30, 30), (60, 50))
+    hand.click('[data-tool="line"]')
+    hand.drag((30, 30), (60, 50))
+    hand.click("#draw button.main")
     hand.tab_of("pattern")
     hand.drag((0, 0), (11, 9), 12, 10, "pixels", 12)
     hand.drag((11, 0), (0, 9), 12, 10, "pixels", 12)
@@ -105,7 +102,7 @@ def a_page_is_drawn_undone_made_again_and_kept(hand):
     assert hand.put("check", saved).endswith(b" refused 0\n"), "something is refused"
     hand.settle()
     assert hand.tab.value("Tamligub.part('report-page').dataset.same") == "true", hand.text("report-page")
-    print(f"     {len(lines)} lines, {steps - 1} actions, {len(data)} bytes{'' if hand.tab.value(CAN_PLOT) else '; this module has no plot'}")
+    print(f"     {len(lines)} lines, {steps - 1} actions, {len(data)} bytes")
 
 
 def typing_is_lines(hand):
@@ -348,11 +345,6 @@ def patterns_have_inks(hand):
 def drawings_are_seen_before_they_are_kept(hand):
     hand.fresh()
     still(hand)
-    if not hand.tab.value(CAN_PLOT):
-        hand.tab_of("draw")
-        assert "plot" in hand.text("draw-hint") and hand.tab.value("document.querySelector('[data-tool]').disabled"), hand.text("draw-hint")
-        print("     this module has no plot: only that this is said was tried")
-        return
     hand.cell(4, 4)
     hand.type("unter der Zeichnung")
     hand.tab_of("draw")
@@ -384,6 +376,25 @@ def drawings_are_seen_before_they_are_kept(hand):
     hand.key("Enter")
     hand.is_true()
     assert hand.lines()[-1].startswith("raw 1F2F44"), hand.lines()[-1]
+
+
+# A module that has no word `plot`: it answers with the status of a word that isn't known.
+NO_PLOT = """window.Tamligub = new Proxy({}, { set(target, name, value) {
+  const run = (module, word, things) => (word === "plot" ? { status: 2, text: new Uint8Array() } : value(module, word, things));
+  target[name] = name === "run" ? run : value;
+  return true;
+} })"""
+
+
+def without_plot_only_drawing_is_absent(hand):
+    with hand.tab.beforehand(NO_PLOT):
+        hand.fresh()
+    hand.tab_of("draw")
+    assert "plot" in hand.text("draw-hint"), hand.text("draw-hint")
+    assert hand.tab.value("[...document.querySelectorAll('[data-tool]')].every((tool) => tool.disabled)"), "a tool can be taken"
+    hand.cell(3, 3)
+    hand.type("ohne")
+    hand.is_true()
 
 
 def a_bad_line_is_told(hand):
@@ -548,17 +559,23 @@ def what_is_kept(hand):
     assert hand.looks() == shown and hand.script() == script.decode(), "page and script opened again show something else"
 
 
+# What is seen after each of two rounds of turns.
 SAMPLES = """new Promise((done) => {
+  const { editor } = Tamligub;
   const samples = [];
-  const timer = setInterval(() => {
-    samples.push(Array.from(Tamligub.editor.screen.shown, (number) => Tamligub.editor.screen.looks[number].text));
-    if (samples.length === 24) { clearInterval(timer); done(samples); }
-  }, 50);
+  const seeGrid = editor.seeGrid;
+  editor.seeGrid = (grid) => {
+    seeGrid.call(editor, grid);
+    samples.push(Array.from(editor.screen.shown, (number) => editor.screen.looks[number].text));
+    if (samples.length < 12) return;
+    delete editor.seeGrid;
+    done(samples);
+  };
 })"""
 
 
 def what_flashes_is_that_of_flash(hand):
-    """Each of six phases is shown, and nothing else; without the flash all signs are seen."""
+    """Each of six phases is shown in turn, and nothing else; without the flash all signs are seen."""
     hand.fresh(page("flashing"))
     if not hand.tab.value("Tamligub.part('flash').checked"):
         hand.click("#flash")
@@ -566,15 +583,16 @@ def what_flashes_is_that_of_flash(hand):
     hand.type("x")
     hand.settle()
     kept = hand.written("edited.btx", hand.edited(page=read(page("flashing"))))
-    phases, seen = [[BLANK] * 960], 0
+    phases = [[BLANK] * 960]
     for line in hand.put("flash", kept, "5").decode().splitlines():
         turn, row, column, look = line.split(" ", 3)
         while len(phases) <= int(turn):
             phases.append(phases[-1][:])
         phases[int(turn)][(int(row) - 1) * 40 + int(column) - 1] = look
+    phases += [phases[-1]] * (6 - len(phases))
     shown = hand.tab.value(SAMPLES)
-    assert all(sample in phases for sample in shown), "something that flash doesn't tell is shown"
-    assert len({tuple(sample) for sample in shown}) == len({tuple(phase) for phase in phases}), "not each phase is shown"
+    rounds = [[phases[(first + at) % 6] for at in range(12)] for first in range(6)]
+    assert shown in rounds, "other phases than those of flash are shown, or in another order"
     still(hand)
     hand.is_true(read(page("flashing")))
     assert hand.tab.value("Tamligub.editor.screen.looks.every((look) => look.flash === 'S')"), "a sign is hidden"
@@ -680,7 +698,7 @@ def it_fits_small_screens(hand):
     hand.fresh(page("title"))
     for width, height in ((1024, 700), (1280, 800), (768, 1024), (820, 1180)):
         hand.tab.size(width, height)
-        time.sleep(0.1)
+        hand.tab.until(f"window.innerWidth === {width} && window.innerHeight === {height}")
         for panel in ("pen", "mosaic", "draw", "pattern", "sheet", "colours"):
             hand.tab.value(f"Tamligub.part('tab-{panel}').click()")
             wide, high = hand.tab.value("[document.documentElement.scrollWidth, document.documentElement.scrollHeight]")
@@ -731,63 +749,6 @@ def random_actions_show_what_the_program_says(hand):
         hand.is_true(stored)
 
 
-# Each key to the end of what it shows, in milliseconds: from the event to the painted screen.
-MEASURE = """(async (text) => {
-  const field = Tamligub.part("typing");
-  const times = [];
-  for (const sign of text) {
-    await new Promise((done) => setTimeout(done, 5));
-    const begun = performance.now();
-    field.value = sign;
-    field.dispatchEvent(new InputEvent("input", { data: sign }));
-    times.push(performance.now() - begun);
-  }
-  return times.sort((one, other) => one - other);
-})(%s)"""
-
-
-TURNS = """["undo", "undo", "undo", "undo", "redo", "redo", "redo"].map((word) => {
-  const begun = performance.now();
-  Tamligub.editor.turn(word);
-  return performance.now() - begun;
-})"""
-
-
-def keys_are_shown_at_once(hand):
-    """Of a page of 50,000 bytes and a script of 300 lines: the whole way of a key within 50 ms, and it shows what the whole gives."""
-    made = hand.put("gen", "0")[:50000]
-    plain = bytes(0x21 + at % 94 for at in range(50000))
-    script = "".join(f"at {1 + at % 24} {1 + at % 30}\nc1 {at % 8}\ntext Zeile {at}\n" for at in range(100)).encode()
-    for name, data in (("made", made), ("plain", plain)):
-        path = hand.written(f"{name}.btx", data)
-        hand.fresh(path, hand.written("lines.txt", script))
-        still(hand)
-        hand.settle()
-        hand.cell(12, 5)
-        times = hand.tab.value(MEASURE % json.dumps("Dies ist ein Satz, der getippt wird."))
-        print(f"     {name}: {times[len(times) // 2]:.0f} ms a key, at most {times[-1]:.0f} ms")
-        hand.is_true(data)
-        # Behind the place from which on lines run, and forth again.
-        for key in "zzzyyy":
-            hand.key(key, held=CONTROL)
-        hand.is_true(data)
-        hand.cell(14, 5)
-        again = hand.tab.value(MEASURE % json.dumps("Und noch einer."))
-        hand.is_true(data)
-        assert times[len(times) // 2] < 50, f"{name}: {times}"
-        assert again[len(again) // 2] < 50, f"{name} after undo: {again}"
-        # Undo and redo of what was begun in the editor.
-        hand.fresh(path)
-        still(hand)
-        for row in range(3):
-            hand.cell(2 + row, 5)
-            hand.type("Zeile")
-        times = hand.tab.value(TURNS)
-        print(f"     {name}: {max(times):.0f} ms an undo or redo at most")
-        hand.is_true(data)
-        assert sorted(times)[len(times) // 2] < 50, f"{name}: {times}"
-
-
 def lines_that_end_a_break_of_the_page_are_run_from_it(hand):
     """A long page that ends in a service's break: bytes know nothing of what the service kept, so a line by hand that ends it is told."""
     stored = b"\x1f\x45\x45" + bytes(0x21 + at % 94 for at in range(5000)) + b"\x1f\x2f\x40\x58"
@@ -804,20 +765,6 @@ def lines_that_end_a_break_of_the_page_are_run_from_it(hand):
     hand.is_true(stored)
 
 
-def a_long_script_goes_on_quickly(hand):
-    hand.fresh()
-    still(hand)
-    script = "".join(f"at {1 + at % 24} {1 + at % 30}\ntext Zeile {at}\n" for at in range(2000))
-    hand.fill("#script", script)
-    hand.settle()
-    hand.cell(12, 5)
-    times = hand.tab.value(MEASURE % json.dumps("Dies ist ein Satz."))
-    print(f"     4,000 lines: {times[len(times) // 2]:.0f} ms a key, at most {times[-1]:.0f} ms")
-    hand.settle()
-    hand.is_true()
-    assert times[len(times) // 2] < 50, times
-
-
 def no_other_script_runs(hand):
     hand.fresh()
     assert hand.tab.value("(() => { const one = document.createElement('script'); one.textContent = 'window.other = 1';"
@@ -828,10 +775,11 @@ def no_other_script_runs(hand):
 
 
 CASES = (
-    a_page_is_drawn_undone_made_again_and_kept, typing_is_lines, a_page_keeps_what_is_not_touched, signs_of_all_sets_are_typed, signs_are_composed, each_attribute_is_a_line,
-    serial_attributes_are_markers, rows_screen_area_format_and_colours_are_lines, patterns_have_inks, drawings_are_seen_before_they_are_kept,
-    a_bad_line_is_told, lines_are_stepped_and_pointed_at, a_crash_loses_nothing, an_unsaved_page_is_asked_about, refused_items_are_told,
-    what_is_kept, what_flashes_is_that_of_flash, tidying_takes_undone_lines_out, the_keyboard_alone_does_all,
-    every_control_has_a_name_in_both_languages, it_fits_small_screens, a_finger_places_the_caret, random_actions_show_what_the_program_says,
-    keys_are_shown_at_once, lines_that_end_a_break_of_the_page_are_run_from_it, a_long_script_goes_on_quickly, no_other_script_runs,
+    a_page_is_drawn_undone_made_again_and_kept, typing_is_lines, a_page_keeps_what_is_not_touched, signs_of_all_sets_are_typed,
+    signs_are_composed, each_attribute_is_a_line, serial_attributes_are_markers, rows_screen_area_format_and_colours_are_lines,
+    patterns_have_inks, drawings_are_seen_before_they_are_kept, without_plot_only_drawing_is_absent, a_bad_line_is_told,
+    lines_are_stepped_and_pointed_at, a_crash_loses_nothing, an_unsaved_page_is_asked_about, refused_items_are_told, what_is_kept,
+    what_flashes_is_that_of_flash, tidying_takes_undone_lines_out, the_keyboard_alone_does_all, every_control_has_a_name_in_both_languages,
+    it_fits_small_screens, a_finger_places_the_caret, random_actions_show_what_the_program_says,
+    lines_that_end_a_break_of_the_page_are_run_from_it, no_other_script_runs,
 )

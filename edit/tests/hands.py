@@ -3,7 +3,6 @@ import contextlib
 import json
 import os
 import subprocess
-import time
 
 ROOT = os.path.dirname(os.path.dirname(os.path.dirname(os.path.abspath(__file__))))
 CODES = {
@@ -13,17 +12,11 @@ CODES = {
 TYPED = {"Enter": "\r", " ": " "}
 CONTROL, SHIFT = 2, 8
 BLANK = "- 11.00 FFF 000 S---"
-WAIT = 10
 
 
 class Hands:
     def __init__(self, tab, program, path, place):
         self.tab, self.program, self.path, self.folder = tab, program, path, place
-        self.downloads = os.path.join(place, "downloads")
-        os.mkdir(self.downloads)
-        session, tab.session = tab.session, None
-        tab.call("Browser.setDownloadBehavior", behavior="allow", downloadPath=self.downloads)
-        tab.session = session
 
     # The editor.
 
@@ -76,7 +69,7 @@ class Hands:
 
     def settle(self):
         """Waits until what comes after a pause is done."""
-        self.tab.until("Tamligub.editor.waiting === 0", WAIT)
+        self.tab.until("Tamligub.editor.waiting === 0")
 
     # Hands.
 
@@ -184,24 +177,10 @@ class Hands:
 
     def kept(self, selector):
         """What a click keeps: the name and the bytes of the file."""
-        before = set(os.listdir(self.downloads))
-        self.click(selector)
-        deadline = time.monotonic() + WAIT
-        while True:
-            new = [name for name in set(os.listdir(self.downloads)) - before if not name.endswith(".crdownload")]
-            if new:
-                break
-            assert time.monotonic() < deadline, f"{selector} keeps nothing: {self.text('fault')}"
-            time.sleep(0.03)
-        path = os.path.join(self.downloads, new[0])
-        time.sleep(0.05)
-        with open(path, "rb") as file:
-            data = file.read()
-        os.remove(path)
-        return new[0], data
+        return self.tab.saved(lambda: self.click(selector))
 
     def put(self, word, *paths, wanted=(0, 1)):
-        done = subprocess.run([self.program, word, *paths], stdout=subprocess.PIPE, timeout=60)
+        done = subprocess.run([self.program, word, *paths], stdout=subprocess.PIPE)
         assert done.returncode in wanted, f"{word}: status {done.returncode}"
         return done.stdout
 

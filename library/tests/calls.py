@@ -1,13 +1,16 @@
 """The calls that the tests compare with the program, and what the program puts."""
+import concurrent.futures
 import glob
 import importlib.machinery
 import importlib.util
+import itertools
 import os
 import re
 import subprocess
+import tempfile
 
 ROOT = os.path.dirname(os.path.dirname(os.path.dirname(os.path.abspath(__file__))))
-SHARED = os.path.join(os.path.dirname(ROOT), "shared")
+CASES = os.path.join(ROOT, "cases", "run")
 
 OF_A_PAGE = ("changes", "check", "show", "cells", "write", "seven", "eight")
 OF_A_SCRIPT = ("trace", "edit", "plot")
@@ -20,6 +23,8 @@ SCRIPTS = (b"", b"at 1 2\ntext XY\nclear\n", b"at 1 2\ntext XY\nundo\nundo\nundo
            b"plot 0 0\nline 0 71 79 0\nbox 2 2 40 30\nwipe 10 10 20 20\nunplot 2 2\n", b"plot 80 0\n",
            b"at 3 3\ntext A\nat 300 1\n", b"nonsense\n")
 NUMBERS = ("0", "1", "7", "65535", "4294967295")
+# Generated pages that are read too, each of some 50,000 bytes.
+LONG_PAGES = ("0", "1", "4294967295")
 # Turns of flashing: none, each phase once, and more than there may be; and the most, of the shorter pages.
 TURNS = ("0", "6", "601", "4294967295")
 MOST_TURNS = "600"
@@ -37,14 +42,15 @@ def write(path, data):
 
 
 def answer(program, words, folder, **more):
-    done = subprocess.run([program, *words], cwd=folder, stdout=subprocess.PIPE, stderr=subprocess.PIPE, timeout=120, env={**os.environ, **more})
+    done = subprocess.run([program, *words], cwd=folder, stdout=subprocess.PIPE, stderr=subprocess.PIPE, env={**os.environ, **more})
     return done.returncode, done.stdout, done.stderr
 
 
-def stored_pages():
-    """Every page that is on the machine: those of pages/ and the streams, the shorter ones damaged too, and none."""
-    paths = sorted(glob.glob(os.path.join(ROOT, "pages", "*.btx"))) + sorted(glob.glob(os.path.join(SHARED, "streams", "*.page")))
+def stored_pages(program):
+    """The pages of pages/, whole and damaged, generated ones, and one without bytes."""
+    paths = sorted(glob.glob(os.path.join(ROOT, "pages", "*.btx")))
     pages = [(os.path.basename(path), read(path)) for path in paths]
+    pages += [(f"generated page {number}", answer(program, ["gen", number], ROOT)[1]) for number in LONG_PAGES]
     for name, data in pages:
         yield name, data
         if len(data) > 1 << 14:
@@ -54,10 +60,10 @@ def stored_pages():
     yield "no bytes", b""
 
 
-def words_of_pages(folder):
+def words_of_pages(program, folder):
     """The words for every page, and the files that they name."""
     scripts = [os.path.basename(write(os.path.join(folder, f"script{at}"), script)) for at, script in enumerate(SCRIPTS)]
-    for name, data in stored_pages():
+    for name, data in stored_pages(program):
         write(os.path.join(folder, "page"), data)
         for word in OF_A_PAGE:
             yield f"{word} of {name}", [word, "page"]
@@ -91,22 +97,31 @@ def is_said(words, files):
 
 
 def words_of_cases(folder):
-    """The words of the shared cases that a call can say, where these lie beside the checkout."""
-    path = os.path.join(SHARED, "cases", "run")
-    if not os.path.exists(path):
-        print("the shared cases don't lie beside the checkout: skipped")
-        return
-    loader = importlib.machinery.SourceFileLoader("shared_cases", path)
-    cases = importlib.util.module_from_spec(importlib.util.spec_from_loader("shared_cases", loader))
+    """The words of each run of the cases that a call can say."""
+    loader = importlib.machinery.SourceFileLoader("cases_run", CASES)
+    cases = importlib.util.module_from_spec(importlib.util.spec_from_loader("cases_run", loader))
     loader.exec_module(cases)
-    for case in cases.cases():
-        if is_said(case["words"], case["files"]):
-            for name, data in case["files"].items():
-                write(os.path.join(folder, name), data)
-            yield case["name"], case["words"]
+    for case in cases.all_cases():
+        for run in case.runs:
+            if is_said(run.words, run.files):
+                for name, data in run.files.items():
+                    write(os.path.join(folder, name), data)
+                yield f"{case.name}: {' '.join(run.words)}", run.words
 
 
-def all_words(folder):
+def all_words(program, folder):
     """The name and the words of every call, while the files that it names stand in the folder."""
-    yield from words_of_pages(folder)
+    yield from words_of_pages(program, folder)
     yield from words_of_cases(folder)
+
+
+def in_shares(program, workers):
+    """What each worker answers for its share of the calls, side by side. It is handed their names and words one by one, and the folder of
+    its own in which the files of the last one stand."""
+
+    def share(number):
+        with tempfile.TemporaryDirectory(prefix="library-") as folder:
+            return workers[number](itertools.islice(all_words(program, folder), number, None, len(workers)), folder)
+
+    with concurrent.futures.ThreadPoolExecutor(len(workers)) as pool:
+        return list(pool.map(share, range(len(workers))))

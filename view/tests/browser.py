@@ -5,13 +5,21 @@ import fcntl
 import json
 import os
 import select
-import shutil
 import subprocess
 import tempfile
 import time
 
-NAMES = ("chromium", "chromium-browser", "google-chrome", "chromium-headless-shell")
-WAIT = 60
+import absent
+
+def text_of(name):
+    with open(os.path.join(os.path.dirname(os.path.abspath(__file__)), name), encoding="utf-8") as file:
+        return file.read()
+
+
+# What runs before the scripts of a document: counts of what these do, and a clock that a test turns.
+WORK, CLOCK = text_of("work.js"), text_of("clock.js")
+# In seconds: after so long a browser hangs, however much else the machine has to do.
+WAIT = 180
 
 
 class BrowserFault(Exception):
@@ -24,7 +32,22 @@ class PageLeft(BrowserFault):
 
 def found():
     """The browser of this machine, or None."""
-    return next((path for path in map(shutil.which, NAMES) if path), None)
+    return absent.found("chromium")
+
+
+def is_right(case, tab, *given):
+    """Whether a case holds, and the page tells no fault; what doesn't is printed."""
+    begun = time.monotonic()
+    try:
+        case(*given)
+        faults = tab.faults[:]
+    except (AssertionError, BrowserFault) as fault:
+        faults = [str(fault)] + tab.faults
+    tab.faults.clear()
+    print(f"{'ok  ' if not faults else 'FAIL'} {case.__name__.replace('_', ' ')} ({time.monotonic() - begun:.1f} s)", flush=True)
+    for fault in faults[:8]:
+        print(f"     {fault[:2000]}")
+    return not faults
 
 
 class Browser:
@@ -53,6 +76,7 @@ class Browser:
         self.number = 0
         self.session = None
         self.faults = []
+        self.downloads = {}
         self.attach()
 
     def attach(self):
@@ -100,6 +124,8 @@ class Browser:
             self.faults.append(json.dumps(message["params"]["exceptionDetails"])[:600])
         if message.get("method") == "Log.entryAdded" and message["params"]["entry"]["level"] == "error":
             self.faults.append(message["params"]["entry"]["text"])
+        if message.get("method") in ("Browser.downloadWillBegin", "Browser.downloadProgress"):
+            self.downloads.setdefault(message["params"]["guid"], {}).update(message["params"])
 
     def value(self, script):
         """The value of a script, which may be a promise."""
@@ -107,6 +133,29 @@ class Browser:
         if "exceptionDetails" in done:
             raise BrowserFault(json.dumps(done["exceptionDetails"])[:600])
         return done["result"].get("value")
+
+    @contextlib.contextmanager
+    def beforehand(self, script):
+        """Has a script run in each document before the scripts of that."""
+        script = self.call("Page.addScriptToEvaluateOnNewDocument", source=script)["identifier"]
+        try:
+            yield
+        finally:
+            self.call("Page.removeScriptToEvaluateOnNewDocument", identifier=script)
+
+    def saved(self, act):
+        """The name and the bytes of the file that an act saves."""
+        self.downloads.clear()
+        with tempfile.TemporaryDirectory() as folder:
+            session, self.session = self.session, None
+            self.call("Browser.setDownloadBehavior", behavior="allowAndName", downloadPath=folder, eventsEnabled=True)
+            self.session = session
+            act()
+            while not any(one.get("state") in ("completed", "canceled") for one in self.downloads.values()):
+                self.note(self.message())
+            (guid, download), = self.downloads.items()
+            with open(os.path.join(folder, guid), "rb") as file:
+                return download["suggestedFilename"], file.read()
 
     def open(self, path, whole="viewer"):
         """Opens a file, and waits until the name under which it has joined its parts is there."""
@@ -138,8 +187,8 @@ class Browser:
         except PageLeft:
             return False
 
-    def until(self, condition, seconds=20):
-        deadline = time.monotonic() + seconds
+    def until(self, condition):
+        deadline = time.monotonic() + WAIT
         while not self.holds(condition):
             if time.monotonic() > deadline:
                 raise BrowserFault(f"never true: {condition}")

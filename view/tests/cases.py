@@ -3,16 +3,16 @@ import json
 import os
 import re
 import subprocess
-import sys
-import time
-import unicodedata
 
+import browser
 from looks import want_of
 
 HERE = os.path.dirname(os.path.abspath(__file__))
 VIEW = os.path.dirname(HERE)
 PAGES = os.path.join(os.path.dirname(VIEW), "pages")
 BLANK = "- 11.00 FFF 000 S---"
+# In milliseconds: a phase of the flash, of which a second has six, and the time from one picture of a display to the next.
+PHASE, FRAME = 1000 / 6, 1000 / 60
 
 # Colours at points of the canvas, and how many pixels of some cells differ from the one in a corner of the cell.
 PROBES = """
@@ -71,7 +71,7 @@ class Stand:
         return os.path.join(PAGES, name + ".btx")
 
     def put(self, word, name, *after):
-        done = subprocess.run([self.program, word, self.path(name), *after], stdout=subprocess.PIPE, timeout=60)
+        done = subprocess.run([self.program, word, self.path(name), *after], stdout=subprocess.PIPE, timeout=600)
         assert done.returncode in (0, 1), f"{word} {name}: status {done.returncode}"
         return done.stdout.decode("utf-8")
 
@@ -82,14 +82,14 @@ class Stand:
             return self.path(name)
         path = os.path.join(self.place, name + ".drawn.btx")
         with open(path, "wb") as file:
-            subprocess.run([self.program, "plot", self.path(name), drawing], stdout=file, check=True, timeout=60)
+            subprocess.run([self.program, "plot", self.path(name), drawing], stdout=file, check=True, timeout=600)
         return path
 
     def written(self, name, paths):
         path = os.path.join(self.place, name)
         with open(path, "wb") as file:
             words = [os.path.join(VIEW, "page_to_html"), "--program", self.program, *paths]
-            subprocess.run(words, stdout=file, check=True, timeout=120)
+            subprocess.run(words, stdout=file, check=True, timeout=600)
         return path
 
     def kept(self, name, text):
@@ -105,6 +105,12 @@ def opened(tab, stand):
     tab.open(stand.html)
     tab.value(PROBES)
     tab.value("Tamligub.part('flash').checked && Tamligub.part('flash').click()")
+
+
+def opened_by_a_clock(tab, stand):
+    """The same in a document whose time goes on by `clock.turn` alone."""
+    with tab.beforehand(browser.CLOCK):
+        opened(tab, stand)
 
 
 def go_to(tab, stand, name):
@@ -209,7 +215,7 @@ def phases_by_the_lines_of_flash_are_those_of_the_looks(tab, stand):
 
 def lines_of_flash_are_what_is_shown(tab, stand):
     """Lines that tell something else than the looks mean are shown, at the end alone; the clock runs where they change something."""
-    opened(tab, stand)
+    opened_by_a_clock(tab, stand)
     steady, turned = "P7F 11.00 F00 000 S---", "P7F 11.00 0F0 000 S---"
     flash = f"0 1 1 {steady}\n4 1 1 {turned}\n6 1 1 {steady}\n"
     parts = {"name": "one", "changes": "0 1 1 P7F 11.00 00F 000 F---\n", "check": None, "page": None, "flash": flash}
@@ -222,12 +228,13 @@ def lines_of_flash_are_what_is_shown(tab, stand):
     tab.value("Tamligub.viewer.turn(0); Tamligub.viewer.player.step(-1)")
     assert tab.value("probe.colours([[0, 0.5, 0.5]])") == ["000000"], "before the end"
     tab.value("Tamligub.viewer.player.step(1); Tamligub.part('flash').click()")
-    tab.until("Tamligub.viewer.screen.phase > 3")
+    turned = tab.value(f"clock.turn({4 * PHASE}), [Tamligub.viewer.screen.phase, ...probe.colours([[0, 0.5, 0.5]])]")
+    assert turned == [4, "00FF00"], f"after four turns {turned}"
     tab.value("Tamligub.part('flash').click()")
-    assert tab.value("[Tamligub.viewer.flashing, Tamligub.viewer.screen.phase]") == [0, 0], "the clock goes on"
+    assert tab.value("[clock.waiting(), Tamligub.viewer.screen.phase]") == [0, 0], "the clock goes on"
     parts["flash"] = f"0 1 1 {steady}\n"
     tab.value(f"Tamligub.viewer.takeParts({json.dumps(parts)}); Tamligub.part('flash').click()")
-    assert tab.value("Tamligub.viewer.flashing") == 0, "a clock runs where no turn changes anything"
+    assert tab.value("clock.waiting()") == 0, "a clock runs where no turn changes anything"
     for text, said in ((flash.replace("6 1 1", "7 1 1"), "doesn't lead back"), ("0 1 2 " + steady, "of another page"), ("x", "Line 1 ")):
         parts["flash"] = text
         tab.value(f"Tamligub.viewer.takeParts({json.dumps(parts)})")
@@ -243,16 +250,16 @@ def files_have_the_lines_of_flash_where_a_page_flashes(tab, stand):
 
 
 def the_flash_runs_only_where_something_flashes(tab, stand):
-    opened(tab, stand)
+    """Six turns in a second; on a page that is steady no timer waits."""
+    opened_by_a_clock(tab, stand)
     tab.value("Tamligub.part('flash').click()")
     go_to(tab, stand, "title")
-    assert tab.value("Tamligub.viewer.flashing") == 0, "a clock runs on a steady page"
+    assert tab.value("clock.waiting()") == 0, "a timer waits on a steady page"
     go_to(tab, stand, "flashing")
-    tab.until("Tamligub.viewer.screen.phase > 2")
+    turned = tab.value(f"[1, 2, 3, 4, 5, 6].map(() => [clock.turn({PHASE}), Tamligub.viewer.screen.phase])")
+    assert turned == [[1, phase] for phase in (1, 2, 3, 4, 5, 0)], f"a second has other turns: {turned}"
     go_to(tab, stand, "title")
-    tab.value("window.turns = 0; Tamligub.viewer.turn = () => { window.turns++; }")
-    time.sleep(0.5)
-    assert tab.value("window.turns") == 0, "the clock goes on"
+    assert tab.value("clock.waiting()") == 0, "the flash goes on"
 
 
 def concealed_cells_show_when_revealed(tab, stand):
@@ -369,41 +376,60 @@ def the_text_is_that_of_show(tab, stand):
         assert found[: len(want)] == want, f"{name}: {[(f, w) for f, w in zip(found, want) if f != w][:2]}"
 
 
+# Plays from the start at a speed, by a clock that goes on a millisecond at a time: how many moments have come after each, and how many
+# timers were due in all.
+PLAYED = """((bits, most) => {
+  const { player } = Tamligub.viewer;
+  const come = [];
+  let due = 0;
+  player.toStart();
+  Tamligub.part("speed").value = String(bits);
+  Tamligub.part("speed").dispatchEvent(new Event("change"));
+  Tamligub.part("play").click();
+  while (player.playing() && come.length < most) {
+    due += clock.turn(1);
+    come.push(player.film.moment);
+  }
+  return { come, due, bytes: player.come };
+})"""
+
+
+def is_played(played, places, length, bits):
+    """Whether each moment came with its byte: not before, and no later than a display shows the next of sixty pictures a second."""
+    for after, moments in enumerate(played["come"], 1):
+        most, least = (sum((place + 1) * 10000 <= bits * (after - late) + 1e-6 for place in places) for late in (0, FRAME))
+        assert least <= moments <= most, f"{bits} bit/s: after {after} ms {moments} moments have come, not {least} to {most}"
+    end = length * 10000 / bits
+    assert end <= len(played["come"]) <= end + FRAME + 1, f"{bits} bit/s: it ended after {len(played['come'])} ms, not {end:.0f}"
+    assert played["bytes"] == length, f"{bits} bit/s: it ended after {played['bytes']} bytes"
+    # One for each moment, and one for the end.
+    assert played["due"] <= len(places) + 1, f"{bits} bit/s: {played['due']} timers for {len(places)} moments"
+
+
 def pages_play_at_the_speed_of_the_line(tab, stand):
-    opened(tab, stand)
+    """A byte takes ten bits; between two moments nothing runs but the timer that waits for the next."""
+    opened_by_a_clock(tab, stand)
     go_to(tab, stand, "title")
+    places = [moment[0] for moment in moments_of(stand.put("changes", "title"))]
     length = os.path.getsize(stand.path("title"))
-    tab.value("document.activeElement.blur(); window.moves = 0; const m = Tamligub.viewer.player.moved;"
-              "Tamligub.viewer.player.moved = () => { window.moves++; m(); }")
+    for bits in (1200, 2400, 9600):
+        is_played(tab.value(f"{PLAYED}({bits}, 100000)"), places, length, bits)
+    tab.value("document.activeElement.blur()")
     tab.key("9")
-    begun = time.monotonic()
     tab.key("p")
-    assert tab.value("Tamligub.part('play-word').textContent") == "Pause", "the button doesn't say Pause"
-    tab.until("!Tamligub.viewer.player.playing()")
-    took = time.monotonic() - begun
-    assert took > length * 10 / 9600 - 0.05, f"{length} bytes took {took} s"
-    assert tab.value("Tamligub.viewer.player.come") == length, "it ended early"
-    moments = len(moments_of(stand.put("changes", "title")))
-    moves = tab.value("window.moves")
-    assert moves <= moments + 3, f"{moves} moves for {moments} moments"
-    tab.key("1")
-    come, took = tab.value("""(async () => {
-      const { player } = Tamligub.viewer;
-      Tamligub.part("play").click();
-      await new Promise((done) => setTimeout(done, 600));
-      Tamligub.part("play").click();
-      return [player.come, performance.now() - player.begun];
-    })()""")
-    assert took * 0.12 - 40 < come <= took * 0.12, f"{took} ms at 1,200 bit/s brought {come} bytes"
-    assert tab.value("Tamligub.viewer.player.playing()") is False, "it isn't paused"
+    assert tab.value("[Tamligub.viewer.player.speed, Tamligub.part('play-word').textContent]") == [9600, "Pause"], "the keys"
+    come = tab.value("clock.turn(100), Tamligub.part('play').click(), Tamligub.viewer.film().moment")
+    assert tab.value("[clock.waiting(), Tamligub.viewer.player.playing()]") == [0, False], "it isn't paused"
+    least, most = (sum((place + 1) * 10000 <= 9600 * after for place in places) for after in (100 - FRAME, 100))
+    assert least <= come <= most < len(places), f"{come} moments in 100 ms, not {least} to {most}"
 
 
 def nothing_runs_between_commands(tab, stand):
-    tab.open(stand.written("gap.html", [stand.kept("gap.btx", "A" + "\0" * 60 + "B")]))
-    tab.value("window.ticks = 0; const t = Tamligub.viewer.player.tick; Tamligub.viewer.player.tick = function () {"
-              "window.ticks++; t.call(this); }; Tamligub.part('play').click()")
-    tab.until("!Tamligub.viewer.player.playing()")
-    assert tab.value("window.ticks") <= 4, f"{tab.value('window.ticks')} ticks for two commands"
+    """A page of two commands with a gap of 60 bytes between them."""
+    with tab.beforehand(browser.CLOCK):
+        tab.open(stand.written("gap.html", [stand.kept("gap.btx", "A" + "\0" * 60 + "B")]))
+    is_played(tab.value(f"{PLAYED}(1200, 100000)"), [0, 61], 62, 1200)
+    assert tab.value("clock.waiting()") == 0, "a timer waits after the end"
 
 
 def keys_do_what_buttons_do(tab, stand):
@@ -650,46 +676,45 @@ def the_index_has_small_pictures(tab, stand):
 def the_picture_and_the_text_can_be_taken(tab, stand):
     opened(tab, stand)
     go_to(tab, stand, "title")
-    tab.call("Page.setDownloadBehavior", behavior="allow", downloadPath=stand.place)
-    tab.value("Tamligub.part('save').click()")
-    path = os.path.join(stand.place, "title.png")
-    deadline = time.monotonic() + 10
-    while not os.path.exists(path) and time.monotonic() < deadline:
-        time.sleep(0.05)
-    with open(path, "rb") as file:
-        picture = file.read()
+    name, picture = tab.saved(lambda: tab.value("Tamligub.part('save').click()"))
     width = tab.value("Tamligub.viewer.screen.page.width")
+    assert name == "title.png", name
     assert picture[:4] == b"\x89PNG" and int.from_bytes(picture[16:20], "big") == width, "the file is no such PNG"
     tab.value("Tamligub.part('copy').click()")
     tab.until("Tamligub.part('state').textContent.length > 0 && Tamligub.part('text').textContent.includes('B I L D')")
 
 
-def big_files_open_quickly(tab, stand):
-    """A page of 50,000 bytes, each of which changes a cell, in a file of page_to_html: its data are read and its end is shown."""
+def a_big_file_is_read_once(tab, stand):
+    """Two pages in a file of page_to_html, one of 50,000 bytes each of which changes a cell: each text is read once, for its small picture
+    and its film, however often its page is opened, and each picture is painted once."""
     page = os.path.join(stand.place, "big.btx")
     with open(page, "wb") as file:
         file.write(bytes(0x21 + n % 94 for n in range(50000)))
-    path = stand.written("big.html", [page])
-    tab.open(path)
-    opened_in = tab.value("performance.getEntriesByType('navigation')[0].domContentLoadedEventEnd")
+    with tab.beforehand(browser.WORK):
+        tab.open(stand.written("big.html", [page, stand.path("title")]))
+    tab.until("work.of('paintStill').count === 2")
     assert tab.value("Tamligub.viewer.film().changes.count") == 50000, "there are other change lines"
-    script = """[1, 2, 3].map(() => {
-      const begun = performance.now();
-      Tamligub.viewer.take(Tamligub.embedded());
-      return performance.now() - begun;
-    })"""
-    times = tab.value(script)
-    size = os.path.getsize(path) / 1e6
-    taken = f"its page taken in {min(times):.0f} ms"
-    print(f"     a file of {size:.1f} MB: opened in {opened_in:.0f} ms with all that the browser does, {taken}")
-    assert min(times) < 200, f"too slow: {times}"
+    of = lambda name: tab.value(f"work.of({json.dumps(name)})")
+    count = lambda *names: [of(name)["count"] for name in names]
+    signs, lines = tab.value("[/[^]/g, /\\n/g].map((one) => Tamligub.viewer.pages.map((page) => page.changes.match(one).length))")
+    assert of("readChanges") == {"count": 2, "size": sum(signs)}, f"texts of {signs} signs: {of('readChanges')}"
+    assert count("embedded", "unpacked", "Film", "readCheck") == [1, 1, 1, 1], "the file is taken several times"
+    # Each line's, and the blank look of each text.
+    looks, = count("Looks.number")
+    assert 0 < looks <= sum(lines) + 2, f"{looks} looks for {lines} lines"
+    assert count("Painter.cell") == [3 * 960], f"{count('Painter.cell')} cells were painted for two small pictures and a large one"
+    for times, number in enumerate((1, 0, 1, 0), 4):
+        tab.value(f"Tamligub.viewer.open({number})")
+        assert count("readChanges", "Film") == [2, 2], "a page is read again"
+        assert count("Painter.cell") == [times * 960], f"{count('Painter.cell')} cells were painted for {times} pictures"
 
 
-def big_pages_are_quick(tab, stand):
-    """A page of 50 KB with 50,000 change lines: reading it, painting its end at once, and a small step."""
+def a_big_page_is_painted_cell_by_cell(tab, stand):
+    """A text of 50,000 change lines that is opened: to its end at once, a step, and to its start."""
     tab.size(1280, 1000)
-    tab.open(os.path.join(VIEW, "index.html"))
-    script = """(async () => {
+    with tab.beforehand(browser.WORK):
+        tab.open(os.path.join(VIEW, "index.html"))
+    script = """(() => {
       const inks = ["FFF", "F00", "0F0", "FF0", "00F", "F0F", "0FF"];
       const lines = [];
       for (let n = 0; n < 50000; n++) {
@@ -697,29 +722,21 @@ def big_pages_are_quick(tab, stand):
         lines.push(`${n} ${1 + Math.floor(n / 40) % 24} ${1 + n % 40} P${code} 11.00 ${inks[Math.floor(n / 960) % 7]} 000 S---`);
       }
       const text = lines.join("\\n") + "\\n";
-      const times = [];
-      for (let turn = 0; turn < 5; turn++) {
-        const begun = performance.now();
-        Tamligub.viewer.take([{ name: "big", changes: text, check: null, page: new Uint8Array(50000) }]);
-        const read = performance.now();
-        Tamligub.viewer.player.toStart();
-        const before = Tamligub.viewer.screen.painted;
-        const cleared = performance.now();
-        Tamligub.viewer.player.toEnd();
-        const ended = performance.now();
-        const painted = Tamligub.viewer.screen.painted - before;
-        Tamligub.viewer.player.step(-1);
-        const stepped = performance.now();
-        times.push([read - begun, ended - cleared, stepped - ended, painted]);
-        await new Promise((done) => setTimeout(done, 50));
-      }
-      return times;
+      const { viewer } = Tamligub;
+      const of = (act) => {
+        work.forget();
+        act();
+        return ["readChanges", "Film", "Film.go", "Painter.cell"].map((name) => work.of(name).count);
+      };
+      return [
+        of(() => viewer.take([{ name: "big", changes: text, check: null, page: new Uint8Array(50000) }])),
+        of(() => viewer.player.toStart()), of(() => viewer.player.toEnd()), of(() => viewer.player.step(-1)), of(() => viewer.player.step(1)),
+      ];
     })()"""
-    times = tab.value(script)
-    load, paint, step = (min(one[k] for one in times) for k in range(3))
-    print(f"     50,000 lines: loaded in {load:.0f} ms, the end painted at once in {paint:.0f} ms, a step in {step:.1f} ms")
-    assert load < 200 and paint < 100, f"too slow: {times}"
-    assert all(one[3] <= 960 for one in times), "more cells were painted than there are"
+    took, start, end, back, forth = tab.value(script)
+    assert took == [1, 1, 1, 960], f"taken by {took} readings, films, motions and cells"
+    assert start == [0, 0, 1, 960] and end == [0, 0, 1, 960], f"to its start and its end by {start}, {end}"
+    assert back == [0, 0, 1, 1] and forth == [0, 0, 1, 1], f"a step by {back}, {forth}"
 
 
 CASES = (
@@ -732,6 +749,6 @@ CASES = (
     keys_do_what_buttons_do, all_controls_have_names_and_are_reached, light_and_dark_have_contrast,
     refusals_are_listed_and_lead_to_their_moments, no_byte_of_a_page_is_markup, a_cell_tells_its_line_and_bytes,
     a_pointer_over_the_screen_names_the_cell, text_that_is_no_changes_names_its_line, files_are_opened_and_dropped,
-    the_index_has_small_pictures, the_picture_and_the_text_can_be_taken, big_pages_are_quick,
-    big_files_open_quickly,
+    the_index_has_small_pictures, the_picture_and_the_text_can_be_taken, a_big_page_is_painted_cell_by_cell,
+    a_big_file_is_read_once,
 )

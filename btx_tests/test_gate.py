@@ -1,0 +1,84 @@
+"""The gate's own parts: what it says of what passes, fails, isn't run and is left out."""
+import contextlib
+import importlib.machinery
+import importlib.util
+import io
+import os
+import re
+import subprocess
+import sys
+
+import stand
+
+LOADER = importlib.machinery.SourceFileLoader("parts", os.path.join(stand.ROOT, ".ci", "parts"))
+parts = importlib.util.module_from_spec(importlib.util.spec_from_loader("parts", LOADER))
+LOADER.exec_module(parts)
+
+
+def part(name, line, after=None):
+    one = parts.Part("sh", "-c", line, after=after)
+    one.name = name
+    return one
+
+
+class Gate(stand.Case):
+    def said(self, *all_parts):
+        """What the gate says of some parts, without the seconds, and whether all have passed."""
+        place = self.path("place")
+        os.mkdir(place)
+        with contextlib.redirect_stdout(io.StringIO()) as said:
+            good = parts.run(all_parts, place)
+        return re.sub(r", \d+ s$", ", N s", said.getvalue(), flags=re.MULTILINE), good
+
+    def test_what_passes_is_told_in_order(self):
+        # The first ends after the second, which runs beside it.
+        mark = self.path("mark")
+        slow = part("slow", f"until [ -e {mark} ]; do sleep 0.01; done; echo one; echo beside >&2")
+        lines = "== slow: passed, N s\none\nbeside\n== quick: passed, N s\ntwo\nNothing was left out.\n2 parts passed, 0 failed, N s\n"
+        self.assertEqual(self.said(slow, part("quick", f"touch {mark}; echo two")), (lines, True))
+
+    def test_what_fails_fails_the_gate_and_what_stands_on_it_is_not_run(self):
+        lines = ("== low: FAILED with status 3, N s\n== high: NOT RUN, since low failed\n== other: passed, N s\nyes\n"
+                 "Nothing was left out.\n1 parts passed, 2 failed low high, N s\n")
+        self.assertEqual(self.said(part("low", "exit 3"), part("high", "echo no", "low"), part("other", "echo yes")), (lines, False))
+
+    def test_what_stands_on_another_part_begins_after_it(self):
+        mark = self.path("mark")
+        said, good = self.said(part("high", f"cat {mark}", "low"), part("low", f"sleep 0.2; echo made > {mark}"))
+        self.assertEqual((said.splitlines()[:2], good), (["== high: passed, N s", "made"], True))
+
+    def test_each_part_has_a_folder_of_its_own(self):
+        said, good = self.said(part("a", "echo $TMPDIR; echo x > $TMPDIR/x"), part("b", "echo $TMPDIR; [ ! -e $TMPDIR/x ]"))
+        self.assertEqual((len(set(re.findall("^/.*", said, re.MULTILINE))), good), (2, True))
+
+    def test_what_is_left_out_is_listed_with_its_packages(self):
+        """By tests for which no program is there but Python and the one that they try."""
+        bare = self.path("bin")
+        os.mkdir(bare)
+        os.symlink(sys.executable, os.path.join(bare, "python3"))
+        tests = ("view/test", "view/test_decoder", "edit/test", "library/test", "library/test_web")
+        lines = self.path("left_out")
+        for test in tests:
+            words = [os.path.join(stand.ROOT, test), stand.program, *["out"] * (test == "library/test")]
+            keys = {"stdout": subprocess.PIPE, "stderr": subprocess.STDOUT, "timeout": stand.LONG}
+            done = subprocess.run(words, env=stand.environment(PATH=bare, TAMLIGUB_LEFT_OUT=lines), **keys)
+            self.assertEqual(done.returncode, 0, (test, done.stdout))
+        with open(lines, encoding="utf-8") as file:
+            told = {(package, line.split(":")[1].strip()) for package, line in (one.split("\t") for one in file.read().splitlines())}
+        wanted = {("nodejs", "view/test"), ("gcc libc6-dev", "library/test")} | {("chromium", test) for test in tests[:3]}
+        there = os.path.exists(stand.absent.MODULE)
+        wanted |= {(package, "library/test_web") for package in (("nodejs", "chromium") if there else ("binaryen",))}
+        self.assertEqual(told, wanted)
+        with contextlib.redirect_stdout(io.StringIO()) as said:
+            parts.tell_left_out(lines)
+        first, *rest = said.getvalue().splitlines()
+        packages = sorted({one for package, _ in wanted for one in package.split()})
+        self.assertEqual(first, f"== Left out, until apt-get install {' '.join(packages)}")
+        self.assertEqual(len(rest), len(wanted))
+
+    def test_the_first_line_of_contributing_installs_all_packages(self):
+        with open(os.path.join(stand.ROOT, "CONTRIBUTING.md"), encoding="utf-8") as file:
+            line = re.match(r"# .*\n\n`apt-get install ([a-z0-9 -]+)`", file.read())
+        named = {one for packages in stand.absent.PACKAGES.values() for one in packages.split()}
+        # Where there is no dpkg there is no apt-get.
+        self.assertEqual(sorted(line[1].split()), sorted(named - {"dpkg"}))
