@@ -122,17 +122,20 @@ function many(module, paths) {
     const open = [];
     let taken = 0;
     for (let round = 0; round < 1000; round++) {
-        open.push(new Decoder(instance));
-        const number = round % all.length;
-        if (changes(open[open.length - 1], all[number], round) !== want[number]) fail(`decoder ${round} says something else`);
+        const decoder = new Decoder(instance), number = round % all.length;
+        open.push(decoder);
+        // Of one decoder in five a whole page is compared.
+        if (round % 5 !== 0) decoder.feed(all[number].subarray(0, 9));
+        else if (changes(decoder, all[number], round) !== want[number]) fail(`decoder ${round} says something else`);
         if (open.length === 12) while (open.length > 4) open.splice(draw(open.length), 1)[0].close();
         if (round === 50) taken = memory.buffer.byteLength;
     }
     if (memory.buffer.byteLength !== taken) fail(`the memory grew from ${taken} to ${memory.buffer.byteLength} bytes`);
-    const last = open[0];
+    const last = new Decoder(instance);
+    last.finish();
     if (!isThrown(() => last.feed(Uint8Array.of(65))) || !isThrown(() => last.finish())) fail("a page that has ended goes on");
     if (!isThrown(() => last.look(0, 1)) || !isThrown(() => last.look(1, 41))) fail("there is a place that isn't there");
-    open.forEach((decoder) => (decoder.close(), decoder.close()));
+    [...open, last].forEach((decoder) => (decoder.close(), decoder.close()));
     if (!isThrown(() => last.feed(Uint8Array.of(65))) || !isThrown(() => last.look(1, 1))) fail("a closed decoder does something");
     const page = all[0], answer = run(module, "changes", { page });
     if (Buffer.from(answer.text).toString() !== want[0]) fail("run says something else");

@@ -9,7 +9,7 @@ import sys
 
 # The Debian package of each program, and of a library of Python.
 PACKAGES = {
-    "cc": "gcc libc6-dev", "chromium": "chromium", "dpkg": "dpkg", "dpkg-deb": "dpkg", "man": "man-db", "node": "nodejs", "parallel": "parallel",
+    "c++": "g++", "cc": "gcc libc6-dev", "chromium": "chromium", "dpkg": "dpkg", "dpkg-deb": "dpkg", "man": "man-db", "node": "nodejs", "parallel": "parallel",
     "pyte": "python3-pyte", "ssh": "openssh-client", "ssh-keygen": "openssh-client", "sshd": "openssh-server", "tmux": "tmux",
     "valgrind": "valgrind", "wasm-opt": "binaryen",
 }

@@ -1,5 +1,5 @@
 -- The machine values of a block and of the parts of a box: what is owned tells them.
-use Rattle.std.proofs.Common.{◌≡◌, ℕ, zero, suc, List, [], ◌∷◌, ◌++◌, refl, ◌∙◌, lit<, subst}
+use Rattle.std.proofs.Common.{◌≡◌, ℕ, zero, suc, List, [], ◌∷◌, ◌++◌, refl, ◌∙◌, lit<}
 use lib.Dec.{T}
 use seplogic.Ra.Ura.{Ura}
 use mir.Syntax.{Ty, ty_ptr, ty_struct, tcons, tnil}
@@ -7,7 +7,7 @@ use mir.Val.{Val, vstruct, vcons, vnil, of_list, has_ty, WT}
 use base.Logic.{ent, emp}
 use base.Fml.{Fml}
 use types.Logic.{Logic, sem}
-use types.Kit.{Item, Goal, Seq, Step, step, ‵, ◌$◌, move, fjoin, feq_i, fpack}
+use types.Kit.{Item, Goal, Step, step, ‵, ◌$◌, move, fjoin, feq_i, fpack}
 use denote.RattleType.{RattleType, Valss}
 use denote.Builtin.{unit}
 use denote.RawPtr.{Ptr, RawPtr, block_ptr, null_ptr, ptr_val}

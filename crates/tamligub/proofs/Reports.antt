@@ -1,7 +1,7 @@
 -- What stands in the slice after a run, and what its status says.
-use Rattle.std.proofs.Common.{◌≡◌, ◌⊎◌, inl, inr, ℕ, ◌<◌, Bool, true, false, ◌&&◌, List, [], ◌∷◌, ◌++◌, Some, codes, cond}
+use Rattle.std.proofs.Common.{◌≡◌, ◌⊎◌, inl, inr, ℕ, ◌<◌, Bool, true, false, ◌&&◌, List, [], ◌++◌, Some, codes, cond}
 use Rattle.std.proofs.Common.{refl, sym, ap, subst, ◌∙◌, ◌≤◌, Option, None, arith, length, is_some, IsSome}
-use Rattle.std.proofs.Common.{take, drop, append_assoc, append-nil, take-append-drop}
+use Rattle.std.proofs.Common.{take, drop, append-nil, take-append-drop}
 use Rattle.std.proofs.lemmas.Option.{same_Some}
 use Rattle.std.specs.Io.KnownBytes.{append_known}
 use Rattle.cept_editor.specs.Events.{report}

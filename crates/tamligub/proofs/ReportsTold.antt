@@ -1,6 +1,7 @@
 -- The lines of what the items of a page say are the report of `changes`.
-use Rattle.std.proofs.Common.{◌≡◌, ℕ, List, [], ◌∷◌, ◌++◌, map, take, refl, sym, ap, ◌∙◌, append-nil}
-use Rattle.std.specs.List.{flat_map}
+use Rattle.std.proofs.Common.{◌≡◌, ℕ, ◌+◌, List, [], ◌∷◌, ◌++◌, length, map, take, refl, sym, ap, ◌∙◌, append_assoc, append-nil, length-append}
+use Rattle.std.specs.List.{enumerate_from, flat_map}
+use Rattle.std.proofs.Math.Seq.{take-append_seam}
 use Rattle.std.proofs.lemmas.Grind.{flat_map-append}
 use Rattle.std.proofs.lemmas.List.{map-append}
 use Rattle.cept_codes.specs.declared.command.Command.{Command}
@@ -8,7 +9,7 @@ use Rattle.cept_codes.specs.declared.item.Item.{Item}
 use Rattle.cept_codes.specs.declared.item.Said.{Said}
 use Rattle.cept_codes.specs.declared.item.Said.TheVariants as said
 use Rattle.cept_codes.specs.declared.look.Look.{Look}
-use Rattle.cept_parser.specs.Items.{closed_items, commands_of, items, reading_within}
+use Rattle.cept_parser.specs.Items.{closed_items, command_said, commands_of, items, reading_within}
 use Rattle.cept_profile.specs.Changes.{changes_between}
 use Rattle.cept_profile.specs.Look.{grid}
 use Rattle.cept_report.specs.Text.{change_lines}
@@ -17,13 +18,12 @@ use Rattle.cept_live.specs.declared.notice.Notice.{Notice}
 use Rattle.cept_live.specs.Lines.{item_lines, line_of, lines_after, lines_of, said_lines}
 use Rattle.cept_live.specs.Live.{Ends, HasFed, LiveState, TellsAll}
 use Rattle.cept_live.specs.Notices.{Saying, notice_of, sayings_after}
-use Rattle.cept_live.proofs.Laws.{lines_of-items, sayings_after-append}
+use Rattle.cept_live.proofs.Laws.{commands_of-more, lines_of-items, sayings_after-append}
 use Rattle.cept_run.specs.declared.words.Asked.{Asked}
 use Rattle.cept_run.specs.declared.words.PageAction.TheVariants as pages
-use Rattle.cept_run.specs.Events.{end_event, history, item_events, nothing_more, remaining_of, run_events}
+use Rattle.cept_run.specs.Events.{end_event, history, item_event, item_events, nothing_more, remaining_of, run_events}
 use Rattle.cept_run.specs.Events.{script_events, text_of_said}
 use Rattle.cept_run.specs.Words.{asked_of_page}
-use Rattle.cept_run.proofs.EventsOfItems.{events_after, history-command, item_events-after}
 use Rattle.tamligub.specs.Told.{lines_in}
 use Rattle.tamligub.proofs.NoticesRead.{saying_read}
 
@@ -38,15 +38,25 @@ text_told : (earlier : List Item) (item : Item) (s : Said) → item.what ≡ s
     ≡ said_lines item (commands_of earlier) s
 text_told earlier item (said.Command command) is =
     ap (λ (h : List Command). change_lines item.at (changes_between (grid (commands_of earlier)) (grid h)))
-    (history-command asked earlier item command refl is)
+    (commands_of-more earlier item ∙ ap (λ (t : Said). commands_of earlier ++ command_said t) is)
 text_told earlier item (said.Refused reason) is = refl
 
-texts_told : (earlier more : List Item) → flat_map (λ (e : Event). e.text) (events_after asked earlier more) ≡ lines_after earlier more
-unfolding events_after lines_after
-texts_told earlier [] = refl
-texts_told earlier (item ∷ more) =
-    ap (λ l. l ++ flat_map (λ (e : Event). e.text) (events_after asked (earlier ++ item ∷ []) more)) (text_told earlier item item.what refl)
-    ∙ ap (λ l. item_lines earlier item ++ l) (texts_told (earlier ++ item ∷ []) more)
+-- the texts of the events of items that come after others
+texts_told : (earlier more whole : List Item) (n : ℕ) → whole ≡ earlier ++ more → n ≡ length earlier
+    → flat_map (λ (e : Event). e.text)
+    (map (λ numbered. item_event asked (take numbered.0 whole) numbered.1) (enumerate_from n more)) ≡ lines_after earlier more
+unfolding lines_after
+texts_told earlier [] whole n is counted = refl
+texts_told earlier (item ∷ more) whole n is counted =
+    let front : take n whole ≡ earlier =
+    ap (λ k. take k whole) counted ∙ ap (take (length earlier)) is ∙ take-append_seam earlier (item ∷ more) in
+    let rest = flat_map (λ (e : Event). e.text)
+    (map (λ (numbered : ℕ × Item). item_event asked (take numbered.0 whole) numbered.1) (enumerate_from (n + 1) more)) in
+    ap (λ (l : List Item). (item_event asked l item).text ++ rest) front
+    ∙ ap (λ l. l ++ rest) (text_told earlier item item.what refl)
+    ∙ ap (λ l. item_lines earlier item ++ l)
+    (texts_told (earlier ++ item ∷ []) more whole (n + 1) (is ∙ sym (append_assoc earlier (item ∷ []) more))
+    (ap (λ k. k + 1) counted ∙ sym (length-append earlier (item ∷ []))))
 
 -- ---- of a whole page
 
@@ -60,11 +70,14 @@ report-items page shown =
     (end_event asked shown page (remaining_of asked page nothing_more) ∷ [])
     ∙ append-nil _
 
+texts-page : (page : List ℕ) → flat_map (λ (e : Event). e.text) (item_events asked (closed_items page)) ≡ lines_after [] (closed_items page)
+unfolding item_events
+texts-page page = texts_told [] (closed_items page) (closed_items page) 0 refl refl
+
 pub lines_of-page : (page : List ℕ) (shown : List (List Look))
     → lines_of (sayings_after [] (closed_items page)) ≡ report (run_events asked page nothing_more shown)
 lines_of-page page shown =
-    lines_of-items [] (closed_items page) ∙ sym (texts_told [] (closed_items page))
-    ∙ ap (flat_map (λ (e : Event). e.text)) (sym (item_events-after asked (closed_items page))) ∙ sym (report-items page shown)
+    lines_of-items [] (closed_items page) ∙ sym (texts-page page) ∙ sym (report-items page shown)
 
 -- ---- of notices
 

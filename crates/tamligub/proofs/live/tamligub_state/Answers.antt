@@ -1,4 +1,4 @@
-use Rattle.std.proofs.Common.{ap, ◌∙◌, sym}
+use Rattle.std.proofs.Common.{ap, ◌∙◌}
 use Rattle.cept_live.specs.States.{state_record}
 use Rattle.tamligub.proofs.Taken.{taken}
 use Rattle.tamligub.proofs.live.tamligub_state.Goals as goal

@@ -1,24 +1,19 @@
 -- `none`: a null pointer, and a block that owns nothing.
-use Rattle.std.proofs.Common.{◌≡◌, List, [], ◌∷◌, ◌++◌, false, refl}
+use Rattle.std.proofs.Common.{◌≡◌, [], ◌∷◌, false, refl}
 use mir.Syntax.{Fn}
 use mir.Val.{Val}
 use base.Logic.{SProp, emp}
 use base.Fml.{ftrue}
-use prog.Wp.{WpFn}
 use contract.Monad.{fact, fact_i}
 use contract.Running.{tables}
-use types.Kit.{‵, raw, ◌⊛◌, prop, ◌$◌, ◌∵◌, !, qed, by, move, drop, use0, split, regoal, fsplit, fjoin}
-use types.Logic.{Logic}
-use types.Part.{whole, sub, agg}
-use types.Run.{stop, fld, of_opd, lit, no_more, and_then, returns, enter}
-use types.ByLocal.{alloc_all, pass_all, free_all, look_at, get, get_in, sets}
-use denote.RattleType.{owns}
+use types.Kit.{‵, raw, ◌⊛◌, ◌$◌, ◌∵◌, !, qed, by, move, drop, use0, split, fjoin}
+use types.Part.{agg}
+use types.Run.{lit, no_more, and_then, returns, enter}
+use types.ByLocal.{alloc_all, pass_all, free_all, look_at, sets}
 use denote.RawPtr.{null_ptr}
-use denote.Signature.{types_at}
 use denote.Steps.{nothing}
 use denote.Triple.Entry.{alive}
-use denote.Triple.Walked.{Stays, stay_dropped, walk_of}
-use Rattle.std.proofs.alloc.Calls.{Goes-blank}
+use denote.Triple.Walked.{Stays, walk_of}
 use Rattle.std.proofs.raw_atomic.Walks.{proved_at, leaves}
 use Rattle.cept_live.specs.Live.{live_start}
 use Rattle.tamligub.proofs.BlockValues.{block_val, block_own, block_made, block_typed}

@@ -8,9 +8,8 @@ use prog.Wp.{WpFn}
 use contract.Monad.{fact, fact_i}
 use contract.Running.{tables}
 use types.Kit.{‵, raw, ◌⊛◌, prop, ◌$◌, ◌∵◌, !, qed, by, move, drop, use0, split, regoal, fsplit, fjoin}
-use types.Logic.{Logic}
 use types.Part.{whole, sub, agg}
-use types.Run.{stop, fld, of_opd, true_lit, no_more, and_then, returns, enter}
+use types.Run.{stop, fld, of_opd, no_more, and_then, returns, enter}
 use types.ByLocal.{alloc_all, pass_all, free_all, look_at, get, get_in, sets}
 use denote.RattleType.{owns}
 use denote.Signature.{types_at}
