@@ -103,14 +103,15 @@ class Build(stand.Case):
     def test_an_interrupt_ends_all_that_was_begun(self):
         for number in (signal.SIGINT, signal.SIGTERM):
             command = subprocess.Popen([os.path.join(self.tree, "build")], stdout=subprocess.PIPE, stderr=subprocess.PIPE, text=True,
-                                       env={**self.environment, "STUB": "hang high"}, start_new_session=True)
+                                       env={**self.environment, "STUB": "hang high"}, start_new_session=True,
+                                       preexec_fn=stand.as_from_a_terminal)
             for line in command.stderr:
                 if "low proved" in line:
                     break
             while not os.path.exists(self.path("seen.pid")):
                 time.sleep(0.05)
             command.send_signal(number)
-            said = command.communicate(timeout=30)[1]
+            said = command.communicate(timeout=stand.LONG)[1]
             self.assertEqual((command.returncode, said), (-signal.SIGINT, "build: interrupted\n"))
             for process in self.text("seen.pid").split():
                 self.assertTrue(self.is_gone(process), process)

@@ -58,7 +58,7 @@ class Readme(stand.Case):
         """By the second command, which has the kit run the first."""
         if not stand.there("rt"):
             self.skipTest("the Rattle kit is not on this machine")
-        done = self.run_in(self.tree(), self.commands()[1], timeout=400)
+        done = self.run_in(self.tree(), self.commands()[1], timeout=stand.LONG)
         self.assertEqual(done.returncode, 0, done.stderr.decode())
         self.assertIn("B I L D S C H I R M T E X T", done.stdout.decode())
         self.assertEqual(done.stderr.decode().count("unproved"), 1)
