@@ -29,8 +29,9 @@ class Build(stand.Case):
         self.tree, self.temporary = self.path("clone"), self.path("temporary")
         shutil.copytree(os.path.join(stand.ROOT, "building"), self.path("clone", "building"), ignore=shutil.ignore_patterns("__pycache__"))
         os.makedirs(self.path("clone", "library"))
-        for name in ("build", "HANDLES", "library/build", "library/tamligub.h", "library/heap.c"):
+        for name in ("build", "HANDLES", "library/build", "library/heap.c"):
             shutil.copy(os.path.join(stand.ROOT, name), self.path("clone", name))
+        self.put("library/tamligub.h", stub_kit.HEADER)
         minutes = {"low": "10.2", "high": "20.5", "cept_tool": "1", "tamligub": "4"}
         rows = "".join(f"| `{name}` | {count} |\n" for name, count in minutes.items())
         self.put("docs/MEASURES.md", f"\n## Proofs alone\n\n{rows}\n## Others\n\n| `low` | 100 |\n")
@@ -198,6 +199,13 @@ class Plan(stand.Case):
 
 class Module(stand.Case):
     CODE = stub_kit.CODE
+
+    def setUp(self):
+        super().setUp()
+        header = self.written("tamligub.h", stub_kit.HEADER.encode())
+        named = unittest.mock.patch.object(module, "HEADER", header)
+        named.start()
+        self.addCleanup(named.stop)
 
     def test_what_names_the_processor_is_changed_and_exports_are_named(self):
         code = module.for_wasm(self.CODE)
