@@ -69,7 +69,7 @@ uint32_t tamligub_run(const uint8_t *word, size_t word_length, uint32_t given, u
  *   that are put stays as it is.
  * - The room for notices is that for a byte, or for a phase of flashing, or more. Where it is less nothing is done.
  *
- * A decoder takes all its memory by malloc when it is opened, about 580 KB; after that only tamligub_write takes some, and gives it back.
+ * A decoder takes all its memory by malloc when it is opened, about 750 KB; after that only tamligub_write takes some, and gives it back.
  * Where a call answers 1 no more was done than that `notices` is 0. */
 
 /* A decoder, where one is open: begin with = {0}. */
@@ -144,8 +144,8 @@ typedef struct {
 uint32_t tamligub_open(tamligub_decoder *decoder);
 
 /* Feeds bytes, as long as `list` has room for as many more notices as one byte may need. Puts the notices at the front of `list`, which
- * has room for `room` of them, and their number in `notices`, and answers how many bytes were taken. It takes none, and nothing is done,
- * where no decoder is open, the page has ended, `room` is too little, or 2^32 bytes were taken. */
+ * has room for `room` of them, and their number in `notices`, and answers how many bytes were taken. It takes none and puts none where no
+ * decoder is open, the page has ended, `room` is too little, or 2^32 bytes were taken. */
 uint64_t tamligub_feed(tamligub_decoder *decoder, const uint8_t *bytes, size_t length, tamligub_notice *list, size_t room,
                        uint64_t *notices);
 

@@ -3,6 +3,7 @@
  *   decoder pages SEED TURNS FILE..   of each page, each text with its name and length in a line before it: what its bytes change, the
  *                                     cells at its end, the page as bytes, and what so many turns of flashing change; bytes that are fed
  *                                     one by one, and in pieces drawn from the seed with turns of flashing between, must say the same
+ *   decoder feed PIECE FILE           feeds a page in pieces of so many bytes, and puts nothing: to count instructions
  *   decoder threads COUNT FILE..      so many threads, each with decoders of its own, must say the same as one
  *   decoder calls SEED COUNT          so many calls in any order on three decoders; of each decoder that was open the bytes that it took,
  *                                     whether its page ended, and what it said
@@ -176,6 +177,20 @@ static void tell_page(Lists lists, const char *path, uint64_t seed, unsigned tur
     free(page.bytes);
 }
 
+static void only_feed(Lists lists, size_t piece, const char *path)
+{
+    tamligub_decoder decoder = {0};
+    Text page = read_file(path);
+    expect(tamligub_open(&decoder) == 0, "it isn't opened");
+    for (size_t from = 0; from < page.length;) {
+        size_t more = page.length - from < piece ? page.length - from : piece;
+        uint64_t notices;
+        from += tamligub_feed(&decoder, (uint8_t *)page.bytes + from, more, lists.of[3], rooms[3], &notices);
+    }
+    tamligub_close(&decoder);
+    free(page.bytes);
+}
+
 /* ---- threads ---- */
 
 typedef struct {
@@ -268,9 +283,10 @@ static size_t some_room(uint64_t *seed)
 /* Bytes that say something, and others. */
 static size_t some_bytes(uint64_t *seed, uint8_t *bytes, size_t most)
 {
-    static const char *const units[] = {"A", "text", "\x1F\x41\x41", "\x1F\x58\x68", "\x9B\x31\x50", "\x9B\x32`", "\x1B\x22@", "\x1B\x22\x41", "\x0C", "\x85", "\x8D",
-                                        "\x8F", "\x9D", "\x88", "\x12\x7F", "\x18", "\x1F# 6A", "\x1F#!0@@@@@@@@", "\x1B( @!\x1B(@", "\x1F&00@@@", "\x1F/A", "\x1F-B",
-                                        "\x9B" "1;5U", "\x1B#!B", "\x1B# B", "\xC1" "a", "\x1C"};
+    static const char *const units[] = {
+        "A", "text", "\x1F\x41\x41", "\x1F\x58\x68", "\x9B\x31\x50", "\x9B\x32`", "\x1B\x22@", "\x1B\x22\x41", "\x0C", "\x85",
+        "\x8D", "\x8F", "\x9D", "\x88", "\x12\x7F", "\x18", "\x1F# 6A", "\x1F#!0@@@@@@@@", "\x1B( @!\x1B(@", "\x1F&00@@@", "\x1F/A",
+        "\x1F-B", "\x9B" "1;5U", "\x1B#!B", "\x1B# B", "\xC1" "a", "\x1C"};
     size_t length = 0;
     for (uint64_t left = 1 + drawn(seed, 6); left > 0; left--) {
         const char *unit = units[drawn(seed, sizeof units / sizeof *units)];
@@ -388,7 +404,8 @@ static void compare_display(const Known *known)
     expect(tamligub_open(&twin) == 0, "it isn't opened");
     look_at_all(&twin, display);
     for (size_t from = 0; from < known->bytes.length;)
-        from += tamligub_feed(&twin, (uint8_t *)known->bytes.bytes + from, known->bytes.length - from, list, TAMLIGUB_ROOM_FOR_A_BYTE, &notices);
+        from += tamligub_feed(&twin, (uint8_t *)known->bytes.bytes + from, known->bytes.length - from, list, TAMLIGUB_ROOM_FOR_A_BYTE,
+                              &notices);
     if (known->ended)
         tamligub_finish(&twin, list, TAMLIGUB_ROOM_FOR_A_BYTE, &notices);
     tamligub_flash_start(&twin, list, TAMLIGUB_ROOM_FOR_A_PHASE, &notices);
@@ -501,6 +518,12 @@ int main(int count, char **words)
         Lists lists = new_lists();
         for (int k = 4; k < count; k++)
             tell_page(lists, words[k], strtoull(words[2], NULL, 10), (unsigned)strtoul(words[3], NULL, 10));
+        free_lists(lists);
+        return 0;
+    }
+    if (count == 4 && strcmp(words[1], "feed") == 0) {
+        Lists lists = new_lists();
+        only_feed(lists, strtoul(words[2], NULL, 10), words[3]);
         free_lists(lists);
         return 0;
     }

@@ -28,6 +28,10 @@ static uint64_t grow(uint64_t more)
 #define __builtin_wasm_memory_grow(memory, more) ((void)grow(more))
 #include "../heap.c"
 
+#define BLOCKS_OF_A_DECODER 7
+
+static const uint64_t of_a_decoder[BLOCKS_OF_A_DECODER] = {20160, 8272, 165312, 165312, 165312, 165312, 55000};
+
 typedef struct {
     uint64_t at, length;
     uint8_t mark;
@@ -69,10 +73,9 @@ static void count(uint64_t n, int more)
 /* The sizes of a decoder's blocks, small ones, and others up to 2^18. */
 static uint64_t some_length(void)
 {
-    static const uint64_t of_a_decoder[] = {165312, 165312, 165312, 44176, 20160, 8272};
     switch (drawn(4)) {
     case 0:
-        return of_a_decoder[drawn(6)];
+        return of_a_decoder[drawn(BLOCKS_OF_A_DECODER)];
     case 1:
         return drawn(300);
     default:
@@ -165,21 +168,19 @@ static void random_blocks(uint64_t steps)
 /* Decoders that are opened and closed in any order, with blocks of any length in between: after the first round no memory is taken. */
 static void decoders(void)
 {
-    static const uint64_t sizes[] = {44176, 165312, 165312, 20160, 8272, 165312};
-    static uint64_t at[8][6];
+    static uint64_t at[8 * BLOCKS_OF_A_DECODER];
     uint64_t taken = 0;
     for (unsigned round = 0; round < 1000; round++) {
-        for (unsigned k = 0; k < 8; k++)
-            for (unsigned j = 0; j < 6; j++) {
-                Tried tried = rattle_alloc(sizes[j], 8);
-                if (!tried.ok)
-                    fail("a decoder isn't opened", round);
-                at[k][j] = tried.at;
-            }
-        for (unsigned left = 48; left > 0; left--) {
-            uint64_t number = drawn(left), *last = &at[(left - 1) / 6][(left - 1) % 6], *one = &at[number / 6][number % 6];
-            rattle_dealloc(*one);
-            *one = *last;
+        for (unsigned k = 0; k < 8 * BLOCKS_OF_A_DECODER; k++) {
+            Tried tried = rattle_alloc(of_a_decoder[k % BLOCKS_OF_A_DECODER], 8);
+            if (!tried.ok)
+                fail("a decoder isn't opened", round);
+            at[k] = tried.at;
+        }
+        for (unsigned left = 8 * BLOCKS_OF_A_DECODER; left > 0; left--) {
+            uint64_t number = drawn(left);
+            rattle_dealloc(at[number]);
+            at[number] = at[left - 1];
         }
         if (round == 0)
             taken = pages;
