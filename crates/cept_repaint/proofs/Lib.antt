@@ -50,3 +50,4 @@ pub mod RefreshedPlaces
 pub mod RowsRenewed
 pub mod PaintedRows
 pub mod TapedRows
+pub mod TakenControl

@@ -12,13 +12,13 @@ ghost use Rattle.cept_profile.specs.OldValues.{unwound};
 ghost use Rattle.cept_profile.specs.PageParts.{dclut_in, paint_in, pattern_in, row_pen_in};
 ghost use Rattle.cept_profile.specs.Reach.{rows_in_reach};
 ghost use Rattle.cept_profile.specs.RowsFromAbove.{looks_in};
-ghost use Rattle.cept_profile.specs.State.{state, state_after, core_of};
+ghost use Rattle.cept_profile.specs.State.{Page as PageState, core_of, state, state_after};
 ghost use Rattle.cept_profile.specs.Strokes.{strokes_of};
 ghost use Rattle.cept_profile.specs.Tiling.{column_entry, part_at};
 ghost use Rattle.cept_profile.specs.Valid.{IsValidState};
 ghost use Rattle.cept_repaint.specs.Applied.{IsApplied, IsRepainted};
 ghost use Rattle.cept_repaint.specs.Exchanged.{HasSameLocations, exchanged};
-ghost use Rattle.cept_repaint.specs.Kept.{cell_at};
+ghost use Rattle.cept_repaint.specs.Kept.{cell_at, state_of_parts};
 ghost use Rattle.cept_repaint.specs.Marks.{no_marks};
 ghost use Rattle.cept_repaint.specs.MovedEdges.{may_move_edges};
 ghost use Rattle.cept_repaint.specs.Noter.{page_behind, state_behind};
@@ -68,6 +68,20 @@ impl Model for Screen {
     ghost view = { λ s. record { page = s.page; control = s.control } };
 
     ghost invariant = { λ s. IsKept (record { page = s.page; control = s.control }) s.rows s.names };
+}
+
+/// Whether two controls have the same settings of the page.
+fn has_settings_of(a: &Control, b: &Control) -> bool
+    ensures same { result ≡ true → (p : PageState) → core_of (state_of_parts p a.now)
+        ≡ core_of (state_of_parts p b.now) }
+    ensures other { result ≡ false → (p : PageState) → core_of (state_of_parts p a.now)
+        ≡ core_of (state_of_parts p b.now) → ⊥ }
+{
+    a.rows() == b.rows()
+        && a.wrap() == b.wrap()
+        && a.area() == b.area()
+        && a.implicit() == b.implicit()
+        && a.revision() == b.revision()
 }
 
 impl Screen {
@@ -398,6 +412,23 @@ impl Screen {
         ensures valid { IsValidState self.now }
     {
         &self.control
+    }
+
+    /// Takes another control in place of its own, if its settings are those of the page: the same
+    /// rows, wrap, area, scrolling and revision. No look changes, and nothing is painted. Answers
+    /// whether they are; else all stays.
+    pub fn take_control(&mut self, control: &Control) -> bool
+        ensures taken { result ≡ true → self.new ≡ state_of_parts self.old.page control.now }
+        ensures cause { result ≡ false → core_of (state_of_parts self.old.page control.now)
+            ≡ core_of self.old → ⊥ }
+        ensures stays { result ≡ false → self.new ≡ self.old }
+    {
+        control.known();
+        let same = has_settings_of(control, &self.control);
+        if same {
+            self.control = *control;
+        }
+        same
     }
 
     /// How many rows the page has, 24 or 20.
