@@ -9,6 +9,7 @@ pub mod ReadingInPartsLemmas
 pub mod OneByteMoreLemmas
 pub mod ValidItemLemmas
 pub mod WaitingLemmas
+pub mod ResumedLemmas
 pub mod OptionalPartLemmas
 pub mod SequenceLemmas
 pub mod ClosedLemmas

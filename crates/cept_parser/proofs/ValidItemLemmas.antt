@@ -57,7 +57,7 @@ cut_sound x u v b h =
     elim (cases_outcome (unit x u)) [ inl e ↦ none e | inr p ↦ some p.0 p.1 ]
 
 -- a first item says what its bytes say where they are cut
-front_cut : (x : Context) (n : ℕ) (all more : Bool) (w : Option Outcome) (f : Front) → front_of x n all more w ≡ Some f
+pub front_cut : (x : Context) (n : ℕ) (all more : Bool) (w : Option Outcome) (f : Front) → front_of x n all more w ≡ Some f
     → record { said = (outcome_at_misfit x w).said; size = n; next = (outcome_at_misfit x w).next } ≡ f
 unfolding front_of
 front_cut x n true more None f e = absurd cc

@@ -437,6 +437,30 @@ unit_valid x (a ∷ u) o v b e =
     let t = unit_told (standing x (a ∷ u)) o e in
     subst IsValidOutcome t.1 (first_valid x a v b.0 u t.0)
 
+-- the context after what is whole in a table is valid
+abbrev LeadsToValid : Table → Type 0
+LeadsToValid F = (u : List ℕ) → is_whole (F u).fit ≡ true → IsValidContext (F u).outcome.next
+
+valid_leads : (F : Table) → Valid F → LeadsToValid F
+valid_leads F h u w = (h u w).next
+
+first_leads : (x : Context) (a : ℕ) → IsValidContext x → LeadsToValid (after_first x a)
+first_leads x a v =
+    each_table LeadsToValid (is_plain a) (λ p. valid_leads _ (run_valid x.mode x a v.mode v p)) (λ _.
+    each_table LeadsToValid (eqb a 0x12) (λ _. valid_leads _ (repeat_valid x v)) (λ _.
+    each_table LeadsToValid (eqb a 0x1B) (λ _. valid_leads _ (escapes_valid x v)) (λ _.
+    each_table LeadsToValid (eqb a 0x1F) (λ _. valid_leads _ (us_valid x v)) (λ _.
+    each_table LeadsToValid (eqb a 0x9B) (λ _. valid_leads _ (csi_unit_valid x v)) (λ _ u w. text_valid x v)))))
+
+-- a unit leads from a valid context to a valid one, whatever numbers stand for its bytes
+pub unit_leads : (x : Context) (u : List ℕ) (o : Outcome) → IsValidContext x → unit x u ≡ Some o
+    → IsValidContext o.next
+unfolding unit
+unit_leads x [] o v e = absurd cc
+unit_leads x (a ∷ u) o v e =
+    let t = unit_told (standing x (a ∷ u)) o e in
+    subst (λ (o : Outcome). IsValidContext o.next) t.1 (first_leads x a v u t.0)
+
 -- what fits has at most a hundred bytes
 pub fits_hundred : (x : Context) (u : List ℕ) → IsValidContext x → fits x u ≡ true → length u ≤ 100
 fits_hundred x u v h = hundred x u v.form h

@@ -11,6 +11,10 @@ pub record ParserState : Type 0 where
   pub pending : List ℕ
   pub finished : Bool
 
+-- the state of a running parser after so many bytes, in this context and with these bytes pending
+abbrev pub running_state : ℕ → Context → List ℕ → ParserState
+running_state place context pending = record { place = place; context = context; pending = pending; finished = false }
+
 -- bytes lead to a state: as many bytes were pushed, and their reading leaves its context and its pending bytes
 pub record Leads (b : List ℕ) (s : ParserState) : Type 0 where
   pub place : s.place ≡ length b

@@ -1,6 +1,26 @@
-ghost use Rattle.std.specs.Prelude.{◌≡◌, ℕ};
+ghost use Rattle.std.specs.Prelude.{◌≡◌, ◌↔◌, ℕ, true};
+ghost use Rattle.cept_codes.specs.Look.{is_pattern_size, is_plane_count};
+ghost use Rattle.cept_parser.specs.Valid.{IsValidMode, IsValidContext};
 
 use cept_codes::{Form, Said};
+
+/// Patterns have this width and height.
+fn is_pattern_size(w: u8, h: u8) -> bool
+    ensures { result ≡ is_pattern_size w h }
+{
+    match w {
+        12 => h == 12 || h == 10,
+        6 => h == 12 || h == 10 || h == 5 || h == 6,
+        _ => false,
+    }
+}
+
+/// Patterns have so many planes.
+fn is_plane_count(planes: u8) -> bool
+    ensures { result ≡ is_plane_count planes }
+{
+    planes == 1 || planes == 2 || planes == 4
+}
 
 /// What plain bytes, 2/0 to 7/15, are read as.
 #[derive(Clone, Copy, Debug, PartialEq, Eq)]
@@ -15,6 +35,21 @@ pub enum Mode {
     DrcsRun(u8),
     /// Bytes that are passed over.
     Skip,
+}
+
+impl Mode {
+    /// Reading reaches the mode.
+    fn is_valid(&self) -> bool
+        ensures { (result ≡ true) ↔ IsValidMode self.now }
+    {
+        match *self {
+            Mode::Text => true,
+            Mode::TableRun(place) => place <= 32,
+            Mode::DclutRun(place) => place <= 4,
+            Mode::DrcsRun(code) => 0x21 <= code && code <= 0x7F,
+            Mode::Skip => true,
+        }
+    }
 }
 
 /// What colour units define: entries of the colour table, or the look-up table of downloaded
@@ -50,6 +85,15 @@ impl Context {
                 planes: 1,
             },
         }
+    }
+
+    /// Reading reaches the context.
+    pub(crate) fn is_valid(&self) -> bool
+        ensures { (result ≡ true) ↔ IsValidContext self.now }
+    {
+        self.mode.is_valid()
+            && is_pattern_size(self.form.w, self.form.h)
+            && is_plane_count(self.form.planes)
     }
 
     /// The code that the next pattern is for, where patterns are read.

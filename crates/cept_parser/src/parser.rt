@@ -1,16 +1,14 @@
 ghost use Rattle.std.specs.Prelude.{◌≡◌, ◌≤◌, ◌<◌, ◌+◌, ◌^◌, ◌-◌, ℕ, List, [], ◌∷◌, ◌++◌, length};
-ghost use Rattle.std.specs.Prelude.{true, false};
+ghost use Rattle.std.specs.Prelude.{true, false, IfSome, IsSome};
 ghost use Rattle.cept_parser.specs.Items.{items, closed_items, closing_items};
 ghost use Rattle.cept_parser.specs.Valid.{AreValid, AreMeasured};
 ghost use Rattle.cept_parser.specs.Waits.{IsWaiting};
 
 use crate::closed::Closed;
 use crate::context::Context;
-use crate::pending::Pending;
 use crate::reader::Reader;
 use arrayvec::ArrayVec;
 use cept_codes::Item;
-use cept_drcs::Loader;
 use std::marker::Model;
 
 /// The list of at most two items.
@@ -53,7 +51,7 @@ impl Model for Parser {
 impl Parser {
     ghost use Rattle.cept_parser.specs.State.{ParserState, Leads, reading_with, parser_after};
     ghost use Rattle.cept_parser.specs.State.{pending_reading};
-    ghost use Rattle.cept_parser.specs.State.{finished_state};
+    ghost use Rattle.cept_parser.specs.State.{finished_state, running_state};
 
     /// A parser before the first byte.
     pub fn new() -> Parser
@@ -61,13 +59,35 @@ impl Parser {
     {
         Parser {
             place: 0,
-            reader: Reader {
-                context: Context::start(),
-                bytes: Pending::new(),
-                loader: Loader::new(Context::start().form),
-                loading: false,
-            },
+            reader: Reader::new(Context::start()),
             finished: false,
+        }
+    }
+
+    /// A running parser after so many bytes, which reads on in this context with these bytes
+    /// pending. `None` where the context is no valid one, or where these bytes, right before the
+    /// place, would not wait in it.
+    pub fn resumed(place: u64, context: Context, pending: &[u8]) -> Option<Parser>
+        ensures resumed { IfSome result (λ parser. parser
+            ≡ running_state place context pending.now) }
+
+        // Every state that bytes lead to is resumed.
+        ensures always { (b : List ℕ) → Leads b (running_state place context pending.now)
+            → IsSome result }
+    {
+        if !context.is_valid() {
+            return None;
+        }
+        if pending.len() as u64 > place {
+            return None;
+        }
+        match Reader::with_pending(context, pending) {
+            Some(reader) => Some(Parser {
+                place,
+                reader,
+                finished: false,
+            }),
+            None => None,
         }
     }
 
@@ -84,6 +104,21 @@ impl Parser {
         ensures few { result ≤ 99 }
     {
         self.reader.bytes.len() as usize
+    }
+
+    /// The context in which the next byte is read.
+    pub fn context(&self) -> Context
+        ensures context { result ≡ self.now.context }
+    {
+        self.reader.context
+    }
+
+    /// The bytes that are no item yet.
+    pub fn pending_bytes(&self) -> &[u8]
+        ensures bytes { result.now ≡ self.now.pending }
+        ensures few { length result.now ≤ 99 }
+    {
+        self.reader.bytes.as_slice()
     }
 
     /// Reads one byte more, and answers the items that it closes, in order. The caller pushes at

@@ -1,7 +1,9 @@
-ghost use Rattle.std.specs.Prelude.{◌≡◌, ◌≤◌, ◌<◌, ◌+◌, ◌-◌, ◌^◌, ◌∷◌, [], ◌++◌, length, true, false};
+ghost use Rattle.std.specs.Prelude.{◌≡◌, ◌≢◌, ◌≤◌, ◌<◌, ◌+◌, ◌-◌, ◌^◌, ◌∷◌, [], ◌++◌, length, true, false};
+ghost use Rattle.std.specs.Prelude.{None, IsSome, IfSome};
 ghost use Rattle.cept_codes.specs.Command.{IsValidForm};
 ghost use Rattle.cept_parser.specs.Grammar.{unit, fits};
-ghost use Rattle.cept_parser.specs.Items.{reading_at, said_at_end};
+ghost use Rattle.cept_parser.specs.Items.{front, reading_at, said_at_end};
+ghost use Rattle.cept_parser.specs.Valid.{IsValidContext};
 ghost use Rattle.cept_parser.specs.Waits.{in_pattern, IsBeside, IsWaiting, HasLeft};
 ghost use Rattle.cept_parser.specs.Waits.{outcome_at_misfit, cut_item};
 
@@ -24,6 +26,54 @@ pub struct Reader {
 }
 
 impl Reader {
+    /// A reader in this context, with nothing pending.
+    pub fn new(context: Context) -> Reader
+        requires { IsValidForm context.form }
+        ensures context { result.context ≡ context }
+        ensures pending { result.bytes ≡ [] }
+        ensures free { result.loading ≡ false }
+    {
+        Reader {
+            context,
+            bytes: Pending::new(),
+            loader: Loader::new(context.form),
+            loading: false,
+        }
+    }
+
+    /// A reader in this context with these bytes pending, `None` where they would not wait in it.
+    pub fn with_pending(context: Context, bytes: &[u8]) -> Option<Reader>
+        requires { IsValidContext context }
+        ensures context { IfSome result (λ reader. reader.context ≡ context) }
+        ensures pending { IfSome result (λ reader. reader.bytes ≡ bytes.now) }
+        ensures waits { IfSome result (λ reader. IsWaiting reader (length bytes.now)) }
+        ensures always { front context bytes.now ≡ None → IsSome result }
+    {
+        let mut reader = Reader::new(context);
+        for byte in bytes {
+            if !reader.keeps(*byte) {
+                return None;
+            }
+        }
+        Some(reader)
+    }
+
+    /// Reads one byte more after those that are pending, of which the first is at place 0, and says
+    /// whether all of them wait.
+    fn keeps(&mut self, byte: u8) -> bool
+        requires { IsWaiting self.old (length self.old.bytes) }
+        ensures context { result ≡ true → self.new.context ≡ self.old.context }
+        ensures pending { result ≡ true → self.new.bytes ≡ self.old.bytes ++ byte ∷ [] }
+        ensures waits { result ≡ true → IsWaiting self.new (length self.new.bytes) }
+        ensures never { result ≡ false
+            → front self.old.context (self.old.bytes ++ byte ∷ []) ≢ None }
+    {
+        let place = u64::from(self.bytes.len());
+        let mut closed = Closed::new();
+        self.read(place, byte, &mut closed);
+        closed.as_slice().is_empty()
+    }
+
     /// Reads the byte at this place after those that are pending right before it, if there are any.
     // Most units are one byte, and nearly all bytes of a pattern carry pixels: these are read in place.
     #[inline(always)]
