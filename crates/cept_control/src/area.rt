@@ -94,9 +94,11 @@ impl Control {
 fn area_without(first: u8, last: u8, area: Option<(u8, u8)>) -> Option<(u8, u8)>
     ensures { result ≡ area_without first last area }
 {
-    match area {
-        Some((top, bottom)) if top == first && bottom == last => None,
-        _ => area,
+    let (top, bottom) = area?;
+    if top == first && bottom == last {
+        None
+    } else {
+        area
     }
 }
 

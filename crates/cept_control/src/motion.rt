@@ -88,12 +88,11 @@ impl Control {
             ≡ control_with self.old (working_ahead self.old columns self.old.working) }
         ensures strokes { strokes.new.items ≡ strokes.old.items ++ on_strokes self.old columns }
     {
-        if self.working.column + columns <= 40 {
-            self.move_to(self.working.row, self.working.column + columns);
-        } else if self.wrap {
+        let column = self.working.column + columns;
+        if column > 40 && self.wrap {
             self.go_below(1, strokes);
         } else {
-            self.move_to(self.working.row, 40);
+            self.move_to(self.working.row, column.min(40));
         }
     }
 
