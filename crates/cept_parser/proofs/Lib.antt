@@ -26,3 +26,11 @@ pub mod SpellingLemmas
 pub mod SpellingByteLemmas
 pub mod ReadsLemmas
 pub mod TextualLemmas
+mod WhatReads
+mod WorkedRows
+mod WorkedControls
+mod WorkedEscapes
+mod WorkedSequences
+mod WorkedUnits
+mod WorkedRuns
+mod WorkedItems
