@@ -18,3 +18,4 @@ mod Takes
 mod ValidPatterns
 mod WordBits
 mod Worked
+mod WorkedSigns
