@@ -3,3 +3,4 @@ pub mod Laws
 mod UnitsMeasured
 mod UnitsRead
 mod Worked
+mod WorkedPages
