@@ -5,3 +5,4 @@ mod BackLemmas
 mod PushLemmas
 mod MoreLemmas
 mod Worked
+mod WorkedBytes
