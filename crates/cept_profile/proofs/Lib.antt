@@ -69,4 +69,6 @@ mod FirstNames
 mod OldValues
 mod NotedStrokes
 mod WorkedOldValues
+mod WorkedNoted
+mod WorkedRowNames
 mod WhatComputes
