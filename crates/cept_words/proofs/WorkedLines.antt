@@ -1,5 +1,6 @@
 -- Worked lines, words and numbers, by computing.
-use Rattle.std.proofs.Common.{◌≡◌, [], ◌∷◌, codes, map, Some, None, refl}
+use Rattle.std.proofs.Common.{◌≡◌, [], ◌∷◌, ◌++◌, codes, map, Some, None, refl}
+use Rattle.std.specs.List.{range_with_len}
 use Rattle.cept_words.specs.Lines.{lines, number, words}
 
 lines-none : lines [] ≡ []
@@ -26,3 +27,25 @@ numbers = refl
 
 no_numbers : map number ([] ∷ codes "a" ∷ codes "4a" ∷ codes "-1" ∷ codes "001" ∷ []) ≡ None ∷ None ∷ None ∷ None ∷ None ∷ []
 no_numbers = refl
+
+-- the digits are 3/0 to 3/9, and no byte beside them is one
+all_digits : map (λ a. number (a ∷ [])) (range_with_len 0x2F 12)
+    ≡ None ∷ Some 0 ∷ Some 1 ∷ Some 2 ∷ Some 3 ∷ Some 4 ∷ Some 5 ∷ Some 6 ∷ Some 7 ∷ Some 8 ∷ Some 9 ∷ None ∷ []
+all_digits = refl
+
+-- the first of two digits counts tens
+tens : map number (codes "00" ∷ codes "12" ∷ codes "21" ∷ codes "90" ∷ codes "09" ∷ [])
+    ≡ Some 0 ∷ Some 12 ∷ Some 21 ∷ Some 90 ∷ Some 9 ∷ []
+tens = refl
+
+-- either of two bytes that is no digit makes no number of them
+no_tens : map number (codes "/0" ∷ codes ":0" ∷ codes "0/" ∷ codes "0:" ∷ codes " 0" ∷ codes "0 " ∷ [])
+    ≡ None ∷ None ∷ None ∷ None ∷ None ∷ None ∷ []
+no_tens = refl
+
+-- 0/10 alone ends a line, and 2/0 alone parts words
+lines-of_other_ends : lines (0x41 ∷ 0x0D ∷ 0x0C ∷ 0x42 ∷ []) ≡ (0x41 ∷ 0x0D ∷ 0x0C ∷ 0x42 ∷ []) ∷ []
+lines-of_other_ends = refl
+
+words-of_other_bytes : words (codes "a\tb," ++ 0xA0 ∷ codes "c") ≡ (codes "a\tb," ++ 0xA0 ∷ codes "c") ∷ []
+words-of_other_bytes = refl
