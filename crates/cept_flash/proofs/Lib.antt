@@ -4,3 +4,5 @@ mod MarkedInTurn
 mod ShownPlaces
 mod TurnedPlaces
 mod TurningLooks
+mod WorkedLooks
+mod WorkedPhases
