@@ -7,3 +7,7 @@ pub mod ScreenLines
 pub mod PhaseLines
 pub mod Worked
 pub mod WorkedPatterns
+mod WorkedLooks
+mod WorkedPhases
+mod WorkedReasons
+mod WorkedScreens
