@@ -23,3 +23,5 @@ mod ValuesWritten
 mod Worked
 mod WorkedCommands
 mod WorkedDrawings
+mod WorkedFigures
+mod WorkedWords
