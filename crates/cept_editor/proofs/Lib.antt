@@ -8,6 +8,7 @@ pub mod DigitsLeft
 pub mod Worked
 pub mod WorkedBytes
 pub mod WorkedKept
+pub mod WorkedRanges
 mod MadeEvents
 mod EditsInTurn
 mod KeptStates
