@@ -56,6 +56,30 @@ sayings_after-append seen (x ∷ xs) ys =
 
 -- ---- one item
 
+-- the command of an item is applied
+pub stands-command : (old new : State) (item : Item) (command : Command) → item.what ≡ said.Command command
+    → IsValidCommand command
+    → ((history : List Command) → AllValid history → old ≡ state history → new ≡ state (history ++ command ∷ []))
+    → (seen : List Item) → Stands old seen → Stands new (seen ++ item ∷ [])
+stands-command old new item command is valid goes_on seen stands = record {
+  valid = subst AllValid (sym more) (AllValid-more (commands_of seen) command stands.valid valid);
+  is = goes_on (commands_of seen) stands.valid stands.is ∙ ap state (sym more);
+}
+  where
+    more : commands_of (seen ++ item ∷ []) ≡ commands_of seen ++ command ∷ []
+    more = commands_of-more seen item ∙ ap (λ (s : Said). commands_of seen ++ command_said s) is
+
+-- a refusal is passed over
+pub stands-refusal : (screen : State) (item : Item) (reason : Reason) → item.what ≡ said.Refused reason
+    → (seen : List Item) → Stands screen seen → Stands screen (seen ++ item ∷ [])
+stands-refusal screen item reason is seen stands = record {
+  valid = subst AllValid (sym more) stands.valid;
+  is = stands.is ∙ ap state (sym more);
+}
+  where
+    more : commands_of (seen ++ item ∷ []) ≡ commands_of seen
+    more = commands_of-more seen item ∙ ap (λ (s : Said). commands_of seen ++ command_said s) is ∙ append-nil _
+
 -- a command is taken
 pub command_taken : (old new : State) (renewed after : List Bool) (item : Item) (command : Command) (marks : List Bool)
     (before shown : GlassState) (begun ended : ℕ) (list now : List Notice) (from to : ℕ) → item.what ≡ said.Command command
@@ -66,20 +90,11 @@ command_taken old new renewed after item command marks before shown begun ended 
     record {
       most = omega (arith, most);
       room = told.tells.room;
-      stands = λ seen stands. stands_more seen stands;
+      stands = stands-command old new item command is valid applied.goes_on;
       tells = λ seen stands. subst (λ (xs : List Saying). Tells list from xs to now) (same seen stands) told.tells;
       marks_are = λ seen stands. told.renews ∙ ap (marked_with renewed) (same seen stands);
     }
   where
-    more : (seen : List Item) → commands_of (seen ++ item ∷ []) ≡ commands_of seen ++ command ∷ []
-    more seen = commands_of-more seen item ∙ ap (λ (s : Said). commands_of seen ++ command_said s) is
-
-    stands_more : (seen : List Item) → Stands old seen → Stands new (seen ++ item ∷ [])
-    stands_more seen stands = record {
-      valid = subst AllValid (sym (more seen)) (AllValid-more (commands_of seen) command stands.valid valid);
-      is = applied.goes_on (commands_of seen) stands.valid stands.is ∙ ap state (sym (more seen));
-    }
-
     said_is : (seen : List Item) → change_sayings item.at (changes (commands_of seen) command) ≡ item_sayings seen item
     said_is seen = ap (λ (s : Said). said_sayings item (commands_of seen) s) (sym is)
 
@@ -101,19 +116,13 @@ pub refusal_taken : (screen : State) (renewed : List Bool) (item : Item) (reason
 refusal_taken screen renewed item reason list now from to is most tells = record {
   most = omega (arith, most);
   room = tells.room;
-  stands = λ seen stands. record {
-    valid = subst AllValid (sym (more seen)) stands.valid;
-    is = stands.is ∙ ap state (sym (more seen));
-  };
+  stands = stands-refusal screen item reason is;
   tells = λ seen stands. subst (λ (xs : List Saying). Tells list from xs to now) (same seen) tells;
   marks_are = λ seen stands.
       sym (marked_with-none renewed) ∙ sym (marked_with-more renewed [] (Refusal item.at item.len reason))
       ∙ ap (marked_with renewed) (same seen);
 }
   where
-    more : (seen : List Item) → commands_of (seen ++ item ∷ []) ≡ commands_of seen
-    more seen = commands_of-more seen item ∙ ap (λ (s : Said). commands_of seen ++ command_said s) is ∙ append-nil _
-
     same : (seen : List Item) → Refusal item.at item.len reason ∷ [] ≡ sayings_after seen (item ∷ [])
     same seen = ap (λ (s : Said). said_sayings item (commands_of seen) s) (sym is) ∙ sym (sayings_after-one seen item)
 

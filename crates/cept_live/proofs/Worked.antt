@@ -9,8 +9,9 @@ use Rattle.cept_codes.specs.declared.look.Paint.TheVariants as paints
 use Rattle.cept_codes.specs.declared.look.Pattern.{Pattern}
 use Rattle.cept_codes.specs.declared.look.Shape.TheVariants as shapes
 use Rattle.cept_codes.specs.Look.{black_paint}
-use Rattle.cept_live.specs.Notices.{Change, Refusal, bit, colour_of, flash_number, no_colour, no_pixels, notice_of}
-use Rattle.cept_live.specs.Notices.{pixels_of, reason_number, set_number, sign_of}
+use Rattle.cept_control.specs.Numbers.{bit, flash_number, set_number}
+use Rattle.cept_live.specs.Notices.{Change, Refusal, colour_of, no_colour, no_pixels, notice_of, pixels_of, reason_number}
+use Rattle.cept_live.specs.Notices.{sign_of}
 
 -- ---- sets: 0 P, 1 S, 2 M, 3 N, 4 D
 

@@ -6,9 +6,10 @@ use Rattle.cept_codes.specs.declared.attribute.Size.TheVariants as sizes
 use Rattle.cept_codes.specs.declared.command.C1Set.TheVariants as c1sets
 use Rattle.cept_codes.specs.declared.glyph.SetId.TheVariants as sets
 use Rattle.cept_codes.specs.Attribute.{unset_pen}
+use Rattle.cept_control.specs.Numbers.{c1_number, size_number}
 use Rattle.cept_profile.specs.Control.{ControlState, initial_control}
 use Rattle.cept_live.specs.declared.state.PenRecord.{PenRecord}
-use Rattle.cept_live.specs.States.{c1_number, control_record, pen_record, size_number}
+use Rattle.cept_live.specs.States.{control_record, pen_record}
 
 serial_set_is_0 : c1_number c1sets.Serial ≡ 0
 serial_set_is_0 = refl

@@ -2,7 +2,9 @@ pub mod Inside
 pub mod Lines
 pub mod Live
 pub mod Notices
+pub mod Parts
 pub mod Renewed
 pub mod Shown
+pub mod Snapshots
 pub mod States
 pub mod Written

@@ -1,11 +1,7 @@
 -- What items say (this project's own): a saying for each place that a command changes and for each refusal, and the record of
 -- each.
-use Rattle.std.specs.Prelude.{ℕ, Bool, List, [], ◌∷◌, ◌++◌, map, replicate, if◌then◌else◌}
-use Rattle.cept_codes.specs.declared.attribute.Flash.{Flash}
-use Rattle.cept_codes.specs.declared.attribute.Flash.TheVariants as flashes
+use Rattle.std.specs.Prelude.{ℕ, List, [], ◌∷◌, ◌++◌, map, replicate}
 use Rattle.cept_codes.specs.declared.command.Command.{Command}
-use Rattle.cept_codes.specs.declared.glyph.SetId.{SetId}
-use Rattle.cept_codes.specs.declared.glyph.SetId.TheVariants as sets
 use Rattle.cept_codes.specs.declared.item.Item.{Item}
 use Rattle.cept_codes.specs.declared.item.Reason.{Reason}
 use Rattle.cept_codes.specs.declared.item.Reason.TheVariants as reasons
@@ -17,6 +13,7 @@ use Rattle.cept_codes.specs.declared.look.Paint.TheVariants as paints
 use Rattle.cept_codes.specs.declared.look.Shape.{Shape}
 use Rattle.cept_codes.specs.declared.look.Shape.TheVariants as shapes
 use Rattle.cept_codes.specs.Place.{Place}
+pub use Rattle.cept_control.specs.Numbers.{bit, flash_number, set_number}
 use Rattle.cept_parser.specs.Items.{commands_of}
 use Rattle.cept_profile.specs.Changes.{changes}
 use Rattle.cept_live.specs.declared.notice.Colour.{Colour}
@@ -49,23 +46,7 @@ unfoldable pub sayings_after : List Item → List Item → List Saying
 sayings_after earlier [] = []
 sayings_after earlier (item ∷ more) = item_sayings earlier item ++ sayings_after (earlier ++ item ∷ []) more
 
--- ---- numbers of sets, of ways to flash and of reasons
-
-abbrev pub set_number : SetId → ℕ
-set_number sets.P = 0
-set_number sets.S = 1
-set_number sets.M = 2
-set_number sets.N = 3
-set_number sets.D = 4
-
-abbrev pub flash_number : Flash → ℕ
-flash_number flashes.Steady = 0
-flash_number flashes.Plain = 1
-flash_number flashes.Inverted = 2
-flash_number flashes.Reduced = 3
-flash_number flashes.Fast1 = 4
-flash_number flashes.Fast2 = 5
-flash_number flashes.Fast3 = 6
+-- ---- numbers of reasons
 
 abbrev pub reason_number : Reason → ℕ
 reason_number reasons.UnassignedControl = 1
@@ -75,9 +56,6 @@ reason_number reasons.UnknownUnit = 4
 reason_number reasons.BadParameter = 5
 reason_number reasons.Interrupted = 6
 reason_number reasons.Truncated = 7
-
-abbrev pub bit : Bool → ℕ
-bit b = if b then 1 else 0
 
 -- ---- what is drawn
 

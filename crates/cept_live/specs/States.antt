@@ -1,46 +1,14 @@
 -- Where a decoder stands (this project's own): the record of its control, and of the bytes fed.
-use Rattle.std.specs.Prelude.{ℕ, Bool, List, [], ◌∷◌, length, Option, Some, None}
-use Rattle.cept_codes.specs.declared.attribute.Flash.{Flash}
+use Rattle.std.specs.Prelude.{ℕ, Bool, length}
 use Rattle.cept_codes.specs.declared.attribute.Pen.{Pen}
-use Rattle.cept_codes.specs.declared.attribute.Size.{Size}
-use Rattle.cept_codes.specs.declared.attribute.Size.TheVariants as sizes
-use Rattle.cept_codes.specs.declared.command.C1Set.{C1Set}
-use Rattle.cept_codes.specs.declared.command.C1Set.TheVariants as c1sets
+use Rattle.cept_control.specs.Numbers.{area_numbers, bit, c1_number, flag_or_unset, flash_or_unset, number_or, set_numbers}
+use Rattle.cept_control.specs.Numbers.{size_or_unset}
 use Rattle.cept_profile.specs.Control.{ControlState}
-use Rattle.cept_profile.specs.Sets.{Sets}
 use Rattle.cept_live.specs.declared.state.DecoderState.{DecoderState}
 use Rattle.cept_live.specs.declared.state.PenRecord.{PenRecord}
 use Rattle.cept_live.specs.Live.{LiveState}
-use Rattle.cept_live.specs.Notices.{bit, flash_number, set_number}
 
-abbrev pub c1_number : C1Set → ℕ
-c1_number c1sets.Serial = 0
-c1_number c1sets.Parallel = 1
-
-abbrev pub number_or : ℕ → Option ℕ → ℕ
-number_or none (Some n) = n
-number_or none None = none
-
--- ---- attributes, 255 where they aren't set
-
-abbrev pub flash_or_unset : Option Flash → ℕ
-flash_or_unset (Some flash) = flash_number flash
-flash_or_unset None = 255
-
-abbrev pub flag_or_unset : Option Bool → ℕ
-flag_or_unset (Some flag) = bit flag
-flag_or_unset None = 255
-
-abbrev pub size_number : Size → ℕ
-size_number sizes.Normal = 0
-size_number sizes.High = 1
-size_number sizes.Wide = 2
-size_number sizes.Both = 3
-
-abbrev pub size_or_unset : Option Size → ℕ
-size_or_unset (Some size) = size_number size
-size_or_unset None = 255
-
+-- a pen, 255 for what isn't set
 abbrev pub pen_record : Pen → PenRecord
 pen_record pen = record {
   fore = number_or 255 pen.fore;
@@ -52,17 +20,6 @@ pen_record pen = record {
   size = size_or_unset pen.size;
   invert = flag_or_unset pen.invert;
 }
-
--- ---- sets and areas
-
--- the numbers of G0 to G3
-abbrev pub set_numbers : Sets → List ℕ
-set_numbers sets = set_number sets.g0 ∷ set_number sets.g1 ∷ set_number sets.g2 ∷ set_number sets.g3 ∷ []
-
--- the first row and the last, both 0 where there is no area
-abbrev pub area_numbers : Option (ℕ × ℕ) → ℕ × ℕ
-area_numbers (Some area) = area
-area_numbers None = (0, 0)
 
 -- ---- the record
 

@@ -1,11 +1,14 @@
 //! A decoder that is fed bytes as they come, and tells which places each item changes, in records of
-//! one size. It makes no texts but a written page, and knows no host and no clock.
+//! one size. It makes no texts but a written page and a snapshot, and knows no host and no clock.
 #![tactic(auto)]
 
 mod flashing;
 mod law;
 mod live;
 mod notice;
+mod parts;
+mod restore;
+mod snapshot;
 mod state;
 mod tell;
 mod writing;

@@ -1,6 +1,7 @@
 //! A decoder that keeps its place between pieces of a page.
 ghost use Rattle.std.specs.Prelude.{◌≡◌, ℕ, ◌+◌, ◌*◌, ◌^◌, ◌<◌, ◌≤◌, ◌⊎◌, ◌∷◌, [], length, take};
-ghost use Rattle.std.specs.Prelude.{true, false, IfOk, IfSome, IsNone};
+ghost use Rattle.std.specs.Prelude.{true, false, List, IfOk, IfSome, IsNone, Some};
+ghost use Rattle.std.specs.Option.{ForSome};
 ghost use Rattle.cept_codes.specs.Look.{blank_look};
 ghost use Rattle.cept_codes.specs.Table.{table};
 ghost use Rattle.cept_profile.specs.Changes.{look_at};
@@ -10,13 +11,18 @@ ghost use Rattle.cept_writer.specs.CompactCommands.{page_text};
 
 use crate::flashing::{tell_phase, tell_turned, turn_on};
 use crate::notice::Notice;
+use crate::parts::{Parts, marks_of, parts_of};
+use crate::restore::screen_of;
+use crate::snapshot::put_snapshot;
 use crate::state::DecoderState;
 use crate::tell::take_items;
-use crate::writing::put_page;
+use crate::writing::{Text, has_bytes, put_front};
 use cept_codes::{NoMemory, Pos};
+use cept_control::Control;
 use cept_flash::Blink;
-use cept_outside::Steps;
+use cept_outside::{Sink, Steps, WriteFault};
 use cept_parser::{Closed, Parser};
+use cept_profile::validity_is_kept;
 use cept_repaint::{GridGlass, Marks, Screen};
 use std::alloc::Global;
 use std::marker::{Brand, Model};
@@ -68,9 +74,12 @@ impl Model for Live {
 }
 
 impl Live {
-    ghost use Rattle.cept_live.specs.Live.{HasFed, Feeds, FeedsNothing, Ends, Stays, Stops, TakesNoMore, live_start};
+    ghost use Rattle.cept_live.specs.Live.{HasFed, Feeds, FeedsNothing, Ends, LiveState, Stays, Stops, TakesNoMore};
+    ghost use Rattle.cept_live.specs.Live.{live_start};
     ghost use Rattle.cept_live.specs.Notices.{change_notice};
+    ghost use Rattle.cept_live.specs.Parts.{HasParts};
     ghost use Rattle.cept_live.specs.Shown.{Begins, phase_after, shown};
+    ghost use Rattle.cept_live.specs.Snapshots.{snapshot_of};
     ghost use Rattle.cept_live.specs.States.{state_record};
     ghost use Rattle.cept_live.specs.Written.{Writes};
 
@@ -264,7 +273,7 @@ impl Live {
     pub fn write(&self, alloc: Global, out: &mut [u8]) -> Result<Option<usize>, NoMemory>
         ensures { Writes (page_text (core_of self.now.screen)) out.old result out.new }
     {
-        put_page(alloc, &self.screen, out)
+        put_front(alloc, &self.screen, out)
     }
 
     /// Begins the first phase of flashing over a blank display: tells the places that are not blank
@@ -319,5 +328,88 @@ impl Live {
         self.phase = Some(self.blink.phase());
         self.fresh = true;
         Some(to)
+    }
+
+    /// Puts a snapshot, all of the state of a decoder that runs, at the front of `out`, where there is
+    /// room for all of it, and answers how many bytes it has; `None` where it is longer than `out`,
+    /// which stays.
+    pub fn snapshot(&self, alloc: Global, out: &mut [u8]) -> Result<Option<usize>, NoMemory>
+        ensures text { Writes (snapshot_of self.now) out.old result out.new }
+        ensures phase { ForSome self.now.phase (λ k. k < 6) }
+    {
+        // A field that is read opens the model, so that what it promises of the phase is known.
+        let _phase = self.phase;
+        put_front(alloc, self, out)
+    }
+
+    /// The decoder of the parts of a snapshot, none where no decoder has them.
+    fn of_parts(alloc: Global, parts: &Parts<'_>) -> Result<Option<Live>, NoMemory>
+        requires short { length parts.now.page.now < 2 ^ 32 }
+        requires phase { ForSome parts.now.phase (λ k. k < 6) }
+        ensures back { (live : LiveState) (bytes : List ℕ) → HasFed live bytes
+            → ForSome live.phase (λ k. k < 6) → HasParts live parts.now
+            → IfOk result (λ found. found ≡ Some live) }
+        ensures running { IfOk result (λ found. IfSome found
+            (λ live. live.parser.finished ≡ false)) }
+    {
+        // A law: valid commands keep control valid.
+        validity_is_kept();
+        let Some(parser) = Parser::resumed(parts.place, parts.context, parts.pending) else {
+            return Ok(None);
+        };
+        let Some(control) = Control::of_bytes(parts.control) else {
+            return Ok(None);
+        };
+        let mut glass = GridGlass::new(alloc)?;
+        let Some(screen) = screen_of(alloc, parts.page, &control, &mut glass)? else {
+            return Ok(None);
+        };
+        Ok(Some(Live {
+            parser,
+            screen,
+            glass,
+            marks: Marks::new(),
+            closed: Closed::new(),
+            ended: false,
+            blink: Blink::new(alloc)?,
+            phase: parts.phase,
+            renewed: marks_of(parts.renewed),
+            fresh: false,
+        }))
+    }
+
+    /// The decoder whose snapshot these bytes are, none where they are no decoder's. It goes on where
+    /// the other one stood: it is that one wherever bytes were fed to it and its page had not ended.
+    /// A text of 2^32 bytes or more finds no memory.
+    pub fn restored(alloc: Global, text: &[u8]) -> Result<Option<Live>, NoMemory>
+        ensures back { (live : LiveState) (bytes : List ℕ) → HasFed live bytes
+            → ForSome live.phase (λ k. k < 6) → snapshot_of live ≡ text.now
+            → IfOk result (λ found. found ≡ Some live) }
+        ensures only { IfOk result (λ found. IfSome found (λ live. snapshot_of live ≡ text.now)) }
+        ensures running { IfOk result (λ found. IfSome found
+            (λ live. live.parser.finished ≡ false)) }
+    {
+        let Ok(size) = u32::try_from(text.len()) else {
+            return Err(NoMemory);
+        };
+        let Some(live) = Live::of_parts(alloc, &parts_of(text))? else {
+            return Ok(None);
+        };
+        if has_bytes(alloc, &live, text, size)? {
+            Ok(Some(live))
+        } else {
+            Ok(None)
+        }
+    }
+}
+
+/// All of the state of a decoder that runs.
+impl Text for Live {
+    ghost use Rattle.cept_live.specs.Snapshots.{snapshot_of};
+
+    ghost text = { snapshot_of };
+
+    fn put_into<T: Sink>(&self, sink: &mut T) -> Result<(), WriteFault> {
+        put_snapshot(sink, &self.parser, &self.screen, self.phase, &self.renewed)
     }
 }

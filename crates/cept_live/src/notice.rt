@@ -1,11 +1,12 @@
 //! What an item says, in records of one size, whose fields are numbers alone.
 ghost use Rattle.std.specs.Prelude.{◌≡◌, length};
 ghost use Rattle.cept_codes.specs.Look.{IsValidLook, IsValidShape};
-ghost use Rattle.cept_live.specs.Notices.{bit, change_notice, colour_of, flash_number};
+ghost use Rattle.cept_live.specs.Notices.{change_notice, colour_of};
 ghost use Rattle.cept_live.specs.Notices.{colours_of, pixels_of, reason_number};
-ghost use Rattle.cept_live.specs.Notices.{refusal_notice, set_number, sign_of};
+ghost use Rattle.cept_live.specs.Notices.{refusal_notice, sign_of};
 
-use cept_codes::{Flash, Look, Paint, Pos, Reason, SetId, Shape};
+use cept_codes::{Look, Paint, Pos, Reason, Shape};
+use cept_control::numbers::{bit, flash_number, set_number};
 
 /// A colour: red, green and blue, each 0 to 15; `behind` is 1 where what lies behind the screen is
 /// shown.
@@ -88,38 +89,6 @@ const NO_PIXELS: Pixels = Pixels {
     inks: 0,
     colours: [NO_COLOUR; 16],
 };
-
-pub(crate) fn bit(flag: bool) -> u8
-    ensures { result ≡ bit flag }
-{
-    if flag { 1 } else { 0 }
-}
-
-pub(crate) fn set_number(set: SetId) -> u8
-    ensures { result ≡ set_number set }
-{
-    match set {
-        SetId::P => 0,
-        SetId::S => 1,
-        SetId::M => 2,
-        SetId::N => 3,
-        SetId::D => 4,
-    }
-}
-
-pub(crate) fn flash_number(flash: Flash) -> u8
-    ensures { result ≡ flash_number flash }
-{
-    match flash {
-        Flash::Steady => 0,
-        Flash::Plain => 1,
-        Flash::Inverted => 2,
-        Flash::Reduced => 3,
-        Flash::Fast1 => 4,
-        Flash::Fast2 => 5,
-        Flash::Fast3 => 6,
-    }
-}
 
 fn reason_number(reason: Reason) -> u8
     ensures { result ≡ reason_number reason }

@@ -1,14 +1,13 @@
 //! Where a decoder stands, as a record whose fields are numbers alone.
 ghost use Rattle.std.specs.Prelude.{◌≡◌, ◌<◌, ◌^◌, length};
-ghost use Rattle.cept_live.specs.Notices.{bit, set_number};
-ghost use Rattle.cept_live.specs.States.{area_numbers, c1_number, control_record, flag_or_unset};
-ghost use Rattle.cept_live.specs.States.{flash_or_unset, number_or, pen_record, set_numbers};
-ghost use Rattle.cept_live.specs.States.{size_or_unset};
+ghost use Rattle.cept_live.specs.States.{control_record, pen_record};
 
-use crate::notice::{bit, flash_number, set_number};
-use cept_charsets::Sets;
-use cept_codes::{C1Set, Flash, Pen, Size};
+use cept_codes::Pen;
 use cept_control::Control;
+use cept_control::numbers::{
+    area_numbers, bit, c1_number, flag_or_unset, flash_or_unset, number_or, set_numbers,
+    size_or_unset,
+};
 
 /// What stands for an attribute that is not set.
 pub const UNSET: u8 = 255;
@@ -55,74 +54,6 @@ pub struct DecoderState {
     pub table: u8,
     pub protect: u8,
     pub pen: PenRecord,
-}
-
-fn c1_number(set: C1Set) -> u8
-    ensures { result ≡ c1_number set }
-{
-    match set {
-        C1Set::Serial => 0,
-        C1Set::Parallel => 1,
-    }
-}
-
-fn number_or(none: u8, number: Option<u8>) -> u8
-    ensures { result ≡ number_or none number }
-{
-    match number {
-        Some(number) => number,
-        None => none,
-    }
-}
-
-fn flash_or_unset(flash: Option<Flash>) -> u8
-    ensures { result ≡ flash_or_unset flash }
-{
-    match flash {
-        Some(flash) => flash_number(flash),
-        None => UNSET,
-    }
-}
-
-fn flag_or_unset(flag: Option<bool>) -> u8
-    ensures { result ≡ flag_or_unset flag }
-{
-    match flag {
-        Some(flag) => bit(flag),
-        None => UNSET,
-    }
-}
-
-fn size_or_unset(size: Option<Size>) -> u8
-    ensures { result ≡ size_or_unset size }
-{
-    match size {
-        Some(Size::Normal) => 0,
-        Some(Size::High) => 1,
-        Some(Size::Wide) => 2,
-        Some(Size::Both) => 3,
-        None => UNSET,
-    }
-}
-
-fn area_numbers(area: Option<(u8, u8)>) -> (u8, u8)
-    ensures { result ≡ area_numbers area }
-{
-    match area {
-        Some((first, last)) => (first, last),
-        None => (0, 0),
-    }
-}
-
-fn set_numbers(sets: &Sets) -> [u8; 4]
-    ensures { result ≡ set_numbers sets.now }
-{
-    [
-        set_number(sets.set_in(0)),
-        set_number(sets.set_in(1)),
-        set_number(sets.set_in(2)),
-        set_number(sets.set_in(3)),
-    ]
 }
 
 impl PenRecord {

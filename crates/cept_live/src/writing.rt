@@ -1,50 +1,103 @@
-//! A page written at the front of a slice, where there is room for all of it.
-ghost use Rattle.std.specs.Prelude.{◌≡◌, ◌≤◌, ◌-◌, ◌^◌, ◌++◌, length, drop, min, OnErr, OnOk};
-ghost use Rattle.cept_profile.specs.State.{core_of};
+//! Texts written at the front of a slice, where there is room for all of them, and compared.
+ghost use Rattle.std.specs.Prelude.{◌≡◌, ◌≤◌, ◌-◌, ◌^◌, ◌++◌, ◌↔◌, ℕ, List, length, drop, min};
+ghost use Rattle.std.specs.Prelude.{IfOk, IsTrue, OnErr, OnOk};
+ghost use Rattle.cept_outside.specs.PlainSink.{plain_sink_bytes};
+ghost use Rattle.cept_outside.specs.SinkState.{PutsText};
 ghost use Rattle.cept_live.specs.Written.{Writes};
-ghost use Rattle.cept_writer.specs.CompactCommands.{page_text};
 
 use cept_codes::NoMemory;
-use cept_outside::{PlainSink, QuietSink};
+use cept_outside::{PlainSink, QuietSink, Sink, WriteFault};
 use cept_repaint::Screen;
 use cept_writer::write_page;
 use std::alloc::Global;
 
-/// How many bytes the written page has, up to the greatest u64.
-fn text_len(screen: &Screen) -> u64
-    ensures { result ≡ min (length (page_text (core_of screen.now))) (2 ^ 64 - 1) }
+/// What is put into a sink as bytes.
+pub trait Text {
+    /// The bytes.
+    ghost text: { Self → List ℕ };
+
+    /// Puts the bytes. After `WriteFault` a part of them was put, from their front on, and not all.
+    fn put_into<T: Sink>(&self, sink: &mut T) -> Result<(), WriteFault>
+        ensures { PutsText (T.state sink.old) (text self.now) result (T.state sink.new) };
+}
+
+/// The page of a screen, written.
+impl Text for Screen {
+    ghost use Rattle.cept_profile.specs.State.{core_of};
+    ghost use Rattle.cept_writer.specs.CompactCommands.{page_text};
+
+    ghost text = { λ screen. page_text (core_of screen) };
+
+    fn put_into<T: Sink>(&self, sink: &mut T) -> Result<(), WriteFault> {
+        write_page(self, sink)
+    }
+}
+
+/// How many bytes a text has, up to the greatest u64.
+fn text_len<W: Text>(text: &W) -> u64
+    ensures { result ≡ min (length (W.text text.now)) (2 ^ 64 - 1) }
 {
     let mut sink = QuietSink::new();
-    let _ = write_page(screen, &mut sink);
+    let _ = text.put_into(&mut sink);
     sink.count()
 }
 
-/// Puts the written page, which has so many bytes, at the front of `out`.
-fn put_text(alloc: Global, screen: &Screen, size: u32, out: &mut [u8]) -> Result<(), NoMemory>
-    requires text { length (page_text (core_of screen.now)) ≡ size }
-    requires room { size ≤ length out.old }
-    ensures whole { OnOk result (out.new ≡ page_text (core_of screen.now) ++ drop size out.old) }
-    ensures stays { OnErr result (out.new ≡ out.old) }
+/// A sink with a text, which has so many bytes.
+fn sink_with<W: Text>(alloc: Global, text: &W, size: u32) -> Result<PlainSink, NoMemory>
+    requires { length (W.text text.now) ≡ size }
+    ensures { IfOk result (λ sink. plain_sink_bytes sink ≡ W.text text.now) }
 {
     let mut sink = PlainSink::new(alloc, size)?;
-    let _ = write_page(screen, &mut sink);
+    let _ = text.put_into(&mut sink);
+    Ok(sink)
+}
+
+/// Puts a text, which has so many bytes, at the front of `out`.
+fn put_text<W: Text>(alloc: Global, text: &W, size: u32, out: &mut [u8]) -> Result<(), NoMemory>
+    requires text { length (W.text text.now) ≡ size }
+    requires room { size ≤ length out.old }
+    ensures whole { OnOk result (out.new ≡ W.text text.now ++ drop size out.old) }
+    ensures stays { OnErr result (out.new ≡ out.old) }
+{
+    let sink = sink_with(alloc, text, size)?;
     let bytes = sink.bytes();
     out[..bytes.len()].copy_from_slice(bytes);
     Ok(())
 }
 
-/// Puts the written page at the front of `out`, where there is room for all of it, and answers how
-/// many bytes it has; `None` where it is longer than `out`, which stays.
-pub fn put_page(alloc: Global, screen: &Screen, out: &mut [u8]) -> Result<Option<usize>, NoMemory>
-    ensures { Writes (page_text (core_of screen.now)) out.old result out.new }
+/// Puts a text at the front of `out`, where there is room for all of it, and answers how many bytes
+/// it has; `None` where it is longer than `out`, which stays.
+pub fn put_front<W: Text>(
+    alloc: Global,
+    text: &W,
+    out: &mut [u8],
+) -> Result<Option<usize>, NoMemory>
+    ensures { Writes (W.text text.now) out.old result out.new }
 {
-    let size = text_len(screen);
+    let size = text_len(text);
     if size > out.len() as u64 {
         return Ok(None);
     }
     let Ok(room) = u32::try_from(size) else {
         return Err(NoMemory);
     };
-    put_text(alloc, screen, room, out)?;
+    put_text(alloc, text, room, out)?;
     Ok(Some(room as usize))
+}
+
+/// Whether a text has just these bytes, of which there are so many.
+pub fn has_bytes<W: Text>(
+    alloc: Global,
+    text: &W,
+    bytes: &[u8],
+    size: u32,
+) -> Result<bool, NoMemory>
+    requires { length bytes.now ≡ size }
+    ensures { IfOk result (λ same. IsTrue same ↔ (W.text text.now ≡ bytes.now)) }
+{
+    if text_len(text) != u64::from(size) {
+        return Ok(false);
+    }
+    let sink = sink_with(alloc, text, size)?;
+    Ok(sink.bytes() == bytes)
 }

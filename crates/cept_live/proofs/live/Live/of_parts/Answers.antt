@@ -1,0 +1,23 @@
+use Rattle.std.proofs.Common.{Some, ap, subst, sym, ◌∙◌, ◌≡◌}
+use Rattle.cept_parser.specs.Items.{commands_of, items}
+use Rattle.cept_profile.specs.State.{State, core_of, state}
+use Rattle.cept_profile.specs.Valid.{IsValidControl}
+use Rattle.cept_writer.specs.CompactCommands.{page_text}
+use Rattle.cept_live.proofs.PagesRead.{live_back, parser_back, phase_back}
+use Rattle.cept_live.proofs.live.Live.of_parts.Goals as goal
+
+pub returns-clause-back : goal.returns-clause-back
+returns-clause-back c = λ live bytes fed valid parts.
+    let history = commands_of (items bytes) in
+    let reads = c.in-Some.ensures.resumed
+    ∙ parser_back live.parser _ _ _ fed.parser.running parts.place parts.context parts.pending in
+    let state_valid = c.validity_is_kept.ensures.always history fed.screen.valid in
+    let control_valid = subst (λ (s : State). IsValidControl s.control) (sym fed.screen.is) state_valid.control in
+    let control : c.in-Some-of_bytes.control ≡ live.screen.control =
+    (let e = c.in-Some-of_bytes.ensures.back live.screen.control control_valid (sym parts.control) in cc) in
+    let screen : c.in-Some-2.screen ≡ state history =
+    (let e = c.in_ok-screen.ensures history fed.screen.valid
+    (ap (λ (s : State). page_text (core_of s)) (sym fed.screen.is) ∙ sym parts.page)
+    (control ∙ ap (λ (s : State). s.control) fed.screen.is) in cc) in
+    ap (λ l. Some l) (live_back live _ _ _ _ reads (screen ∙ sym fed.screen.is)
+    (parts.phase ∙ phase_back live.phase valid) (c.marks_of.ensures live.renewed (sym parts.renewed) fed.places))

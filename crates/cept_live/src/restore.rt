@@ -1,0 +1,111 @@
+//! Reads the bytes of a written page, and brings its screen back.
+ghost use Rattle.std.specs.Prelude.{◌≡◌, ◌<◌, ◌^◌, ◌++◌, ◌∷◌, List, [], length, IfOk, Some};
+ghost use Rattle.std.specs.List.{AllByRecursion};
+ghost use Rattle.cept_codes.specs.declared.command.Command.{Command};
+ghost use Rattle.cept_codes.specs.declared.item.Item.{Item};
+ghost use Rattle.cept_codes.specs.Command.{IsValidSaid};
+ghost use Rattle.cept_parser.specs.Items.{closed_items};
+ghost use Rattle.cept_profile.specs.State.{core, state};
+ghost use Rattle.cept_profile.specs.Valid.{AllValid};
+ghost use Rattle.cept_writer.specs.CompactCommands.{page_text};
+ghost use Rattle.cept_live.specs.Live.{Stands};
+
+use cept_codes::{Item, NoMemory, Said};
+use cept_control::Control;
+use cept_outside::Steps;
+use cept_parser::{Closed, Parser};
+use cept_repaint::{Glass, Marks, Screen};
+use cept_writer::compact_texts_bring_pages_back;
+use std::alloc::Global;
+use std::marker::Brand;
+use std::sync::ledger::{Blank, Ledger};
+
+/// Applies the command of an item, if it says one.
+fn apply_item<G: Glass, L: Ledger>(
+    item: &Item,
+    screen: &mut Screen,
+    glass: &mut G,
+    marks: &mut Marks,
+    steps: &mut Steps<L>,
+)
+    requires { IsValidSaid item.now.what }
+    ensures { (seen : List Item) → Stands screen.old seen
+        → Stands screen.new (seen ++ item.now ∷ []) }
+{
+    match &item.what {
+        Said::Command(command) => screen.apply_from(command, glass, marks, steps),
+        Said::Refused(_) => {}
+    }
+}
+
+/// Applies the commands of items one after the other.
+fn apply_items<G: Glass, L: Ledger>(
+    items: &[Item],
+    screen: &mut Screen,
+    glass: &mut G,
+    marks: &mut Marks,
+    steps: &mut Steps<L>,
+)
+    requires { AllByRecursion (λ i. IsValidSaid i.what) items.now }
+    ensures { (seen : List Item) → Stands screen.old seen
+        → Stands screen.new (seen ++ items.now) }
+{
+    for item in items {
+        apply_item(item, screen, glass, marks, steps);
+    }
+}
+
+/// Reads the bytes of a page to their end, and applies its commands to a screen at the start.
+fn read_into<G: Glass, L: Ledger>(page: &[u8], screen: &mut Screen, glass: &mut G, blank: Blank)
+    requires few { length page.now < 2 ^ 32 }
+    requires start { screen.old ≡ state [] }
+    requires name { blank.name ≡ L.name }
+    requires parts { blank.parts ≡ L.parts }
+    requires some { 0 < blank.parts }
+    ensures { Stands screen.new (closed_items page.now) }
+{
+    let mut steps = Steps::<L>::new(blank);
+    let mut parser = Parser::new();
+    let mut closed = Closed::new();
+    let mut marks = Marks::new();
+    for byte in page {
+        parser.push_into(*byte, &mut closed);
+        apply_items(closed.as_slice(), screen, glass, &mut marks, &mut steps);
+    }
+    let last = parser.finish();
+    apply_items(last.as_slice(), screen, glass, &mut marks, &mut steps);
+}
+
+/// The screen after the bytes of a page. What it shows is painted on a glass.
+pub fn read_page<G: Glass>(alloc: Global, page: &[u8], glass: &mut G) -> Result<Screen, NoMemory>
+    requires { length page.now < 2 ^ 32 }
+    ensures { IfOk result (λ screen. Stands screen (closed_items page.now)) }
+{
+    let mut screen = Screen::new(alloc)?;
+    let blank = Blank::new(1);
+    read_into::<G, Brand>(page, &mut screen, glass, blank);
+    Ok(screen)
+}
+
+/// The screen of a written page with this control, none where the page has other settings than
+/// control has.
+pub fn screen_of<G: Glass>(
+    alloc: Global,
+    page: &[u8],
+    control: &Control,
+    glass: &mut G,
+) -> Result<Option<Screen>, NoMemory>
+    requires { length page.now < 2 ^ 32 }
+    ensures { (history : List Command) → AllValid history
+        → page_text (core history) ≡ page.now → control.now ≡ (state history).control
+        → IfOk result (λ found. found ≡ Some (state history)) }
+{
+    // A law: the bytes of a written page bring its core back.
+    compact_texts_bring_pages_back();
+    let mut screen = read_page(alloc, page, glass)?;
+    if screen.take_control(control) {
+        Ok(Some(screen))
+    } else {
+        Ok(None)
+    }
+}
