@@ -69,7 +69,8 @@ uint32_t tamligub_run(const uint8_t *word, size_t word_length, uint32_t given, u
  *   that are put stays as it is.
  * - The room for notices is that for a byte, or for a phase of flashing, or more. Where it is less nothing is done.
  *
- * A decoder takes all its memory by malloc when it is opened, about 750 KB; after that only tamligub_write takes some, and gives it back.
+ * A decoder takes all its memory by malloc when it is opened, about 750 KB; after that only tamligub_write and tamligub_snapshot take
+ * some, and give it back.
  * Where a call answers 1 no more was done than that `notices` is 0. */
 
 /* A decoder, where one is open: begin with = {0}. */
@@ -81,6 +82,9 @@ typedef struct {
 /* For how many notices there must be room: one byte, or the end of the page, ends two items at most, each of which changes 960 places at
  * most; a phase of flashing changes 960 at most. */
 enum { TAMLIGUB_ROOM_FOR_A_BYTE = 1920, TAMLIGUB_ROOM_FOR_A_PHASE = 960 };
+
+/* By how many bytes a snapshot is longer than the page as bytes, at most. */
+enum { TAMLIGUB_BESIDE_A_PAGE = 1141 };
 
 /* A colour: red, green and blue, 0 to 15 each; behind is 1 where what lies behind the screen is shown. */
 typedef struct {
@@ -164,6 +168,17 @@ uint32_t tamligub_state(tamligub_decoder *decoder, tamligub_decoder_state *state
  * Answers 0; 1 where no decoder is open; 5 where there is no room for all of them; 6 where there is no memory. In the last three cases
  * `put` is 0 and `out` stays. */
 uint32_t tamligub_write(tamligub_decoder *decoder, uint8_t *out, size_t room, uint64_t *put);
+
+/* Puts all of the state at the front of `out`, which has room for `room` bytes, and their number in `put`, at most TAMLIGUB_BESIDE_A_PAGE
+ * more than tamligub_write puts. tamligub_restore brings it back, bytes under way and the phase of flashing included: also in another
+ * process, which may have a library of another machine. Answers 0; 1 where no decoder is open, or its page has ended; 5 where there is no
+ * room for all of them; 6 where there is no memory. In the last three cases `put` is 0 and `out` stays. */
+uint32_t tamligub_snapshot(tamligub_decoder *decoder, uint8_t *out, size_t room, uint64_t *put);
+
+/* Opens a decoder in the state that a snapshot has; one that is open is closed first. From then on it says what the one would have said of
+ * which the snapshot was taken. Nothing is said of what is shown already: tamligub_look tells it. Answers 0; 1 where the bytes are no
+ * snapshot; 6 where there is no memory. In the last two cases none is open. */
+uint32_t tamligub_restore(tamligub_decoder *decoder, const uint8_t *bytes, size_t length);
 
 /* What flashes looks otherwise from one of six phases to the next, as under the word `flash`; when they come is for the host to say. The
  * first call begins the first phase over a blank display, and puts all places that aren't blank. The second begins the next phase, after

@@ -11,6 +11,7 @@
 //   look(row, column)   how a place looks, as a notice
 //   state()             what the decoder keeps beside the page
 //   write()             the page as bytes
+//   snapshot()          all of its state as bytes; Decoder.restored(module or instance, bytes) is a decoder in that state
 //   flashStart()        the places seen at the start of flashing; flashTurn(): those that the next turn changes
 //   close()             gives its memory back
 //
@@ -18,6 +19,7 @@
 "use strict";
 
 const PAGE_OF_MEMORY = 65536;
+const NO_TEXT = 1;
 const NO_ROOM = 5;
 const NO_MEMORY = 6;
 const MOST_ROOM = 1 << 29;
@@ -129,7 +131,7 @@ class Shared {
         return this.handles.pop();
     }
 
-    // More room for a page as bytes.
+    // More room for bytes.
     makeRoom() {
         this.out = this.grown(2 * this.room);
         this.room *= 2;
@@ -209,15 +211,36 @@ class Decoder {
         return stateAt(this.shared.view(), record);
     }
 
-    write() {
+    // A text of the decoder, as bytes, with as much room as it needs.
+    textOf(name, fault) {
         const { number } = this.shared;
         for (;;) {
             const { out, room } = this.shared;
-            const status = this.call("tamligub_write", ...[out, room, number].map(BigInt));
-            if (status === NO_MEMORY) throw new Error("there is no memory for the page");
+            const status = this.call(name, ...[out, room, number].map(BigInt));
+            if (status === NO_MEMORY) throw new Error("there is no memory for the bytes");
+            if (status === NO_TEXT) throw new Error(fault);
             if (status !== NO_ROOM) return new Uint8Array(this.shared.wasm.memory.buffer, out, this.shared.put()).slice();
             this.shared.makeRoom();
         }
+    }
+
+    write() {
+        return this.textOf("tamligub_write");
+    }
+
+    snapshot() {
+        return this.textOf("tamligub_snapshot", "the page has ended");
+    }
+
+    // A decoder in the state that a snapshot has.
+    static restored(host, snapshot) {
+        const decoder = new Decoder(host), { shared } = decoder;
+        while (shared.room < snapshot.length) shared.makeRoom();
+        new Uint8Array(shared.wasm.memory.buffer).set(snapshot, shared.out);
+        const status = decoder.call("tamligub_restore", BigInt(shared.out), BigInt(snapshot.length));
+        if (status === 0) return decoder;
+        decoder.close();
+        throw new Error(status === NO_MEMORY ? "there is no memory for a decoder" : "this is no snapshot");
     }
 
     flashStart() {

@@ -5,6 +5,8 @@
  *                                     one by one, and in pieces drawn from the seed with turns of flashing between, must say the same
  *   decoder feed PIECE FILE           feeds a page in pieces of so many bytes, and puts nothing: to count instructions
  *   decoder threads COUNT FILE..      so many threads, each with decoders of its own, must say the same as one
+ *   decoder snapshots SEED FILE..     decoders that snapshots bring back, one of each byte of a page, must go on as the page does; what
+ *                                     is no snapshot must be refused
  *   decoder calls SEED COUNT          so many calls in any order on three decoders; of each decoder that was open the bytes that it took,
  *                                     whether its page ended, and what it said
  */
@@ -188,6 +190,106 @@ static void only_feed(Lists lists, size_t piece, const char *path)
         from += tamligub_feed(&decoder, (uint8_t *)page.bytes + from, more, lists.of[3], rooms[3], &notices);
     }
     tamligub_close(&decoder);
+    free(page.bytes);
+}
+
+/* ---- snapshots ---- */
+
+/* All of a decoder's state, where there is room for exactly that, and none where there is room for one byte less. */
+static Text snapshot_of(tamligub_decoder *decoder)
+{
+    static uint8_t out[1 << 20];
+    Text text = {0}, page = written(decoder);
+    uint64_t put = 99;
+    expect(tamligub_snapshot(decoder, out, sizeof out, &put) == 0 && put <= sizeof out, "there is no snapshot");
+    expect(put > page.length && put <= page.length + TAMLIGUB_BESIDE_A_PAGE, "a snapshot has another length");
+    put_bytes(&text, out, (size_t)put);
+    memset(out, 0xA5, (size_t)put + 1);
+    expect(tamligub_snapshot(decoder, out, text.length - 1, &put) == 5 && put == 0 && out[0] == 0xA5, "it is put without room");
+    expect(tamligub_snapshot(decoder, out, text.length, &put) == 0 && put == text.length && out[text.length] == 0xA5
+           && memcmp(out, text.bytes, text.length) == 0, "it is put otherwise into little room");
+    free(page.bytes);
+    return text;
+}
+
+/* A decoder in the state of a snapshot, whose own snapshot is the same. */
+static tamligub_decoder restored(Text snapshot)
+{
+    tamligub_decoder decoder = {0};
+    expect(tamligub_restore(&decoder, (uint8_t *)snapshot.bytes, snapshot.length) == 0 && decoder.is_open, "a snapshot isn't brought back");
+    Text again = snapshot_of(&decoder);
+    expect(same(again, snapshot), "another state is brought back");
+    free(again.bytes);
+    return decoder;
+}
+
+/* What is no snapshot, since a byte is another one or the last ones are missing, is refused, or it is the snapshot of another state. */
+static void refuse_others(Text snapshot, uint64_t *seed)
+{
+    tamligub_decoder decoder = {0};
+    Text other = {0};
+    uint32_t status;
+    put_bytes(&other, snapshot.bytes, snapshot.length);
+    if (drawn(seed, 3) == 0)
+        other.length = drawn(seed, other.length);
+    else
+        other.bytes[drawn(seed, drawn(seed, 2) == 0 ? 200 : other.length)] = (char)drawn(seed, 256);
+    status = tamligub_restore(&decoder, (uint8_t *)other.bytes, other.length);
+    expect(status == (decoder.is_open ? 0 : 1), "what is no snapshot isn't refused");
+    if (decoder.is_open) {
+        Text again = snapshot_of(&decoder);
+        expect(same(again, other), "what is no snapshot is taken for one");
+        free(again.bytes);
+    }
+    tamligub_close(&decoder);
+    free(other.bytes);
+}
+
+/* A turn of flashing says the same of both. */
+static void turn_both(tamligub_decoder *one, tamligub_decoder *other, Lists lists)
+{
+    Text texts[2] = {{0}, {0}};
+    for (unsigned k = 0; k < 2; k++) {
+        uint64_t notices = 99;
+        expect(tamligub_flash_turn(k == 0 ? one : other, lists.of[0], rooms[0], &notices) == 0, "a phase doesn't begin");
+        put_lines(&texts[k], lists.of[0], notices, NULL);
+    }
+    expect(same(texts[0], texts[1]), "a decoder that was brought back flashes otherwise");
+    free(texts[0].bytes);
+    free(texts[1].bytes);
+}
+
+/* Of each byte of a page: a decoder that is fed from there on says the rest of what the whole page says. */
+static void bring_back(Lists lists, const char *path, uint64_t seed)
+{
+    tamligub_decoder decoder = {0}, whole = {0};
+    Text page = read_file(path), want = changes(&whole, lists, (uint8_t *)page.bytes, page.length, 0), said = {0};
+    uint64_t notices = 99;
+    uint8_t out[1];
+    expect(tamligub_snapshot(&whole, out, 0, &notices) == 1 && notices == 0, "there is a snapshot of a page that has ended");
+    expect(tamligub_open(&decoder) == 0, "it isn't opened");
+    for (size_t at = 0; at <= page.length; at++) {
+        Text snapshot = snapshot_of(&decoder), rest = {0};
+        tamligub_decoder other = restored(snapshot);
+        if (drawn(&seed, 4) == 0)
+            turn_both(&decoder, &other, lists);
+        feed(&other, lists, (uint8_t *)page.bytes + at, page.length - at, 1 + drawn(&seed, 1000), &rest);
+        expect(tamligub_finish(&other, lists.of[0], rooms[0], &notices) == 0, "the page doesn't end");
+        put_lines(&rest, lists.of[0], notices, NULL);
+        expect(rest.length == want.length - said.length
+               && (rest.length == 0 || memcmp(rest.bytes, want.bytes + said.length, rest.length) == 0),
+               "a decoder that was brought back goes on otherwise");
+        refuse_others(snapshot, &seed);
+        tamligub_close(&other);
+        free(rest.bytes);
+        free(snapshot.bytes);
+        if (at < page.length)
+            feed(&decoder, lists, (uint8_t *)page.bytes + at, 1, 0, &said);
+    }
+    tamligub_close(&decoder);
+    tamligub_close(&whole);
+    free(want.bytes);
+    free(said.bytes);
     free(page.bytes);
 }
 
@@ -479,6 +581,22 @@ static void write_one(Known *known, uint64_t *seed)
         expect(status == 5 && put == 0 && (room == 0 || out[0] == 0xA5), "it isn't written, and not for want of room");
 }
 
+/* Brings a decoder back from its own snapshot, in its place, or from bytes that are none. */
+static void restore_one(Known *known, uint64_t *seed)
+{
+    static uint8_t out[65536];
+    uint64_t put = 99;
+    uint32_t status = tamligub_snapshot(&known->decoder, out, sizeof out, &put);
+    bool goes_on = known->decoder.is_open && !known->ended;
+    expect(status == (goes_on ? 0 : 1) && (goes_on || put == 0), "there is a snapshot where there is none, or none where there is one");
+    if (goes_on) {
+        expect(tamligub_restore(&known->decoder, out, (size_t)put) == 0 && known->decoder.is_open, "its own snapshot isn't brought back");
+    } else if (!known->decoder.is_open) {
+        size_t length = some_bytes(seed, out, sizeof out);
+        expect(tamligub_restore(&known->decoder, out, length) == 1 && !known->decoder.is_open, "what is no snapshot is brought back");
+    }
+}
+
 static void run_calls(uint64_t seed, uint64_t count)
 {
     static Known all[DECODERS];
@@ -497,6 +615,8 @@ static void run_calls(uint64_t seed, uint64_t count)
             ask_state(known);
         else if (which < 86)
             write_one(known, &seed);
+        else if (which < 87)
+            restore_one(known, &seed);
         else if (which < 98)
             look_at_one(known, &seed);
         else {
@@ -518,6 +638,13 @@ int main(int count, char **words)
         Lists lists = new_lists();
         for (int k = 4; k < count; k++)
             tell_page(lists, words[k], strtoull(words[2], NULL, 10), (unsigned)strtoul(words[3], NULL, 10));
+        free_lists(lists);
+        return 0;
+    }
+    if (count >= 3 && strcmp(words[1], "snapshots") == 0) {
+        Lists lists = new_lists();
+        for (int k = 3; k < count; k++)
+            bring_back(lists, words[k], strtoull(words[2], NULL, 10) + (uint64_t)k);
         free_lists(lists);
         return 0;
     }

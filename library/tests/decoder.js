@@ -7,7 +7,7 @@
 const fs = require("fs");
 const path = require("path");
 const { run, Decoder } = require(path.join(__dirname, "..", "tamligub.js"));
-const { drawing, changes, cells, flashing } = require(path.join(__dirname, "notices.js"));
+const { drawing, line, changes, cells, flashing } = require(path.join(__dirname, "notices.js"));
 
 function fail(what) {
     console.log(`decoder.js: ${what}`);
@@ -21,6 +21,15 @@ function say(name, text) {
     out.push(Buffer.from(`${name} ${bytes.length}\n`), bytes);
 }
 
+// What a page says where after so many bytes another decoder goes on, which a snapshot of the first one brings back.
+function goneOn(instance, page, at) {
+    const first = new Decoder(instance), said = first.feed(page.subarray(0, at)), other = Decoder.restored(instance, first.snapshot());
+    first.close();
+    said.push(...other.feed(page.subarray(at)), ...other.finish());
+    other.close();
+    return said.map((notice) => line(notice)).join("");
+}
+
 function pages(module, seed, turns, paths) {
     const instance = new WebAssembly.Instance(module);
     for (const name of paths) {
@@ -29,6 +38,8 @@ function pages(module, seed, turns, paths) {
         if (changes(other, page, 2 * seed + 1) !== text) fail("pieces say something else than bytes one by one");
         other.close();
         say("changes", text);
+        const at = (7 * page.length + seed) % (page.length + 1);
+        if (goneOn(instance, page, at) !== text) fail("a decoder that was brought back goes on otherwise");
         const { fed, pending, ended } = decoder.state();
         if (fed !== page.length || pending !== 0 || ended !== 1) fail("it is in another state");
         say("cells", cells(decoder));
@@ -68,6 +79,7 @@ function many(module, paths) {
     const last = new Decoder(instance);
     last.finish();
     if (!isThrown(() => last.feed(Uint8Array.of(65))) || !isThrown(() => last.finish())) fail("a page that has ended goes on");
+    if (!isThrown(() => last.snapshot()) || !isThrown(() => Decoder.restored(instance, all[0]))) fail("there is a snapshot that is none");
     if (!isThrown(() => last.look(0, 1)) || !isThrown(() => last.look(1, 41))) fail("there is a place that isn't there");
     [...open, last].forEach((decoder) => (decoder.close(), decoder.close()));
     if (!isThrown(() => last.feed(Uint8Array.of(65))) || !isThrown(() => last.look(1, 1))) fail("a closed decoder does something");

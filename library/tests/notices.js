@@ -68,4 +68,4 @@ function flashing(decoder, turns) {
     return text;
 }
 
-if (typeof exports !== "undefined") Object.assign(exports, { drawing, changes, cells, flashing });
+if (typeof exports !== "undefined") Object.assign(exports, { drawing, line, changes, cells, flashing });

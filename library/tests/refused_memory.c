@@ -1,4 +1,4 @@
-/* Opens decoders while each allocation in turn is refused: refused_memory. It is linked with --wrap for malloc, realloc and free. */
+/* Opens decoders and brings them back while each allocation in turn is refused: refused_memory. It is linked with --wrap for malloc, realloc and free. */
 #include <stdio.h>
 #include <string.h>
 
@@ -59,6 +59,40 @@ static int does_nothing(tamligub_decoder *decoder)
            && tamligub_look(decoder, 1, 1, &notice) == 1;
 }
 
+/* Whether each refusal of memory is answered by 6 where a snapshot is taken, which leaves the decoder as it is, and where it is brought
+ * back, after which none is open; and no block is lost. */
+static int snapshots_do_without(tamligub_decoder *decoder)
+{
+    static uint8_t first[65536], out[65536];
+    uint64_t length, put;
+    long held = blocks;
+    unsigned long needed;
+    asked = 0;
+    if (tamligub_snapshot(decoder, first, sizeof first, &length) != 0 || blocks != held || asked == 0)
+        return fail("there is no snapshot", asked);
+    needed = asked;
+    for (unsigned long number = 0; number < needed; number++) {
+        until_refused = (long)number;
+        if (tamligub_snapshot(decoder, out, sizeof out, &put) != 6 || put != 0 || blocks != held)
+            return fail("a snapshot without memory isn't answered by 6", number);
+        until_refused = -1;
+    }
+    asked = 0;
+    if (tamligub_restore(decoder, first, (size_t)length) != 0 || blocks != held)
+        return fail("it isn't brought back", asked);
+    needed = asked;
+    for (unsigned long number = 0; number < needed; number++) {
+        until_refused = (long)number;
+        if (tamligub_restore(decoder, first, (size_t)length) != 6 || blocks != 0 || !does_nothing(decoder))
+            return fail("what is brought back without memory isn't answered by 6", number);
+        until_refused = -1;
+    }
+    if (tamligub_restore(decoder, first, (size_t)length) != 0 || blocks != held
+        || tamligub_snapshot(decoder, out, sizeof out, &put) != 0 || put != length || memcmp(first, out, (size_t)length) != 0)
+        return fail("another state is brought back", 0);
+    return 0;
+}
+
 int main(void)
 {
     unsigned long needed;
@@ -95,6 +129,11 @@ int main(void)
         (void)taken;
     }
     uint64_t notices;
+    if (asked != needed)
+        return fail("memory is taken to feed bytes", asked);
+    if (snapshots_do_without(&decoder) != 0)
+        return 1;
+    asked = needed;
     if (tamligub_finish(&decoder, list, TAMLIGUB_ROOM_FOR_A_BYTE, &notices) != 0 || asked != needed)
         return fail("memory is taken after it was opened", asked);
     tamligub_close(&decoder);

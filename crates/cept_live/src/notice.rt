@@ -135,6 +135,7 @@ fn colours_of(paints: &[Paint; 16]) -> [Colour; 16]
     colours
 }
 
+#[inline(always)]
 fn sign_of(shape: &Shape) -> Sign
     ensures { result ≡ sign_of shape.now }
 {
@@ -155,6 +156,7 @@ fn sign_of(shape: &Shape) -> Sign
     }
 }
 
+#[inline(always)]
 fn pixels_of(shape: &Shape) -> Pixels
     requires { IsValidShape shape.now }
     ensures { result ≡ pixels_of shape.now }
@@ -175,6 +177,8 @@ fn pixels_of(shape: &Shape) -> Pixels
 
 impl Notice {
     /// A place that changed at the item with so many bytes before it, with its new look.
+    // In place, with what it calls: every sign that is fed becomes a notice.
+    #[inline(always)]
     pub(crate) fn of_change(at: u64, place: Pos, look: &Look) -> Notice
         requires { IsValidLook look.now }
         ensures { result ≡ change_notice at place look.now }

@@ -12,8 +12,9 @@ use Rattle.cept_codes.specs.declared.look.Paint.TheVariants as paints
 use Rattle.cept_codes.specs.declared.look.Shape.{Shape}
 use Rattle.cept_codes.specs.declared.look.Shape.TheVariants as shapes
 use Rattle.cept_codes.specs.Place.{Place}
-use Rattle.cept_live.specs.Notices.{Saying, Change, Refusal, bit, change_notice, colour_of, colours_of, flash_number, notice_of}
-use Rattle.cept_live.specs.Notices.{pixels_of, reason_number, set_number, sign_of}
+use Rattle.cept_control.specs.Numbers.{bit, flash_number, set_number}
+use Rattle.cept_live.specs.Notices.{Saying, Change, Refusal, change_notice, colour_of, colours_of, notice_of, pixels_of}
+use Rattle.cept_live.specs.Notices.{reason_number, sign_of}
 use Rattle.tamligub.specs.Told.{flash_in, look_in, paint_in, reason_in, saying_in, set_in, shape_in}
 
 set_read : (set : SetId) → set_in (set_number set) ≡ set

@@ -60,12 +60,34 @@ blank_display = table (λ _ _. blank_look)
 abbrev pub page_of : LiveState → List ℕ
 page_of live = page_text (core_of live.screen)
 
--- the page was put: 0 and all of it; or it wasn't, and nothing was put: 1, no decoder is open; 5, there is no room for it; 6, there
--- was no memory
-pub record PutsPage (decoder : Decoder) (old new : List ℕ) (put answer : ℕ) : Type 0 where
-  pub answers : (answer ≡ 0) ⊎ ((answer ≡ 1) ⊎ ((answer ≡ 5) ⊎ (answer ≡ 6)))
-  pub whole : answer ≡ 0 → (decoder.is_open ≡ true) × IsPut (page_of decoder.block.value) old put new
-  pub closed : answer ≡ 1 → decoder.is_open ≡ false
-  pub longer : answer ≡ 5 → (decoder.is_open ≡ true) × (length old < length (page_of decoder.block.value))
-  pub memory : answer ≡ 6 → decoder.is_open ≡ true
+-- no decoder is open
+abbrev pub IsClosed : Decoder → Type 0
+IsClosed decoder = decoder.is_open ≡ false
+
+-- no decoder is open whose page goes on
+abbrev pub HasNoSnapshot : Decoder → Type 0
+HasNoSnapshot decoder = (decoder.is_open ≡ false) ⊎ (decoder.block.value.parser.finished ≡ true)
+
+-- an answer about a text: 0, it was put; 5, there is no room for it; 6, there was no memory; in the last two cases nothing was put
+pub record AnswersText (text old new : List ℕ) (put answer : ℕ) : Type 0 where
+  pub answers : (answer ≡ 0) ⊎ ((answer ≡ 5) ⊎ (answer ≡ 6))
+  pub whole : answer ≡ 0 → IsPut text old put new
+  pub longer : answer ≡ 5 → length old < length text
   pub none : (answer ≡ 0) ⊎ ((new ≡ old) × (put ≡ 0))
+
+-- nothing was put into a slice
+pub record PutsNothing (old new : List ℕ) (put : ℕ) : Type 0 where
+  pub stays : new ≡ old
+  pub none : put ≡ 0
+
+-- a text of an open decoder was put, or not for one of the causes above; or, 1, there is no such text, and nothing was put
+pub record PutsTextOf (text : LiveState → List ℕ) (HasNone : Decoder → Type 0) (decoder : Decoder) (old new : List ℕ) (put answer : ℕ)
+    : Type 0 where
+  pub answers : (answer ≡ 1) ⊎ ((decoder.is_open ≡ true) × AnswersText (text decoder.block.value) old new put answer)
+  pub cause : answer ≡ 1 → HasNone decoder
+  pub none : answer ≡ 1 → PutsNothing old new put
+
+-- these bytes are the snapshot of a decoder that was fed: it is open again in the state that it was in, or there is no memory
+abbrev pub IsRestored : LiveState → Decoder → ℕ → Type 0
+IsRestored live decoder answer =
+    (answer ≡ 6) ⊎ ((answer ≡ 0) × ((decoder.is_open ≡ true) × (decoder.block.value ≡ live)))

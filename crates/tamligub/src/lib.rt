@@ -2,6 +2,7 @@
 //! for the text, that keeps nothing between calls; and as a decoder that is fed bytes as they come.
 #![tactic(auto)]
 
+mod answer;
 mod block;
 mod calling;
 mod handle;
@@ -10,6 +11,7 @@ mod live;
 #[cfg(test)]
 mod live_tests;
 mod parts;
+mod snapshot;
 #[cfg(test)]
 mod tests;
 mod words;

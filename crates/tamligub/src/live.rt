@@ -7,10 +7,11 @@ ghost use Rattle.cept_live.specs.Shown.{Begins, phase_after, shown};
 ghost use Rattle.cept_live.specs.States.{state_record};
 ghost use Rattle.tamligub.specs.Decoders.{blank_display, notice_at};
 ghost use Rattle.tamligub.specs.Decoders.{CannotEnd, CannotFlash, HasNoLook, IsKept, IsRefused};
-ghost use Rattle.tamligub.specs.Decoders.{PutsPage, TakesNone};
+ghost use Rattle.tamligub.specs.Decoders.{IsClosed, PutsTextOf, TakesNone, page_of};
 
+use crate::answer::answer_of;
 use crate::handle::Decoder;
-use cept_codes::{NoMemory, Pos};
+use cept_codes::Pos;
 use cept_live::{DecoderState, Fed, Live, Notice};
 use std::alloc::Global;
 
@@ -153,7 +154,7 @@ pub extern "C" fn tamligub_write(
     out: &mut [u8],
     put: &mut u64,
 ) -> u32
-    ensures page { PutsPage decoder.old out.old out.new put.new result }
+    ensures page { PutsTextOf page_of IsClosed decoder.old out.old out.new put.new result }
     ensures kept { IsKept decoder.old decoder.new }
 {
     *put = 0;
@@ -162,14 +163,7 @@ pub extern "C" fn tamligub_write(
     };
     let written = live.write(alloc, out);
     decoder.put(live);
-    match written {
-        Ok(Some(count)) => {
-            *put = count as u64;
-            0
-        }
-        Ok(None) => 5,
-        Err(NoMemory) => 6,
-    }
+    answer_of(written, put)
 }
 
 /// Begins the first phase of flashing over a blank display. Puts the places that are not blank at it

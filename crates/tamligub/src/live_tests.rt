@@ -3,6 +3,7 @@ use crate::live::{
     tamligub_close, tamligub_feed, tamligub_finish, tamligub_flash_start, tamligub_flash_turn,
     tamligub_look, tamligub_open, tamligub_state, tamligub_write,
 };
+use crate::snapshot::{tamligub_restore, tamligub_snapshot};
 use cept_live::{Colour, DecoderState, Notice, PenRecord, Pixels, Sign};
 use std::alloc::Global;
 use std::process::Abort;
@@ -181,6 +182,40 @@ fn flashes_and_writes(rt: HostRuntime) -> Result<(), Fail> {
     assert_eq!(rt; [opened, begun, turned, written, longer], [0, 0, 0, 0, 5]);
     assert_eq!(rt; [first, next, put], [1, 0, 0]);
     assert_eq!(rt; out.as_slice().starts_with(b"\x1F/B\x1F-A"), true);
+    Ok(())
+}
+
+/// A position of which a byte is missing, and its last byte after a snapshot: the sign after it is told
+/// at the place that it names. Bytes that are no snapshot are refused.
+#[test]
+fn is_brought_back(rt: HostRuntime) -> Result<(), Fail> {
+    let alloc = rt.alloc();
+    let mut list = Vec::from_elem(alloc, NO_NOTICE, 1920)?;
+    let mut kept = Vec::from_elem(alloc, b'-', 2000)?;
+    let mut decoder = Decoder::closed();
+    let mut other = Decoder::closed();
+    let mut put = 99;
+    let mut state = NO_STATE;
+    let opened = tamligub_open(alloc, &mut decoder);
+    let _fed = feed_each(alloc, &mut decoder, b"AB\x1FC", list.as_mut_slice());
+    let taken = tamligub_snapshot(alloc, &mut decoder, kept.as_mut_slice(), &mut put);
+    let bytes = kept.as_slice().get(..put as usize).unwrap_or(&[]);
+    let restored = tamligub_restore(alloc, &mut other, bytes);
+    let fed = feed_each(alloc, &mut other, b"DX", list.as_mut_slice());
+    let told = numbers(&list.first().copied().unwrap_or(NO_NOTICE));
+    let stated = tamligub_state(alloc, &mut other, &mut state);
+    let refused = tamligub_restore(alloc, &mut other, b"AB");
+    let few = tamligub_snapshot(alloc, &mut decoder, &mut [b'-'; 3], &mut put);
+    tamligub_close(alloc, &mut decoder);
+    tamligub_close(alloc, &mut other);
+    decoder.into_nothing();
+    other.into_nothing();
+    assert_eq!(rt;
+        [opened, taken, restored, stated, refused, few],
+        [0, 0, 0, 0, 1, 5]
+    );
+    assert_eq!(rt; [fed.0, fed.1, state.fed, put], [2, 1, 6, 0]);
+    assert_eq!(rt; told, [1, 3, 4, 0, 0x58, 1, 1, 15, 0]);
     Ok(())
 }
 
