@@ -29,3 +29,6 @@ pub mod PutEnds
 pub mod EndTexts
 pub mod Numbers
 mod Worked
+mod WorkedWords
+mod WorkedCourses
+mod WorkedStatuses

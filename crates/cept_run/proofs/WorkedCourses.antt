@@ -1,0 +1,61 @@
+-- Worked tables: what each request reads and puts, and what decides its status, by computing.
+use Rattle.std.proofs.Common.{◌≡◌, ℕ, List, [], ◌∷◌, codes, map, true, false, refl}
+use Rattle.cept_run.specs.declared.words.BytesAction.TheVariants.{Eight, Seven}
+use Rattle.cept_run.specs.declared.words.NumberAction.TheVariants.{Generate, Load}
+use Rattle.cept_run.specs.declared.words.PageAction.TheVariants.{Cells, Changes, Check, Show, Write}
+use Rattle.cept_run.specs.declared.words.ScriptAction.TheVariants.{Edit, Trace}
+use Rattle.cept_run.specs.Course.{File, Given, Source, course_of}
+use Rattle.cept_run.specs.Words.{Bytes, Drawing, Flash, Number, Page, Request, Script}
+
+-- ---- files
+
+abbrev page : List ℕ
+page = codes "page"
+
+abbrev script : List ℕ
+script = codes "script"
+
+-- requests, each with where its page is read, and what is read before it
+abbrev read : List (Request × Source × Source) → Type 0
+read rows =
+    (map (λ (row : Request × Source × Source). (course_of row.0).page) rows
+    ≡ map (λ (row : Request × Source × Source). row.1) rows)
+    × (map (λ (row : Request × Source × Source). (course_of row.0).script) rows
+    ≡ map (λ (row : Request × Source × Source). row.2) rows)
+
+sources : read (
+    (Page Changes page, File page, Given [])
+    ∷ (Page Check page, File page, Given [])
+    ∷ (Page Show page, File page, Given [])
+    ∷ (Page Cells page, File page, Given [])
+    ∷ (Page Write page, File page, Given [])
+    ∷ (Script Trace page script, File page, File script)
+    ∷ (Script Edit page script, File page, File script)
+    ∷ (Bytes Seven page, File page, Given [])
+    ∷ (Bytes Eight page, File page, Given [])
+    ∷ (Flash page 6, File page, Given [])
+    ∷ (Drawing page script, File page, File script) ∷ [])
+sources = (refl, refl)
+
+-- ---- statuses
+
+-- all requests
+abbrev requests : List Request
+requests = Page Changes page ∷ Page Check page ∷ Page Show page ∷ Page Cells page ∷ Page Write page
+    ∷ Script Trace page script ∷ Script Edit page script ∷ Number Generate 0 ∷ Number Load 0
+    ∷ Bytes Seven page ∷ Bytes Eight page ∷ Flash page 6 ∷ Drawing page script ∷ []
+
+-- refused items decide the status of all but `gen`, `seven` and `eight`
+judged : map (λ request. (course_of request).judged) requests ≡
+    true ∷ true ∷ true ∷ true ∷ true ∷ true ∷ true ∷ false ∷ true ∷ false ∷ false ∷ true ∷ true ∷ []
+judged = refl
+
+-- all but `check`, `gen`, `seven` and `eight` paint, and take memory
+painting : map (λ request. (course_of request).painting) requests ≡
+    true ∷ false ∷ true ∷ true ∷ true ∷ true ∷ true ∷ false ∷ true ∷ false ∷ false ∷ true ∷ true ∷ []
+painting = refl
+
+-- `write`, `edit` and `plot` put a page, and nothing else
+written : map (λ request. (course_of request).written) requests ≡
+    false ∷ false ∷ false ∷ false ∷ true ∷ false ∷ true ∷ false ∷ false ∷ false ∷ false ∷ false ∷ true ∷ []
+written = refl
