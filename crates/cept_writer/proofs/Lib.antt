@@ -32,3 +32,5 @@ mod WorkedBytes
 mod WorkedCompact
 mod WorkedCompactPages
 mod WrittenInTurn
+mod WorkedAttributes
+mod WorkedOrder
