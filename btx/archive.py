@@ -1,32 +1,15 @@
 """Makes a website of a collection of stored pages: the viewer for each, an index with small pictures, and a report. It may be
 stopped and started again, and then goes on."""
 import argparse
-import base64
-import concurrent.futures
-import csv
-import fnmatch
-import itertools
-import json
+import dataclasses
 import os
-import shlex
 import shutil
-import subprocess
 import sys
-import threading
-import time
-import urllib.parse
 
-from btx import html, making, program
+from btx import collection, html, jobs, lists, making, program, progress, website
 
 SUMMARY = "a website of a folder of pages, with an index and a report"
-SCRIPTS = ("text.js", "signs.js", "paint.js", "film.js", "screen.js", "player.js", "panels.js", "files.js", "viewer.js", "archive.js")
-STYLES = ("style.css", "archive.css")
-COLUMNS = ("bytes", "status", "items", "refused", "meaning")
-ENTRIES = '<script type="application/json" id="entries">[]</script>'
-WORKER = ["archive", "--worker"]
-PAGES_A_JOB = 8
-EVERY = 0.2
-FAULT, NOT_THERE = 5, 127
+WORDS, NO_PAGE, NOT_THERE = 2, 4, 127
 
 
 def count(text):
@@ -37,9 +20,16 @@ def count(text):
 
 
 def arguments(parser):
+    usual = " ".join(collection.PATTERNS)
     parser.add_argument("folder", metavar="FOLDER")
     parser.add_argument("-o", "--output", metavar="OUT", required=True, help="the folder of the website")
-    parser.add_argument("--pattern", metavar="GLOB", default="*.btx", help="which files are pages; without this *.btx")
+    parser.add_argument(
+        "--pattern", metavar="GLOB", action="append", default=[],
+        help=f"which files are pages; may stand several times; without this {usual} in either case",
+    )
+    parser.add_argument("--title", metavar="TEXT", default="", help="the title of the website")
+    parser.add_argument("--keep", action="store_true", help="keep and list pages that are no longer in the collection")
+    parser.add_argument("--csv", choices=lists.SEPARATORS, default="english", help="german has semicolons in report.csv; without this english")
     parser.add_argument("--jobs", metavar="N", type=count, help="how many pages are made at once; without this as many as processors")
     parser.add_argument("--again", action="store_true", help="make all pages again")
     parser.add_argument("--jobs-by", choices=("btx", "parallel"), default="btx", help="what runs the jobs; parallel is GNU parallel")
@@ -47,174 +37,124 @@ def arguments(parser):
     parser.add_argument("--remote", metavar="COMMAND", help="what btx is called on the machines of parallel")
 
 
-def names_in(folder, pattern, out):
-    """The names of the pages of a folder and of all in it, in order; what was made is none of them."""
-    found = []
-    made = os.path.realpath(out)
-    for place, folders, files in os.walk(folder, onerror=raised):
-        folders[:] = [one for one in folders if os.path.realpath(os.path.join(place, one)) != made]
-        found += [os.path.relpath(os.path.join(place, name), folder) for name in fnmatch.filter(files, pattern)]
-    return sorted(found)
+def say(text):
+    print(f"btx: archive: {text}", file=sys.stderr)
 
 
-def raised(fault):
-    raise fault
+def is_inside(path, folder):
+    path, folder = os.path.realpath(path), os.path.realpath(folder)
+    return os.path.commonpath([path, folder]) == folder
 
 
-def known(website, source, name):
-    """The facts of a page that is made already and not newer than they are, or None."""
-    path = website.path("made", name, ".json")
+def fault_of(options):
+    """Why an archive can't be begun with these words, and the status of that; None where it can."""
+    out, folder = options.output, options.folder
+    if options.jobs_by != "parallel" and (options.sshlogin or options.remote):
+        return WORDS, f"{'--sshlogin' if options.sshlogin else '--remote'} is for --jobs-by parallel"
+    if is_inside(out, folder):
+        return WORDS, f"{html.shown_name(out)} is in the collection; the website needs a folder outside of it"
+    if any(is_inside(folder, os.path.join(out, kind)) for kind in website.FOLDERS):
+        return WORDS, f"{html.shown_name(folder)} is a folder that the website takes for itself"
+    if options.jobs_by == "parallel" and not shutil.which("parallel"):
+        return NOT_THERE, "GNU parallel isn't on this machine (Debian: apt-get install parallel)"
+    return None
+
+
+def known(site, here, name):
+    """The facts of a page that is made already of the very bytes that it has, or None."""
+    facts = site.facts(name)
     try:
-        if os.stat(path).st_mtime_ns < os.stat(source).st_mtime_ns:
-            return None
-        with open(path, encoding="utf-8") as file:
-            return json.load(file)
-    except (OSError, ValueError):
+        return facts if facts and making.sum_of(making.stored(here.path(name))) == facts.sha256 else None
+    except making.Unread:
         return None
 
 
-class Progress:
-    """A line that tells how far it is, on a terminal alone."""
-
-    def __init__(self, total):
-        self.total, self.done, self.refused, self.unread = total, 0, 0, 0
-        self.begun = self.said = time.monotonic()
-        self.shown = sys.stderr.isatty()
-
-    def step(self, facts):
-        self.done += 1
-        self.refused += facts["status"] == program.WITH_REFUSALS
-        self.unread += facts["status"] not in (program.READ_TO_THE_END, program.WITH_REFUSALS)
-        now = time.monotonic()
-        if self.shown and (now - self.said > EVERY or self.done == self.total):
-            self.said = now
-            left = (now - self.begun) / self.done * (self.total - self.done)
-            end = "\n" if self.done == self.total else ""
-            about = f", about {left:.0f} s more" if not end else ""
-            counts = f"{self.done:,} of {self.total:,} pages, {self.refused:,} with refused items, {self.unread:,} not read"
-            sys.stderr.write(f"\r\x1b[K{counts}{about}{end}")
-            sys.stderr.flush()
+def no_longer(facts, why):
+    return dataclasses.replace(facts, meaning=f"{facts.meaning}; {why}", screen=None)
 
 
-def by_threads(path, website, folder, names, jobs):
-    """Makes pages, as many at once as there are jobs; gives the name and facts of each as it is made."""
+class Archive:
+    """An archive that is being made: facts of its pages by their names."""
 
-    def make(name):
-        return name, website.add(name, *making.made(path, os.path.join(folder, name)))
+    def __init__(self, options, here):
+        self.options, self.here = options, here
+        self.site = website.Website(options.output)
+        unread = {folder: making.unreadable(why) for folder, why in here.unread.items()}
+        there = {} if options.again else {name: known(self.site, here, name) for name in here.names}
+        self.facts = {**unread, **{name: old for name, old in there.items() if old}}
+        self.wanted = [name for name in here.names if name not in self.facts]
+        self.there = len(here.names) - len(self.wanted)
+        self.gone = 0
 
-    with concurrent.futures.ThreadPoolExecutor(jobs) as pool:
-        try:
-            yield from (done.result() for done in concurrent.futures.as_completed([pool.submit(make, name) for name in names]))
-        except BaseException:
-            pool.shutdown(cancel_futures=True)
-            raise
+    def sort_out(self):
+        """Removes what was made of pages that left the collection, or lists it. What is behind a folder that can't be read stays."""
+        names = set(self.here.names)
+        for name in [name for name in self.site.names() if name not in names]:
+            behind = self.here.is_behind(name)
+            if not behind:
+                self.gone += 1
+            if behind or self.options.keep:
+                facts = self.site.facts(name)
+                if facts:
+                    self.facts[name] = no_longer(facts, "its folder can't be read now" if behind else "no longer in the collection")
+            else:
+                self.site.remove(name)
 
+    def results(self, path):
+        """The name and facts of each page as it is made."""
+        if self.options.jobs_by == "parallel":
+            return jobs.by_parallel(self.site, self.here, self.wanted, jobs.parallel_words(self.options)) if self.wanted else ()
+        return jobs.by_threads(path, self.site, self.here, self.wanted, self.options.jobs or len(os.sched_getaffinity(0)))
 
-def lines_for(folder, names):
-    """For each page that can be read a line with its number and its bytes."""
-    for number, name in enumerate(names):
-        with open(os.path.join(folder, name), "rb") as file:
-            stored = base64.b64encode(file.read()).decode("ascii")
-        yield json.dumps({"number": number, "page": stored}) + "\n"
+    def write_lists(self):
+        lists.write(self.options.output, self.facts, lists.SEPARATORS[self.options.csv])
 
+    def make(self, path):
+        """Makes what isn't there; the lists are there from the first, and are written anew while it goes."""
+        self.site.begin(self.options.title)
+        self.sort_out()
+        seldom = progress.NowAndThen(self.write_lists)
+        line = progress.Progress(len(self.wanted))
+        for name, made in self.results(path):
+            self.facts[name] = made
+            line.step(made)
+            seldom.step()
+        lacking = [name for name in self.wanted if name not in self.facts]
+        self.facts.update({name: making.Facts(None, making.FAULT, "not made") for name in lacking})
+        self.write_lists()
+        return len(lacking)
 
-def feed(stream, lines):
-    try:
-        with stream:
-            stream.writelines(lines)
-    except OSError:
-        pass  # The runner has ended; what it lacks is seen by the results that don't come.
-
-
-def parallel_words(options, beside):
-    """The words that start GNU parallel."""
-    remote = options.remote or ("btx" if options.sshlogin else shlex.quote(os.path.join(beside, "btx")))
-    machines = itertools.chain.from_iterable(["--sshlogin", login] for login in options.sshlogin)
-    jobs = ["--jobs", str(options.jobs)] if options.jobs else []
-    return ["parallel", "--will-cite", "--pipe", "-N", str(PAGES_A_JOB), *jobs, *machines, f"{remote} {shlex.join(WORKER)}"]
-
-
-def by_parallel(website, folder, names, words):
-    """The same by GNU parallel: pages go to its jobs and results come back over their input and output."""
-    local = {name: facts for name in names for facts in [making.unread(os.path.join(folder, name))] if facts}
-    yield from ((name, website.add(name, facts, None)) for name, facts in local.items())
-    sent = [name for name in names if name not in local]
-    runner = subprocess.Popen(words, stdin=subprocess.PIPE, stdout=subprocess.PIPE, text=True, encoding="ascii")
-    feeder = threading.Thread(target=feed, args=(runner.stdin, lines_for(folder, sent)), daemon=True)
-    feeder.start()
-    try:
-        for line in runner.stdout:
-            result = json.loads(line)
-            name = sent[result["number"]]
-            yield name, website.add(name, result["facts"], result["parts"])
-        feeder.join()
-    finally:
-        runner.stdout.close()
-        runner.wait()
-
-
-def work(path):
-    """What runs on the machines of parallel: a line for each page comes in, and one for each goes out."""
-    for line in sys.stdin:
-        job = json.loads(line)
-        facts, parts = making.made_of_bytes(path, base64.b64decode(job["page"]))
-        sys.stdout.write(json.dumps({"number": job["number"], "facts": facts, "parts": parts}) + "\n")
-        sys.stdout.flush()
-    return 0
-
-
-def address(name):
-    """The address of a page in the website, whatever the bytes of its name are."""
-    return urllib.parse.quote(os.fsencode(name))
-
-
-def write_lists(website, facts):
-    """The index, what is searched in, and the report."""
-    names = sorted(facts)
-    entries = [[html.shown_name(name), address(name), *(facts[name][column] for column in COLUMNS)] for name in names]
-    document = html.text_of("archive.html").replace(ENTRIES, f'<script type="application/json" id="entries">{html.data_of(entries)}</script>')
-    website.write(os.path.join(website.out, "index.html"), document)
-    words = html.data_of([facts[name]["words"] for name in names])
-    website.write(os.path.join(website.out, "words.js"), f"Tamligub.words({words});\n")
-    with open(os.path.join(website.out, "report.csv"), "w", encoding="utf-8", newline="") as file:
-        table = csv.writer(file)
-        table.writerow(["path", *COLUMNS])
-        table.writerows([html.shown_name(name), *(facts[name][column] for column in COLUMNS)] for name in names)
+    def told(self, lacking):
+        """Says what was made, and what wasn't taken."""
+        pages = [facts for name, facts in self.facts.items() if name not in self.here.unread]
+        refused = sum(facts.status == program.WITH_REFUSALS for facts in pages)
+        unread = sum(not facts.is_read() for facts in pages) - lacking
+        index = html.shown_name(os.path.join(self.options.output, "index.html"))
+        print(f"{len(pages):,} pages, {refused:,} with refused items, {unread:,} not read; {self.there:,} were there: {index}")
+        folders, same = len(self.here.unread), len(lists.alike(self.facts))
+        kept = "kept" if self.options.keep else "removed"
+        notes = [
+            folders and f"{collection.several(folders, 'folder')} can't be read; the report has them",
+            self.gone and f"{collection.several(self.gone, 'page')} no longer in the collection: {kept}",
+            same and f"{same:,} pages with a screen that another has too; the report has them", collection.left_aside(self.here),
+        ]
+        for note in filter(None, notes):
+            print(note)
 
 
 def run(path, options):
-    by_gnu = options.jobs_by == "parallel"
-    if by_gnu and not shutil.which("parallel"):
-        print("btx: archive: GNU parallel isn't on this machine (Debian: apt-get install parallel)", file=sys.stderr)
-        return NOT_THERE
-    names = names_in(options.folder, options.pattern, options.output)
-    for name in SCRIPTS + STYLES:
-        os.makedirs(os.path.join(options.output, "viewer"), exist_ok=True)
-        shutil.copyfile(os.path.join(html.VIEW, name), os.path.join(options.output, "viewer", name))
-    website = making.Website(options.output)
-    there = {} if options.again else {name: known(website, os.path.join(options.folder, name), name) for name in names}
-    facts = {name: old for name, old in there.items() if old}
-    wanted = [name for name in names if name not in facts]
-    progress = Progress(len(wanted))
-    if by_gnu:
-        results = by_parallel(website, options.folder, wanted, parallel_words(options, options.beside)) if wanted else ()
-    else:
-        results = by_threads(path, website, options.folder, wanted, options.jobs or len(os.sched_getaffinity(0)))
-    for name, made in results:
-        facts[name] = made
-        progress.step(made)
-    lacking = [name for name in names if name not in facts]
-    facts.update({name: {**making.facts_of("", FAULT), "meaning": "not made", "words": ""} for name in lacking})
-    write_lists(website, facts)
-    return told(options.output, facts, len(names) - len(wanted), lacking)
-
-
-def told(out, facts, kept, lacking):
-    """Says what was made."""
-    states = [one["status"] for one in facts.values()]
-    refused = states.count(program.WITH_REFUSALS)
-    unread = len(states) - refused - states.count(program.READ_TO_THE_END) - len(lacking)
-    print(f"{len(states):,} pages, {refused:,} with refused items, {unread:,} not read; {kept:,} were there: {os.path.join(out, 'index.html')}")
+    fault = fault_of(options)
+    here = None if fault else collection.found(options.folder, options.pattern)
+    if here and not here.names and not here.unread:
+        aside = collection.left_aside(here)
+        fault = NO_PAGE, f"{html.shown_name(options.folder)}: there is no page in it" + (f"; {aside}" if aside else "")
+    if fault:
+        say(fault[1])
+        return fault[0]
+    sys.stdout.reconfigure(encoding="utf-8")
+    archive = Archive(options, here)
+    lacking = archive.make(path)
+    archive.told(lacking)
     if lacking:
-        print(f"btx: archive: {len(lacking):,} pages were not made; the same command goes on with them", file=sys.stderr)
-    return FAULT if lacking else 0
+        say(f"{lacking:,} pages were not made; the same command goes on with them")
+    return making.FAULT if lacking else 0

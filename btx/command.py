@@ -6,9 +6,9 @@ import signal
 import subprocess
 import sys
 
-from btx import VERSION, archive, editor, html, messages, picture, program, terminal, viewer
+from btx import VERSION, archive, diff, editor, html, jobs, messages, picture, program, terminal, viewer
 
-OWN = {"terminal": terminal, "html": html, "viewer": viewer, "editor": editor, "png": picture, "archive": archive}
+OWN = {"terminal": terminal, "html": html, "viewer": viewer, "editor": editor, "png": picture, "archive": archive, "diff": diff}
 # Words that do without the program.
 BY_THEMSELVES = ("viewer", "editor")
 NOT_THERE = 127
@@ -98,8 +98,8 @@ def run(words, beside):
         return pass_through(program_for(beside), word, rest)
     if not word.startswith("-") and word not in program.WORDS and word not in OWN:
         return unknown(word)
-    if words == archive.WORKER:
-        return archive.work(program.found(beside))
+    if words == jobs.WORKER:
+        return jobs.work(program.found(beside))
     options = parser.parse_args(words)
     options.beside = beside
     path = None if options.word in BY_THEMSELVES else program_for(beside)

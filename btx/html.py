@@ -31,8 +31,8 @@ def names_of(paths):
 
 
 def shown_name(name):
-    """A file's name as text that can be written, also where its bytes are no UTF-8."""
-    return os.fsencode(name).decode("utf-8", "replace")
+    """A file's name as text that can be written; bytes that are no UTF-8 are escaped."""
+    return os.fsencode(name).decode("utf-8", "backslashreplace")
 
 
 def page_of(path, name, page):

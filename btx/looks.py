@@ -4,6 +4,9 @@ import re
 
 ROWS, COLUMNS = 24, 40
 VIDEO = "---"
+CHANGE = re.compile(rb"^\d+ (\d+ \d+) (.*)$", re.MULTILINE)
+# Of a long text of changes so many bytes are read at once, from its end, and so many at most.
+PIECE, MOST = 2**16, 2**20
 
 Look = collections.namedtuple("Look", "shape high wide down right fore back flash concealed lined boxed")
 Pattern = collections.namedtuple("Pattern", "width height inks numbers")
@@ -15,7 +18,8 @@ def look_of(text):
     return Look(shape, high, wide, down, right, fore, back, kinds[0], kinds[1] == "c", kinds[2] == "l", kinds[3] == "b")
 
 
-BLANK = look_of("- 11.00 FFF 000 S---")
+BLANK_TEXT = "- 11.00 FFF 000 S---"
+BLANK = look_of(BLANK_TEXT)
 
 
 def cells_of(text):
@@ -38,6 +42,19 @@ def moments_of(text):
             moments.append((int(place), {}))
         moments[-1][1][int(row), int(column)] = look_of(look)
     return moments
+
+
+def last_cells(changes):
+    """The text of cells at the end of a text of changes, which is read from its end until each cell has its last look; None where that
+    would take too long, as where some cell of a long text never changes."""
+    last, end = {}, len(changes)
+    while end and len(last) < ROWS * COLUMNS:
+        if len(changes) - end > MOST:
+            return None
+        start = changes.rfind(b"\n", 0, max(0, end - PIECE)) + 1
+        last, end = dict(CHANGE.findall(changes, start, end)) | last, start
+    lines = {tuple(map(int, place.split())): b"%b %b\n" % (place, look) for place, look in last.items() if look != BLANK_TEXT.encode()}
+    return b"".join(lines[place] for place in sorted(lines)).decode("ascii")
 
 
 def pattern_of(shape):

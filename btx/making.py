@@ -1,132 +1,147 @@
 """What an archive needs of one page, made by runs of the program: facts for its lists, and parts for its files."""
 import base64
+import dataclasses
+import hashlib
 import os
 import re
+import stat
 import tempfile
 import zlib
 
-from btx import html, looks, messages, program, signs
+from btx import looks, messages, program, signs
 
 # Parts are packed quickly: the text of changes is long, and much of it the same.
 LEVEL = 1
-UNREADABLE, TOO_LONG = 4, 7
-# What comes of a page itself; any other status may be another one next time.
-LASTING = (program.READ_TO_THE_END, program.WITH_REFUSALS, TOO_LONG)
+UNREADABLE, FAULT, TOO_LONG = 4, 5, 7
 # A program that a signal ended has the number of the signal and this, as in a shell.
 SIGNALS = 128
-# Of a file's 255 bytes the endings take some.
-LONGEST = 255 - len(".json.part")
 # A word of double width, whose signs have a blank after each.
 WIDE = re.compile(r"(?<!\S)\S(?: \S){2,}(?!\S)")
 MEANINGS = {
     0: "read to its end, nothing refused",
     1: "read to its end, with refused items",
-    2: "its name can't be given to the program",
     UNREADABLE: "can't be read",
     6: "not enough memory",
     TOO_LONG: f"too long: more than {messages.MOST_PAGE:,} bytes",
 }
 
 
-def facts_of(size, status, items="", refused="", why=""):
-    meaning = f"can't be read: {why}" if why else MEANINGS.get(status, f"the program ended with status {status}")
-    return {"bytes": size, "status": status, "items": items, "refused": refused, "meaning": meaning}
+@dataclasses.dataclass
+class Facts:
+    """What the lists of an archive say of a page; what isn't known is None. The screen is told by its SHA-256."""
+
+    bytes: int | None
+    status: int
+    meaning: str
+    sha256: str | None = None
+    items: int | None = None
+    refused: int | None = None
+    title: str = ""
+    screen: str | None = None
+    words: str = ""
+
+    def is_read(self):
+        return self.status in (program.READ_TO_THE_END, program.WITH_REFUSALS)
 
 
-def unread(source):
-    """The facts of a page that is no file to be read, or too long; None where the program can be asked."""
+class Unread(Exception):
+    """The bytes of a page can't be had; its facts say why."""
+
+    def __init__(self, facts):
+        super().__init__(facts.meaning)
+        self.facts = facts
+
+
+def unreadable(why, size=None):
+    return Facts(size, UNREADABLE, f"can't be read: {why}")
+
+
+def ended(size, status):
+    """The facts of a page at which the program ended with another status."""
+    return Facts(size, status, MEANINGS.get(status, f"the program ended with status {status}"))
+
+
+def stored(source):
+    """The bytes of a page, read once."""
     try:
-        size = os.path.getsize(source)
-    except OSError:
-        size = ""
-    why = messages.fault_of(source) if messages.is_file(source) or size == "" else "it is no plain file"
-    if why:
-        return facts_of(size, UNREADABLE, why=why)
-    return facts_of(size, TOO_LONG) if size > messages.MOST_PAGE else None
+        about = os.stat(source)
+        if not stat.S_ISREG(about.st_mode):
+            raise Unread(unreadable("it is no plain file", about.st_size))
+        if about.st_size > messages.MOST_PAGE:
+            raise Unread(ended(about.st_size, TOO_LONG))
+        with open(source, "rb") as file:
+            return file.read(messages.MOST_PAGE + 1)
+    except FileNotFoundError as fault:
+        raise Unread(unreadable("no such file")) from fault
+    except OSError as fault:
+        raise Unread(unreadable(messages.why(fault))) from fault
+
+
+def sum_of(page):
+    return hashlib.sha256(page).hexdigest()
 
 
 def packed(data):
     return base64.b64encode(zlib.compress(data, LEVEL)).decode("ascii")
 
 
+def shown_signs(cells):
+    """The signs of text by their places: of all looks of a screen those that aren't concealed."""
+    return {place: signs.shown(look, False)[0] for place, look in cells.items() if look.shape[0] in "PS"}
+
+
 def words_of(cells):
     """The text of a screen as it is searched: signs of text alone, words of double width joined, and single spaces."""
-    shown = {place: signs.shown(look, False)[0] for place, look in looks.cells_of(cells).items() if look.shape[0] in "PS"}
+    shown = shown_signs(cells)
     rows = ("".join(shown.get((row, column), " ") for column in range(1, looks.COLUMNS + 1)) for row in range(1, looks.ROWS + 1))
     return " ".join(WIDE.sub(lambda found: found[0].replace(" ", ""), "\n".join(rows)).split())
 
 
-def parts_of(path, source):
-    """The parts of a page that is read to its end."""
-    check, cells = (program.text_put(path, word, source) for word in ("check", "cells"))
-    changes = program.bytes_put(path, "changes", source)
-    with open(source, "rb") as file:
-        stored = base64.b64encode(file.read()).decode("ascii")
-    return {"deflated": packed(changes), "check": check, "page": stored, "cells": cells, "words": words_of(cells)}
+def line_of(shown, cells, row):
+    """The text of some signs in a row; the cells that a sign of double width covers besides its first have none."""
+    places = [(row, column) for column in range(1, looks.COLUMNS + 1)]
+    return " ".join("".join(shown.get(place, " ") for place in places if not cells.get(place, looks.BLANK).right).split())
+
+
+def title_of(cells):
+    """The first line of double size, else the first line; empty where there is no text."""
+    shown = shown_signs(cells)
+    large = {place: sign for place, sign in shown.items() if cells[place].high > 1 or cells[place].wide > 1}
+    lines = (line_of(some, cells, row) for some in (large, shown) for row in range(1, looks.ROWS + 1))
+    return next(filter(None, lines), "")
+
+
+def parts_of(path, source, page):
+    """The parts of a page that is read to its end. Its screen follows from its changes; how many items it has doesn't."""
+    before = program.ending_with_us("KILL")
+    changes = program.bytes_put(path, "changes", source, before=before)
+    check = program.text_put(path, "check", source, before=before)
+    cells = looks.last_cells(changes)
+    if cells is None:
+        cells = program.text_put(path, "cells", source, before=before)
+    return {"deflated": packed(changes), "check": check, "page": base64.b64encode(page).decode("ascii"), "cells": cells}
+
+
+def made_of_bytes(path, page):
+    """The facts of a page whose bytes are given, and its parts; None for these where it isn't read to its end."""
+    size = len(page)
+    try:
+        with tempfile.NamedTemporaryFile(prefix="btx-") as file:
+            file.write(page)
+            file.flush()
+            parts = parts_of(path, file.name, page)
+    except program.Ended as end:
+        return ended(size, end.status if end.status >= 0 else SIGNALS - end.status), None
+    items, refused = program.counts_in(parts["check"])
+    status = program.WITH_REFUSALS if refused else program.READ_TO_THE_END
+    cells = looks.cells_of(parts["cells"])
+    screen = sum_of(parts["cells"].encode("ascii"))
+    return Facts(size, status, MEANINGS[status], sum_of(page), items, refused, title_of(cells), screen, words_of(cells)), parts
 
 
 def made(path, source):
-    """The facts of a page and its parts; None for these where it isn't read to its end."""
-    facts = unread(source)
-    if facts:
-        return facts, None
-    size = os.path.getsize(source)
+    """The same of a page in a file."""
     try:
-        parts = parts_of(path, source)
-    except program.Ended as end:
-        return facts_of(size, end.status if end.status >= 0 else SIGNALS - end.status), None
-    except OSError as fault:
-        return facts_of(size, UNREADABLE, why=messages.why(fault)), None
-    items, refused = program.counts_in(parts["check"])
-    return facts_of(size, program.WITH_REFUSALS if refused else program.READ_TO_THE_END, items, refused), parts
-
-
-def made_of_bytes(path, stored):
-    """The same of a page whose bytes came over a line."""
-    with tempfile.NamedTemporaryFile(prefix="btx-") as file:
-        file.write(stored)
-        file.flush()
-        return made(path, file.name)
-
-
-class Website:
-    """The files of an archive."""
-
-    def __init__(self, out):
-        self.out = out
-        document = html.text_of("index.html")
-        policy = "default-src 'none'; img-src blob: data:; style-src 'self'; script-src 'self'"
-        head, tail = html.with_policy(document, policy).split(html.DATA)
-        self.head = head.replace('href="style.css"', 'href="{up}viewer/style.css"').replace(
-            "<h1>Tamligub</h1>", '<h1><a href="{up}index.html">Archive</a></h1>'
-        )
-        self.tail = tail.replace('<script src="', '<script src="{up}viewer/')
-
-    def path(self, kind, name, ending):
-        return os.path.join(self.out, kind, name + ending)
-
-    def write(self, path, text):
-        """A file, whole or not at all."""
-        os.makedirs(os.path.dirname(path), exist_ok=True)
-        with open(path + ".part", "w", encoding="utf-8") as file:
-            file.write(text)
-        os.replace(path + ".part", path)
-
-    def document(self, name, parts):
-        """The viewer with a page; its style and scripts are those of the whole archive."""
-        up = "../" * (name.count("/") + 1)
-        data = {"name": html.shown_name(name), **{part: parts[part] for part in ("deflated", "check", "page")}}
-        inside = f'<script type="application/json" id="pages">{html.data_of([data])}</script>'
-        return self.head.replace("{up}", up) + inside + self.tail.replace("{up}", up)
-
-    def add(self, name, facts, parts):
-        """Writes what was made of a page, last the facts, by which it counts as made."""
-        if any(len(os.fsencode(part)) > LONGEST for part in name.split("/")):
-            return {**facts_of(facts["bytes"], 5), "meaning": "its name is too long for a file of an archive", "words": ""}
-        if parts:
-            self.write(self.path("pages", name, ".html"), self.document(name, parts))
-            self.write(self.path("pictures", name, ".js"), f"Tamligub.picture({html.data_of(parts['cells'])});\n")
-        known = {**facts, "words": parts["words"] if parts else ""}
-        if facts["status"] in LASTING:
-            self.write(self.path("made", name, ".json"), html.data_of(known))
-        return known
+        return made_of_bytes(path, stored(source))
+    except Unread as unread:
+        return unread.facts, None

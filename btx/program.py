@@ -93,9 +93,15 @@ def found(beside):
     return path
 
 
-def put(program, word, *words):
-    """What the program puts, and its status."""
-    done = subprocess.run([program, word, *words], stdin=subprocess.DEVNULL, stdout=subprocess.PIPE, close_fds=False)
+def ending_with_us(signal):
+    """The words before a command by which the system sends it a signal when the one that runs it ends, whatever ends that."""
+    setter = shutil.which("setpriv")
+    return [setter, "--pdeathsig", signal, "--"] if setter else []
+
+
+def put(program, word, *words, before=()):
+    """What the program puts, and its status; words may stand before it that start it."""
+    done = subprocess.run([*before, program, word, *words], stdin=subprocess.DEVNULL, stdout=subprocess.PIPE, close_fds=False)
     return done.stdout, done.returncode
 
 
@@ -112,17 +118,17 @@ def read_again(page):
             yield copy.name
 
 
-def bytes_put(program, word, page, *after):
+def bytes_put(program, word, page, *after, before=()):
     """What the program puts for a page that is read to its end; else the run's end is raised."""
-    output, status = put(program, word, page, *after)
+    output, status = put(program, word, page, *after, before=before)
     if status not in (READ_TO_THE_END, WITH_REFUSALS):
         raise Ended(word, [page, *after], status)
     return output
 
 
-def text_put(program, word, page, *after):
+def text_put(program, word, page, *after, before=()):
     """The same as text."""
-    return bytes_put(program, word, page, *after).decode("utf-8")
+    return bytes_put(program, word, page, *after, before=before).decode("utf-8")
 
 
 def counts_in(text):

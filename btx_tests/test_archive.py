@@ -1,7 +1,7 @@
 """Archives: each page with the viewer, the index, the report, going on after a stop, and over GNU parallel."""
 import base64
 import contextlib
-import csv
+import hashlib
 import json
 import os
 import re
@@ -13,27 +13,33 @@ import time
 import urllib.parse
 import zlib
 
+import archives
+from archives import ODD, data_in, entries_in
 import stand
 
 import browser
+from btx import lists, looks, website
 
 NAMES = "[...document.querySelectorAll('#tiles .name')].map((one) => one.textContent)"
-ODD = "odd #1 & 50% ü.btx"
 
 
-def data_in(path, kind):
-    with open(path, encoding="utf-8") as file:
-        return json.loads(re.search(rf'<script type="application/json" id="{kind}">(.*?)</script>', file.read(), re.DOTALL)[1])
+# Which scripts a document asks for.
+ASKED = """window.asked = [];
+new MutationObserver((changes) => {
+  for (const node of changes.flatMap((one) => [...one.addedNodes])) if (node.src) asked.push(node.src);
+}).observe(document, { childList: true, subtree: true });"""
 
 
-class Archive(stand.Case):
-    def setUp(self):
-        super().setUp()
-        self.source, self.out = self.path("collection"), self.path("out")
-        shutil.copytree(stand.PAGES, self.source, ignore=lambda place, names: [name for name in names if not name.endswith(".btx")])
-        os.mkdir(os.path.join(self.source, "folder"))
-        shutil.copy(stand.page("title"), os.path.join(self.source, "folder", ODD))
+def is_running(number):
+    """Whether a process is there and hasn't ended."""
+    try:
+        with open(f"/proc/{number}/stat", encoding="ascii") as file:
+            return file.read().rpartition(")")[2].split()[0] != "Z"
+    except OSError:
+        return False
 
+
+class Archive(archives.Case):
     def add_bad(self):
         """A page that is too long, one that isn't there, and one that is no file."""
         with open(os.path.join(self.source, "long.btx"), "wb") as file:
@@ -41,19 +47,10 @@ class Archive(stand.Case):
         os.symlink("nowhere", os.path.join(self.source, "lost.btx"))
         os.mkfifo(os.path.join(self.source, "pipe.btx"))
 
-    def archive(self, *words, status=0, **more):
-        done = stand.btx("archive", self.source, "-o", self.out, *words, **more)
-        self.assertEqual(done.returncode, status, done.stderr.decode())
-        return done
-
-    def report(self):
-        with open(os.path.join(self.out, "report.csv"), encoding="utf-8", newline="") as file:
-            return {row.pop("path"): row for row in csv.DictReader(file)}
-
     def is_whole(self):
         """Whether report, index and viewers have what the program puts for each page."""
         report = self.report()
-        entries = {entry[0]: entry[1:] for entry in data_in(os.path.join(self.out, "index.html"), "entries")}
+        entries = {entry[0]: entry[1:] for entry in entries_in(self.out)}
         self.assertEqual(sorted(report), sorted(entries))
         names = [name + ".btx" for name in stand.all_pages()] + ["folder/" + ODD]
         for name in names:
@@ -86,32 +83,62 @@ class Archive(stand.Case):
         ])
         self.assertIn(b"21 pages, 1 with refused items, 3 not read", done.stdout)
 
-    def test_what_is_there_and_newer_is_not_made_again(self):
+    def test_a_page_that_is_made_of_the_same_bytes_is_not_made_again(self):
         self.archive()
         made = os.path.join(self.out, "pages", "boat.btx.html")
-        for path in (made, os.path.join(self.out, "pages", "title.btx.html")):
+        other = os.path.join(self.out, "pages", "title.btx.html")
+        for path in (made, other):
             os.utime(path, (1, 1))
-        # One page is newer than what was made of it, and another has lost it.
-        later = time.time() + 5
+        # One page is another, and older than all that was made; one is newer, and the same; of one the facts are lost.
         shutil.copy(stand.page("house"), os.path.join(self.source, "title.btx"))
-        os.utime(os.path.join(self.source, "title.btx"), (later, later))
+        os.utime(os.path.join(self.source, "title.btx"), (1, 1))
+        os.utime(os.path.join(self.source, "boat.btx"), (2**32, 2**32))
         os.remove(os.path.join(self.out, "made", "form.btx.json"))
-        done = self.archive()
-        self.assertIn(b"; 16 were there", done.stdout)
+        self.assertIn(b"; 16 were there", self.archive().stdout)
         self.assertEqual(os.path.getmtime(made), 1)
-        self.assertGreater(os.path.getmtime(os.path.join(self.out, "pages", "title.btx.html")), 1)
-        self.assertEqual(self.report()["title.btx"]["bytes"], str(os.path.getsize(stand.page("house"))))
+        self.assertGreater(os.path.getmtime(other), 1)
+        self.assertEqual(zlib.decompress(base64.b64decode(data_in(other, "pages")[0]["deflated"])), stand.put("changes", stand.page("house")))
+        with open(stand.page("house"), "rb") as file:
+            self.assertEqual(self.report()["title.btx"]["sha256"], hashlib.sha256(file.read()).hexdigest())
         self.archive("--again")
         self.assertGreater(os.path.getmtime(made), 1)
 
+    def test_two_runs_a_page_that_tell_of_the_same_bytes(self):
+        environment, runs = self.counted(f"cp {stand.page('house')} {self.source}/title.btx")
+        self.small("title")
+        self.archive(env=environment)
+        with open(runs, encoding="ascii") as file:
+            self.assertEqual(sorted(file.read().split()), ["changes", "check"])
+        # The page was another one before its first run ended.
+        page, = data_in(os.path.join(self.out, "pages", "title.btx.html"), "pages")
+        with open(stand.page("title"), "rb") as file:
+            stored = file.read()
+        self.assertEqual(base64.b64decode(page["page"]), stored)
+        self.assertEqual(self.report()["title.btx"]["sha256"], hashlib.sha256(stored).hexdigest())
+        self.assertEqual(zlib.decompress(base64.b64decode(page["deflated"])), stand.put("changes", stand.page("title")))
+        self.assertIn(b"; 0 were there", self.archive().stdout)
+
+    def test_the_screen_follows_from_the_changes(self):
+        front = self.written("front", stand.put("gen", "7")[:3000])
+        for page in [front, *map(stand.page, stand.all_pages())]:
+            changes, cells = stand.put("changes", page), stand.put("cells", page).decode()
+            self.assertEqual(looks.last_cells(changes), cells, page)
+            # In pieces too: each cell changes once more at the end, and nothing before that is looked at.
+            places = [(row, column) for row in range(1, 25) for column in range(1, 41)]
+            told = {tuple(map(int, line.split()[:2])): line.split(" ", 2)[2] for line in cells.splitlines()}
+            again = "".join(f"9 {row} {column} {told.get((row, column), looks.BLANK_TEXT)}\n" for row, column in places)
+            self.assertEqual(looks.last_cells(b"0 1 1 never\n" * 2**17 + again.encode()), cells)
+        self.assertIsNone(looks.last_cells(b"0 1 1 P41 11.00 FFF 000 S---\n" * 2**17))
+
     def test_a_stop_leaves_what_goes_on(self):
         # A program that waits at its sixteenth run, after more than one page, and is interrupted there with btx.
-        runs = self.path("runs")
-        lines = ["#!/bin/sh", f"echo x >> {runs}", f"[ $(wc -l < {runs}) -ne 16 ] || sleep 3600", f'exec {stand.program} "$@"', ""]
+        runs = self.written("runs", b"")
+        lines = ["#!/bin/sh", f"[ $(wc -l < {runs}) -ne 15 ] || {{ echo x >> {runs}; exec sleep 3600; }}", f"echo x >> {runs}"]
+        lines += [f'exec {stand.program} "$@"', ""]
         slow = self.written("slow", "\n".join(lines).encode())
         os.chmod(slow, 0o755)
         run = stand.begun("archive", self.source, "-o", self.out, "--jobs", "1", env=stand.environment(BTX_PROGRAM=slow))
-        while run.poll() is None and not (os.path.exists(runs) and os.path.getsize(runs) >= 32):
+        while run.poll() is None and os.path.getsize(runs) < 32:
             time.sleep(0.05)
         os.killpg(run.pid, signal.SIGINT)
         output, error = run.communicate(timeout=stand.LONG)
@@ -119,6 +146,32 @@ class Archive(stand.Case):
         done = self.archive()
         self.assertRegex(done.stdout, rb"; [1-9]\d* were there")
         self.is_whole()
+
+    def test_killed_it_leaves_no_run_behind(self):
+        self.needs("setpriv")
+        for words in ([], ["--jobs-by", "parallel"]) if stand.there("parallel") else ([],):
+            with self.subTest(words):
+                runs = self.written("runs", b"")
+                slow = self.written("slow", f"#!/bin/sh\necho $$ >> {runs}\nexec sleep 3600\n".encode())
+                os.chmod(slow, 0o755)
+                run = stand.begun("archive", self.source, "-o", self.out, "--jobs", "2", *words, env=stand.environment(BTX_PROGRAM=slow))
+                while run.poll() is None and self.lines(runs) < 2:
+                    time.sleep(0.05)
+                with open(runs, encoding="ascii") as file:
+                    begun = [int(line) for line in file]
+                run.kill()
+                run.wait()
+                run.stdout.close()
+                run.stderr.close()
+                # A run that never ends would be seen here for ever.
+                end = time.monotonic() + stand.LONG
+                while any(map(is_running, begun)) and time.monotonic() < end:
+                    time.sleep(0.05)
+                self.assertEqual([number for number in begun if is_running(number)], [])
+
+    def lines(self, path):
+        with open(path, "rb") as file:
+            return file.read().count(b"\n")
 
     def test_the_progress_is_told_on_a_terminal(self):
         master, slave = os.openpty()
@@ -185,8 +238,10 @@ class Index(stand.Case):
         self.tab.call("Page.navigate", url="file://" + urllib.parse.quote(path))
         self.tab.until("document.readyState === 'complete' && window.Tamligub !== undefined")
 
-    def names(self):
-        return self.tab.value(NAMES)
+    def are(self, names):
+        """Waits until the index has these names."""
+        text = json.dumps(names, ensure_ascii=False, separators=(",", ":"))
+        self.tab.until(f"JSON.stringify({NAMES}) === {json.dumps(text)}")
 
     def choose(self, name, value):
         self.tab.value(f"(({{ id, value }}) => {{ const part = document.getElementById(id); part.value = value; "
@@ -197,14 +252,12 @@ class Index(stand.Case):
         os.mkdir(source)
         shutil.copy(stand.page("boat"), source)
         out = self.archive(source)
+        facts = website.Website(out).facts("boat.btx")
+        for number in range(2000):
+            os.link(os.path.join(out, "pictures", "boat.btx.js"), os.path.join(out, "pictures", f"{number}.btx.js"))
+        lists.write(out, {f"{number}.btx": facts for number in range(2000)}, ",")
         index = os.path.join(out, "index.html")
-        entry, = data_in(index, "entries")
-        with open(index, encoding="utf-8") as file:
-            text = file.read()
-        many = json.dumps([[f"{number}.btx", *entry[1:]] for number in range(2000)])
-        with open(index, "w", encoding="utf-8") as file:
-            file.write(text.replace(json.dumps([entry], separators=(",", ":")), many))
-        with self.tab.beforehand(browser.WORK):
+        with self.tab.beforehand(browser.WORK + ASKED):
             self.open(index)
         # Pictures are made once all that is in sight is there.
         in_sight = "[...document.querySelectorAll('#tiles canvas')].filter((one) => one.getBoundingClientRect().top < innerHeight)"
@@ -215,6 +268,9 @@ class Index(stand.Case):
         # Those in sight, and those of one more screen; tiles, of which the next are made before they come into sight, for five.
         self.assertTrue(seen <= painted == read <= 2 * seen, (seen, painted, read))
         self.assertTrue(seen <= tiles <= 5 * seen, (seen, tiles))
+        # Of the index's eight parts those of the pages in sight.
+        asked = self.tab.value("asked.filter((name) => /entries|words/.test(name))")
+        self.assertEqual([name.rpartition("/entries/")[2] for name in asked], ["0.js"])
 
     def test_index_filters_searches_and_leads_to_the_viewer(self):
         source = self.path("source")
@@ -227,21 +283,21 @@ class Index(stand.Case):
         out = self.archive(source)
         self.open(os.path.join(out, "index.html"))
         everything = sorted(["title.btx", "boat.btx", "refused.btx", ODD, "long<b>.btx"])
-        self.assertEqual(self.names(), everything)
+        self.are(everything)
         for choice, wanted in (("unread", ["long<b>.btx"]), ("refused", ["refused.btx"]), ("whole", ["boat.btx", ODD, "title.btx"])):
             self.choose("filter", choice)
-            self.assertEqual(self.names(), wanted)
+            self.are(wanted)
         self.choose("filter", "all")
         for search, wanted in (("50%", [ODD]), ("bildschirmtext größe", [ODD, "title.btx"]), ("segelboot zelle", ["boat.btx"]), ("nowhere", [])):
             self.choose("search", search)
-            text = json.dumps(wanted, ensure_ascii=False, separators=(",", ":"))
-            self.tab.until(f"JSON.stringify({NAMES}) === {json.dumps(text)}")
+            self.are(wanted)
         self.choose("search", "")
         self.choose("order", "refused")
-        self.assertEqual(self.names()[0], "refused.btx")
+        self.tab.until(f"{NAMES}[0] === 'refused.btx'")
         # The boat's water is blue and its sky cyan, once its picture has come into sight and is made.
         self.choose("search", "boat.btx")
         pixel = "(([canvas]) => [...canvas.getContext('2d').getImageData(PLACE, 1, 1).data].join())(document.querySelectorAll('#tiles canvas'))"
+        self.are(["boat.btx"])
         self.tab.until(f"document.querySelector('#tiles canvas').width === 240 && {pixel.replace('PLACE', '3, 20')} === '0,255,255,255'")
         self.assertEqual(self.tab.value(pixel.replace("PLACE", "3, 130")), "0,0,255,255")
         self.choose("search", "50%")
@@ -249,5 +305,5 @@ class Index(stand.Case):
         self.tab.until("window.Tamligub !== undefined && Tamligub.viewer !== undefined && Tamligub.viewer.film() !== null")
         shown = stand.put("show", stand.page("title")).decode()
         self.assertEqual(self.tab.value("Tamligub.viewer.film().text(false)"), shown)
-        self.assertEqual(self.tab.value("document.querySelector('h1 a').href"), "file://" + os.path.join(out, "index.html"))
+        self.assertEqual(self.tab.value("document.querySelector('h1 a').href"), "file://" + os.path.join(out, "index.html#search=50%25&order=refused"))
         self.assertEqual(self.tab.faults, [])

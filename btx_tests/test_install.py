@@ -94,7 +94,7 @@ class Install(stand.Case):
         for name in ("btx.bash", "btx.1"):
             with open(os.path.join(stand.ROOT, "docs", name), encoding="utf-8") as file:
                 texts.append(file.read().replace("\\-", "-"))
-        help_of = {word: stand.btx(word, "--help").stdout.decode() for word in ("terminal", "html", "viewer", "editor", "png", "archive")}
+        help_of = {word: stand.btx(word, "--help").stdout.decode() for word in ("terminal", "html", "viewer", "editor", "png", "archive", "diff")}
         for word, text in help_of.items():
             options = {part.strip(",") for part in text.split() if part.startswith("--") and part.strip(",") != "--help"}
             for option in options:

@@ -47,7 +47,7 @@ class Unbuilt(stand.Case):
         """Each word of btx, as its help lists them, with what it needs after it."""
         text = self.run_of("bin/btx", "--help")[1].decode()
         words = [line.split()[0] for line in text.splitlines() if line.startswith("    ") and line[4] not in " W"]
-        after = {"archive": [stand.PAGES, "-o", self.path("website")], "gen": ["1"], "load": ["1"], "viewer": [], "editor": []}
+        after = {"archive": [stand.PAGES, "-o", self.path("website")], "gen": ["1"], "load": ["1"], "viewer": [], "editor": [], "diff": [stand.page("title")] * 2}
         self.assertGreater(len(words), 15)
         return [[word, *after.get(word, [stand.page("title")])] for word in words]
 

@@ -1,0 +1,96 @@
+"""Makes the pages of an archive: by threads of this machine, or by GNU parallel on several."""
+import base64
+import concurrent.futures
+import dataclasses
+import itertools
+import json
+import os
+import shlex
+import subprocess
+import sys
+import threading
+
+from btx import making, program
+
+WORKER = ["archive", "--worker"]
+PAGES_A_JOB = 8
+# So many pages a job are handed over before they are begun.
+AHEAD = 4
+
+
+def by_threads(path, website, here, names, jobs):
+    """Makes pages, as many at once as there are jobs; gives the name and facts of each as it is made. Nothing waits for a run of the
+    program where it is stopped: the system ends these with this process."""
+
+    def make(name):
+        return name, website.add(name, *making.made(path, here.path(name)))
+
+    pool, waiting = concurrent.futures.ThreadPoolExecutor(jobs), iter(names)
+    try:
+        running = {pool.submit(make, name) for name in itertools.islice(waiting, AHEAD * jobs)}
+        while running:
+            done, running = concurrent.futures.wait(running, return_when=concurrent.futures.FIRST_COMPLETED)
+            running |= {pool.submit(make, name) for name in itertools.islice(waiting, len(done))}
+            yield from (one.result() for one in done)
+    finally:
+        pool.shutdown(wait=False, cancel_futures=True)
+
+
+class Sent:
+    """The pages that go to the jobs of parallel, each read once as it is sent; those that can't be read are kept back."""
+
+    def __init__(self, here, names):
+        self.here, self.names, self.unread = here, names, {}
+
+    def lines(self):
+        """For each page that can be read a line with its number and its bytes."""
+        for number, name in enumerate(self.names):
+            try:
+                page = base64.b64encode(making.stored(self.here.path(name))).decode("ascii")
+            except making.Unread as unread:
+                self.unread[name] = unread.facts
+            else:
+                yield json.dumps({"number": number, "page": page}) + "\n"
+
+    def feed(self, stream):
+        try:
+            with stream:
+                stream.writelines(self.lines())
+        except OSError:
+            pass  # The runner has ended; what it lacks is seen by the results that don't come.
+
+
+def parallel_words(options):
+    """The words that start GNU parallel."""
+    remote = options.remote or ("btx" if options.sshlogin else shlex.quote(os.path.join(options.beside, "btx")))
+    machines = itertools.chain.from_iterable(["--sshlogin", login] for login in options.sshlogin)
+    jobs = ["--jobs", str(options.jobs)] if options.jobs else []
+    return ["parallel", "--will-cite", "--pipe", "-N", str(PAGES_A_JOB), *jobs, *machines, f"{remote} {shlex.join(WORKER)}"]
+
+
+def by_parallel(website, here, names, words):
+    """The same by GNU parallel: pages go to its jobs and results come back over their input and output."""
+    sent = Sent(here, names)
+    runner = subprocess.Popen([*program.ending_with_us("TERM"), *words], stdin=subprocess.PIPE, stdout=subprocess.PIPE, text=True, encoding="ascii")
+    feeder = threading.Thread(target=sent.feed, args=(runner.stdin,), daemon=True)
+    feeder.start()
+    try:
+        for line in runner.stdout:
+            result = json.loads(line)
+            name = names[result["number"]]
+            yield name, website.add(name, making.Facts(**result["facts"]), result["parts"])
+        feeder.join()
+        yield from ((name, website.add(name, facts, None)) for name, facts in sent.unread.items())
+    finally:
+        runner.stdout.close()
+        runner.wait()
+
+
+def work(path):
+    """What runs on the machines of parallel: a line for each page comes in, and one for each goes out."""
+    for line in sys.stdin:
+        job = json.loads(line)
+        facts, parts = making.made_of_bytes(path, base64.b64decode(job["page"]))
+        sys.stdout.write(json.dumps({"number": job["number"], "facts": dataclasses.asdict(facts), "parts": parts}) + "\n")
+        sys.stdout.flush()
+    return 0

@@ -1,0 +1,140 @@
+"""The files of an archive: viewer, picture and facts of each page."""
+import contextlib
+import dataclasses
+import errno
+import hashlib
+import json
+import os
+import shutil
+import urllib.parse
+from html import escape
+
+from btx import html, making
+
+SCRIPTS = ("text.js", "signs.js", "paint.js", "film.js", "screen.js", "player.js", "panels.js", "files.js", "viewer.js", "archive.js", "language.js", "walk.js")
+# What a page of an archive has besides those of the viewer.
+OWN_SCRIPTS = ("site.js", "language.js", "walk.js")
+STYLES = ("style.css", "archive.css")
+# What is made of a page, each kind in a folder of its own; the facts, by which it counts as made, come last and go first.
+KINDS = {"pages": ".html", "pictures": ".js", "made": ".json"}
+# All folders of a website.
+FOLDERS = (*KINDS, "viewer", "entries", "words", "walk")
+# Of a file's 255 bytes the endings take some.
+LONGEST = 255 - len(".json.part")
+# A page may have a name under which no file of an archive can stand.
+NO_NAMES = (errno.ENAMETOOLONG, errno.EISDIR, errno.ENOTDIR, errno.EEXIST)
+POLICY = "default-src 'none'; img-src blob: data:; style-src 'self'; script-src 'self'"
+
+
+def address(name):
+    """The address of a page in the website, whatever the bytes of its name are."""
+    return urllib.parse.quote(os.fsencode(name))
+
+
+def part_of(name):
+    """In which part of the archive's order a page is told of: a page asks for its own alone."""
+    return hashlib.sha256(os.fsencode(name)).hexdigest()[:2]
+
+
+def write(path, text):
+    """A file, whole or not at all."""
+    os.makedirs(os.path.dirname(path), exist_ok=True)
+    with open(path + ".part", "w", encoding="utf-8") as file:
+        file.write(text)
+    os.replace(path + ".part", path)
+
+
+def halves():
+    """The viewer's document before and after a page's data, with places for what is each page's own; outlines are off."""
+    changed = {
+        'href="style.css"': 'href="{up}viewer/style.css"',
+        "<h1>Tamligub</h1>": '<h1><a href="{up}index.html">Archive</a></h1>',
+        "<title>Tamligub: a page being built</title>": "<title>{title}</title>",
+        "</header>": '</header>\n<nav id="walk" data-up="{up}" data-part="{part}" data-address="{address}"></nav>',
+        'aria-keyshortcuts="o" checked': 'aria-keyshortcuts="o"',
+        '<script src="viewer.js"></script>': "\n".join(f'<script src="{name}"></script>' for name in ("viewer.js", *OWN_SCRIPTS)),
+        '<script src="': '<script src="{up}viewer/',
+    }
+    document = html.with_policy(html.text_of("index.html"), POLICY)
+    for old, new in changed.items():
+        document = document.replace(old, new)
+    return document.split(html.DATA)
+
+
+class Website:
+    """The files of an archive in a folder."""
+
+    def __init__(self, out):
+        self.out = out
+        self.head, self.tail = halves()
+
+    def begin(self, title):
+        """What all pages have in common: scripts, styles, and the title of the archive, by which pages don't change."""
+        os.makedirs(os.path.join(self.out, "viewer"), exist_ok=True)
+        for name in (*SCRIPTS, *STYLES):
+            shutil.copyfile(os.path.join(html.VIEW, name), os.path.join(self.out, "viewer", name))
+        site = html.data_of({"title": title})
+        write(os.path.join(self.out, "viewer", "site.js"), f"(window.Tamligub = window.Tamligub || {{}}).site = {site};\n")
+
+    def path(self, kind, name):
+        return os.path.join(self.out, kind, name + KINDS[kind])
+
+    def names(self):
+        """The names of all pages of which something was made and whole."""
+        top = os.path.join(self.out, "made")
+        for place, _, files in os.walk(top):
+            for file in files:
+                name, ending = os.path.splitext(os.path.relpath(os.path.join(place, file), top))
+                if ending == KINDS["made"]:
+                    yield name
+
+    def facts(self, name):
+        """The facts of a page that is made, or None."""
+        try:
+            with open(self.path("made", name), encoding="utf-8") as file:
+                return making.Facts(**json.load(file))
+        except (OSError, ValueError, TypeError):
+            return None
+
+    def remove(self, name):
+        """Takes away what was made of a page, and folders that are empty without it."""
+        for kind in reversed(KINDS):
+            path = self.path(kind, name)
+            with contextlib.suppress(FileNotFoundError, NotADirectoryError, IsADirectoryError):
+                os.remove(path)
+            with contextlib.suppress(OSError):
+                os.removedirs(os.path.dirname(path))
+
+    def document(self, name, facts, parts):
+        """The viewer with a page; its style and scripts are those of the whole archive."""
+        shown = html.shown_name(name)
+        places = {"up": "../" * (name.count("/") + 1), "part": part_of(name), "address": address(name), "title": facts.title or shown}
+        head, tail = self.head, self.tail
+        for place, value in places.items():
+            head, tail = (text.replace("{" + place + "}", escape(value)) for text in (head, tail))
+        data = {"name": shown, **{part: parts[part] for part in ("deflated", "check", "page")}}
+        return f'{head}<script type="application/json" id="pages">{html.data_of([data])}</script>{tail}'
+
+    def write_page(self, name, facts, parts):
+        """Writes what was made of a page, last the facts."""
+        with contextlib.suppress(FileNotFoundError):
+            os.remove(self.path("made", name))
+        write(self.path("pages", name), self.document(name, facts, parts))
+        write(self.path("pictures", name), f"Tamligub.picture({html.data_of(parts['cells'])});\n")
+        write(self.path("made", name), html.data_of(dataclasses.asdict(facts)))
+
+    def add(self, name, facts, parts):
+        """Writes what was made of a page. Of one that can't be read now stays what was made before, and of another nothing."""
+        try:
+            if any(len(os.fsencode(part)) > LONGEST for part in name.split("/")):
+                raise OSError(errno.ENAMETOOLONG, "too long")
+            if parts:
+                self.write_page(name, facts, parts)
+            elif facts.status != making.UNREADABLE:
+                self.remove(name)
+        except OSError as fault:
+            if fault.errno not in NO_NAMES:
+                raise
+            why = "its name is too long for a file of an archive" if fault.errno == errno.ENAMETOOLONG else "another page has its place"
+            return making.Facts(facts.bytes, making.FAULT, why)
+        return facts

@@ -1,0 +1,177 @@
+"""The website of an archive in a browser: from page to page, folders, search, what the address keeps, languages, titles, print, phone."""
+import os
+import shutil
+import urllib.parse
+
+import archives
+import stand
+
+import browser
+
+NAMES = "[...document.querySelectorAll('#tiles .name')].map((one) => one.textContent).join()"
+FOLDERS = "[...document.querySelectorAll('#folders a')].map((one) => one.textContent).join()"
+WALK = "[...document.querySelectorAll('#walk a')].map((one) => `${one.rel}:${one.textContent}`).join('|')"
+# How many points of the outlines are painted.
+OUTLINED = """(() => {
+  const canvas = document.getElementById("outlines");
+  return canvas.getContext("2d").getImageData(0, 0, canvas.width, canvas.height).data.filter((part) => part).length;
+})()"""
+
+
+class Website(archives.Case):
+    def setUp(self):
+        super().setUp()
+        self.tab = browser.Browser(*self.needs("chromium"))
+        self.addCleanup(self.tab.close)
+        self.small("boat", "refused")
+        os.makedirs(os.path.join(self.source, "alt & neu", "größe"))
+        shutil.copy(stand.page("title"), os.path.join(self.source, "alt & neu", "größe", "eins.btx"))
+        shutil.copy(stand.page("house"), os.path.join(self.source, "alt & neu", "größe", "zwei.btx"))
+        shutil.copy(stand.page("title"), os.path.join(os.fsencode(self.source), b"zu\xdf.btx"))
+        self.all = "alt & neu/größe/eins.btx,alt & neu/größe/zwei.btx,boat.btx,refused.btx,zu\\xdf.btx"
+
+    def open(self, name="index.html", *words):
+        self.tab.size(1280, 900)
+        self.tab.call("Page.navigate", url="about:blank")
+        self.tab.call("Page.navigate", url="file://" + urllib.parse.quote(os.path.join(self.out, name)) + "".join(words))
+        self.ready("#count" if name == "index.html" else "#walk a")
+
+    def ready(self, part):
+        self.tab.until(f"document.readyState === 'complete' && (document.querySelector({part!r}) || {{}}).textContent")
+
+    def choose(self, part, value):
+        event = "input" if part == "search" else "change"
+        self.tab.value(f"(({part}) => {{ {part}.value = {value!r}; {part}.dispatchEvent(new Event('{event}')); }})(document.getElementById('{part}'))")
+
+    def shows(self, script, wanted):
+        self.tab.until(f"{script} === {wanted!r}")
+
+    def click(self, text, where="a"):
+        self.tab.value(f"[...document.querySelectorAll({where!r})].find((one) => one.textContent === {text!r}).click()")
+
+    def test_from_page_to_page(self):
+        self.archive()
+        self.open("pages/boat.btx.html")
+        self.shows(WALK, "prev:◀ Haus mit Baum|next:▶ Eine gestörte Übertragung")
+        self.click("◀ Haus mit Baum")
+        self.ready("#walk a")
+        self.shows(WALK, "prev:◀ BILDSCHIRMTEXT|:alt & neu/|:größe/|next:▶ Segelboot")
+        self.shows("document.getElementById('name').textContent", "alt & neu/größe/zwei.btx")
+        # The first has none before it; the last, whose name is no UTF-8, none after.
+        self.click("◀ BILDSCHIRMTEXT")
+        self.tab.until("document.title === 'BILDSCHIRMTEXT'")
+        self.shows(WALK, ":alt & neu/|:größe/|next:▶ Haus mit Baum")
+        self.click("größe/")
+        self.ready("#count")
+        self.shows(NAMES, "alt & neu/größe/eins.btx,alt & neu/größe/zwei.btx")
+        self.open("pages/refused.btx.html")
+        self.click("▶ BILDSCHIRMTEXT")
+        self.shows(WALK, "prev:◀ Eine gestörte Übertragung")
+        self.assertEqual(self.tab.faults, [])
+
+    def test_the_way_stays_right_where_a_page_is_gone(self):
+        self.archive()
+        os.remove(os.path.join(self.source, "boat.btx"))
+        self.archive()
+        self.open("pages/refused.btx.html")
+        self.shows(WALK, "prev:◀ Haus mit Baum|next:▶ BILDSCHIRMTEXT")
+        self.assertEqual(sum(len(files) for _, _, files in os.walk(os.path.join(self.out, "walk"))), 4)
+
+    def test_folders(self):
+        self.archive()
+        self.open()
+        self.shows(FOLDERS, self.tab.value("Tamligub.word('allFolders')") + ",alt & neu/")
+        self.click("alt & neu/")
+        self.tab.until(f"{FOLDERS}.endsWith(',alt & neu/,größe/')")
+        self.click("größe/")
+        self.shows(NAMES, "alt & neu/größe/eins.btx,alt & neu/größe/zwei.btx")
+        self.tab.value("history.back()")
+        self.tab.until(f"{FOLDERS}.endsWith(',alt & neu/,größe/')")
+
+    def test_search_without_accents(self):
+        self.archive()
+        self.open()
+        for search, wanted in (
+            ("grosse", "alt & neu/größe/eins.btx,alt & neu/größe/zwei.btx,zu\\xdf.btx"), ("GRÖSSE", "alt & neu/größe/eins.btx,alt & neu/größe/zwei.btx,zu\\xdf.btx"),
+            ("gestorte", "refused.btx"), ("Übertragung", "refused.btx"), ("xdf", "zu\\xdf.btx"), ("", self.all),
+        ):
+            self.choose("search", search)
+            self.shows(NAMES, wanted)
+
+    def test_search_and_filters_are_kept(self):
+        self.archive()
+        self.open()
+        self.choose("search", "nicht & grosse")
+        self.choose("search", "grosse haus")
+        self.choose("order", "bytes")
+        self.choose("filter", "whole")
+        self.shows(NAMES, "alt & neu/größe/zwei.btx")
+        address = self.tab.value("location.href")
+        self.tab.value("document.querySelector('#tiles a').click()")
+        self.ready("#walk a")
+        # Back by the browser, by the heading, and by the address alone.
+        for back in ("history.back()", "document.querySelector('h1 a').click()"):
+            self.tab.value(back)
+            self.tab.until("document.getElementById('filter') !== null && document.getElementById('filter').value === 'whole'")
+            self.shows(NAMES, "alt & neu/größe/zwei.btx")
+            self.tab.value("document.querySelector('#tiles a').click()")
+            self.ready("#walk a")
+        self.open("index.html", "#" + address.partition("#")[2])
+        self.shows(NAMES, "alt & neu/größe/zwei.btx")
+        self.assertEqual(self.tab.value("['search', 'filter', 'order'].map((id) => document.getElementById(id).value).join()"), "grosse haus,whole,bytes")
+
+    def test_screens_that_are_the_same(self):
+        self.archive()
+        self.open()
+        self.choose("filter", "alike")
+        self.shows(NAMES, "alt & neu/größe/eins.btx,zu\\xdf.btx")
+        self.choose("language", "en")
+        self.tab.until("document.querySelectorAll('#tiles .facts')[1].textContent.includes('screen as alt & neu/größe/eins.btx')")
+
+    def test_german_and_english(self):
+        self.archive()
+        self.open()
+        for language, label, title, count in (
+            ("en", "Search", "Archive of Bildschirmtext pages", "5 of 5 pages"), ("de", "Suchen", "Archiv von Bildschirmtext-Seiten", "5 von 5 Seiten"),
+        ):
+            self.choose("language", language)
+            self.shows("document.querySelector('label').textContent", label)
+            self.shows("`${document.documentElement.lang} ${document.title} ${document.getElementById('count').textContent}`", f"{language} {title} {count}")
+        # A page speaks as the index did last.
+        self.open("pages/boat.btx.html")
+        self.shows("document.querySelector('#walk [rel=next]').title", "nächste Seite")
+        self.shows("document.querySelector('h1').textContent", "Archiv von Bildschirmtext-Seiten")
+
+    def test_titles(self):
+        self.archive()
+        self.archive("--title", "Mein <b>Archiv</b>")
+        self.open()
+        self.shows("`${document.title}|${document.querySelector('h1').textContent}`", "Mein <b>Archiv</b>|Mein <b>Archiv</b>")
+        self.shows("[...document.querySelectorAll('#tiles .title')].map((one) => one.textContent).join()",
+                   "BILDSCHIRMTEXT,Haus mit Baum,Segelboot,Eine gestörte Übertragung,BILDSCHIRMTEXT")
+        self.open("pages/boat.btx.html")
+        self.shows("`${document.title}|${document.querySelector('h1').textContent}`", "Segelboot|Mein <b>Archiv</b>")
+
+    def test_outlines_are_off_until_asked_for_and_print_has_the_screen_alone(self):
+        self.archive()
+        self.open("pages/boat.btx.html")
+        self.tab.until("Tamligub.viewer.film() !== null")
+        self.assertEqual(self.tab.value(OUTLINED), 0)
+        self.tab.value("document.getElementById('outline').click()")
+        self.assertGreater(self.tab.value(OUTLINED), 0)
+        seen = "['outlines', 'page', 'walk', 'bytes', 'text-part'].filter((id) => document.getElementById(id).getClientRects().length).join()"
+        self.tab.call("Emulation.setEmulatedMedia", media="print")
+        self.assertEqual(self.tab.value(seen), "page")
+        self.tab.call("Emulation.setEmulatedMedia", media="screen")
+        self.assertEqual(self.tab.value(seen), "outlines,page,walk,bytes,text-part")
+
+    def test_a_phone_has_the_whole_page_in_its_width(self):
+        self.archive()
+        self.open("pages/alt%20&%20neu/größe/eins.btx.html".replace("%20", " "))
+        self.tab.size(360, 740, 2)
+        self.tab.until("document.getElementById('page').getBoundingClientRect().width <= 360")
+        self.assertLessEqual(self.tab.value("document.documentElement.scrollWidth"), 360)
+        self.assertEqual(self.tab.value(OUTLINED), 0)
+        self.open()
+        self.tab.size(360, 740, 2)
+        self.assertLessEqual(self.tab.value("document.documentElement.scrollWidth"), 360)
