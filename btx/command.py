@@ -1,29 +1,23 @@
 """The words of btx: those of the program pass through, the others stand in modules of their own."""
 import argparse
-import difflib
 import os
 import signal
-import subprocess
 import sys
 
-from btx import VERSION, archive, diff, editor, html, jobs, messages, picture, program, terminal, viewer
+from btx import VERSION, archive, check_script, completion, diff, editor, files, html, jobs, messages, near, passing, picture, program
+from btx import say, terminal, viewer
 
-OWN = {"terminal": terminal, "html": html, "viewer": viewer, "editor": editor, "png": picture, "archive": archive, "diff": diff}
+OWN = {
+    "terminal": terminal, "html": html, "viewer": viewer, "editor": editor, "png": picture, "archive": archive, "diff": diff,
+    "check-script": check_script, "completion": completion,
+}
+KNOWN = (*program.WORDS, *OWN, "help")
 # Words that do without the program.
-BY_THEMSELVES = ("viewer", "editor")
+BY_THEMSELVES = ("viewer", "editor", "completion")
 NOT_THERE = 127
 EPILOG = """The words of the program pass through with its output and its status; what a status means is said on standard error.
+btx PAGE shows a page as terminal does, btx help WORD describes a word, and a file that is named - is standard input.
 man btx and man cept_tool say more. BTX_PROGRAM can name another program."""
-
-
-def say(text):
-    print(f"btx: {text}", file=sys.stderr)
-
-
-def end_by(number):
-    """Ends as a program without a handler would, so that a shell sees the usual status."""
-    signal.signal(number, signal.SIG_DFL)
-    os.kill(os.getpid(), number)
 
 
 def parsers():
@@ -40,14 +34,14 @@ def parsers():
         one = words.add_parser(word, help=puts, description=f"Puts {puts}.", usage=messages.usage(word).partition(": ")[2])
         for name in wanted.split(" "):
             one.add_argument(name)
+        one.add_argument("-o", "--output", metavar="FILE", help="where to write it, once it is whole; without this to standard output")
     return parser
 
 
 def unknown(word):
-    known = [*program.WORDS, *OWN]
-    near = difflib.get_close_matches(word, known, 1, 0.5)
-    nearest = f"; the nearest is {near[0]}" if near else ""
-    say(f"{word} is none of its words{nearest}\nbtx --help lists them")
+    nearest = near.nearest(word, KNOWN)
+    hint = f"; the nearest is {nearest}" if nearest else ""
+    say(f"{word} is none of its words{hint}\nbtx --help lists them")
     return 2
 
 
@@ -59,33 +53,32 @@ def program_for(beside):
     return path
 
 
-def pass_through(path, word, words):
-    """Runs the program with its words, and says on standard error what its status means."""
-    status = subprocess.run([path, word, *words], close_fds=False).returncode
-    if status < 0:
-        end_by(-status)
-    if status == 5 and messages.reader_is_gone():
-        end_by(signal.SIGPIPE)
-    text = messages.sentence(path, word, words, status)
-    if text:
-        say(text)
-    return status
-
-
-def own(path, module, options):
-    """Runs a word of btx's own."""
+def guarded(path, word, act, *things):
+    """Runs a word; where files or the program fail, it says so."""
     try:
-        return module.run(path, options)
+        return act(path, *things)
     except program.Ended as end:
         if end.status < 0:
-            end_by(-end.status)
-        say(messages.sentence(path, end.word if end.status == 2 else options.word, end.words, end.status))
+            passing.end_by(-end.status)
+        say(messages.sentence(path, end.word if end.status == 2 else word, end.words, end.status))
         return end.status
     except BrokenPipeError:
         raise
     except OSError as fault:
-        say(": ".join(part for part in (options.word, fault.filename, messages.why(fault)) if part))
+        say(": ".join(part for part in (word, fault.filename, messages.why(fault)) if part))
         return 4
+
+
+def is_page(word):
+    """Whether a first word is rather a page than a word that there isn't."""
+    return word == files.STANDARD or os.path.exists(word) or "/" in word or word.endswith(".btx")
+
+
+def spelled(words):
+    """The words in full: a page alone is shown, and help is asked of the word itself."""
+    if words[0] == "help":
+        return [*words[1:2], "--help"]
+    return ["terminal", *words] if words[0] not in KNOWN and not words[0].startswith("--") and is_page(words[0]) else words
 
 
 def run(words, beside):
@@ -93,17 +86,18 @@ def run(words, beside):
     if not words:
         parser.print_help(sys.stderr)
         return 2
+    words = spelled(words)
     word, rest = words[0], words[1:]
     if word in program.WORDS and rest[:1] not in (["--help"], ["-h"]):
-        return pass_through(program_for(beside), word, rest)
-    if not word.startswith("-") and word not in program.WORDS and word not in OWN:
+        return guarded(program_for(beside), word, passing.run, word, rest)
+    if not word.startswith("-") and word not in KNOWN:
         return unknown(word)
     if words == jobs.WORKER:
         return jobs.work(program.found(beside))
     options = parser.parse_args(words)
-    options.beside = beside
+    options.beside, options.parser = beside, parser
     path = None if options.word in BY_THEMSELVES else program_for(beside)
-    return own(path, OWN[options.word], options)
+    return guarded(path, options.word, OWN[options.word].run, options)
 
 
 def main(words, beside):
@@ -115,7 +109,7 @@ def main(words, beside):
         say(fault)
         status = NOT_THERE
     except BrokenPipeError:
-        end_by(signal.SIGPIPE)
+        passing.end_by(signal.SIGPIPE)
     except KeyboardInterrupt:
-        end_by(signal.SIGINT)
+        passing.end_by(signal.SIGINT)
     sys.exit(status)

@@ -4,7 +4,7 @@ import os
 import shutil
 import sys
 
-from btx import looks, program, terminal
+from btx import files, looks, program, terminal
 
 SUMMARY = "the cells in which the screens of two pages differ"
 SAME, DIFFERENT = 0, 1
@@ -39,7 +39,7 @@ def beside(painter, screens):
 
 
 def screen_of(path, page):
-    with program.read_again(page) as again:
+    with files.read_again(page) as again:
         return texts_of(program.text_put(path, "cells", again))
 
 

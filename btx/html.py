@@ -1,14 +1,12 @@
 """Writes one file that shows stored pages being built, with viewer and data in it, to open or to send. With several pages it has an
 index with small pictures. Nothing in it is fetched from elsewhere, and no script runs in it but the viewer's own."""
 import base64
-import contextlib
 import hashlib
 import json
 import os
 import re
-import sys
 
-from btx import program
+from btx import files, program, say
 
 SUMMARY = "a file that shows pages being built, in a browser"
 VIEW = os.path.join(program.ROOT, "view")
@@ -37,7 +35,7 @@ def shown_name(name):
 
 def page_of(path, name, page):
     """What the viewer needs of a page: of one that flashes also what each turn changes."""
-    with program.read_again(page) as again:
+    with files.read_again(page) as again:
         changes, check = (program.text_put(path, word, again) for word in ("changes", "check"))
         flash = program.text_put(path, "flash", again, TURNS)
         with open(again, "rb") as file:
@@ -76,20 +74,12 @@ def html_of(pages):
     return f'{head}<script type="application/json" id="pages">{data_of(pages)}</script>\n{inside}\n{tail.lstrip()}'
 
 
-@contextlib.contextmanager
-def output(path):
-    """The file of a path, or standard output."""
-    if path is None:
-        yield sys.stdout.buffer
-        sys.stdout.buffer.flush()
-    else:
-        with open(path, "wb") as file:
-            yield file
-
-
 def run(path, options):
+    if options.pages.count(files.STANDARD) > 1:
+        say("html: standard input is one page, and - stands more than once")
+        return 2
     names = names_of(options.pages)
     pages = [page_of(path, name, page) for name, page in zip(names, options.pages)]
-    with output(options.output) as file:
+    with files.output(options.output) as file:
         file.write(html_of(pages).encode("utf-8"))
     return 0

@@ -2,26 +2,18 @@
 import os
 import select
 import shlex
-import stat
 
-from btx import program
+from btx import faults, files, program, typed
 
-MOST_PAGE, MOST_SCRIPT = 2**24, 2**20
+MOST_PAGE, MOST_SCRIPT = files.MOST_PAGE, typed.MOST
 MOST_NUMBER, MOST_TURNS = 2**32 - 1, 600
-FAULTS = {
-    1: "its first word is no word of {kind}s",
-    2: "it has more or fewer words than it needs",
-    3: "a number hasn't one or two digits, or is out of its range",
-    4: "a sign of its text isn't 20 to 7E",
-    5: "its word isn't an even number of hexadecimal digits, at least two",
-    6: "an item of its bytes is refused",
-}
 OUTPUT = 1
 COUNTS = {1: "one", 2: "two"}
+is_file = files.is_plain
 
 
 def usage(word):
-    return f"usage: btx {word} {program.WORDS[word][0]}"
+    return f"usage: btx {word} {program.WORDS[word][0]} [-o FILE]"
 
 
 def files_of(word, words):
@@ -34,14 +26,6 @@ def kind_of(word):
     return program.WORDS[word][0].split(" ")[-1].lower()
 
 
-def is_file(path):
-    """Whether a path names a plain file, which can be read twice."""
-    try:
-        return stat.S_ISREG(os.stat(path).st_mode)
-    except (OSError, ValueError):
-        return False
-
-
 def why(fault):
     """Why a call of the system failed, as a sentence ends."""
     text = fault.strerror or str(fault)
@@ -50,6 +34,8 @@ def why(fault):
 
 def fault_of(path):
     """Why a file can't be opened or read, or None where it can."""
+    if path == files.STANDARD:
+        return None
     try:
         with open(path, "rb") as file:
             file.read(1)
@@ -90,19 +76,9 @@ def no_request(word, words):
     return f"{word}: {reason}\n{usage(word)}"
 
 
-def bad_line(path, word, words):
-    """Status 3: which line of the script or the drawing, and what is wrong in it."""
-    page, script = words
-    kind = kind_of(word)
-    if not is_file(script):
-        return f"{word}: a line of the {kind} is outside the grammar; man cept_tool has it under {kind.upper()}S"
-    output, _ = program.put(path, word, page, script)
-    head, _, reason = output.decode("ascii").partition(": ")
-    number = int(head.rsplit(" ", 1)[-1])
-    with open(script, "rb") as file:
-        line = file.read().split(b"\n")[number - 1].decode("ascii", "backslashreplace")
-    fault = FAULTS[int(reason.split(" ")[0])].format(kind=kind)
-    return f"{word}: {script}, line {number}: {fault}: {line}"
+def bad_lines(path, word, words, given):
+    """Status 3: which lines of the script or the drawing, and what is wrong in each."""
+    return "\nbtx: ".join(f"{word}: {one}" for one in faults.told(path, words[1], given.typed, kind_of(word)))
 
 
 def unreadable(word, words):
@@ -114,10 +90,20 @@ def unreadable(word, words):
     return f"{word}: {words[0]}: it could not be read to its end"
 
 
-def too_long(word, words):
+def too_long_script(name, data, kind):
+    """Why a script or a drawing is too long, or nothing where it isn't."""
+    if len(data) > MOST_SCRIPT:
+        return f"{name}: the {kind} has more than {MOST_SCRIPT:,} bytes"
+    if len(typed.of_bytes(data)) > MOST_SCRIPT:
+        return f"{name}: the {kind} has more than {MOST_SCRIPT:,} bytes once its signs outside ASCII are bytes"
+    return ""
+
+
+def too_long(word, words, given):
     """Status 7: which limit."""
-    if len(words) == 2 and is_file(words[1]) and os.path.getsize(words[1]) > MOST_SCRIPT:
-        return f"{word}: {words[1]}: the {kind_of(word)} has more than {MOST_SCRIPT:,} bytes, so nothing was read of the page"
+    script = given and given.typed is not None and too_long_script(words[1], given.typed, kind_of(word))
+    if script:
+        return f"{word}: {script}, so nothing was read of the page"
     if len(words) == 1 or is_file(words[0]) and os.path.getsize(words[0]) > MOST_PAGE:
         return f"{word}: {words[0]}: the page has more than {MOST_PAGE:,} bytes; only the items of the first {MOST_PAGE:,} were read"
     return f"{word}: the page has more than {MOST_PAGE:,} bytes, or the {kind_of(word)} more than {MOST_SCRIPT:,}"
@@ -130,8 +116,9 @@ def reader_is_gone():
     return any(event & select.POLLERR for _, event in watch.poll(0))
 
 
-def sentence(path, word, words, status):
-    """What a status of the program means here; empty where nothing is to be said."""
+def sentence(path, word, words, status, given=None):
+    """What a status of the program means here, for words as people gave them, and for what the program was given of them; empty where
+    nothing is to be said."""
     if status == 0:
         return ""
     if status == 1:
@@ -139,15 +126,16 @@ def sentence(path, word, words, status):
     if status == 2:
         return no_request(word, words)
     if status == 3:
-        return bad_line(path, word, words)
+        return bad_lines(path, word, words, given)
     if status == 4:
         return unreadable(word, files_of(word, words))
     if status == 5:
-        return f"{word}: the output failed, as on a full disk; what stands in it is only the front of the whole"
+        rest = "" if given and given.out else "; what stands in it is only the front of the whole"
+        return f"{word}: the output failed, as on a full disk{rest}"
     if status == 6:
         return f"{word}: there is not enough memory; nothing was put"
     if status == 7:
-        return too_long(word, files_of(word, words))
+        return too_long(word, files_of(word, words), given)
     if status == 8:
         return f"{word}: {words[0]}: this is no page in seven bits; only what stands before its first wrong byte was put"
     return f"{word}: the program ended with status {status}, which it doesn't have"

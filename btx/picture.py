@@ -8,7 +8,7 @@ import subprocess
 import sys
 import tempfile
 
-from btx import html, program
+from btx import files, html, program, say
 
 SUMMARY = "a picture of the screen at the end of a page, as PNG"
 BROWSERS = ("chromium", "chromium-browser", "google-chrome", "chromium-headless-shell")
@@ -63,20 +63,21 @@ def pictures_of(chromium, cells, width, reveal):
 
 def run(path, options):
     if options.output is None and sys.stdout.isatty():
-        print("btx: png: a terminal shows no PNG; -o FILE writes it into a file", file=sys.stderr)
+        say("png: a terminal shows no PNG; -o FILE writes it into a file")
         return 2
     chromium = browser()
     if not chromium:
-        print("btx: png: it takes a Chromium, and none is on this machine (Debian: apt-get install chromium)", file=sys.stderr)
+        say("png: it takes a Chromium, and none is on this machine (Debian: apt-get install chromium)")
         return NOT_THERE
-    cells = program.text_put(path, "cells", options.page)
+    with files.read_again(options.page) as page:
+        cells = program.text_put(path, "cells", page)
     try:
         pictures = pictures_of(chromium, [cells], options.cell, options.reveal)
     except subprocess.TimeoutExpired:
         pictures = []
     if not pictures:
-        print(f"btx: png: {chromium} painted nothing", file=sys.stderr)
+        say(f"png: {chromium} painted nothing")
         return 5
-    with html.output(options.output) as file:
+    with files.output(options.output) as file:
         file.write(pictures[0])
     return 0

@@ -1,11 +1,8 @@
 """The program: where it is, its words, and running it."""
-import contextlib
 import os
 import shlex
 import shutil
-import stat
 import subprocess
-import tempfile
 
 ROOT = os.path.dirname(os.path.dirname(os.path.abspath(__file__)))
 CRATE = os.path.join(ROOT, "crates", "cept_tool")
@@ -34,7 +31,9 @@ WORDS = {
     "gen": ("NUMBER", "the generated page of a number, 0 to 4294967295, as bytes"),
     "load": ("NUMBER", "how many bytes, items and paints that page has"),
 }
-READ_TO_THE_END, WITH_REFUSALS = 0, 1
+# The words whose second file has lines: a script or a drawing.
+SCRIPTED = ("trace", "edit", "plot")
+READ_TO_THE_END, WITH_REFUSALS, OUTSIDE = 0, 1, 3
 
 
 class Missing(Exception):
@@ -103,19 +102,6 @@ def put(program, word, *words, before=()):
     """What the program puts, and its status; words may stand before it that start it."""
     done = subprocess.run([*before, program, word, *words], stdin=subprocess.DEVNULL, stdout=subprocess.PIPE, close_fds=False)
     return done.stdout, done.returncode
-
-
-@contextlib.contextmanager
-def read_again(page):
-    """A name by which a page can be read several times: of what can be read once, as a pipe, that of a copy."""
-    if not os.path.exists(page) or stat.S_ISREG(os.stat(page).st_mode) or os.path.isdir(page):
-        yield page
-    else:
-        with tempfile.NamedTemporaryFile(prefix="btx-") as copy:
-            with open(page, "rb") as source:
-                shutil.copyfileobj(source, copy)
-            copy.flush()
-            yield copy.name
 
 
 def bytes_put(program, word, page, *after, before=()):

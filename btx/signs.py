@@ -1,22 +1,10 @@
 """The sign in Unicode that stands for a look in a terminal: letters as `show` has them, mosaics and patterns by signs that
 were made for old computers."""
 import collections
-import unicodedata
 
-from btx import looks
+from btx import letters, looks
 
-MARKS = {
-    0x41: "\u0300", 0x42: "\u0301", 0x43: "\u0302", 0x44: "\u0303", 0x45: "\u0304", 0x46: "\u0306", 0x47: "\u0307",
-    0x48: "\u0308", 0x4A: "\u030a", 0x4B: "\u0327", 0x4D: "\u030b", 0x4E: "\u0328", 0x4F: "\u030c",
-}
-SUPPLEMENTARY = {
-    first + index: sign
-    for first, signs in (
-        (0x21, "¡¢£$¥#§¤‘“«←↑→↓°±²³×µ¶·÷’”»¼½¾¿"), (0x50, "―¹®©™♪"), (0x60, "ΩÆĐªĦ"), (0x66, "ĲĿŁØŒºÞŦŊŉĸæđðħıĳŀłøœßþŧŋ"),
-    )
-    for index, sign in enumerate(signs)
-}
-NO_SIGN, SOME_MOSAIC, SOME_PATTERN, SQUARE, FULL = "\ufffd", "\u2592", "\u25a1", "\u25a0", "\u2588"
+NO_SIGN, SOME_MOSAIC, SOME_PATTERN, FULL = "\ufffd", "\u2592", "\u25a1", "\u2588"
 
 
 def row_of(first, *last):
@@ -62,13 +50,11 @@ def sign_of(shape):
     if letter in "MN":
         return mosaic(letter, code)
     if letter == "S":
-        return SUPPLEMENTARY.get(code, NO_SIGN)
+        return letters.SUPPLEMENTARY.get(code, NO_SIGN)
     if letter == "D":
         return SOME_PATTERN
-    if code == 0x7F:
-        return SQUARE
-    mark = MARKS.get(int(shape[4:], 16), "") if "+" in shape else ""
-    return unicodedata.normalize("NFC", chr(code) + mark)
+    mark = letters.MARKS.get(int(shape[4:], 16), "") if "+" in shape else ""
+    return letters.PRIMARY.get(code) or letters.composed(chr(code) + mark)
 
 
 def paints_of(look, pattern):

@@ -5,7 +5,7 @@ import os
 import sys
 import time
 
-from btx import looks, messages, program, signs
+from btx import files, looks, messages, program, say, signs
 
 SUMMARY = "the page in colour in the terminal"
 BITS_OF_A_BYTE = 10
@@ -152,8 +152,8 @@ def show(path, page, options):
 
 def run(path, options):
     sys.stdout.reconfigure(encoding="utf-8", newline="\n")
-    with program.read_again(options.page) as page:
+    with files.read_again(options.page) as page:
         status = show(path, page, options)
     if status:
-        print(f"btx: {messages.sentence(path, 'show', [options.page], status)}", file=sys.stderr)
+        say(messages.sentence(path, "show", [options.page], status))
     return status

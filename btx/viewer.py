@@ -3,9 +3,8 @@ decoded there, several and whole folders too. Nothing in it is fetched from else
 it but the viewer's own."""
 import base64
 import os
-import sys
 
-from btx import html, program
+from btx import files, html, program, say
 
 SUMMARY = "a file that shows stored pages that are dropped on it, in a browser"
 LIBRARY = os.path.join(program.ROOT, "library")
@@ -58,11 +57,11 @@ def write(options, document_with):
     """Writes the document that stands over the module."""
     path = options.module or MODULE
     if not options.module and not os.path.exists(path):
-        print(f"btx: {options.word}: {missing()}", file=sys.stderr)
+        say(f"{options.word}: {missing()}")
         return NOT_THERE
     with open(path, "rb") as file:
         document = document_with(file.read())
-    with html.output(options.output) as file:
+    with files.output(options.output) as file:
         file.write(document.encode("utf-8"))
     return 0
 

@@ -78,7 +78,7 @@ class Gate(stand.Case):
 
     def test_the_first_line_of_contributing_installs_all_packages(self):
         with open(os.path.join(stand.ROOT, "CONTRIBUTING.md"), encoding="utf-8") as file:
-            line = re.match(r"# .*\n\n`apt-get install ([a-z0-9 +-]+)`", file.read())
+            line = re.match(r"# .*\n\n`apt-get install ([a-z0-9 +\n-]+)`", file.read())
         named = {one for packages in stand.absent.PACKAGES.values() for one in packages.split()}
         # Where there is no dpkg there is no apt-get.
         self.assertEqual(sorted(line[1].split()), sorted(named - {"dpkg"}))

@@ -1,7 +1,13 @@
 """The install under a prefix and as a Debian package, each used as a reader would, from where it was put."""
+import configparser
+import importlib.machinery
+import importlib.util
 import os
 import re
+import shlex
+import struct
 import subprocess
+import xml.etree.ElementTree
 
 import stand
 
@@ -44,7 +50,7 @@ class Install(stand.Case):
             self.assertIn(said, self.is_right(manual))
 
     def test_a_prefix(self):
-        prefix = self.path("prefix")
+        prefix = self.path("pre fix")
         self.is_right(self.run_of(INSTALL, prefix, env=stand.environment()))
         self.works(prefix)
         # Once more over itself.
@@ -79,30 +85,153 @@ class Install(stand.Case):
         left = [name for _, _, names in os.walk(usr) for name in names]
         self.assertEqual(left, [])
 
-    def test_the_completion(self):
-        script = os.path.join(stand.ROOT, "docs", "btx.bash")
+    def test_the_completion_of_bash(self):
+        script = self.written("btx.bash", stand.btx("completion", "bash").stdout)
         for words, wanted in (
-            (["btx", "te"], ["terminal"]), (["btx", "c"], ["changes", "check", "cells"]), (["btx", "terminal", "--re"], ["--reveal", "--replay"]),
+            (["btx", "te"], ["terminal"]), (["btx", "c"], ["changes", "check", "cells", "check-script", "colours.btx", "completion"]),
+            (["btx", "terminal", "--re"], ["--reveal", "--replay"]), (["btx", "help", "ar"], ["archive"]),
+            (["btx", "edit", "--o"], ["--output"]),
             (["btx", "terminal", "--replay", "1"], ["1200"]), (["btx", "show", "title.b"], ["title.btx"]), (["btx", "--v"], ["--version"]),
+            (["btx", "gen", ""], []), (["btx", "archive", "exp"], ["expected"]), (["btx", "completion", ""], ["bash", "zsh", "fish"]),
+            (["btx", "png", "-o", "boat.b"], ["boat.btx"]), (["btx", "png", "--cell", "boat.b"], []),
         ):
-            line = f". {script}; COMP_WORDS=({' '.join(words)}); COMP_CWORD={len(words) - 1}; _btx; printf '%s\\n' \"${{COMPREPLY[@]}}\""
+            line = f". {script}; COMP_WORDS=({shlex.join(words)}); COMP_CWORD={len(words) - 1}; _btx; printf '%s\\n' \"${{COMPREPLY[@]}}\""
             found = self.run_of("bash", "-c", line, cwd=stand.PAGES)
             self.assertEqual(sorted(self.is_right(found).decode().split()), sorted(wanted), words)
 
-    def test_the_completion_and_the_manual_know_all_words_and_options(self):
-        texts = []
-        for name in ("btx.bash", "btx.1"):
-            with open(os.path.join(stand.ROOT, "docs", name), encoding="utf-8") as file:
-                texts.append(file.read().replace("\\-", "-"))
-        help_of = {word: stand.btx(word, "--help").stdout.decode() for word in ("terminal", "html", "viewer", "editor", "png", "archive", "diff")}
-        for word, text in help_of.items():
-            options = {part.strip(",") for part in text.split() if part.startswith("--") and part.strip(",") != "--help"}
-            for option in options:
-                for known in texts:
-                    self.assertIn(option, known, word)
-        for word in [line.split()[0] for line in stand.btx("--help").stdout.decode().splitlines() if line.startswith("    ") and line[4] != " "][1:]:
+    def test_the_completion_of_zsh(self):
+        """By what it hands to the functions of zsh that complete."""
+        zsh, = self.needs("zsh")
+        script = self.written("_btx", stand.btx("completion", "zsh").stdout)
+        stubs = """compdef() { :; }; _files() { print -r -- files "$@"; }; _describe() { print -rl -- ${(P)2}; }
+        _arguments() { if [[ $1 = -C ]]; then state=$asked; return 1; else print -rl -- "$@"; fi; }"""
+        for asked, words, wanted in (
+            ("word", ["te"], ["terminal:the page in colour in the terminal", "files -g *.btx"]), ("after", ["help", ""], ["archive:"]),
+            ("after", ["terminal", ""], ["--reveal[", "--replay[", ":BITS:(1200 2400 9600)", "*:PAGE:_files"]),
+            ("after", ["archive", ""], ["--jobs-by[", ":(btx parallel)", "*:FOLDER:_files -/"]),
+            ("after", ["edit", ""], ["-o[", "--output[", ":FILE:_files"]),
+        ):
+            found = self.run_of(zsh, "-f", "-c", f"{stubs}; . {script}; asked={asked}; words=({shlex.join(words)}); _btx")
+            text = self.is_right(found).decode()
+            self.assertEqual(found.stderr, b"")
+            for one in wanted:
+                self.assertIn(one, text)
+
+    def test_the_completion_of_fish(self):
+        fish, = self.needs("fish")
+        script = self.written("btx.fish", stand.btx("completion", "fish").stdout)
+        for line, wanted in (
+            ("btx te", ["terminal"]), ("btx arc", ["archive"]), ("btx terminal --re", ["--replay", "--reveal"]),
+            ("btx terminal --replay 1", ["1200"]),
+            ("btx show title.b", ["title.btx"]), ("btx title.b", ["title.btx"]), ("btx help ar", ["archive"]), ("btx edit --o", ["--output"]),
+            ("btx archive --jobs-by p", ["parallel"]), ("btx completion z", ["zsh"]), ("btx gen ti", []),
+        ):
+            words, env = ["--no-config", "-c", f"source {script}; complete -C '{line}'"], {**self.bare(), "HOME": self.folder}
+            found = self.run_of(fish, *words, cwd=stand.PAGES, env=env)
+            self.assertEqual([one.split("\t")[0] for one in self.is_right(found).decode().splitlines()], wanted, line)
+
+    def test_each_completion_and_the_manual_know_all_words_and_options(self):
+        with open(os.path.join(stand.ROOT, "docs", "btx.1"), encoding="utf-8") as file:
+            texts = [file.read().replace("\\-", "-")]
+        texts += [stand.btx("completion", shell).stdout.decode().replace(" -l ", " --") for shell in ("bash", "zsh", "fish")]
+        words = [line.split()[0] for line in stand.btx("--help").stdout.decode().splitlines() if line.startswith("    ") and line[4] != " "]
+        self.assertGreater(len(words), 20)
+        for word in words:
+            help_of = stand.btx(word, "--help").stdout.decode()
+            options = {part.strip(",") for part in help_of.split() if part.startswith("--") and part.strip(",") != "--help"}
             for known in texts:
-                self.assertIn(word, known)
+                self.assertRegex(known, rf"\b{word}\b")
+                for option in options:
+                    self.assertIn(option, known, word)
+
+    def test_a_desktop_knows_pages(self):
+        prefix = self.path("pre fix")
+        self.is_right(self.run_of(INSTALL, prefix, env=stand.environment()))
+        kind = "application/x-bildschirmtext"
+        types = xml.etree.ElementTree.parse(os.path.join(prefix, "share/mime/packages/tamligub.xml")).getroot()
+        space = "{http://www.freedesktop.org/standards/shared-mime-info}"
+        self.assertEqual([(one.get("type"), one.find(f"{space}glob").get("pattern")) for one in types], [(kind, "*.btx")])
+        for place, head in (("applications/tamligub.desktop", "Desktop Entry"), ("thumbnailers/tamligub.thumbnailer", "Thumbnailer Entry")):
+            entry = configparser.ConfigParser(interpolation=None, delimiters="=", strict=True)
+            entry.read(os.path.join(prefix, "share", place), encoding="utf-8")
+            self.assertEqual(entry[head]["MimeType"], f"{kind};")
+            self.assertTrue(os.access(entry[head]["TryExec"], os.X_OK))
+            self.runs(shlex.split(entry[head]["Exec"]))
+
+    def runs(self, words):
+        """Runs an entry as a desktop does: one that makes a picture, or one that opens a file that plays the page."""
+        page = stand.page("title")
+        if "%o" in words:
+            self.needs("chromium")
+            picture = self.path("out.png")
+            self.is_right(self.run_of(*({"%i": page, "%o": picture}.get(word, word) for word in words)))
+            with open(picture, "rb") as file:
+                self.assertEqual(struct.unpack(">8x4x4xII", file.read(24)), (240, 192))
+            return
+        opener = self.written("xdg-open", f"#!/bin/sh\ncat \"$1\" > '{self.path('opened')}'\n".encode())
+        os.chmod(opener, 0o755)
+        env = {**self.bare(), "PATH": f"{self.folder}:{os.environ['PATH']}", "XDG_RUNTIME_DIR": self.folder}
+        self.is_right(self.run_of(*(page if word == "%f" else word for word in words), env=env))
+        with open(self.path("opened"), "rb") as file:
+            self.assertEqual(file.read(), stand.btx("html", page).stdout)
+
+    def test_documents_and_pictures_that_readme_names_are_there(self):
+        prefix = self.path("prefix")
+        self.is_right(self.run_of(INSTALL, prefix, env=stand.environment()))
+        folder = os.path.join(prefix, "share/doc/tamligub")
+        with open(os.path.join(folder, "README.md"), encoding="utf-8") as file:
+            named = set(re.findall(r"[\w./-]+\.(?:md|png)\b", file.read()))
+        self.assertGreater(len(named), 8)
+        for name in named:
+            self.assertTrue(os.path.isfile(os.path.join(folder, name)), name)
+        for name in ("view", "edit"):
+            with open(os.path.join(folder, name, "README.md"), encoding="utf-8") as file:
+                for picture in re.findall(r"\]\(([^)]*\.png)\)", file.read()):
+                    self.assertTrue(os.path.isfile(os.path.join(folder, name, picture)), picture)
+        self.assertTrue(os.path.isfile(os.path.join(folder, "examples", "weather.drawing")))
+
+    def test_pkg_config_takes_a_prefix_with_spaces(self):
+        command, = self.needs("pkg-config")
+        loader = importlib.machinery.SourceFileLoader("install", INSTALL)
+        module = importlib.util.module_from_spec(importlib.util.spec_from_loader("install", loader))
+        loader.exec_module(module)
+        self.written("tamligub.pc", module.pkg_config("/a place/of it").encode())
+        for words, wanted in ((["--cflags"], ["-I/a place/of it/include"]), (["--libs"], ["-L/a place/of it/lib", "-ltamligub"])):
+            found = self.run_of(command, *words, "tamligub", env={**self.bare(), "PKG_CONFIG_PATH": self.folder})
+            self.assertEqual(shlex.split(self.is_right(found).decode()), wanted)
+
+    def test_an_install_is_taken_away(self):
+        prefix = self.path("prefix")
+        os.makedirs(os.path.join(prefix, "share", "man"))
+        own = self.written("prefix/share/man/own", b"")
+        for _ in range(2):
+            self.is_right(self.run_of(INSTALL, prefix, env=stand.environment()))
+        # What an earlier one put and this one doesn't goes with the next.
+        old = self.written("prefix/share/tamligub/old", b"")
+        with open(os.path.join(prefix, "share/tamligub/installed"), "a", encoding="ascii") as file:
+            file.write("share/tamligub/old\n")
+        self.is_right(self.run_of(INSTALL, prefix, env=stand.environment()))
+        self.assertFalse(os.path.exists(old))
+        self.works(prefix)
+        self.is_right(self.run_of(INSTALL, "--uninstall", prefix, env={**self.bare(), "BTX_PROGRAM": "nowhere"}))
+        left = [os.path.join(place, name) for place, folders, names in os.walk(prefix) for name in folders + names]
+        self.assertEqual(left, [os.path.join(prefix, "share"), os.path.join(prefix, "share", "man"), own])
+        done = self.run_of(INSTALL, "--uninstall", prefix)
+        self.assertEqual((done.returncode, done.stderr.decode()), (1, f"install: nothing was installed under {prefix}\n"))
+
+    def test_a_package_where_nothing_may_be_written(self):
+        self.needs("dpkg", "dpkg-deb")
+        folder = self.path("closed")
+        os.mkdir(folder, 0o555)
+        os.chmod(self.folder, 0o755)
+        # Root may write anywhere.
+        keys = {"user": 65534, "group": 65534, "extra_groups": []} if os.geteuid() == 0 else {}
+        if subprocess.run(["test", "-x", INSTALL, "-a", "-x", stand.program], **keys).returncode:
+            self.leave_out(why="another user can't read this checkout")
+        here = f"{folder}: no package can be made there, since you may not write in it"
+        for name, said in ((folder, here), (f"{folder}/in", f"{folder}/in: Permission denied")):
+            done = self.run_of(INSTALL, "--deb", name, env=stand.environment(), **keys)
+            self.assertEqual((done.returncode, done.stdout, done.stderr.decode()), (1, b"", f"install: {said}\n"))
 
     def test_the_manual_knows_all_statuses_of_the_program(self):
         texts = {}

@@ -75,15 +75,16 @@ class Messages(stand.Case):
 
     def test_a_line_of_a_script_is_named_with_its_reason(self):
         for line, said in (
-            (b"jump 1", "line 2: its first word is no word of scripts: jump 1"), (b"at 1", "more or fewer words"),
-            (b"at 25 1", "a number"), (b"text \xff", "a sign of its text"), (b"raw 1", "hexadecimal"), (b"raw 1F", "an item of its bytes"),
+            (b"jump 1", "line 2: jump is no word of scripts: jump 1"), (b"at 1", "at takes 2 words after it, ROW COLUMN, and not 1"),
+            (b"at 25 1", "ROW is 25, and takes 1 to 24"), (b"text \xff", "sign 6 is the byte FF, which is no UTF-8"),
+            (b"raw 1", "two digits for each byte"), (b"raw 1F", "byte 1, 1F, is refused: 7 Truncated"),
         ):
             script = self.written("script", b"at 1 1\n" + line + b"\n")
             done = self.ends(["edit", stand.page("title"), script], 3, said)
             self.assertEqual(done.stdout, stand.put("edit", stand.page("title"), script))
 
     def test_a_line_of_a_drawing_is_named_with_its_reason(self):
-        for line, said in ((b"text A", "line 2: its first word is no word of drawings: text A"), (b"plot 80 0", "a number")):
+        for line, said in ((b"text A", "line 2: text is no word of drawings: text A"), (b"plot 80 0", "X is 80, and takes 0 to 79")):
             drawing = self.written("drawing", b"plot 0 0\n" + line + b"\n")
             done = self.ends(["plot", stand.page("title"), drawing], 3, said)
             self.assertEqual(done.stdout, stand.put("plot", stand.page("title"), drawing))

@@ -6,7 +6,7 @@ import sys
 
 import stand
 
-PARTS = ("bin", "btx", "building", "docs", "edit", "library", "pages", "view")
+PARTS = ("bin", "btx", "building", "desktop", "docs", "edit", "library", "pages", "view")
 PROVES = "proves and builds it, in about 40 minutes on four processors"
 UNPROVED = "this program is unproved and slow, as ./build --quick keeps it"
 
@@ -49,7 +49,7 @@ class Unbuilt(stand.Case):
         words = [line.split()[0] for line in text.splitlines() if line.startswith("    ") and line[4] not in " W"]
         after = {"archive": [stand.PAGES, "-o", self.path("website")], "gen": ["1"], "load": ["1"], "viewer": [], "editor": [], "diff": [stand.page("title")] * 2}
         self.assertGreater(len(words), 15)
-        return [[word, *after.get(word, [stand.page("title")])] for word in words]
+        return [[word, *after.get(word, [stand.page("title")])] for word in words if word != "completion"]
 
     def test_each_word_says_what_is_missing_the_command_and_how_long_it_takes(self):
         for request in self.requests():

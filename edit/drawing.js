@@ -128,7 +128,7 @@
     }
 
     typed() {
-      this.lines = this.text.value.split("\n").filter((line) => line !== "");
+      this.lines = this.text.value.split("\n").map(tamligub.inGrammar).filter((line) => line !== "");
       this.show();
     }
 

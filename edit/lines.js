@@ -7,6 +7,8 @@
   const sameBytes = (one, other) => one.length === other.length && one.every((byte, at) => byte === other[at]);
 
   const LETTERS = ["P", "S"];
+  // Locks G0.
+  const LOCK = 0x0f;
   // What stands before a sign of a set and after it, as the program writes pages.
   const AROUND = { P: [[], []], S: [[0x19], []], M: [[0x0e], [0x0f]], N: [[0x1d], []], D: [[0x1b, 0x28, 0x20, 0x40], [0x1b, 0x28, 0x40]] };
   // The groups of which the signs are written without what stands around each.
@@ -19,17 +21,17 @@
       const sign = tamligub.unicodeOf({ kind: "sign", set, code, accent }).normalize("NFC");
       if (sign !== "\ufffd" && !signs.has(sign)) signs.set(sign, { set, code, accent });
     };
-    for (let code = 0x20; code < 0x7f; code++) take("P", code, 0);
+    for (let code = 0x20; code < 0x80; code++) take("P", code, 0);
     for (let code = 0x21; code < 0x7f; code++) if (code < 0x40 || code > 0x4f) take("S", code, 0);
-    for (let accent = 0x41; accent < 0x50; accent++) {
-      for (let code = 0x41; code < 0x7b; code++) if (/[A-Za-z]/.test(String.fromCharCode(code))) take("P", code, accent);
-    }
+    for (let accent = 0x41; accent < 0x50; accent++) for (let code = 0x20; code < 0x7f; code++) take("P", code, accent);
     return signs;
   }
 
   const SIGNS = typedSigns();
   const signOf = (text) => SIGNS.get(text.normalize("NFC")) || null;
-  const isPlain = ({ set, accent }) => set === "P" && !accent;
+  // The signs of a text, each with the marks that follow it.
+  const signsIn = (text) => text.match(/\P{M}\p{M}*|\p{M}+/gsu) || [];
+  const isPlain = ({ set, code, accent }) => set === "P" && code < 0x7f && !accent;
   const plainText = (signs) => signs.map(({ code }) => String.fromCharCode(code)).join("");
 
   function bytesOfSign({ set, code, accent }) {
@@ -59,8 +61,33 @@
     if (signs.every(isPlain)) return [`text ${plainText(signs)}`];
     const readable = signs.every(({ set }) => LETTERS.includes(set));
     const comment = readable ? [`# ${signs.map((sign) => tamligub.unicodeOf({ kind: "sign", ...sign }).normalize("NFC")).join("")}`] : [];
-    const locked = signs.some(({ set }) => set === "P") ? [0x0f] : [];
+    const locked = signs.some(({ set }) => set === "P") ? [LOCK] : [];
     return [...comment, raw(...locked, ...bytesOfSigns(signs))];
+  }
+
+  // The line that writes a typed text: `raw` after the lock of G0 that `text` makes, where `text` can't say it.
+  function written(text) {
+    const signs = signsIn(text).map(signOf);
+    return signs.includes(null) || signs.every(isPlain) ? `text ${text}` : raw(LOCK, ...bytesOfSigns(signs));
+  }
+
+  // The line of the program's own grammar that does what a typed one says, as btx makes it of scripts (btx/typed.py).
+  function inGrammar(line) {
+    const begun = line.replace(/^[ \t]+/, "");
+    const text = /^text[ \t](.+)$/s.exec(begun);
+    if (text) return written(text[1]);
+    return begun.startsWith("#") ? begun : begun.replace(/[ \t]+$/, "").replace(/[ \t]+/g, " ");
+  }
+
+  // The first sign of a typed line that no set has, and its place in the line.
+  function unknownIn(line) {
+    const text = (/^[ \t]*text[ \t](.+)$/s.exec(line) || ["", ""])[1];
+    let place = [...line].length - [...text].length + 1;
+    for (const sign of signsIn(text)) {
+      if (!signOf(sign)) return { sign, place };
+      place += [...sign].length;
+    }
+    return null;
   }
 
   // The bytes of the lines that a pen may have, for a drawing, which is one line.
@@ -122,7 +149,8 @@
   const coloursLine = raw(0x1f, 0x26, 0x21);
 
   Object.assign(tamligub, {
-    hex, raw, sameBytes, signOf, bytesOfSigns, linesOfSigns, bytesOfLine, patternLine, dclutLine, formatLine, coloursLine,
+    hex, raw, sameBytes, signOf, signsIn, inGrammar, unknownIn, bytesOfSigns, linesOfSigns, bytesOfLine, patternLine, dclutLine,
+    formatLine, coloursLine,
     COLOURS, PEN, MARKERS, WHOLE, ROW_ALONE, FORE, BACK, SIZES,
   });
 })((window.Tamligub = window.Tamligub || {}));

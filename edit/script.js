@@ -61,7 +61,7 @@
     // Tells the fault, the line that is pointed at, and up to where is shown.
     tell() {
       const { fault, making } = this.editor.sheet;
-      say("script-fault", fault ? word("badLine", { ...fault, why: word(fault.name) }) : "");
+      say("script-fault", fault ? word("badLine", { ...fault, why: word(fault.name, this.unknown(fault)) }) : "");
       this.field.setAttribute("aria-invalid", fault !== null);
       const shown = this.step === null ? this.good() : this.step;
       [part("step").max, part("step").value] = [this.good(), shown];
@@ -71,6 +71,13 @@
       const said = !line ? "" : word(count === 0 ? "lineNothing" : count === 1 ? "lineChangedOne" : "lineChanged", { line, cells: count });
       say("script-line", this.step === null ? said : `${word("shownTo", { line: this.step, lines: this.good() })} ${said}`);
       this.bands();
+    }
+
+    // Of a line with a sign that no set has that sign, by its number where it can't be seen, and its place.
+    unknown({ line, name }) {
+      const found = name === "BadText" ? tamligub.unknownIn(this.lines()[line - 1]) : null;
+      if (found && /^[\p{C}\p{Z}]/u.test(found.sign)) found.sign = `U+${tamligub.hex([found.sign.codePointAt(0)]).padStart(4, "0")}`;
+      return found || {};
     }
 
     bands() {

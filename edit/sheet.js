@@ -7,18 +7,20 @@
 (function (tamligub) {
   "use strict";
 
-  const { Making, BadLine } = tamligub;
+  const { Making, BadLine, inGrammar } = tamligub;
   // Control defaults with the parallel set.
   const START = "raw 1F2F44";
   const [LONG_PAGE, MANY_LINES] = [4096, 200];
 
-  const isEdit = (line) => line !== "" && !line.startsWith("#");
+  const isEdit = (line) => /^[^#]/.test(inGrammar(line));
   const textOf = (lines) => lines.map((line) => `${line}\n`).join("");
+  // The same as the program takes it.
+  const grammarOf = (lines) => textOf(lines.map(inGrammar));
 
   // Whether each line of these that isn't undone stands after one that sets control back: whatever control was before, they do the same.
   function areAnew(lines) {
     let [kept, undone] = [0, 0];
-    for (const line of lines.filter(isEdit)) {
+    for (const line of lines.map(inGrammar).filter(isEdit)) {
       if (line === "undo" || line === "redo") {
         const by = line === "undo" ? Math.min(1, kept) : -Math.min(1, undone);
         [kept, undone] = [kept - by, undone + by];
@@ -32,7 +34,7 @@
   // which the program says that nothing was taken back or made again do nothing here either.
   function keptOf(lines, nothings) {
     const [kept, undone] = [[], []];
-    lines.forEach((line, index) => {
+    lines.map(inGrammar).forEach((line, index) => {
       if (!isEdit(line) || nothings.includes(index + 1)) return;
       if (line === "undo") undone.push(kept.pop());
       else if (line === "redo") kept.push(undone.pop());
@@ -106,7 +108,7 @@
 
     // Page and lines that stand for all that has been: the stored page and the whole script, or what `edit` put and the lines after.
     standing(lines) {
-      return this.base ? [this.base.page, textOf(lines.slice(this.base.count))] : [this.page, textOf(lines)];
+      return this.base ? [this.base.page, grammarOf(lines.slice(this.base.count))] : [this.page, grammarOf(lines)];
     }
 
     // Asks what each line changes and where the next sign would be. Of a script with a bad line the lines before it are asked.
@@ -153,7 +155,7 @@
 
     // The same, of the stored page and the whole script.
     editedWhole() {
-      return this.asker.edit(this.page, textOf(this.good));
+      return this.asker.edit(this.page, grammarOf(this.good));
     }
 
     // The numbers of the lines whose edits are kept.
@@ -200,7 +202,7 @@
     // What kept lines said last of something, by the words of such lines; null where that isn't known.
     said(words, atStart) {
       for (const index of this.kept().reverse()) {
-        const line = this.lines[index];
+        const line = inGrammar(this.lines[index]);
         if (words.test(line)) return line;
         if (line === START) return atStart;
         if (line.startsWith("raw 1F2F") || line.startsWith("raw 1B22")) return null;

@@ -2,7 +2,7 @@
 (function (tamligub) {
   "use strict";
 
-  const { part, COLUMNS, ROWS, linesOfSigns, signOf, word } = tamligub;
+  const { part, COLUMNS, ROWS, linesOfSigns, signOf, signsIn, word } = tamligub;
   const SPACE = "text  ";
   const isLetter = ({ set }) => set === "P" || set === "S";
 
@@ -50,14 +50,14 @@
 
     // Types a text, of which each further line begins a new row.
     type(text) {
-      text.normalize("NFC").split(/\r\n?|\n/).forEach((line, at) => {
+      text.split(/\r\n?|\n/).forEach((line, at) => {
         if (at) this.newLine();
         this.typeLine(line);
       });
     }
 
     typeLine(line) {
-      const signs = [...line];
+      const signs = signsIn(line);
       const known = signs.map(signOf).filter(Boolean);
       if (known.length) this.write(known);
       const other = signs.find((sign) => !signOf(sign));
@@ -83,7 +83,7 @@
     // What is being composed, as by a dead key or on a screen's keyboard, stands in the stretch from the first key on, and is replaced
     // until it is done.
     compose(text) {
-      const signs = [...text.normalize("NFC")].map(signOf).filter(Boolean);
+      const signs = signsIn(text).map(signOf).filter(Boolean);
       if (this.composing && this.stretch) this.stretch.signs.splice(-this.composing);
       const before = this.composing;
       this.composing = signs.length;

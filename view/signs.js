@@ -2,17 +2,25 @@
 (function (tamligub) {
   "use strict";
 
-  const MARKS = {
-    0x41: "\u0300", 0x42: "\u0301", 0x43: "\u0302", 0x44: "\u0303", 0x45: "\u0304", 0x46: "\u0306", 0x47: "\u0307",
-    0x48: "\u0308", 0x4a: "\u030a", 0x4b: "\u0327", 0x4d: "\u030b", 0x4e: "\u0328", 0x4f: "\u030c",
+  // Which sign of Unicode a code is: the combining mark of an accent, the signs of the supplementary set from a code on, where a code that
+  // is in no text has no sign, and the one sign of the primary set that isn't that of ASCII. It is JSON: btx/letters.py reads it here.
+  const FACTS = {
+    "marks": {
+      "41": "\u0300", "42": "\u0301", "43": "\u0302", "44": "\u0303", "45": "\u0304", "46": "\u0306", "47": "\u0307",
+      "48": "\u0308", "4A": "\u030a", "4B": "\u0327", "4D": "\u030b", "4E": "\u0328", "4F": "\u030c"
+    },
+    "supplementary": {
+      "21": "¡¢£$¥#§¤‘“«←↑→↓°±²³×µ¶·÷’”»¼½¾¿",
+      "50": "―¹®©™♪",
+      "60": "ΩÆĐªĦ",
+      "66": "ĲĿŁØŒºÞŦŊŉĸæđðħıĳŀłøœßþŧŋ"
+    },
+    "primary": { "7F": "■" }
   };
-  // Each text begins at a code of the supplementary set. A gap is a code without a sign.
-  const SUPPLEMENTARY = {
-    0x21: "¡¢£$¥#§¤‘“«←↑→↓°±²³×µ¶·÷’”»¼½¾¿",
-    0x50: "―¹®©™♪",
-    0x60: "ΩÆĐªĦ",
-    0x66: "ĲĿŁØŒºÞŦŊŉĸæđðħıĳŀłøœßþŧŋ",
-  };
+  const codesOf = (table) => new Map(Object.entries(table).map(([code, sign]) => [parseInt(code, 16), sign]));
+  const MARKS = codesOf(FACTS.marks);
+  const SUPPLEMENTARY = codesOf(FACTS.supplementary);
+  const PRIMARY = codesOf(FACTS.primary);
   const NO_SIGN = "\ufffd";
   const MOSAIC = "\u2592";
   const SQUARE = "\u25a1";
@@ -35,8 +43,8 @@
   const ARROWS = { 0x5b: "→", 0x5c: "←", 0x5d: "↑", 0x5e: "↓" };
 
   function supplementary(code) {
-    for (const [first, signs] of Object.entries(SUPPLEMENTARY)) {
-      const index = code - Number(first);
+    for (const [first, signs] of SUPPLEMENTARY) {
+      const index = code - first;
       if (index >= 0 && index < signs.length) return signs[index];
     }
     return NO_SIGN;
@@ -47,8 +55,7 @@
     if (look.kind === "pattern" || look.set === "D") return SQUARE;
     if (look.set === "M" || look.set === "N") return MOSAIC;
     if (look.set === "S") return supplementary(look.code);
-    if (look.code === 0x7f) return "\u25a0";
-    return String.fromCharCode(look.code) + (MARKS[look.accent] || "");
+    return PRIMARY.get(look.code) || String.fromCharCode(look.code) + (MARKS.get(look.accent) || "");
   }
 
   // The shape of a mosaic: its kind by name, and what that kind needs; or null where the code has no shape.

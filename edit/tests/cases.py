@@ -174,6 +174,20 @@ def signs_of_all_sets_are_typed(hand):
     hand.is_true()
 
 
+def scripts_are_typed(hand):
+    """Lines as people write them: the screen shows what btx makes of the same script, and lines and edits are counted as the program's."""
+    hand.fresh()
+    text = "# Größe\n  at  2\t2\ntext Größe e\u0301 ■\n\nTAB\tundo \nredo\n".replace("TAB", "\t")
+    hand.write_script(text)
+    assert hand.text("script-fault") == "" and hand.script() == text, hand.text("script-fault")
+    data = btx(hand, "edit", hand.written("stored.btx", b""), hand.written("typed.txt", text.encode()))
+    assert not hand.is_other(data), hand.looks()[40:60]
+    assert hand.tab.value("Tamligub.editor.sheet.kept()") == [1, 2]
+    name, kept = hand.kept("#keep-script")
+    assert name.endswith(".txt") and kept.decode() == text, kept
+    assert hand.kept("#keep-page")[1] == data
+
+
 def signs_are_composed(hand):
     """By dead keys and on a screen's keyboard: what is composed is seen from the first key on, and replaced until it is done."""
     hand.fresh()
@@ -403,12 +417,15 @@ def a_bad_line_is_told(hand):
     assert hand.text("script-fault").startswith("Zeile 4: 3 BadNumber"), hand.text("script-fault")
     assert hand.looks()[0].startswith("P41") and hand.looks()[1] == BLANK
     assert not hand.tab.value("document.getElementById('band-fault').hidden")
-    reasons = (("frob", "1 UnknownWord"), ("at 1", "2 WrongCount"), ("text ü", "4 BadText"), ("raw 1", "5 BadHex"), ("raw 1C", "6 BadBytes"))
+    reasons = (("frob", "1 UnknownWord"), ("at 1", "2 WrongCount"), ("text ö„", "4 BadText"), ("raw 1", "5 BadHex"), ("raw 1C", "6 BadBytes"))
     for bad, said in ((f"{line}\n", f"1: {reason}") for line, reason in reasons):
         hand.write_script(bad)
         assert hand.text("script-fault").startswith(f"Zeile {said}"), hand.text("script-fault")
         files = hand.written("stored.btx", b""), hand.written("bad.txt", bad.encode())
         assert hand.put("edit", *files, wanted=(3,)).decode() == f"script line {said}\n"
+    hand.write_script("text ö„\n")
+    assert hand.text("script-fault").endswith("„„“ an Stelle 7 gibt es in den Zeichensätzen nicht"), hand.text("script-fault")
+    hand.write_script("raw 1C\n")
     # Nothing is added after a bad line.
     hand.tab.value("Tamligub.part('typing').focus()")
     hand.type("x")
@@ -776,7 +793,8 @@ def no_other_script_runs(hand):
 
 CASES = (
     a_page_is_drawn_undone_made_again_and_kept, typing_is_lines, a_page_keeps_what_is_not_touched, signs_of_all_sets_are_typed,
-    signs_are_composed, each_attribute_is_a_line, serial_attributes_are_markers, rows_screen_area_format_and_colours_are_lines,
+    scripts_are_typed, signs_are_composed, each_attribute_is_a_line, serial_attributes_are_markers,
+    rows_screen_area_format_and_colours_are_lines,
     patterns_have_inks, drawings_are_seen_before_they_are_kept, without_plot_only_drawing_is_absent, a_bad_line_is_told,
     lines_are_stepped_and_pointed_at, a_crash_loses_nothing, an_unsaved_page_is_asked_about, refused_items_are_told, what_is_kept,
     what_flashes_is_that_of_flash, tidying_takes_undone_lines_out, the_keyboard_alone_does_all, every_control_has_a_name_in_both_languages,

@@ -1,0 +1,105 @@
+"""Runs a word of the program: with standard input where a file is named -, with scripts as they are typed, and into a file where -o names
+one."""
+import contextlib
+import os
+import signal
+import subprocess
+
+from btx import files, messages, program, say, typed
+
+OUTPUT = ("-o", "--output")
+WHOLE = (program.READ_TO_THE_END, program.WITH_REFUSALS)
+
+
+class Given:
+    """What the program is given: its words, the bytes of a script or a drawing among them as they were typed, and the file of its output."""
+
+    def __init__(self, words=(), typed_bytes=None, out=None):
+        self.words, self.typed, self.out = words, typed_bytes, out
+
+
+def parted(words):
+    """The words without -o and its file, and that file: None where none is named, and empty where its name is missing."""
+    rest, out = [], None
+    left = iter(words)
+    for one in left:
+        if one in OUTPUT:
+            out = next(left, "")
+        elif one.startswith("--output="):
+            out = one.partition("=")[2]
+        elif one.startswith("-o"):
+            out = one[len("-o") :]
+        else:
+            rest.append(one)
+    return rest, out
+
+
+def are_request(word, words):
+    """Whether the program would read files of these words."""
+    wanted = program.WORDS[word][0].split(" ")
+    return wanted[0] == "PAGE" and len(set(words)) == len(words) == len(wanted) and "" not in words
+
+
+def script_of(word, words):
+    """The bytes of the script or the drawing that the words name. One that can't be read is left to the program, which says so."""
+    try:
+        return files.read(words[-1], typed.MOST) if word in program.SCRIPTED else None
+    except OSError:
+        return None
+
+
+@contextlib.contextmanager
+def given(word, words, out):
+    """What the program is given: a script that isn't in its own grammar, or can be read only once, is a copy that is."""
+    if not are_request(word, words):
+        yield Given(words, None, out)
+        return
+    with contextlib.ExitStack() as stack:
+        script, own = script_of(word, words), list(words)
+        if script is not None and not (files.is_plain(words[1]) and script == typed.of_bytes(script)):
+            own[1] = stack.enter_context(files.copy_of(typed.of_bytes(script)))
+        own[0] = stack.enter_context(files.readable(words[0]))
+        yield Given(own, script, out)
+
+
+def put(path, word, words, out):
+    """Runs the program and answers its status. A file takes what is put where that is whole."""
+    if out is None:
+        return subprocess.run([path, word, *words], close_fds=False).returncode
+    with contextlib.suppress(files.Dropped), files.output(out) as file:
+        status = subprocess.run([path, word, *words], stdout=file, close_fds=False).returncode
+        if status not in WHOLE:
+            raise files.Dropped
+    return status
+
+
+def told(word, text, status, out):
+    """Says what a status means, and of a file that was to take the output that it doesn't."""
+    if text:
+        say(text)
+    if out and status not in WHOLE and (files.is_plain(out) or not os.path.exists(out)):
+        say(f"{word}: {out} {'stays as it was' if os.path.exists(out) else 'is not written'}")
+
+
+def run(path, word, words):
+    """Runs a word with what stands after it, and answers its status."""
+    words, out = parted(words)
+    if out == "":
+        say(f"{word}: -o takes a FILE after it\n{messages.usage(word)}")
+        return 2
+    named = messages.files_of(word, words) if are_request(word, words) else []
+    with files.patience(*named), given(word, words, out) as handed:
+        status = put(path, word, handed.words, out)
+        text = messages.sentence(path, word, words, status, handed) if status > 0 else ""
+    if status < 0:
+        end_by(-status)
+    if status == 5 and not out and messages.reader_is_gone():
+        end_by(signal.SIGPIPE)
+    told(word, text, status, out)
+    return status
+
+
+def end_by(number):
+    """Ends as a program without a handler would, so that a shell sees the usual status."""
+    signal.signal(number, signal.SIG_DFL)
+    os.kill(os.getpid(), number)

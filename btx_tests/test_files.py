@@ -1,0 +1,167 @@
+"""Standard input by the name -, files that -o names, a page alone, and help. What is put is compared with what the program puts."""
+import os
+import select
+import subprocess
+
+import stand
+
+
+class Files(stand.Case):
+    def fed(self, data, *words):
+        """What btx puts where bytes come over a pipe, and its status."""
+        run = stand.begun(*words, stdin=subprocess.PIPE)
+        output, error = run.communicate(data, timeout=stand.LONG)
+        self.assertEqual(error, b"")
+        return output, run.returncode
+
+    def bytes_of(self, path):
+        with open(path, "rb") as file:
+            return file.read()
+
+    def requests(self):
+        """Each word that puts bytes, with what stands after it; the page comes first."""
+        script, drawing = self.written("script", b"at 1 2\ntext XY\n"), self.written("drawing", b"line 0 0 79 71\n")
+        page = stand.page("title")
+        seven = self.written("seven", stand.put("seven", page))
+        return [["write", page], ["seven", page], ["eight", seven], ["edit", page, script], ["plot", page, drawing]]
+
+    def test_a_page_comes_over_standard_input(self):
+        texts = [[word, stand.page("title")] for word in ("changes", "check", "show", "cells")]
+        for word, page, *after in [*self.requests(), *texts, ["flash", stand.page("flashing"), "2"]]:
+            self.assertEqual(self.fed(self.bytes_of(page), word, "-", *after), (stand.put(word, page, *after), 0), word)
+
+    def test_own_words_take_it_too(self):
+        data = self.bytes_of(stand.page("title"))
+        self.assertEqual(self.fed(data, "terminal", "-"), (stand.btx("terminal", stand.page("title")).stdout, 0))
+        self.assertEqual(self.fed(data, "-"), (stand.btx("terminal", stand.page("title")).stdout, 0))
+        self.assertIn(b"items 315 refused 0", self.fed(data, "html", "-")[0])
+        self.assertEqual(self.fed(b"at 1 1\n", "check-script", "-"), (b"lines 1 bad 0\n", 0))
+        self.assertEqual(stand.btx("html", "-", "-").returncode, 2)
+
+    def test_a_file_is_taken_from_where_it_stands(self):
+        path = self.written("page", b"AB\x9b1\rC")
+        for word in ("show", "terminal"):
+            with open(path, "rb") as file:
+                file.seek(1)
+                done = stand.btx(word, "-", stdin=file)
+            self.assertEqual(done.stdout, stand.btx(word, self.written("rest", b"B\x9b1\rC")).stdout)
+            self.assertEqual((done.returncode, done.stderr), (1, b"btx: some items of the page are refused\n"))
+
+    def test_a_script_comes_over_standard_input(self):
+        for word in ("edit", "trace"):
+            want = stand.put(word, stand.page("title"), self.written("script", b"at 1 1\nraw 0F194875\n"))
+            self.assertEqual(self.fed("at 1 1\r\ntext ü\r\n".encode(), word, stand.page("title"), "-"), (want, 0))
+        done = stand.btx("edit", "-", "-")
+        self.assertEqual((done.returncode, done.stdout), (2, b""))
+        self.assertIn(b"PAGE and SCRIPT have the same name", done.stderr)
+
+    def test_a_page_that_is_too_long_comes_over_standard_input(self):
+        # Of what has no end no more is kept than shows that it is too long.
+        with open("/dev/zero", "rb") as file:
+            done = stand.btx("seven", "-", stdin=file, env=stand.environment(BTX_PROGRAM=self.stub('wc -c < "$2"; exit 7')))
+        self.assertEqual((done.returncode, int(done.stdout)), (7, 2**24 + 1))
+        said = "the page has more than 16,777,216 bytes; only the items of the first 16,777,216 were read"
+        self.assertEqual(done.stderr.decode(), f"btx: seven: -: {said}\n")
+
+    def stub(self, line):
+        path = self.written("stub", f"#!/bin/sh\n{line}\n".encode())
+        os.chmod(path, 0o755)
+        return path
+
+    def test_what_is_put_is_written_to_a_file(self):
+        out = self.path("out")
+        for request in [*self.requests(), ["gen", "1"], ["show", stand.page("title")]]:
+            for words in ([*request, "-o", out], [request[0], f"--output={out}", *request[1:]], [request[0], f"-o{out}", *request[1:]]):
+                done = stand.btx(*words)
+                self.assertEqual((done.returncode, done.stdout, done.stderr), (0, b"", b""), words)
+                self.assertEqual(self.bytes_of(out), stand.put(*request))
+                os.remove(out)
+
+    def test_a_page_is_edited_in_its_place(self):
+        script = self.written("script", "at 1 2\ntext Größe\n".encode())
+        want = stand.btx("edit", stand.page("title"), script).stdout
+        page = self.written("page", self.bytes_of(stand.page("title")))
+        os.chmod(page, 0o640)
+        os.symlink("page", self.path("link"))
+        self.assertEqual(stand.btx("edit", self.path("link"), script, "-o", self.path("link")).returncode, 0)
+        self.assertEqual((self.bytes_of(page), os.stat(page).st_mode & 0o777, os.path.islink(self.path("link"))), (want, 0o640, True))
+        self.assertEqual(sorted(os.listdir(self.folder)), ["link", "page", "script"])
+
+    def test_a_file_stays_where_what_is_put_is_not_whole(self):
+        kept, new = self.written("kept", b"kept"), self.path("new")
+        bad, page, wide = self.written("bad", b"jump\n"), stand.page("title"), self.written("wide", b"A\x80")
+        here = sorted(os.listdir(self.folder))
+        requests = ((["edit", page, bad], 3), (["show", self.path("none")], 4), (["eight", wide], 8), (["gen", "x"], 2), (["html", "none"], 4))
+        for words, status in requests:
+            for out, said in ((kept, "stays as it was"), (new, "is not written")):
+                done = stand.btx(*words, "-o", out, cwd=self.folder)
+                self.assertEqual((done.returncode, done.stdout, self.bytes_of(kept)), (status, b"", b"kept"), words)
+                self.assertEqual(f"{words[0]}: {out} {said}\n" in done.stderr.decode(), words[0] != "html", done.stderr)
+                self.assertEqual(sorted(os.listdir(self.folder)), here)
+        done = stand.btx("show", page, "-o", kept, env=stand.environment(BTX_PROGRAM=self.stub("echo front; exit 5")))
+        self.assertEqual((done.returncode, self.bytes_of(kept)), (5, b"kept"))
+        self.assertEqual(done.stderr.decode(), f"btx: show: the output failed, as on a full disk\nbtx: show: {kept} stays as it was\n")
+
+    def test_refused_items_keep_nothing_from_being_written(self):
+        page, out = self.written("page", b"\x9b1\rB"), self.path("out")
+        self.assertEqual(stand.btx("write", page, "-o", out).returncode, 1)
+        self.assertEqual(self.bytes_of(out), stand.put("write", page))
+
+    def test_places_that_are_no_files(self):
+        page = stand.page("title")
+        for out in ("-", "/dev/stdout"):
+            self.assertEqual(stand.btx("show", page, "-o", out).stdout, stand.put("show", page))
+        for out, said in ((self.path("none", "x"), "no such file or directory"), (self.folder, "is a directory")):
+            for word in ("write", "html"):
+                done = stand.btx(word, page, "-o", out)
+                self.assertEqual((done.returncode, done.stdout, done.stderr.decode()), (4, b"", f"btx: {word}: {out}: {said}\n"))
+        done = stand.btx("show", page, "-o")
+        self.assertEqual((done.returncode, done.stderr), (2, b"btx: show: -o takes a FILE after it\nusage: btx show PAGE [-o FILE]\n"))
+
+    def test_a_page_alone_is_shown(self):
+        want = stand.btx("terminal", stand.page("title")).stdout
+        self.assertEqual(stand.btx(stand.page("title")).stdout, want)
+        self.assertEqual(stand.btx("title.btx", "--reveal", cwd=stand.PAGES).stdout, want)
+        named = self.written("name", self.bytes_of(stand.page("title")))
+        self.assertEqual(stand.btx("name", cwd=os.path.dirname(named)).stdout, want)
+        # A file that has the name of a word doesn't hide it.
+        self.written("show", b"A")
+        self.assertEqual(stand.btx("show", cwd=self.folder).returncode, 2)
+        for name in ("none.btx", "./none"):
+            done = stand.btx(name, cwd=self.folder)
+            self.assertEqual((done.returncode, done.stderr.decode()), (4, f"btx: terminal: {name}: no such file\n"))
+
+    def test_help_of_a_word(self):
+        for word in ("edit", "terminal", "check-script"):
+            self.assertEqual(stand.btx("help", word).stdout, stand.btx(word, "--help").stdout)
+            self.assertIn(f"usage: btx {word}".encode(), stand.btx("help", word).stdout)
+        self.assertEqual(stand.btx("help").stdout, stand.btx("--help").stdout)
+        done = stand.btx("help", "shwo")
+        self.assertEqual((done.returncode, done.stderr), (2, b"btx: shwo is none of its words; the nearest is show\nbtx --help lists them\n"))
+
+    def test_the_nearest_word_is_that_of_the_letters(self):
+        for word, nearest in (
+            ("hlep", "help"), ("term", "terminal"), ("arch", "archive"), ("tarce", "trace"), ("gne", "gen"), ("ceck", "check"), ("EDIT", "edit"),
+            ("text", None), ("pic", None), ("x", None), ("page", None), ("jump", None),
+        ):
+            hint = f"; the nearest is {nearest}" if nearest else ""
+            self.assertEqual(stand.btx(word).stderr.decode(), f"btx: {word} is none of its words{hint}\nbtx --help lists them\n")
+
+    def test_on_a_terminal_it_says_that_it_waits_for_a_pipe(self):
+        for word in ("show", "terminal", "edit"):
+            pipe = self.path(f"pipe-{word}")
+            os.mkfifo(pipe)
+            leader, terminal = os.openpty()
+            after = [self.written("script", b"text A\n")] if word == "edit" else []
+            run = stand.begun(word, pipe, *after, stderr=terminal)
+            os.close(terminal)
+            said = b""
+            while b"\n" not in said:
+                self.assertTrue(select.select([leader], [], [], stand.LONG)[0], "nothing is said")
+                said += os.read(leader, 1000)
+            self.assertEqual(said, f"btx: {pipe} is a pipe; this waits for what writes it\r\n".encode())
+            with open(pipe, "wb") as file:
+                file.write(b"A")
+            output = run.communicate(timeout=stand.LONG)[0]
+            os.close(leader)
+            self.assertEqual((run.returncode, output), (0, stand.btx(word, self.written("page", b"A"), *after).stdout))
