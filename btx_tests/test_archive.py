@@ -305,5 +305,6 @@ class Index(stand.Case):
         self.tab.until("window.Tamligub !== undefined && Tamligub.viewer !== undefined && Tamligub.viewer.film() !== null")
         shown = stand.put("show", stand.page("title")).decode()
         self.assertEqual(self.tab.value("Tamligub.viewer.film().text(false)"), shown)
-        self.assertEqual(self.tab.value("document.querySelector('h1 a').href"), "file://" + os.path.join(out, "index.html#search=50%25&order=refused"))
+        back = "file://" + os.path.join(out, "index.html#search=50%25&order=refused")
+        self.tab.until(f"document.querySelector('h1 a').href === {json.dumps(back)}")
         self.assertEqual(self.tab.faults, [])

@@ -7,6 +7,7 @@ import re
 import shlex
 import struct
 import subprocess
+import tempfile
 import xml.etree.ElementTree
 
 import stand
@@ -221,9 +222,12 @@ class Install(stand.Case):
 
     def test_a_package_where_nothing_may_be_written(self):
         self.needs("dpkg", "dpkg-deb")
-        folder = self.path("closed")
+        # Where another user comes to, wherever tests keep their own.
+        place = tempfile.TemporaryDirectory(prefix="btx-test-", dir="/tmp")
+        self.addCleanup(place.cleanup)
+        os.chmod(place.name, 0o755)
+        folder = os.path.join(place.name, "closed")
         os.mkdir(folder, 0o555)
-        os.chmod(self.folder, 0o755)
         # Root may write anywhere.
         keys = {"user": 65534, "group": 65534, "extra_groups": []} if os.geteuid() == 0 else {}
         if subprocess.run(["test", "-x", INSTALL, "-a", "-x", stand.program], **keys).returncode:
