@@ -1,16 +1,14 @@
-ghost use Rattle.std.specs.Prelude.{◌≡◌, ℕ, ◌-◌, ◌≤◌, false, true, None, Option, slice_index_or};
-ghost use Rattle.cept_attrs.specs.Walk.{IsInfluence, influence_with_sign};
-ghost use Rattle.cept_codes.specs.declared.attribute.Full.{Full};
+ghost use Rattle.std.specs.Prelude.{◌≡◌, ℕ, ◌-◌, ◌≤◌, false, true, None};
+ghost use Rattle.cept_attrs.specs.Walk.{AreHeld, AreInForce, IsInForceAt, IsInfluence, LeavesAt};
+ghost use Rattle.cept_attrs.specs.Walk.{influence_with_sign};
 ghost use Rattle.cept_codes.specs.declared.attribute.Pen.{Pen};
 ghost use Rattle.cept_codes.specs.declared.cell.What.{What};
 ghost use Rattle.cept_codes.specs.Attribute.{IsValidFull, unset_pen};
 ghost use Rattle.cept_codes.specs.Cell.{IsValidMarker};
 ghost use Rattle.cept_profile.specs.Attributes.{cascade};
 ghost use Rattle.cept_codes.specs.declared.cell.What.TheVariants.{Marker as stands};
-ghost use Rattle.cept_codes.specs.declared.glyph.Glyph.{Glyph};
 ghost use Rattle.cept_profile.specs.Influence.{influence_after, influence_in, held_sign_in};
 ghost use Rattle.cept_profile.specs.Serial.{acts_at_once, held_sign, is_marker, mosaic_of, row_in};
-ghost use Rattle.cept_profile.specs.Serial.{serial_attributes};
 
 use crate::attributes::cascade;
 use cept_codes::{Cell, Flash, Full, Glyph, Marker, Pen, RowCells, SetId, Size, What};
@@ -76,12 +74,8 @@ impl Influence {
     pub fn pass(&self, cells: &[Cell; 40], column: u8)
         requires from_left { 1 ≤ column }
         requires plain { is_marker (row_in cells.now column) ≡ false }
-        ensures influence { (row screen : Pen)
-            → IsInfluence (row_in cells.now) row screen (column - 1) self.now
-            → IsInfluence (row_in cells.now) row screen column self.now }
-        ensures full { (row screen : Pen)
-            → IsInfluence (row_in cells.now) row screen (column - 1) self.now
-            → self.now.full ≡ serial_attributes (row_in cells.now) row screen column }
+        ensures influence { LeavesAt (row_in cells.now) column self.now self.now }
+        ensures full { IsInForceAt (row_in cells.now) column self.now self.now.full }
         ensures held { held_sign (row_in cells.now) column ≡ None }
     {}
 
@@ -92,15 +86,11 @@ impl Influence {
         requires to_right { column ≤ 40 }
         requires there { row_in cells.now column ≡ stands marker }
         ensures acts { result.at_once ≡ acts_at_once marker }
-        ensures influence { (row screen : Pen)
-            → IsInfluence (row_in cells.now) row screen (column - 1) self.old
-            → IsInfluence (row_in cells.now) row screen column self.new }
-        ensures at_once { result.at_once ≡ true → (row screen : Pen)
-            → IsInfluence (row_in cells.now) row screen (column - 1) self.old
-            → self.new.full ≡ serial_attributes (row_in cells.now) row screen column }
-        ensures later { result.at_once ≡ false → (row screen : Pen)
-            → IsInfluence (row_in cells.now) row screen (column - 1) self.old
-            → self.old.full ≡ serial_attributes (row_in cells.now) row screen column }
+        ensures influence { LeavesAt (row_in cells.now) column self.old self.new }
+        ensures at_once { result.at_once ≡ true
+            → IsInForceAt (row_in cells.now) column self.old self.new.full }
+        ensures later { result.at_once ≡ false
+            → IsInForceAt (row_in cells.now) column self.old self.old.full }
         ensures held { (row screen : Pen)
             → IsInfluence (row_in cells.now) row screen (column - 1) self.old
             → result.held ≡ held_sign (row_in cells.now) column }
@@ -116,22 +106,16 @@ impl Influence {
 
 /// The serial attributes of a row and its held signs (serial attributes after ETS 300 072).
 pub fn serial_row(cells: &RowCells, row: &Pen, screen: &Pen) -> RowSerial
-    ensures full { (c : ℕ) (d : Full) → 1 ≤ c → c ≤ 40
-        → slice_index_or result.full (c - 1) d
-        ≡ serial_attributes (row_in cells.now.cells) row.now screen.now c }
-    ensures held { (c : ℕ) (d : Option Glyph) → 1 ≤ c → c ≤ 40
-        → slice_index_or result.held (c - 1) d ≡ held_sign (row_in cells.now.cells) c }
+    ensures full { AreInForce (row_in cells.now.cells) row.now screen.now result.full }
+    ensures held { AreHeld (row_in cells.now.cells) result.held }
 {
     serial_cells(&cells.cells, row, screen)
 }
 
 /// The same of forty cells where they stand.
 pub fn serial_cells(cells: &[Cell; 40], row: &Pen, screen: &Pen) -> RowSerial
-    ensures full { (c : ℕ) (d : Full) → 1 ≤ c → c ≤ 40
-        → slice_index_or result.full (c - 1) d
-        ≡ serial_attributes (row_in cells.now) row.now screen.now c }
-    ensures held { (c : ℕ) (d : Option Glyph) → 1 ≤ c → c ≤ 40
-        → slice_index_or result.held (c - 1) d ≡ held_sign (row_in cells.now) c }
+    ensures full { AreInForce (row_in cells.now) row.now screen.now result.full }
+    ensures held { AreHeld (row_in cells.now) result.held }
 {
     let mut influence = Influence {
         full: cascade(&Pen::UNSET, row, screen),

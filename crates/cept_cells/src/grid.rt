@@ -13,7 +13,7 @@ ghost use Rattle.cept_cells.specs.Erased.{cell_after_erasing};
 ghost use Rattle.cept_cells.specs.Freed.{cells_freed};
 ghost use Rattle.cept_cells.specs.Replaced.{cells_with};
 
-use cept_codes::{Cell, NoMemory, Pos, RowCells, Stroke, Up};
+use cept_codes::{Cell, Column, NoMemory, Pos, RowCells, Stroke, Up};
 use cept_scroll::RowOrder;
 use std::alloc::Global;
 use std::marker::Model;
@@ -78,7 +78,7 @@ impl Grid {
         ensures cells { self.new ≡ cells_after self.old (Stroke.Put place cell) }
     {
         let row = &mut self.rows[self.order.index(place.row())];
-        put_into(row, place.col(), cell)
+        put_into(row, place.in_column(), cell)
     }
 
     /// Replaces the cell at a place, also a protected one.
@@ -111,7 +111,8 @@ impl Grid {
     }
 
     /// Tells the prover that there are 24 rows of 40: reading a field opens the model.
-    fn whole_by_type(&self)
+    #[inline(always)]
+    pub fn whole_by_type(&self)
         ensures { IsTable self.now }
     {
         let _rows = &self.rows;
@@ -202,14 +203,12 @@ impl Grid {
 }
 
 /// Writes a cell into a row, unless the cell there is protected. Answers whether it was written.
-fn put_into(cells: &mut [Cell; 40], column: u8, cell: Cell) -> bool
-    requires columns { length cells.old ≡ 40 }
-    requires from_left { 1 ≤ column }
-    requires to_right { column ≤ 40 }
+fn put_into(cells: &mut [Cell; 40], column: Column, cell: Cell) -> bool
+    requires { length cells.old ≡ 40 }
     ensures answer { result ≡ not (entry blank_cell 1 cells.old column).protected }
     ensures cells { cells.new ≡ (if result then slice_set cells.old (column - 1) cell else cells.old) }
 {
-    let here = &mut cells[usize::from(column) - 1];
+    let here = &mut cells[column.index()];
     let free = !here.protected;
     if free {
         *here = cell;

@@ -1,5 +1,6 @@
 ghost use Rattle.std.specs.Prelude.{◌≡◌, ◌/◌, ◌<◌};
-ghost use Rattle.cept_charsets.specs.Rendition.{supplementary_point};
+ghost use Rattle.cept_charsets.specs.Rendition.{column_2, column_3, column_5, column_6, column_7};
+ghost use Rattle.cept_charsets.specs.Rendition.{point_in, supplementary_point};
 
 /// A code of set `S` in Unicode: U+FFFD where the set leaves it unassigned.
 #[tactic(auto, unfolding(crate::specs::Rendition::supplementary_rows))]
@@ -17,10 +18,9 @@ pub fn supplementary(code: u8) -> char
     }
 }
 
-#[tactic(auto, unfolding(crate::specs::Rendition::supplementary_rows))]
 fn column_2(code: u8) -> char
     requires { code / 16 ≡ 2 }
-    ensures point { result ≡ supplementary_point code }
+    ensures point { result ≡ point_in column_2 code }
     ensures small { result < 0x1_0000 }
 {
     match code {
@@ -43,10 +43,9 @@ fn column_2(code: u8) -> char
     }
 }
 
-#[tactic(auto, unfolding(crate::specs::Rendition::supplementary_rows))]
 fn column_3(code: u8) -> char
     requires { code / 16 ≡ 3 }
-    ensures point { result ≡ supplementary_point code }
+    ensures point { result ≡ point_in column_3 code }
     ensures small { result < 0x1_0000 }
 {
     match code {
@@ -70,10 +69,9 @@ fn column_3(code: u8) -> char
     }
 }
 
-#[tactic(auto, unfolding(crate::specs::Rendition::supplementary_rows))]
 fn column_5(code: u8) -> char
     requires { code / 16 ≡ 5 }
-    ensures point { result ≡ supplementary_point code }
+    ensures point { result ≡ point_in column_5 code }
     ensures small { result < 0x1_0000 }
 {
     match code {
@@ -87,10 +85,9 @@ fn column_5(code: u8) -> char
     }
 }
 
-#[tactic(auto, unfolding(crate::specs::Rendition::supplementary_rows))]
 fn column_6(code: u8) -> char
     requires { code / 16 ≡ 6 }
-    ensures point { result ≡ supplementary_point code }
+    ensures point { result ≡ point_in column_6 code }
     ensures small { result < 0x1_0000 }
 {
     match code {
@@ -113,10 +110,9 @@ fn column_6(code: u8) -> char
     }
 }
 
-#[tactic(auto, unfolding(crate::specs::Rendition::supplementary_rows))]
 fn column_7(code: u8) -> char
     requires { code / 16 ≡ 7 }
-    ensures point { result ≡ supplementary_point code }
+    ensures point { result ≡ point_in column_7 code }
     ensures small { result < 0x1_0000 }
 {
     match code {

@@ -2,6 +2,14 @@
 -- and reading order, are this profile's own.
 use Rattle.std.specs.Prelude.{ℕ, ◌+◌, ◌*◌, ◌-◌, ◌/◌, ◌%◌, ◌≤◌}
 
+-- a row of the screen
+abbrev pub IsRow : ℕ → Type 0
+IsRow r = (1 ≤ r) × (r ≤ 24)
+
+-- a column of it
+abbrev pub IsColumn : ℕ → Type 0
+IsColumn c = (1 ≤ c) × (c ≤ 40)
+
 -- a row, 1 to 24 from the top, and a column, 1 to 40 from the left
 pub record Place : Type 0 where
   pub row : ℕ

@@ -9,10 +9,7 @@ use Rattle.cept_codes.specs.Cell.{IsValidCell}
 use Rattle.cept_codes.specs.Command.{IsArea}
 use Rattle.cept_codes.specs.Look.{IsValidPattern, IsValidRgb}
 use Rattle.cept_codes.specs.Place.{OnScreen}
-
--- a row of the screen
-abbrev pub IsRow : ℕ → Type 0
-IsRow r = (1 ≤ r) × (r ≤ 24)
+pub use Rattle.cept_codes.specs.Place.{IsRow}
 
 -- a paint that an entry can have: only the entries 8 and 24 may show what lies behind the screen
 abbrev pub IsPaintOf : ℕ → Paint → Type 0

@@ -30,5 +30,5 @@ pub use law::{
 pub use line_reason::LineReason;
 pub use look::{Inks, Look, Paint, Part, Pattern, Rgb, Shape};
 pub use memory::NoMemory;
-pub use position::Pos;
+pub use position::{Column, Pos, Row};
 pub use stroke::Stroke;

@@ -1,10 +1,11 @@
 -- Signs of whole lines: a half line is completed first.
-use Rattle.std.proofs.Common.{◌≡◌, ℕ, ◌+◌, ◌-◌, ◌≤◌, false, List, [], ◌∷◌, ◌++◌, length, drop}
+use Rattle.std.proofs.Common.{◌≡◌, ℕ, ◌+◌, ◌-◌, ◌≤◌, true, false, List, [], ◌∷◌, ◌++◌, length, drop}
 use Rattle.std.proofs.Common.{get_or, refl, sym, ap}
 use Rattle.std.proofs.Common.{◌∙◌, arith, append-nil, Option, None, Some}
 use Rattle.std.proofs.lemmas.List.{append_assoc, length_push, length-drop, get_or-drop, get_or_push}
 use Rattle.cept_drcs.specs.Block.{has_pixels, adds, whole, sign_lines, last_line}
-use Rattle.cept_drcs.specs.Loading.{Loading, above, room, before, completed_loading, loading_with}
+use Rattle.cept_drcs.specs.Cut.{is_opener}
+use Rattle.cept_drcs.specs.Loading.{Loading, above, room, before, completed_loading, loading_after, loading_with}
 use Rattle.cept_drcs.proofs.KeptDrawings.{loading}
 
 adds_none : (w r b a : ℕ) → has_pixels a ≡ false → adds w r b None a ≡ whole (sign_lines w r b a)
@@ -42,9 +43,17 @@ sign_by l ls (Some x) a p h =
     ∙ ap (λ (y : List ℕ). loading l.form l.begun l.plane y None) (append_assoc ls (x ∷ []) drawn_now)
     ∙ ap (loading_with m) (sym (adds_some l.form.w (room m) (before m) x a p))
 
-pub sign_is : (l done new : Loading) (a : ℕ) → has_pixels a ≡ false → above l ≤ length l.lines → done ≡ completed_loading l
+sign_is : (l done new : Loading) (a : ℕ) → has_pixels a ≡ false → above l ≤ length l.lines → done ≡ completed_loading l
     → new ≡ loading_with done (whole (sign_lines done.form.w (room done) (before done) a))
     → new ≡ loading_with l (adds l.form.w (room l) (before l) l.half a)
 sign_is l done new a p h ed en =
     en ∙ ap (λ (m : Loading). loading_with m (whole (sign_lines m.form.w (room m) (before m) a))) ed
     ∙ sign_by l l.lines l.half a p h
+
+pub sign_drawn : (l done new : Loading) (a : ℕ) → l.begun ≡ true → is_opener a ≡ false → has_pixels a ≡ false
+    → above l ≤ length l.lines → done ≡ completed_loading l
+    → new ≡ loading_with done (whole (sign_lines done.form.w (room done) (before done) a)) → new ≡ loading_after l a
+unfolding loading_after
+sign_drawn l done new a b o p h ed en =
+    let drawn_now : loading_after l a ≡ loading_with l (adds l.form.w (room l) (before l) l.half a) = simp (b, o) in
+    sign_is l done new a p h ed en ∙ sym drawn_now

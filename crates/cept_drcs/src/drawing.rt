@@ -1,7 +1,7 @@
 ghost use Rattle.std.specs.Prelude.{◌≡◌, ◌≤◌, ◌<◌, ◌+◌, ◌*◌, ◌-◌, ◌^◌, length, replicate};
 ghost use Rattle.std.specs.Prelude.{true, false, if◌then◌else◌, ◌&&◌, nat_lt, None};
 ghost use Rattle.cept_codes.specs.Command.{IsValidForm};
-ghost use Rattle.cept_drcs.specs.Kept.{plane_end, IsFed};
+ghost use Rattle.cept_drcs.specs.Kept.{plane_end, HasRoomFor, IsFed, IsPlaneOf};
 ghost use Rattle.cept_drcs.specs.Strips.{strips_in, strip_line};
 
 use crate::lines::{first_line, has_pixels, is_opener, is_sign, lines_asked};
@@ -163,8 +163,7 @@ impl Drawing {
 
     /// Draws the line before so many times.
     fn repeat(&mut self, lines: u8)
-        requires whole { self.old.half ≡ None }
-        requires room { lines ≤ room self.old }
+        requires { HasRoomFor self.old lines }
         ensures { self.new ≡ loading_with self.old (whole (replicate lines (before self.old))) }
     {
         let line = self.before();
@@ -177,8 +176,7 @@ impl Drawing {
 
     /// Draws so many lines of 0.
     fn skip(&mut self, lines: u8)
-        requires whole { self.old.half ≡ None }
-        requires room { lines ≤ room self.old }
+        requires { HasRoomFor self.old lines }
         ensures { self.new ≡ loading_with self.old (whole (replicate lines 0)) }
     {
         let strips = strips_in(&self.form, lines);
@@ -187,8 +185,7 @@ impl Drawing {
 
     /// Draws so many lines of 1.
     fn fill(&mut self, lines: u8)
-        requires whole { self.old.half ≡ None }
-        requires room { lines ≤ room self.old }
+        requires { HasRoomFor self.old lines }
         ensures { self.new ≡ loading_with self.old (whole (replicate lines (2 ^ self.old.form.w - 1))) }
     {
         let strips = strips_in(&self.form, lines);
@@ -213,17 +210,6 @@ impl Drawing {
         }
     }
 
-    /// Draws the lines of a sign.
-    fn sign(&mut self, byte: u8)
-        requires begun { self.old.begun ≡ true }
-        requires sign { has_pixels byte ≡ false }
-        ensures { self.new ≡ loading_with self.old
-            (adds self.old.form.w (room self.old) (before self.old) self.old.half byte) }
-    {
-        self.complete();
-        self.whole_sign(byte);
-    }
-
     /// Draws six pixels.
     fn pixels(&mut self, byte: u8)
         requires room { 0 < room self.old }
@@ -246,20 +232,8 @@ impl Drawing {
         } else if is_opener(byte) {
             self.open(byte - 0x30);
         } else {
-            self.sign(byte);
-        }
-    }
-
-    /// The same as `feed`, of a byte with pixels.
-    fn feed_pixels(&mut self, byte: u8) -> bool
-        requires { has_pixels byte ≡ true }
-        ensures { IsFed self.old byte result self.new }
-    {
-        if self.has_room() {
-            self.pixels(byte);
-            true
-        } else {
-            false
+            self.complete();
+            self.whole_sign(byte);
         }
     }
 
@@ -283,7 +257,12 @@ impl Drawing {
         ensures { IsFed self.old byte result self.new }
     {
         if has_pixels(byte) {
-            self.feed_pixels(byte)
+            if self.has_room() {
+                self.pixels(byte);
+                true
+            } else {
+                false
+            }
         } else {
             self.feed_other(byte)
         }
@@ -316,8 +295,7 @@ impl Drawing {
 
 /// How many strips stand before a plane.
 fn plane_start(form: &Form, plane: u8) -> u8
-    requires form { IsValidForm form.now }
-    requires plane { plane < form.now.planes }
+    requires { IsPlaneOf form.now plane }
     ensures start { result ≡ strips_in form.now.w (plane * form.now.h) }
     ensures few { result ≤ 96 }
 {
@@ -326,8 +304,7 @@ fn plane_start(form: &Form, plane: u8) -> u8
 
 /// How many strips there are when a plane has all its lines.
 fn plane_end(form: &Form, plane: u8) -> u8
-    requires form { IsValidForm form.now }
-    requires plane { plane < form.now.planes }
+    requires { IsPlaneOf form.now plane }
     ensures end { result ≡ plane_end form.now plane }
     ensures few { result ≤ 96 }
 {

@@ -1,7 +1,7 @@
 ghost use Rattle.std.specs.Prelude.{◌≡◌, ◌≤◌, ◌<◌, ◌+◌, ◌*◌};
-ghost use Rattle.cept_codes.specs.Command.{IsValidForm};
 ghost use Rattle.cept_drcs.specs.Block.{has_pixels, is_sign, lines_asked};
 ghost use Rattle.cept_drcs.specs.Cut.{is_opener};
+ghost use Rattle.cept_drcs.specs.Kept.{IsPlaneOf};
 
 use cept_codes::Form;
 
@@ -41,8 +41,7 @@ pub fn lines_asked(room: u8, byte: u8) -> u8
 
 /// The first line of a plane, counted over all planes.
 pub fn first_line(form: &Form, plane: u8) -> u8
-    requires form { IsValidForm form.now }
-    requires plane { plane < form.now.planes }
+    requires { IsPlaneOf form.now plane }
     ensures first { result ≡ plane * form.now.h }
     ensures room { result + form.now.h ≤ 48 }
 {

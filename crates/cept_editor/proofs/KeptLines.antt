@@ -14,13 +14,14 @@ use Rattle.cept_editor.specs.Fault.{SaysFault}
 use Rattle.cept_editor.specs.Meaning.{Step, line_meaning}
 use Rattle.cept_editor.specs.Places.{EndsAt, IsPlacedOrder, step_at, edit_at, HasKept, IsUnkept, HasOrders}
 use Rattle.cept_editor.proofs.ValidOrders.{order_valid}
-use Rattle.cept_editor.specs.Script.{EditLine, Fault, edit_of, fault_or, edits_from, fault_from, edits, first_fault}
+use Rattle.cept_words.specs.Faults.{Fault, fault_or, fault_from}
+use Rattle.cept_editor.specs.Script.{EditLine, edit_of, edits_from, edits, first_fault}
 use Rattle.cept_editor.specs.Script.{AreValidEdits}
 
 -- so many lines were read, and these bytes are left
 pub record HasRead (bytes : List ℕ) (ps : List OrderLine) (n : ℕ) (rest : List ℕ) : Type 0 where
   pub edits : edits bytes ≡ map (edit_at bytes) ps ++ edits_from (n + 1) (lines rest)
-  pub fault : first_fault bytes ≡ fault_from (n + 1) (lines rest)
+  pub fault : first_fault bytes ≡ fault_from line_meaning (n + 1) (lines rest)
   pub places : AllByRecursion (λ l. IsPlacedOrder bytes l.order) ps
   pub count : length ps ≤ n
   pub number : n + length rest ≤ length bytes
@@ -112,8 +113,8 @@ read_more bytes ps qs n end left part rest r first place keeps =
           r.edits ∙ ap (λ (ls : List (List ℕ)). map (edit_at bytes) ps ++ edits_from (n + 1) ls) first.lines
           ∙ kept_edits bytes ps qs (line_meaning part) (n + 1) (edits_from (n + 1 + 1) (lines rest)) kept;
       fault =
-          r.fault ∙ ap (λ (ls : List (List ℕ)). fault_from (n + 1) ls) first.lines
-          ∙ kept_fault bytes ps qs (line_meaning part) (n + 1) (fault_from (n + 1 + 1) (lines rest)) kept;
+          r.fault ∙ ap (λ (ls : List (List ℕ)). fault_from line_meaning (n + 1) ls) first.lines
+          ∙ kept_fault bytes ps qs (line_meaning part) (n + 1) (fault_from line_meaning (n + 1 + 1) (lines rest)) kept;
       places = kept_places bytes ps qs (line_meaning part) (n + 1) kept r.places;
       count = omega (arith, kept_count bytes ps qs (line_meaning part) (n + 1) kept, r.count);
       number = omega (arith, r.number, first.shorter);
@@ -152,8 +153,8 @@ pub read_fault : (bytes : List ℕ) (ps : List OrderLine) (n end : ℕ) (left pa
     → SaysFault (first_fault bytes) fault
 unfolding fault_from
 read_fault bytes ps n end left part rest fault r first place unkept =
-    fault_said (line_meaning part) (n + 1) (first_fault bytes) (fault_from (n + 1 + 1) (lines rest)) fault
-    (r.fault ∙ ap (λ (ls : List (List ℕ)). fault_from (n + 1) ls) first.lines)
+    fault_said (line_meaning part) (n + 1) (first_fault bytes) (fault_from line_meaning (n + 1 + 1) (lines rest)) fault
+    (r.fault ∙ ap (λ (ls : List (List ℕ)). fault_from line_meaning (n + 1) ls) first.lines)
     (unkept bytes (line_ends bytes left part end r.left (omega (arith, r.number)) first.start first.within place))
 
 valid_each : (bytes : List ℕ) (ps : List OrderLine) → AllByRecursion (λ l. IsPlacedOrder bytes l.order) ps

@@ -10,7 +10,8 @@ use Rattle.cept_codes.specs.declared.line_reason.LineReason.{LineReason}
 use Rattle.cept_codes.specs.Table.{entry}
 use Rattle.cept_words.specs.Lines.{lines}
 use Rattle.cept_editor.specs.Meaning.{Step, line_meaning}
-use Rattle.cept_editor.specs.Script.{EditLine, Fault, edit_of, edits, edits_from, fault_from, fault_or, first_fault, numbered_line}
+use Rattle.cept_words.specs.Faults.{Fault, fault_from, fault_or}
+use Rattle.cept_editor.specs.Script.{EditLine, edit_of, edits, edits_from, first_fault, numbered_line}
 use Rattle.cept_editor.specs.Script.{IsFirstFault}
 use Rattle.cept_codes.proofs.Laws.{entry_from}
 
@@ -161,22 +162,22 @@ fault_more s l ls (Ok step) (Some fault) is each = record {
   first = one_before (λ line. IsOk (line_meaning line)) s l ls fault.line (ap is_ok is) each.first;
 }
 
-fault_at : (s : ℕ) (ls : List (List ℕ)) → IfSome (fault_from s ls) (IsFaultFrom s ls)
+fault_at : (s : ℕ) (ls : List (List ℕ)) → IfSome (fault_from line_meaning s ls) (IsFaultFrom s ls)
 unfolding fault_from
 fault_at s [] = tt
-fault_at s (l ∷ ls) = fault_more s l ls (line_meaning l) (fault_from (s + 1) ls) refl (fault_at (s + 1) ls)
+fault_at s (l ∷ ls) = fault_more s l ls (line_meaning l) (fault_from line_meaning (s + 1) ls) refl (fault_at (s + 1) ls)
 
 none_more : (s : ℕ) (m : Result (Option Step) LineReason) (later : Option Fault) → fault_or s m later ≡ None
     → IsOk m × (later ≡ None)
 none_more s (Ok step) later e = (refl, e)
 none_more s (Err reason) later e = cc
 
-no_fault_from : (s : ℕ) (ls : List (List ℕ)) → fault_from s ls ≡ None → (n : ℕ) → s ≤ n → n < s + length ls
+no_fault_from : (s : ℕ) (ls : List (List ℕ)) → fault_from line_meaning s ls ≡ None → (n : ℕ) → s ≤ n → n < s + length ls
     → IsOk (line_meaning (entry [] s ls n))
 unfolding fault_from
 no_fault_from s [] e n from to = absurd (omega (arith, from, to))
 no_fault_from s (l ∷ ls) e n from to =
-    let both : IsOk (line_meaning l) × (fault_from (s + 1) ls ≡ None) = none_more s (line_meaning l) _ e in
+    let both : IsOk (line_meaning l) × (fault_from line_meaning (s + 1) ls ≡ None) = none_more s (line_meaning l) _ e in
     one_before (λ line. IsOk (line_meaning line)) s l ls (s + 1 + length ls) both.0
     (no_fault_from (s + 1) ls both.1) n from (omega (arith, to))
 

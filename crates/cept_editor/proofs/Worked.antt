@@ -7,7 +7,8 @@ use Rattle.cept_codes.specs.declared.command.Command.TheVariants as commands
 use Rattle.cept_codes.specs.declared.command.C1Set.TheVariants.{Serial, Parallel}
 use Rattle.cept_codes.specs.declared.line_reason.LineReason.TheVariants as reasons
 use Rattle.cept_editor.specs.Meaning.{Step, Turn, TakeBack, MakeAgain, Edit, hex_bytes, line_meaning}
-use Rattle.cept_editor.specs.Script.{edits, first_fault, edits_from, fault_from}
+use Rattle.cept_words.specs.Faults.{fault_from}
+use Rattle.cept_editor.specs.Script.{edits, first_fault, edits_from}
 use Rattle.cept_editor.specs.Table.{row_of}
 
 -- ---- each word

@@ -2,7 +2,7 @@
 use Rattle.std.specs.Prelude.{◌≡◌, Option, Some}
 use Rattle.cept_editor.specs.declared.script.ScriptFault.{ScriptFault}
 use Rattle.cept_editor.specs.declared.script.ScriptFault.TheVariants as faults
-use Rattle.cept_editor.specs.Script.{Fault}
+use Rattle.cept_words.specs.Faults.{Fault}
 
 -- an answer says the first fault of a script, or is free: out of memory
 abbrev pub SaysFault : Option Fault → ScriptFault → Type 0

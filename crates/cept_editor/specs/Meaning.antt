@@ -12,12 +12,9 @@ use Rattle.cept_codes.specs.declared.line_reason.LineReason.TheVariants as reaso
 use Rattle.cept_parser.specs.Bytes.{is_between}
 use Rattle.cept_parser.specs.Items.{is_refusal, closed_items, commands}
 use Rattle.cept_words.specs.Lines.{number, words}
+pub use Rattle.cept_editor.specs.declared.turn.Turn.{Turn as TurnKind}
+pub use Rattle.cept_editor.specs.declared.turn.Turn.TheVariants.{TakeBack, MakeAgain}
 use Rattle.cept_editor.specs.Table.{Row, row_of, Alone, One, Two, Four, Text, Raw, Undo, Redo}
-
--- what a turn does: it takes back the last kept edit, or makes the last undone edit again
-pub data TurnKind : Type 0 where
-  TakeBack : TurnKind
-  MakeAgain : TurnKind
 
 -- what an edit line does: it is a turn, or an edit of these commands
 pub data Step : Type 0 where

@@ -16,7 +16,7 @@ use Rattle.cept_editor.specs.declared.brief.Brief.TheVariants as briefs
 use Rattle.cept_editor.specs.declared.order.Order.{Order}
 use Rattle.cept_editor.specs.declared.order.Order.TheVariants as orders
 use Rattle.cept_editor.specs.declared.places.Span.{Span}
-use Rattle.cept_editor.specs.Meaning.{Step, Turn, TakeBack, MakeAgain, Edit, HasCommand, text_commands, is_sign, hex_bytes}
+use Rattle.cept_editor.specs.Meaning.{Step, Turn, Edit, HasCommand, text_commands, is_sign, hex_bytes}
 
 -- the command of a brief one
 abbrev pub command_of : Brief → Command
@@ -50,8 +50,7 @@ raw_bytes digits = unwrap_or (hex_bytes digits) []
 
 -- the step of an order, where these bytes stand at its place
 abbrev pub order_step : List ℕ → Order → Step
-order_step bytes orders.TakeBack = Turn TakeBack
-order_step bytes orders.MakeAgain = Turn MakeAgain
+order_step bytes (orders.Turn turn) = Turn turn
 order_step bytes (orders.One brief) = Edit (command_of brief ∷ [])
 order_step bytes (orders.Text span) = Edit (text_commands bytes)
 order_step bytes (orders.Raw span) = Edit (commands_of_bytes (raw_bytes bytes))
@@ -79,8 +78,7 @@ pub record AreSoundDigits (digits : List ℕ) : Type 0 where
 -- an order whose commands are valid, and can be given one after the other, where these bytes stand at this place and it
 -- is the order's; hexadecimal digits give one at least
 abbrev pub IsSoundOrder : List ℕ → Span → Order → Type 0
-IsSoundOrder bytes place orders.TakeBack = Unit {0}
-IsSoundOrder bytes place orders.MakeAgain = Unit {0}
+IsSoundOrder bytes place (orders.Turn turn) = Unit {0}
 IsSoundOrder bytes place (orders.One brief) = IsValidCommand (command_of brief)
 IsSoundOrder bytes place (orders.Text span) = (span ≡ place) × (list_all is_sign bytes ≡ true)
 IsSoundOrder bytes place (orders.Raw span) =
@@ -88,8 +86,7 @@ IsSoundOrder bytes place (orders.Raw span) =
 
 -- an order without bytes, whose command is valid if it has one
 abbrev pub IsPlainOrder : Order → Type 0
-IsPlainOrder orders.TakeBack = Unit {0}
-IsPlainOrder orders.MakeAgain = Unit {0}
+IsPlainOrder (orders.Turn turn) = Unit {0}
 IsPlainOrder (orders.One brief) = IsValidCommand (command_of brief)
 IsPlainOrder (orders.Text span) = ⊥
 IsPlainOrder (orders.Raw span) = ⊥

@@ -31,8 +31,7 @@ pub record EndsAt (script : List ℕ) (end : ℕ) (bytes : List ℕ) : Type 0 wh
 
 -- the place of an order's bytes, the script's start where it has none
 abbrev pub span_of : Order → Span
-span_of orders.TakeBack = record { start = 0; end = 0 }
-span_of orders.MakeAgain = record { start = 0; end = 0 }
+span_of (orders.Turn turn) = record { start = 0; end = 0 }
 span_of (orders.One brief) = record { start = 0; end = 0 }
 span_of (orders.Text span) = span
 span_of (orders.Raw span) = span

@@ -3,6 +3,7 @@ use Rattle.std.specs.Prelude.{◌≡◌, ℕ, ◌+◌, ◌≤◌, ◌<◌, List,
 use Rattle.std.specs.List.{AllByRecursion}
 use Rattle.cept_codes.specs.declared.line_reason.LineReason.{LineReason}
 use Rattle.cept_codes.specs.Table.{entry}
+use Rattle.cept_words.specs.Faults.{Fault, fault_from}
 use Rattle.cept_words.specs.Lines.{lines}
 use Rattle.cept_editor.specs.Meaning.{Step, IsValidStep, line_meaning}
 
@@ -11,31 +12,16 @@ pub record EditLine : Type 0 where
   pub line : ℕ
   pub step : Step
 
--- a line outside the grammar: its number, and the first reason that holds of it
-pub record Fault : Type 0 where
-  pub line : ℕ
-  pub reason : LineReason
-
 -- the edit of a line of this number, if it is one
 abbrev pub edit_of : ℕ → Result (Option Step) LineReason → List EditLine
 edit_of n (Ok (Some step)) = record { line = n; step = step } ∷ []
 edit_of n (Ok None) = []
 edit_of n (Err reason) = []
 
--- the fault of a line of this number, or else the one after it
-abbrev pub fault_or : ℕ → Result (Option Step) LineReason → Option Fault → Option Fault
-fault_or n (Ok step) later = later
-fault_or n (Err reason) later = Some (record { line = n; reason = reason })
-
 -- the edits of lines, the first of which has this number
 unfoldable pub edits_from : ℕ → List (List ℕ) → List EditLine
 edits_from n [] = []
 edits_from n (line ∷ more) = edit_of n (line_meaning line) ++ edits_from (n + 1) more
-
--- the first fault of lines, the first of which has this number
-unfoldable pub fault_from : ℕ → List (List ℕ) → Option Fault
-fault_from n [] = None
-fault_from n (line ∷ more) = fault_or n (line_meaning line) (fault_from (n + 1) more)
 
 -- the edits of a script
 abbrev pub edits : List ℕ → List EditLine
@@ -43,7 +29,7 @@ edits bytes = edits_from 1 (lines bytes)
 
 -- the first line of a script that is outside the grammar
 abbrev pub first_fault : List ℕ → Option Fault
-first_fault bytes = fault_from 1 (lines bytes)
+first_fault bytes = fault_from line_meaning 1 (lines bytes)
 
 -- each command of each edit is valid
 abbrev pub AreValidEdits : List EditLine → Type 0

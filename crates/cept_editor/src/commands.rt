@@ -8,6 +8,7 @@ ghost use Rattle.cept_editor.specs.Places.{step_at, IsPlacedOrder};
 use crate::decoding::Decoding;
 use crate::order::Order;
 use crate::places::bytes_at;
+use crate::turn::Turn;
 use cept_codes::Command;
 use std::marker::Model;
 
@@ -59,10 +60,8 @@ impl<'a> Commands<'a> {
 /// What an edit does.
 #[derive(Drop)]
 pub enum Edit<'a> {
-    /// It takes back the last kept edit.
-    Undo,
-    /// It makes the last undone edit again.
-    Redo,
+    /// It takes back the last kept edit, or makes the last undone one again.
+    Turn(Turn),
     /// It applies these commands.
     Commands(Commands<'a>),
 }
@@ -76,8 +75,7 @@ impl<'a> Edit<'a> {
         ensures some { HasCommand (edit_step result) }
     {
         match order {
-            Order::TakeBack => Edit::Undo,
-            Order::MakeAgain => Edit::Redo,
+            Order::Turn(turn) => Edit::Turn(turn),
             Order::One(brief) => Edit::Commands(Commands {
                 first: Some(brief.command()),
                 text: &[],

@@ -1,6 +1,6 @@
 //! A screen whose edits are made line by line, and can be taken back.
 
-ghost use Rattle.std.specs.Prelude.{◌≡◌, ◌≢◌, ◌+◌, ◌*◌, ◌<◌, ◌≤◌, [], false, length};
+ghost use Rattle.std.specs.Prelude.{◌≡◌, ◌≢◌, ◌+◌, ◌*◌, ◌<◌, ◌≤◌, ◌↔◌, [], false, length};
 ghost use Rattle.std.specs.Prelude.{Ok, OnErr, IfOk, IsOk, slice_index_or};
 ghost use Rattle.std.specs.List.{AllByRecursion};
 ghost use Rattle.cept_codes.specs.Command.{IsValidCommand};
@@ -11,18 +11,19 @@ ghost use Rattle.cept_profile.specs.State.{core_of, state};
 ghost use Rattle.cept_repaint.specs.Applied.{IsApplied};
 ghost use Rattle.cept_repaint.specs.Renewed.{rows_renewed};
 ghost use Rattle.cept_undo.specs.Past.{FitsTogether, IsBegun, StaysBegun, future};
+ghost use Rattle.cept_undo.specs.Turned.{PaintsTurn};
 ghost use Rattle.cept_editor.specs.Applying.{AppliesOne, AppliesAll, HasMade, MarksLast, MarksStep};
 ghost use Rattle.cept_editor.specs.Applying.{ResolvesRenewed, ResolvesStep};
-ghost use Rattle.cept_editor.specs.Applying.{rows_in_reach_of_all, rows_of_step};
+ghost use Rattle.cept_editor.specs.Applying.{editor_after_turn, rows_in_reach_of_all, rows_of_step};
 ghost use Rattle.cept_editor.specs.Kept.{none_kept, StandsAfter};
 ghost use Rattle.cept_editor.specs.Made.{output_of};
-ghost use Rattle.cept_editor.specs.Meaning.{Turn, TakeBack, MakeAgain, Edit as EditOf};
-ghost use Rattle.cept_editor.specs.Meaning.{command_count};
+ghost use Rattle.cept_editor.specs.Meaning.{Edit as EditOf, Turn as TurnOf, command_count};
 ghost use Rattle.cept_editor.specs.Script.{EditLine};
-ghost use Rattle.cept_editor.specs.Stepping.{GoesOn};
+ghost use Rattle.cept_editor.specs.Stepping.{GoesOn, states_ahead};
 
 use crate::commands::{Commands, Edit};
 use crate::script::Script;
+use crate::turn::Turn;
 use cept_codes::{Command, NoMemory};
 use cept_outside::{Sink, Steps, WriteFault};
 use cept_repaint::{Glass, Marks, Screen};
@@ -41,33 +42,48 @@ pub enum Done {
     Nothing,
 }
 
+/// What is listed of an edit line: the places that its last command changed, where their lines are
+/// put, if they are, and the number that begins them.
+#[derive(Drop)]
+struct Listing<'a, T: Sink> {
+    marks: &'a mut Marks,
+    sink: &'a mut T,
+    line: u32,
+    listed: bool,
+}
+
 /// Applies a command of the edit that is begun, paints what it changes, and then puts its lines
 /// where they are listed.
 fn apply_command<G: Glass, T: Sink, L: Ledger>(
     undo: &mut Undo,
     screen: &mut Screen,
-    line: u32,
     command: Command,
     glass: &mut G,
-    marks: &mut Marks,
-    sink: &mut T,
-    listed: bool,
     steps: &mut Steps<L>,
+    listing: &mut Listing<'_, T>,
 ) -> Result<(), WriteFault>
     requires begun { IsBegun undo.old }
     requires fits { FitsTogether undo.old screen.old }
     requires valid { IsValidCommand command }
     ensures edit { StaysBegun undo.old screen.old undo.new screen.new }
-    ensures applies { AppliesOne listed line command screen.old
-        (output_of (T.state sink.old) (G.state glass.old)) result screen.new
-        (output_of (T.state sink.new) (G.state glass.new)) marks.new steps.old steps.new }
-    ensures cause { HasCause (T.state sink.old).faults (T.state sink.new).faults result }
-    ensures quiet { listed ≡ false → IsOk result × (T.state sink.new ≡ T.state sink.old) }
+    ensures applies { AppliesOne listing.old.listed listing.old.line command screen.old
+        (output_of (T.state listing.old.sink.now) (G.state glass.old)) result screen.new
+        (output_of (T.state listing.new.sink.now) (G.state glass.new)) listing.new.marks.now
+        steps.old steps.new }
+    ensures cause { HasCause (T.state listing.old.sink.now).faults
+        (T.state listing.new.sink.now).faults result }
+    ensures quiet { listing.old.listed ≡ false
+        → IsOk result × (T.state listing.new.sink.now ≡ T.state listing.old.sink.now) }
     ensures shown { OnErr result
         (changes_between (looks_of (core_of screen.old)) (looks_of (core_of screen.new)) ≢ []) }
+    ensures line { listing.new.line ≡ listing.old.line }
+    ensures listed { listing.new.listed ≡ listing.old.listed }
+    ensures sink { listing.new.sink.ghost_name ≡ listing.old.sink.ghost_name }
+    ensures marks_kept { listing.new.marks.ghost_name ≡ listing.old.marks.ghost_name }
 {
-    undo.apply(screen, command, glass, marks, steps);
-    put_changes_if(listed, sink, u64::from(line), marks, screen)
+    undo.apply(screen, command, glass, listing.marks, steps);
+    let label = u64::from(listing.line);
+    put_changes_if(listing.listed, listing.sink, label, listing.marks, screen)
 }
 
 /// Applies the commands of the edit that is begun one after the other, up to the first one whose
@@ -75,33 +91,32 @@ fn apply_command<G: Glass, T: Sink, L: Ledger>(
 fn apply_commands<G: Glass, T: Sink, L: Ledger>(
     undo: &mut Undo,
     screen: &mut Screen,
-    line: u32,
     mut commands: Commands<'_>,
     glass: &mut G,
-    marks: &mut Marks,
-    sink: &mut T,
-    listed: bool,
     steps: &mut Steps<L>,
+    listing: &mut Listing<'_, T>,
 ) -> Result<(), WriteFault>
     requires begun { IsBegun undo.old }
     requires none_undone { future undo.old screen.old ≡ [] }
     requires fits { FitsTogether undo.old screen.old }
     ensures edit { StaysBegun undo.old screen.old undo.new screen.new }
-    ensures applies { AppliesAll listed line commands.entry screen.old
-        (output_of (T.state sink.old) (G.state glass.old)) result screen.new
-        (output_of (T.state sink.new) (G.state glass.new)) }
-    ensures cause { HasCause (T.state sink.old).faults (T.state sink.new).faults result }
-    ensures quiet { listed ≡ false → IsOk result × (T.state sink.new ≡ T.state sink.old) }
+    ensures applies { AppliesAll listing.old.listed listing.old.line commands.entry screen.old
+        (output_of (T.state listing.old.sink.now) (G.state glass.old)) result screen.new
+        (output_of (T.state listing.new.sink.now) (G.state glass.new)) }
+    ensures cause { HasCause (T.state listing.old.sink.now).faults
+        (T.state listing.new.sink.now).faults result }
+    ensures quiet { listing.old.listed ≡ false
+        → IsOk result × (T.state listing.new.sink.now ≡ T.state listing.old.sink.now) }
     ensures marks { 0 < length commands.entry
-        → MarksLast commands.entry screen.old result screen.new marks.new }
+        → MarksLast commands.entry screen.old result screen.new listing.new.marks.now }
     ensures cost { steps.new ≤ steps.old + rows_in_reach_of_all screen.old commands.entry }
     ensures least { ResolvesRenewed commands.entry screen.old result screen.new steps.old steps.new }
     ensures at_most_24 { steps.new ≤ steps.old + 24 * length commands.entry }
+    ensures sink { listing.new.sink.ghost_name ≡ listing.old.sink.ghost_name }
+    ensures marks_kept { listing.new.marks.ghost_name ≡ listing.old.marks.ghost_name }
 {
     while let Some(command) = commands.next() {
-        apply_command(
-            undo, screen, line, command, glass, marks, sink, listed, steps,
-        )?;
+        apply_command(undo, screen, command, glass, steps, listing)?;
     }
     Ok(())
 }
@@ -205,122 +220,127 @@ impl Editor {
             steps.new ≤ steps.old + 24 * command_count edit.step }
         ensures unticked { result ≡ Ok Done.Nothing → steps.new ≡ steps.old }
     {
-        let line = script.line_of(k);
+        let mut listing = Listing {
+            marks,
+            sink,
+            line: script.line_of(k),
+            listed,
+        };
         match script.edit(k) {
-            Edit::Undo => self.take_back(line, glass, marks, sink, listed, steps),
-            Edit::Redo => self.make_again(line, glass, marks, sink, listed, steps),
-            Edit::Commands(commands) => {
-                self.edit(line, commands, glass, marks, sink, listed, steps)
-            }
+            Edit::Turn(turn) => self.turn(turn, glass, steps, &mut listing),
+            Edit::Commands(commands) => self.edit(commands, glass, steps, &mut listing),
         }
     }
 
     /// Makes an edit of these commands, and keeps as much of it as was applied.
     fn edit<G: Glass, T: Sink, L: Ledger>(
         &mut self,
-        line: u32,
         commands: Commands<'_>,
         glass: &mut G,
-        marks: &mut Marks,
-        sink: &mut T,
-        listed: bool,
         steps: &mut Steps<L>,
+        listing: &mut Listing<'_, T>,
     ) -> Result<Done, WriteFault>
         requires some { 0 < length commands }
         requires valid { AllByRecursion IsValidCommand commands }
-        ensures goes_on { GoesOn listed line (EditOf commands.entry) self.old
-            (output_of (T.state sink.old) (G.state glass.old)) result self.new
-            (output_of (T.state sink.new) (G.state glass.new)) }
+        ensures goes_on { GoesOn listing.old.listed listing.old.line (EditOf commands.entry) self.old
+            (output_of (T.state listing.old.sink.now) (G.state glass.old)) result self.new
+            (output_of (T.state listing.new.sink.now) (G.state glass.new)) }
         ensures made { HasMade (EditOf commands.entry) self.old result self.new }
-        ensures cause { HasCause (T.state sink.old).faults (T.state sink.new).faults result }
-        ensures quiet { listed ≡ false → IsOk result × (T.state sink.new ≡ T.state sink.old) }
-        ensures marks { MarksLast commands.entry self.old.screen result self.new.screen marks.new }
+        ensures cause { HasCause (T.state listing.old.sink.now).faults
+            (T.state listing.new.sink.now).faults result }
+        ensures quiet { listing.old.listed ≡ false
+            → IsOk result × (T.state listing.new.sink.now ≡ T.state listing.old.sink.now) }
+        ensures marks { MarksLast commands.entry self.old.screen result self.new.screen
+            listing.new.marks.now }
         ensures cost { steps.new
             ≤ steps.old + rows_in_reach_of_all self.old.screen commands.entry }
         ensures least { ResolvesRenewed commands.entry self.old.screen result self.new.screen
             steps.old steps.new }
         ensures at_most_24 { steps.new ≤ steps.old + 24 * length commands.entry }
         ensures done { result ≢ Ok Done.Nothing }
+        ensures sink { listing.new.sink.ghost_name ≡ listing.old.sink.ghost_name }
+        ensures marks_kept { listing.new.marks.ghost_name ≡ listing.old.marks.ghost_name }
     {
         self.undo.begin(&self.screen);
         let applied = apply_commands(
             &mut self.undo,
             &mut self.screen,
-            line,
             commands,
             glass,
-            marks,
-            sink,
-            listed,
             steps,
+            listing,
         );
         self.undo.commit();
         applied?;
         Ok(Done::Done)
     }
 
-    /// Takes the last kept edit back.
-    fn take_back<G: Glass, T: Sink, L: Ledger>(
+    /// Turns the screen to the state before the last kept edit, or after the last undone one. Answers
+    /// whether there was one.
+    fn turn_screen<G: Glass, L: Ledger>(
         &mut self,
-        line: u32,
+        turn: Turn,
         glass: &mut G,
         marks: &mut Marks,
-        sink: &mut T,
-        listed: bool,
         steps: &mut Steps<L>,
-    ) -> Result<Done, WriteFault>
-        ensures goes_on { GoesOn listed line (Turn TakeBack) self.old
-            (output_of (T.state sink.old) (G.state glass.old)) result self.new
-            (output_of (T.state sink.new) (G.state glass.new)) }
-        ensures made { HasMade (Turn TakeBack) self.old result self.new }
-        ensures cause { HasCause (T.state sink.old).faults (T.state sink.new).faults result }
-        ensures quiet { listed ≡ false → IsOk result × (T.state sink.new ≡ T.state sink.old) }
-        ensures marks { marks.new ≡ differences (looks_of (core_of self.old.screen))
-            (looks_of (core_of self.new.screen)) }
-        ensures least { steps.old + rows_renewed [] (looks_of (core_of self.old.screen))
-            (looks_of (core_of self.new.screen)) ≤ steps.new }
-        ensures at_most_24 { steps.new ≤ steps.old + 24 }
-        ensures unticked { result ≡ Ok Done.Nothing → steps.new ≡ steps.old }
+    ) -> bool
+        ensures turned { self.new ≡ editor_after_turn self.old turn }
+        ensures paints { PaintsTurn self.old.screen self.new.screen marks.new (G.state glass.old)
+            (G.state glass.new) steps.old steps.new }
+        ensures nothing { (result ≡ false) ↔ (states_ahead self.old turn ≡ []) }
+        ensures unpainted { result ≡ false → glass.new ≡ glass.old }
+        ensures unticked { result ≡ false → steps.new ≡ steps.old }
     {
-        match self.undo.undo(&mut self.screen, glass, marks, steps) {
-            Undone::Nothing => Ok(Done::Nothing),
-            Undone::Undone => {
-                put_changes_if(listed, sink, u64::from(line), marks, &self.screen)?;
-                Ok(Done::Done)
-            }
+        match turn {
+            Turn::TakeBack => match self.undo.undo(&mut self.screen, glass, marks, steps) {
+                Undone::Undone => true,
+                Undone::Nothing => false,
+            },
+            Turn::MakeAgain => match self.undo.redo(&mut self.screen, glass, marks, steps) {
+                Redone::Redone => true,
+                Redone::Nothing => false,
+            },
         }
     }
 
-    /// Makes the last undone edit again.
-    fn make_again<G: Glass, T: Sink, L: Ledger>(
+    /// Takes the last kept edit back, or makes the last undone one again, and puts its lines where
+    /// they are listed.
+    fn turn<G: Glass, T: Sink, L: Ledger>(
         &mut self,
-        line: u32,
+        turn: Turn,
         glass: &mut G,
-        marks: &mut Marks,
-        sink: &mut T,
-        listed: bool,
         steps: &mut Steps<L>,
+        listing: &mut Listing<'_, T>,
     ) -> Result<Done, WriteFault>
-        ensures goes_on { GoesOn listed line (Turn MakeAgain) self.old
-            (output_of (T.state sink.old) (G.state glass.old)) result self.new
-            (output_of (T.state sink.new) (G.state glass.new)) }
-        ensures made { HasMade (Turn MakeAgain) self.old result self.new }
-        ensures cause { HasCause (T.state sink.old).faults (T.state sink.new).faults result }
-        ensures quiet { listed ≡ false → IsOk result × (T.state sink.new ≡ T.state sink.old) }
-        ensures marks { marks.new ≡ differences (looks_of (core_of self.old.screen))
+        ensures goes_on { GoesOn listing.old.listed listing.old.line (TurnOf turn) self.old
+            (output_of (T.state listing.old.sink.now) (G.state glass.old)) result self.new
+            (output_of (T.state listing.new.sink.now) (G.state glass.new)) }
+        ensures made { HasMade (TurnOf turn) self.old result self.new }
+        ensures cause { HasCause (T.state listing.old.sink.now).faults
+            (T.state listing.new.sink.now).faults result }
+        ensures quiet { listing.old.listed ≡ false
+            → IsOk result × (T.state listing.new.sink.now ≡ T.state listing.old.sink.now) }
+        ensures marks { listing.new.marks.now ≡ differences (looks_of (core_of self.old.screen))
             (looks_of (core_of self.new.screen)) }
         ensures least { steps.old + rows_renewed [] (looks_of (core_of self.old.screen))
             (looks_of (core_of self.new.screen)) ≤ steps.new }
         ensures at_most_24 { steps.new ≤ steps.old + 24 }
         ensures unticked { result ≡ Ok Done.Nothing → steps.new ≡ steps.old }
+        ensures sink { listing.new.sink.ghost_name ≡ listing.old.sink.ghost_name }
+        ensures marks_kept { listing.new.marks.ghost_name ≡ listing.old.marks.ghost_name }
     {
-        match self.undo.redo(&mut self.screen, glass, marks, steps) {
-            Redone::Nothing => Ok(Done::Nothing),
-            Redone::Redone => {
-                put_changes_if(listed, sink, u64::from(line), marks, &self.screen)?;
-                Ok(Done::Done)
-            }
+        if !self.turn_screen(turn, glass, listing.marks, steps) {
+            return Ok(Done::Nothing);
         }
+        let label = u64::from(listing.line);
+        put_changes_if(
+            listing.listed,
+            listing.sink,
+            label,
+            listing.marks,
+            &self.screen,
+        )?;
+        Ok(Done::Done)
     }
 
     /// The screen.

@@ -15,6 +15,7 @@ mod order;
 mod places;
 mod script;
 mod table;
+mod turn;
 
 pub use commands::{Commands, Edit};
 pub use editor::{Done, Editor};
@@ -25,3 +26,4 @@ pub use law::{
     texts_and_changes_in_order,
 };
 pub use script::{Script, ScriptFault};
+pub use turn::Turn;

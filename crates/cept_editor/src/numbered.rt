@@ -73,7 +73,8 @@ fn is_revision(number: u8) -> bool
 
 /// `at R C`: the position.
 pub(crate) fn place(rest: Option<&[u8]>) -> Result<Order, LineReason>
-    ensures meant { step_meant (bytes_after rest.entry) result ≡ two is_place commands.Position (words_after rest.entry) }
+    ensures meant { step_meant (bytes_after rest.entry) result
+        ≡ two is_place commands.Position (words_after rest.entry) }
     ensures plain { IfOk result IsPlainOrder }
 {
     let (row, column) = two_numbers(rest)?;
@@ -82,7 +83,8 @@ pub(crate) fn place(rest: Option<&[u8]>) -> Result<Order, LineReason>
 
 /// `c1 N`: a C1 code.
 pub(crate) fn c1(rest: Option<&[u8]>) -> Result<Order, LineReason>
-    ensures meant { step_meant (bytes_after rest.entry) result ≡ one is_c1 commands.C1 (words_after rest.entry) }
+    ensures meant { step_meant (bytes_after rest.entry) result
+        ≡ one is_c1 commands.C1 (words_after rest.entry) }
     ensures plain { IfOk result IsPlainOrder }
 {
     let code = one_number(rest)?;
@@ -91,7 +93,8 @@ pub(crate) fn c1(rest: Option<&[u8]>) -> Result<Order, LineReason>
 
 /// `row N`: an attribute of the row.
 pub(crate) fn full_row(rest: Option<&[u8]>) -> Result<Order, LineReason>
-    ensures meant { step_meant (bytes_after rest.entry) result ≡ one is_c1 commands.FullRow (words_after rest.entry) }
+    ensures meant { step_meant (bytes_after rest.entry) result
+        ≡ one is_c1 commands.FullRow (words_after rest.entry) }
     ensures plain { IfOk result IsPlainOrder }
 {
     let code = one_number(rest)?;
@@ -100,7 +103,8 @@ pub(crate) fn full_row(rest: Option<&[u8]>) -> Result<Order, LineReason>
 
 /// `screen N`: an attribute of the screen.
 pub(crate) fn full_screen(rest: Option<&[u8]>) -> Result<Order, LineReason>
-    ensures meant { step_meant (bytes_after rest.entry) result ≡ one is_screen_c1 commands.FullScreen (words_after rest.entry) }
+    ensures meant { step_meant (bytes_after rest.entry) result
+        ≡ one is_screen_c1 commands.FullScreen (words_after rest.entry) }
     ensures plain { IfOk result IsPlainOrder }
 {
     let code = one_number(rest)?;
@@ -109,7 +113,8 @@ pub(crate) fn full_screen(rest: Option<&[u8]>) -> Result<Order, LineReason>
 
 /// `table N`: a colour table.
 pub(crate) fn table(rest: Option<&[u8]>) -> Result<Order, LineReason>
-    ensures meant { step_meant (bytes_after rest.entry) result ≡ one (is_between 0 3) commands.Table (words_after rest.entry) }
+    ensures meant { step_meant (bytes_after rest.entry) result
+        ≡ one (is_between 0 3) commands.Table (words_after rest.entry) }
     ensures plain { IfOk result IsPlainOrder }
 {
     let number = one_number(rest)?;
@@ -118,7 +123,8 @@ pub(crate) fn table(rest: Option<&[u8]>) -> Result<Order, LineReason>
 
 /// `colour N R G B`: the colour of an entry.
 pub(crate) fn colour(rest: Option<&[u8]>) -> Result<Order, LineReason>
-    ensures meant { step_meant (bytes_after rest.entry) result ≡ four is_colour entry_command (words_after rest.entry) }
+    ensures meant { step_meant (bytes_after rest.entry) result
+        ≡ four is_colour entry_command (words_after rest.entry) }
     ensures plain { IfOk result IsPlainOrder }
 {
     let (entry, r, g, b) = four_numbers(rest)?;
@@ -128,7 +134,8 @@ pub(crate) fn colour(rest: Option<&[u8]>) -> Result<Order, LineReason>
 
 /// `repeat N`: the last sign so many times more.
 pub(crate) fn repeat(rest: Option<&[u8]>) -> Result<Order, LineReason>
-    ensures meant { step_meant (bytes_after rest.entry) result ≡ one (is_between 0 63) commands.Repeat (words_after rest.entry) }
+    ensures meant { step_meant (bytes_after rest.entry) result
+        ≡ one (is_between 0 63) commands.Repeat (words_after rest.entry) }
     ensures plain { IfOk result IsPlainOrder }
 {
     let times = one_number(rest)?;
@@ -137,7 +144,8 @@ pub(crate) fn repeat(rest: Option<&[u8]>) -> Result<Order, LineReason>
 
 /// `area A B`: a scrolling area.
 pub(crate) fn area(rest: Option<&[u8]>) -> Result<Order, LineReason>
-    ensures meant { step_meant (bytes_after rest.entry) result ≡ two is_area commands.AreaCreate (words_after rest.entry) }
+    ensures meant { step_meant (bytes_after rest.entry) result
+        ≡ two is_area commands.AreaCreate (words_after rest.entry) }
     ensures plain { IfOk result IsPlainOrder }
 {
     let (first, last) = two_numbers(rest)?;
@@ -146,7 +154,8 @@ pub(crate) fn area(rest: Option<&[u8]>) -> Result<Order, LineReason>
 
 /// `noarea A B`: the end of a scrolling area.
 pub(crate) fn no_area(rest: Option<&[u8]>) -> Result<Order, LineReason>
-    ensures meant { step_meant (bytes_after rest.entry) result ≡ two is_area commands.AreaDelete (words_after rest.entry) }
+    ensures meant { step_meant (bytes_after rest.entry) result
+        ≡ two is_area commands.AreaDelete (words_after rest.entry) }
     ensures plain { IfOk result IsPlainOrder }
 {
     let (first, last) = two_numbers(rest)?;
@@ -155,7 +164,8 @@ pub(crate) fn no_area(rest: Option<&[u8]>) -> Result<Order, LineReason>
 
 /// `revision N`: the revision of the rules.
 pub(crate) fn revision(rest: Option<&[u8]>) -> Result<Order, LineReason>
-    ensures meant { step_meant (bytes_after rest.entry) result ≡ one (is_between 1 2) commands.Revision (words_after rest.entry) }
+    ensures meant { step_meant (bytes_after rest.entry) result
+        ≡ one (is_between 1 2) commands.Revision (words_after rest.entry) }
     ensures plain { IfOk result IsPlainOrder }
 {
     let number = one_number(rest)?;

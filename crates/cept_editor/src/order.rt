@@ -2,7 +2,7 @@ ghost use Rattle.std.specs.Prelude.{◌≡◌, ◌≤◌, ◌<◌, ◌^◌, ◌�
 ghost use Rattle.std.specs.List.{list_all};
 ghost use Rattle.cept_codes.specs.Command.{IsValidCommand};
 ghost use Rattle.cept_words.specs.Words.{words_after, bytes_after};
-ghost use Rattle.cept_editor.specs.Meaning.{Turn, TakeBack, MakeAgain, Edit, ranged, alone, is_sign};
+ghost use Rattle.cept_editor.specs.Meaning.{Turn as TurnOf, Edit, ranged, alone, is_sign};
 ghost use Rattle.cept_editor.specs.Meaning.{text, raw, bytes_step, hex_bytes};
 ghost use Rattle.cept_editor.specs.Order.{order_step, step_meant};
 ghost use Rattle.cept_editor.specs.Order.{command_of, place_before, IsSoundOrder, IsPlainOrder};
@@ -11,16 +11,15 @@ use crate::brief::Brief;
 use crate::digits::{are_digits, has_refusal};
 use crate::number::is_between;
 use crate::places::{Span, place_before};
+use crate::turn::Turn;
 use cept_codes::LineReason;
 use cept_words::{next_word, one_word};
 
 /// What an edit line asks for.
 #[derive(Clone, Copy)]
 pub(crate) enum Order {
-    /// To take back the last kept edit.
-    TakeBack,
-    /// To make the last undone edit again.
-    MakeAgain,
+    /// To take back the last kept edit, or to make the last undone one again.
+    Turn(Turn),
     /// One command.
     One(Brief),
     /// The commands that write the text that stands there.
@@ -65,22 +64,13 @@ pub(crate) fn one(brief: Brief, rest: Option<&[u8]>) -> Result<Order, LineReason
     alone(Order::One(brief), rest)
 }
 
-/// To take back the last kept edit, without a word after it.
-pub(crate) fn take_back(rest: Option<&[u8]>) -> Result<Order, LineReason>
+/// A turn, without a word after it.
+pub(crate) fn turn(turn: Turn, rest: Option<&[u8]>) -> Result<Order, LineReason>
     ensures meant { step_meant (bytes_after rest.entry) result
-        ≡ alone (Turn TakeBack) (words_after rest.entry) }
+        ≡ alone (TurnOf turn) (words_after rest.entry) }
     ensures plain { IfOk result IsPlainOrder }
 {
-    alone(Order::TakeBack, rest)
-}
-
-/// To make the last undone edit again, without a word after it.
-pub(crate) fn make_again(rest: Option<&[u8]>) -> Result<Order, LineReason>
-    ensures meant { step_meant (bytes_after rest.entry) result
-        ≡ alone (Turn MakeAgain) (words_after rest.entry) }
-    ensures plain { IfOk result IsPlainOrder }
-{
-    alone(Order::MakeAgain, rest)
+    alone(Order::Turn(turn), rest)
 }
 
 /// Whether these are signs of a text: 2/0 to 7/14.

@@ -9,7 +9,8 @@ use crate::brief::Brief;
 use crate::numbered::{
     area, c1, colour, full_row, full_screen, no_area, place, repeat, revision, table,
 };
-use crate::order::{Order, make_again, one, raw, take_back, text};
+use crate::order::{Order, one, raw, text, turn};
+use crate::turn::Turn;
 use cept_codes::{C1Set, LineReason};
 
 /// What a word asks for, with what stands after it, which ends there in a script.
@@ -79,9 +80,9 @@ pub(crate) fn order_of(word: &[u8], rest: Option<&[u8]>, end: u32) -> Result<Ord
     } else if word == b"raw".as_slice() {
         raw(rest, end)
     } else if word == b"undo".as_slice() {
-        take_back(rest)
+        turn(Turn::TakeBack, rest)
     } else if word == b"redo".as_slice() {
-        make_again(rest)
+        turn(Turn::MakeAgain, rest)
     } else {
         Err(LineReason::UnknownWord)
     }

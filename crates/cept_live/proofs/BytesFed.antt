@@ -1,5 +1,5 @@
 -- Bytes fed one after the other, and the end of the page.
-use Rattle.std.proofs.Common.{◌≡◌, ℕ, ◌+◌, ◌^◌, ◌<◌, ◌≤◌, ◌⊎◌, true, false, None, Bool, List, [], ◌∷◌, ◌++◌, length, map, take, get_or}
+use Rattle.std.proofs.Common.{◌≡◌, ℕ, ◌+◌, ◌^◌, ◌<◌, ◌≤◌, ◌⊎◌, true, false, None, Some, Bool, List, [], ◌∷◌, ◌++◌, length, map, take, get_or}
 use Rattle.std.proofs.Common.{refl, sym, ◌∙◌, ap, subst, arith, append_assoc, append-nil, length-append}
 use Rattle.std.proofs.Common.{inl, inr}
 use Rattle.std.proofs.lemmas.Bool.{cases_eq, true≢false}
@@ -13,7 +13,8 @@ use Rattle.cept_repaint.specs.Marks.{no_marks}
 use Rattle.cept_live.specs.declared.notice.Notice.{Notice}
 use Rattle.cept_live.specs.Notices.{Saying, notice_of, sayings_after}
 use Rattle.cept_live.specs.Live.{live_start}
-use Rattle.cept_live.specs.Live.{LiveState, Stands, HasFed, Tells, TakesItems, Feeds, FeedsNothing, Ends, TakesNoMore, TellsAll}
+use Rattle.cept_live.specs.Live.{Ends, Feeds, FeedsNothing, HasFed, IsPhase, LiveState, Stands, TakesItems, TakesNoMore, Tells}
+use Rattle.cept_live.specs.Live.{TellsAll}
 use Rattle.cept_live.specs.Renewed.{marked_with}
 use Rattle.cept_live.specs.Shown.{Begins}
 use Rattle.cept_live.proofs.SayingsTold.{length-marked_with, Tells-none, Tells-append, marked_with-none, marked_with-append}
@@ -24,11 +25,13 @@ length-no_marks : length no_marks ≡ 960
 unfolding no_marks
 length-no_marks = length-replicate 960 false
 
-pub HasFed-none : (live : LiveState) → Leads [] live.parser → live.screen ≡ state [] → live.renewed ≡ no_marks → HasFed live []
+pub HasFed-none : (live : LiveState) → Leads [] live.parser → live.screen ≡ state [] → live.phase ≡ None
+    → live.renewed ≡ no_marks → HasFed live []
 unfolding reading_within
-HasFed-none live leads is renewed = record {
+HasFed-none live leads is phase renewed = record {
   parser = leads;
   screen = record { valid = tt; is = is };
+  phase = subst IsPhase (sym phase) (λ k e. absurd (let no : None ≡ Some k = e in cc));
   places = ap (λ (m : List Bool). length m) renewed ∙ length-no_marks;
 }
 
@@ -62,6 +65,7 @@ fed old new more closed list now from to place split leads phase taken = record 
   feeds = λ b has. record {
     parser = leads b has.parser;
     screen = subst (Stands new.screen) (sym (split b has.parser)) (taken.stands (items b) has.screen);
+    phase = subst IsPhase (sym phase) has.phase;
     places = ap (λ (m : List Bool). length m) (taken.marks_are (items b) has.screen)
         ∙ length-marked_with old.renewed (sayings_after (items b) closed) ∙ has.places;
   };
@@ -193,7 +197,12 @@ pub HasFed-begun : (old new : LiveState) (before : List (List Look)) (phase to :
     → Begins old before phase list new to now → HasFed old bytes → HasFed new bytes
 HasFed-begun old new before phase to list now bytes begins has =
     subst (λ (l : LiveState). HasFed l bytes) (sym begins.live)
-    (record { parser = has.parser; screen = has.screen; places = length-no_marks })
+    (record {
+      parser = has.parser;
+      screen = has.screen;
+      phase = λ k e. let same : phase ≡ k = cc in subst (λ n. n < 6) same begins.valid;
+      places = length-no_marks;
+    })
 
 -- the items that the end closes are taken
 pub ended : (old new : LiveState) (closed : List Item) (list now : List Notice) (from to : ℕ)

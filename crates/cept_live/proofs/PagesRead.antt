@@ -5,7 +5,6 @@ use Rattle.std.proofs.Common.{append-nil, inl, inr}
 use Rattle.std.proofs.lemmas.Bool.{cases_lt, lt-ltb}
 use Rattle.std.proofs.lemmas.List.{get_or-map, get_or-replicate, get_or_default, get_or_past, length-replicate}
 use Rattle.std.proofs.lemmas.List.{same_lists, take_more}
-use Rattle.std.specs.Option.{ForSome}
 use Rattle.cept_codes.specs.declared.command.Command.{Command}
 use Rattle.cept_codes.specs.declared.item.Item.{Item}
 use Rattle.cept_control.specs.Numbers.{bit, number_or}
@@ -15,7 +14,7 @@ use Rattle.cept_parser.specs.State.{ParserState, running_state}
 use Rattle.cept_profile.specs.Control.{ControlState}
 use Rattle.cept_profile.specs.State.{State, core, core_of, state}
 use Rattle.cept_repaint.specs.Marks.{no_marks}
-use Rattle.cept_live.specs.Live.{LiveState, Stands}
+use Rattle.cept_live.specs.Live.{IsPhase, LiveState, Stands}
 use Rattle.cept_live.specs.Parts.{phase_by}
 
 -- ---- items
@@ -90,7 +89,7 @@ marks_back flags bits marks is places marked =
 
 -- ---- decoders
 
-pub phase_back : (phase : Option ℕ) → ForSome phase (λ k. k < 6) → phase_by (number_or 255 phase) ≡ phase
+pub phase_back : (phase : Option ℕ) → IsPhase phase → phase_by (number_or 255 phase) ≡ phase
 phase_back None valid = refl
 phase_back (Some k) valid = ap (λ b. if b then Some k else None) (lt-ltb k 6 (valid k refl))
 

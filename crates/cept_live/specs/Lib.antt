@@ -7,4 +7,5 @@ pub mod Renewed
 pub mod Shown
 pub mod Snapshots
 pub mod States
+pub mod Turning
 pub mod Written

@@ -1,5 +1,6 @@
 -- A live decoder (this project's own): what it is after the bytes fed so far, whatever pieces they came in.
 use Rattle.std.specs.Prelude.{◌≡◌, ℕ, ◌+◌, ◌*◌, ◌^◌, ◌≤◌, ◌<◌, ◌⊎◌, Bool, true, false, Option, None, List, [], ◌++◌, length, map, take, drop}
+use Rattle.std.specs.Option.{ForSome}
 use Rattle.cept_codes.specs.declared.item.Item.{Item}
 use Rattle.cept_parser.specs.Context.{start_context}
 use Rattle.cept_parser.specs.Items.{items, closed_items, commands_of}
@@ -19,6 +20,10 @@ pub record LiveState : Type 0 where
   pub phase : Option ℕ
   pub renewed : List Bool
 
+-- no phase, or one of the six
+abbrev pub IsPhase : Option ℕ → Type 0
+IsPhase phase = ForSome phase (λ k. k < 6)
+
 -- a parser before the first byte
 abbrev pub parser_start : ParserState
 parser_start = record { place = 0; context = start_context; pending = []; finished = false }
@@ -36,6 +41,7 @@ pub record Stands (screen : State) (seen : List Item) : Type 0 where
 pub record HasFed (live : LiveState) (bytes : List ℕ) : Type 0 where
   pub parser : Leads bytes live.parser
   pub screen : Stands live.screen (items bytes)
+  pub phase : IsPhase live.phase
   pub places : length live.renewed ≡ 960
 
 -- in a list of notices these sayings are told from one place on, up to another, and nothing else is changed
@@ -105,6 +111,16 @@ TakesNoMore live = (live.parser.finished ≡ true) ⊎ (2 ^ 32 ≤ live.parser.p
 abbrev pub Stops : List ℕ → List Notice → ℕ → ℕ → LiveState → Type 0
 Stops bytes list taken put live =
     (length bytes ≤ taken) ⊎ ((length list < put + 1920) ⊎ TakesNoMore live)
+
+-- as many bytes were fed as there is room for in the list, from its start on; none where there is no room for what the first
+-- may change, or no more are taken
+pub record FeedsAll (old : LiveState) (bytes : List ℕ) (list : List Notice) (new : LiveState) (taken put : ℕ)
+    (now : List Notice) : Type 0 where
+  pub feeds : Feeds old (take taken bytes) list 0 new put now
+  pub most : taken ≤ length bytes
+  pub within : put ≤ length list
+  pub stops : Stops bytes now taken put new
+  pub refused : TakesNoMore old ⊎ (length list < 1920) → FeedsNothing old list taken put new now
 
 -- these notices, one call's after the other's, are what the items say that these bytes close, whatever bytes were fed before
 pub record TellsAll (old : LiveState) (more : List ℕ) (notices : List Notice) : Type 0 where

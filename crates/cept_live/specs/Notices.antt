@@ -4,7 +4,6 @@ use Rattle.std.specs.Prelude.{ℕ, List, [], ◌∷◌, ◌++◌, map, replicate
 use Rattle.cept_codes.specs.declared.command.Command.{Command}
 use Rattle.cept_codes.specs.declared.item.Item.{Item}
 use Rattle.cept_codes.specs.declared.item.Reason.{Reason}
-use Rattle.cept_codes.specs.declared.item.Reason.TheVariants as reasons
 use Rattle.cept_codes.specs.declared.item.Said.{Said}
 use Rattle.cept_codes.specs.declared.item.Said.TheVariants as said
 use Rattle.cept_codes.specs.declared.look.Look.{Look}
@@ -13,9 +12,10 @@ use Rattle.cept_codes.specs.declared.look.Paint.TheVariants as paints
 use Rattle.cept_codes.specs.declared.look.Shape.{Shape}
 use Rattle.cept_codes.specs.declared.look.Shape.TheVariants as shapes
 use Rattle.cept_codes.specs.Place.{Place}
-pub use Rattle.cept_control.specs.Numbers.{bit, flash_number, set_number}
+use Rattle.cept_control.specs.Numbers.{bit, flash_number, set_number}
 use Rattle.cept_parser.specs.Items.{commands_of}
 use Rattle.cept_profile.specs.Changes.{changes}
+use Rattle.cept_report.specs.Text.{reason_number}
 use Rattle.cept_live.specs.declared.notice.Colour.{Colour}
 use Rattle.cept_live.specs.declared.notice.Notice.{Notice}
 use Rattle.cept_live.specs.declared.notice.Pixels.{Pixels}
@@ -45,17 +45,6 @@ item_sayings earlier item = said_sayings item (commands_of earlier) item.what
 unfoldable pub sayings_after : List Item → List Item → List Saying
 sayings_after earlier [] = []
 sayings_after earlier (item ∷ more) = item_sayings earlier item ++ sayings_after (earlier ++ item ∷ []) more
-
--- ---- numbers of reasons
-
-abbrev pub reason_number : Reason → ℕ
-reason_number reasons.UnassignedControl = 1
-reason_number reasons.UnknownEscape = 2
-reason_number reasons.UnknownCsi = 3
-reason_number reasons.UnknownUnit = 4
-reason_number reasons.BadParameter = 5
-reason_number reasons.Interrupted = 6
-reason_number reasons.Truncated = 7
 
 -- ---- what is drawn
 

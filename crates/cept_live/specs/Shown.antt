@@ -1,6 +1,6 @@
 -- What a display shows that is kept as it is told (this project's own), and what the phases of flashing change on it: a place
 -- shows its look as it was fed, until a phase begins after that.
-use Rattle.std.specs.Prelude.{◌≡◌, ℕ, ◌≤◌, Bool, Option, Some, None, List, [], ◌∷◌, length, if◌then◌else◌}
+use Rattle.std.specs.Prelude.{◌≡◌, ℕ, ◌≤◌, ◌<◌, Bool, Option, Some, None, List, [], ◌∷◌, length, if◌then◌else◌}
 use Rattle.std.specs.List.{flat_map}
 use Rattle.cept_codes.specs.declared.look.Look.{Look}
 use Rattle.cept_codes.specs.Look.{blank_look}
@@ -46,6 +46,7 @@ phase_after (Some phase) = next_phase phase
 pub record Begins (old : LiveState) (before : List (List Look)) (phase : ℕ) (list : List Notice) (new : LiveState) (to : ℕ)
     (now : List Notice) : Type 0 where
   pub enough : 960 ≤ length list
+  pub valid : phase < 6
   pub live : new ≡ record old { phase = Some phase; renewed = no_marks }
   pub tells : Tells list 0 (change_sayings old.parser.place
       (changes_between before (frame (looks_of (core_of old.screen)) phase))) to now

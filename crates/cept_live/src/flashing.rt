@@ -1,6 +1,5 @@
 //! Tells what a phase of flashing changes on a display that is kept as it is told.
 ghost use Rattle.std.specs.Prelude.{◌≡◌, ℕ, ◌+◌, ◌<◌, ◌≤◌, Some, length, not, true};
-ghost use Rattle.std.specs.Option.{ForSome};
 ghost use Rattle.cept_codes.specs.Place.{number};
 ghost use Rattle.cept_codes.specs.Same.{same_look};
 ghost use Rattle.cept_flash.specs.Phases.{frame};
@@ -8,7 +7,7 @@ ghost use Rattle.cept_profile.specs.Changes.{changes_between, differences, look_
 ghost use Rattle.cept_profile.specs.Look.{looks_of};
 ghost use Rattle.cept_profile.specs.State.{core_of};
 ghost use Rattle.cept_repaint.specs.Marks.{is_marked};
-ghost use Rattle.cept_live.specs.Live.{Tells};
+ghost use Rattle.cept_live.specs.Live.{IsPhase, Tells};
 ghost use Rattle.cept_live.specs.Notices.{change_sayings};
 ghost use Rattle.cept_live.specs.Shown.{phase_after, shown_of};
 
@@ -50,65 +49,63 @@ fn flashes_at(screen: &Screen, blink: &Blink, place: Pos) -> bool
     differ(&screen.look(place), &blink.now(place))
 }
 
-/// Whether a place that was shown by this phase is shown otherwise at the phase of a blink, which
-/// keeps the looks of the screen. `turning` has the places that look otherwise at the one phase than
-/// at the other.
-fn is_turned(
-    phase: Option<u8>,
-    renewed: &Marks,
-    turning: &Marks,
-    screen: &Screen,
-    blink: &Blink,
-    place: Pos,
-) -> bool
-    requires looks { blink.now.looks ≡ looks_of (core_of screen.now) }
-    requires turning { (k : ℕ) → phase ≡ Some k
-        → turning.now ≡ differences (frame blink.now.looks k) (frame blink.now.looks blink.now.phase) }
-    ensures { result ≡ is_marked (differences (shown_of blink.now.looks phase renewed.now)
-        (frame blink.now.looks blink.now.phase)) (number place.row place.column) }
-{
-    // That the place is on the screen is known to the prover by its row.
-    let _row = place.row();
-    match phase {
-        None => flashes_at(screen, blink, place),
-        Some(_before) => {
-            if renewed.has(place) {
-                flashes_at(screen, blink, place)
-            } else {
-                turning.has(place)
+/// A display that is shown by a phase, where one had begun, and turns to that of a blink, which keeps
+/// the looks of the screen.
+#[derive(Clone, Copy)]
+pub(crate) struct Turning<'a> {
+    /// The phase that had begun.
+    pub phase: Option<u8>,
+    /// The places that items changed since it began.
+    pub renewed: &'a Marks,
+    /// The places that look otherwise at the one phase than at the other.
+    pub turned: &'a Marks,
+    pub screen: &'a Screen,
+    pub blink: &'a Blink,
+}
+
+impl<'a> Turning<'a> {
+    ghost use Rattle.cept_live.specs.Turning.{IsTurning};
+
+    /// Whether a place is shown otherwise at the phase of the blink.
+    fn has(&self, place: Pos) -> bool
+        requires { IsTurning self.now }
+        ensures { result ≡ is_marked (differences
+            (shown_of self.now.blink.now.looks self.now.phase self.now.renewed.now)
+            (frame self.now.blink.now.looks self.now.blink.now.phase)) (number place.row place.column) }
+    {
+        // That the place is on the screen is known to the prover by its row.
+        let _row = place.row();
+        match self.phase {
+            None => flashes_at(self.screen, self.blink, place),
+            Some(_before) => {
+                if self.renewed.has(place) {
+                    flashes_at(self.screen, self.blink, place)
+                } else {
+                    self.turned.has(place)
+                }
             }
         }
     }
-}
 
-/// Tells each place that was shown by this phase and is shown otherwise at the phase of a blink,
-/// from the start of the list on. Answers where they end.
-pub(crate) fn tell_turned(
-    at: u64,
-    phase: Option<u8>,
-    renewed: &Marks,
-    turning: &Marks,
-    screen: &Screen,
-    blink: &Blink,
-    list: &mut [Notice],
-) -> usize
-    requires room { 960 ≤ length list.old }
-    requires looks { blink.now.looks ≡ looks_of (core_of screen.now) }
-    requires turning { (k : ℕ) → phase ≡ Some k
-        → turning.now ≡ differences (frame blink.now.looks k) (frame blink.now.looks blink.now.phase) }
-    ensures { Tells list.old 0 (change_sayings at (changes_between
-        (shown_of blink.now.looks phase renewed.now) (frame blink.now.looks blink.now.phase)))
-        result list.new }
-{
-    let mut to = 0usize;
-    for n in 0..960u16 {
-        let place = Pos::from_number(n).unwrap();
-        if is_turned(phase, renewed, turning, screen, blink, place) {
-            list[to] = Notice::of_change(at, place, &blink.now(place));
-            to += 1;
+    /// Tells each place that is shown otherwise at the phase of the blink, from the start of the list
+    /// on. Answers where they end.
+    pub(crate) fn tell(&self, at: u64, list: &mut [Notice]) -> usize
+        requires room { 960 ≤ length list.old }
+        requires turning { IsTurning self.now }
+        ensures { Tells list.old 0 (change_sayings at (changes_between
+            (shown_of self.now.blink.now.looks self.now.phase self.now.renewed.now)
+            (frame self.now.blink.now.looks self.now.blink.now.phase))) result list.new }
+    {
+        let mut to = 0usize;
+        for n in 0..960u16 {
+            let place = Pos::from_number(n).unwrap();
+            if self.has(place) {
+                list[to] = Notice::of_change(at, place, &self.blink.now(place));
+                to += 1;
+            }
         }
+        to
     }
-    to
 }
 
 /// Keeps the looks of a screen at a phase.
@@ -132,7 +129,7 @@ pub(crate) fn turn_on(
     fresh: bool,
     turning: &mut Marks,
 )
-    requires valid { ForSome phase (λ k. k < 6) }
+    requires valid { IsPhase phase }
     requires fresh { fresh ≡ true → (blink.old.looks ≡ looks_of (core_of screen.now))
         × (Some blink.old.phase ≡ phase) }
     ensures looks { blink.new.looks ≡ looks_of (core_of screen.now) }

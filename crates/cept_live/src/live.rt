@@ -1,7 +1,6 @@
 //! A decoder that keeps its place between pieces of a page.
 ghost use Rattle.std.specs.Prelude.{◌≡◌, ℕ, ◌+◌, ◌*◌, ◌^◌, ◌<◌, ◌≤◌, ◌⊎◌, ◌∷◌, [], length, take};
 ghost use Rattle.std.specs.Prelude.{true, false, List, IfOk, IfSome, IsNone, Some};
-ghost use Rattle.std.specs.Option.{ForSome};
 ghost use Rattle.cept_codes.specs.Look.{blank_look};
 ghost use Rattle.cept_codes.specs.Table.{table};
 ghost use Rattle.cept_profile.specs.Changes.{look_at};
@@ -9,13 +8,13 @@ ghost use Rattle.cept_profile.specs.Look.{looks_of};
 ghost use Rattle.cept_profile.specs.State.{core_of};
 ghost use Rattle.cept_writer.specs.CompactCommands.{page_text};
 
-use crate::flashing::{tell_phase, tell_turned, turn_on};
+use crate::flashing::{Turning, tell_phase, turn_on};
 use crate::notice::Notice;
 use crate::parts::{Parts, marks_of, parts_of};
 use crate::restore::screen_of;
 use crate::snapshot::put_snapshot;
 use crate::state::DecoderState;
-use crate::tell::take_items;
+use crate::tell::{Display, take_items};
 use crate::writing::{Text, has_bytes, put_front};
 use cept_codes::{NoMemory, Pos};
 use cept_control::Control;
@@ -41,19 +40,16 @@ pub struct Fed {
     pub notices: usize,
 }
 
-/// A decoder, the screen of its commands, and the looks that flash on it. All its memory is taken at
+/// A decoder, the display of its commands, and the looks that flash on it. All its memory is taken at
 /// the start.
 #[derive(Drop)]
 pub struct Live {
     parser: Parser,
-    screen: Screen,
-    glass: GridGlass,
-    marks: Marks,
+    display: Display,
     closed: Closed,
     ended: bool,
     blink: Blink,
     phase: Option<u8>,
-    renewed: Marks,
     fresh: bool,
 }
 
@@ -65,17 +61,17 @@ impl Model for Live {
 
     ghost view = { λ l. record {
       parser = l.parser;
-      screen = l.screen;
+      screen = l.display.screen;
       phase = l.phase;
-      renewed = l.renewed;
+      renewed = l.display.renewed;
     } };
 
-    ghost invariant = { λ l. IsInStep l.parser l.screen l.phase l.ended l.blink l.fresh };
+    ghost invariant = { λ l. IsInStep l.parser l.display.screen l.phase l.ended l.blink l.fresh };
 }
 
 impl Live {
-    ghost use Rattle.cept_live.specs.Live.{HasFed, Feeds, FeedsNothing, Ends, LiveState, Stays, Stops, TakesNoMore};
-    ghost use Rattle.cept_live.specs.Live.{live_start};
+    ghost use Rattle.cept_live.specs.Live.{Ends, Feeds, FeedsAll, HasFed, IsPhase, LiveState, Stays};
+    ghost use Rattle.cept_live.specs.Live.{TakesNoMore, live_start};
     ghost use Rattle.cept_live.specs.Notices.{change_notice};
     ghost use Rattle.cept_live.specs.Parts.{HasParts};
     ghost use Rattle.cept_live.specs.Shown.{Begins, phase_after, shown};
@@ -90,14 +86,16 @@ impl Live {
     {
         Ok(Live {
             parser: Parser::new(),
-            screen: Screen::new(alloc)?,
-            glass: GridGlass::new(alloc)?,
-            marks: Marks::new(),
+            display: Display {
+                screen: Screen::new(alloc)?,
+                glass: GridGlass::new(alloc)?,
+                marks: Marks::new(),
+                renewed: Marks::new(),
+            },
             closed: Closed::new(),
             ended: false,
             blink: Blink::new(alloc)?,
             phase: None,
-            renewed: Marks::new(),
             fresh: false,
         })
     }
@@ -120,16 +118,7 @@ impl Live {
     {
         self.parser.push_into(byte, &mut self.closed);
         self.fresh = false;
-        take_items(
-            self.closed.as_slice(),
-            &mut self.screen,
-            &mut self.glass,
-            &mut self.marks,
-            steps,
-            &mut self.renewed,
-            list,
-            from,
-        )
+        take_items(self.closed.as_slice(), &mut self.display, list, from, steps)
     }
 
     /// Whether it takes more bytes: the page has not ended, and fewer than 2^32 were fed.
@@ -148,13 +137,7 @@ impl Live {
         list: &mut [Notice],
         steps: &mut Steps<L>,
     ) -> Fed
-        ensures feeds { Feeds self.old (take result.taken bytes.now) list.old 0 self.new
-            result.notices list.new }
-        ensures most { result.taken ≤ length bytes.now }
-        ensures room { result.notices ≤ length list.old }
-        ensures stops { Stops bytes.now list.new result.taken result.notices self.new }
-        ensures refused { TakesNoMore self.old ⊎ (length list.old < 1920)
-            → FeedsNothing self.old list.old result.taken result.notices self.new list.new }
+        ensures { FeedsAll self.old bytes.now list.old self.new result.taken result.notices list.new }
     {
         let mut taken = 0usize;
         let mut notices = 0usize;
@@ -170,13 +153,7 @@ impl Live {
         requires name { blank.name ≡ L.name }
         requires parts { blank.parts ≡ L.parts }
         requires some { 0 < blank.parts }
-        ensures feeds { Feeds self.old (take result.taken bytes.now) list.old 0 self.new
-            result.notices list.new }
-        ensures most { result.taken ≤ length bytes.now }
-        ensures room { result.notices ≤ length list.old }
-        ensures stops { Stops bytes.now list.new result.taken result.notices self.new }
-        ensures refused { TakesNoMore self.old ⊎ (length list.old < 1920)
-            → FeedsNothing self.old list.old result.taken result.notices self.new list.new }
+        ensures { FeedsAll self.old bytes.now list.old self.new result.taken result.notices list.new }
     {
         let mut steps = Steps::<L>::new(blank);
         self.feed_counted(bytes, list, &mut steps)
@@ -185,14 +162,7 @@ impl Live {
     /// Feeds bytes, as long as there is room for all that the next one may change, and tells what
     /// their items say from the start of the list on. What stands there after the notices stays.
     pub fn feed(&mut self, bytes: &[u8], list: &mut [Notice]) -> Fed
-        ensures feeds { Feeds self.old (take result.taken bytes.now) list.old 0 self.new
-            result.notices list.new }
-        ensures most { result.taken ≤ length bytes.now }
-        ensures room { result.notices ≤ length list.old }
-        ensures stops { Stops bytes.now list.new result.taken result.notices self.new }
-        // It takes none where there is no room for all that the first may change, or no more are taken.
-        ensures refused { TakesNoMore self.old ⊎ (length list.old < 1920)
-            → FeedsNothing self.old list.old result.taken result.notices self.new list.new }
+        ensures { FeedsAll self.old bytes.now list.old self.new result.taken result.notices list.new }
     {
         let blank = Blank::new(1);
         self.feed_by::<Brand>(bytes, list, blank)
@@ -211,16 +181,7 @@ impl Live {
         let items = self.parser.finish();
         self.ended = true;
         self.fresh = false;
-        take_items(
-            items.as_slice(),
-            &mut self.screen,
-            &mut self.glass,
-            &mut self.marks,
-            &mut steps,
-            &mut self.renewed,
-            list,
-            0,
-        )
+        take_items(items.as_slice(), &mut self.display, list, 0, &mut steps)
     }
 
     /// Whether the page has ended.
@@ -252,7 +213,7 @@ impl Live {
         ensures { result ≡ change_notice self.now.parser.place at
             (look_at (looks_of (core_of self.now.screen)) at) }
     {
-        Notice::of_change(self.parser.place(), at, &self.screen.look(at))
+        Notice::of_change(self.parser.place(), at, &self.display.screen.look(at))
     }
 
     /// Where it stands.
@@ -264,7 +225,7 @@ impl Live {
             self.parser.place(),
             pending,
             self.ended,
-            self.screen.control(),
+            self.display.screen.control(),
         )
     }
 
@@ -273,7 +234,7 @@ impl Live {
     pub fn write(&self, alloc: Global, out: &mut [u8]) -> Result<Option<usize>, NoMemory>
         ensures { Writes (page_text (core_of self.now.screen)) out.old result out.new }
     {
-        put_front(alloc, &self.screen, out)
+        put_front(alloc, &self.display.screen, out)
     }
 
     /// Begins the first phase of flashing over a blank display: tells the places that are not blank
@@ -288,11 +249,13 @@ impl Live {
         if list.len() < ROOM_FOR_A_PHASE {
             return None;
         }
-        self.blink.start(&self.screen, &mut self.marks);
-        self.renewed.clear();
+        let display = &mut self.display;
+        self.blink.start(&display.screen, &mut display.marks);
+        display.renewed.clear();
         self.phase = Some(0);
         self.fresh = true;
-        Some(tell_phase(self.parser.place(), &self.marks, &self.blink, list))
+        let at = self.parser.place();
+        Some(tell_phase(at, &self.display.marks, &self.blink, list))
     }
 
     /// Begins the next phase of flashing over what is shown, after the last the first, and where none
@@ -310,21 +273,20 @@ impl Live {
         }
         turn_on(
             &mut self.blink,
-            &self.screen,
+            &self.display.screen,
             self.phase,
             self.fresh,
-            &mut self.marks,
+            &mut self.display.marks,
         );
-        let to = tell_turned(
-            self.parser.place(),
-            self.phase,
-            &self.renewed,
-            &self.marks,
-            &self.screen,
-            &self.blink,
-            list,
-        );
-        self.renewed.clear();
+        let turning = Turning {
+            phase: self.phase,
+            renewed: &self.display.renewed,
+            turned: &self.display.marks,
+            screen: &self.display.screen,
+            blink: &self.blink,
+        };
+        let to = turning.tell(self.parser.place(), list);
+        self.display.renewed.clear();
         self.phase = Some(self.blink.phase());
         self.fresh = true;
         Some(to)
@@ -335,7 +297,7 @@ impl Live {
     /// which stays.
     pub fn snapshot(&self, alloc: Global, out: &mut [u8]) -> Result<Option<usize>, NoMemory>
         ensures text { Writes (snapshot_of self.now) out.old result out.new }
-        ensures phase { ForSome self.now.phase (λ k. k < 6) }
+        ensures phase { IsPhase self.now.phase }
     {
         // A field that is read opens the model, so that what it promises of the phase is known.
         let _phase = self.phase;
@@ -345,10 +307,9 @@ impl Live {
     /// The decoder of the parts of a snapshot, none where no decoder has them.
     fn of_parts(alloc: Global, parts: &Parts<'_>) -> Result<Option<Live>, NoMemory>
         requires short { length parts.now.page.now < 2 ^ 32 }
-        requires phase { ForSome parts.now.phase (λ k. k < 6) }
+        requires phase { IsPhase parts.now.phase }
         ensures back { (live : LiveState) (bytes : List ℕ) → HasFed live bytes
-            → ForSome live.phase (λ k. k < 6) → HasParts live parts.now
-            → IfOk result (λ found. found ≡ Some live) }
+            → HasParts live parts.now → IfOk result (λ found. found ≡ Some live) }
         ensures running { IfOk result (λ found. IfSome found
             (λ live. live.parser.finished ≡ false)) }
     {
@@ -366,14 +327,16 @@ impl Live {
         };
         Ok(Some(Live {
             parser,
-            screen,
-            glass,
-            marks: Marks::new(),
+            display: Display {
+                screen,
+                glass,
+                marks: Marks::new(),
+                renewed: marks_of(parts.renewed),
+            },
             closed: Closed::new(),
             ended: false,
             blink: Blink::new(alloc)?,
             phase: parts.phase,
-            renewed: marks_of(parts.renewed),
             fresh: false,
         }))
     }
@@ -383,8 +346,7 @@ impl Live {
     /// A text of 2^32 bytes or more finds no memory.
     pub fn restored(alloc: Global, text: &[u8]) -> Result<Option<Live>, NoMemory>
         ensures back { (live : LiveState) (bytes : List ℕ) → HasFed live bytes
-            → ForSome live.phase (λ k. k < 6) → snapshot_of live ≡ text.now
-            → IfOk result (λ found. found ≡ Some live) }
+            → snapshot_of live ≡ text.now → IfOk result (λ found. found ≡ Some live) }
         ensures only { IfOk result (λ found. IfSome found (λ live. snapshot_of live ≡ text.now)) }
         ensures running { IfOk result (λ found. IfSome found
             (λ live. live.parser.finished ≡ false)) }
@@ -410,6 +372,12 @@ impl Text for Live {
     ghost text = { snapshot_of };
 
     fn put_into<T: Sink>(&self, sink: &mut T) -> Result<(), WriteFault> {
-        put_snapshot(sink, &self.parser, &self.screen, self.phase, &self.renewed)
+        put_snapshot(
+            sink,
+            &self.parser,
+            &self.display.screen,
+            self.phase,
+            &self.display.renewed,
+        )
     }
 }

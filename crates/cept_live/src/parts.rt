@@ -2,10 +2,9 @@
 //! the caller to see.
 ghost use Rattle.std.specs.Prelude.{◌≡◌, ◌≤◌, ◌<◌, ◌+◌, ◌*◌, ◌^◌, ◌∷◌, ◌++◌, ℕ, Bool, List, []};
 ghost use Rattle.std.specs.Prelude.{length, map};
-ghost use Rattle.std.specs.Option.{ForSome};
 ghost use Rattle.cept_control.specs.Numbers.{bit};
 ghost use Rattle.cept_parser.specs.declared.context.Context.{Context};
-ghost use Rattle.cept_live.specs.Live.{LiveState};
+ghost use Rattle.cept_live.specs.Live.{IsPhase, LiveState};
 ghost use Rattle.cept_live.specs.Parts.{HasParts, kind_by, mode_by, phase_by};
 ghost use Rattle.cept_live.specs.Snapshots.{context_bytes, number_bytes, part, snapshot_of};
 
@@ -122,7 +121,7 @@ fn context_of(bytes: &[u8]) -> Context
 /// The phase of this number.
 fn phase_of(number: u8) -> Option<u8>
     ensures phase { result ≡ phase_by number }
-    ensures valid { ForSome result (λ k. k < 6) }
+    ensures valid { IsPhase result }
 {
     if number < 6 { Some(number) } else { None }
 }
@@ -131,7 +130,7 @@ fn phase_of(number: u8) -> Option<u8>
 pub fn parts_of(text: &[u8]) -> Parts<'_>
     ensures snapshot { (live : LiveState) → snapshot_of live ≡ text.now
         → length live.renewed ≡ 960 → HasParts live result }
-    ensures valid { ForSome result.phase (λ k. k < 6) }
+    ensures valid { IsPhase result.phase }
     ensures short { length result.page.now ≤ length text.now }
 {
     let (_mark, rest) = cut(text, 4);

@@ -12,8 +12,18 @@ ghost use Rattle.cept_live.specs.Renewed.{marked_with};
 use crate::notice::Notice;
 use cept_codes::{Item, Reason, Said};
 use cept_outside::Steps;
-use cept_repaint::{Glass, Marks, Screen};
+use cept_repaint::{GridGlass, Marks, Screen};
 use std::sync::ledger::Ledger;
+
+/// What commands are applied to: the screen, the glass on which it is painted, the places that the
+/// last command changed, and those that items changed since the phase of flashing began.
+#[derive(Drop)]
+pub(crate) struct Display {
+    pub screen: Screen,
+    pub glass: GridGlass,
+    pub marks: Marks,
+    pub renewed: Marks,
+}
 
 /// Tells each marked place with its look, from a place of the list on, and marks it as renewed.
 /// Answers where they end.
@@ -55,21 +65,24 @@ fn tell_refusal(at: u64, len: u8, reason: Reason, list: &mut [Notice], from: usi
 }
 
 /// Takes an item: applies its command and tells what changes, or tells its refusal.
-fn take_item<G: Glass, L: Ledger>(
+fn take_item<L: Ledger>(
     item: &Item,
-    screen: &mut Screen,
-    glass: &mut G,
-    marks: &mut Marks,
-    steps: &mut Steps<L>,
-    renewed: &mut Marks,
+    display: &mut Display,
     list: &mut [Notice],
     from: usize,
+    steps: &mut Steps<L>,
 ) -> usize
     requires valid { IsValidSaid item.now.what }
     requires room { from + 960 ≤ length list.old }
-    ensures { TakesItems screen.old renewed.old (item.now ∷ []) list.old from screen.new renewed.new
-        result list.new }
+    ensures { TakesItems display.old.screen display.old.renewed (item.now ∷ []) list.old from
+        display.new.screen display.new.renewed result list.new }
 {
+    let Display {
+        screen,
+        glass,
+        marks,
+        renewed,
+    } = display;
     match &item.what {
         Said::Command(command) => {
             screen.apply_from(command, glass, marks, steps);
@@ -80,24 +93,21 @@ fn take_item<G: Glass, L: Ledger>(
 }
 
 /// Takes items one after the other.
-pub(crate) fn take_items<G: Glass, L: Ledger>(
+pub(crate) fn take_items<L: Ledger>(
     items: &[Item],
-    screen: &mut Screen,
-    glass: &mut G,
-    marks: &mut Marks,
-    steps: &mut Steps<L>,
-    renewed: &mut Marks,
+    display: &mut Display,
     list: &mut [Notice],
     from: usize,
+    steps: &mut Steps<L>,
 ) -> usize
     requires valid { AllByRecursion (λ i. IsValidSaid i.what) items.now }
     requires room { from + 960 * length items.now ≤ length list.old }
-    ensures { TakesItems screen.old renewed.old items.now list.old from screen.new renewed.new
-        result list.new }
+    ensures { TakesItems display.old.screen display.old.renewed items.now list.old from
+        display.new.screen display.new.renewed result list.new }
 {
     let mut to = from;
     for item in items {
-        to = take_item(item, screen, glass, marks, steps, renewed, list, to);
+        to = take_item(item, display, list, to, steps);
     }
     to
 }

@@ -1,5 +1,5 @@
 -- What a reader keeps beside the bytes that are pending.
-use Rattle.std.proofs.Common.{◌≡◌, ℕ, ◌+◌, ◌-◌, ◌<◌, ◌≤◌, Bool, true, false, not, cond, List, [], ◌∷◌, ◌++◌, length, Option, Some, None}
+use Rattle.std.proofs.Common.{◌≡◌, ℕ, ◌+◌, ◌-◌, ◌<◌, ◌≤◌, ◌^◌, Bool, true, false, not, cond, List, [], ◌∷◌, ◌++◌, length, Option, Some, None}
 use Rattle.std.proofs.Common.{refl, sym, ap, ◌∙◌, arith, subst, inl, inr}
 use Rattle.std.proofs.lemmas.Bool.{both_ways, cases_Bool, not-true, not-false}
 use Rattle.std.proofs.lemmas.List.{length-append}
@@ -21,7 +21,7 @@ use Rattle.cept_parser.specs.Fit.{word}
 use Rattle.cept_parser.specs.declared.context.Mode.TheVariants.{DrcsRun}
 use Rattle.cept_parser.specs.Context.{with_mode}
 use Rattle.cept_parser.specs.Runs.{pattern_fit, pattern_outcome}
-use Rattle.cept_parser.specs.Waits.{in_pattern, IsBeside, IsWaiting, HasLeft, outcome_at_misfit, cut_item}
+use Rattle.cept_parser.specs.Waits.{in_pattern, IsBeside, IsWaiting, MayRead, HasLeft, outcome_at_misfit, cut_item}
 use Rattle.cept_parser.proofs.OneByteMoreLemmas.{read_open, read_as_longer}
 use Rattle.cept_parser.proofs.PatternLemmas.{pattern_run, pattern_more, alone_ends}
 use Rattle.cept_parser.proofs.UnitLemmas.{never_open}
@@ -182,10 +182,11 @@ none_taken x p c b l h t n =
     rw ((pattern_run x (p ++ c ∷ []) (pattern_more x p c some ∙ beside_loading x p b l h t)).stands, n) refl
 
 -- a reader waits right after its first place and the bytes that are pending
-pub waiting_from : (s : Reader) (place at : ℕ) → IsWaiting s place → at ≡ place - length s.bytes
-    → IsWaiting s (at + length s.bytes)
-waiting_from s place at w e =
-    let back : place ≡ at + length s.bytes = omega (arith, e, w.waits.counted) in subst (IsWaiting s) back w
+pub may_from : (s : Reader) (place at : ℕ) (closed : List Item) → IsWaiting s place → place < 2 ^ 33 → closed ≡ []
+    → at ≡ place - length s.bytes → MayRead s (at + length s.bytes) closed
+may_from s place at closed w few empty e =
+    let back : place ≡ at + length s.bytes = omega (arith, e, w.waits.counted) in
+    record { waits = subst (IsWaiting s) back w; few = subst (λ n. n < 2 ^ 33) back few; empty = empty }
 
 -- the place of the first byte stays with one byte more
 pub start_after : (place at : ℕ) (p : List ℕ) (c : ℕ) (u : List ℕ) → length p ≤ place → u ≡ p ++ c ∷ []
@@ -203,3 +204,9 @@ pub one_taken : (x : Context) (p : List ℕ) (c : ℕ) (b : Bool) (l m : Loading
     → HasTaken x (p ++ c ∷ []) b m full
 one_taken x p c b l m full h t k says =
     assumption (loaded_beside x p c (p ++ c ∷ []) b l m h t (some_loaded x p b l h t) refl k, full_says x.form p c m full says k)
+
+-- the items of a reading that come after none, of bytes by another name
+pub one_reading : (x : Context) (at : ℕ) (u v : List ℕ) (before closed : List Item) → before ≡ [] → u ≡ v
+    → closed ≡ before ++ (reading_at x at u).items → closed ≡ (reading_at x at v).items
+one_reading x at u v before closed none same h =
+    h ∙ ap (λ (is : List Item). is ++ (reading_at x at u).items) none ∙ ap (λ (w : List ℕ). (reading_at x at w).items) same

@@ -45,15 +45,18 @@ escape_unit x u = unit_of (after_escape x u)
 unfoldable pub begins_escape : List ℕ → Bool
 begins_escape u = is_fit (after_escape start_context u).fit
 
--- after a first byte
-abbrev pub after_first : Context → ℕ → Table
-after_first x a u =
-    if is_plain a then run_unit x.mode x a u else
+-- after a breaker
+abbrev pub after_breaker : Context → ℕ → Table
+after_breaker x a u =
     if a == 0x12 then repetition x u else  -- RPT
     if a == 0x1B then after_escape x u else  -- ESC
     if a == 0x1F then us_unit x u else  -- US
     if a == 0x9B then csi_unit x u else  -- CSI
     complete (outcome x Text (one_byte a)) u
+
+-- after a first byte
+abbrev pub after_first : Context → ℕ → Table
+after_first x a u = if is_plain a then run_unit x.mode x a u else after_breaker x a u
 
 -- how bytes stand to the grammar
 abbrev pub standing : Context → Table

@@ -1,6 +1,8 @@
 -- Pending bytes of a parser (this project's own), and what becomes of them where the next byte doesn't fit. The model
 -- and private clauses alone cite this file.
-use Rattle.std.specs.Prelude.{◌≡◌, ℕ, ◌≤◌, Bool, true, false, ◌&&◌, List, [], ◌∷◌, length, Option, Some, None}
+use Rattle.std.specs.Prelude.{◌≡◌, ℕ, ◌≤◌, ◌<◌, ◌^◌, Bool, true, false, ◌&&◌, List, [], ◌∷◌, ◌++◌, length}
+use Rattle.std.specs.Prelude.{Option, Some, None}
+use Rattle.cept_codes.specs.Command.{IsValidForm}
 use Rattle.cept_codes.specs.declared.item.Item.{Item}
 use Rattle.cept_codes.specs.declared.item.Reason.TheVariants.{Interrupted}
 use Rattle.cept_codes.specs.declared.item.Said.TheVariants.{Refused}
@@ -12,9 +14,9 @@ use Rattle.cept_parser.specs.declared.context.Outcome.{Outcome}
 use Rattle.cept_parser.specs.Context.{with_mode}
 use Rattle.cept_parser.specs.Bytes.{is_plain}
 use Rattle.cept_parser.specs.Runs.{starts_pattern}
-use Rattle.cept_parser.specs.Grammar.{unit}
+use Rattle.cept_parser.specs.Grammar.{unit, fits}
 use Rattle.cept_parser.specs.declared.reader.Reader.{Reader}
-use Rattle.cept_parser.specs.Items.{Reading, front}
+use Rattle.cept_parser.specs.Items.{Reading, front, reading_at}
 use Rattle.cept_parser.specs.Valid.{IsValidContext, AreBytes}
 
 -- bytes p wait in context x, and stand right before the place: none of them is an item yet
@@ -51,13 +53,56 @@ outcome_at_misfit x None = record { said = Refused Interrupted; next = with_mode
 abbrev pub cut_item : Context → ℕ → List ℕ → Item
 cut_item x at p = record { at = at; len = length p; what = (outcome_at_misfit x (unit x p)).said }
 
+-- bytes that end here or not, in this context; of a pattern it is the first one alone
+pub record AreToFit (x : Context) (u : List ℕ) (ended : Bool) : Type 0 where
+  pub form : IsValidForm x.form
+  pub other : in_pattern x u ≡ true → (length u ≡ 1) × (ended ≡ false)
+
+-- at most 100 bytes that fit in this context and are no pattern
+pub record AreToCut (x : Context) (u : List ℕ) : Type 0 where
+  pub few : length u ≤ 100
+  pub form : IsValidForm x.form
+  pub other : in_pattern x u ≡ false
+  pub fits : fits x u ≡ true
+
 -- the bytes of a reader wait in its context and stand right before the place, and its loader reads them as above
 pub record IsWaiting (s : Reader) (place : ℕ) : Type 0 where
   pub waits : Waits s.context place s.bytes
   pub beside : IsBeside s.context s.bytes s.loading s.loader
+
+-- the same, near enough to the first place that no place is lost, and no item closed yet
+pub record MayRead (s : Reader) (place : ℕ) (closed : List Item) : Type 0 where
+  pub waits : IsWaiting s place
+  pub few : place < 2 ^ 33
+  pub empty : closed ≡ []
+
+-- nothing is pending in a reader
+pub record IsIdle (s : Reader) : Type 0 where
+  pub none : s.bytes ≡ []
+  pub free : s.loading ≡ false
+  pub form : IsValidForm s.context.form
+
+-- what is pending in a reader fits, and its loader reads it as above
+pub record HasFitting (s : Reader) : Type 0 where
+  pub form : IsValidForm s.context.form
+  pub beside : IsBeside s.context s.bytes s.loading s.loader
+  pub fits : fits s.context s.bytes ≡ true
 
 -- a reader has what a reading leaves, and its loader reads what is pending as above
 pub record HasLeft (r : Reading) (s : Reader) : Type 0 where
   pub context : s.context ≡ r.context
   pub pending : s.bytes ≡ r.pending
   pub beside : IsBeside s.context s.bytes s.loading s.loader
+
+-- a reader read one byte more after what was pending in it at this place: these are the items closed
+pub record HasRead (old : Reader) (at a : ℕ) (closed : List Item) (new : Reader) : Type 0 where
+  pub items : closed ≡ (reading_at old.context at (old.bytes ++ a ∷ [])).items
+  pub left : HasLeft (reading_at old.context at (old.bytes ++ a ∷ [])) new
+
+-- a reader closed what was pending in it at this place, after which the next byte didn't fit: these are the items before
+-- and after
+pub record HasClosed (old : Reader) (at : ℕ) (before after : List Item) (new : Reader) : Type 0 where
+  pub items : after ≡ before ++ cut_item old.context at old.bytes ∷ []
+  pub context : new.context ≡ (outcome_at_misfit old.context (unit old.context old.bytes)).next
+  pub pending : new.bytes ≡ []
+  pub free : new.loading ≡ false

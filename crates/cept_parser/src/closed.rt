@@ -3,7 +3,7 @@ ghost use Rattle.cept_codes.specs.Command.{IsValidForm};
 ghost use Rattle.cept_parser.specs.Grammar.{standing, unit, fits};
 ghost use Rattle.cept_parser.specs.Items.{reading_at};
 ghost use Rattle.cept_parser.specs.Fit.{word, answer};
-ghost use Rattle.cept_parser.specs.Waits.{in_pattern, outcome_at_misfit, cut_item};
+ghost use Rattle.cept_parser.specs.Waits.{in_pattern, AreToCut, AreToFit, outcome_at_misfit, cut_item};
 
 use crate::context::{Context, Mode};
 use crate::fit::{Fit, fit_of};
@@ -34,9 +34,7 @@ impl Model for Closed {
 #[inline(always)]
 fn fit_item(context: &mut Context, bytes: &[u8], ended: bool, at: u64, item: &mut Item) -> Fit
     requires few { length bytes.now ≤ 100 }
-    requires form { IsValidForm context.old.form }
-    requires other { in_pattern context.old bytes.now ≡ true
-        → (length bytes.now ≡ 1) × (ended ≡ false) }
+    requires unit { AreToFit context.old bytes.now ended }
     ensures place { item.new.at ≡ at }
     ensures length { item.new.len ≡ length bytes.now }
     ensures answer { record { fit = result; said = item.new.what; context = context.new }
@@ -50,10 +48,7 @@ fn fit_item(context: &mut Context, bytes: &[u8], ended: bool, at: u64, item: &mu
 /// The item of bytes at this place after which the next byte doesn't fit: what they wholly are,
 /// else they are interrupted.
 fn cut_item(context: &mut Context, bytes: &[u8], at: u64, item: &mut Item)
-    requires few { length bytes.now ≤ 100 }
-    requires form { IsValidForm context.old.form }
-    requires other { in_pattern context.old bytes.now ≡ false }
-    requires fits { fits context.old bytes.now ≡ true }
+    requires { AreToCut context.old bytes.now }
     ensures item { item.new ≡ cut_item context.old at bytes.now }
     ensures context { context.new
         ≡ (outcome_at_misfit context.old (unit context.old bytes.now)).next }
@@ -138,10 +133,7 @@ impl Closed {
     /// more.
     pub(crate) fn cut(&mut self, context: &mut Context, bytes: &[u8], at: u64)
         requires room { length self.old < 2 }
-        requires few { length bytes.now ≤ 100 }
-        requires form { IsValidForm context.old.form }
-        requires other { in_pattern context.old bytes.now ≡ false }
-        requires fits { fits context.old bytes.now ≡ true }
+        requires bytes { AreToCut context.old bytes.now }
         ensures items { self.new ≡ self.old ++ cut_item context.old at bytes.now ∷ [] }
         ensures context { context.new
             ≡ (outcome_at_misfit context.old (unit context.old bytes.now)).next }

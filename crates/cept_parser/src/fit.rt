@@ -2,16 +2,16 @@ ghost use Rattle.std.specs.Prelude.{◌≡◌, ◌≢◌, ◌≤◌, ◌∷◌, 
 ghost use Rattle.cept_codes.specs.Command.{IsValidForm};
 ghost use Rattle.cept_parser.specs.Bytes.{is_between, is_plain, end, sequence};
 ghost use Rattle.cept_parser.specs.Grammar.{repetition, csi_unit, escapes, after_escape};
-ghost use Rattle.cept_parser.specs.Grammar.{standing};
+ghost use Rattle.cept_parser.specs.Grammar.{after_breaker, standing};
 ghost use Rattle.cept_parser.specs.Fit.{closes, answer};
-ghost use Rattle.cept_parser.specs.Waits.{in_pattern};
+ghost use Rattle.cept_parser.specs.Waits.{in_pattern, AreToFit};
 
 use crate::bytes::is_plain;
 use crate::context::{Context, Mode};
 use crate::controls::control;
 use crate::csi::csi;
 use crate::escape::escape;
-use crate::runs::{first_of_run, run};
+use crate::runs::{first_of_units, run, say_graphic};
 use crate::units::us;
 use cept_codes::{Command, Reason, Said};
 
@@ -156,7 +156,7 @@ fn escape_sequence(context: &mut Context, bytes: &[u8], said: &mut Said) -> Fit
 fn breaker(context: &mut Context, byte: u8, said: &mut Said) -> Fit
     requires { is_plain byte ≡ false }
     ensures { record { fit = result; said = said.new; context = context.new }
-        ≡ answer (standing context.old (byte ∷ [])) false said.old context.old }
+        ≡ answer (after_breaker context.old byte []) false said.old context.old }
 {
     match byte {
         0x12 => Fit::Open,
@@ -190,7 +190,13 @@ fn first(context: &mut Context, byte: u8, said: &mut Said) -> Fit
         ≡ answer (standing context.old (byte ∷ [])) false said.old context.old }
 {
     if is_plain(byte) {
-        first_of_run(context, byte, said)
+        match context.mode {
+            Mode::Text => {
+                say_graphic(byte, said);
+                Fit::Whole
+            }
+            _ => first_of_units(context, byte, said),
+        }
     } else {
         breaker(context, byte, said)
     }
@@ -218,9 +224,7 @@ fn first_and_rest(context: &mut Context, byte: u8, rest: &[u8], ended: bool, sai
 /// first byte alone: a loader reads the others.
 #[inline(always)]
 pub fn fit_of(context: &mut Context, bytes: &[u8], ended: bool, said: &mut Said) -> Fit
-    requires form { IsValidForm context.old.form }
-    requires other { in_pattern context.old bytes.now ≡ true
-        → (length bytes.now ≡ 1) × (ended ≡ false) }
+    requires { AreToFit context.old bytes.now ended }
     ensures { record { fit = result; said = said.new; context = context.new }
         ≡ answer (standing context.old bytes.now) ended said.old context.old }
 {

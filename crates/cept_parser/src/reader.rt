@@ -4,8 +4,8 @@ ghost use Rattle.cept_codes.specs.Command.{IsValidForm};
 ghost use Rattle.cept_parser.specs.Grammar.{unit, fits};
 ghost use Rattle.cept_parser.specs.Items.{front, reading_at, said_at_end};
 ghost use Rattle.cept_parser.specs.Valid.{IsValidContext};
-ghost use Rattle.cept_parser.specs.Waits.{in_pattern, IsBeside, IsWaiting, HasLeft};
-ghost use Rattle.cept_parser.specs.Waits.{outcome_at_misfit, cut_item};
+ghost use Rattle.cept_parser.specs.Waits.{in_pattern, IsBeside, IsIdle, IsWaiting, HasFitting};
+ghost use Rattle.cept_parser.specs.Waits.{MayRead, HasLeft, HasRead, HasClosed};
 
 use crate::closed::Closed;
 use crate::context::{Context, Mode};
@@ -78,14 +78,8 @@ impl Reader {
     // Most units are one byte, and nearly all bytes of a pattern carry pixels: these are read in place.
     #[inline(always)]
     pub fn read(&mut self, place: u64, byte: u8, closed: &mut Closed)
-        requires waits { IsWaiting self.old place }
-        requires few { place < 2 ^ 33 }
-        requires empty { closed.old ≡ [] }
-        ensures items { closed.new
-            ≡ (reading_at self.old.context (place - length self.old.bytes) (self.old.bytes ++ byte
-            ∷ [])).items }
-        ensures left { HasLeft (reading_at self.old.context (place - length self.old.bytes)
-            (self.old.bytes ++ byte ∷ [])) self.new }
+        requires { MayRead self.old place closed.old }
+        ensures { HasRead self.old (place - length self.old.bytes) byte closed.new self.new }
     {
         if self.bytes.is_empty() {
             self.begin(place, byte, closed);
@@ -114,9 +108,7 @@ impl Reader {
     // In place, since most units are one byte.
     #[inline(always)]
     fn begin(&mut self, at: u64, byte: u8, closed: &mut Closed)
-        requires idle { self.old.bytes ≡ [] }
-        requires free { self.old.loading ≡ false }
-        requires form { IsValidForm self.old.context.form }
+        requires idle { IsIdle self.old }
         requires room { length closed.old < 2 }
         ensures items { closed.new
             ≡ closed.old ++ (reading_at self.old.context at (byte ∷ [])).items }
@@ -133,8 +125,7 @@ impl Reader {
     /// Begins to read a pattern with this byte.
     #[inline(never)]
     fn begin_pattern(&mut self, byte: u8)
-        requires idle { self.old.bytes ≡ [] }
-        requires form { IsValidForm self.old.context.form }
+        requires idle { IsIdle self.old }
         requires pattern { in_pattern self.old.context (byte ∷ []) ≡ true }
         ensures context { self.new.context ≡ self.old.context }
         ensures pending { self.new.bytes ≡ byte ∷ [] }
@@ -149,15 +140,10 @@ impl Reader {
     /// Reads one byte more after bytes that are pending at this place and are no pattern.
     #[inline(always)]
     fn go_on(&mut self, at: u64, byte: u8, closed: &mut Closed)
-        requires waits { IsWaiting self.old (at + length self.old.bytes) }
+        requires may { MayRead self.old (at + length self.old.bytes) closed.old }
         requires some { 1 ≤ length self.old.bytes }
         requires free { self.old.loading ≡ false }
-        requires few { at + length self.old.bytes < 2 ^ 33 }
-        requires empty { closed.old ≡ [] }
-        ensures items { closed.new
-            ≡ (reading_at self.old.context at (self.old.bytes ++ byte ∷ [])).items }
-        ensures left { HasLeft (reading_at self.old.context at (self.old.bytes ++ byte
-            ∷ [])) self.new }
+        ensures { HasRead self.old at byte closed.new self.new }
     {
         self.bytes.push(byte);
         match closed.settle(&mut self.context, self.bytes.as_slice(), at) {
@@ -175,14 +161,9 @@ impl Reader {
     /// it.
     #[inline(never)]
     fn break_off(&mut self, at: u64, byte: u8, closed: &mut Closed)
-        requires waits { IsWaiting self.old (at + length self.old.bytes) }
-        requires few { at + length self.old.bytes < 2 ^ 33 }
+        requires may { MayRead self.old (at + length self.old.bytes) closed.old }
         requires misfit { fits self.old.context (self.old.bytes ++ byte ∷ []) ≡ false }
-        requires empty { closed.old ≡ [] }
-        ensures items { closed.new
-            ≡ (reading_at self.old.context at (self.old.bytes ++ byte ∷ [])).items }
-        ensures left { HasLeft (reading_at self.old.context at (self.old.bytes ++ byte
-            ∷ [])) self.new }
+        ensures { HasRead self.old at byte closed.new self.new }
     {
         let from = at + u64::from(self.bytes.len());
         self.close(at, closed);
@@ -191,17 +172,9 @@ impl Reader {
 
     /// Closes what is pending at this place, after which the next byte doesn't fit.
     fn close(&mut self, at: u64, closed: &mut Closed)
-        requires form { IsValidForm self.old.context.form }
-        requires beside { IsBeside self.old.context self.old.bytes self.old.loading
-            self.old.loader }
-        requires fits { fits self.old.context self.old.bytes ≡ true }
+        requires pending { HasFitting self.old }
         requires room { length closed.old < 2 }
-        ensures items { closed.new
-            ≡ closed.old ++ cut_item self.old.context at self.old.bytes ∷ [] }
-        ensures context { self.new.context
-            ≡ (outcome_at_misfit self.old.context (unit self.old.context self.old.bytes)).next }
-        ensures pending { self.new.bytes ≡ [] }
-        ensures free { self.new.loading ≡ false }
+        ensures { HasClosed self.old at closed.old closed.new self.new }
     {
         if self.loading {
             self.close_pattern(at, closed);
@@ -214,15 +187,9 @@ impl Reader {
     /// Reads the byte at this place after those of a pattern, which are pending right before it.
     #[inline(always)]
     fn load(&mut self, place: u64, byte: u8, closed: &mut Closed)
-        requires waits { IsWaiting self.old place }
+        requires may { MayRead self.old place closed.old }
         requires loading { self.old.loading ≡ true }
-        requires few { place < 2 ^ 33 }
-        requires empty { closed.old ≡ [] }
-        ensures items { closed.new
-            ≡ (reading_at self.old.context (place - length self.old.bytes) (self.old.bytes ++ byte
-            ∷ [])).items }
-        ensures left { HasLeft (reading_at self.old.context (place - length self.old.bytes)
-            (self.old.bytes ++ byte ∷ [])) self.new }
+        ensures { HasRead self.old (place - length self.old.bytes) byte closed.new self.new }
     {
         if self.loader.feed(byte) {
             self.bytes.push(byte);
@@ -239,15 +206,9 @@ impl Reader {
     /// The same, apart.
     #[inline(never)]
     fn load_other(&mut self, place: u64, byte: u8, closed: &mut Closed)
-        requires waits { IsWaiting self.old place }
+        requires may { MayRead self.old place closed.old }
         requires loading { self.old.loading ≡ true }
-        requires few { place < 2 ^ 33 }
-        requires empty { closed.old ≡ [] }
-        ensures items { closed.new
-            ≡ (reading_at self.old.context (place - length self.old.bytes) (self.old.bytes ++ byte
-            ∷ [])).items }
-        ensures left { HasLeft (reading_at self.old.context (place - length self.old.bytes)
-            (self.old.bytes ++ byte ∷ [])) self.new }
+        ensures { HasRead self.old (place - length self.old.bytes) byte closed.new self.new }
     {
         self.load(place, byte, closed);
     }
@@ -255,17 +216,11 @@ impl Reader {
     /// Closes the pattern whose bytes are pending at this place.
     #[inline(never)]
     fn close_pattern(&mut self, at: u64, closed: &mut Closed)
-        requires pattern { in_pattern self.old.context self.old.bytes ≡ true }
         requires beside { IsBeside self.old.context self.old.bytes self.old.loading
             self.old.loader }
         requires loading { self.old.loading ≡ true }
         requires room { length closed.old < 2 }
-        ensures items { closed.new
-            ≡ closed.old ++ cut_item self.old.context at self.old.bytes ∷ [] }
-        ensures context { self.new.context
-            ≡ (outcome_at_misfit self.old.context (unit self.old.context self.old.bytes)).next }
-        ensures pending { self.new.bytes ≡ [] }
-        ensures free { self.new.loading ≡ false }
+        ensures { HasClosed self.old at closed.old closed.new self.new }
     {
         let code = self.context.code();
         closed.push(Item {
@@ -290,10 +245,7 @@ impl Reader {
     /// What the pending bytes say at the end of the input: their command where they are a unit,
     /// else they are truncated.
     pub fn said_at_end(&self) -> Said
-        requires form { IsValidForm self.now.context.form }
-        requires beside { IsBeside self.now.context self.now.bytes self.now.loading
-            self.now.loader }
-        requires fits { fits self.now.context self.now.bytes ≡ true }
+        requires { HasFitting self.now }
         ensures { result ≡ said_at_end (unit self.now.context self.now.bytes) }
     {
         if self.loading {

@@ -109,7 +109,7 @@ fn first_of_pattern(context: &mut Context, code: u8, byte: u8, said: &mut Said) 
 
 /// How a plain byte that is no sign stands to the mode with which a unit begins.
 #[inline(never)]
-fn first_of_units(context: &mut Context, byte: u8, said: &mut Said) -> Fit
+pub fn first_of_units(context: &mut Context, byte: u8, said: &mut Said) -> Fit
     requires form { IsValidForm context.old.form }
     requires other { context.old.mode ≢ Mode.Text }
     ensures { record { fit = result; said = said.new; context = context.new }
@@ -133,28 +133,12 @@ fn first_of_units(context: &mut Context, byte: u8, said: &mut Said) -> Fit
 /// Says that this graphic byte was read.
 // Most come after another: where one is said already, its byte alone is written, and not a whole large value.
 #[inline(always)]
-fn say_graphic(byte: u8, said: &mut Said)
+pub fn say_graphic(byte: u8, said: &mut Said)
     ensures { said.new ≡ Said.Command (Command.Graphic byte) }
 {
     match said {
         Said::Command(Command::Graphic(known)) => *known = byte,
         _ => *said = Said::Command(Command::Graphic(byte)),
-    }
-}
-
-/// How a plain byte stands to the mode with which a unit begins.
-#[inline(always)]
-pub fn first_of_run(context: &mut Context, byte: u8, said: &mut Said) -> Fit
-    requires { IsValidForm context.old.form }
-    ensures { record { fit = result; said = said.new; context = context.new }
-        ≡ answer (run_unit context.old.mode context.old byte []) false said.old context.old }
-{
-    match context.mode {
-        Mode::Text => {
-            say_graphic(byte, said);
-            Fit::Whole
-        }
-        _ => first_of_units(context, byte, said),
     }
 }
 

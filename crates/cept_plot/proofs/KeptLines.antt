@@ -9,7 +9,8 @@ use Rattle.cept_words.specs.Lines.{lines}
 use Rattle.cept_plot.specs.declared.drawing.DrawFault.{DrawFault}
 use Rattle.cept_plot.specs.declared.drawing.DrawFault.TheVariants as faults
 use Rattle.cept_plot.specs.declared.figure.Figure.{Figure}
-use Rattle.cept_plot.specs.Drawings.{AreValidFigures, Fault, SaysFault, fault_from, fault_or, figure_in, figures_in}
+use Rattle.cept_words.specs.Faults.{Fault, fault_from, fault_or}
+use Rattle.cept_plot.specs.Drawings.{AreValidFigures, SaysFault, figure_in, figures_in}
 use Rattle.cept_plot.specs.Drawings.{figures_of, first_fault, line_meaning}
 use Rattle.cept_plot.specs.Figures.{IsValidFigure}
 use Rattle.cept_plot.specs.Kept.{HasFigures, HasKept, IsUnkept}
@@ -17,7 +18,7 @@ use Rattle.cept_plot.specs.Kept.{HasFigures, HasKept, IsUnkept}
 -- so many lines were read, and these bytes are left
 pub record HasRead (bytes : List ℕ) (list : List Figure) (n : ℕ) (rest : List ℕ) : Type 0 where
   pub figures : figures_of bytes ≡ list ++ figures_in (lines rest)
-  pub fault : first_fault bytes ≡ fault_from (n + 1) (lines rest)
+  pub fault : first_fault bytes ≡ fault_from line_meaning (n + 1) (lines rest)
   pub valid : AreValidFigures list
   pub number : n + length rest ≤ length bytes
 
@@ -59,8 +60,8 @@ read_more bytes list more n left part rest r first kept = record {
       r.figures ∙ ap (λ (ls : List (List ℕ)). list ++ figures_in ls) first.lines
       ∙ kept_figures list more (figures_in (lines rest)) (line_meaning part) kept;
   fault =
-      r.fault ∙ ap (λ (ls : List (List ℕ)). fault_from (n + 1) ls) first.lines
-      ∙ kept_fault list more (line_meaning part) (n + 1) (fault_from (n + 1 + 1) (lines rest)) kept;
+      r.fault ∙ ap (λ (ls : List (List ℕ)). fault_from line_meaning (n + 1) ls) first.lines
+      ∙ kept_fault list more (line_meaning part) (n + 1) (fault_from line_meaning (n + 1 + 1) (lines rest)) kept;
   valid = kept_valid list more (line_meaning part) kept r.valid;
   number = omega (arith, r.number, first.shorter);
 }
@@ -94,5 +95,5 @@ pub read_fault : (bytes : List ℕ) (list : List Figure) (n : ℕ) (left part re
     → SaysFault (first_fault bytes) fault
 unfolding fault_from
 read_fault bytes list n left part rest fault r first unkept =
-    fault_said (line_meaning part) (n + 1) (first_fault bytes) (fault_from (n + 1 + 1) (lines rest)) fault
-    (r.fault ∙ ap (λ (ls : List (List ℕ)). fault_from (n + 1) ls) first.lines) unkept
+    fault_said (line_meaning part) (n + 1) (first_fault bytes) (fault_from line_meaning (n + 1 + 1) (lines rest)) fault
+    (r.fault ∙ ap (λ (ls : List (List ℕ)). fault_from line_meaning (n + 1) ls) first.lines) unkept

@@ -5,7 +5,8 @@ use Rattle.cept_codes.specs.declared.line_reason.LineReason.{LineReason}
 use Rattle.cept_codes.specs.declared.line_reason.LineReason.TheVariants as reasons
 use Rattle.cept_plot.specs.declared.figure.Figure.TheVariants as figures
 use Rattle.cept_plot.specs.declared.figure.Point.{Point}
-use Rattle.cept_plot.specs.Drawings.{Fault, figure_of, figures_in, figures_of, first_fault, fault_from, line_meaning}
+use Rattle.cept_words.specs.Faults.{Fault, fault_from}
+use Rattle.cept_plot.specs.Drawings.{figure_of, figures_in, figures_of, first_fault, line_meaning}
 
 abbrev at : ℕ → ℕ → Point
 at x y = record { x = x; y = y }

@@ -10,6 +10,7 @@ use Rattle.cept_plot.specs.declared.figure.Figure.{Figure}
 use Rattle.cept_plot.specs.declared.figure.Figure.TheVariants as figures
 use Rattle.cept_plot.specs.declared.figure.Point.{Point}
 use Rattle.cept_plot.specs.Figures.{IsValidFigure, points_after}
+use Rattle.cept_words.specs.Faults.{Fault, fault_from}
 use Rattle.cept_words.specs.Lines.{lines, number, words}
 
 -- ---- what a line means
@@ -70,31 +71,16 @@ line_meaning (a ∷ more) = if a == 0x23 then Ok None else some_figure (figure_o
 
 -- ---- what a drawing means
 
--- a line outside the grammar: its number, and the first reason that holds of it
-pub record Fault : Type 0 where
-  pub line : ℕ
-  pub reason : LineReason
-
 -- the figure of a line, if it has one
 abbrev pub figure_in : Result (Option Figure) LineReason → List Figure
 figure_in (Ok (Some figure)) = figure ∷ []
 figure_in (Ok None) = []
 figure_in (Err reason) = []
 
--- the fault of a line of this number, or else the one after it
-abbrev pub fault_or : ℕ → Result (Option Figure) LineReason → Option Fault → Option Fault
-fault_or n (Ok figure) later = later
-fault_or n (Err reason) later = Some (record { line = n; reason = reason })
-
 -- the figures of lines
 unfoldable pub figures_in : List (List ℕ) → List Figure
 figures_in [] = []
 figures_in (line ∷ more) = figure_in (line_meaning line) ++ figures_in more
-
--- the first fault of lines, the first of which has this number
-unfoldable pub fault_from : ℕ → List (List ℕ) → Option Fault
-fault_from n [] = None
-fault_from n (line ∷ more) = fault_or n (line_meaning line) (fault_from (n + 1) more)
 
 -- the figures of a drawing
 abbrev pub figures_of : List ℕ → List Figure
@@ -102,7 +88,7 @@ figures_of bytes = figures_in (lines bytes)
 
 -- the first line of a drawing that is outside the grammar
 abbrev pub first_fault : List ℕ → Option Fault
-first_fault bytes = fault_from 1 (lines bytes)
+first_fault bytes = fault_from line_meaning 1 (lines bytes)
 
 -- an answer says the first fault of a drawing, or is free: out of memory
 abbrev pub SaysFault : Option Fault → DrawFault → Type 0

@@ -16,19 +16,8 @@ pub record MovedRows : Type 0 where
 abbrev pub moved_rows : Stroke → Option MovedRows
 moved_rows (strokes.Shift first last way) = Some (record { first = first; last = last; way = way })
 moved_rows (strokes.Carry first last way) = Some (record { first = first; last = last; way = way })
--- these move none
-moved_rows (strokes.Put p cell) = None
-moved_rows (strokes.Erase row from) = None
-moved_rows strokes.Wipe = None
-moved_rows (strokes.RowAttr row attr) = None
-moved_rows (strokes.ScreenAttr attr) = None
-moved_rows strokes.ScreenClear = None
-moved_rows (strokes.Colour i paint) = None
-moved_rows (strokes.Dclut i entry) = None
-moved_rows strokes.ColourDefaults = None
-moved_rows strokes.DrcsClear = None
-moved_rows (strokes.Drcs code pattern) = None
-moved_rows (strokes.Format rows) = None
+-- any other moves none
+moved_rows _ = None
 
 -- of which row what is in row r of moved rows came: of the one below where they go up, of the one above where they go
 -- down; the last comes free where they go up, the first where they go down

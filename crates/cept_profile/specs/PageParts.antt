@@ -27,39 +27,16 @@ stroke_said says first (stroke ∷ earlier) = unwrap_or (says stroke) (stroke_sa
 -- of which row the attributes that row r has after a stroke came, or none where they came free: of the row itself, also
 -- where a shift moves its cells; where rows are carried, of the row of which its cells came
 abbrev pub attributes_row_before : Stroke → ℕ → Option ℕ
-attributes_row_before (strokes.Put p cell) r = Some r
-attributes_row_before (strokes.Erase row from) r = Some r
-attributes_row_before strokes.Wipe r = Some r
-attributes_row_before (strokes.Shift first last way) r = Some r
 attributes_row_before (strokes.Carry first last way) r =
     row_before_move (moved_rows (strokes.Carry first last way)) r
-attributes_row_before (strokes.RowAttr row attr) r = Some r
-attributes_row_before (strokes.ScreenAttr attr) r = Some r
-attributes_row_before strokes.ScreenClear r = Some r
-attributes_row_before (strokes.Colour i paint) r = Some r
-attributes_row_before (strokes.Dclut i entry) r = Some r
-attributes_row_before strokes.ColourDefaults r = Some r
-attributes_row_before strokes.DrcsClear r = Some r
-attributes_row_before (strokes.Drcs code pattern) r = Some r
-attributes_row_before (strokes.Format rows) r = Some r
+attributes_row_before _ r = Some r
 
 -- what a stroke says of a class of the attributes of row r: an attribute of that row sets it, or unsets the background,
 -- and a wipe unsets it
 abbrev pub row_said : {X : Type 0} → (Attr → Option (Option X)) → ℕ → Stroke → Option (Option X)
 row_said class r (strokes.RowAttr row attr) = if row == r then class attr else None
 row_said class r strokes.Wipe = Some None
-row_said class r (strokes.Put p cell) = None
-row_said class r (strokes.Erase row from) = None
-row_said class r (strokes.Shift first last way) = None
-row_said class r (strokes.Carry first last way) = None
-row_said class r (strokes.ScreenAttr attr) = None
-row_said class r strokes.ScreenClear = None
-row_said class r (strokes.Colour i paint) = None
-row_said class r (strokes.Dclut i entry) = None
-row_said class r strokes.ColourDefaults = None
-row_said class r strokes.DrcsClear = None
-row_said class r (strokes.Drcs code pattern) = None
-row_said class r (strokes.Format rows) = None
+row_said class r _ = None
 
 -- what a stroke says of a class of the attributes of the screen
 abbrev pub screen_said : {X : Type 0} → (Attr → Option (Option X)) → Stroke → Option (Option X)

@@ -31,18 +31,8 @@ abbrev pub writes : Stroke → ℕ → Bool
 writes (strokes.Put p cell) r = p.row == r
 writes (strokes.Erase row from) r = row == r
 writes strokes.Wipe r = true
--- these write in no row
-writes (strokes.Shift first last way) r = false
-writes (strokes.Carry first last way) r = false
-writes (strokes.RowAttr row attr) r = false
-writes (strokes.ScreenAttr attr) r = false
-writes strokes.ScreenClear r = false
-writes (strokes.Colour i paint) r = false
-writes (strokes.Dclut i entry) r = false
-writes strokes.ColourDefaults r = false
-writes strokes.DrcsClear r = false
-writes (strokes.Drcs code pattern) r = false
-writes (strokes.Format rows) r = false
+-- any other writes in no row
+writes _ r = false
 
 -- the same of the row where a row then stands; of one that was freed nothing is asked
 abbrev pub writes_where : Stroke → Option ℕ → Bool
@@ -78,16 +68,8 @@ redefines k r (strokes.Dclut j entry) = names_dclut k r j
 redefines k r strokes.ColourDefaults = true
 redefines k r (strokes.Drcs code pattern) = names_pattern k r code
 redefines k r strokes.DrcsClear = names_some_pattern k r
--- these define nothing
-redefines k r (strokes.Put p cell) = false
-redefines k r (strokes.Erase row from) = false
-redefines k r strokes.Wipe = false
-redefines k r (strokes.Shift first last way) = false
-redefines k r (strokes.Carry first last way) = false
-redefines k r (strokes.RowAttr row attr) = false
-redefines k r (strokes.ScreenAttr attr) = false
-redefines k r strokes.ScreenClear = false
-redefines k r (strokes.Format rows) = false
+-- any other defines nothing
+redefines k r _ = false
 
 -- one of the strokes sets or clears something that the row names
 unfoldable pub is_redefined : Core → List Stroke → ℕ → Bool

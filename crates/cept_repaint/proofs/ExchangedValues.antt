@@ -15,7 +15,7 @@ use Rattle.cept_codes.proofs.Laws.{value_at-table}
 use Rattle.cept_profile.specs.Cells.{is_at}
 use Rattle.cept_repaint.specs.Exchanged.{noted_instead}
 use Rattle.cept_repaint.specs.PutBack.{cells_back, value_back}
-use Rattle.cept_repaint.proofs.PutBack.{IsTable-back, cells_back-alike, cells_back-more, cells_back-none, row_back-more}
+use Rattle.cept_repaint.proofs.PutBack.{cells_back-alike, cells_back-more, cells_back-none, row_back-more}
 
 -- ---- a list
 
@@ -101,7 +101,6 @@ pub record IsRowExchanged (row : ℕ) (olds : List (Option Cell)) (cells : List 
   pub noted : HasMadeEntries None 1 40 (λ c. noted_instead (entry None 1 olds c) (value_at blank_cell cells row c))
       (entry None 1 olds) olds_now (n - 1)
   pub put : now ≡ cells_back (λ r c. row == r && nat_lt c n) (λ _ c. entry None 1 olds c) cells
-  pub is : IsTable now
 
 pub IsRowExchanged-none : (row : ℕ) (olds : List (Option Cell)) (cells : List (List Cell)) → length olds ≡ 40
     → IsTable cells → IsRowExchanged row olds cells 1 olds cells
@@ -110,7 +109,6 @@ IsRowExchanged-none row olds cells long is = record {
       (λ c. noted_instead (entry None 1 olds c) (value_at blank_cell cells row c)) olds long;
   put = cells_back-none (λ r c. row == r && nat_lt c 1) (λ _ c. entry None 1 olds c) cells is
       (λ r c on. grind (arith, nat_tests));
-  is = is;
 }
 
 -- a cell that isn't exchanged yet
@@ -136,14 +134,11 @@ IsRowExchanged-more row olds noted cells now after n m i p o new was top bottom 
     (λ t. value_at blank_cell now (at.0 t) (at.1 t)) ∙ cell_left row olds noted cells now n was on in
     let f : ℕ → Option Cell = λ c. noted_instead (entry None 1 olds c) (value_at blank_cell cells row c) in
     let count : m - 1 ≡ n - 1 + 1 = omega arith in
-    let back : after ≡ cells_back (λ r c. row == r && nat_lt c m) (λ _ c. entry None 1 olds c) cells =
-    row_back-more p row n m olds o cells now after at next there was.put made in
     record {
       noted = subst (λ k. HasMadeEntries None 1 40 f (entry None 1 olds) (set noted i new) k) (sym count)
           (HasMadeEntries-more None new 1 40 f (entry None 1 olds) noted (n - 1) i n was.noted (omega arith) (omega arith)
           (omega arith) (en ∙ (λ t. noted_instead (there t) (here t))));
-      put = back;
-      is = IsTable-back (λ r c. row == r && nat_lt c m) (λ _ c. entry None 1 olds c) cells after back;
+      put = row_back-more p row n m olds o cells now after at next there was.put made;
     }
 
 pub noted_row-all : (row : ℕ) (olds noted : List (Option Cell)) (cells now : List (List Cell)) (n : ℕ)
@@ -168,7 +163,6 @@ pub record AreRowsExchanged (olds : List (List (Option Cell))) (cells : List (Li
   pub noted : HasMadeRows None (λ r c. noted_instead (value_at None olds r c) (value_at blank_cell cells r c))
       (value_at None olds) olds_now (n - 1)
   pub put : now ≡ cells_back (λ r _. nat_lt r n) (value_at None olds) cells
-  pub is : IsTable now
 
 pub AreRowsExchanged-none : (olds : List (List (Option Cell))) (cells : List (List Cell)) → IsTable olds
     → IsTable cells → AreRowsExchanged olds cells 1 olds cells
@@ -176,7 +170,6 @@ AreRowsExchanged-none olds cells places is = record {
   noted = HasMadeRows-none None (λ r c. noted_instead (value_at None olds r c) (value_at blank_cell cells r c)) olds
       places;
   put = cells_back-none (λ r _. nat_lt r 1) (value_at None olds) cells is (λ r c on. grind (arith, nat_tests));
-  is = is;
 }
 
 -- a row of old cells that isn't exchanged yet, by its entries
@@ -227,15 +220,12 @@ AreRowsExchanged-more olds noted cells now after n m i row new d was low high ne
     let at : n ≡ r = eqb-true n r here in
     row_left olds noted cells now n i row d was ei read c (on c there.from_left there.to_right)
     ∙ ap (λ k. value_at None olds k c) at) in
-    let back : after ≡ cells_back (λ r _. nat_lt r m) (value_at None olds) cells =
-    cells_back-more (λ r _. nat_lt r n) (λ r _. n == r) (λ r _. nat_lt r m) (value_at None olds) cells now after
-    was.put same (λ r c there. grind (arith, nat_tests)) in
     record {
       noted = subst (λ k. HasMadeRows None f (value_at None olds) (set noted i new) k) (sym count)
           (HasMadeRows-more None f (value_at None olds) noted (n - 1) i n new was.noted (omega arith) (omega arith)
           (omega arith) made_row);
-      put = back;
-      is = IsTable-back (λ r _. nat_lt r m) (value_at None olds) cells after back;
+      put = cells_back-more (λ r _. nat_lt r n) (λ r _. n == r) (λ r _. nat_lt r m) (value_at None olds) cells now after
+          was.put same (λ r c there. grind (arith, nat_tests));
     }
 
 pub noted_cells-all : (olds noted : List (List (Option Cell))) (cells now : List (List Cell)) (n : ℕ)

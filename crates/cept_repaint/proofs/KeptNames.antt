@@ -166,23 +166,23 @@ AreNamed-remembered was now IsSo k m are left same = record {
 }
 
 -- a flag that is unset where a row doesn't stay
-pub known-stays : (known : List Bool) → length known ≡ 24 → (row n : ℕ) → n ≡ row → 1 ≤ row → row ≤ 24 → (stays : Bool)
-    → (r : ℕ) → entry false 1 (set known (n - 1) (get_or known (n - 1) false && stays)) r ≡ true
+pub known-stays : (known : List Bool) → length known ≡ 24 → (row at : ℕ) → at ≡ row - 1 → 1 ≤ row → row ≤ 24 → (stays : Bool)
+    → (r : ℕ) → entry false 1 (set known at (get_or known at false && stays)) r ≡ true
     → (entry false 1 known r ≡ true) × (r ≡ row → stays ≡ true)
-known-stays known long row n en low high stays r so =
-    let both : Bool = get_or known (n - 1) false && stays in
+known-stays known long row at en low high stays r so =
+    let both : Bool = get_or known at false && stays in
     elim (cases_eq r row) [
       | inl is ↦
           let set_is : both ≡ true =
           sym (set-here false both known row long low high) ∙ ap (λ m. entry false 1 (set known (row - 1) both) m) (sym is)
-          ∙ ap (λ m. entry false 1 (set known (m - 1) both) r) (sym en) ∙ so in
-          let parts = and_parts (get_or known (n - 1) false) stays set_is in (
+          ∙ ap (λ m. entry false 1 (set known m both) r) (sym en) ∙ so in
+          let parts = and_parts (get_or known at false) stays set_is in (
             ap (λ m. entry false 1 known m) is ∙ entry_from false 1 known row low
-                ∙ ap (λ m. get_or known (m - 1) false) (sym en) ∙ parts.0,
+                ∙ ap (λ m. get_or known m false) (sym en) ∙ parts.0,
             λ _. parts.1,
           )
       | inr other ↦ (
-        sym (set-there false both known row r low other) ∙ ap (λ m. entry false 1 (set known (m - 1) both) r) (sym en) ∙ so,
+        sym (set-there false both known row r low other) ∙ ap (λ m. entry false 1 (set known m both) r) (sym en) ∙ so,
         λ is. absurd (other is),
       )
     ]
@@ -214,62 +214,62 @@ all_named names k are known (suc r) c on =
 -- a row named anew, by its index
 pub AreNamed-last : (above : RowNames) (rows : List RowNames) (known : List Bool) (was : NamesOfRows)
     → (let names : NamesOfRows = record { above = above; rows = rows; known = known } in names) ≡ was
-    → (k : Core) → AreNamed was k → (row n : ℕ) → n ≡ row → 1 ≤ row → row ≤ 24 → 24 ≤ row → (fresh : RowNames)
+    → (k : Core) → AreNamed was k → (row at : ℕ) → at ≡ row - 1 → 1 ≤ row → row ≤ 24 → 24 ≤ row → (fresh : RowNames)
     → ((c : ℕ) → OnScreen row c → names_kept fresh c ≡ names_beneath (row_named was (row - 1)) k row c)
-    → AreNamed (record { above = above; rows = set rows (n - 1) fresh; known = set known (n - 1) true }) k
-AreNamed-last above rows known was e k are row n en low high last fresh made =
+    → AreNamed (record { above = above; rows = set rows at fresh; known = set known at true }) k
+AreNamed-last above rows known was e k are row at en low high last fresh made =
     let flags : length known ≡ 24 = ap (λ (w : NamesOfRows). length w.known) e ∙ are.flags in
-    AreNamed-more was k are row low high fresh made (set known (n - 1) true) (length-set known (n - 1) true ∙ flags)
+    AreNamed-more was k are row low high fresh made (set known at true) (length-set known at true ∙ flags)
     (λ r lr hr apart so.
     ap (λ (w : NamesOfRows). is_known w r) (sym e) ∙ sym (set-there false true known row r low apart)
-    ∙ ap (λ m. entry false 1 (set known (m - 1) true) r) (sym en) ∙ so)
+    ∙ ap (λ m. entry false 1 (set known m true) r) (sym en) ∙ so)
     (λ more. absurd (omega (arith, more, last)))
-    (record { above = above; rows = set rows (n - 1) fresh; known = set known (n - 1) true })
-    (λ i. record { above = (e i).above; rows = set (e i).rows (en i - 1) fresh; known = set known (n - 1) true })
+    (record { above = above; rows = set rows at fresh; known = set known at true })
+    (λ i. record { above = (e i).above; rows = set (e i).rows (en i) fresh; known = set known at true })
 
 -- one that isn't the last: whether the names of the row below are known depends on whether it names the same
 pub AreNamed-above : (above : RowNames) (rows : List RowNames) (known : List Bool) (was : NamesOfRows)
     → (let names : NamesOfRows = record { above = above; rows = rows; known = known } in names) ≡ was
-    → (k : Core) → AreNamed was k → (row n : ℕ) → n ≡ row → 1 ≤ row → row < 24 → (fresh : RowNames)
+    → (k : Core) → AreNamed was k → (row at : ℕ) → at ≡ row - 1 → 1 ≤ row → row < 24 → (fresh : RowNames)
     → ((c : ℕ) → OnScreen row c → names_kept fresh c ≡ names_beneath (row_named was (row - 1)) k row c)
     → (same : Bool) → (same ≡ true → fresh ≡ row_named was row)
     → AreNamed (record {
       above = above;
-      rows = set rows (n - 1) fresh;
-      known = set (set known (n - 1) true) (n - 1 + 1) (get_or (set known (n - 1) true) (n - 1 + 1) false && same);
+      rows = set rows at fresh;
+      known = set (set known at true) (at + 1) (get_or (set known at true) (at + 1) false && same);
     }) k
-AreNamed-above above rows known was e k are row n en low below fresh made same stays =
-    let first : List Bool = set known (n - 1) true in
-    let second : Bool = get_or first (n - 1 + 1) false && same in
+AreNamed-above above rows known was e k are row at en low below fresh made same stays =
+    let first : List Bool = set known at true in
+    let second : Bool = get_or first (at + 1) false && same in
     let long : length first ≡ 24 =
-    length-set known (n - 1) true ∙ ap (λ (w : NamesOfRows). length w.known) e ∙ are.flags in
-    let at : n - 1 + 1 ≡ row + 1 - 1 = omega (arith, en, low) in
-    let next : set first (n - 1 + 1) second ≡ set first (row + 1 - 1) second = ap (λ m. set first m second) at in
+    length-set known at true ∙ ap (λ (w : NamesOfRows). length w.known) e ∙ are.flags in
+    let next_is : at + 1 ≡ row + 1 - 1 = omega (arith, en, low) in
+    let next : set first (at + 1) second ≡ set first (row + 1 - 1) second = ap (λ m. set first m second) next_is in
     let row_below : entry false 1 (set first (row + 1 - 1) second) (row + 1) ≡ second =
     set-here false second first (row + 1) long (omega arith) (omega (arith, below)) in
     let flag : (r : ℕ) → r ≢ row → entry false 1 first r ≡ is_known was r = λ r apart.
-    ap (λ m. entry false 1 (set known (m - 1) true) r) en ∙ set-there false true known row r low apart
+    ap (λ m. entry false 1 (set known m true) r) en ∙ set-there false true known row r low apart
     ∙ ap (λ (w : NamesOfRows). is_known w r) e in
-    AreNamed-more was k are row low (omega (arith, below)) fresh made (set first (n - 1 + 1) second)
-    (length-set first (n - 1 + 1) second ∙ long)
+    AreNamed-more was k are row low (omega (arith, below)) fresh made (set first (at + 1) second)
+    (length-set first (at + 1) second ∙ long)
     (λ r lr hr apart so.
     elim (cases_eq r (row + 1)) [
       | inl is ↦
           let both : second ≡ true =
           sym row_below ∙ ap (λ m. entry false 1 (set first (row + 1 - 1) second) m) (sym is)
           ∙ ap (λ (l : List Bool). entry false 1 l r) (sym next) ∙ so in
-          let here : get_or first (n - 1 + 1) false ≡ entry false 1 first r =
-          ap (λ m. get_or first m false) (at ∙ ap (λ m. m - 1) (sym is)) ∙ sym (entry_from false 1 first r lr) in
-          sym (flag r apart) ∙ sym here ∙ (and_parts (get_or first (n - 1 + 1) false) same both).0
+          let here : get_or first (at + 1) false ≡ entry false 1 first r =
+          ap (λ m. get_or first m false) (next_is ∙ ap (λ m. m - 1) (sym is)) ∙ sym (entry_from false 1 first r lr) in
+          sym (flag r apart) ∙ sym here ∙ (and_parts (get_or first (at + 1) false) same both).0
       | inr other ↦
           sym (flag r apart) ∙ sym (set-there false second first (row + 1) r (omega arith) other)
           ∙ ap (λ (l : List Bool). entry false 1 l r) (sym next) ∙ so
     ])
     (λ more so.
-    stays (and_parts (get_or first (n - 1 + 1) false) same
+    stays (and_parts (get_or first (at + 1) false) same
     (sym row_below ∙ ap (λ (l : List Bool). entry false 1 l (row + 1)) (sym next) ∙ so)).1)
-    (record { above = above; rows = set rows (n - 1) fresh; known = set first (n - 1 + 1) second })
-    (λ i. record { above = (e i).above; rows = set (e i).rows (en i - 1) fresh; known = set first (n - 1 + 1) second })
+    (record { above = above; rows = set rows at fresh; known = set first (at + 1) second })
+    (λ i. record { above = (e i).above; rows = set (e i).rows (en i) fresh; known = set first (at + 1) second })
 
 -- ---- rows in which a place is marked are forgotten, row by row
 

@@ -25,7 +25,8 @@ use Rattle.cept_profile.specs.Tiling.{column_entry}
 use Rattle.cept_repaint.specs.declared.followed_rows.Followed.{Followed}
 use Rattle.cept_profile.specs.Valid.{IsValidPage}
 use Rattle.cept_repaint.specs.Due.{LeftStays}
-use Rattle.cept_repaint.specs.Kept.{contents_in, core_on, row_beneath, IsLeftOf}
+use Rattle.cept_repaint.specs.Kept.{contents_in, core_on, row_beneath, source_of, IsLeftOf}
+use Rattle.cept_rows.specs.Source.{Source, place_made, row_made}
 use Rattle.cept_repaint.proofs.PageParts.{page_after-put}
 use Rattle.cept_repaint.proofs.RowsOfLooks.{column_entry-at, length-looks_in, look_seen-at}
 use Rattle.cept_repaint.proofs.WalkedRows.{WalkedTo, above_is, beneath_is}
@@ -37,17 +38,26 @@ column_of f c low high =
     ∙ ap (λ (l : List Look). entry blank_look 1 l c) (row_of-list_by_index f)
     ∙ entry-list_by_index blank_look 1 40 f c low (omega (arith, high))
 
+-- a look of a row that is made beneath others
+pub row_made-at : (source : Source) (above : List Look) (c : ℕ) → 1 ≤ c → c ≤ 40
+    → column_entry blank_look (row_made source above) c ≡ place_made source above c
+unfolding row_from_above
+row_made-at source above c low high = column_of (place_made source above) c low high
+
+-- and left of the first column
+pub row_made-from : (source : Source) (above : List Look) (c : ℕ) → c ≤ 40
+    → column_entry blank_look (row_made source above) c ≡ place_made source above c
+unfolding look_from
+row_made-from source above zero high = refl
+row_made-from source above (suc c) high = row_made-at source above (suc c) (omega arith) high
+
 -- a look of a row of a page beneath others
 pub row_beneath-at : (above : List Look) (p : Page) (r : ℕ) (last : Bool) (c : ℕ) → 1 ≤ c → c ≤ 40
     → column_entry blank_look (row_beneath above p r last) c
     ≡ look_from (column_entry blank_look above)
     (look_in_row (definitions_of p) (contents_in p r) (row_pen_in p.row_pens r) p.screen_pen)
     (size_in_row (contents_in p r) (row_pen_in p.row_pens r) p.screen_pen) last c
-unfolding row_from_above
-row_beneath-at above p r last c low high =
-    column_of (look_from (column_entry blank_look above)
-    (look_in_row (definitions_of p) (contents_in p r) (row_pen_in p.row_pens r) p.screen_pen)
-    (size_in_row (contents_in p r) (row_pen_in p.row_pens r) p.screen_pen) last) c low high
+row_beneath-at above p r last c low high = row_made-at (source_of p r last) above c low high
 
 -- and left of the first column
 pub row_beneath-from : (above : List Look) (p : Page) (r : ℕ) (last : Bool) (c : ℕ) → c ≤ 40
@@ -55,9 +65,7 @@ pub row_beneath-from : (above : List Look) (p : Page) (r : ℕ) (last : Bool) (c
     ≡ look_from (column_entry blank_look above)
     (look_in_row (definitions_of p) (contents_in p r) (row_pen_in p.row_pens r) p.screen_pen)
     (size_in_row (contents_in p r) (row_pen_in p.row_pens r) p.screen_pen) last c
-unfolding look_from
-row_beneath-from above p r last zero high = refl
-row_beneath-from above p r last (suc c) high = row_beneath-at above p r last (suc c) (omega arith) high
+row_beneath-from above p r last c high = row_made-from (source_of p r last) above c high
 
 -- so where a walk comes to the row, it looks so already
 pub left_is : {flags : List Bool} {rows : List Followed} {k : Core} {was now : List (List Look)} {former marks : List Bool}

@@ -51,3 +51,5 @@ pub mod RowsRenewed
 pub mod PaintedRows
 pub mod TapedRows
 pub mod TakenControl
+pub mod DrawnPictures
+pub mod KeptPictures

@@ -1,6 +1,6 @@
 -- The places of a row marked at which two rows of looks differ, and whether a look that differs covers the place below
 -- it.
-use Rattle.std.proofs.Common.{◌≡◌, ℕ, ◌+◌, ◌-◌, ◌≤◌, ◌||◌, Bool, false, not, List, get_or}
+use Rattle.std.proofs.Common.{◌≡◌, ℕ, ◌+◌, ◌-◌, ◌||◌, Bool, false, not, List, get_or}
 use Rattle.std.proofs.Common.{refl, sym, ap, ◌∙◌, arith}
 use Rattle.std.proofs.lemmas.Bool.{or_from, and_left}
 use Rattle.cept_codes.specs.declared.look.Look.{Look}
@@ -31,10 +31,10 @@ unfolding looks_differ
 differ-not a b = refl
 
 -- the places of a row marked that are flagged where its looks differ
-pub HasMarkedRow-flags : (was fresh : List Look) (r first : ℕ) (flags before marks : List Bool) → 1 ≤ r
+pub HasMarkedRow-flags : (was fresh : List Look) (r first : ℕ) (flags before marks : List Bool)
     → flags ≡ list_by_index 1 40 (λ c. not (same_look (column_entry blank_look was c) (column_entry blank_look fresh c)))
     → first ≡ number r 1 → HasFlags flags first before marks → HasMarkedRow was fresh r 41 before marks
-HasMarkedRow-flags was fresh r first flags before marks low e ef has = record {
+HasMarkedRow-flags was fresh r first flags before marks e ef has = record {
   places = has.places;
   marked = λ c on below.
       let here : first + (c - 1) ≡ number r c = omega (arith, ef, on) in
@@ -50,7 +50,7 @@ HasMarkedRow-flags was fresh r first flags before marks low e ef has = record {
       ∙ ap (λ b. is_marked before (number r c) || b)
       (sym (differ-not (column_entry blank_look was c) (column_entry blank_look fresh c)));
   marks_above = λ n up. has.above n (omega (arith, ef, up));
-  marks_below = λ n down. has.below n (omega (arith, ef, down, low));
+  marks_below = λ n down. has.below n (omega (arith, ef, down));
 }
 
 -- two rows that cover nothing

@@ -31,7 +31,7 @@ use Rattle.cept_profile.specs.Serial.{is_marker}
 use Rattle.cept_profile.specs.State.{Page}
 use Rattle.cept_profile.proofs.Laws.{row_pen_after-carried}
 use Rattle.cept_repaint.specs.Drawn.{IsDrawn}
-use Rattle.cept_repaint.specs.MarkedRows.{HasNone, IsKeptPage, flag_after, gives_size}
+use Rattle.cept_repaint.specs.MarkedRows.{AreFlagsAfter, HasNone, IsKeptPage, flag_after, gives_size}
 use Rattle.cept_repaint.specs.MarkedRows.{IsUnflagged, StandsAlone, size_flag_after}
 
 -- ---- at the start
@@ -245,26 +245,23 @@ flag_of_cells (strokes.Format rows) r flags unset = unset
 -- ---- the flags
 
 pub IsKeptPage-after : {p q : Page} {marked sized marked_after sized_after : List Bool} {stroke : Stroke}
-    → IsAreaOf stroke → IsKeptPage p marked sized → IsDrawn p stroke q → length marked_after ≡ 24 → length sized_after ≡ 24
-    → ((r : ℕ) → 1 ≤ r → r ≤ 24
-    → entry false 1 marked_after r ≡ flag_after is_marker stroke (entry false 1 marked) r)
-    → ((r : ℕ) → 1 ≤ r → r ≤ 24 → entry false 1 sized_after r ≡ size_flag_after stroke (entry false 1 sized) r)
+    → IsAreaOf stroke → IsKeptPage p marked sized → IsDrawn p stroke q → AreFlagsAfter stroke marked sized marked_after sized_after
     → IsKeptPage q marked_after sized_after
-IsKeptPage-after {p} {q} {marked} {sized} {marked_after} {sized_after} {stroke} area m drawn many few marks sizes = record {
+IsKeptPage-after {p} {q} {marked} {sized} {marked_after} {sized_after} {stroke} area m drawn flags = record {
   rows = ap length drawn.row_pens ∙ length-list_by_index 1 24 (row_pen_after stroke (row_pen_in p.row_pens));
   colours = ap length drawn.paints ∙ length-list_by_index 0 32 (paint_after stroke (paint_in p.paints));
   names = ap length drawn.dclut ∙ length-list_by_index 0 4 (dclut_after stroke (dclut_in p.dclut));
   codes = ap length drawn.patterns ∙ length-list_by_index 0x21 94 (pattern_after stroke (pattern_in p.patterns));
   markers = record {
-    rows = many;
+    rows = flags.marked_rows;
     none = λ r top bottom unset.
         HasNone-after is_marker refl stroke area p.cells q.cells (entry false 1 marked) r top bottom drawn.cells
-        m.markers.none (sym (marks r top bottom) ∙ unset);
+        m.markers.none (sym (flags.marked r top bottom) ∙ unset);
   };
   sizes = record {
-    rows = few;
+    rows = flags.sized_rows;
     none = λ r top bottom unset.
-        let said : size_flag_after stroke (entry false 1 sized) r ≡ false = sym (sizes r top bottom) ∙ unset in
+        let said : size_flag_after stroke (entry false 1 sized) r ≡ false = sym (flags.sized r top bottom) ∙ unset in
         record {
           cells = HasNone-after sets_double_size refl stroke area p.cells q.cells (entry false 1 sized) r top bottom
               drawn.cells (λ k low high was. (m.sizes.none k low high was).cells)
@@ -292,17 +289,14 @@ StandsAlone-unflagged {p} {marked} {sized} m r top bottom is = record {
 -- flags that are unset after a cell is put were unset before
 pub IsUnflagged-before : {marked sized marked_after sized_after : List Bool} (place : Place) (cell : Cell)
     → OnScreen place.row place.column
-    → ((r : ℕ) → 1 ≤ r → r ≤ 24
-    → entry false 1 marked_after r ≡ flag_after is_marker (strokes.Put place cell) (entry false 1 marked) r)
-    → ((r : ℕ) → 1 ≤ r → r ≤ 24
-    → entry false 1 sized_after r ≡ size_flag_after (strokes.Put place cell) (entry false 1 sized) r)
+    → AreFlagsAfter (strokes.Put place cell) marked sized marked_after sized_after
     → IsUnflagged marked_after sized_after place.row → IsUnflagged marked sized place.row
-IsUnflagged-before {marked} {sized} place cell on marks sizes is = record {
+IsUnflagged-before {marked} {sized} place cell on flags is = record {
   unmarked = (or_parts (entry false 1 marked place.row) (place.row == place.row && is_marker cell.what)
-      (sym (marks place.row on.from_top on.to_bottom) ∙ is.unmarked)).0;
+      (sym (flags.marked place.row on.from_top on.to_bottom) ∙ is.unmarked)).0;
   single = (or_parts (entry false 1 sized place.row) (place.row == place.row && sets_double_size cell.what)
-      (sym (sizes place.row on.from_top on.to_bottom) ∙ is.single)).0;
+      (sym (flags.sized place.row on.from_top on.to_bottom) ∙ is.single)).0;
   single_above = λ more. (or_parts (entry false 1 sized (place.row - 1))
       (place.row == place.row - 1 && sets_double_size cell.what)
-      (sym (sizes (place.row - 1) (omega arith) (omega (arith, on))) ∙ is.single_above more)).0;
+      (sym (flags.sized (place.row - 1) (omega arith) (omega (arith, on))) ∙ is.single_above more)).0;
 }

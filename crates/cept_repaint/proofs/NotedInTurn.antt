@@ -1,6 +1,6 @@
 -- Old values noted one after the other, until all of a part are noted.
 use Rattle.std.proofs.Common.{◌≡◌, ℕ, ◌+◌, ◌-◌, ◌≤◌, ◌&&◌, ◌==◌, Bool, true, false, nat_le, nat_lt, Option}
-use Rattle.std.proofs.Common.{None, List, get_or, length, inl, inr, refl, sym, ap, subst, ◌∙◌, arith}
+use Rattle.std.proofs.Common.{None, List, get_or, length, inl, inr, refl, sym, ap, ◌∙◌, arith}
 use Rattle.std.proofs.lemmas.Bool.{cases_eq, eqb-true}
 use Rattle.std.proofs.lemmas.Bool.Decides.{nat_tests}
 use Rattle.std.proofs.lemmas.List.{get_or_default}
@@ -9,7 +9,6 @@ use Rattle.cept_codes.specs.declared.cell.Cell.{Cell}
 use Rattle.cept_codes.specs.declared.look.Paint.{Paint}
 use Rattle.cept_codes.specs.declared.look.Pattern.{Pattern}
 use Rattle.cept_codes.specs.Attribute.{unset_pen}
-use Rattle.cept_codes.specs.Cell.{blank_cell}
 use Rattle.cept_codes.specs.Place.{OnScreen}
 use Rattle.cept_codes.specs.Table.{IsTable, entry, list_by_index, table, value_at}
 use Rattle.cept_codes.proofs.Laws.{entry-list_by_index, list_by_index-entry, same_indexed, same_table, table-value_at}
@@ -32,23 +31,22 @@ value_alike true x y old same = ap (λ v. first_noted old v) (same refl)
 value_alike false x y old same = refl
 
 -- those before k, and k, are those before the next
-noted_next : {X : Type 0} (k j m : ℕ) (f : ℕ → X) (x : X) (old : Option X) → m ≡ k + 1 → x ≡ f k
-    → noted_where (k == j) x (noted_where (nat_lt j k) (f j) old) ≡ noted_where (nat_lt j m) (f j) old
-noted_next {X} k j m f x old next same =
+noted_next : {X : Type 0} (k j m : ℕ) (x : X) (old : Option X) → m ≡ k + 1
+    → noted_where (k == j) x (noted_where (nat_lt j k) x old) ≡ noted_where (nat_lt j m) x old
+noted_next {X} k j m x old next =
     elim (cases_eq k j) [
       | inl e ↦
           let here : (k == j) ≡ true = grind (arith, nat_tests) in
           let before : nat_lt j k ≡ false = grind (arith, nat_tests) in
           let within : nat_lt j m ≡ true = grind (arith, nat_tests) in
-          noted_if (k == j) true x (noted_where (nat_lt j k) (f j) old) here
-          ∙ ap (λ (o : Option X). first_noted o x) (noted_if (nat_lt j k) false (f j) old before)
-          ∙ ap (λ v. first_noted old v) (same ∙ ap f e)
-          ∙ sym (noted_if (nat_lt j m) true (f j) old within)
+          noted_if (k == j) true x (noted_where (nat_lt j k) x old) here
+          ∙ ap (λ (o : Option X). first_noted o x) (noted_if (nat_lt j k) false x old before)
+          ∙ sym (noted_if (nat_lt j m) true x old within)
       | inr ne ↦
           let there : (k == j) ≡ false = grind (arith, nat_tests) in
           let alike : nat_lt j k ≡ nat_lt j m = grind (arith, nat_tests) in
-          noted_if (k == j) false x (noted_where (nat_lt j k) (f j) old) there
-          ∙ noted_if (nat_lt j k) (nat_lt j m) (f j) old alike
+          noted_if (k == j) false x (noted_where (nat_lt j k) x old) there
+          ∙ noted_if (nat_lt j k) (nat_lt j m) x old alike
     ]
 
 -- ---- a list
@@ -62,17 +60,17 @@ list_none from count k f olds long e =
     let before : nat_lt j k ≡ false = grind (arith, nat_tests) in
     sym (noted_if (nat_lt j k) false (f j) (entry None from olds j) before))
 
-list_more : {X : Type 0} (from count k m : ℕ) (f : ℕ → X) (x : X) (olds : List (Option X)) → m ≡ k + 1 → x ≡ f k
-    → list_by_index from count (λ j. noted_where (k == j) x (entry None from
+list_more : {X : Type 0} (from count k m : ℕ) (f : ℕ → X) (olds : List (Option X)) → m ≡ k + 1
+    → list_by_index from count (λ j. noted_where (k == j) (f j) (entry None from
     (list_by_index from count (λ j. noted_where (nat_lt j k) (f j) (entry None from olds j))) j))
     ≡ list_by_index from count (λ j. noted_where (nat_lt j m) (f j) (entry None from olds j))
-list_more {X} from count k m f x olds next same =
+list_more {X} from count k m f olds next =
     let before : ℕ → Option X = λ j. noted_where (nat_lt j k) (f j) (entry None from olds j) in
-    same_indexed from count (λ j. noted_where (k == j) x (entry None from (list_by_index from count before) j))
+    same_indexed from count (λ j. noted_where (k == j) (f j) (entry None from (list_by_index from count before) j))
     (λ j. noted_where (nat_lt j m) (f j) (entry None from olds j))
     (λ j low high.
-    ap (λ (o : Option X). noted_where (k == j) x o) (entry-list_by_index None from count before j low high)
-    ∙ noted_next k j m f x (entry None from olds j) next same)
+    ap (λ (o : Option X). noted_where (k == j) (f j) o) (entry-list_by_index None from count before j low high)
+    ∙ noted_next k j m (f j) (entry None from olds j) next)
 
 list_all : {X : Type 0} (from count k : ℕ) (f : ℕ → X) (olds : List (Option X)) → from + count ≤ k
     → list_by_index from count (λ j. noted_where (nat_lt j k) (f j) (entry None from olds j))
@@ -103,40 +101,38 @@ row_pens_none old pen first k long e =
     (λ r low high. grind (arith, nat_tests))
 
 -- the attributes of the row that is noted, or of one of those before it
-pen_next : (first k m r : ℕ) (pen : ℕ → Pen) (x : Pen) (old : Option Pen) → first ≤ k → m ≡ k + 1 → x ≡ pen k
-    → noted_where (k == r) x (noted_where (nat_le first r && nat_lt r k) (pen r) old)
-    ≡ noted_where (nat_le first r && nat_lt r m) (pen r) old
-pen_next first k m r pen x old from next same =
+pen_next : (first k m r : ℕ) (x : Pen) (old : Option Pen) → first ≤ k → m ≡ k + 1
+    → noted_where (k == r) x (noted_where (nat_le first r && nat_lt r k) x old)
+    ≡ noted_where (nat_le first r && nat_lt r m) x old
+pen_next first k m r x old from next =
     elim (cases_eq k r) [
       | inl e ↦
           let here : (k == r) ≡ true = grind (arith, nat_tests) in
           let before : (nat_le first r && nat_lt r k) ≡ false = grind (arith, nat_tests) in
           let within : (nat_le first r && nat_lt r m) ≡ true = grind (arith, nat_tests) in
-          noted_if (k == r) true x (noted_where (nat_le first r && nat_lt r k) (pen r) old) here
-          ∙ ap (λ (o : Option Pen). first_noted o x)
-          (noted_if (nat_le first r && nat_lt r k) false (pen r) old before)
-          ∙ ap (λ v. first_noted old v) (same ∙ ap pen e)
-          ∙ sym (noted_if (nat_le first r && nat_lt r m) true (pen r) old within)
+          noted_if (k == r) true x (noted_where (nat_le first r && nat_lt r k) x old) here
+          ∙ ap (λ (o : Option Pen). first_noted o x) (noted_if (nat_le first r && nat_lt r k) false x old before)
+          ∙ sym (noted_if (nat_le first r && nat_lt r m) true x old within)
       | inr ne ↦
           let there : (k == r) ≡ false = grind (arith, nat_tests) in
           let alike : (nat_le first r && nat_lt r k) ≡ (nat_le first r && nat_lt r m) = grind (arith, nat_tests) in
-          noted_if (k == r) false x (noted_where (nat_le first r && nat_lt r k) (pen r) old) there
-          ∙ noted_if (nat_le first r && nat_lt r k) (nat_le first r && nat_lt r m) (pen r) old alike
+          noted_if (k == r) false x (noted_where (nat_le first r && nat_lt r k) x old) there
+          ∙ noted_if (nat_le first r && nat_lt r k) (nat_le first r && nat_lt r m) x old alike
     ]
 
-pub row_pens_more : (old before after : OldValues) (pen : ℕ → Pen) (first k m : ℕ) (x : Pen)
+pub row_pens_more : (old before after : OldValues) (pen : ℕ → Pen) (first k m : ℕ)
     → before ≡ with_row_pens (λ r. nat_le first r && nat_lt r k) pen old
-    → after ≡ with_row_pens (λ r. k == r) (λ _. x) before → first ≤ k → m ≡ k + 1 → x ≡ pen k
+    → after ≡ with_row_pens (λ r. k == r) pen before → first ≤ k → m ≡ k + 1
     → after ≡ with_row_pens (λ r. nat_le first r && nat_lt r m) pen old
-row_pens_more old before after pen first k m x was is from next same =
+row_pens_more old before after pen first k m was is from next =
     let noted : ℕ → Option Pen = λ r. noted_where (nat_le first r && nat_lt r k) (pen r) (old_row_pen old r) in
-    is ∙ ap (with_row_pens (λ r. k == r) (λ _. x)) was
+    is ∙ ap (with_row_pens (λ r. k == r) pen) was
     ∙ ap (λ (l : List (Option Pen)). record old { row_pens = l })
-    (same_indexed 1 24 (λ r. noted_where (k == r) x (entry None 1 (list_by_index 1 24 noted) r))
+    (same_indexed 1 24 (λ r. noted_where (k == r) (pen r) (entry None 1 (list_by_index 1 24 noted) r))
     (λ r. noted_where (nat_le first r && nat_lt r m) (pen r) (old_row_pen old r))
     (λ r low high.
-    ap (λ (o : Option Pen). noted_where (k == r) x o) (entry-list_by_index None 1 24 noted r low high)
-    ∙ pen_next first k m r pen x (old_row_pen old r) from next same))
+    ap (λ (o : Option Pen). noted_where (k == r) (pen r) o) (entry-list_by_index None 1 24 noted r low high)
+    ∙ pen_next first k m r (pen r) (old_row_pen old r) from next))
 
 pub row_pens_all : (old after : OldValues) (pen : ℕ → Pen) (first last k : ℕ)
     → after ≡ with_row_pens (λ r. nat_le first r && nat_lt r k) pen old → k ≡ last + 1
@@ -166,12 +162,12 @@ pub paints_none : (old : OldValues) (paint : ℕ → Paint) (k : ℕ) → length
 paints_none old paint k long e =
     ap (λ (l : List (Option Paint)). record old { paints = l }) (list_none 0 32 k paint old.paints long e)
 
-pub paints_more : (old before after : OldValues) (paint : ℕ → Paint) (k m : ℕ) (x : Paint)
-    → before ≡ with_paints (λ i. nat_lt i k) paint old → after ≡ with_paints (λ i. k == i) (λ _. x) before
-    → m ≡ k + 1 → x ≡ paint k → after ≡ with_paints (λ i. nat_lt i m) paint old
-paints_more old before after paint k m x was is next same =
-    is ∙ ap (with_paints (λ i. k == i) (λ _. x)) was
-    ∙ ap (λ (l : List (Option Paint)). record old { paints = l }) (list_more 0 32 k m paint x old.paints next same)
+pub paints_more : (old before after : OldValues) (paint : ℕ → Paint) (k m : ℕ)
+    → before ≡ with_paints (λ i. nat_lt i k) paint old → after ≡ with_paints (λ i. k == i) paint before
+    → m ≡ k + 1 → after ≡ with_paints (λ i. nat_lt i m) paint old
+paints_more old before after paint k m was is next =
+    is ∙ ap (with_paints (λ i. k == i) paint) was
+    ∙ ap (λ (l : List (Option Paint)). record old { paints = l }) (list_more 0 32 k m paint old.paints next)
 
 pub paints_all : (old after : OldValues) (paint : ℕ → Paint) (k : ℕ) → after ≡ with_paints (λ i. nat_lt i k) paint old
     → 32 ≤ k → after ≡ with_paints (λ _. true) paint old
@@ -186,12 +182,12 @@ pub dclut_none : (old : OldValues) (colour : ℕ → ℕ) (k : ℕ) → length o
 dclut_none old colour k long e =
     ap (λ (l : List (Option ℕ)). record old { dclut = l }) (list_none 0 4 k colour old.dclut long e)
 
-pub dclut_more : (old before after : OldValues) (colour : ℕ → ℕ) (k m x : ℕ)
-    → before ≡ with_dclut (λ i. nat_lt i k) colour old → after ≡ with_dclut (λ i. k == i) (λ _. x) before
-    → m ≡ k + 1 → x ≡ colour k → after ≡ with_dclut (λ i. nat_lt i m) colour old
-dclut_more old before after colour k m x was is next same =
-    is ∙ ap (with_dclut (λ i. k == i) (λ _. x)) was
-    ∙ ap (λ (l : List (Option ℕ)). record old { dclut = l }) (list_more 0 4 k m colour x old.dclut next same)
+pub dclut_more : (old before after : OldValues) (colour : ℕ → ℕ) (k m : ℕ)
+    → before ≡ with_dclut (λ i. nat_lt i k) colour old → after ≡ with_dclut (λ i. k == i) colour before
+    → m ≡ k + 1 → after ≡ with_dclut (λ i. nat_lt i m) colour old
+dclut_more old before after colour k m was is next =
+    is ∙ ap (with_dclut (λ i. k == i) colour) was
+    ∙ ap (λ (l : List (Option ℕ)). record old { dclut = l }) (list_more 0 4 k m colour old.dclut next)
 
 pub dclut_all : (old after : OldValues) (colour : ℕ → ℕ) (k : ℕ) → after ≡ with_dclut (λ i. nat_lt i k) colour old
     → 4 ≤ k → after ≡ with_dclut (λ _. true) colour old
@@ -206,13 +202,12 @@ patterns_none old pattern k long e =
     ap (λ (l : List (Option (Option Pattern))). record old { patterns = l })
     (list_none 0x21 94 k pattern old.patterns long e)
 
-pub patterns_more : (old before after : OldValues) (pattern : ℕ → Option Pattern) (k m : ℕ) (x : Option Pattern)
-    → before ≡ with_patterns (λ d. nat_lt d k) pattern old → after ≡ with_patterns (λ d. k == d) (λ _. x) before
-    → m ≡ k + 1 → x ≡ pattern k → after ≡ with_patterns (λ d. nat_lt d m) pattern old
-patterns_more old before after pattern k m x was is next same =
-    is ∙ ap (with_patterns (λ d. k == d) (λ _. x)) was
-    ∙ ap (λ (l : List (Option (Option Pattern))). record old { patterns = l })
-    (list_more 0x21 94 k m pattern x old.patterns next same)
+pub patterns_more : (old before after : OldValues) (pattern : ℕ → Option Pattern) (k m : ℕ)
+    → before ≡ with_patterns (λ d. nat_lt d k) pattern old → after ≡ with_patterns (λ d. k == d) pattern before
+    → m ≡ k + 1 → after ≡ with_patterns (λ d. nat_lt d m) pattern old
+patterns_more old before after pattern k m was is next =
+    is ∙ ap (with_patterns (λ d. k == d) pattern) was
+    ∙ ap (λ (l : List (Option (Option Pattern))). record old { patterns = l }) (list_more 0x21 94 k m pattern old.patterns next)
 
 pub patterns_all : (old after : OldValues) (pattern : ℕ → Option Pattern) (k : ℕ)
     → after ≡ with_patterns (λ d. nat_lt d k) pattern old → 0x7F ≤ k → after ≡ with_patterns (λ _. true) pattern old
@@ -234,49 +229,39 @@ rows_none old was first k is e =
     sym (noted_if (nat_le first r && nat_lt r k) false (was r c) (old_cell old r c) none)))
 
 -- a cell of the row that is noted, or of those before it
-row_next : (first k m r c : ℕ) (was : ℕ → ℕ → Cell) (x : Cell) (old : Option Cell) → first ≤ k → m ≡ k + 1 → 1 ≤ c
-    → (k ≡ r → x ≡ was r c)
-    → noted_where (k == r && nat_le 1 c) x (noted_where (nat_le first r && nat_lt r k) (was r c) old)
-    ≡ noted_where (nat_le first r && nat_lt r m) (was r c) old
-row_next first k m r c was x old from next low same =
+row_next : (first k m r c : ℕ) (x : Cell) (old : Option Cell) → first ≤ k → m ≡ k + 1 → 1 ≤ c
+    → noted_where (k == r && nat_le 1 c) x (noted_where (nat_le first r && nat_lt r k) x old)
+    ≡ noted_where (nat_le first r && nat_lt r m) x old
+row_next first k m r c x old from next low =
     elim (cases_eq k r) [
       | inl e ↦
           let here : (k == r && nat_le 1 c) ≡ true = grind (arith, nat_tests) in
           let before : (nat_le first r && nat_lt r k) ≡ false = grind (arith, nat_tests) in
           let within : (nat_le first r && nat_lt r m) ≡ true = grind (arith, nat_tests) in
-          noted_if (k == r && nat_le 1 c) true x (noted_where (nat_le first r && nat_lt r k) (was r c) old) here
-          ∙ ap (λ (o : Option Cell). first_noted o x)
-          (noted_if (nat_le first r && nat_lt r k) false (was r c) old before)
-          ∙ ap (λ v. first_noted old v) (same e)
-          ∙ sym (noted_if (nat_le first r && nat_lt r m) true (was r c) old within)
+          noted_if (k == r && nat_le 1 c) true x (noted_where (nat_le first r && nat_lt r k) x old) here
+          ∙ ap (λ (o : Option Cell). first_noted o x) (noted_if (nat_le first r && nat_lt r k) false x old before)
+          ∙ sym (noted_if (nat_le first r && nat_lt r m) true x old within)
       | inr ne ↦
           let there : (k == r && nat_le 1 c) ≡ false = grind (arith, nat_tests) in
           let alike : (nat_le first r && nat_lt r k) ≡ (nat_le first r && nat_lt r m) = grind (arith, nat_tests) in
-          noted_if (k == r && nat_le 1 c) false x (noted_where (nat_le first r && nat_lt r k) (was r c) old) there
-          ∙ noted_if (nat_le first r && nat_lt r k) (nat_le first r && nat_lt r m) (was r c) old alike
+          noted_if (k == r && nat_le 1 c) false x (noted_where (nat_le first r && nat_lt r k) x old) there
+          ∙ noted_if (nat_le first r && nat_lt r k) (nat_le first r && nat_lt r m) x old alike
     ]
 
--- what is so of the cells of row k is so of row r, where it is that row
-in_row : (k r c : ℕ) (was : ℕ → ℕ → Cell) (x : Cell) → (OnScreen k c → x ≡ was k c) → k ≡ r → OnScreen r c → x ≡ was r c
-in_row k r c was x same e on = same (subst (λ q. OnScreen q c) (sym e) on) ∙ ap (λ q. was q c) e
-
-pub rows_more : (old before after : OldValues) (was : ℕ → ℕ → Cell) (cells : List Cell) (first k m : ℕ)
+pub rows_more : (old before after : OldValues) (was : ℕ → ℕ → Cell) (first k m : ℕ)
     → before ≡ with_cells (λ r _. nat_le first r && nat_lt r k) was old
-    → after ≡ with_cells (λ r c. k == r && nat_le 1 c) (λ _ c. entry blank_cell 1 cells c) before
-    → first ≤ k → m ≡ k + 1 → ((c : ℕ) → OnScreen k c → entry blank_cell 1 cells c ≡ was k c)
+    → after ≡ with_cells (λ r c. k == r && nat_le 1 c) was before → first ≤ k → m ≡ k + 1
     → after ≡ with_cells (λ r _. nat_le first r && nat_lt r m) was old
-rows_more old before after was cells first k m then_is now_is from next same =
+rows_more old before after was first k m then_is now_is from next =
     let noted : ℕ → ℕ → Option Cell = λ r c. noted_where (nat_le first r && nat_lt r k) (was r c) (old_cell old r c) in
-    now_is ∙ ap (with_cells (λ r c. k == r && nat_le 1 c) (λ _ c. entry blank_cell 1 cells c)) then_is
+    now_is ∙ ap (with_cells (λ r c. k == r && nat_le 1 c) was) then_is
     ∙ ap (λ (t : List (List (Option Cell))). record old { cells = t })
     (same_table
-    (λ r c. noted_where (k == r && nat_le 1 c) (entry blank_cell 1 cells c) (value_at None (table noted) r c))
+    (λ r c. noted_where (k == r && nat_le 1 c) (was r c) (value_at None (table noted) r c))
     (λ r c. noted_where (nat_le first r && nat_lt r m) (was r c) (old_cell old r c))
     (λ r c on.
-    ap (λ (o : Option Cell). noted_where (k == r && nat_le 1 c) (entry blank_cell 1 cells c) o)
-    (value_at-table noted None r c on)
-    ∙ row_next first k m r c was (entry blank_cell 1 cells c) (old_cell old r c) from next on.from_left (λ e.
-    in_row k r c was (entry blank_cell 1 cells c) (same c) e on)))
+    ap (λ (o : Option Cell). noted_where (k == r && nat_le 1 c) (was r c) o) (value_at-table noted None r c on)
+    ∙ row_next first k m r c (was r c) (old_cell old r c) from next on.from_left))
 
 pub rows_all : (old after : OldValues) (was : ℕ → ℕ → Cell) (first last k : ℕ)
     → after ≡ with_cells (λ r _. nat_le first r && nat_lt r k) was old → k ≡ last + 1

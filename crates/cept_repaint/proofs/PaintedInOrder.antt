@@ -8,6 +8,7 @@ use Rattle.cept_codes.proofs.Laws.{place_of-number, number-lt}
 use Rattle.cept_profile.specs.Changes.{look_at, marked_looks, marked_looks_below, grid_with_paint, grid_with_paints}
 use Rattle.cept_profile.proofs.Laws.{grid_with_paints-append, marked_looks_below-none, marked_looks_below-next}
 use Rattle.cept_profile.proofs.Laws.{marked_looks_below-unmarked, marked_looks_below-whole}
+use Rattle.cept_repaint.specs.Applied.{PaintsAll}
 use Rattle.cept_repaint.specs.GlassState.{GlassState, Lists, Paints}
 use Rattle.cept_repaint.specs.Marks.{is_marked, IsFirstFrom}
 
@@ -87,3 +88,8 @@ pub PaintedSoFar-marked_looks : {marks : List Bool} {looks : List (List Look)} {
 PaintedSoFar-marked_looks {old =
     old} {now = now} s none = subst (λ (l : List (Place × Look)). Lists old.paints l now.paints)
     (whole_list s none) s.listed
+
+pub PaintsAll-walked : {marks : List Bool} {looks : List (List Look)} {old now : GlassState} {from : ℕ}
+    → PaintedSoFar marks looks old now from → ((n : ℕ) → from ≤ n → is_marked marks n ≡ false)
+    → PaintsAll old (marked_looks marks looks) now
+PaintsAll-walked s none = record { shown = PaintedSoFar-grid s none; told = PaintedSoFar-marked_looks s none }

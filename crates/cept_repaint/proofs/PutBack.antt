@@ -1,6 +1,6 @@
 -- Old values put back one after the other, until all of a part are.
 use Rattle.std.proofs.Common.{◌≡◌, ℕ, ◌+◌, ◌-◌, ◌≤◌, ◌<◌, ◌&&◌, ◌||◌, ◌==◌, Bool, true, false, cond, nat_lt, Option, Some}
-use Rattle.std.proofs.Common.{None, List, get_or, length, unwrap_or, refl, sym, ap, subst, ◌∙◌, arith}
+use Rattle.std.proofs.Common.{None, List, get_or, length, unwrap_or, refl, sym, ap, ◌∙◌, arith}
 use Rattle.std.proofs.lemmas.Bool.{and_parts, eqb-true}
 use Rattle.std.proofs.lemmas.Bool.Decides.{nat_tests}
 use Rattle.std.proofs.lemmas.List.{get_or_default}
@@ -9,7 +9,7 @@ use Rattle.cept_codes.specs.Cell.{blank_cell}
 use Rattle.cept_codes.specs.Place.{OnScreen, Place}
 use Rattle.cept_codes.specs.Table.{IsTable, entry, list_by_index, table, value_at}
 use Rattle.cept_codes.proofs.Laws.{entry-list_by_index, list_by_index-entry, same_indexed, same_table, table-value_at}
-use Rattle.cept_codes.proofs.Laws.{IsTable-table, entry_from, value_at-table}
+use Rattle.cept_codes.proofs.Laws.{entry_from, value_at-table}
 use Rattle.cept_profile.specs.Cells.{is_at}
 use Rattle.cept_repaint.specs.PutBack.{cells_back, entries_back, value_back}
 
@@ -147,12 +147,6 @@ cells_back-empty these old cells is none =
     (λ r c on.
     sym (back_alike (these r c) (old r c) None (value_at blank_cell cells r c) (none r c on)
     ∙ none_back (these r c) (value_at blank_cell cells r c)))
-
-pub IsTable-back : (these : ℕ → ℕ → Bool) (old : ℕ → ℕ → Option Cell) (cells after : List (List Cell))
-    → after ≡ cells_back these old cells → IsTable after
-IsTable-back these old cells after is =
-    subst (λ (t : List (List Cell)). IsTable t) (sym is)
-    (IsTable-table (λ r c. value_back (these r c) (old r c) (value_at blank_cell cells r c)))
 
 -- ---- a row, cell by cell
 

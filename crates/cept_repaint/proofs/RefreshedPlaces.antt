@@ -56,7 +56,7 @@ IsRefreshedRow-places p xs names row was now before marks flags differ is top bo
     ap (λ (t : List (List Look)). looks_in t row) made ∙ looks_in-set was row fresh is top bottom in
     IsRefreshedRow-made was now before marks row fresh is (ap length (row_of-list_by_index _) ∙ length-list_by_index 1 40 _)
     top bottom made
-    (HasMarkedRow-flags looks fresh row (number row 1) differ before marks top
+    (HasMarkedRow-flags looks fresh row (number row 1) differ before marks
     (ed ∙ ap (λ (l : List Look). list_by_index 1 40 (λ c. not (same_look (column_entry blank_look looks c)
     (column_entry blank_look l c)))) new) refl has)
 

@@ -1,13 +1,40 @@
 -- A command applied to a screen, and a change of a screen repainted (this project's own).
 use Rattle.std.specs.Prelude.{ℕ, ◌≡◌, ◌≤◌, ◌+◌, Bool, List, [], ◌∷◌, ◌++◌}
 use Rattle.cept_codes.specs.declared.command.Command.{Command}
+use Rattle.cept_codes.specs.declared.look.Look.{Look}
+use Rattle.cept_codes.specs.Place.{Place}
 use Rattle.cept_profile.specs.Changes.{changes_between, differences, grid_with_paints}
 use Rattle.cept_profile.specs.Look.{looks_of}
 use Rattle.cept_profile.specs.Reach.{rows_in_reach}
 use Rattle.cept_profile.specs.State.{State, core_of, state, state_after}
 use Rattle.cept_profile.specs.Valid.{AllValid}
+use Rattle.cept_profile.specs.OldValues.{OldValues, unwound}
 use Rattle.cept_repaint.specs.GlassState.{GlassState, Lists}
-use Rattle.cept_repaint.specs.Renewed.{rows_renewed_by}
+use Rattle.cept_repaint.specs.Renewed.{rows_renewed, rows_renewed_by}
+use Rattle.cept_repaint.specs.Restored.{rows_restored}
+
+-- these paints were made, one after the other: each look at its place of the grid, and all of them in the list
+pub record PaintsAll (old : GlassState) (paints : List (Place × Look)) (new : GlassState) : Type 0 where
+  pub shown : new.grid ≡ grid_with_paints old.grid paints
+  pub told : Lists old.paints paints new.paints
+
+-- a command was written: the state is that after it, exactly the places are marked whose look changes, and no more rows
+-- were resolved than are in its reach and no fewer than it renews
+pub record IsWritten (old : State) (command : Command) (new : State) (marked : List Bool) (from to : ℕ) : Type 0 where
+  pub after : new ≡ state_after old command
+  pub marks : marked ≡ differences (looks_of (core_of old)) (looks_of (core_of new))
+  pub cost : to ≤ from + rows_in_reach old command
+  pub least : from + rows_renewed_by old command ≤ to
+  pub at_most_24 : to ≤ from + 24
+
+-- old values were put back: the state is that to which they unwind, exactly the places are marked whose look changes, and
+-- no more rows were resolved than may look otherwise and no fewer than do
+pub record IsPutBack (values : OldValues) (old new : State) (marked : List Bool) (from to : ℕ) : Type 0 where
+  pub state : new ≡ unwound old values
+  pub marks : marked ≡ differences (looks_of (core_of old)) (looks_of (core_of new))
+  pub cost : to ≤ from + rows_restored values (core_of old) (core_of new)
+  pub least : from + rows_renewed [] (looks_of (core_of old)) (looks_of (core_of new)) ≤ to
+  pub at_most_24 : to ≤ from + 24
 
 -- from one state to another exactly the places whose look changes were marked, and each was painted once, in reading
 -- order, with its new look

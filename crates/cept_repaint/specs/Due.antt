@@ -1,6 +1,6 @@
 -- Rows that are due to be resolved after strokes (this project's own): those that are altered of themselves, and those
 -- that are covered from above otherwise than before. Private clauses alone cite this file.
-use Rattle.std.specs.Prelude.{ℕ, ◌+◌, ◌-◌, ◌≡◌, ◌<◌, ◌≤◌, ◌||◌, Bool, true, false, not, List, [], Option, Some, None}
+use Rattle.std.specs.Prelude.{ℕ, ◌+◌, ◌-◌, ◌≡◌, ◌<◌, ◌≤◌, ◌||◌, Bool, true, false, not, List, [], length, Option, Some, None}
 use Rattle.std.specs.List.{count_by, list_any, range_with_len}
 use Rattle.cept_codes.specs.declared.look.Look.{Look}
 use Rattle.cept_codes.specs.declared.stroke.Stroke.{Stroke}
@@ -16,6 +16,7 @@ use Rattle.cept_profile.specs.PageParts.{row_pen_in}
 use Rattle.cept_profile.specs.Reach.{is_written, just_one, writes}
 use Rattle.cept_profile.specs.RowsFromAbove.{is_covered_otherwise, look_seen}
 use Rattle.cept_profile.specs.State.{Core, Page}
+use Rattle.cept_profile.specs.Valid.{IsValidPage}
 use Rattle.cept_rows.specs.RowsByCell.{IsCoveredAlike}
 use Rattle.cept_repaint.specs.declared.followed_rows.Followed.{Followed}
 use Rattle.cept_repaint.specs.declared.page.Pens.{Pens}
@@ -63,6 +64,12 @@ unfoldable pub has_others : Pens → Edges → ℕ → Pens → Edges → ℕ �
 has_others was before q now after r =
     not (same_pen (row_pen_in was.rows q) (row_pen_in now.rows r)) || not (same_pen was.screen now.screen)
     || just_one (is_last before q) (is_last after r)
+
+-- attributes of all rows and of the screen, a valid page, and whether it has other attributes of the screen
+pub record AreCompared (was : Pens) (p : Page) (other : Bool) : Type 0 where
+  pub rows : length was.rows ≡ 24
+  pub valid : IsValidPage p
+  pub screen : other ≡ not (same_pen was.screen p.screen_pen)
 
 -- a row that was freed is altered; any other where a stroke writes in it, one defines something, or it has others
 abbrev pub is_altered_from : Bool → Bool → Pens → Edges → Pens → Edges → Option ℕ → ℕ → Bool

@@ -1,6 +1,6 @@
 -- What a screen keeps beside its state (this project's own): the look at each place, and what it is for looks to be
 -- refreshed. Private clauses alone cite this file, but for the cell of a page.
-use Rattle.std.specs.Prelude.{ℕ, ◌≡◌, ◌<◌, ◌≤◌, ◌*◌, ◌-◌, ◌||◌, Bool, false, not, List, length}
+use Rattle.std.specs.Prelude.{ℕ, ◌≡◌, ◌<◌, ◌≤◌, ◌*◌, ◌-◌, ◌||◌, Bool, false, not, List, [], length, slice_index_or}
 use Rattle.std.specs.List.{list_any, range_with_len}
 use Rattle.cept_codes.specs.declared.cell.Cell.{Cell}
 use Rattle.cept_codes.specs.declared.cell.What.{What}
@@ -13,12 +13,14 @@ use Rattle.cept_codes.specs.Table.{value_at, IsTable}
 use Rattle.cept_profile.specs.Cells.{is_at}
 use Rattle.cept_profile.specs.Control.{ControlState}
 use Rattle.cept_profile.specs.Edges.{Edges, edges_of_core}
-use Rattle.cept_profile.specs.Look.{look, look_in_row, look_of, looks_of, size_in_row}
+use Rattle.cept_profile.specs.Look.{look, looks_of}
 use Rattle.cept_profile.specs.PageParts.{row_pen_in}
-use Rattle.cept_profile.specs.RowsFromAbove.{is_other_covering, row_from_above}
+use Rattle.cept_profile.specs.RowsFromAbove.{is_other_covering}
+use Rattle.cept_profile.specs.Serial.{row_in}
 use Rattle.cept_profile.specs.State.{Core, Page, State, definitions_of}
 use Rattle.cept_profile.specs.Tiling.{column_entry}
 use Rattle.cept_repaint.specs.Marks.{is_marked}
+use Rattle.cept_rows.specs.Source.{Source, look_by_itself, row_made}
 
 -- the cell of a page at a place
 abbrev pub cell_at : Page → Place → Cell
@@ -36,16 +38,23 @@ AreEdges edges = (k : Core) × (edges_of_core k ≡ edges)
 abbrev pub AreLooksOn : List (List Look) → Page → Edges → Type 0
 AreLooksOn looks p edges = (k : Core) → edges_of_core k ≡ edges → looks ≡ looks_of (core_on k p)
 
+-- what row r of a page is made of, where it is last or isn't
+abbrev pub source_of : Page → ℕ → Bool → Source
+source_of p r last = record {
+  cells = slice_index_or p.cells (r - 1) [];
+  row_pen = row_pen_in p.row_pens r;
+  screen_pen = p.screen_pen;
+  defined = definitions_of p;
+  last = last;
+}
+
 -- what stands in each column of row r of a page
 abbrev pub contents_in : Page → ℕ → ℕ → What
-contents_in p r c = (value_at blank_cell p.cells r c).what
+contents_in p r = row_in (source_of p r false).cells
 
 -- the looks of row r of a page beneath these looks
 abbrev pub row_beneath : List Look → Page → ℕ → Bool → List Look
-row_beneath above p r last =
-    row_from_above above
-    (look_in_row (definitions_of p) (contents_in p r) (row_pen_in p.row_pens r) p.screen_pen)
-    (size_in_row (contents_in p r) (row_pen_in p.row_pens r) p.screen_pen) last
+row_beneath above p r last = row_made (source_of p r last) above
 
 -- two rows have the same looks to the left of a column
 abbrev pub IsLeftOf : ℕ → List Look → List Look → Type 0
@@ -59,8 +68,7 @@ IsRightOf until looks row =
 
 -- how what stands in a cell of a page looks by itself
 abbrev pub look_alone : Page → Place → Look
-look_alone p place =
-    look_of (definitions_of p) (row_pen_in p.row_pens place.row) p.screen_pen (cell_at p place).what
+look_alone p place = look_by_itself (source_of p place.row false) place.column
 
 -- the looks aren't the same
 unfoldable pub looks_differ : Look → Look → Bool

@@ -19,5 +19,7 @@ pub mod ValidGrid
 pub mod PutBack
 pub mod FlagsAnew
 pub mod Restored
+pub mod ShiftedRows
 pub mod Exchanged
 pub mod Renewed
+pub mod Picture

@@ -83,3 +83,12 @@ size_flag_after (strokes.Put p cell) was r = was r || (p.row == r && sets_double
 size_flag_after (strokes.RowAttr row attr) was r = was r || (row == r && gives_size attr)
 size_flag_after strokes.Wipe was r = false
 size_flag_after stroke was r = size_flag_after_move (moved_rows stroke) was r
+
+-- the flags of all rows after a stroke, those of markers and those of sizes, by those before it
+pub record AreFlagsAfter (stroke : Stroke) (markers sizes markers_after sizes_after : List Bool) : Type 0 where
+  pub marked_rows : length markers_after ≡ 24
+  pub sized_rows : length sizes_after ≡ 24
+  pub marked : (r : ℕ) → 1 ≤ r → r ≤ 24
+      → entry false 1 markers_after r ≡ flag_after is_marker stroke (entry false 1 markers) r
+  pub sized : (r : ℕ) → 1 ≤ r → r ≤ 24
+      → entry false 1 sizes_after r ≡ size_flag_after stroke (entry false 1 sizes) r

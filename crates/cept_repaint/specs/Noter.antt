@@ -8,6 +8,7 @@ use Rattle.cept_colours.specs.Colours.{ColourTables}
 use Rattle.cept_profile.specs.Control.{ControlState}
 use Rattle.cept_profile.specs.OldValues.{OldValues, page_unwound, unwound}
 use Rattle.cept_profile.specs.State.{Page, State}
+use Rattle.cept_repaint.specs.declared.noter.PageBefore.{PageBefore}
 
 -- the page of these parts
 abbrev pub page_with : List (List Cell) → List Pen → Pen → ColourTables → List (Option Pattern) → Page
@@ -19,6 +20,10 @@ page_with cells row_pens screen_pen colours patterns = record {
   dclut = colours.dclut;
   patterns = patterns;
 }
+
+-- the page whose parts these are
+abbrev pub page_before : PageBefore → Page
+page_before b = page_with b.grid.now b.row_pens.now b.screen_pen.now b.colours.now b.patterns.now
 
 -- a page to which another unwinds, and what is noted of control
 pub record PageBehind : Type 0 where

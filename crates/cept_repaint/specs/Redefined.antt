@@ -50,16 +50,8 @@ redefines_place names shown (strokes.Dclut j entry) = has_inks shown
 redefines_place names shown strokes.ColourDefaults = true
 redefines_place names shown (strokes.Drcs code pattern) = is_code names.code code
 redefines_place names shown strokes.DrcsClear = is_some names.code
--- these define nothing
-redefines_place names shown (strokes.Put p cell) = false
-redefines_place names shown (strokes.Erase row from) = false
-redefines_place names shown strokes.Wipe = false
-redefines_place names shown (strokes.Shift first last way) = false
-redefines_place names shown (strokes.Carry first last way) = false
-redefines_place names shown (strokes.RowAttr row attr) = false
-redefines_place names shown (strokes.ScreenAttr attr) = false
-redefines_place names shown strokes.ScreenClear = false
-redefines_place names shown (strokes.Format rows) = false
+-- any other defines nothing
+redefines_place names shown _ = false
 
 -- one of the strokes may define anew what column c of a row with these names and looks depends on
 abbrev pub is_place_redefined : List Stroke → RowNames → List Look → ℕ → Bool

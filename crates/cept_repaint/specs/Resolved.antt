@@ -16,16 +16,8 @@ defines (strokes.Dclut j entry) = true
 defines strokes.ColourDefaults = true
 defines (strokes.Drcs code pattern) = true
 defines strokes.DrcsClear = true
--- these define nothing
-defines (strokes.Put p cell) = false
-defines (strokes.Erase row from) = false
-defines strokes.Wipe = false
-defines (strokes.Shift first last way) = false
-defines (strokes.Carry first last way) = false
-defines (strokes.RowAttr row attr) = false
-defines (strokes.ScreenAttr attr) = false
-defines strokes.ScreenClear = false
-defines (strokes.Format rows) = false
+-- any other defines nothing
+defines _ = false
 
 -- one of the strokes defines nothing
 unfoldable pub one_else : List Stroke → Bool

@@ -1,19 +1,19 @@
 ghost use Rattle.std.specs.Prelude.{◌≡◌, ◌≤◌, ◌<◌, ◌+◌, ◌-◌, ◌||◌, ◌==◌, ℕ, false, not, [], ◌∷◌, length, IfSome, Some};
 ghost use Rattle.std.specs.List.{AllByRecursion, list_any};
 ghost use Rattle.cept_codes.specs.declared.cell.Cell.{Cell};
-ghost use Rattle.cept_codes.specs.Same.{same_pen};
-ghost use Rattle.cept_codes.specs.Stroke.{IsRow, IsValidStroke};
+ghost use Rattle.cept_codes.specs.Stroke.{IsValidStroke};
 ghost use Rattle.cept_codes.specs.Table.{list_by_index, entry};
 ghost use Rattle.cept_profile.specs.Edges.{is_last};
 ghost use Rattle.cept_profile.specs.PageParts.{row_pen_in};
 ghost use Rattle.cept_profile.specs.Reach.{just_one};
 ghost use Rattle.cept_profile.specs.Valid.{IsValidPage};
-ghost use Rattle.cept_repaint.specs.Due.{followed, freed, has_others, is_altered, is_altered_from, pens_of, row_from};
+ghost use Rattle.cept_repaint.specs.Due.{AreCompared, followed, has_others, is_altered, is_altered_from};
+ghost use Rattle.cept_repaint.specs.Due.{pens_of};
 ghost use Rattle.cept_repaint.specs.Resolved.{defines};
 
 use crate::followed_rows::{Followed, one_defines};
 use crate::page::{Page, Pens};
-use cept_codes::{Cell, Pos, Stroke};
+use cept_codes::{Cell, Pos, Row, Stroke};
 use cept_control::Edges;
 
 /// A cell that is put at a place, where it stands.
@@ -39,6 +39,19 @@ pub(crate) fn only_put(strokes: &[Stroke]) -> Option<PutCell>
     }
 }
 
+/// What rows are compared by: the attributes and the edges before strokes, the page and the edges
+/// after them, whether one of the strokes defines something, and whether the attributes of the
+/// screen became others.
+#[derive(Clone, Copy)]
+struct Compared<'a> {
+    was: &'a Pens,
+    before: &'a Edges,
+    page: &'a Page,
+    after: &'a Edges,
+    defined: bool,
+    screen: bool,
+}
+
 /// For each row from the top, whether strokes alter it: it was freed, one of them writes in it or
 /// defines something, its attributes or the screen's became others, or it became last or is so no longer. The
 /// page had these attributes and edges before, and has those edges after; the rows are followed.
@@ -57,76 +70,44 @@ pub(crate) fn rows_altered(
     ensures { result ≡ list_by_index 1 24
         (is_altered strokes.now was.now before.now (pens_of page.now) after.now) }
 {
-    let defined = one_defines(strokes);
-    let screen = was.screen != *page.screen_pen();
+    let compared = Compared {
+        was,
+        before,
+        page,
+        after,
+        defined: one_defines(strokes),
+        screen: was.screen != *page.screen_pen(),
+    };
     let mut altered = [false; 24];
     for i in 0..24u8 {
-        altered[usize::from(i)] = is_altered(
-            rows[usize::from(i)],
-            defined,
-            was,
-            before,
-            page,
-            after,
-            screen,
-            i + 1,
-        );
+        let index = usize::from(i);
+        altered[index] = is_altered(rows[index], &compared, Row::numbered(i + 1));
     }
     altered
 }
 
 /// Whether a row is altered that is so followed.
-fn is_altered(
-    followed: Followed,
-    defined: bool,
-    was: &Pens,
-    before: &Edges,
-    page: &Page,
-    after: &Edges,
-    screen: bool,
-    row: u8,
-) -> bool
-    requires from_top { 1 ≤ row }
-    requires to_bottom { row ≤ 24 }
-    requires came { IfSome followed.from IsRow }
-    requires pens { length was.now.rows ≡ 24 }
-    requires valid { IsValidPage page.now }
-    requires screen { screen ≡ not (same_pen was.now.screen page.now.screen_pen) }
-    ensures { result ≡ is_altered_from followed.written defined was.now before.now (pens_of page.now)
-        after.now followed.from row }
+fn is_altered(followed: Followed, compared: &Compared, row: Row) -> bool
+    requires { AreCompared compared.now.was.now compared.now.page.now compared.now.screen }
+    ensures { result ≡ is_altered_from followed.written compared.now.defined compared.now.was.now
+        compared.now.before.now (pens_of compared.now.page.now) compared.now.after.now followed.from row }
 {
     match followed.from {
         None => true,
-        Some(from) => {
-            if followed.written || defined {
-                return true;
-            }
-            has_others(was, before, from, page, after, screen, row)
-        }
+        Some(from) => followed.written || compared.defined || has_others(from, compared, row),
     }
 }
 
 /// Whether a row has other attributes than the row before had of which it came, or the screen
-/// has, as is known, or just one of the two rows is last.
-fn has_others(
-    was: &Pens,
-    before: &Edges,
-    from: u8,
-    page: &Page,
-    after: &Edges,
-    screen: bool,
-    row: u8,
-) -> bool
-    requires came { IsRow from }
-    requires from_top { 1 ≤ row }
-    requires to_bottom { row ≤ 24 }
-    requires pens { length was.now.rows ≡ 24 }
-    requires valid { IsValidPage page.now }
-    requires screen { screen ≡ not (same_pen was.now.screen page.now.screen_pen) }
-    ensures { result ≡ has_others was.now before.now from (pens_of page.now) after.now row }
+/// has, or just one of the two rows is last.
+fn has_others(from: Row, compared: &Compared, row: Row) -> bool
+    requires { AreCompared compared.now.was.now compared.now.page.now compared.now.screen }
+    ensures { result ≡ has_others compared.now.was.now compared.now.before.now from
+        (pens_of compared.now.page.now) compared.now.after.now row }
 {
-    let pen = was.rows[usize::from(from) - 1] != *page.row_pen(row);
-    pen | screen | is_last_under_one(before, from, after, row)
+    let pen = compared.was.rows[from.index()] != *compared.page.row_pen(row);
+    let last = is_last_under_one(compared.before, from.number(), compared.after, row.number());
+    pen | compared.screen | last
 }
 
 /// Whether just one of two rows is last.

@@ -2,30 +2,26 @@ ghost use Rattle.std.specs.Prelude.{◌≡◌, ◌≤◌, ◌+◌, false};
 ghost use Rattle.cept_repaint.specs.Kept.{HasMarkedRow, IsLeftOf, IsRightOf, is_other_above};
 
 use crate::marks::Marks;
+use cept_codes::{Column, Row};
 use cept_rows::{Differences, RowLooks};
 
 /// Marks the places of a row at which two rows of looks differ.
-pub(crate) fn mark_differences(row: u8, was: &RowLooks, now: &RowLooks, marks: &mut Marks)
-    requires from_top { 1 ≤ row }
-    requires to_bottom { row ≤ 24 }
+pub(crate) fn mark_differences(row: Row, was: &RowLooks, now: &RowLooks, marks: &mut Marks)
     ensures { HasMarkedRow was.now now.now row 41 marks.old marks.new }
 {
-    let _found = mark_differences_between(row, 1, 40, was, now, marks);
+    let _found = mark_differences_between(row, Column::numbered(1), 40, was, now, marks);
 }
 
 /// The same where they are known to be the same to the left of a column and to the right of another.
 /// Answers how they differ.
 pub(crate) fn mark_differences_between(
-    row: u8,
-    from: u8,
+    row: Row,
+    from: Column,
     until: u8,
     was: &RowLooks,
     now: &RowLooks,
     marks: &mut Marks,
 ) -> Differences
-    requires from_top { 1 ≤ row }
-    requires to_bottom { row ≤ 24 }
-    requires from_left { 1 ≤ from }
     requires order { from ≤ until + 1 }
     requires to_right { until ≤ 40 }
     requires left { IsLeftOf from was.now now.now }
@@ -46,5 +42,5 @@ pub(crate) fn covers_otherwise(was: &RowLooks, now: &RowLooks) -> bool
     if was.covers_nothing() & now.covers_nothing() {
         return false;
     }
-    was.differences(now, 1, 40).covering
+    was.differences(now, Column::numbered(1), 40).covering
 }

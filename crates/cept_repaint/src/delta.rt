@@ -18,15 +18,16 @@ ghost use Rattle.cept_profile.specs.PageParts.{dclut_in, list_of_codes, paint_in
 ghost use Rattle.cept_profile.specs.Valid.{IsValidPage, IsValidState};
 ghost use Rattle.cept_repaint.specs.Delta.{HasPlaces};
 ghost use Rattle.cept_repaint.specs.Exchanged.{noted_instead, page_exchanged};
-ghost use Rattle.cept_repaint.specs.Noter.{page_with};
+ghost use Rattle.cept_repaint.specs.Noter.{page_before, page_with};
 ghost use Rattle.cept_repaint.specs.Restored.{notes_cells, notes_row, notes_screen};
 
 use crate::exchanging::{
     exchange_cells, exchange_colours, exchange_patterns, exchange_row_pens, exchange_value,
 };
+use crate::noter::PageBefore;
 use crate::screen::Screen;
 use cept_cells::Grid;
-use cept_codes::{Cell, NoMemory, Paint, Pattern, Pen, Pos, Stroke};
+use cept_codes::{Cell, NoMemory, Paint, Pattern, Pen, Pos, Row, Stroke};
 use cept_colours::Colours;
 use cept_control::Control;
 use cept_drcs::Patterns;
@@ -140,7 +141,7 @@ impl Delta {
     }
 
     /// Notes the cell at a place.
-    pub(crate) fn note_cell(&mut self, at: Pos, cell: &Cell)
+    fn note_cell(&mut self, at: Pos, cell: &Cell)
         ensures { self.new ≡ with_cells (is_at at) (λ _ _. cell.now) self.old }
     {
         let index = usize::from(at.row()) - 1;
@@ -149,40 +150,30 @@ impl Delta {
     }
 
     /// Notes what a stroke changes on the page of these parts.
-    pub(crate) fn note_stroke(
-        &mut self,
-        stroke: &Stroke,
-        grid: &Grid,
-        row_pens: &[Pen; 24],
-        screen_pen: &Pen,
-        colours: &Colours,
-        patterns: &Patterns,
-    )
+    pub(crate) fn note_stroke(&mut self, stroke: &Stroke, before: &PageBefore)
         requires valid { IsValidStroke stroke.now }
-        requires rows { length row_pens.now ≡ 24 }
-        ensures { self.new
-            ≡ with_stroke (page_with grid.now row_pens.now screen_pen.now colours.now
-            patterns.now) stroke.now self.old }
+        requires rows { length before.now.row_pens.now ≡ 24 }
+        ensures { self.new ≡ with_stroke (page_before before.now) stroke.now self.old }
     {
         match stroke {
-            Stroke::Put(place, _) => self.note_put(*place, grid),
-            Stroke::Erase(row, from) => self.note_row_from(*row, *from, grid),
+            Stroke::Put(place, _) => self.note_put(*place, before.grid),
+            Stroke::Erase(row, from) => self.note_row(Row::numbered(*row), *from, before.grid),
             Stroke::Wipe => {
-                self.note_all_cells(grid);
-                self.note_all_row_pens(row_pens);
+                self.note_all_cells(before.grid);
+                self.note_all_row_pens(before.row_pens);
             }
-            Stroke::Shift(first, last, _) => self.note_rows(*first, *last, grid),
+            Stroke::Shift(first, last, _) => self.note_rows(*first, *last, before.grid),
             Stroke::Carry(first, last, _) => {
-                self.note_rows(*first, *last, grid);
-                self.note_row_pens(*first, *last, row_pens);
+                self.note_rows(*first, *last, before.grid);
+                self.note_row_pens(*first, *last, before.row_pens);
             }
-            Stroke::RowAttr(row, _) => self.note_row_pen_in(*row, row_pens),
-            Stroke::ScreenAttr(_) | Stroke::ScreenClear => self.note_screen_pen(screen_pen),
-            Stroke::Colour(i, _) => self.note_paint_in(*i, colours),
-            Stroke::Dclut(i, _) => self.note_dclut_in(*i, colours),
-            Stroke::ColourDefaults => self.note_colours(colours),
-            Stroke::DrcsClear => self.note_patterns(patterns),
-            Stroke::Drcs(code, _) => self.note_pattern_in(*code, patterns),
+            Stroke::RowAttr(row, _) => self.note_row_pen(Row::numbered(*row), before.row_pens),
+            Stroke::ScreenAttr(_) | Stroke::ScreenClear => self.note_screen_pen(before.screen_pen),
+            Stroke::Colour(i, _) => self.note_paint(*i, before.colours),
+            Stroke::Dclut(i, _) => self.note_dclut(*i, before.colours),
+            Stroke::ColourDefaults => self.note_colours(before.colours),
+            Stroke::DrcsClear => self.note_patterns(before.patterns),
+            Stroke::Drcs(code, _) => self.note_pattern(*code, before.patterns),
             // It changes nothing of the page.
             Stroke::Format(_) => {}
         }
@@ -196,16 +187,6 @@ impl Delta {
         self.note_cell(at, grid.at(at));
     }
 
-    /// Notes the cells of a row of a grid from this column on.
-    fn note_row_from(&mut self, row: u8, from: u8, grid: &Grid)
-        requires from_top { 1 ≤ row }
-        requires to_bottom { row ≤ 24 }
-        ensures { self.new
-            ≡ with_cells (λ r c. row == r && nat_le from c) (value_at blank_cell grid.now) self.old }
-    {
-        self.note_row(row, from, grid.cells(row));
-    }
-
     /// Notes all cells of a grid.
     fn note_all_cells(&mut self, grid: &Grid)
         ensures { self.new ≡ with_cells (λ _ _. true) (value_at blank_cell grid.now) self.old }
@@ -213,87 +194,48 @@ impl Delta {
         self.note_rows(1, 24, grid);
     }
 
-    /// Notes the attributes of one row of these.
-    fn note_row_pen_in(&mut self, row: u8, pens: &[Pen; 24])
-        requires from_top { 1 ≤ row }
-        requires to_bottom { row ≤ 24 }
-        requires rows { length pens.now ≡ 24 }
-        ensures { self.new ≡ with_row_pens (λ r. row == r) (row_pen_in pens.now) self.old }
-    {
-        self.note_row_pen(row, &pens[usize::from(row) - 1]);
-    }
-
-    /// Notes the paint of one colour entry of these.
-    fn note_paint_in(&mut self, i: u8, colours: &Colours)
-        requires { IsEntry i }
-        ensures { self.new ≡ with_paints (λ j. i == j) (paint_in colours.now.paints) self.old }
-    {
-        self.note_paint(i, &colours.paint(i));
-    }
-
-    /// Notes one entry of the DCLUT of these.
-    fn note_dclut_in(&mut self, i: u8, colours: &Colours)
-        requires { i < 4 }
-        ensures { self.new ≡ with_dclut (λ j. i == j) (dclut_in colours.now.dclut) self.old }
-    {
-        self.note_dclut(i, colours.dclut(i));
-    }
-
-    /// Notes the pattern of one code of these.
-    fn note_pattern_in(&mut self, code: u8, patterns: &Patterns)
-        requires from_first { 0x21 ≤ code }
-        requires to_last { code ≤ 0x7E }
-        ensures { self.new ≡ with_patterns (λ d. code == d) (pattern_in patterns.now) self.old }
-    {
-        self.note_pattern(code, &patterns.get(code));
-    }
-
-    /// Notes the cells of a row from this column on.
-    pub(crate) fn note_row(&mut self, row: u8, from: u8, cells: &[Cell; 40])
-        requires from_top { 1 ≤ row }
-        requires to_bottom { row ≤ 24 }
-        requires columns { length cells.now ≡ 40 }
+    /// Notes the cells of a row of a grid from this column on.
+    fn note_row(&mut self, row: Row, from: u8, grid: &Grid)
         ensures { self.new
-            ≡ with_cells (λ r c. row == r && nat_le from c) (λ _ c. entry blank_cell 1 cells.now c) self.old }
+            ≡ with_cells (λ r c. row == r && nat_le from c) (value_at blank_cell grid.now) self.old }
     {
-        let index = usize::from(row) - 1;
+        let index = row.index();
         self.rows[index] = true;
-        note_from(&mut self.cells[index], from, cells);
+        note_from(&mut self.cells[index], from, grid.cells(row.number()));
     }
 
     /// Notes all cells of these rows.
-    pub(crate) fn note_rows(&mut self, first: u8, last: u8, grid: &Grid)
+    fn note_rows(&mut self, first: u8, last: u8, grid: &Grid)
         requires { IsArea first last }
         ensures { self.new
             ≡ with_cells (λ r _. nat_le first r && nat_le r last) (value_at blank_cell grid.now) self.old }
     {
         self.places_by_type();
-        for row in first..last + 1 {
-            self.note_row(row, 1, grid.cells(row));
+        for number in first..last + 1 {
+            self.note_row(Row::numbered(number), 1, grid);
         }
     }
 
-    /// Notes the attributes of a row.
-    pub(crate) fn note_row_pen(&mut self, row: u8, pen: &Pen)
-        requires from_top { 1 ≤ row }
-        requires to_bottom { row ≤ 24 }
-        ensures { self.new ≡ with_row_pens (λ r. row == r) (λ _. pen.now) self.old }
+    /// Notes the attributes of one row of these.
+    fn note_row_pen(&mut self, row: Row, pens: &[Pen; 24])
+        requires { length pens.now ≡ 24 }
+        ensures { self.new ≡ with_row_pens (λ r. row == r) (row_pen_in pens.now) self.old }
     {
         self.penned = true;
-        let index = usize::from(row) - 1;
-        self.row_pens[index] = first_noted(self.row_pens[index], *pen);
+        let index = row.index();
+        self.row_pens[index] = first_noted(self.row_pens[index], pens[index]);
     }
 
     /// Notes the attributes of these rows.
-    pub(crate) fn note_row_pens(&mut self, first: u8, last: u8, pens: &[Pen; 24])
+    fn note_row_pens(&mut self, first: u8, last: u8, pens: &[Pen; 24])
         requires area { IsArea first last }
         requires rows { length pens.now ≡ 24 }
         ensures { self.new
             ≡ with_row_pens (λ r. nat_le first r && nat_le r last) (row_pen_in pens.now) self.old }
     {
         self.places_by_type();
-        for row in first..last + 1 {
-            self.note_row_pen(row, &pens[usize::from(row) - 1]);
+        for number in first..last + 1 {
+            self.note_row_pen(Row::numbered(number), pens);
         }
     }
 
@@ -312,26 +254,26 @@ impl Delta {
         self.screen_pen = first_noted(self.screen_pen, *pen);
     }
 
-    /// Notes the paint of a colour entry, 0 to 31.
-    pub(crate) fn note_paint(&mut self, i: u8, paint: &Paint)
+    /// Notes the paint of one colour entry of these, 0 to 31.
+    fn note_paint(&mut self, i: u8, colours: &Colours)
         requires { IsEntry i }
-        ensures { self.new ≡ with_paints (λ j. i == j) (λ _. paint.now) self.old }
+        ensures { self.new ≡ with_paints (λ j. i == j) (paint_in colours.now.paints) self.old }
     {
         self.coloured = true;
-        note(&mut self.paints[usize::from(i)], paint);
+        note(&mut self.paints[usize::from(i)], &colours.paint(i));
     }
 
-    /// Notes the colour entry that an entry of the DCLUT, 0 to 3, names.
-    pub(crate) fn note_dclut(&mut self, i: u8, entry: u8)
+    /// Notes one entry of the DCLUT of these, 0 to 3.
+    fn note_dclut(&mut self, i: u8, colours: &Colours)
         requires { i < 4 }
-        ensures { self.new ≡ with_dclut (λ j. i == j) (λ _. entry) self.old }
+        ensures { self.new ≡ with_dclut (λ j. i == j) (dclut_in colours.now.dclut) self.old }
     {
         self.coloured = true;
-        note(&mut self.dclut[usize::from(i)], &entry);
+        note(&mut self.dclut[usize::from(i)], &colours.dclut(i));
     }
 
     /// Notes all colour entries, and the DCLUT.
-    pub(crate) fn note_colours(&mut self, colours: &Colours)
+    fn note_colours(&mut self, colours: &Colours)
         ensures { self.new
             ≡ with_dclut (λ _. true) (dclut_in colours.now.dclut)
             (with_paints (λ _. true) (paint_in colours.now.paints) self.old) }
@@ -339,7 +281,7 @@ impl Delta {
         self.note_paints(colours);
         self.places_by_type();
         for i in 0..4u8 {
-            self.note_dclut(i, colours.dclut(i));
+            self.note_dclut(i, colours);
         }
     }
 
@@ -349,47 +291,46 @@ impl Delta {
     {
         self.places_by_type();
         for i in 0..32u8 {
-            self.note_paint(i, &colours.paint(i));
+            self.note_paint(i, colours);
         }
     }
 
     /// Notes the patterns of all codes.
-    pub(crate) fn note_patterns(&mut self, patterns: &Patterns)
+    fn note_patterns(&mut self, patterns: &Patterns)
         ensures { self.new ≡ with_patterns (λ _. true) (pattern_in patterns.now) self.old }
     {
         self.places_by_type();
         for code in 0x21..0x7Fu8 {
-            self.note_pattern(code, &patterns.get(code));
+            self.note_pattern(code, patterns);
         }
     }
 
-    /// Notes the pattern of a code, 0x21 to 0x7E, or that it has none.
-    pub(crate) fn note_pattern(&mut self, code: u8, pattern: &Option<Pattern>)
+    /// Notes the pattern of one code of these, 0x21 to 0x7E, or that it has none.
+    fn note_pattern(&mut self, code: u8, patterns: &Patterns)
         requires from_first { 0x21 ≤ code }
         requires to_last { code ≤ 0x7E }
-        ensures { self.new ≡ with_patterns (λ d. code == d) (λ _. pattern.now) self.old }
+        ensures { self.new ≡ with_patterns (λ d. code == d) (pattern_in patterns.now) self.old }
     {
         self.patterned = true;
-        note(&mut self.patterns[usize::from(code) - 0x21], pattern);
+        note(
+            &mut self.patterns[usize::from(code) - 0x21],
+            &patterns.get(code),
+        );
     }
 
     /// Whether a cell of the row may be noted.
-    pub(crate) fn has_row(&self, row: u8) -> bool
-        requires from_top { 1 ≤ row }
-        requires to_bottom { row ≤ 24 }
+    pub(crate) fn has_row(&self, row: Row) -> bool
         ensures { result ≡ false → (c : ℕ) → OnScreen row c → old_cell self.now row c ≡ None }
     {
-        self.rows[usize::from(row) - 1]
+        self.rows[row.index()]
     }
 
     /// The old cells of a row, where they stand.
-    pub(crate) fn old_cells(&self, row: u8) -> &[Option<Cell>; 40]
-        requires from_top { 1 ≤ row }
-        requires to_bottom { row ≤ 24 }
+    pub(crate) fn old_cells(&self, row: Row) -> &[Option<Cell>; 40]
         ensures cells { result.now ≡ slice_index_or self.now.cells (row - 1) [] }
         ensures columns { length result.now ≡ 40 }
     {
-        &self.cells[usize::from(row) - 1]
+        &self.cells[row.index()]
     }
 
     /// Whether attributes of a row may be noted.
@@ -400,12 +341,10 @@ impl Delta {
     }
 
     /// The old attributes of a row.
-    pub(crate) fn old_row_pen(&self, row: u8) -> Option<Pen>
-        requires from_top { 1 ≤ row }
-        requires to_bottom { row ≤ 24 }
+    pub(crate) fn old_row_pen(&self, row: Row) -> Option<Pen>
         ensures { result ≡ old_row_pen self.now row }
     {
-        self.row_pens[usize::from(row) - 1]
+        self.row_pens[row.index()]
     }
 
     /// The old attributes of the screen.
@@ -471,7 +410,6 @@ impl Delta {
         colours: &mut Colours,
         patterns: &mut Patterns,
     )
-        requires is { IsTable grid.old }
         requires rows { length row_pens.old ≡ 24 }
         requires entries { length colours.old.paints ≡ 32 }
         requires names { length colours.old.dclut ≡ 4 }
@@ -552,16 +490,9 @@ fn forget_patterns(patterns: &mut [Option<Option<Pattern>>], patterned: bool)
     requires none { patterned ≡ false → patterns.old ≡ list_of_codes (λ _. None) }
     ensures { patterns.new ≡ list_of_codes (λ _. None) }
 {
-    if patterned {
-        forget_all(patterns);
+    if !patterned {
+        return;
     }
-}
-
-/// Forgets the patterns of all codes.
-fn forget_all(patterns: &mut [Option<Option<Pattern>>])
-    requires { length patterns.old ≡ 94 }
-    ensures { patterns.new ≡ list_of_codes (λ _. None) }
-{
     for pattern in patterns.iter_mut() {
         *pattern = None;
     }
@@ -583,26 +514,23 @@ impl Delta {
         requires to_bottom { row ≤ 24 }
         ensures { result ≡ notes_row self.now row }
     {
+        let row = Row::numbered(row);
         self.notes_cells(row) || self.notes_row_pen(row)
     }
 
     /// Whether a cell of a row is noted.
-    fn notes_cells(&self, row: u8) -> bool
-        requires from_top { 1 ≤ row }
-        requires to_bottom { row ≤ 24 }
+    fn notes_cells(&self, row: Row) -> bool
         ensures { result ≡ notes_cells self.now row }
     {
-        let index = usize::from(row) - 1;
+        let index = row.index();
         self.rows[index] && one_noted(&self.cells[index])
     }
 
     /// Whether attributes of a row are noted.
-    fn notes_row_pen(&self, row: u8) -> bool
-        requires from_top { 1 ≤ row }
-        requires to_bottom { row ≤ 24 }
+    fn notes_row_pen(&self, row: Row) -> bool
         ensures { result ≡ is_some (old_row_pen self.now row) }
     {
-        self.row_pens[usize::from(row) - 1].is_some()
+        self.row_pens[row.index()].is_some()
     }
 
     /// Whether something is noted by which any row may look: attributes of the screen, a colour

@@ -11,7 +11,7 @@ ghost use Rattle.cept_repaint.specs.Exchanged.{noted_instead};
 ghost use Rattle.cept_repaint.specs.PutBack.{cells_back};
 
 use cept_cells::Grid;
-use cept_codes::{Cell, Paint, Pattern, Pen, Pos};
+use cept_codes::{Cell, Column, Paint, Pattern, Pen, Pos, Row};
 use cept_colours::Colours;
 use cept_drcs::Patterns;
 
@@ -37,60 +37,44 @@ pub(crate) fn exchange_cells(noted: &mut [[Option<Cell>; 40]], rows: &[bool; 24]
     requires flags { length rows.now ≡ 24 }
     requires unflagged { (r c : ℕ) → OnScreen r c → entry false 1 rows.now r ≡ false
         → value_at None noted.old r c ≡ None }
-    requires is { IsTable grid.old }
     ensures noted { noted.new
         ≡ table (λ r c. noted_instead (value_at None noted.old r c) (value_at blank_cell grid.old r c)) }
     ensures cells { grid.new
         ≡ table (λ r c. unwrap_or (value_at None noted.old r c) (value_at blank_cell grid.old r c)) }
 {
-    for row in 1..25u8 {
-        let index = usize::from(row) - 1;
+    grid.whole_by_type();
+    for number in 1..25u8 {
+        let row = Row::numbered(number);
+        let index = row.index();
         exchange_row(row, rows[index], &mut noted[index], grid);
     }
 }
 
 /// Exchanges the old cells of a row, where any may be noted, with those of a grid.
-fn exchange_row(row: u8, flagged: bool, noted: &mut [Option<Cell>; 40], grid: &mut Grid)
-    requires from_top { 1 ≤ row }
-    requires to_bottom { row ≤ 24 }
+fn exchange_row(row: Row, flagged: bool, noted: &mut [Option<Cell>; 40], grid: &mut Grid)
     requires places { length noted.old ≡ 40 }
     requires unflagged { flagged ≡ false → (c : ℕ) → 1 ≤ c → c ≤ 40 → entry None 1 noted.old c ≡ None }
-    requires is { IsTable grid.old }
     ensures noted { noted.new
         ≡ list_by_index 1 40 (λ c. noted_instead (entry None 1 noted.old c) (value_at blank_cell grid.old row c)) }
     ensures cells { grid.new ≡ cells_back (λ r _. row == r) (λ _ c. entry None 1 noted.old c) grid.old }
 {
-    if flagged {
-        exchange_columns(row, noted, grid);
+    grid.whole_by_type();
+    if !flagged {
+        return;
     }
-}
-
-/// Exchanges old cells of a row, one column after the other, with those of a grid.
-fn exchange_columns(row: u8, noted: &mut [Option<Cell>; 40], grid: &mut Grid)
-    requires from_top { 1 ≤ row }
-    requires to_bottom { row ≤ 24 }
-    requires places { length noted.old ≡ 40 }
-    requires is { IsTable grid.old }
-    ensures noted { noted.new
-        ≡ list_by_index 1 40 (λ c. noted_instead (entry None 1 noted.old c) (value_at blank_cell grid.old row c)) }
-    ensures cells { grid.new ≡ cells_back (λ r _. row == r) (λ _ c. entry None 1 noted.old c) grid.old }
-{
-    for column in 1..41u8 {
-        exchange_cell(
-            Pos::new(row, column).unwrap(),
-            &mut noted[usize::from(column) - 1],
-            grid,
-        );
+    for number in 1..41u8 {
+        let column = Column::numbered(number);
+        exchange_cell(Pos::at(row, column), &mut noted[column.index()], grid);
     }
 }
 
 /// Exchanges an old cell, where there is one, with that of a grid.
 fn exchange_cell(at: Pos, noted: &mut Option<Cell>, grid: &mut Grid)
-    requires { IsTable grid.old }
     ensures noted { noted.new
         ≡ noted_instead noted.old (value_at blank_cell grid.old at.row at.column) }
     ensures cells { grid.new ≡ cells_back (is_at at) (λ _ _. noted.old) grid.old }
 {
+    grid.whole_by_type();
     if let Some(old) = *noted {
         *noted = Some(grid.get(at));
         grid.set(at, old);
@@ -107,20 +91,9 @@ pub(crate) fn exchange_row_pens(noted: &mut [Option<Pen>; 24], penned: bool, pen
     ensures pens { pens.new
         ≡ list_of_rows (λ r. unwrap_or (entry None 1 noted.old r) (row_pen_in pens.old r)) }
 {
-    if penned {
-        exchange_pens(noted, pens);
+    if !penned {
+        return;
     }
-}
-
-/// Exchanges old attributes of rows with these.
-fn exchange_pens(noted: &mut [Option<Pen>; 24], pens: &mut [Pen; 24])
-    requires places { length noted.old ≡ 24 }
-    requires rows { length pens.old ≡ 24 }
-    ensures noted { noted.new
-        ≡ list_of_rows (λ r. noted_instead (entry None 1 noted.old r) (row_pen_in pens.old r)) }
-    ensures pens { pens.new
-        ≡ list_of_rows (λ r. unwrap_or (entry None 1 noted.old r) (row_pen_in pens.old r)) }
-{
     for i in 0..24usize {
         pens[i] = exchange_value(&mut noted[i], pens[i]);
     }
@@ -206,22 +179,9 @@ pub(crate) fn exchange_patterns(
         ≡ list_of_codes (λ d. unwrap_or (entry None 0x21 noted.old d) (pattern_in patterns.old d)) }
 {
     patterns.valid_by_type();
-    if patterned {
-        exchange_codes(noted, patterns);
+    if !patterned {
+        return;
     }
-}
-
-/// Exchanges old patterns, one code after the other, with these.
-fn exchange_codes(noted: &mut [Option<Option<Pattern>>], patterns: &mut Patterns)
-    requires places { length noted.old ≡ 94 }
-    requires codes { length patterns.old ≡ 94 }
-    requires valid { (d : ℕ) → 0x21 ≤ d → d ≤ 0x7E
-        → IfSome (entry None 0x21 noted.old d) (λ pattern. IfSome pattern IsValidPattern) }
-    ensures noted { noted.new
-        ≡ list_of_codes (λ d. noted_instead (entry None 0x21 noted.old d) (pattern_in patterns.old d)) }
-    ensures patterns { patterns.new
-        ≡ list_of_codes (λ d. unwrap_or (entry None 0x21 noted.old d) (pattern_in patterns.old d)) }
-{
     for code in 0x21..0x7Fu8 {
         let pattern = exchange_value(&mut noted[usize::from(code) - 0x21], patterns.get(code));
         patterns.set(code, pattern);

@@ -12,7 +12,7 @@ ghost use Rattle.cept_repaint.specs.MarkedRows.{IsKeptPage};
 use crate::delta::Delta;
 use crate::row_flags::{is_double, is_marker, sets_double_size};
 use cept_cells::Grid;
-use cept_codes::{Cell, Pen};
+use cept_codes::{Cell, Pen, Row};
 
 /// Makes the flags of all rows anew of which old values were put back. The delta notes the same
 /// locations as these.
@@ -30,22 +30,20 @@ pub(crate) fn flag_unwound(
         → IsKeptPage p marked.old sized.old → q ≡ page_unwound p old
         → q.cells ≡ grid.now → q.row_pens ≡ row_pens.now → IsKeptPage q marked.new sized.new }
 {
-    for row in 1..25u8 {
-        flag_row_unwound(row, delta, grid, row_pens, marked, sized);
+    for number in 1..25u8 {
+        flag_row_unwound(Row::numbered(number), delta, grid, row_pens, marked, sized);
     }
 }
 
 /// Makes the flags of a row anew, where old values of it were put back.
 fn flag_row_unwound(
-    row: u8,
+    row: Row,
     delta: &Delta,
     grid: &Grid,
     row_pens: &[Pen; 24],
     marked: &mut [bool; 24],
     sized: &mut [bool; 24],
 )
-    requires from_top { 1 ≤ row }
-    requires to_bottom { row ≤ 24 }
     requires rows { length row_pens.now ≡ 24 }
     requires marked_rows { length marked.old ≡ 24 }
     requires sized_rows { length sized.old ≡ 24 }
@@ -53,11 +51,11 @@ fn flag_row_unwound(
     ensures sized { IsFlagMade (IsSingleRowAnew grid.now row_pens.now delta.now sized.old row) row
         sized.old sized.new }
 {
-    if delta.notes_row(row) {
+    if delta.notes_row(row.number()) {
         flag_anew(
             row,
-            grid.cells(row),
-            &row_pens[usize::from(row) - 1],
+            grid.cells(row.number()),
+            &row_pens[row.index()],
             marked,
             sized,
         );
@@ -65,15 +63,13 @@ fn flag_row_unwound(
 }
 
 /// Makes the flags of a row anew, by its cells and its attributes.
-pub(crate) fn flag_anew(
-    row: u8,
+fn flag_anew(
+    row: Row,
     cells: &[Cell; 40],
     pen: &Pen,
     marked: &mut [bool; 24],
     sized: &mut [bool; 24],
 )
-    requires from_top { 1 ≤ row }
-    requires to_bottom { row ≤ 24 }
     requires columns { length cells.now ≡ 40 }
     requires marked_rows { length marked.old ≡ 24 }
     requires sized_rows { length sized.old ≡ 24 }
@@ -87,13 +83,11 @@ pub(crate) fn flag_anew(
 }
 
 /// Sets or unsets the flag of a row.
-fn set_flag(row: u8, flag: bool, rows: &mut [bool; 24])
-    requires from_top { 1 ≤ row }
-    requires to_bottom { row ≤ 24 }
+fn set_flag(row: Row, flag: bool, rows: &mut [bool; 24])
     requires rows { length rows.old ≡ 24 }
     ensures made { IsFlagMade (flag ≡ false) row rows.old rows.new }
 {
-    rows[usize::from(row) - 1] = flag;
+    rows[row.index()] = flag;
 }
 
 /// Whether a marker stands in one of the cells.

@@ -1,19 +1,18 @@
 ghost use Rattle.std.specs.Prelude.{◌≡◌, ◌≤◌, ◌<◌, ◌+◌, ◌-◌, ◌==◌, ◌&&◌, ◌||◌, ℕ, true, false, length, Some, [], ◌∷◌};
 ghost use Rattle.std.specs.List.{AllByRecursion, list_any};
-ghost use Rattle.cept_codes.specs.Command.{IsArea};
 ghost use Rattle.cept_codes.specs.Stroke.{IsValidStroke};
 ghost use Rattle.cept_codes.specs.Table.{entry, list_by_index};
-ghost use Rattle.cept_profile.specs.Cells.{shifted};
 ghost use Rattle.cept_repaint.specs.Due.{followed, followed_after, freed, row_from, written_if};
 ghost use Rattle.cept_repaint.specs.Resolved.{defines, one_else};
 
-use cept_codes::{Stroke, Up};
+use crate::shifted_rows::shifted_rows;
+use cept_codes::{Row, Stroke};
 
 /// A row after strokes: the row before them of which it came, `None` where it was freed, and
 /// whether one of them writes in it.
 #[derive(Clone, Copy)]
 pub(crate) struct Followed {
-    pub(crate) from: Option<u8>,
+    pub(crate) from: Option<Row>,
     pub(crate) written: bool,
 }
 
@@ -42,7 +41,7 @@ pub(crate) fn rows_at_rest() -> [Followed; 24]
     let mut rows = [FREED; 24];
     for i in 0..24u8 {
         rows[usize::from(i)] = Followed {
-            from: Some(i + 1),
+            from: Some(Row::numbered(i + 1)),
             written: false,
         };
     }
@@ -58,11 +57,11 @@ fn follow(stroke: &Stroke, rows: &mut [Followed; 24])
         → entry freed 1 rows.new r ≡ followed_after stroke.now (entry freed 1 rows.old) r }
 {
     match stroke {
-        Stroke::Put(place, _) => write_row(place.row(), rows),
-        Stroke::Erase(row, _) => write_row(*row, rows),
+        Stroke::Put(place, _) => write_row(place.in_row(), rows),
+        Stroke::Erase(row, _) => write_row(Row::numbered(*row), rows),
         Stroke::Wipe => write_rows(rows),
         Stroke::Shift(first, last, way) | Stroke::Carry(first, last, way) => {
-            *rows = shifted_rows(*first, *last, *way, rows);
+            *rows = shifted_rows(*first, *last, *way, FREED, rows);
         }
         // These write in no row and move none.
         Stroke::RowAttr(_, _)
@@ -78,15 +77,13 @@ fn follow(stroke: &Stroke, rows: &mut [Followed; 24])
 }
 
 /// A stroke writes in a row.
-fn write_row(row: u8, rows: &mut [Followed; 24])
-    requires from_top { 1 ≤ row }
-    requires to_bottom { row ≤ 24 }
+fn write_row(row: Row, rows: &mut [Followed; 24])
     requires rows { length rows.old ≡ 24 }
     ensures rows { length rows.new ≡ 24 }
     ensures written { (r : ℕ) → 1 ≤ r → r ≤ 24
         → entry freed 1 rows.new r ≡ written_if (row == r) (entry freed 1 rows.old r) }
 {
-    rows[usize::from(row) - 1].written = true;
+    rows[row.index()].written = true;
 }
 
 /// A stroke writes in all rows.
@@ -101,44 +98,13 @@ fn write_rows(rows: &mut [Followed; 24])
     }
 }
 
-/// The rows after those of an area went one up or down, with one that was freed.
-fn shifted_rows(first: u8, last: u8, way: Up, rows: &[Followed; 24]) -> [Followed; 24]
-    requires area { IsArea first last }
-    requires rows { length rows.now ≡ 24 }
-    ensures { result ≡ list_by_index 1 24 (shifted way first last freed (entry freed 1 rows.now)) }
-{
-    let mut moved = [FREED; 24];
-    for i in 0..24u8 {
-        moved[usize::from(i)] = shifted_row(first, last, way, rows, i + 1);
-    }
-    moved
-}
-
-/// One of them.
-fn shifted_row(first: u8, last: u8, way: Up, rows: &[Followed; 24], row: u8) -> Followed
-    requires area { IsArea first last }
-    requires rows { length rows.now ≡ 24 }
-    requires from_top { 1 ≤ row }
-    requires to_bottom { row ≤ 24 }
-    ensures { result ≡ shifted way first last freed (entry freed 1 rows.now) row }
-{
-    let index = usize::from(row) - 1;
-    if row < first || last < row {
-        return rows[index];
-    }
-    match way {
-        Up::Up => { if row == last { FREED } else { rows[index + 1] } }
-        Up::Down => { if row == first { FREED } else { rows[index - 1] } }
-    }
-}
-
 /// Whether one of the rows came of another.
 pub(crate) fn one_moved(rows: &[Followed; 24]) -> bool
     requires rows { length rows.now ≡ 24 }
     ensures { result ≡ false → (r q : ℕ) → 1 ≤ r → r ≤ 24 → row_from rows.now r ≡ Some q → q ≡ r }
 {
     for i in 0..24u8 {
-        if is_moved(rows[usize::from(i)].from, i + 1) {
+        if is_moved(rows[usize::from(i)].from, Row::numbered(i + 1)) {
             return true;
         }
     }
@@ -146,7 +112,7 @@ pub(crate) fn one_moved(rows: &[Followed; 24]) -> bool
 }
 
 /// Whether a row came of another.
-fn is_moved(from: Option<u8>, row: u8) -> bool
+fn is_moved(from: Option<Row>, row: Row) -> bool
     ensures { result ≡ false → (q : ℕ) → from ≡ Some q → q ≡ row }
 {
     match from {

@@ -7,7 +7,7 @@ ghost use Rattle.cept_profile.specs.Valid.{IsValidGrid};
 ghost use Rattle.cept_repaint.specs.GlassState.{GlassState, Paints, PaintsRow};
 
 use crate::screen::Screen;
-use cept_codes::{Look, Pos};
+use cept_codes::{Column, Look, Pos, Row};
 
 /// Something that shows the looks painted on it.
 pub trait Glass {
@@ -21,18 +21,14 @@ pub trait Glass {
 
     /// Paints the screen's looks in the flagged columns of a row, from the left. No other place
     /// changes.
-    fn paint_row(&mut self, row: u8, flags: &[bool], screen: &Screen)
-        requires from_top { 1 ≤ row }
-        requires to_bottom { row ≤ 24 }
+    fn paint_row(&mut self, row: Row, flags: &[bool], screen: &Screen)
         requires columns { length flags.now ≡ 40 }
         ensures { PaintsRow (state self.old) flags.now row (looks_of (core_of screen.now))
             (state self.new) }
     {
         for k in 0..40u8 {
             if flags[usize::from(k)] {
-                if let Some(at) = Pos::new(row, k + 1) {
-                    self.paint(at, screen);
-                }
+                self.paint(Pos::at(row, Column::numbered(k + 1)), screen);
             }
         }
     }

@@ -7,7 +7,7 @@ ghost use Rattle.cept_repaint.specs.ValidGrid.{IsValidGrid-prop};
 use crate::glass::Glass;
 use crate::kept_rows::KeptRows;
 use crate::screen::Screen;
-use cept_codes::{Look, NoMemory, Pos};
+use cept_codes::{Look, NoMemory, Pos, Row};
 use std::alloc::Global;
 
 /// A glass in memory. It keeps the look at each place, and tells no list of paints.
@@ -42,8 +42,8 @@ impl Glass for GridGlass {
         self.rows.copy_at(at, looks);
     }
 
-    fn paint_row(&mut self, row: u8, flags: &[bool], screen: &Screen) {
-        let looks = screen.row_looks(row);
+    fn paint_row(&mut self, row: Row, flags: &[bool], screen: &Screen) {
+        let looks = screen.row_looks(row.number());
         looks.columns_by_type();
         self.rows.copy_flagged(row, flags, looks);
     }

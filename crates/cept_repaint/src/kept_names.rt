@@ -13,6 +13,7 @@ use crate::followed_rows::Followed;
 use crate::kept_rows::KeptRows;
 use crate::marks::Marks;
 use crate::page::Page;
+use cept_codes::Row;
 use cept_rows::{RowLooks, RowNames};
 use std::marker::Model;
 
@@ -49,24 +50,19 @@ impl KeptNames {
     }
 
     /// What is kept as the names of a row, where it stands.
-    pub(crate) fn row(&self, row: u8) -> &RowNames
-        requires from_top { 1 ≤ row }
-        requires to_bottom { row ≤ 24 }
+    pub(crate) fn row(&self, row: Row) -> &RowNames
         ensures { result.now ≡ row_named self.now row }
     {
-        &self.rows[usize::from(row) - 1]
+        &self.rows[row.index()]
     }
 
     /// The same of the row above a row.
-    fn above(&self, row: u8) -> &RowNames
-        requires from_top { 1 ≤ row }
-        requires to_bottom { row ≤ 24 }
+    fn above(&self, row: Row) -> &RowNames
         ensures { result.now ≡ row_named self.now (row - 1) }
     {
-        if row == 1 {
-            &self.above
-        } else {
-            &self.rows[usize::from(row) - 2]
+        match row.above() {
+            Some(above) => self.row(above),
+            None => &self.above,
         }
     }
 
@@ -77,8 +73,9 @@ impl KeptNames {
             → AreNamed self.old (core_on k page.now) → AreNamed self.new (core_on k page.now) }
         ensures known { AreAllKnown self.new }
     {
-        for row in 1..25u8 {
-            if !self.known[usize::from(row) - 1] {
+        for number in 1..25u8 {
+            let row = Row::numbered(number);
+            if !self.known[row.index()] {
                 self.name(row, page, kept.row(row));
             }
         }
@@ -86,16 +83,14 @@ impl KeptNames {
 
     /// Names a row with these looks. What the row below it names is forgotten, where these aren't
     /// the names that stood above it.
-    fn name(&mut self, row: u8, page: &Page, looks: &RowLooks)
-        requires from_top { 1 ≤ row }
-        requires to_bottom { row ≤ 24 }
+    fn name(&mut self, row: Row, page: &Page, looks: &RowLooks)
         requires valid { IsValidPage page.now }
         ensures named { (k : Core) → looks.now ≡ looks_in (looks_of (core_on k page.now)) row
             → AreNamed self.old (core_on k page.now) → AreNamed self.new (core_on k page.now) }
         ensures known { is_known self.new row ≡ true }
         ensures above { (r : ℕ) → 1 ≤ r → r < row → is_known self.new r ≡ is_known self.old r }
     {
-        let at = usize::from(row) - 1;
+        let at = row.index();
         let names = page.name_row(row, self.above(row), looks);
         let same = is_same(&names, &self.rows[at]);
         self.rows[at] = names;
@@ -107,25 +102,21 @@ impl KeptNames {
 
     /// Forgets what a row names.
     #[inline(always)]
-    pub(crate) fn forget(&mut self, row: u8)
-        requires from_top { 1 ≤ row }
-        requires to_bottom { row ≤ 24 }
+    pub(crate) fn forget(&mut self, row: Row)
         ensures { AreRemembered self.old self.new (λ r. r ≢ row) }
     {
-        self.known[usize::from(row) - 1] = false;
+        self.known[row.index()] = false;
     }
 
     /// Forgets what a row names, and each row in which a place is marked.
-    pub(crate) fn forget_marked(&mut self, row: u8, marks: &Marks)
-        requires from_top { 1 ≤ row }
-        requires to_bottom { row ≤ 24 }
+    pub(crate) fn forget_marked(&mut self, row: Row, marks: &Marks)
         ensures { AreRemembered self.old self.new (λ r. (r ≢ row)
             × IsUnmarkedBelow marks.now 960 r) }
     {
         self.forget(row);
         let mut from = 0;
         while let Some(place) = marks.next_from(from) {
-            self.forget(place.row());
+            self.forget(place.in_row());
             from = 40 * u16::from(place.row());
         }
     }
@@ -137,8 +128,9 @@ impl KeptNames {
         requires rows { length rows.now ≡ 24 }
         ensures { AreRemembered self.old self.new (λ r. IsStill flags.now rows.now marks.now r) }
     {
-        for row in 1..25u8 {
-            let at = usize::from(row) - 1;
+        for number in 1..25u8 {
+            let row = Row::numbered(number);
+            let at = row.index();
             let stays = !flags[at] & is_still(rows[at].from, row) & !is_marked_in(marks, row);
             self.known[at] = self.known[at] & stays;
         }
@@ -160,7 +152,7 @@ fn is_same(names: &RowNames, others: &RowNames) -> bool
 }
 
 /// Whether a row came of itself.
-fn is_still(from: Option<u8>, row: u8) -> bool
+fn is_still(from: Option<Row>, row: Row) -> bool
     ensures { result ≡ true → from ≡ Some row }
 {
     match from {
@@ -170,13 +162,11 @@ fn is_still(from: Option<u8>, row: u8) -> bool
 }
 
 /// Whether a place of a row is marked.
-fn is_marked_in(marks: &Marks, row: u8) -> bool
-    requires from_top { 1 ≤ row }
-    requires to_bottom { row ≤ 24 }
+fn is_marked_in(marks: &Marks, row: Row) -> bool
     ensures { result ≡ false → (c : ℕ) → OnScreen row c → is_marked marks.now (number row c) ≡ false }
 {
-    match marks.next_from(40 * (u16::from(row) - 1)) {
-        Some(place) => place.row() == row,
+    match marks.next_from(40 * (u16::from(row.number()) - 1)) {
+        Some(place) => place.in_row() == row,
         None => false,
     }
 }

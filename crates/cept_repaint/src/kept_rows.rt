@@ -1,26 +1,20 @@
 ghost use Rattle.std.specs.Prelude.{◌≡◌, ℕ, ◌+◌, ◌-◌, ◌≤◌, false, not, length, slice_set, IfOk, if◌then◌else◌};
-ghost use Rattle.cept_codes.specs.Attribute.{IsValidPen};
-ghost use Rattle.cept_codes.specs.Cell.{IsValidWhat};
 ghost use Rattle.cept_codes.specs.Command.{IsArea};
 ghost use Rattle.cept_codes.specs.Look.{IsValidLook, blank_look};
 ghost use Rattle.cept_codes.specs.Place.{OnScreen};
-ghost use Rattle.cept_codes.specs.Same.{same_look};
 ghost use Rattle.cept_codes.specs.Table.{entry, list_by_index, row_of, table, value_at, IsTable};
 ghost use Rattle.cept_profile.specs.Cells.{shifted};
 ghost use Rattle.cept_profile.specs.Changes.{look_at, grid_with_paint};
-ghost use Rattle.cept_profile.specs.Look.{look_of};
-ghost use Rattle.cept_rows.specs.DrawnWith.{drawn_with};
 ghost use Rattle.cept_profile.specs.RowsFromAbove.{looks_in};
-ghost use Rattle.cept_profile.specs.Serial.{row_in};
 ghost use Rattle.cept_profile.specs.Tiling.{column_entry};
 ghost use Rattle.cept_scroll.specs.Order.{leaving_row};
 ghost use Rattle.cept_repaint.specs.Kept.{looks_differ};
+ghost use Rattle.cept_rows.specs.Flagged.{look_after, looks_differ as are_other};
+ghost use Rattle.cept_rows.specs.Source.{look_by_itself};
 
-use cept_codes::{Cell, Look, NoMemory, Pen, Pos, Up, What};
-use cept_colours::Colours;
-use cept_drcs::Patterns;
+use cept_codes::{Look, NoMemory, Pos, Row, Up};
 use cept_outside::Steps;
-use cept_rows::RowLooks;
+use cept_rows::{RowLooks, RowSource};
 use cept_scroll::RowOrder;
 use std::alloc::Global;
 use std::marker::Model;
@@ -67,24 +61,19 @@ impl KeptRows {
     }
 
     /// The looks of a row, where they stand.
-    pub(crate) fn row(&self, row: u8) -> &RowLooks
-        requires from_top { 1 ≤ row }
-        requires to_bottom { row ≤ 24 }
+    pub(crate) fn row(&self, row: Row) -> &RowLooks
         ensures { result.now ≡ looks_in self.now row }
     {
-        &self.rows[self.order.index(row)]
+        &self.rows[self.order.index(row.number())]
     }
 
     /// The looks of the row above a row, where they stand.
-    pub(crate) fn above(&self, row: u8) -> &RowLooks
-        requires from_top { 1 ≤ row }
-        requires to_bottom { row ≤ 24 }
+    pub(crate) fn above(&self, row: Row) -> &RowLooks
         ensures { result.now ≡ looks_in self.now (row - 1) }
     {
-        if row == 1 {
-            &self.flat
-        } else {
-            self.row(row - 1)
+        match row.above() {
+            Some(above) => self.row(above),
+            None => &self.flat,
         }
     }
 
@@ -105,14 +94,12 @@ impl KeptRows {
     }
 
     /// Takes over the looks of a row.
-    pub(crate) fn copy_row(&mut self, row: u8, looks: &RowLooks)
-        requires from_top { 1 ≤ row }
-        requires to_bottom { row ≤ 24 }
+    pub(crate) fn copy_row(&mut self, row: Row, looks: &RowLooks)
         ensures rows { self.new ≡ slice_set self.old (row - 1) looks.now }
         ensures columns { length looks.now ≡ 40 }
     {
         looks.columns_by_type();
-        self.rows[self.order.index(row)].copy_from(looks);
+        self.rows[self.order.index(row.number())].copy_from(looks);
     }
 
     /// Takes over all looks.
@@ -121,7 +108,8 @@ impl KeptRows {
     {
         self.whole_by_type();
         from.whole_by_type();
-        for row in 1..25u8 {
+        for number in 1..25u8 {
+            let row = Row::numbered(number);
             self.copy_row(row, from.row(row));
         }
     }
@@ -144,76 +132,55 @@ impl KeptRows {
         ensures { self.new
             ≡ grid_with_paint self.old place (column_entry blank_look from.now place.column) }
     {
-        self.rows[self.order.index(place.row())].copy_at(place.col(), from);
+        self.rows[self.order.index(place.row())].copy_at(place.in_column(), from);
     }
 
     /// Takes over the looks of the flagged columns of a row from another's.
-    pub(crate) fn copy_flagged(&mut self, row: u8, flags: &[bool], from: &RowLooks)
-        requires from_top { 1 ≤ row }
-        requires to_bottom { row ≤ 24 }
+    pub(crate) fn copy_flagged(&mut self, row: Row, flags: &[bool], from: &RowLooks)
         requires columns { length flags.now ≡ 40 }
-        ensures { self.new ≡ slice_set self.old (row - 1) (row_of (λ c. if entry false 1 flags.now c
-            then column_entry blank_look from.now c
-            else column_entry blank_look (looks_in self.old row) c)) }
+        ensures { self.new ≡ slice_set self.old (row - 1)
+            (row_of (look_after flags.now (column_entry blank_look from.now) (looks_in self.old row))) }
     {
         self.whole_by_type();
-        self.rows[self.order.index(row)].copy_flagged(flags, from);
+        self.rows[self.order.index(row.number())].copy_flagged(flags, from);
     }
 
-    /// Resolves the cell at a place by itself, and keeps its look. Answers whether it differs from
-    /// the one before. One tick.
+    /// Resolves the cell at a place by itself, by what its row is made of, and keeps its look. Answers
+    /// whether it differs from the one before. One tick.
     pub(crate) fn resolve_alone<L: Ledger>(
         &mut self,
         place: Pos,
-        what: &What,
-        row: &Pen,
-        screen: &Pen,
-        colours: &Colours,
-        patterns: &Patterns,
+        source: &RowSource,
         steps: &mut Steps<L>,
     ) -> bool
-        requires valid { IsValidWhat what.now }
-        requires row { IsValidPen row.now }
-        requires screen { IsValidPen screen.now }
-        ensures looks { self.new ≡ grid_with_paint self.old place
-            (look_of (drawn_with colours.now patterns.now) row.now screen.now what.now) }
-        ensures differs { result ≡ looks_differ (look_at self.old place)
-            (look_of (drawn_with colours.now patterns.now) row.now screen.now what.now) }
+        ensures looks { self.new
+            ≡ grid_with_paint self.old place (look_by_itself source.now place.column) }
+        ensures differs { result
+            ≡ looks_differ (look_at self.old place) (look_by_itself source.now place.column) }
         ensures on_screen { OnScreen place.row place.column }
         ensures tick { steps.new ≡ steps.old + 1 }
     {
         let kept = &mut self.rows[self.order.index(place.row())];
-        kept.resolve_alone(place.col(), what, row, screen, colours, patterns, steps)
+        kept.resolve_alone(place.in_column(), source, steps)
     }
 
     /// Resolves the cells of the flagged columns of a row, each by itself, and keeps their looks.
     /// Answers for each column whether its look differs from the one before. One tick.
     pub(crate) fn resolve_columns<L: Ledger>(
         &mut self,
-        row: u8,
+        row: Row,
         flags: &[bool; 40],
-        cells: &[Cell; 40],
-        pen: &Pen,
-        screen: &Pen,
-        colours: &Colours,
-        patterns: &Patterns,
+        source: &RowSource,
         steps: &mut Steps<L>,
     ) -> [bool; 40]
-        requires from_top { 1 ≤ row }
-        requires to_bottom { row ≤ 24 }
-        requires cells { (c : ℕ) → 1 ≤ c → c ≤ 40 → IsValidWhat (row_in cells.now c) }
-        requires pen { IsValidPen pen.now }
-        requires screen { IsValidPen screen.now }
-        ensures looks { self.new ≡ slice_set self.old (row - 1) (row_of (λ c. if entry false 1 flags.now c
-            then look_of (drawn_with colours.now patterns.now) pen.now screen.now (row_in cells.now c)
-            else column_entry blank_look (looks_in self.old row) c)) }
-        ensures differ { result ≡ list_by_index 1 40 (λ c. not (same_look
-            (column_entry blank_look (looks_in self.old row) c)
-            (column_entry blank_look (looks_in self.new row) c))) }
+        ensures looks { self.new ≡ slice_set self.old (row - 1)
+            (row_of (look_after flags.now (look_by_itself source.now) (looks_in self.old row))) }
+        ensures differ { result
+            ≡ list_by_index 1 40 (are_other (looks_in self.old row) (looks_in self.new row)) }
         ensures tick { steps.new ≡ steps.old + 1 }
     {
         self.whole_by_type();
-        let kept = &mut self.rows[self.order.index(row)];
-        kept.resolve_columns(flags, cells, pen, screen, colours, patterns, steps)
+        let kept = &mut self.rows[self.order.index(row.number())];
+        kept.resolve_columns(flags, source, steps)
     }
 }

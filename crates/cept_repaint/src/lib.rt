@@ -19,12 +19,15 @@ mod noter;
 mod page;
 mod page_parts;
 mod painting;
+mod picture;
 mod redefined_places;
 mod redefined_rows;
 mod redraw;
+mod refreshed_rows;
 mod restoring;
 mod row_flags;
 mod screen;
+mod shifted_rows;
 mod tape_glass;
 mod unwinding;
 

@@ -4,7 +4,7 @@ ghost use Rattle.cept_codes.specs.Place.{number, OnScreen};
 ghost use Rattle.cept_codes.specs.Table.{entry};
 ghost use Rattle.cept_repaint.specs.Marks.{is_marked, no_marks, AreWithin, HasFlags, IsFirstFrom};
 
-use cept_codes::Pos;
+use cept_codes::{Pos, Row};
 use std::marker::Model;
 
 /// A set of places of the screen, in fixed memory. Beside the flags it keeps from which number on
@@ -87,11 +87,11 @@ impl Marks {
     }
 
     /// The next row from `from` on in which a place may be marked: none is before it.
-    pub(crate) fn next_row(&self, from: u8) -> Option<u8>
+    pub(crate) fn next_row(&self, from: u8) -> Option<Row>
         requires { 1 ≤ from }
         ensures none { IsNone result → (n : ℕ) → number from 1 ≤ n
             → is_marked self.now n ≡ false }
-        ensures within { IfSome result (λ r. (from ≤ r) × (r ≤ 24)) }
+        ensures at_least { IfSome result (λ r. from ≤ r) }
         ensures before { IfSome result (λ r. (n : ℕ) → number from 1 ≤ n → n < number r 1
             → is_marked self.now n ≡ false) }
     {
@@ -99,20 +99,18 @@ impl Marks {
         let end = (self.end + 39) / 40;
         for k in first..end {
             if has_one(&self.flags[40 * k..40 * k + 40]) {
-                return Some(k as u8 + 1);
+                return Some(Row::numbered(k as u8 + 1));
             }
         }
         None
     }
 
     /// The flags of a row, from the left.
-    pub(crate) fn row_flags(&self, row: u8) -> &[bool]
-        requires from_top { 1 ≤ row }
-        requires to_bottom { row ≤ 24 }
+    pub(crate) fn row_flags(&self, row: Row) -> &[bool]
         ensures flags { result.now ≡ take 40 (drop (number row 1) self.now) }
         ensures columns { length result.now ≡ 40 }
     {
-        let first = 40 * (usize::from(row) - 1);
+        let first = 40 * row.index();
         &self.flags[first..first + 40]
     }
 
@@ -151,9 +149,7 @@ impl Marks {
     }
 
     /// Marks the places of a row that are flagged, from the left.
-    pub(crate) fn mark_row(&mut self, row: u8, flags: &[bool; 40])
-        requires from_top { 1 ≤ row }
-        requires to_bottom { row ≤ 24 }
+    pub(crate) fn mark_row(&mut self, row: Row, flags: &[bool; 40])
         requires columns { length flags.now ≡ 40 }
         ensures { HasFlags flags.now (number row 1) self.old self.new }
     {
@@ -161,7 +157,7 @@ impl Marks {
         if !has_one(flags) {
             return;
         }
-        let first = 40 * (usize::from(row) - 1);
+        let first = 40 * row.index();
         add_flags(&mut self.flags, first, flags);
         if self.end == 0 {
             self.first = first;

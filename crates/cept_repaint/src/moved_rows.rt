@@ -1,26 +1,22 @@
-ghost use Rattle.std.specs.Prelude.{◌≡◌, ◌≤◌, ◌+◌, ◌-◌, ℕ, false, true, length, Some, None, IfSome};
+ghost use Rattle.std.specs.Prelude.{◌≡◌, ◌≤◌, ◌-◌, ℕ, false, true, length, Some, None, IfSome};
 ghost use Rattle.std.specs.List.{AllByRecursion};
 ghost use Rattle.cept_codes.specs.Stroke.{IsRow, IsValidStroke};
-ghost use Rattle.cept_codes.specs.Table.{entry, IsTable};
-ghost use Rattle.cept_profile.specs.Changes.{differences};
-ghost use Rattle.cept_profile.specs.Edges.{edges_of_core};
+ghost use Rattle.cept_codes.specs.Table.{entry};
 ghost use Rattle.cept_profile.specs.MovedRows.{row_before};
 ghost use Rattle.cept_profile.specs.RowsFromAbove.{looks_in};
-ghost use Rattle.cept_profile.specs.State.{Core};
-ghost use Rattle.cept_profile.specs.Valid.{IsValidPage};
-ghost use Rattle.cept_repaint.specs.Due.{OtherRowsStay, came_from, row_from, rows_due};
-ghost use Rattle.cept_repaint.specs.Kept.{AreEdges, AreLooksOn, core_on, is_other_above};
+ghost use Rattle.cept_repaint.specs.Due.{came_from, row_from};
+ghost use Rattle.cept_repaint.specs.Kept.{is_other_above};
 ghost use Rattle.cept_repaint.specs.Marks.{no_marks};
+ghost use Rattle.cept_repaint.specs.Picture.{AreOthersKept, HasSameRest, IsRefreshedOn};
 
 use crate::compared_rows::{covers_otherwise, mark_differences};
 use crate::followed_rows::Followed;
 use crate::kept_rows::KeptRows;
 use crate::marks::Marks;
-use crate::page::Page;
-use cept_codes::Stroke;
+use crate::picture::Picture;
+use cept_codes::{Row, Stroke};
 use cept_control::Edges;
 use cept_outside::Steps;
-use cept_rows::RowLooks;
 use std::sync::ledger::Ledger;
 
 /// The looks of rows that strokes move go with their rows.
@@ -39,64 +35,64 @@ pub(crate) fn turn_rows(strokes: &[Stroke], kept: &mut KeptRows)
     }
 }
 
-/// Resolves the flagged rows and those that are covered otherwise than before, from the top, where
-/// rows moved: these are the looks that stood before, and those of rows that came of others have
-/// moved with them.
-pub(crate) fn move_rows<L: Ledger>(
-    page: &Page,
-    rows: &[Followed; 24],
-    flags: &[bool; 24],
-    edges: &Edges,
-    stood: &KeptRows,
-    kept: &mut KeptRows,
-    fresh: &mut RowLooks,
-    marks: &mut Marks,
-    steps: &mut Steps<L>,
-)
-    requires rows { length rows.now ≡ 24 }
-    requires flags { length flags.now ≡ 24 }
-    requires none { marks.old ≡ no_marks }
-    requires valid { IsValidPage page.now }
-    requires edges { AreEdges edges.now }
-    requires came { (r : ℕ) → 1 ≤ r → r ≤ 24 → IfSome (row_from rows.now r) IsRow }
-    requires freed { (r : ℕ) → 1 ≤ r → r ≤ 24 → row_from rows.now r ≡ None
-        → entry false 1 flags.now r ≡ true }
-    requires moved { (r q : ℕ) → 1 ≤ r → r ≤ 24 → row_from rows.now r ≡ Some q
-        → looks_in kept.old r ≡ looks_in stood.now q }
-    requires others { (k : Core) → edges_of_core k ≡ edges.now
-        → OtherRowsStay flags.now rows.now stood.now (core_on k page.now) }
-    ensures kept { AreLooksOn kept.new page.now edges.now }
-    ensures marks { marks.new ≡ differences stood.now kept.new }
-    ensures cost { steps.new ≡ steps.old + rows_due flags.now rows.now stood.now kept.new }
-{
-    kept.whole_by_type();
-    stood.whole_by_type();
-    let mut above = 0;
-    let mut covered = false;
-    for row in 1..25u8 {
-        let at = usize::from(row) - 1;
-        let from = came_from(rows[at].from, row);
-        covered = is_covered(from, above, covered, stood, kept, row);
-        if flags[at] | covered {
-            page.resolve_row(row, kept.above(row), edges.is_last(row), fresh, steps);
-            kept.copy_row(row, fresh);
-            covered = covers_otherwise(stood.row(from), kept.row(row));
+impl Picture {
+    /// Resolves the flagged rows and those that are covered otherwise than before, from the top, where
+    /// rows moved: the looks that stood before are kept apart, and those of rows that came of others
+    /// have moved with them.
+    pub(crate) fn move_rows<L: Ledger>(
+        &mut self,
+        rows: &[Followed; 24],
+        flags: &[bool; 24],
+        edges: &Edges,
+        marks: &mut Marks,
+        steps: &mut Steps<L>,
+    )
+        requires rows { length rows.now ≡ 24 }
+        requires flags { length flags.now ≡ 24 }
+        requires none { marks.old ≡ no_marks }
+        requires came { (r : ℕ) → 1 ≤ r → r ≤ 24 → IfSome (row_from rows.now r) IsRow }
+        requires freed { (r : ℕ) → 1 ≤ r → r ≤ 24 → row_from rows.now r ≡ None
+            → entry false 1 flags.now r ≡ true }
+        requires moved { (r q : ℕ) → 1 ≤ r → r ≤ 24 → row_from rows.now r ≡ Some q
+            → looks_in self.old.looks r ≡ looks_in self.old.stood q }
+        requires others { AreOthersKept flags.now rows.now self.old.stood self.old.page edges.now }
+        ensures rest { HasSameRest self.old self.new }
+        ensures refreshed { IsRefreshedOn flags.now rows.now self.old.stood edges.now self.new marks.new
+            steps.old steps.new }
+    {
+        let page = &self.page;
+        let stood = &self.stood;
+        let looks = &mut self.looks;
+        let fresh = &mut self.fresh;
+        looks.whole_by_type();
+        stood.whole_by_type();
+        let mut above = 0;
+        let mut covered = false;
+        for row in 1..25u8 {
+            let here = Row::numbered(row);
+            let at = usize::from(row) - 1;
+            let from = came_from(rows[at].from, row);
+            covered = is_covered(from, above, covered, stood, looks, row);
+            if flags[at] | covered {
+                page.resolve_row(here, looks.above(here), edges.is_last(row), fresh, steps);
+                looks.copy_row(here, fresh);
+                covered = covers_otherwise(stood.row(Row::numbered(from)), looks.row(here));
+            }
+            mark_differences(here, stood.row(here), looks.row(here), marks);
+            above = from;
         }
-        mark_differences(row, stood.row(row), kept.row(row), marks);
-        above = from;
     }
 }
 
 /// The row of which one came, or itself where it was freed.
-fn came_from(from: Option<u8>, row: u8) -> u8
+fn came_from(from: Option<Row>, row: u8) -> u8
     requires from_top { 1 ≤ row }
     requires to_bottom { row ≤ 24 }
-    requires came { IfSome from IsRow }
     ensures row { result ≡ came_from from row }
     ensures on_screen { IsRow result }
 {
     match from {
-        Some(from) => from,
+        Some(from) => from.number(),
         None => row,
     }
 }
@@ -121,6 +117,9 @@ fn is_covered(
     if from - 1 == above {
         covered
     } else {
-        covers_otherwise(stood.above(from), kept.above(row))
+        covers_otherwise(
+            stood.above(Row::numbered(from)),
+            kept.above(Row::numbered(row)),
+        )
     }
 }

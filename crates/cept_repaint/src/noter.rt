@@ -5,7 +5,7 @@ ghost use Rattle.cept_codes.specs.Table.{value_at};
 ghost use Rattle.cept_profile.specs.Cells.{is_at};
 ghost use Rattle.cept_profile.specs.NotedStrokes.{with_stroke};
 ghost use Rattle.cept_profile.specs.OldValues.{OldValues, with_cells, with_control};
-ghost use Rattle.cept_repaint.specs.Noter.{page_with};
+ghost use Rattle.cept_repaint.specs.Noter.{page_before};
 
 use crate::delta::Delta;
 use cept_cells::Grid;
@@ -14,26 +14,27 @@ use cept_colours::Colours;
 use cept_control::Control;
 use cept_drcs::Patterns;
 
+/// The parts of a page before a stroke, where they stand.
+#[derive(Clone, Copy)]
+pub(crate) struct PageBefore<'p> {
+    pub(crate) grid: &'p Grid,
+    pub(crate) row_pens: &'p [Pen; 24],
+    pub(crate) screen_pen: &'p Pen,
+    pub(crate) colours: &'p Colours,
+    pub(crate) patterns: &'p Patterns,
+}
+
 /// What takes note of values before they change, if it takes note of any.
 pub(crate) trait Noter {
     /// The old values that are noted, where any are.
     ghost noted: { Self → Option OldValues };
 
     /// Notes what a stroke changes on the page of these parts.
-    fn note_stroke(
-        &mut self,
-        stroke: &Stroke,
-        grid: &Grid,
-        row_pens: &[Pen; 24],
-        screen_pen: &Pen,
-        colours: &Colours,
-        patterns: &Patterns,
-    )
+    fn note_stroke(&mut self, stroke: &Stroke, before: &PageBefore)
         requires valid { IsValidStroke stroke.now }
-        requires rows { length row_pens.now ≡ 24 }
+        requires rows { length before.now.row_pens.now ≡ 24 }
         ensures { noted self.new
-            ≡ option_map (with_stroke (page_with grid.now row_pens.now screen_pen.now colours.now
-            patterns.now) stroke.now) (noted self.old) };
+            ≡ option_map (with_stroke (page_before before.now) stroke.now) (noted self.old) };
 
     /// Notes the cell at a place of a grid.
     fn note_put(&mut self, at: Pos, grid: &Grid)
@@ -53,15 +54,7 @@ impl Noter for NoNotes {
     ghost noted = { λ _. None };
 
     #[inline(always)]
-    fn note_stroke(
-        &mut self,
-        _stroke: &Stroke,
-        _grid: &Grid,
-        _row_pens: &[Pen; 24],
-        _screen_pen: &Pen,
-        _colours: &Colours,
-        _patterns: &Patterns,
-    ) {}
+    fn note_stroke(&mut self, _stroke: &Stroke, _before: &PageBefore) {}
 
     #[inline(always)]
     fn note_put(&mut self, _at: Pos, _grid: &Grid) {}
@@ -74,16 +67,8 @@ impl Noter for Delta {
     ghost noted = { λ delta. Some delta };
 
     #[inline(always)]
-    fn note_stroke(
-        &mut self,
-        stroke: &Stroke,
-        grid: &Grid,
-        row_pens: &[Pen; 24],
-        screen_pen: &Pen,
-        colours: &Colours,
-        patterns: &Patterns,
-    ) {
-        Delta::note_stroke(self, stroke, grid, row_pens, screen_pen, colours, patterns);
+    fn note_stroke(&mut self, stroke: &Stroke, before: &PageBefore) {
+        Delta::note_stroke(self, stroke, before);
     }
 
     #[inline(always)]

@@ -1,8 +1,8 @@
-ghost use Rattle.std.specs.Prelude.{◌≡◌, ◌≤◌, ◌+◌, ◌-◌, ℕ, true, [], IfOk, length, slice_index_or};
+ghost use Rattle.std.specs.Prelude.{◌≡◌, ◌≤◌, ◌+◌, ◌-◌, ℕ, true, false, [], IfOk, length, slice_index_or};
 ghost use Rattle.std.specs.Prelude.{option_map};
 ghost use Rattle.std.specs.List.{AllByRecursion};
 ghost use Rattle.cept_codes.specs.Attribute.{IsRowPen, IsScreenPen};
-ghost use Rattle.cept_codes.specs.Cell.{IsValidWhat, blank_cell};
+ghost use Rattle.cept_codes.specs.Cell.{blank_cell};
 ghost use Rattle.cept_codes.specs.Place.{OnScreen};
 ghost use Rattle.cept_codes.specs.Stroke.{IsValidStroke};
 ghost use Rattle.cept_codes.specs.Table.{value_at};
@@ -18,25 +18,26 @@ ghost use Rattle.cept_profile.specs.Valid.{IsValidPage};
 ghost use Rattle.cept_repaint.specs.Drawn.{IsDrawn};
 ghost use Rattle.cept_repaint.specs.Due.{pens_of};
 ghost use Rattle.cept_repaint.specs.Exchanged.{page_exchanged};
-ghost use Rattle.cept_repaint.specs.Kept.{core_on, row_beneath, IsLeftOf, IsRightOf};
+ghost use Rattle.cept_repaint.specs.Kept.{core_on, row_beneath, source_of, IsLeftOf, IsRightOf};
 ghost use Rattle.cept_repaint.specs.MarkedRows.{IsPutAmongSigns, StandsAlone};
 ghost use Rattle.cept_repaint.specs.Named.{names_beneath};
 ghost use Rattle.cept_repaint.specs.Noter.{page_behind};
 ghost use Rattle.cept_rows.specs.KeptNames.{names_kept};
 ghost use Rattle.cept_rows.specs.RowsByCell.{FollowsToTheRight};
+ghost use Rattle.cept_rows.specs.Source.{row_made};
 
 use crate::delta::Delta;
 use crate::flags_anew::flag_unwound;
-use crate::noter::Noter;
+use crate::noter::{Noter, PageBefore};
 use crate::page_parts::{set_colours, set_patterns, set_row_pens, set_screen_pen};
 use crate::row_flags::{flag_put, flag_rows, has_marker_from, is_marker, is_unflagged};
 use crate::unwinding::unwind_page;
 use cept_cells::Grid;
-use cept_codes::{Cell, NoMemory, Pen, Pos, Stroke, What};
+use cept_codes::{Cell, Column, NoMemory, Pen, Pos, Row, Stroke};
 use cept_colours::Colours;
 use cept_drcs::Patterns;
 use cept_outside::Steps;
-use cept_rows::{RowLooks, RowNames, name_cells, resolve_cells, resolve_cells_between};
+use cept_rows::{RowLooks, RowNames, RowSource, name_cells, resolve_cells, resolve_cells_between};
 use std::alloc::Global;
 use std::marker::Model;
 use std::sync::ledger::Ledger;
@@ -99,45 +100,22 @@ impl Page {
         self.grid.get(place)
     }
 
-    /// What stands in the cell at a place, where it stands.
-    pub(crate) fn what(&self, place: Pos) -> &What
-        requires { IsValidPage self.now }
-        ensures what { result.now
-            ≡ (value_at blank_cell self.now.cells place.row place.column).what }
-        ensures valid { IsValidWhat result.now }
-    {
-        &self.grid.at(place).what
-    }
-
-    /// The cells of a row, where they stand.
-    pub(crate) fn cells(&self, row: u8) -> &[Cell; 40]
-        requires from_top { 1 ≤ row }
-        requires to_bottom { row ≤ 24 }
-        ensures { result.now ≡ slice_index_or self.now.cells (row - 1) [] }
-    {
-        self.grid.cells(row)
-    }
-
     /// Whether each cell of a row looks as it does by itself: no marker stands in it, and neither in it
     /// nor in the row above is a double size set. Where one was before, the answer may be no until
     /// all is wiped.
-    pub(crate) fn stands_alone(&self, row: u8) -> bool
-        requires from_top { 1 ≤ row }
-        requires to_bottom { row ≤ 24 }
+    pub(crate) fn stands_alone(&self, row: Row) -> bool
         ensures { result ≡ true → StandsAlone self.now row }
     {
         is_unflagged(row, &self.marked, &self.sized)
     }
 
     /// The attributes of a row, where they stand.
-    pub(crate) fn row_pen(&self, row: u8) -> &Pen
-        requires from_top { 1 ≤ row }
-        requires to_bottom { row ≤ 24 }
+    pub(crate) fn row_pen(&self, row: Row) -> &Pen
         requires valid { IsValidPage self.now }
         ensures pen { result.now ≡ row_pen_in self.now.row_pens row }
         ensures valid { IsRowPen result.now }
     {
-        &self.row_pens[usize::from(row) - 1]
+        &self.row_pens[row.index()]
     }
 
     /// The attributes of the screen, where they stand.
@@ -175,93 +153,46 @@ impl Page {
         &self.patterns
     }
 
+    /// What a row is made of, as one that isn't last.
+    #[inline(always)]
+    pub(crate) fn source(&self, row: Row) -> RowSource
+        requires { IsValidPage self.now }
+        ensures { result ≡ source_of self.now row false }
+    {
+        RowSource::new(
+            self.grid.cells(row.number()),
+            self.row_pen(row),
+            &self.screen_pen,
+            &self.colours,
+            &self.patterns,
+        )
+    }
+
     /// Resolves the looks of a row beneath those of the row above. One tick.
     pub(crate) fn resolve_row<L: Ledger>(
         &self,
-        row: u8,
+        row: Row,
         above: &RowLooks,
         last: bool,
         looks: &mut RowLooks,
         steps: &mut Steps<L>,
     )
-        requires from_top { 1 ≤ row }
-        requires to_bottom { row ≤ 24 }
         requires valid { IsValidPage self.now }
         ensures looks { looks.new ≡ row_beneath above.now self.now row last }
         ensures tick { steps.new ≡ steps.old + 1 }
     {
-        let cells = self.grid.cells(row);
-        let pen = self.row_pen(row);
-        resolve_cells(
-            cells,
-            pen,
-            &self.screen_pen,
-            above,
-            last,
-            &self.colours,
-            &self.patterns,
-            looks,
-            steps,
-        );
-    }
-
-    /// The same, where to the left of a column the row looks so already, and to the right of another
-    /// each place that follows one which does, or which covers nothing to its right before and after.
-    /// Answers a column to whose right all looks stay as they are.
-    pub(crate) fn resolve_row_between<L: Ledger>(
-        &self,
-        row: u8,
-        from: u8,
-        until: u8,
-        above: &RowLooks,
-        last: bool,
-        looks: &mut RowLooks,
-        steps: &mut Steps<L>,
-    ) -> u8
-        requires from_top { 1 ≤ row }
-        requires to_bottom { row ≤ 24 }
-        requires from_left { 1 ≤ from }
-        requires to_right { from ≤ 40 }
-        requires valid { IsValidPage self.now }
-        requires left { IsLeftOf from looks.old (row_beneath above.now self.now row last) }
-        requires right { FollowsToTheRight until (column_entry blank_look looks.old)
-            (column_entry blank_look (row_beneath above.now self.now row last)) }
-        ensures looks { looks.new ≡ row_beneath above.now self.now row last }
-        ensures order { from ≤ result + 1 }
-        ensures to_right { result ≤ 40 }
-        ensures stays { IsRightOf result looks.old looks.new }
-        ensures tick { steps.new ≡ steps.old + 1 }
-    {
-        let cells = self.grid.cells(row);
-        let pen = self.row_pen(row);
-        resolve_cells_between(
-            from,
-            until,
-            cells,
-            pen,
-            &self.screen_pen,
-            above,
-            last,
-            &self.colours,
-            &self.patterns,
-            looks,
-            steps,
-        )
+        resolve_cells(&self.source(row).ending(last), above, looks, steps);
     }
 
     /// What a row names, by its looks, beneath a row of which this is kept.
-    pub(crate) fn name_row(&self, row: u8, above: &RowNames, looks: &RowLooks) -> RowNames
-        requires from_top { 1 ≤ row }
-        requires to_bottom { row ≤ 24 }
+    pub(crate) fn name_row(&self, row: Row, above: &RowNames, looks: &RowLooks) -> RowNames
         requires valid { IsValidPage self.now }
         ensures { (k : Core) (c : ℕ) → OnScreen row c
             → looks.now ≡ looks_in (looks_of (core_on k self.now)) row
             → names_kept result c ≡ names_beneath above.now (core_on k self.now) row c }
     {
         let mut names = RowNames::blank();
-        let cells = self.grid.cells(row);
-        let pen = self.row_pen(row);
-        name_cells(cells, pen, &self.screen_pen, above, looks, &mut names);
+        name_cells(&self.source(row), above, looks, &mut names);
         names
     }
 
@@ -293,7 +224,7 @@ impl Page {
         noter.note_put(place, &self.grid);
         let _ = self.grid.put(place, *cell);
         flag_put(place, cell, &mut self.marked, &mut self.sized);
-        is_unflagged(place.row(), &self.marked, &self.sized)
+        is_unflagged(place.in_row(), &self.marked, &self.sized)
     }
 
     /// Whether neither this cell nor the one there is known to be a marker, nor one to the right of it: then
@@ -302,12 +233,12 @@ impl Page {
     pub(crate) fn puts_among_signs(&self, place: Pos, cell: &Cell) -> bool
         ensures { result ≡ true → IsPutAmongSigns self.now place cell.now }
     {
-        let row = place.row();
+        let row = place.in_row();
         if is_marker(&cell.what) {
             return false;
         }
-        if self.marked[usize::from(row) - 1] {
-            return !has_marker_from(self.grid.cells(row), place.col());
+        if self.marked[row.index()] {
+            return !has_marker_from(self.grid.cells(row.number()), place.in_column());
         }
         true
     }
@@ -320,14 +251,14 @@ impl Page {
         ensures noted { N.noted noter.new
             ≡ option_map (with_stroke self.old stroke.now) (N.noted noter.old) }
     {
-        noter.note_stroke(
-            stroke,
-            &self.grid,
-            &self.row_pens,
-            &self.screen_pen,
-            &self.colours,
-            &self.patterns,
-        );
+        let before = PageBefore {
+            grid: &self.grid,
+            row_pens: &self.row_pens,
+            screen_pen: &self.screen_pen,
+            colours: &self.colours,
+            patterns: &self.patterns,
+        };
+        noter.note_stroke(stroke, &before);
         self.grid.strike(stroke);
         set_row_pens(stroke, &mut self.row_pens);
         set_screen_pen(stroke, &mut self.screen_pen);
@@ -380,4 +311,30 @@ impl Page {
             &mut self.sized,
         );
     }
+}
+
+/// Resolves the looks of a row beneath those of the row above, where to the left of a column the row
+/// looks so already, and to the right of another each place that follows one which does, or which
+/// covers nothing to its right before and after. Answers a column to whose right all looks stay as
+/// they are. One tick.
+pub(crate) fn resolve_between<L: Ledger>(
+    source: &RowSource,
+    from: Column,
+    until: u8,
+    above: &RowLooks,
+    looks: &mut RowLooks,
+    steps: &mut Steps<L>,
+) -> u8
+    requires left { IsLeftOf from looks.old (row_made source.now above.now) }
+    requires right { FollowsToTheRight until (column_entry blank_look looks.old)
+        (column_entry blank_look (row_made source.now above.now)) }
+    ensures looks { looks.new ≡ row_made source.now above.now }
+    ensures order { from ≤ result + 1 }
+    ensures to_right { result ≤ 40 }
+    ensures stays { IsRightOf result looks.old looks.new }
+    ensures tick { steps.new ≡ steps.old + 1 }
+{
+    // Tells the prover that the column is one.
+    let _number = from.number();
+    resolve_cells_between(source, from, until, above, looks, steps)
 }

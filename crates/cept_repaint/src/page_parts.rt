@@ -1,13 +1,11 @@
 ghost use Rattle.std.specs.Prelude.{◌≡◌, ◌≤◌, ◌<◌, ◌-◌, ℕ, length};
-ghost use Rattle.cept_codes.specs.Attribute.{unset_pen};
-ghost use Rattle.cept_codes.specs.Command.{IsArea};
 ghost use Rattle.cept_codes.specs.Stroke.{IsValidStroke};
-ghost use Rattle.cept_profile.specs.Cells.{shifted};
 ghost use Rattle.cept_profile.specs.PageParts.{dclut_list_after, paints_after, patterns_after};
-ghost use Rattle.cept_profile.specs.PageParts.{list_of_rows, row_pen_in, row_pens_after, screen_pen_after};
+ghost use Rattle.cept_profile.specs.PageParts.{row_pens_after, screen_pen_after};
 ghost use Rattle.cept_profile.specs.Pens.{pen_with};
 
-use cept_codes::{Attr, Pen, Stroke, Up};
+use crate::shifted_rows::shifted_rows;
+use cept_codes::{Attr, Pen, Stroke};
 use cept_colours::Colours;
 use cept_drcs::Patterns;
 
@@ -23,7 +21,9 @@ pub(crate) fn set_row_pens(stroke: &Stroke, pens: &mut [Pen; 24])
             pens[index] = pen_with(*attr, pens[index]);
         }
         Stroke::Wipe => *pens = [Pen::UNSET; 24],
-        Stroke::Carry(first, last, way) => *pens = carried_pens(*first, *last, *way, pens),
+        Stroke::Carry(first, last, way) => {
+            *pens = shifted_rows(*first, *last, *way, Pen::UNSET, pens);
+        }
         // These change no attribute of a row.
         Stroke::Put(_, _)
         | Stroke::Erase(_, _)
@@ -36,50 +36,6 @@ pub(crate) fn set_row_pens(stroke: &Stroke, pens: &mut [Pen; 24])
         | Stroke::Drcs(_, _)
         | Stroke::Shift(_, _, _)
         | Stroke::Format(_) => {}
-    }
-}
-
-/// The attributes of rows after the rows of an area went one up or down with theirs, none set in the
-/// row that came free.
-fn carried_pens(first: u8, last: u8, way: Up, pens: &[Pen; 24]) -> [Pen; 24]
-    requires area { IsArea first last }
-    requires pens { length pens.now ≡ 24 }
-    ensures { result ≡ list_of_rows (shifted way first last unset_pen (row_pen_in pens.now)) }
-{
-    let mut carried = [Pen::UNSET; 24];
-    for i in 0..24u8 {
-        carried[usize::from(i)] = carried_pen(first, last, way, pens, i + 1);
-    }
-    carried
-}
-
-/// Those of one row.
-fn carried_pen(first: u8, last: u8, way: Up, pens: &[Pen; 24], row: u8) -> Pen
-    requires area { IsArea first last }
-    requires pens { length pens.now ≡ 24 }
-    requires from_top { 1 ≤ row }
-    requires to_bottom { row ≤ 24 }
-    ensures { result ≡ shifted way first last unset_pen (row_pen_in pens.now) row }
-{
-    let index = usize::from(row) - 1;
-    if row < first || last < row {
-        return pens[index];
-    }
-    match way {
-        Up::Up => {
-            if row == last {
-                Pen::UNSET
-            } else {
-                pens[index + 1]
-            }
-        }
-        Up::Down => {
-            if row == first {
-                Pen::UNSET
-            } else {
-                pens[index - 1]
-            }
-        }
     }
 }
 

@@ -1,94 +1,89 @@
-ghost use Rattle.std.specs.Prelude.{◌≡◌, ◌≤◌, ◌+◌, ◌-◌, ◌||◌, ℕ, false, not, length, slice_set, if◌then◌else◌};
+ghost use Rattle.std.specs.Prelude.{◌≡◌, ◌≤◌, ◌+◌, ◌-◌, ◌||◌, false, not, length, slice_set, if◌then◌else◌};
 ghost use Rattle.std.specs.List.{AllByRecursion};
 ghost use Rattle.cept_codes.specs.Look.{blank_look};
 ghost use Rattle.cept_codes.specs.Same.{same_look};
 ghost use Rattle.cept_codes.specs.Stroke.{IsValidStroke};
 ghost use Rattle.cept_codes.specs.Table.{entry, list_by_index, row_of};
-ghost use Rattle.cept_profile.specs.Changes.{differences};
-ghost use Rattle.cept_profile.specs.Edges.{edges_of_core};
 ghost use Rattle.cept_profile.specs.Names.{pattern_shown};
 ghost use Rattle.cept_profile.specs.RowsFromAbove.{looks_in};
-ghost use Rattle.cept_profile.specs.State.{Core};
 ghost use Rattle.cept_profile.specs.Tiling.{column_entry};
 ghost use Rattle.cept_profile.specs.Valid.{IsValidPage};
-ghost use Rattle.cept_repaint.specs.Due.{at_rest, rows_due, OtherRowsStay};
-ghost use Rattle.cept_repaint.specs.Kept.{AreEdges, AreLooksOn, IsRefreshedRow, core_on, look_alone};
+ghost use Rattle.cept_repaint.specs.Due.{at_rest};
+ghost use Rattle.cept_repaint.specs.Kept.{IsRefreshedRow, look_alone};
 ghost use Rattle.cept_repaint.specs.Marks.{no_marks};
+ghost use Rattle.cept_repaint.specs.Named.{row_named};
+ghost use Rattle.cept_repaint.specs.Picture.{AreOthersKept, HasSameRest, IsRefreshedOn};
 ghost use Rattle.cept_repaint.specs.Redefined.{OtherPlacesStay, is_place_redefined, places_resolved, redefines_place};
 ghost use Rattle.cept_rows.specs.KeptNames.{names_kept};
 
-use crate::kept_names::KeptNames;
 use crate::kept_rows::KeptRows;
 use crate::marks::Marks;
 use crate::page::Page;
-use crate::redraw::refresh_row;
-use cept_codes::Stroke;
+use crate::picture::Picture;
+use cept_codes::{Row, Stroke};
 use cept_control::Edges;
 use cept_outside::Steps;
 use cept_rows::{RowLooks, RowNames};
 use std::sync::ledger::Ledger;
 
-/// Resolves the flagged rows and those that are covered otherwise than before, from the top, where no
-/// row moved: of a flagged row that stands alone only the places that the strokes redefine.
-pub(crate) fn refresh_redefined<L: Ledger>(
-    page: &Page,
-    strokes: &[Stroke],
-    flags: &[bool; 24],
-    edges: &Edges,
-    kept: &mut KeptRows,
-    names: &KeptNames,
-    fresh: &mut RowLooks,
-    marks: &mut Marks,
-    steps: &mut Steps<L>,
-)
-    requires each { AllByRecursion IsValidStroke strokes.now }
-    requires flags { length flags.now ≡ 24 }
-    requires none { marks.old ≡ no_marks }
-    requires valid { IsValidPage page.now }
-    requires edges { AreEdges edges.now }
-    requires others { (k : Core) → edges_of_core k ≡ edges.now
-        → OtherRowsStay flags.now at_rest kept.old (core_on k page.now) }
-    requires places { OtherPlacesStay strokes.now names.now kept.old page.now }
-    ensures kept { AreLooksOn kept.new page.now edges.now }
-    ensures marks { marks.new ≡ differences kept.old kept.new }
-    ensures cost { steps.new ≡ steps.old + rows_due flags.now at_rest kept.old kept.new }
-{
-    kept.whole_by_type();
-    let mut covered = false;
-    for row in 1..25u8 {
-        let flag = flags[usize::from(row) - 1];
-        let alone = flag & !covered & page.stands_alone(row);
-        if alone {
-            refresh_places(page, row, strokes, names.row(row), kept, marks, steps);
-        } else if flag | covered {
-            covered = refresh_row(page, row, edges.is_last(row), kept, fresh, marks, steps);
+impl Picture {
+    /// Resolves the flagged rows and those that are covered otherwise than before, from the top, where
+    /// no row moved: of a flagged row that stands alone only the places that the strokes redefine.
+    pub(crate) fn refresh_redefined<L: Ledger>(
+        &mut self,
+        strokes: &[Stroke],
+        flags: &[bool; 24],
+        edges: &Edges,
+        marks: &mut Marks,
+        steps: &mut Steps<L>,
+    )
+        requires each { AllByRecursion IsValidStroke strokes.now }
+        requires flags { length flags.now ≡ 24 }
+        requires none { marks.old ≡ no_marks }
+        requires others { AreOthersKept flags.now at_rest self.old.looks self.old.page edges.now }
+        requires places { OtherPlacesStay strokes.now self.old.names self.old.looks self.old.page }
+        ensures rest { HasSameRest self.old self.new }
+        ensures refreshed { IsRefreshedOn flags.now at_rest self.old.looks edges.now self.new marks.new
+            steps.old steps.new }
+    {
+        self.looks.whole_by_type();
+        let mut covered = false;
+        for row in 1..25u8 {
+            let here = Row::numbered(row);
+            let flag = flags[usize::from(row) - 1];
+            let alone = flag & !covered & self.page.stands_alone(here);
+            if alone {
+                self.refresh_places(row, strokes, marks, steps);
+            } else if flag | covered {
+                covered = self.refresh_row(row, edges.is_last(row), marks, steps);
+            }
         }
     }
-}
 
-/// Resolves the places of a row that the strokes redefine, each by itself, keeps their looks, and marks
-/// those that differ from the ones before. One tick.
-fn refresh_places<L: Ledger>(
-    page: &Page,
-    row: u8,
-    strokes: &[Stroke],
-    names: &RowNames,
-    kept: &mut KeptRows,
-    marks: &mut Marks,
-    steps: &mut Steps<L>,
-)
-    requires from_top { 1 ≤ row }
-    requires to_bottom { row ≤ 24 }
-    requires valid { IsValidPage page.now }
-    requires each { AllByRecursion IsValidStroke strokes.now }
-    ensures refreshed { IsRefreshedRow (places_resolved strokes.now names.now (looks_in kept.old row) page.now row)
-        row kept.old kept.new marks.old marks.new }
-    ensures tick { steps.new ≡ steps.old + 1 }
-{
-    kept.whole_by_type();
-    let flags = places_redefined(strokes, names, kept.row(row));
-    let differ = resolve_columns(page, row, &flags, kept, steps);
-    marks.mark_row(row, &differ);
+    /// Resolves the places of a row that the strokes redefine, each by itself, keeps their looks, and
+    /// marks those that differ from the ones before. One tick.
+    fn refresh_places<L: Ledger>(
+        &mut self,
+        row: u8,
+        strokes: &[Stroke],
+        marks: &mut Marks,
+        steps: &mut Steps<L>,
+    )
+        requires from_top { 1 ≤ row }
+        requires to_bottom { row ≤ 24 }
+        requires valid { IsValidPage self.old.page }
+        requires each { AllByRecursion IsValidStroke strokes.now }
+        ensures rest { HasSameRest self.old self.new }
+        ensures refreshed { IsRefreshedRow (places_resolved strokes.now (row_named self.old.names row)
+            (looks_in self.old.looks row) self.old.page row) row self.old.looks self.new.looks marks.old marks.new }
+        ensures tick { steps.new ≡ steps.old + 1 }
+    {
+        self.looks.whole_by_type();
+        let at = Row::numbered(row);
+        let flags = places_redefined(strokes, self.names.row(at), self.looks.row(at));
+        let differ = resolve_columns(&self.page, row, &flags, &mut self.looks, steps);
+        marks.mark_row(at, &differ);
+    }
 }
 
 /// Resolves the flagged columns of a row, each by itself, and keeps their looks. Answers for each column
@@ -111,18 +106,8 @@ fn resolve_columns<L: Ledger>(
         (column_entry blank_look (looks_in kept.new row) c))) }
     ensures tick { steps.new ≡ steps.old + 1 }
 {
-    let cells = page.cells(row);
-    let pen = page.row_pen(row);
-    kept.resolve_columns(
-        row,
-        flags,
-        cells,
-        pen,
-        page.screen_pen(),
-        page.colours(),
-        page.patterns(),
-        steps,
-    )
+    let at = Row::numbered(row);
+    kept.resolve_columns(at, flags, &page.source(at), steps)
 }
 
 /// For each column of a row with these names and looks, whether one of the strokes may define anew what

@@ -14,7 +14,7 @@ ghost use Rattle.cept_repaint.specs.Redefined.{IsNamedRow, is_ink_in};
 use crate::kept_names::KeptNames;
 use crate::kept_rows::KeptRows;
 use crate::page::Page;
-use cept_codes::Stroke;
+use cept_codes::{Row, Stroke};
 use cept_colours::Colours;
 use cept_rows::{RowLooks, RowNames};
 
@@ -35,7 +35,7 @@ pub(crate) fn rows_redefined(
 {
     let mut redefined = [false; 24];
     for i in 0..24u8 {
-        let row = i + 1;
+        let row = Row::numbered(i + 1);
         redefined[usize::from(i)] = is_redefined(
             strokes,
             names.row(row),

@@ -6,13 +6,13 @@ ghost use Rattle.cept_profile.specs.Cells.{shifted};
 ghost use Rattle.cept_profile.specs.Look.{is_double, sets_double_size};
 ghost use Rattle.cept_profile.specs.Serial.{is_marker, row_in};
 ghost use Rattle.cept_repaint.specs.MarkedRows.{
+  AreFlagsAfter,
   IsUnflagged,
-  flag_after,
   gives_size,
-  size_flag_after,
 };
 
-use cept_codes::{Attr, Cell, Marker, Pos, Size, Stroke, Up, What};
+use crate::shifted_rows::shifted_rows;
+use cept_codes::{Attr, Cell, Column, Marker, Pos, Row, Size, Stroke, Up, What};
 
 /// Flags the row of a cell that is put, one flag where it is a marker and one where it sets a
 /// double size, and the row of an attribute of a double size. Unflags all rows where all is wiped,
@@ -21,17 +21,11 @@ pub(crate) fn flag_rows(stroke: &Stroke, marked: &mut [bool; 24], sized: &mut [b
     requires valid { IsValidStroke stroke.now }
     requires marked_rows { length marked.old ≡ 24 }
     requires sized_rows { length sized.old ≡ 24 }
-    ensures marked_rows { length marked.new ≡ 24 }
-    ensures sized_rows { length sized.new ≡ 24 }
-    ensures marked { (r : ℕ) → 1 ≤ r → r ≤ 24
-        → entry false 1 marked.new r
-        ≡ flag_after is_marker stroke.now (entry false 1 marked.old) r }
-    ensures sized { (r : ℕ) → 1 ≤ r → r ≤ 24
-        → entry false 1 sized.new r ≡ size_flag_after stroke.now (entry false 1 sized.old) r }
+    ensures { AreFlagsAfter stroke.now marked.old sized.old marked.new sized.new }
 {
     match stroke {
         Stroke::Put(place, cell) => flag_put(*place, cell, marked, sized),
-        Stroke::RowAttr(row, attr) => flag_row(*row, gives_size(attr), sized),
+        Stroke::RowAttr(row, attr) => flag_row(Row::numbered(*row), gives_size(attr), sized),
         Stroke::Wipe => {
             *marked = [false; 24];
             *sized = [false; 24];
@@ -56,17 +50,10 @@ pub(crate) fn flag_rows(stroke: &Stroke, marked: &mut [bool; 24], sized: &mut [b
 pub(crate) fn flag_put(place: Pos, cell: &Cell, marked: &mut [bool; 24], sized: &mut [bool; 24])
     requires marked_rows { length marked.old ≡ 24 }
     requires sized_rows { length sized.old ≡ 24 }
-    ensures marked_rows { length marked.new ≡ 24 }
-    ensures sized_rows { length sized.new ≡ 24 }
-    ensures marked { (r : ℕ) → 1 ≤ r → r ≤ 24
-        → entry false 1 marked.new r
-        ≡ flag_after is_marker (Stroke.Put place cell.now) (entry false 1 marked.old) r }
-    ensures sized { (r : ℕ) → 1 ≤ r → r ≤ 24
-        → entry false 1 sized.new r
-        ≡ size_flag_after (Stroke.Put place cell.now) (entry false 1 sized.old) r }
+    ensures { AreFlagsAfter (Stroke.Put place cell.now) marked.old sized.old marked.new sized.new }
 {
-    flag_row(place.row(), is_marker(&cell.what), marked);
-    flag_row(place.row(), sets_double_size(&cell.what), sized);
+    flag_row(place.in_row(), is_marker(&cell.what), marked);
+    flag_row(place.in_row(), sets_double_size(&cell.what), sized);
 }
 
 /// Moves the flags of the rows of an area that goes one up or down with its cells. Flags of sizes
@@ -75,49 +62,11 @@ fn flag_shift(first: u8, last: u8, way: Up, marked: &mut [bool; 24], sized: &mut
     requires area { IsArea first last }
     requires marked_rows { length marked.old ≡ 24 }
     requires sized_rows { length sized.old ≡ 24 }
-    ensures marked_rows { length marked.new ≡ 24 }
-    ensures sized_rows { length sized.new ≡ 24 }
-    ensures marked { (r : ℕ) → 1 ≤ r → r ≤ 24
-        → entry false 1 marked.new r
-        ≡ flag_after is_marker (Stroke.Shift first last way) (entry false 1 marked.old) r }
-    ensures sized { (r : ℕ) → 1 ≤ r → r ≤ 24
-        → entry false 1 sized.new r
-        ≡ size_flag_after (Stroke.Shift first last way) (entry false 1 sized.old) r }
+    ensures { AreFlagsAfter (Stroke.Shift first last way) marked.old sized.old marked.new sized.new }
 {
-    *marked = shifted_flags(first, last, way, marked);
-    let moved = shifted_flags(first, last, way, sized);
+    *marked = shifted_rows(first, last, way, false, marked);
+    let moved = shifted_rows(first, last, way, false, sized);
     *sized = either_flags(sized, &moved);
-}
-
-/// The flags of the rows after the rows of an area went one up or down, the freed one unflagged.
-fn shifted_flags(first: u8, last: u8, way: Up, rows: &[bool; 24]) -> [bool; 24]
-    requires area { IsArea first last }
-    requires flags { length rows.now ≡ 24 }
-    ensures { result ≡ list_by_index 1 24 (shifted way first last false (entry false 1 rows.now)) }
-{
-    let mut moved = [false; 24];
-    for i in 0..24u8 {
-        moved[usize::from(i)] = shifted_flag(first, last, way, rows, i + 1);
-    }
-    moved
-}
-
-/// The flag of one row after the rows of an area went one up or down.
-fn shifted_flag(first: u8, last: u8, way: Up, rows: &[bool; 24], row: u8) -> bool
-    requires area { IsArea first last }
-    requires flags { length rows.now ≡ 24 }
-    requires from_top { 1 ≤ row }
-    requires to_bottom { row ≤ 24 }
-    ensures { result ≡ shifted way first last false (entry false 1 rows.now) row }
-{
-    let index = usize::from(row) - 1;
-    if row < first || last < row {
-        return rows[index];
-    }
-    match way {
-        Up::Up => row != last && rows[index + 1],
-        Up::Down => row != first && rows[index - 1],
-    }
 }
 
 /// The flags of the rows that are flagged in one or the other.
@@ -134,28 +83,24 @@ fn either_flags(some: &[bool; 24], others: &[bool; 24]) -> [bool; 24]
 }
 
 /// Whether no flag of the row is set, and the flag of sizes of the row above isn't.
-pub(crate) fn is_unflagged(row: u8, marked: &[bool; 24], sized: &[bool; 24]) -> bool
-    requires from_top { 1 ≤ row }
-    requires to_bottom { row ≤ 24 }
+pub(crate) fn is_unflagged(row: Row, marked: &[bool; 24], sized: &[bool; 24]) -> bool
     requires marked_rows { length marked.now ≡ 24 }
     requires sized_rows { length sized.now ≡ 24 }
     ensures { result ≡ true → IsUnflagged marked.now sized.now row }
 {
-    let index = usize::from(row) - 1;
+    let index = row.index();
     !marked[index] && !sized[index] && (index == 0 || !sized[index - 1])
 }
 
 /// Flags a row, where this is so.
-fn flag_row(row: u8, so: bool, rows: &mut [bool; 24])
-    requires from_top { 1 ≤ row }
-    requires to_bottom { row ≤ 24 }
+fn flag_row(row: Row, so: bool, rows: &mut [bool; 24])
     requires flags { length rows.old ≡ 24 }
     ensures flags { length rows.new ≡ 24 }
     ensures rows { (r : ℕ) → 1 ≤ r → r ≤ 24
         → entry false 1 rows.new r ≡ (entry false 1 rows.old r || (row == r && so)) }
 {
     if so {
-        rows[usize::from(row) - 1] = true;
+        rows[row.index()] = true;
     }
 }
 
@@ -170,13 +115,12 @@ pub(crate) fn is_marker(what: &What) -> bool
 }
 
 /// Whether a marker stands in one of the cells of a row from a column on.
-pub(crate) fn has_marker_from(cells: &[Cell; 40], column: u8) -> bool
-    requires from_left { 1 ≤ column }
+pub(crate) fn has_marker_from(cells: &[Cell; 40], column: Column) -> bool
     requires columns { length cells.now ≡ 40 }
     ensures { result ≡ false → (c : ℕ) → column ≤ c → c ≤ 40
         → is_marker (row_in cells.now c) ≡ false }
 {
-    for c in column..41 {
+    for c in column.number()..41 {
         if is_marker(&cells[usize::from(c) - 1].what) {
             return true;
         }

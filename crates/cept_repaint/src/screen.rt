@@ -5,39 +5,35 @@ ghost use Rattle.cept_codes.specs.Cell.{IsValidCell};
 ghost use Rattle.cept_codes.specs.Command.{IsValidCommand};
 ghost use Rattle.cept_codes.specs.Look.{IsValidLook, IsValidPattern, blank_look};
 ghost use Rattle.cept_codes.specs.Stroke.{IsPaintOf};
-ghost use Rattle.cept_profile.specs.Changes.{look_at, differences};
+ghost use Rattle.cept_profile.specs.Changes.{look_at};
 ghost use Rattle.cept_profile.specs.Look.{looks_of, part_of, parts_of};
-ghost use Rattle.cept_profile.specs.NotedStrokes.{with_command, with_strokes};
+ghost use Rattle.cept_profile.specs.NotedStrokes.{with_command};
 ghost use Rattle.cept_profile.specs.OldValues.{unwound};
 ghost use Rattle.cept_profile.specs.PageParts.{dclut_in, paint_in, pattern_in, row_pen_in};
-ghost use Rattle.cept_profile.specs.Reach.{rows_in_reach};
 ghost use Rattle.cept_profile.specs.RowsFromAbove.{looks_in};
 ghost use Rattle.cept_profile.specs.State.{Page as PageState, core_of, state, state_after};
 ghost use Rattle.cept_profile.specs.Strokes.{strokes_of};
 ghost use Rattle.cept_profile.specs.Tiling.{column_entry, part_at};
 ghost use Rattle.cept_profile.specs.Valid.{IsValidState};
-ghost use Rattle.cept_repaint.specs.Applied.{IsApplied, IsRepainted};
+ghost use Rattle.cept_repaint.specs.Applied.{IsApplied, IsPutBack, IsRepainted, IsWritten};
 ghost use Rattle.cept_repaint.specs.Exchanged.{HasSameLocations, exchanged};
 ghost use Rattle.cept_repaint.specs.Kept.{cell_at, state_of_parts};
 ghost use Rattle.cept_repaint.specs.Marks.{no_marks};
 ghost use Rattle.cept_repaint.specs.MovedEdges.{may_move_edges};
-ghost use Rattle.cept_repaint.specs.Noter.{page_behind, state_behind};
-ghost use Rattle.cept_repaint.specs.Renewed.{rows_renewed, rows_renewed_by};
+ghost use Rattle.cept_repaint.specs.Noter.{state_behind};
+ghost use Rattle.cept_repaint.specs.Picture.{IsNotedAlong};
+ghost use Rattle.cept_repaint.specs.Renewed.{rows_renewed};
 ghost use Rattle.cept_repaint.specs.Restored.{rows_restored};
 
 use crate::delta::Delta;
 use crate::glass::Glass;
-use crate::kept_names::KeptNames;
-use crate::kept_rows::KeptRows;
 use crate::marks::Marks;
 use crate::moved_edges::may_move_edges;
 use crate::noter::{NoNotes, Noter};
-use crate::page::Page;
 use crate::painting::paint_marked;
-use crate::redraw::{redraw, redraw_within};
-use crate::restoring::{exchange, unwind};
+use crate::picture::Picture;
 use arrayvec::ArrayVec;
-use cept_codes::{Cell, Command, Look, NoMemory, Paint, Pattern, Pen, Pos, Stroke};
+use cept_codes::{Cell, Command, Look, NoMemory, Paint, Pattern, Pen, Pos, Row, Stroke};
 use cept_control::Control;
 use cept_outside::Steps;
 use cept_rows::RowLooks;
@@ -45,17 +41,12 @@ use std::alloc::Global;
 use std::marker::Model;
 use std::sync::ledger::Ledger;
 
-/// A decoder's screen: its page, its control, the looks of all rows, and what they name. Beside these
-/// there is room for the looks that stood before rows moved, for a row while it is resolved, and for
-/// the strokes of a command.
+/// A decoder's screen: its page with the looks that are kept of it, and its control. Beside these there
+/// is room for the strokes of a command.
 #[derive(Drop)]
 pub struct Screen {
-    page: Page,
+    picture: Picture,
     control: Control,
-    rows: KeptRows,
-    stood: KeptRows,
-    names: KeptNames,
-    fresh: RowLooks,
     strokes: ArrayVec<Stroke, 128>,
 }
 
@@ -65,9 +56,10 @@ impl Model for Screen {
 
     ghost Value = { State };
 
-    ghost view = { λ s. record { page = s.page; control = s.control } };
+    ghost view = { λ s. record { page = s.picture.page; control = s.control } };
 
-    ghost invariant = { λ s. IsKept (record { page = s.page; control = s.control }) s.rows s.names };
+    ghost invariant = { λ s. IsKept (record { page = s.picture.page; control = s.control }) s.picture.looks
+        s.picture.names };
 }
 
 /// Whether two controls have the same settings of the page.
@@ -89,16 +81,10 @@ impl Screen {
     pub fn new(alloc: Global) -> Result<Screen, NoMemory>
         ensures { IfOk result (λ screen. screen ≡ state []) }
     {
-        let page = Page::new(alloc)?;
-        let rows = KeptRows::new(alloc)?;
-        let stood = KeptRows::new(alloc)?;
+        let picture = Picture::new(alloc)?;
         Ok(Screen {
-            page,
+            picture,
             control: Control::new(),
-            rows,
-            stood,
-            names: KeptNames::new(),
-            fresh: RowLooks::flat(),
             strokes: ArrayVec::new(),
         })
     }
@@ -213,11 +199,8 @@ impl Screen {
         requires { IsValidCommand command.now }
         ensures applied { IsApplied self.old command.now self.new marks.new (G.state glass.old)
             (G.state glass.new) steps.old steps.new }
-        ensures unwound { page_behind (N.noted noter.new) self.new.page
-            ≡ page_behind (N.noted noter.old) self.old.page }
-        ensures noted { N.noted noter.new
-            ≡ option_map (with_strokes self.old.page (strokes_of self.old.control command.now))
-            (N.noted noter.old) }
+        ensures noted { IsNotedAlong (strokes_of self.old.control command.now) (N.noted noter.old) self.old.page
+            (N.noted noter.new) self.new.page }
     {
         self.write(command, marks, noter, steps);
         paint_marked(self, glass, marks);
@@ -232,17 +215,9 @@ impl Screen {
         steps: &mut Steps<L>,
     )
         requires { IsValidCommand command.now }
-        ensures after { self.new ≡ state_after self.old command.now }
-        ensures marks { marks.new
-            ≡ differences (looks_of (core_of self.old)) (looks_of (core_of self.new)) }
-        ensures cost { steps.new ≤ steps.old + rows_in_reach self.old command.now }
-        ensures least { steps.old + rows_renewed_by self.old command.now ≤ steps.new }
-        ensures at_most_24 { steps.new ≤ steps.old + 24 }
-        ensures unwound { page_behind (N.noted noter.new) self.new.page
-            ≡ page_behind (N.noted noter.old) self.old.page }
-        ensures noted { N.noted noter.new
-            ≡ option_map (with_strokes self.old.page (strokes_of self.old.control command.now))
-            (N.noted noter.old) }
+        ensures written { IsWritten self.old command.now self.new marks.new steps.old steps.new }
+        ensures noted { IsNotedAlong (strokes_of self.old.control command.now) (N.noted noter.old) self.old.page
+            (N.noted noter.new) self.new.page }
     {
         if may_move_edges(command) {
             self.write_edges(command, marks, noter, steps);
@@ -262,35 +237,16 @@ impl Screen {
         steps: &mut Steps<L>,
     )
         requires { IsValidCommand command.now }
-        ensures after { self.new ≡ state_after self.old command.now }
-        ensures marks { marks.new
-            ≡ differences (looks_of (core_of self.old)) (looks_of (core_of self.new)) }
-        ensures cost { steps.new ≤ steps.old + rows_in_reach self.old command.now }
-        ensures least { steps.old + rows_renewed_by self.old command.now ≤ steps.new }
-        ensures at_most_24 { steps.new ≤ steps.old + 24 }
-        ensures unwound { page_behind (N.noted noter.new) self.new.page
-            ≡ page_behind (N.noted noter.old) self.old.page }
-        ensures noted { N.noted noter.new
-            ≡ option_map (with_strokes self.old.page (strokes_of self.old.control command.now))
-            (N.noted noter.old) }
+        ensures written { IsWritten self.old command.now self.new marks.new steps.old steps.new }
+        ensures noted { IsNotedAlong (strokes_of self.old.control command.now) (N.noted noter.old) self.old.page
+            (N.noted noter.new) self.new.page }
     {
         let before = self.control.edges();
         self.control.step_into(command, &mut self.strokes);
         let after = self.control.edges();
         let strokes = self.strokes.as_slice();
-        redraw(
-            &mut self.page,
-            strokes,
-            &before,
-            &after,
-            &mut self.rows,
-            &mut self.stood,
-            &mut self.names,
-            &mut self.fresh,
-            marks,
-            noter,
-            steps,
-        );
+        self.picture
+            .redraw(strokes, &before, &after, marks, noter, steps);
     }
 
     /// The same of a command after which the same rows are last as before.
@@ -303,32 +259,14 @@ impl Screen {
     )
         requires valid { IsValidCommand command.now }
         requires edges { may_move_edges command.now ≡ false }
-        ensures after { self.new ≡ state_after self.old command.now }
-        ensures marks { marks.new
-            ≡ differences (looks_of (core_of self.old)) (looks_of (core_of self.new)) }
-        ensures cost { steps.new ≤ steps.old + rows_in_reach self.old command.now }
-        ensures least { steps.old + rows_renewed_by self.old command.now ≤ steps.new }
-        ensures at_most_24 { steps.new ≤ steps.old + 24 }
-        ensures unwound { page_behind (N.noted noter.new) self.new.page
-            ≡ page_behind (N.noted noter.old) self.old.page }
-        ensures noted { N.noted noter.new
-            ≡ option_map (with_strokes self.old.page (strokes_of self.old.control command.now))
-            (N.noted noter.old) }
+        ensures written { IsWritten self.old command.now self.new marks.new steps.old steps.new }
+        ensures noted { IsNotedAlong (strokes_of self.old.control command.now) (N.noted noter.old) self.old.page
+            (N.noted noter.new) self.new.page }
     {
         self.control.step_into(command, &mut self.strokes);
         let strokes = self.strokes.as_slice();
-        redraw_within(
-            &mut self.page,
-            strokes,
-            &self.control,
-            &mut self.rows,
-            &mut self.stood,
-            &mut self.names,
-            &mut self.fresh,
-            marks,
-            noter,
-            steps,
-        );
+        self.picture
+            .redraw_within(strokes, &self.control, marks, noter, steps);
     }
 
     /// The look at a place. It shows the part that the tiling by sizes has there.
@@ -337,7 +275,7 @@ impl Screen {
         ensures part { part_of result ≡ part_at (parts_of (core_of self.now)) at.row at.column }
         ensures valid { IsValidLook result }
     {
-        self.rows.get(at)
+        self.picture.looks.get(at)
     }
 
     /// The looks of a row, where they stand. Each shows the part that the tiling by sizes has there.
@@ -349,7 +287,7 @@ impl Screen {
             → part_of (column_entry blank_look result.now c)
             ≡ part_at (parts_of (core_of self.now)) row c }
     {
-        self.rows.row(row)
+        self.picture.looks.row(Row::numbered(row))
     }
 
     /// The cell at a place.
@@ -357,7 +295,7 @@ impl Screen {
         ensures cell { result ≡ cell_at self.now.page at }
         ensures valid { IsValidCell result }
     {
-        self.page.cell(at)
+        self.picture.page.cell(at)
     }
 
     /// The attributes of a row.
@@ -367,7 +305,7 @@ impl Screen {
         ensures pen { result ≡ row_pen_in self.now.page.row_pens row }
         ensures valid { IsRowPen result }
     {
-        *self.page.row_pen(row)
+        *self.picture.page.row_pen(Row::numbered(row))
     }
 
     /// The attributes of the screen.
@@ -375,7 +313,7 @@ impl Screen {
         ensures pen { result ≡ self.now.page.screen_pen }
         ensures valid { IsScreenPen result }
     {
-        *self.page.screen_pen()
+        *self.picture.page.screen_pen()
     }
 
     /// The paint of a colour entry, 0 to 31.
@@ -384,7 +322,7 @@ impl Screen {
         ensures paint { result ≡ paint_in self.now.page.paints i }
         ensures valid { IsPaintOf i result }
     {
-        self.page.colours().paint(i)
+        self.picture.page.colours().paint(i)
     }
 
     /// The colour entry that an entry of the DCLUT, 0 to 3, names.
@@ -393,7 +331,7 @@ impl Screen {
         ensures entry { result ≡ dclut_in self.now.page.dclut i }
         ensures valid { IsEntry result }
     {
-        self.page.colours().dclut(i)
+        self.picture.page.colours().dclut(i)
     }
 
     /// The pattern of a code of the downloaded set, 2/1 to 7/14, `None` where none is defined.
@@ -403,7 +341,7 @@ impl Screen {
         ensures pattern { result ≡ pattern_in self.now.page.patterns code }
         ensures valid { IfSome result IsValidPattern }
     {
-        self.page.patterns().get(code)
+        self.picture.page.patterns().get(code)
     }
 
     /// The state beside the page, where it stands: the position, the sets, the pen and the modes.
@@ -495,29 +433,12 @@ impl Screen {
     /// Puts the old values back, and marks the places whose look changes.
     fn unwind<L: Ledger>(&mut self, delta: &Delta, marks: &mut Marks, steps: &mut Steps<L>)
         requires { IsValidState (unwound self.old delta.now) }
-        ensures state { self.new ≡ unwound self.old delta.now }
-        ensures marks { marks.new
-            ≡ differences (looks_of (core_of self.old)) (looks_of (core_of self.new)) }
-        ensures cost { steps.new
-            ≤ steps.old + rows_restored delta.now (core_of self.old) (core_of self.new) }
-        ensures least { steps.old
-            + rows_renewed [] (looks_of (core_of self.old)) (looks_of (core_of self.new)) ≤ steps.new }
-        ensures at_most_24 { steps.new ≤ steps.old + 24 }
+        ensures { IsPutBack delta.now self.old self.new marks.new steps.old steps.new }
     {
         let before = self.control.edges();
         self.control = delta.old_control().unwrap_or(self.control);
         let after = self.control.edges();
-        unwind(
-            &mut self.page,
-            delta,
-            &before,
-            &after,
-            &mut self.rows,
-            &mut self.names,
-            &mut self.fresh,
-            marks,
-            steps,
-        );
+        self.picture.unwind(delta, &before, &after, marks, steps);
     }
     /// Puts the old values of a delta back as `restore` does, and notes in their places in the delta
     /// the values that stood there: at the same locations the delta then unwinds the new state to
@@ -557,30 +478,13 @@ impl Screen {
         steps: &mut Steps<L>,
     )
         requires { IsValidState (unwound self.old delta.old) }
-        ensures state { self.new ≡ unwound self.old delta.old }
+        ensures back { IsPutBack delta.old self.old self.new marks.new steps.old steps.new }
         ensures exchanged { delta.new ≡ exchanged self.old delta.old }
         ensures was_valid { IsValidState self.old }
-        ensures marks { marks.new
-            ≡ differences (looks_of (core_of self.old)) (looks_of (core_of self.new)) }
-        ensures cost { steps.new
-            ≤ steps.old + rows_restored delta.old (core_of self.old) (core_of self.new) }
-        ensures least { steps.old
-            + rows_renewed [] (looks_of (core_of self.old)) (looks_of (core_of self.new)) ≤ steps.new }
-        ensures at_most_24 { steps.new ≤ steps.old + 24 }
     {
         let before = self.control.edges();
         delta.exchange_control(&mut self.control);
         let after = self.control.edges();
-        exchange(
-            &mut self.page,
-            delta,
-            &before,
-            &after,
-            &mut self.rows,
-            &mut self.names,
-            &mut self.fresh,
-            marks,
-            steps,
-        );
+        self.picture.exchange(delta, &before, &after, marks, steps);
     }
 }

@@ -12,7 +12,7 @@ ghost use Rattle.cept_repaint.specs.ValidGrid.{AreValidPaints, AreValidPaints-pr
 use crate::glass::Glass;
 use crate::grid_glass::GridGlass;
 use crate::screen::Screen;
-use cept_codes::{Look, NoMemory, Pos};
+use cept_codes::{Column, Look, NoMemory, Pos, Row};
 use std::alloc::Global;
 
 /// A glass in memory that keeps the first paints besides. It tells its list as long as all paints
@@ -93,9 +93,7 @@ impl Glass for TapeGlass {
     }
 
     // The trait's own loop and conditions, here with what becomes of the tape.
-    fn paint_row(&mut self, row: u8, flags: &[bool], screen: &Screen)
-        requires from_top { 1 ≤ row }
-        requires to_bottom { row ≤ 24 }
+    fn paint_row(&mut self, row: Row, flags: &[bool], screen: &Screen)
         requires columns { length flags.now ≡ 40 }
         ensures paints { PaintsRow (tape_glass_state self.old) flags.now row
             (looks_of (core_of screen.now)) (tape_glass_state self.new) }
@@ -106,9 +104,7 @@ impl Glass for TapeGlass {
     {
         for k in 0..40u8 {
             if flags[usize::from(k)] {
-                if let Some(at) = Pos::new(row, k + 1) {
-                    self.paint(at, screen);
-                }
+                self.paint(Pos::at(row, Column::numbered(k + 1)), screen);
             }
         }
     }

@@ -1,8 +1,7 @@
-ghost use Rattle.std.specs.Prelude.{◌≡◌, ◌≤◌, ◌<◌, ◌==◌, ℕ, true, None, IfSome, length, unwrap_or};
+ghost use Rattle.std.specs.Prelude.{◌≡◌, ◌≤◌, ◌<◌, ◌==◌, ℕ, true, IfSome, length, unwrap_or};
 ghost use Rattle.cept_codes.specs.declared.cell.Cell.{Cell};
 ghost use Rattle.cept_codes.specs.Attribute.{IsEntry};
 ghost use Rattle.cept_codes.specs.Look.{IsValidPaint, IsValidPattern};
-ghost use Rattle.cept_codes.specs.Table.{IsTable, entry};
 ghost use Rattle.cept_profile.specs.Cells.{is_at};
 ghost use Rattle.cept_profile.specs.OldValues.{old_cell, old_dclut, old_paint, old_pattern, old_row_pen};
 ghost use Rattle.cept_profile.specs.OldValues.{page_unwound};
@@ -14,7 +13,7 @@ ghost use Rattle.cept_repaint.specs.PutBack.{cells_back};
 
 use crate::delta::Delta;
 use cept_cells::Grid;
-use cept_codes::{Cell, Pen, Pos};
+use cept_codes::{Cell, Column, Pen, Pos, Row};
 use cept_colours::Colours;
 use cept_drcs::Patterns;
 
@@ -27,7 +26,6 @@ pub(crate) fn unwind_page(
     colours: &mut Colours,
     patterns: &mut Patterns,
 )
-    requires is { IsTable grid.old }
     requires rows { length row_pens.old ≡ 24 }
     requires entries { length colours.old.paints ≡ 32 }
     requires names { length colours.old.dclut ≡ 4 }
@@ -45,86 +43,65 @@ pub(crate) fn unwind_page(
 }
 
 /// Puts the old cells back.
-pub(crate) fn unwind_cells(delta: &Delta, grid: &mut Grid)
-    requires { IsTable grid.old }
+fn unwind_cells(delta: &Delta, grid: &mut Grid)
     ensures { grid.new ≡ cells_back (λ _ _. true) (old_cell delta.now) grid.old }
 {
-    for row in 1..25u8 {
-        unwind_row(row, delta, grid);
+    grid.whole_by_type();
+    for number in 1..25u8 {
+        unwind_row(Row::numbered(number), delta, grid);
     }
 }
 
-/// Puts the old cells of a row back.
-pub(crate) fn unwind_row(row: u8, delta: &Delta, grid: &mut Grid)
-    requires from_top { 1 ≤ row }
-    requires to_bottom { row ≤ 24 }
-    requires is { IsTable grid.old }
+/// Puts the old cells of a row back, where any may be noted.
+fn unwind_row(row: Row, delta: &Delta, grid: &mut Grid)
     ensures { grid.new ≡ cells_back (λ r _. row == r) (old_cell delta.now) grid.old }
 {
-    if delta.has_row(row) {
-        put_row_back(row, delta.old_cells(row), grid);
+    grid.whole_by_type();
+    if !delta.has_row(row) {
+        return;
     }
-}
-
-/// Puts old cells of a row back.
-fn put_row_back(row: u8, old: &[Option<Cell>; 40], grid: &mut Grid)
-    requires from_top { 1 ≤ row }
-    requires to_bottom { row ≤ 24 }
-    requires columns { length old.now ≡ 40 }
-    requires is { IsTable grid.old }
-    ensures { grid.new ≡ cells_back (λ r _. row == r) (λ _ c. entry None 1 old.now c) grid.old }
-{
-    for column in 1..41u8 {
-        put_back(
-            Pos::new(row, column).unwrap(),
-            &old[usize::from(column) - 1],
-            grid,
-        );
+    let old = delta.old_cells(row);
+    for number in 1..41u8 {
+        let column = Column::numbered(number);
+        put_back(Pos::at(row, column), &old[column.index()], grid);
     }
 }
 
 /// Puts an old cell back, where there is one.
 fn put_back(at: Pos, old: &Option<Cell>, grid: &mut Grid)
-    requires { IsTable grid.old }
     ensures { grid.new ≡ cells_back (is_at at) (λ _ _. old.now) grid.old }
 {
+    grid.whole_by_type();
     if let Some(cell) = old {
         grid.set(at, *cell);
     }
 }
 
-/// Puts the old attributes of rows back.
-pub(crate) fn unwind_row_pens(delta: &Delta, pens: &mut [Pen; 24])
+/// Puts the old attributes of rows back, where any may be noted.
+fn unwind_row_pens(delta: &Delta, pens: &mut [Pen; 24])
     requires { length pens.old ≡ 24 }
     ensures { pens.new
         ≡ list_of_rows (λ r. unwrap_or (old_row_pen delta.now r) (row_pen_in pens.old r)) }
 {
-    if delta.has_row_pens() {
-        put_row_pens_back(delta, pens);
+    if !delta.has_row_pens() {
+        return;
     }
-}
-
-/// Puts old attributes of rows back.
-fn put_row_pens_back(delta: &Delta, pens: &mut [Pen; 24])
-    requires { length pens.old ≡ 24 }
-    ensures { pens.new
-        ≡ list_of_rows (λ r. unwrap_or (old_row_pen delta.now r) (row_pen_in pens.old r)) }
-{
-    for row in 1..25u8 {
-        let index = usize::from(row) - 1;
+    for number in 1..25u8 {
+        let row = Row::numbered(number);
+        let index = row.index();
         pens[index] = delta.old_row_pen(row).unwrap_or(pens[index]);
     }
 }
 
 /// Puts the old attributes of the screen back.
-pub(crate) fn unwind_screen_pen(delta: &Delta, pen: &mut Pen)
+fn unwind_screen_pen(delta: &Delta, pen: &mut Pen)
     ensures { pen.new ≡ unwrap_or delta.now.screen_pen pen.old }
 {
     *pen = delta.old_screen_pen().unwrap_or(*pen);
 }
 
-/// Puts the old colour entries and entries of the DCLUT back.
-pub(crate) fn unwind_colours(delta: &Delta, colours: &mut Colours)
+/// Puts the old colour entries and entries of the DCLUT back, where any may be noted.
+fn unwind_colours(delta: &Delta, colours: &mut Colours)
     requires entries { length colours.old.paints ≡ 32 }
     requires names { length colours.old.dclut ≡ 4 }
     requires paints { (i : ℕ) → i < 32 → IfSome (old_paint delta.now i) IsValidPaint }
@@ -168,27 +145,17 @@ fn put_dclut_back(delta: &Delta, colours: &mut Colours)
     }
 }
 
-/// Puts the old patterns back.
-pub(crate) fn unwind_patterns(delta: &Delta, patterns: &mut Patterns)
+/// Puts the old patterns back, where any may be noted.
+fn unwind_patterns(delta: &Delta, patterns: &mut Patterns)
     requires { (d : ℕ) → 0x21 ≤ d → d ≤ 0x7E
         → IfSome (old_pattern delta.now d) (λ pattern. IfSome pattern IsValidPattern) }
     ensures { patterns.new
         ≡ list_of_codes (λ d. unwrap_or (old_pattern delta.now d) (pattern_in patterns.old d)) }
 {
     patterns.valid_by_type();
-    if delta.has_patterns() {
-        put_patterns_back(delta, patterns);
+    if !delta.has_patterns() {
+        return;
     }
-}
-
-/// Puts old patterns back.
-fn put_patterns_back(delta: &Delta, patterns: &mut Patterns)
-    requires codes { length patterns.old ≡ 94 }
-    requires valid { (d : ℕ) → 0x21 ≤ d → d ≤ 0x7E
-        → IfSome (old_pattern delta.now d) (λ pattern. IfSome pattern IsValidPattern) }
-    ensures { patterns.new
-        ≡ list_of_codes (λ d. unwrap_or (old_pattern delta.now d) (pattern_in patterns.old d)) }
-{
     for code in 0x21..0x7Fu8 {
         let pattern = delta.old_pattern(code).unwrap_or(patterns.get(code));
         patterns.set(code, pattern);

@@ -1,5 +1,5 @@
 -- A text of which the front was put and the rest is gathered.
-use Rattle.std.proofs.Common.{◌≡◌, ℕ, ◌+◌, Bool, List, [], ◌∷◌, ◌++◌, decimal, refl, sym, ◌∙◌, ap, subst, append_assoc}
+use Rattle.std.proofs.Common.{◌≡◌, ℕ, ◌+◌, ◌≤◌, Bool, List, [], ◌∷◌, ◌++◌, decimal, refl, sym, ◌∙◌, ap, subst, append_assoc}
 use Rattle.std.proofs.Common.{append-nil, arith, Result, Ok, Err}
 use Rattle.cept_codes.specs.declared.look.Look.{Look}
 use Rattle.cept_codes.specs.Place.{Place, number}
@@ -187,3 +187,10 @@ line_of-is label digits none front p l is empty is_front =
     ap (λ (f : List ℕ). (f ++ shape_text l.shape) ++ (32 ∷ fields_text l ++ 10 ∷ []))
     (is_front ∙ ap (λ (n : List ℕ). n ++ front_text digits p) empty)
     ∙ sym (line-is digits p l) ∙ change_line-is label digits p l is
+
+-- room for what stands after a shape: where a space or a sign was gathered, and where a pattern stands alone
+pub still_room : (before after : ℕ) → before + 26 ≤ 248 → after ≤ before + 6 → after + 20 ≤ 248
+still_room before after room added = omega (arith, room, added)
+
+pub drawn_room : (before after : ℕ) → before ≡ 0 → after ≤ before + 202 → after + 20 ≤ 248
+drawn_room before after none added = omega (arith, none, added)

@@ -5,3 +5,4 @@ pub mod Phases
 pub mod Front
 pub mod Ending
 pub mod Gathered
+pub mod Room

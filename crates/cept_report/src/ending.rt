@@ -7,6 +7,7 @@ ghost use Rattle.cept_profile.specs.State.{core_of};
 ghost use Rattle.cept_codes.specs.declared.look.Look.{Look};
 ghost use Rattle.cept_codes.specs.Look.{IsValidLook, IsValidPaint};
 ghost use Rattle.cept_report.specs.Ending.{ending_text, fields_of, paint_word};
+ghost use Rattle.cept_report.specs.Room.{HasRoomFor};
 
 use crate::line::{Line, add_text};
 use crate::look::ending_of;
@@ -81,24 +82,15 @@ fn fields_of(look: &Look) -> Fields
 fn same(a: &Fields, b: &Fields) -> bool
     ensures { IsTrue result ↔ (a.now ≡ b.now) }
 {
-    same_part(&a.part, &b.part)
+    let (part, style) = (&a.part, &a.style);
+    let (other, its) = (&b.part, &b.style);
+    ((part.dy == other.dy) & (part.dx == other.dx) & (part.w == other.w) & (part.h == other.h))
         & (a.fore == b.fore)
         & (a.back == b.back)
-        & same_style(&a.style, &b.style)
-}
-
-#[inline(always)]
-fn same_part(a: &Part, b: &Part) -> bool
-    ensures { IsTrue result ↔ (a.now ≡ b.now) }
-{
-    (a.dy == b.dy) & (a.dx == b.dx) & (a.w == b.w) & (a.h == b.h)
-}
-
-#[inline(always)]
-fn same_style(a: &Style, b: &Style) -> bool
-    ensures { IsTrue result ↔ (a.now ≡ b.now) }
-{
-    (a.flash == b.flash) & (a.conceal == b.conceal) & (a.lined == b.lined) & (a.boxed == b.boxed)
+        & ((style.flash == its.flash)
+            & (style.conceal == its.conceal)
+            & (style.lined == its.lined)
+            & (style.boxed == its.boxed))
 }
 
 impl Ending {
@@ -132,7 +124,7 @@ impl Ending {
 /// are kept.
 #[inline(always)]
 pub fn add_ending(line: &mut Line, kept: &mut Ending, look: &Look, at: Pos, screen: &Screen)
-    requires room { array_vec_len line.old + 20 ≤ 248 }
+    requires room { HasRoomFor 20 line.old }
     requires valid { IsValidLook look.now }
     requires seen { look.now ≡ look_at (looks_of (core_of screen.now)) at }
     ensures text { line.new.items ≡ line.old.items ++ ending_text look.now }

@@ -8,6 +8,7 @@ ghost use Rattle.cept_profile.specs.Look.{looks_of};
 ghost use Rattle.cept_profile.specs.State.{core_of};
 ghost use Rattle.cept_report.specs.Ascii.{ascii};
 ghost use Rattle.cept_report.specs.Gathered.{Gathers};
+ghost use Rattle.cept_report.specs.Room.{GathersShape, HasRoomFor};
 ghost use Rattle.cept_report.specs.Screen.{cell_line};
 ghost use Rattle.cept_report.specs.Text.{shape_text};
 
@@ -61,10 +62,9 @@ pub fn gather_shape<T: Sink>(
     shape: &Shape,
 ) -> Result<(), WriteFault>
     requires valid { IsValidShape shape.now }
-    requires room { array_vec_len lines.old ≤ 222 }
-    ensures gathers { Gathers (T.state sink.old) lines.old.items (shape_text shape.now) result
-        (T.state sink.new) lines.new.items }
-    ensures room { OnOk result (array_vec_len lines.new ≤ 228) }
+    requires room { HasRoomFor 26 lines.old }
+    ensures { GathersShape (T.state sink.old) lines.old shape.now result (T.state sink.new)
+        lines.new }
 {
     match shape {
         Shape::Space => add_byte(lines, b'-'),
@@ -86,11 +86,9 @@ fn gather_drawing<T: Sink>(
     at: Pos,
     screen: &Screen,
 ) -> Result<(), WriteFault>
-    requires { array_vec_len lines.old ≤ 222 }
-    ensures gathers { let look = look_at (looks_of (core_of screen.now)) at in
-        Gathers (T.state sink.old) lines.old.items (shape_text look.shape) result (T.state sink.new)
-        lines.new.items }
-    ensures room { OnOk result (array_vec_len lines.new ≤ 228) }
+    requires { HasRoomFor 26 lines.old }
+    ensures { let look = look_at (looks_of (core_of screen.now)) at in
+        GathersShape (T.state sink.old) lines.old look.shape result (T.state sink.new) lines.new }
 {
     gather_shape(sink, lines, &screen.look(at).shape)
 }
@@ -105,10 +103,9 @@ fn gather_seen<T: Sink>(
     screen: &Screen,
 ) -> Result<(), WriteFault>
     requires seen { shape.now ≡ (look_at (looks_of (core_of screen.now)) at).shape }
-    requires room { array_vec_len lines.old ≤ 222 }
-    ensures gathers { Gathers (T.state sink.old) lines.old.items (shape_text shape.now) result
-        (T.state sink.new) lines.new.items }
-    ensures room { OnOk result (array_vec_len lines.new ≤ 228) }
+    requires room { HasRoomFor 26 lines.old }
+    ensures { GathersShape (T.state sink.old) lines.old shape.now result (T.state sink.new)
+        lines.new }
 {
     match shape {
         Shape::Space => add_byte(lines, b'-'),

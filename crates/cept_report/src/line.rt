@@ -1,5 +1,6 @@
 ghost use Rattle.std.specs.Prelude.{◌≡◌, ◌+◌, ◌≤◌, ◌<◌, ◌∷◌, [], ◌++◌, length, decimal};
 ghost use Rattle.arrayvec.specs.ArrayVec.{array_vec_len};
+ghost use Rattle.cept_report.specs.Room.{Adds, HasRoomFor};
 ghost use Rattle.cept_report.specs.Text.{hex_digit, hex_byte, hex_word};
 
 use arrayvec::ArrayVec;
@@ -39,9 +40,8 @@ pub fn add_text(line: &mut Line, text: &[u8])
 
 /// Adds a number in decimal digits.
 pub fn add_number(line: &mut Line, number: u64)
-    requires { array_vec_len line.old + 20 ≤ 248 }
-    ensures text { line.new.items ≡ line.old.items ++ decimal number }
-    ensures len { array_vec_len line.new ≤ array_vec_len line.old + 20 }
+    requires { HasRoomFor 20 line.old }
+    ensures { Adds line.old 20 (decimal number) line.new }
 {
     let mut buffer = Buffer::new();
     add_text(line, buffer.format(number).as_bytes());
@@ -51,7 +51,7 @@ pub fn add_number(line: &mut Line, number: u64)
 #[tactic(auto, using(crate::proofs::Digits::decimal_digits))]
 pub fn add_small(line: &mut Line, number: u8)
     requires small { number < 100 }
-    requires room { array_vec_len line.old + 2 ≤ 248 }
+    requires room { HasRoomFor 2 line.old }
     ensures text { line.new.items ≡ line.old.items ++ decimal number }
     ensures len { array_vec_len line.new ≤ array_vec_len line.old + 2 }
     ensures digit { number < 10 → array_vec_len line.new ≤ array_vec_len line.old + 1 }
@@ -74,7 +74,7 @@ pub fn hex_digit(number: u8) -> u8
 
 /// Adds a byte as two hexadecimal digits.
 pub fn add_hex_byte(line: &mut Line, byte: u8)
-    requires { array_vec_len line.old + 2 ≤ 248 }
+    requires { HasRoomFor 2 line.old }
     ensures text { line.new.items ≡ line.old.items ++ hex_byte byte }
     ensures len { array_vec_len line.new ≡ array_vec_len line.old + 2 }
 {
@@ -84,7 +84,7 @@ pub fn add_hex_byte(line: &mut Line, byte: u8)
 
 /// Adds a word as sixteen hexadecimal digits.
 pub fn add_hex_word(line: &mut Line, word: u64)
-    requires { array_vec_len line.old + 16 ≤ 248 }
+    requires { HasRoomFor 16 line.old }
     ensures text { line.new.items ≡ line.old.items ++ hex_word word }
     ensures len { array_vec_len line.new ≡ array_vec_len line.old + 16 }
 {

@@ -3,6 +3,7 @@ ghost use Rattle.arrayvec.specs.ArrayVec.{array_vec_len};
 ghost use Rattle.cept_codes.specs.Look.{IsValidLook};
 ghost use Rattle.cept_report.specs.Front.{front_text, place_text};
 ghost use Rattle.cept_report.specs.Screen.{cell_text};
+ghost use Rattle.cept_report.specs.Room.{Adds, HasRoomFor};
 ghost use Rattle.cept_report.specs.Ascii.{ascii};
 ghost use Rattle.cept_report.specs.Text.{reason_number, reason_name, check_line};
 ghost use Rattle.cept_report.specs.Text.{refusal_line, nothing_line, script_fault_line, load_line};
@@ -15,10 +16,9 @@ use cept_codes::{LineReason, Look, Pos, Reason};
 /// Adds a label and a place, with a space after each number.
 #[inline(always)]
 pub fn add_front(line: &mut Line, label: &[u8], at: Pos)
+    requires room { HasRoomFor 27 line.old }
     requires label { length label.now ≤ 20 }
-    requires room { array_vec_len line.old + 27 ≤ 248 }
-    ensures text { line.new.items ≡ line.old.items ++ front_text label.now at }
-    ensures len { array_vec_len line.new ≤ array_vec_len line.old + 27 }
+    ensures { Adds line.old 27 (front_text label.now at) line.new }
 {
     add_label(line, label);
     add_spaced_place(line, at);
@@ -45,9 +45,8 @@ fn add_label(line: &mut Line, label: &[u8])
 #[inline(always)]
 #[tactic(auto, using(crate::proofs::Digits::decimal_digits))]
 fn add_spaced_place(line: &mut Line, at: Pos)
-    requires { array_vec_len line.old + 7 ≤ 248 }
-    ensures text { line.new.items ≡ line.old.items ++ (ascii " " ∷ place_text at) }
-    ensures len { array_vec_len line.new ≤ array_vec_len line.old + 7 }
+    requires { HasRoomFor 7 line.old }
+    ensures { Adds line.old 7 (ascii " " ∷ place_text at) line.new }
 {
     let (row, column) = (at.row(), at.col());
     let (row_ten, row_one) = (b'0' + row / 10, b'0' + row % 10);
@@ -71,9 +70,8 @@ fn add_spaced_place(line: &mut Line, at: Pos)
 /// Adds a place: the row and the column, with a space after each.
 #[inline(always)]
 fn add_place(line: &mut Line, at: Pos)
-    requires { array_vec_len line.old + 6 ≤ 248 }
-    ensures text { line.new.items ≡ line.old.items ++ place_text at }
-    ensures len { array_vec_len line.new ≤ array_vec_len line.old + 6 }
+    requires { HasRoomFor 6 line.old }
+    ensures { Adds line.old 6 (place_text at) line.new }
 {
     add_small(line, at.row());
     add_byte(line, b' ');
@@ -125,9 +123,8 @@ fn number_of(reason: Reason) -> u8
 
 #[tactic(auto, unfolding(crate::specs::Text::reason_name))]
 fn add_name(line: &mut Line, reason: Reason)
-    requires { array_vec_len line.old + 17 ≤ 248 }
-    ensures text { line.new.items ≡ line.old.items ++ reason_name reason }
-    ensures len { array_vec_len line.new ≤ array_vec_len line.old + 17 }
+    requires { HasRoomFor 17 line.old }
+    ensures { Adds line.old 17 (reason_name reason) line.new }
 {
     match reason {
         Reason::UnassignedControl => add_text(line, b"UnassignedControl"),
@@ -141,10 +138,9 @@ fn add_name(line: &mut Line, reason: Reason)
 }
 
 fn add_reason(line: &mut Line, reason: Reason)
-    requires { array_vec_len line.old + 38 ≤ 248 }
-    ensures text { line.new.items ≡ line.old.items
-        ++ (decimal (reason_number reason) ++ ascii " " ∷ reason_name reason) }
-    ensures len { array_vec_len line.new ≤ array_vec_len line.old + 38 }
+    requires { HasRoomFor 38 line.old }
+    ensures { Adds line.old 38
+        (decimal (reason_number reason) ++ ascii " " ∷ reason_name reason) line.new }
 {
     add_number(line, u64::from(number_of(reason)));
     add_byte(line, b' ');
@@ -193,9 +189,8 @@ fn line_number_of(reason: LineReason) -> u8
 
 #[tactic(auto, unfolding(crate::specs::Text::line_reason_name))]
 fn add_line_name(line: &mut Line, reason: LineReason)
-    requires { array_vec_len line.old + 11 ≤ 248 }
-    ensures text { line.new.items ≡ line.old.items ++ line_reason_name reason }
-    ensures len { array_vec_len line.new ≤ array_vec_len line.old + 11 }
+    requires { HasRoomFor 11 line.old }
+    ensures { Adds line.old 11 (line_reason_name reason) line.new }
 {
     match reason {
         LineReason::UnknownWord => add_text(line, b"UnknownWord"),

@@ -3,6 +3,7 @@ ghost use Rattle.arrayvec.specs.ArrayVec.{array_vec_len};
 ghost use Rattle.cept_codes.specs.Look.{IsValidInks, IsValidLook, IsValidPattern, IsValidShape};
 ghost use Rattle.cept_report.specs.Ascii.{ascii};
 ghost use Rattle.cept_report.specs.Ending.{ending_text};
+ghost use Rattle.cept_report.specs.Room.{Adds, HasRoomFor};
 ghost use Rattle.cept_report.specs.Text.{set_letter, accent_text, sign_text, shape_text};
 ghost use Rattle.cept_report.specs.Text.{flash_letter, flag_letter, fields_text, look_text};
 ghost use Rattle.cept_report.specs.Text.{ink_texts, pattern_text};
@@ -25,9 +26,8 @@ fn letter_of_set(set: SetId) -> u8
 }
 
 fn add_accent(line: &mut Line, accent: u8)
-    requires { array_vec_len line.old + 3 ≤ 248 }
-    ensures text { line.new.items ≡ line.old.items ++ accent_text accent }
-    ensures len { array_vec_len line.new ≤ array_vec_len line.old + 3 }
+    requires { HasRoomFor 3 line.old }
+    ensures { Adds line.old 3 (accent_text accent) line.new }
 {
     if accent != 0 {
         add_byte(line, b'+');
@@ -38,9 +38,8 @@ fn add_accent(line: &mut Line, accent: u8)
 /// Adds a sign: the letter of its set, its code and its accent.
 #[inline(always)]
 pub fn add_sign(line: &mut Line, glyph: Glyph)
-    requires { array_vec_len line.old + 6 ≤ 248 }
-    ensures text { line.new.items ≡ line.old.items ++ sign_text glyph }
-    ensures len { array_vec_len line.new ≤ array_vec_len line.old + 6 }
+    requires { HasRoomFor 6 line.old }
+    ensures { Adds line.old 6 (sign_text glyph) line.new }
 {
     let (high, low) = (hex_digit(glyph.code / 16), hex_digit(glyph.code % 16));
     add_text(line, &[letter_of_set(glyph.set), high, low]);
@@ -49,10 +48,9 @@ pub fn add_sign(line: &mut Line, glyph: Glyph)
 
 #[tactic(auto, unfolding(crate::specs::Text::shape_text))]
 fn add_shape(line: &mut Line, shape: &Shape)
-    requires room { array_vec_len line.old + 202 ≤ 248 }
+    requires room { HasRoomFor 202 line.old }
     requires valid { IsValidShape shape.now }
-    ensures text { line.new.items ≡ line.old.items ++ shape_text shape.now }
-    ensures len { array_vec_len line.new ≤ array_vec_len line.old + 202 }
+    ensures { Adds line.old 202 (shape_text shape.now) line.new }
 {
     match shape {
         Shape::Space => add_byte(line, b'-'),
@@ -65,12 +63,11 @@ fn add_shape(line: &mut Line, shape: &Shape)
 // A call of its own: patterns are rare and large.
 #[inline(never)]
 pub fn add_drawing(line: &mut Line, pattern: &Pattern, inks: &Inks)
-    requires room { array_vec_len line.old + 202 ≤ 248 }
+    requires room { HasRoomFor 202 line.old }
     requires pattern { IsValidPattern pattern.now }
     requires inks { IsValidInks inks.now pattern.now.planes }
-    ensures text { line.new.items
-        ≡ line.old.items ++ (pattern_text pattern.now ++ ink_texts pattern.now.planes inks.now) }
-    ensures len { array_vec_len line.new ≤ array_vec_len line.old + 202 }
+    ensures { Adds line.old 202
+        (pattern_text pattern.now ++ ink_texts pattern.now.planes inks.now) line.new }
 {
     add_pattern(line, pattern);
     add_inks(line, pattern.planes, inks);
@@ -132,7 +129,7 @@ pub fn ending_of(look: &Look) -> [u8; 20]
 /// Adds the fields after the shape, each after a space, and a line feed.
 #[inline(always)]
 pub fn add_fields(line: &mut Line, look: &Look)
-    requires room { array_vec_len line.old + 20 ≤ 248 }
+    requires room { HasRoomFor 20 line.old }
     requires valid { IsValidLook look.now }
     ensures text { line.new.items
         ≡ line.old.items ++ (ascii " " ∷ fields_text look.now ++ ascii "\n" ∷ []) }
@@ -144,10 +141,9 @@ pub fn add_fields(line: &mut Line, look: &Look)
 /// Adds the five fields of a look, and a line feed: at most 222 bytes, where a pattern has nine words
 /// and sixteen inks.
 pub fn add_look(line: &mut Line, look: &Look)
-    requires room { array_vec_len line.old + 222 ≤ 248 }
+    requires room { HasRoomFor 222 line.old }
     requires valid { IsValidLook look.now }
-    ensures text { line.new.items ≡ line.old.items ++ (look_text look.now ++ ascii "\n" ∷ []) }
-    ensures len { array_vec_len line.new ≤ array_vec_len line.old + 222 }
+    ensures { Adds line.old 222 (look_text look.now ++ ascii "\n" ∷ []) line.new }
 {
     add_shape(line, &look.shape);
     add_fields(line, look);

@@ -2,6 +2,7 @@ ghost use Rattle.std.specs.Prelude.{◌≡◌, ◌+◌, ◌*◌, ◌≤◌, ◌<
 ghost use Rattle.std.specs.List.{AllByRecursion, flat_map};
 ghost use Rattle.arrayvec.specs.ArrayVec.{array_vec_len};
 ghost use Rattle.cept_codes.specs.Look.{IsValidPaint};
+ghost use Rattle.cept_report.specs.Room.{HasRoomFor};
 ghost use Rattle.cept_report.specs.Text.{paint_text};
 
 use crate::line::{Line, add_text, hex_digit};
@@ -21,7 +22,7 @@ pub fn paint_signs(paint: &Paint) -> (u8, u8, u8)
 
 /// Adds a paint.
 fn add_paint(line: &mut Line, paint: &Paint)
-    requires room { array_vec_len line.old + 3 ≤ 248 }
+    requires room { HasRoomFor 3 line.old }
     requires valid { IsValidPaint paint.now }
     ensures text { line.new.items ≡ line.old.items ++ paint_text paint.now }
     ensures len { array_vec_len line.new ≡ array_vec_len line.old + 3 }

@@ -2,6 +2,7 @@ ghost use Rattle.std.specs.Prelude.{◌≡◌, ◌+◌, ◌*◌, ◌≤◌, ◌<
 ghost use Rattle.std.specs.List.{flat_map};
 ghost use Rattle.arrayvec.specs.ArrayVec.{array_vec_len};
 ghost use Rattle.cept_codes.specs.Look.{IsValidInks, IsValidPattern};
+ghost use Rattle.cept_report.specs.Room.{Adds, HasRoomFor};
 ghost use Rattle.cept_report.specs.Text.{hex_word, ink_texts, pattern_text, pixel_words};
 
 use crate::line::{Line, add_byte, add_hex_word, add_small};
@@ -32,10 +33,9 @@ fn add_words(line: &mut Line, words: &[u64])
 /// Adds a pattern: its size, the number of its planes, and its pixels.
 #[tactic(auto, unfolding(crate::specs::Text::pattern_text))]
 pub fn add_pattern(line: &mut Line, pattern: &Pattern)
-    requires room { array_vec_len line.old + 153 ≤ 248 }
+    requires room { HasRoomFor 153 line.old }
     requires valid { IsValidPattern pattern.now }
-    ensures text { line.new.items ≡ line.old.items ++ pattern_text pattern.now }
-    ensures len { array_vec_len line.new ≤ array_vec_len line.old + 153 }
+    ensures { Adds line.old 153 (pattern_text pattern.now) line.new }
 {
     add_byte(line, b'%');
     add_small(line, pattern.w);
@@ -50,10 +50,9 @@ pub fn add_pattern(line: &mut Line, pattern: &Pattern)
 /// Adds the inks of a pattern of so many planes. One of one plane has none.
 #[tactic(auto, unfolding(crate::specs::Text::ink_texts))]
 pub fn add_inks(line: &mut Line, planes: u8, inks: &Inks)
-    requires room { array_vec_len line.old + 49 ≤ 248 }
+    requires room { HasRoomFor 49 line.old }
     requires valid { IsValidInks inks.now planes }
-    ensures text { line.new.items ≡ line.old.items ++ ink_texts planes inks.now }
-    ensures len { array_vec_len line.new ≤ array_vec_len line.old + 49 }
+    ensures { Adds line.old 49 (ink_texts planes inks.now) line.new }
 {
     if planes != 1 {
         add_byte(line, b'/');

@@ -8,7 +8,7 @@ ghost use Rattle.cept_profile.specs.State.{core_of};
 ghost use Rattle.cept_repaint.specs.Marks.{IsFirstFrom};
 ghost use Rattle.cept_report.specs.Screen.{cells_text, screen_text};
 ghost use Rattle.cept_report.specs.Text.{change_line, change_lines, check_line, refusal_line};
-ghost use Rattle.cept_report.specs.Text.{nothing_line, script_fault_line, load_line};
+ghost use Rattle.cept_report.specs.Text.{marked_lines, nothing_line, script_fault_line, load_line};
 
 use crate::ending::Ending;
 use crate::gathering::{gather_change, gather_shape, put_gathered};
@@ -64,9 +64,8 @@ fn put_changes_from<T: Sink>(
     first: Pos,
 ) -> Result<(), WriteFault>
     requires { IsFirstFrom marks.now 0 first }
-    ensures { let text =
-        change_lines label (marked_looks marks.now (looks_of (core_of screen.now))) in
-        PutsText (T.state sink.old) text result (T.state sink.new) }
+    ensures { PutsText (T.state sink.old)
+        (marked_lines label marks.now (looks_of (core_of screen.now))) result (T.state sink.new) }
 {
     let mut digits = Buffer::new();
     let number = digits.format(label).as_bytes();

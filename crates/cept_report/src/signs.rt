@@ -2,6 +2,7 @@ ghost use Rattle.std.specs.Prelude.{◌≡◌, ◌+◌, ◌≤◌, ◌++◌, len
 ghost use Rattle.arrayvec.specs.ArrayVec.{array_vec_len};
 ghost use Rattle.cept_codes.specs.Look.{IsValidLook, IsValidShape};
 ghost use Rattle.cept_codes.specs.Place.{OnScreen, place_of};
+ghost use Rattle.cept_report.specs.Room.{Adds, HasRoomFor};
 ghost use Rattle.cept_report.specs.Screen.{look_sign, row_line, shape_sign};
 
 use crate::line::{Line, add_byte, add_text};
@@ -11,10 +12,9 @@ use cept_repaint::Glass;
 
 #[tactic(auto, unfolding(crate::specs::Screen::shape_sign))]
 fn add_shape_sign(line: &mut Line, shape: &Shape)
-    requires room { array_vec_len line.old + 3 ≤ 248 }
+    requires room { HasRoomFor 3 line.old }
     requires valid { IsValidShape shape.now }
-    ensures text { line.new.items ≡ line.old.items ++ shape_sign shape.now }
-    ensures len { array_vec_len line.new ≤ array_vec_len line.old + 3 }
+    ensures { Adds line.old 3 (shape_sign shape.now) line.new }
 {
     match shape {
         Shape::Space => add_byte(line, b' '),
@@ -25,10 +25,9 @@ fn add_shape_sign(line: &mut Line, shape: &Shape)
 
 #[tactic(auto, unfolding(crate::specs::Screen::look_sign))]
 fn add_look_sign(line: &mut Line, look: &Look)
-    requires room { array_vec_len line.old + 3 ≤ 248 }
+    requires room { HasRoomFor 3 line.old }
     requires valid { IsValidLook look.now }
-    ensures text { line.new.items ≡ line.old.items ++ look_sign look.now }
-    ensures len { array_vec_len line.new ≤ array_vec_len line.old + 3 }
+    ensures { Adds line.old 3 (look_sign look.now) line.new }
 {
     if look.conceal || look.dy > 0 || look.dx > 0 {
         add_byte(line, b' ');

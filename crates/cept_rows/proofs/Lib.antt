@@ -1,3 +1,4 @@
+pub mod CellsAlone
 pub mod Columns
 pub mod Drawings
 pub mod KeptLooks

@@ -21,13 +21,13 @@ use Rattle.cept_profile.specs.Look.{attributes_of, is_double_set, look_in_row, l
 use Rattle.cept_profile.specs.Look.{part_of}
 use Rattle.cept_profile.specs.Look.{shape_in, shape_of, size_in_row}
 use Rattle.cept_profile.specs.RowsFromAbove.{look_by, look_from}
-use Rattle.cept_profile.specs.Serial.{acts_there, held_sign, is_marker, own_attributes_of, serial_attributes}
+use Rattle.cept_profile.specs.Serial.{acts_there, held_sign, is_marker, own_attributes_of, row_in, serial_attributes}
 use Rattle.cept_profile.specs.Tiling.{column_entry, covers_below, covers_right, is_covered_from_left, is_high}
 use Rattle.cept_profile.specs.Tiling.{is_wide, origin_part, part_below, part_to_the_right, single_part}
 use Rattle.cept_profile.proofs.Laws.{influence-start, influence-suc, serial_attributes-suc, in_plain, unmarked}
 use Rattle.cept_rows.specs.declared.small_look.SmallLook.{SmallLook}
-use Rattle.cept_rows.specs.RowsByCell.{look_shown}
 use Rattle.cept_rows.specs.SmallLooks.{small_of}
+use Rattle.cept_rows.specs.Source.{Source, own_look, own_size, place_made}
 use Rattle.cept_rows.proofs.RowsByPart.{look_from-0}
 
 -- without markers the attributes are those of the row and the screen
@@ -62,12 +62,12 @@ own_alone row screen (whats.Parallel g pen) = refl
 own_alone row screen (whats.Marker m) = refl
 
 -- the look of what stands in a cell by itself
-pub look_by_itself : (defined : Definitions) (row screen : Pen) (w : What)
+pub look_of_itself : (defined : Definitions) (row screen : Pen) (w : What)
     → look_with (paint_in defined.paints) (shape_of defined w)
     (own_attributes_of w row screen (cascade unset_pen row screen))
     ≡ look_of defined row screen w
 unfolding look_of
-look_by_itself defined row screen w =
+look_of_itself defined row screen w =
     ap (look_with (paint_in defined.paints) (shape_of defined w)) (own_alone row screen w)
 
 -- the look of a cell of such a row
@@ -224,13 +224,15 @@ look_from-alone above own wanted last n uncovered single normal (suc c) high =
     (normal (suc (suc c)) (omega arith) high) (single (suc (suc c)))
 
 -- the columns before one in which another size may stand
-pub shown_alone : (defined : Definitions) (above : List Look) (row : ℕ → What) (pen screen : Pen) (last : Bool) (n : ℕ)
+pub shown_alone : (source : Source) (above : List Look) (n : ℕ)
     → ((c : ℕ) → covers_below (part_of (column_entry blank_look above c)) ≡ false)
-    → ((d : ℕ) → 1 ≤ d → d < n → sets_double_size (row d) ≡ false) → (cascade unset_pen pen screen).size ≡ sizes.Normal
-    → (c : ℕ) → 1 ≤ c → c < n
-    → look_in_row defined row pen screen c ≡ look_shown defined above row pen screen last c
-shown_alone defined above row pen screen last n uncovered plain e zero low below = absurd (omega arith)
-shown_alone defined above row pen screen last n uncovered plain e (suc c) low below =
-    sym (look_from-alone (column_entry blank_look above) (look_in_row defined row pen screen)
-    (size_in_row row pen screen) last (suc c) uncovered (single_look defined row pen screen)
-    (λ d from to. size_alone row pen screen d from (λ b first upto. plain b first (omega arith)) e) c (omega arith))
+    → ((d : ℕ) → 1 ≤ d → d < n → sets_double_size (row_in source.cells d) ≡ false)
+    → (cascade unset_pen source.row_pen source.screen_pen).size ≡ sizes.Normal → (c : ℕ) → 1 ≤ c → c < n
+    → own_look source c ≡ place_made source above c
+shown_alone source above n uncovered plain e zero low below = absurd (omega arith)
+shown_alone source above n uncovered plain e (suc c) low below =
+    let row : ℕ → What = row_in source.cells in
+    sym (look_from-alone (column_entry blank_look above) (own_look source) (own_size source) source.last (suc c)
+    uncovered (single_look source.defined row source.row_pen source.screen_pen)
+    (λ d from to. size_alone row source.row_pen source.screen_pen d from (λ b first upto. plain b first (omega arith)) e) c
+    (omega arith))

@@ -1,6 +1,6 @@
 -- Rows beneath others: each look is that of the place above, of the one to the left, or of what stands there itself.
-use Rattle.std.proofs.Common.{◌≡◌, ℕ, ◌+◌, ◌-◌, ◌≤◌, ◌<◌, ◌&&◌, ltb, Bool, true, false, not, Option, List}
-use Rattle.std.proofs.Common.{zero, suc, length, get_or, refl, sym, ap, ◌∙◌, arith, subst, None, IfSome, inl, inr, cond}
+use Rattle.std.proofs.Common.{◌≡◌, ℕ, ◌+◌, ◌-◌, ◌≤◌, ◌<◌, ◌&&◌, ltb, Bool, true, false, not, List}
+use Rattle.std.proofs.Common.{zero, suc, length, get_or, refl, sym, ap, ◌∙◌, arith, subst, inl, inr, cond}
 use Rattle.std.proofs.lemmas.Bool.{and_right, cases_lt, cond-true, cond-false}
 use Rattle.cept_codes.specs.declared.attribute.Full.{Full}
 use Rattle.cept_codes.specs.declared.attribute.Pen.{Pen}
@@ -10,14 +10,12 @@ use Rattle.cept_codes.specs.declared.attribute.Size.TheVariants as sizes
 use Rattle.cept_codes.specs.declared.cell.What.{What}
 use Rattle.cept_codes.specs.declared.look.Look.{Look}
 use Rattle.cept_codes.specs.declared.look.Part.{Part}
-use Rattle.cept_codes.specs.declared.look.Pattern.{Pattern}
 use Rattle.cept_codes.specs.Cell.{IsValidWhat}
-use Rattle.cept_codes.specs.Look.{IsValidLook, IsValidPaint, IsValidPattern, blank_look}
+use Rattle.cept_codes.specs.Look.{IsValidLook, blank_look}
 use Rattle.cept_codes.specs.Table.{HasMadeEntries, entry, row_of}
-use Rattle.cept_codes.proofs.Laws.{entry_from, entry_past}
+use Rattle.cept_codes.proofs.Laws.{entry_from}
 use Rattle.cept_profile.specs.Definitions.{Definitions}
 use Rattle.cept_profile.specs.Look.{look_in_row, look_with_part, part_of, size_in_row}
-use Rattle.cept_profile.specs.PageParts.{paint_in, pattern_in}
 use Rattle.cept_profile.specs.RowsFromAbove.{look_by, look_from, row_from_above}
 use Rattle.cept_profile.specs.Serial.{own_attributes, own_attributes_of, row_in, serial_attributes}
 use Rattle.cept_profile.specs.Tiling.{column_entry, covers_below, covers_right, is_covered_from_left, is_high, is_wide}
@@ -175,20 +173,6 @@ IsValidLook-look_from above own wanted last is_above is_own c low high =
     subst IsValidLook
     (column_entry-row_of blank_look (look_from (column_entry blank_look above) own wanted last) c low high)
     (IsValidLook-row_from_above above own wanted last is_above is_own c low high)
-
--- what signs are drawn with is valid where it is kept so
-pub AreValidDefinitions-kept : (defined : Definitions) → ((i : ℕ) → IsValidPaint (paint_in defined.paints i))
-    → length defined.patterns ≡ 94
-    → ((d : ℕ) → 0x21 ≤ d → d ≤ 0x7E → IfSome (pattern_in defined.patterns d) IsValidPattern)
-    → AreValidDefinitions defined
-AreValidDefinitions-kept defined paints codes patterns = record {
-  paints = paints;
-  patterns = λ d low. elim (cases_lt d 0x7F) [
-    | inl below ↦ patterns d low (omega arith)
-    | inr past ↦ subst (λ (o : Option Pattern). IfSome o IsValidPattern)
-        (sym (entry_past None 0x21 defined.patterns d (omega (arith, codes, past)))) tt
-  ];
-}
 
 -- a row of valid cells
 pub IsValidLook-cell : (defined : Definitions) (row : ℕ → What) (pen screen : Pen) → AreValidDefinitions defined

@@ -1,23 +1,48 @@
 -- What the walk along a row keeps of the last pen (own). Private clauses alone cite it.
 use Rattle.std.specs.Prelude.{◌≡◌, true}
+use Rattle.cept_codes.specs.declared.attribute.Full.{Full}
 use Rattle.cept_codes.specs.declared.attribute.Pen.{Pen}
+use Rattle.cept_codes.specs.declared.look.Shape.{Shape}
 use Rattle.cept_codes.specs.declared.look.Shape.TheVariants as shapes
 use Rattle.cept_codes.specs.Attribute.{unset_pen}
-use Rattle.cept_colours.specs.Colours.{ColourTables}
 use Rattle.cept_profile.specs.Attributes.{cascade}
 use Rattle.cept_profile.specs.Look.{look_with}
 use Rattle.cept_profile.specs.PageParts.{paint_in}
+use Rattle.cept_rows.specs.declared.cell_look.AtHand.{AtHand}
 use Rattle.cept_rows.specs.declared.cell_look.Brush.{Brush}
+use Rattle.cept_rows.specs.declared.small_look.SmallLook.{SmallLook}
 use Rattle.cept_rows.specs.SmallLooks.{small_of}
+use Rattle.cept_rows.specs.Source.{Source}
 
 -- a pen that sets no class but the colours
 abbrev pub IsBare : Pen → Type 0
 IsBare pen = pen ≡ record unset_pen { fore = pen.fore; back = pen.back }
 
--- how a space looks that is written with the pen, and in which size, under these attributes of row and screen; with the
--- flag `bare` the pen sets no class but the colours
-pub record IsBrush (colours : ColourTables) (row screen : Pen) (brush : Brush) : Type 0 where
-  pub space : brush.space
-      ≡ small_of (look_with (paint_in colours.paints) shapes.Space (cascade brush.pen row screen))
+-- the attributes of a sign that took a pen
+abbrev pub attributes_by : Source → Pen → Full
+attributes_by source pen = cascade pen source.row_pen source.screen_pen
+
+-- a shape of single size with these attributes
+abbrev pub small_shape : Source → Shape → Full → SmallLook
+small_shape source shape full = small_of (look_with (paint_in source.defined.paints) shape full)
+
+-- how a space looks that is written with a pen
+abbrev pub space_by : Source → Pen → SmallLook
+space_by source pen = small_shape source shapes.Space (attributes_by source pen)
+
+-- how a space looks that is written with the pen, and in which size; with the flag `bare` the pen sets no class but the
+-- colours
+pub record IsBrush (source : Source) (brush : Brush) : Type 0 where
+  pub space : brush.space ≡ space_by source brush.pen
   pub bare : brush.bare ≡ true → IsBare brush.pen
-  pub size : brush.size ≡ (cascade brush.pen row screen).size
+  pub size : brush.size ≡ (attributes_by source brush.pen).size
+
+-- one that holds this pen
+pub record IsDipped (source : Source) (pen : Pen) (brush : Brush) : Type 0 where
+  pub held : brush.pen ≡ pen
+  pub is : IsBrush source brush
+
+-- how a blank cell looks in a row without markers, and a brush
+pub record IsAtHand (source : Source) (hand : AtHand) : Type 0 where
+  pub blank : hand.blank ≡ space_by source unset_pen
+  pub brush : IsBrush source hand.brush

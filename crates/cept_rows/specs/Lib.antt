@@ -1,5 +1,6 @@
 pub mod Brush
 pub mod DrawnWith
+pub mod Source
 pub mod SmallLooks
 pub mod KeptRows
 pub mod RowsByCell
@@ -7,3 +8,5 @@ pub mod KeptNames
 pub mod Planes
 pub mod Walk
 pub mod Flagged
+pub mod Compared
+pub mod Places

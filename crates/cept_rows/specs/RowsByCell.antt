@@ -7,13 +7,9 @@ use Rattle.cept_codes.specs.declared.glyph.SetId.{SetId}
 use Rattle.cept_codes.specs.declared.glyph.SetId.TheVariants as sets
 use Rattle.cept_codes.specs.declared.look.Look.{Look}
 use Rattle.cept_codes.specs.declared.look.Pattern.{Pattern}
-use Rattle.cept_codes.specs.declared.attribute.Pen.{Pen}
-use Rattle.cept_codes.specs.Look.{blank_look}
-use Rattle.cept_profile.specs.Definitions.{Definitions}
-use Rattle.cept_profile.specs.Look.{look_in_row, part_of, size_in_row}
+use Rattle.cept_profile.specs.Look.{part_of}
 use Rattle.cept_profile.specs.PageParts.{pattern_in}
-use Rattle.cept_profile.specs.RowsFromAbove.{look_from}
-use Rattle.cept_profile.specs.Tiling.{column_entry, covers_right}
+use Rattle.cept_profile.specs.Tiling.{covers_right}
 
 -- the downloaded set
 abbrev pub is_set_d : SetId → Bool
@@ -29,11 +25,6 @@ is_downloaded _ = false
 -- the pattern of a sign, where it is of that set and its code has one
 abbrev pub pattern_of_sign : List (Option Pattern) → Glyph → Option Pattern
 pattern_of_sign patterns g = if is_set_d g.set then pattern_in patterns g.code else None
-
--- what the places of a row show beneath these looks
-abbrev pub look_shown : Definitions → List Look → (ℕ → What) → Pen → Pen → Bool → ℕ → Look
-look_shown defined above row pen screen last =
-    look_from (column_entry blank_look above) (look_in_row defined row pen screen) (size_in_row row pen screen) last
 
 -- two looks are the same, or neither is of the left side of a wide sign: what the place to the right shows is as much the
 -- one's as the other's

@@ -1,94 +1,54 @@
-ghost use Rattle.std.specs.Prelude.{◌≡◌, true, false, List, Option, None, IfSome};
+ghost use Rattle.std.specs.Prelude.{◌≡◌, true, false, None, IfSome, Option, is_some};
 ghost use Rattle.cept_codes.specs.declared.look.Shape.{Shape};
-ghost use Rattle.cept_codes.specs.declared.look.Shape.TheVariants.{Space};
 ghost use Rattle.cept_codes.specs.Attribute.{IsValidFull, IsValidPen, unset_pen};
 ghost use Rattle.cept_codes.specs.Cell.{IsValidWhat};
 ghost use Rattle.cept_codes.specs.Glyph.{IsValidGlyph};
-ghost use Rattle.cept_codes.specs.declared.attribute.Pen.{Pen};
-ghost use Rattle.cept_codes.specs.declared.look.Pattern.{Pattern};
 ghost use Rattle.cept_profile.specs.Definitions.{Definitions};
-ghost use Rattle.cept_profile.specs.Attributes.{cascade};
-ghost use Rattle.cept_profile.specs.Look.{attributes_of, look_of, look_with, sets_double_size};
-ghost use Rattle.cept_profile.specs.Look.{shape_in, shape_of};
-ghost use Rattle.cept_profile.specs.Look.{shape_of_sign};
+ghost use Rattle.cept_profile.specs.Look.{attributes_of, look_with, sets_double_size};
+ghost use Rattle.cept_profile.specs.Look.{shape_in, shape_of, shape_of_sign};
 ghost use Rattle.cept_profile.specs.PageParts.{paint_in};
-ghost use Rattle.cept_profile.specs.Serial.{is_marker, own_attributes_of};
+ghost use Rattle.cept_profile.specs.Serial.{is_marker, own_attributes_of, row_in};
 ghost use Rattle.cept_codes.specs.declared.cell.Marker.{Marker};
 ghost use Rattle.cept_codes.specs.declared.cell.What.TheVariants.{Marker as stands};
-ghost use Rattle.cept_colours.specs.Colours.{ColourTables};
-ghost use Rattle.cept_rows.specs.Brush.{IsBare, IsBrush};
-ghost use Rattle.cept_rows.specs.DrawnWith.{drawn_with};
+ghost use Rattle.cept_rows.specs.Brush.{IsAtHand, IsBare, IsBrush, IsDipped};
+ghost use Rattle.cept_rows.specs.Brush.{attributes_by, small_shape};
 ghost use Rattle.cept_rows.specs.SmallLooks.{sign_of, small_of};
-ghost use Rattle.cept_rows.specs.RowsByCell.{is_downloaded, is_set_d};
-ghost use Rattle.cept_rows.specs.RowsByCell.{pattern_of_sign};
+ghost use Rattle.cept_rows.specs.RowsByCell.{is_downloaded, is_set_d, pattern_of_sign};
+ghost use Rattle.cept_rows.specs.Source.{look_by_itself};
 
 use crate::colours::{back_of, fore_of};
-use crate::drawing::pattern_of;
 use crate::small_look::{Kind, Sign, SmallLook, Style};
+use crate::source::RowSource;
 use cept_attrs::cascade;
-use cept_codes::{Full, Glyph, Marker, Pen, SetId, Size, What, pens_compare_by_their_fields};
+use cept_codes::{Column, Full, Glyph, Pen, SetId, Size, What, pens_compare_by_their_fields};
 use cept_colours::Colours;
-use cept_drcs::Patterns;
 
-/// The look of what stands in a cell by itself, in a row without markers, where it is no sign of
-/// the downloaded set.
+/// The look of what stands in a column by itself, in a row without markers, of which this is the sign.
 #[tactic(auto, unfolding(cept_profile::specs::Look::look_of))]
 #[inline(always)]
-pub(crate) fn small_alone(what: &What, row: &Pen, screen: &Pen, colours: &Colours) -> SmallLook
-    requires valid { IsValidWhat what.now }
-    requires row { IsValidPen row.now }
-    requires screen { IsValidPen screen.now }
-    requires set { is_downloaded what.now ≡ false }
-    ensures { (patterns : List (Option Pattern)) → result
-        ≡ small_of (look_of (drawn_with colours.now patterns) row.now screen.now what.now) }
+pub(crate) fn small_alone(column: Column, sign: Sign, source: &RowSource) -> SmallLook
+    requires { sign ≡ sign_of (shape_of source.now.defined (row_in source.now.cells column)) }
+    ensures { result ≡ small_of (look_by_itself source.now column) }
 {
-    small_with(
-        sign_alone(what),
-        &attributes_alone(what, row, screen),
-        colours,
-    )
-}
-
-/// The same of whatever stands in it.
-#[tactic(auto, unfolding(cept_profile::specs::Look::look_of))]
-pub(crate) fn small_of_any(
-    what: &What,
-    row: &Pen,
-    screen: &Pen,
-    colours: &Colours,
-    patterns: &Patterns,
-) -> SmallLook
-    requires valid { IsValidWhat what.now }
-    requires row { IsValidPen row.now }
-    requires screen { IsValidPen screen.now }
-    ensures { result
-        ≡ small_of (look_of (drawn_with colours.now patterns.now) row.now screen.now what.now) }
-{
-    small_with(
-        sign_in(what, patterns),
-        &attributes_alone(what, row, screen),
-        colours,
-    )
+    source.small_with(sign, &attributes_alone(source.what(column), source))
 }
 
 /// The attributes of what stands in a cell, in a row without markers.
 #[inline(always)]
-fn attributes_alone(what: &What, row: &Pen, screen: &Pen) -> Full
-    requires valid { IsValidWhat what.now }
-    requires row { IsValidPen row.now }
-    requires screen { IsValidPen screen.now }
-    ensures attributes { result ≡ attributes_of row.now screen.now what.now }
+fn attributes_alone(what: &What, source: &RowSource) -> Full
+    requires { IsValidWhat what.now }
+    ensures attributes { result ≡ attributes_of source.now.row_pen source.now.screen_pen what.now }
     ensures valid { IsValidFull result }
 {
     match what {
-        What::Parallel(_, pen) => cascade(pen, row, screen),
-        What::Blank | What::Serial(_) | What::Marker(_) => cascade(&Pen::UNSET, row, screen),
+        What::Parallel(_, pen) => source.attributes(pen),
+        What::Blank | What::Serial(_) | What::Marker(_) => source.attributes(&Pen::UNSET),
     }
 }
 
 /// The sign of what stands in a cell by itself, where it is none of the downloaded set.
 #[inline(always)]
-fn sign_alone(what: &What) -> Sign
+pub(crate) fn sign_alone(what: &What) -> Sign
     requires { is_downloaded what.now ≡ false }
     ensures { (defined : Definitions) → result ≡ sign_of (shape_of defined what.now) }
 {
@@ -137,36 +97,44 @@ pub(crate) struct Brush {
     pub(crate) size: Size,
 }
 
-/// The brush of the pen that sets nothing.
-#[inline(always)]
-pub(crate) fn unset_brush(row: &Pen, screen: &Pen, colours: &Colours) -> Brush
-    requires row { IsValidPen row.now }
-    requires screen { IsValidPen screen.now }
-    ensures pen { result.pen ≡ unset_pen }
-    ensures is { IsBrush colours.now row.now screen.now result }
-{
-    let full = cascade(&Pen::UNSET, row, screen);
-    Brush {
-        pen: Pen::UNSET,
-        bare: true,
-        space: small_with(Sign::NOTHING, &full, colours),
-        size: full.size,
+/// What is at hand along a row without markers: how a blank cell looks in it, and a brush.
+#[derive(Clone, Copy)]
+pub(crate) struct AtHand {
+    pub(crate) blank: SmallLook,
+    pub(crate) brush: Brush,
+}
+
+impl AtHand {
+    /// The brush holds the pen that sets nothing, whose attributes are these.
+    #[inline(always)]
+    pub(crate) fn new(full: &Full, source: &RowSource) -> AtHand
+        requires { full.now ≡ attributes_by source.now unset_pen }
+        ensures { IsAtHand source.now result }
+    {
+        source.valid_by_type();
+        let blank = source.small_with(Sign::NOTHING, full);
+        AtHand {
+            blank,
+            brush: Brush {
+                pen: Pen::UNSET,
+                bare: true,
+                space: blank,
+                size: full.size,
+            },
+        }
     }
 }
 
 /// Takes up a pen. Neighbours most often have the same one, so that attributes and paints are found
 /// only where it is another than before.
 #[inline(always)]
-pub(crate) fn take_up(brush: &mut Brush, pen: &Pen, row: &Pen, screen: &Pen, colours: &Colours)
+pub(crate) fn take_up(brush: &mut Brush, pen: &Pen, source: &RowSource)
     requires pen { IsValidPen pen.now }
-    requires row { IsValidPen row.now }
-    requires screen { IsValidPen screen.now }
-    requires is { IsBrush colours.now row.now screen.now brush.old }
-    ensures pen { brush.new.pen ≡ pen.now }
-    ensures is { IsBrush colours.now row.now screen.now brush.new }
+    requires brush { IsBrush source.now brush.old }
+    ensures { IsDipped source.now pen.now brush.new }
 {
     if !holds(brush, pen) {
-        dip(brush, pen, row, screen, colours);
+        dip(brush, pen, source);
     }
 }
 
@@ -235,57 +203,43 @@ fn same_pen(a: &Pen, b: &Pen) -> bool
 /// Takes up another pen.
 // A call of its own: the walk along a row keeps less at hand.
 #[inline(never)]
-fn dip(brush: &mut Brush, pen: &Pen, row: &Pen, screen: &Pen, colours: &Colours)
-    requires pen { IsValidPen pen.now }
-    requires row { IsValidPen row.now }
-    requires screen { IsValidPen screen.now }
-    ensures pen { brush.new.pen ≡ pen.now }
-    ensures is { IsBrush colours.now row.now screen.now brush.new }
+fn dip(brush: &mut Brush, pen: &Pen, source: &RowSource)
+    requires { IsValidPen pen.now }
+    ensures { IsDipped source.now pen.now brush.new }
 {
-    let full = cascade(pen, row, screen);
+    let full = source.attributes(pen);
     *brush = Brush {
         pen: *pen,
         bare: is_bare(pen),
-        space: small_with(Sign::NOTHING, &full, colours),
+        space: source.small_with(Sign::NOTHING, &full),
         size: full.size,
     };
 }
 
-/// The look of what stands in a cell and is shown by itself, in a row without markers in which a
-/// blank cell looks so. Of a sign with a pen the brush takes that up.
+/// The look of what stands in a cell and is shown by itself, in a row without markers. Of a sign with
+/// a pen the brush takes that up.
 #[inline(always)]
-pub(crate) fn small_among(
-    what: &What,
-    blank: &SmallLook,
-    brush: &mut Brush,
-    row: &Pen,
-    screen: &Pen,
-    colours: &Colours,
-) -> SmallLook
+pub(crate) fn small_among(what: &What, hand: &mut AtHand, source: &RowSource) -> SmallLook
     requires valid { IsValidWhat what.now }
-    requires row { IsValidPen row.now }
-    requires screen { IsValidPen screen.now }
     requires set { is_downloaded what.now ≡ false }
-    requires blank { blank.now
-        ≡ small_of (look_with (paint_in colours.now.paints) Space
-        (cascade unset_pen row.now screen.now)) }
-    requires brush { IsBrush colours.now row.now screen.now brush.old }
-    ensures look { (defined : Definitions) → result
-        ≡ small_of (look_with (paint_in colours.now.paints) (shape_of defined what.now)
-        (own_attributes_of what.now row.now screen.now (cascade unset_pen row.now screen.now))) }
-    ensures brush { IsBrush colours.now row.now screen.now brush.new }
+    requires hand { IsAtHand source.now hand.old }
+    ensures look { result
+        ≡ small_shape source.now (shape_of source.now.defined what.now)
+        (own_attributes_of what.now source.now.row_pen source.now.screen_pen
+        (attributes_by source.now unset_pen)) }
+    ensures hand { IsAtHand source.now hand.new }
 {
     match what {
-        What::Blank | What::Marker(_) => *blank,
+        What::Blank | What::Marker(_) => hand.blank,
         What::Serial(glyph) => SmallLook {
             sign: sign_of_set(glyph),
-            ..*blank
+            ..hand.blank
         },
         What::Parallel(glyph, pen) => {
-            take_up(brush, pen, row, screen, colours);
+            take_up(&mut hand.brush, pen, source);
             SmallLook {
                 sign: sign_of_set(glyph),
-                ..brush.space
+                ..hand.brush.space
             }
         }
     }
@@ -306,14 +260,13 @@ pub(crate) fn own_attributes(what: &What, full: &Full, row: &Pen, screen: &Pen) 
 
 /// The sign of what stands in a cell by itself.
 #[inline(always)]
-fn sign_in(what: &What, patterns: &Patterns) -> Sign
-    requires valid { IsValidWhat what.now }
-    ensures { (colours : ColourTables)
-        → result ≡ sign_of (shape_of (drawn_with colours patterns.now) what.now) }
+pub(crate) fn sign_in(what: &What, source: &RowSource) -> Sign
+    requires { IsValidWhat what.now }
+    ensures { result ≡ sign_of (shape_of source.now.defined what.now) }
 {
     match what {
         What::Blank | What::Marker(_) => Sign::NOTHING,
-        What::Serial(glyph) | What::Parallel(glyph, _) => sign_of_glyph(glyph, patterns),
+        What::Serial(glyph) | What::Parallel(glyph, _) => sign_of_glyph(glyph, source),
     }
 }
 
@@ -354,13 +307,12 @@ pub(crate) fn small_with(sign: Sign, full: &Full, colours: &Colours) -> SmallLoo
 /// A sign of the downloaded set is drawn as the pattern of its code, where it has one, and any
 /// other as itself.
 #[inline(always)]
-pub(crate) fn sign_of_glyph(glyph: &Glyph, patterns: &Patterns) -> Sign
+pub(crate) fn sign_of_glyph(glyph: &Glyph, source: &RowSource) -> Sign
     requires { IsValidGlyph glyph.now }
-    ensures { (colours : ColourTables)
-        → result ≡ sign_of (shape_of_sign (drawn_with colours patterns.now) glyph.now) }
+    ensures { result ≡ sign_of (shape_of_sign source.now.defined glyph.now) }
 {
-    if is_set_d(glyph.set) {
-        sign_of_downloaded(glyph, patterns)
+    if is_set_d(glyph.set) && has_pattern(glyph, source) {
+        Sign::PATTERN
     } else {
         sign_of_set(glyph)
     }
@@ -374,19 +326,14 @@ fn is_set_d(set: SetId) -> bool
     matches!(set, SetId::D)
 }
 
-/// The same of a sign of the downloaded set.
-// A call of its own: other signs need less.
+/// Whether a sign has a pattern.
+// A call of its own: signs of other sets need less.
 #[inline(never)]
-fn sign_of_downloaded(glyph: &Glyph, patterns: &Patterns) -> Sign
+fn has_pattern(glyph: &Glyph, source: &RowSource) -> bool
     requires { IsValidGlyph glyph.now }
-    ensures { (colours : ColourTables)
-        → result ≡ sign_of (shape_of_sign (drawn_with colours patterns.now) glyph.now) }
+    ensures { result ≡ is_some (pattern_of_sign source.now.defined.patterns glyph.now) }
 {
-    if pattern_of(glyph, patterns).is_some() {
-        Sign::PATTERN
-    } else {
-        sign_of_set(glyph)
-    }
+    source.pattern_of(glyph).is_some()
 }
 
 /// A sign without a pattern is drawn as itself, the space without accent as nothing.

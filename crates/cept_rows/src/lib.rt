@@ -10,6 +10,7 @@ mod places;
 mod resolving;
 mod row_looks;
 mod small_look;
+mod source;
 mod walk;
 
 pub use naming::{RowNames, name_cells, name_row};
@@ -18,3 +19,4 @@ pub use resolving::{
     rows_show_what_stands_to_the_left,
 };
 pub use row_looks::{Differences, RowLooks};
+pub use source::RowSource;

@@ -1,26 +1,27 @@
-ghost use Rattle.std.specs.Prelude.{◌≡◌, ◌≢◌, ℕ, ◌-◌, ◌≤◌, ◌==◌, ◌||◌, [], false, is_some, length};
+ghost use Rattle.std.specs.Prelude.{◌≡◌, ◌≢◌, ℕ, ◌-◌, ◌≤◌, ◌==◌, ◌||◌, [], false, is_some};
 ghost use Rattle.std.specs.Prelude.{slice_index_or};
 ghost use Rattle.cept_codes.specs.Cell.{IsValidWhat};
 ghost use Rattle.cept_codes.specs.Glyph.{IsValidGlyph};
-ghost use Rattle.cept_codes.specs.Look.{blank_look};
 ghost use Rattle.cept_codes.specs.Place.{OnScreen};
 ghost use Rattle.cept_codes.specs.Table.{entry, list_by_index};
-ghost use Rattle.cept_profile.specs.Look.{looks_of, part_of};
+ghost use Rattle.cept_profile.specs.Look.{looks_of};
 ghost use Rattle.cept_profile.specs.Names.{code_in_set, code_named, is_code, names_at};
 ghost use Rattle.cept_profile.specs.Names.{names_with, some_place};
-ghost use Rattle.cept_profile.specs.NamesFromAbove.{default_names, names_by, names_from_above};
+ghost use Rattle.cept_profile.specs.NamesFromAbove.{default_names, names_by};
 ghost use Rattle.cept_profile.specs.NamesFromAbove.{names_in_row};
 ghost use Rattle.cept_profile.specs.PageParts.{row_pen_in};
 ghost use Rattle.cept_profile.specs.RowsFromAbove.{looks_in};
 ghost use Rattle.cept_profile.specs.Serial.{row_in};
 ghost use Rattle.cept_profile.specs.State.{Core};
-ghost use Rattle.cept_profile.specs.Tiling.{column_entry};
-ghost use Rattle.cept_rows.specs.KeptNames.{code_kept, names_kept, names_of_place};
+ghost use Rattle.cept_rows.specs.KeptNames.{code_kept, names_kept, names_made, names_of_place};
+ghost use Rattle.cept_rows.specs.KeptNames.{own_names};
+ghost use Rattle.cept_rows.specs.Source.{AreValidCells};
 
 use crate::cell_look::own_attributes;
 use crate::row_looks::RowLooks;
+use crate::source::RowSource;
 use cept_attrs::{RowSerial, serial_cells};
-use cept_codes::{Cell, Full, Glyph, Part, Pen, RowCells, SetId, What};
+use cept_codes::{Cell, Column, Full, Glyph, Part, Pen, RowCells, SetId, What};
 
 /// What the places of a row name, from the left: the colour entries of foreground and background,
 /// 0 to 31, and the code of a sign of the downloaded set, or 0 where there is none.
@@ -91,7 +92,6 @@ impl RowNames {
 
     /// Flags besides the columns in which this colour entry is named as foreground or background.
     pub fn flag_entry(&self, colour: u8, flags: &mut [bool; 40])
-        requires columns { length flags.old ≡ 40 }
         ensures { flags.new ≡ list_by_index 1 40 (λ c. entry false 1 flags.old c
             || ((names_kept self.now c).fore == colour || (names_kept self.now c).back == colour)) }
     {
@@ -103,7 +103,6 @@ impl RowNames {
     /// Flags besides the columns in which this code of a pattern is named, 2/1 to 7/14.
     pub fn flag_code(&self, code: u8, flags: &mut [bool; 40])
         requires code { 1 ≤ code }
-        requires columns { length flags.old ≡ 40 }
         ensures { flags.new ≡ list_by_index 1 40 (λ c. entry false 1 flags.old c
             || is_code (names_kept self.now c).code code) }
     {
@@ -114,7 +113,6 @@ impl RowNames {
 
     /// Flags besides the columns in which a code of a pattern is named.
     pub fn flag_codes(&self, flags: &mut [bool; 40])
-        requires columns { length flags.old ≡ 40 }
         ensures { flags.new ≡ list_by_index 1 40 (λ c. entry false 1 flags.old c
             || is_some (names_kept self.now c).code) }
     {
@@ -123,14 +121,12 @@ impl RowNames {
         }
     }
 
-    /// The names in a column, 1 to 40.
+    /// The names in a column.
     #[inline(always)]
-    fn at(&self, column: u8) -> PlaceNames
-        requires from_left { 1 ≤ column }
-        requires to_right { column ≤ 40 }
+    fn at(&self, column: Column) -> PlaceNames
         ensures { names_of_place result ≡ names_kept self.now column }
     {
-        let k = column as usize - 1;
+        let k = column.index();
         PlaceNames {
             fore: self.fore[k],
             back: self.back[k],
@@ -138,16 +134,14 @@ impl RowNames {
         }
     }
 
-    /// Keeps the names of a place in a column, 1 to 40.
+    /// Keeps the names of a place in a column.
     #[inline(always)]
-    fn put(&mut self, column: u8, place: PlaceNames)
-        requires from_left { 1 ≤ column }
-        requires to_right { column ≤ 40 }
+    fn put(&mut self, column: Column, place: PlaceNames)
         ensures here { names_kept self.new column ≡ names_of_place place }
         ensures others { (c : ℕ) → 1 ≤ c → c ≢ column
             → names_kept self.new c ≡ names_kept self.old c }
     {
-        let k = column as usize - 1;
+        let k = column.index();
         self.fore[k] = place.fore;
         self.back[k] = place.back;
         self.code[k] = place.code;
@@ -172,11 +166,10 @@ pub fn name_row(
     above: &RowNames,
     looks: &RowLooks,
 ) -> RowNames
-    requires cells { (c : ℕ) → 1 ≤ c → c ≤ 40 → IsValidWhat (row_in cells.now.cells c) }
+    requires cells { AreValidCells cells.now.cells }
     ensures names { (c : ℕ) → 1 ≤ c → c ≤ 40
         → names_kept result c
-        ≡ names_from_above (names_kept above.now)
-        (λ d. part_of (column_entry blank_look looks.now d))
+        ≡ names_made above.now looks.now
         (names_in_row (row_in cells.now.cells) row.now screen.now) c }
     ensures beneath { (k : Core) (r c : ℕ) → OnScreen r c
         → cells.now.cells ≡ slice_index_or k.page.cells (r - 1) []
@@ -186,12 +179,29 @@ pub fn name_row(
         → names_kept result c ≡ names_at k r c }
 {
     let mut names = RowNames::blank();
-    name_cells(&cells.cells, row, screen, above, looks, &mut names);
+    name_places(&cells.cells, row, screen, above, looks, &mut names);
     names
 }
 
-/// The same of forty cells where they stand. The names take the place of those that were kept.
-pub fn name_cells(
+/// The same of a row by its source. The names take the place of those that were kept.
+pub fn name_cells(source: &RowSource, above: &RowNames, looks: &RowLooks, names: &mut RowNames)
+    ensures names { (c : ℕ) → 1 ≤ c → c ≤ 40
+        → names_kept names.new c ≡ names_made above.now looks.now (own_names source.now) c }
+{
+    source.valid_by_type();
+    name_places(
+        source.cells(),
+        source.row_pen(),
+        source.screen_pen(),
+        above,
+        looks,
+        names,
+    );
+}
+
+/// The same of forty cells where they stand.
+#[inline(always)]
+fn name_places(
     cells: &[Cell; 40],
     row: &Pen,
     screen: &Pen,
@@ -199,23 +209,16 @@ pub fn name_cells(
     looks: &RowLooks,
     names: &mut RowNames,
 )
-    requires cells { (c : ℕ) → 1 ≤ c → c ≤ 40 → IsValidWhat (row_in cells.now c) }
-    ensures names { (c : ℕ) → 1 ≤ c → c ≤ 40
+    requires { AreValidCells cells.now }
+    ensures { (c : ℕ) → 1 ≤ c → c ≤ 40
         → names_kept names.new c
-        ≡ names_from_above (names_kept above.now)
-        (λ d. part_of (column_entry blank_look looks.now d))
-        (names_in_row (row_in cells.now) row.now screen.now) c }
-    ensures beneath { (k : Core) (r c : ℕ) → OnScreen r c
-        → cells.now ≡ slice_index_or k.page.cells (r - 1) []
-        → row.now ≡ row_pen_in k.page.row_pens r → screen.now ≡ k.page.screen_pen
-        → looks.now ≡ looks_in (looks_of k) r
-        → ((d : ℕ) → OnScreen (r - 1) d → names_kept above.now d ≡ names_at k (r - 1) d)
-        → names_kept names.new c ≡ names_at k r c }
+        ≡ names_made above.now looks.now (names_in_row (row_in cells.now) row.now screen.now) c }
 {
     let RowSerial { full, held: _ } = serial_cells(cells, row, screen);
     let mut left = PlaceNames::BLANK;
-    for column in 1..41u8 {
-        let k = column as usize - 1;
+    for number in 1..41u8 {
+        let column = Column::numbered(number);
+        let k = number as usize - 1;
         let what = &cells[k].what;
         let own = names_with(&own_attributes(what, &full[k], row, screen), what);
         let place = names_by(looks.small(column).part, above.at(column), left, own);

@@ -1,24 +1,19 @@
-ghost use Rattle.std.specs.Prelude.{◌≡◌, ℕ, ◌+◌, ◌-◌, ◌≤◌, false, true, slice_set};
-ghost use Rattle.cept_codes.specs.Attribute.{IsValidPen};
-ghost use Rattle.cept_codes.specs.Cell.{IsValidWhat};
-ghost use Rattle.cept_codes.specs.Look.{IsValidLook, blank_look};
-ghost use Rattle.cept_profile.specs.Look.{look_with_part, part_of, shape_of};
-ghost use Rattle.cept_profile.specs.Serial.{row_in};
-ghost use Rattle.cept_profile.specs.Tiling.{column_entry, covers_below, is_covered_from_left};
-ghost use Rattle.cept_profile.specs.Tiling.{part_below, part_to_the_right};
-ghost use Rattle.cept_rows.specs.DrawnWith.{drawn_with};
-ghost use Rattle.cept_rows.specs.RowsByCell.{look_shown};
-ghost use Rattle.cept_rows.specs.SmallLooks.{IsSmallLook, drawing_of, has_pattern, look_kept};
-ghost use Rattle.cept_rows.specs.SmallLooks.{small_of};
+ghost use Rattle.std.specs.Prelude.{◌≡◌, ◌+◌, ◌-◌, ◌≤◌, false, true};
+ghost use Rattle.cept_codes.specs.Look.{IsValidLook};
+ghost use Rattle.cept_profile.specs.Look.{part_of};
+ghost use Rattle.cept_profile.specs.Tiling.{covers_below, is_covered_from_left};
+ghost use Rattle.cept_rows.specs.Flagged.{look_at, with_look};
+ghost use Rattle.cept_rows.specs.Places.{covers_next, look_below, look_beside, own_drawing};
+ghost use Rattle.cept_rows.specs.Places.{with_drawn};
+ghost use Rattle.cept_rows.specs.SmallLooks.{IsSmallLook, has_pattern, small_of};
+ghost use Rattle.cept_rows.specs.Source.{place_made};
 ghost use Rattle.cept_rows.specs.Walk.{IsWalk};
 
-use crate::drawing::drawing_of;
 use crate::row_looks::RowLooks;
 use crate::small_look::SmallLook;
+use crate::source::RowSource;
 use crate::walk::Walk;
-use cept_codes::{Cell, Pen, What};
-use cept_colours::Colours;
-use cept_drcs::Patterns;
+use cept_codes::Column;
 use cept_sizes::{below, is_single, origin_there, to_the_right};
 
 /// Keeps the look of a place: that of the place above one place down, where it covers this one,
@@ -27,104 +22,74 @@ use cept_sizes::{below, is_single, origin_there, to_the_right};
 #[inline(always)]
 pub(crate) fn put_place(
     looks: &mut RowLooks,
-    column: u8,
+    column: Column,
     covered: bool,
     walk: &mut Walk,
-    cells: &[Cell; 40],
-    row: &Pen,
-    screen: &Pen,
+    source: &RowSource,
     above: &RowLooks,
-    last: bool,
-    colours: &Colours,
-    patterns: &Patterns,
 ) -> bool
-    requires from_left { 1 ≤ column }
-    requires to_right { column ≤ 40 }
-    requires cells { (c : ℕ) → 1 ≤ c → c ≤ 40 → IsValidWhat (row_in cells.now c) }
-    requires row { IsValidPen row.now }
-    requires screen { IsValidPen screen.now }
-    requires walk { IsWalk colours.now (row_in cells.now) row.now screen.now (column - 1) walk.old }
-    requires left { column_entry blank_look looks.old (column - 1)
-        ≡ look_shown (drawn_with colours.now patterns.now) above.now (row_in cells.now) row.now
-        screen.now last (column - 1) }
-    requires covered { covered
-        ≡ is_covered_from_left (part_of (column_entry blank_look above.now (column - 1)))
-        (part_of (look_shown (drawn_with colours.now patterns.now) above.now (row_in cells.now)
-        row.now screen.now last (column - 1))) }
-    requires shown { IsValidLook (look_shown (drawn_with colours.now patterns.now) above.now
-        (row_in cells.now) row.now screen.now last column) }
+    requires walk { IsWalk source.now (column - 1) walk.old }
+    requires left { look_at looks.old (column - 1) ≡ place_made source.now above.now (column - 1) }
+    requires covered { covered ≡ covers_next source.now above.now (column - 1) }
+    requires shown { IsValidLook (place_made source.now above.now column) }
     ensures looks { looks.new
-        ≡ slice_set looks.old (column - 1) (look_shown (drawn_with colours.now patterns.now)
-        above.now (row_in cells.now) row.now screen.now last column) }
-    ensures walk { IsWalk colours.now (row_in cells.now) row.now screen.now column walk.new }
-    ensures covered { result
-        ≡ is_covered_from_left (part_of (column_entry blank_look above.now column))
-        (part_of (look_shown (drawn_with colours.now patterns.now) above.now (row_in cells.now)
-        row.now screen.now last column)) }
+        ≡ with_look looks.old column (place_made source.now above.now column) }
+    ensures walk { IsWalk source.now column walk.new }
+    ensures covered { result ≡ covers_next source.now above.now column }
 {
+    let number = column.number();
     if above.covers_below(column) {
-        walk.pass(cells, column, colours);
+        walk.pass(column, source);
         put_below(looks, column, above);
         return false;
     }
     if covered {
-        walk.pass(cells, column, colours);
+        walk.pass(column, source);
         put_to_the_right(looks, column);
         return false;
     }
-    let own = walk.look(cells, column, row, screen, colours, patterns);
-    let what = &cells[column as usize - 1].what;
+    let own = walk.look(column, source);
     if is_single(own.size) {
-        keep(looks, column, own.look, what, colours, patterns);
+        keep(looks, column, own.look, source);
         return false;
     }
-    let part = origin_there(own.size, column, is_covered_beside(above, column), last);
+    let beside = is_covered_beside(above, column);
+    let part = origin_there(own.size, number, beside, source.is_last());
     let look = SmallLook { part, ..own.look };
-    keep_double(looks, column, look, what, colours, patterns);
+    keep_double(looks, column, look, source);
     part.w == 2
 }
 
 /// Whether the look to the left of a column covers the place in it.
 #[inline(always)]
-pub(crate) fn is_covered_from_left(looks: &RowLooks, column: u8, above: &RowLooks) -> bool
-    requires from_left { 1 ≤ column }
-    requires to_right { column ≤ 41 }
+pub(crate) fn is_covered_from_left(looks: &RowLooks, column: Column, above: &RowLooks) -> bool
     ensures { result
-        ≡ is_covered_from_left (part_of (column_entry blank_look above.now (column - 1)))
-        (part_of (column_entry blank_look looks.now (column - 1))) }
+        ≡ is_covered_from_left (part_of (look_at above.now (column - 1)))
+        (part_of (look_at looks.now (column - 1))) }
 {
-    if column == 1 {
-        return false;
+    match column.left() {
+        None => false,
+        Some(left) => !above.covers_below(left) && looks.covers_right(left),
     }
-    let left = looks.small(column - 1).part;
-    !above.covers_below(column - 1) && left.dx == 0 && left.w == 2
 }
 
 /// Whether the place beside a column to the right is covered from above.
 #[inline(always)]
-fn is_covered_beside(above: &RowLooks, column: u8) -> bool
-    requires from_left { 1 ≤ column }
-    requires to_right { column ≤ 40 }
-    ensures { result ≡ covers_below (part_of (column_entry blank_look above.now (column + 1))) }
+fn is_covered_beside(above: &RowLooks, column: Column) -> bool
+    ensures { result ≡ covers_below (part_of (look_at above.now (column + 1))) }
 {
     above.columns_by_type();
-    if column == 40 {
-        return false;
+    match column.right() {
+        None => false,
+        Some(right) => above.covers_below(right),
     }
-    above.covers_below(column + 1)
 }
 
 /// Keeps the look of the place above, one place down.
 #[inline(always)]
-fn put_below(looks: &mut RowLooks, column: u8, above: &RowLooks)
-    requires from_left { 1 ≤ column }
-    requires to_right { column ≤ 40 }
-    requires valid { IsValidLook (look_with_part
-        (part_below (part_of (column_entry blank_look above.now column)))
-        (column_entry blank_look above.now column)) }
-    ensures { looks.new ≡ slice_set looks.old (column - 1) (look_with_part
-        (part_below (part_of (column_entry blank_look above.now column)))
-        (column_entry blank_look above.now column)) }
+fn put_below(looks: &mut RowLooks, column: Column, above: &RowLooks)
+    requires { IsValidLook (look_below (look_at above.now column)) }
+    ensures { looks.new ≡ with_look looks.old column (look_below (look_at above.now column)) }
 {
     let there = above.small(column);
     let look = SmallLook {
@@ -140,36 +105,24 @@ fn put_below(looks: &mut RowLooks, column: u8, above: &RowLooks)
 
 /// The same of a pattern.
 #[inline(never)]
-fn put_drawn_below(looks: &mut RowLooks, column: u8, look: SmallLook, above: &RowLooks)
-    requires from_left { 1 ≤ column }
-    requires to_right { column ≤ 40 }
-    requires pattern { has_pattern (small_of (column_entry blank_look above.now column)) ≡ true }
-    requires look { look ≡ small_of (look_with_part
-        (part_below (part_of (column_entry blank_look above.now column)))
-        (column_entry blank_look above.now column)) }
-    requires valid { IsValidLook (look_with_part
-        (part_below (part_of (column_entry blank_look above.now column)))
-        (column_entry blank_look above.now column)) }
-    ensures { looks.new ≡ slice_set looks.old (column - 1) (look_with_part
-        (part_below (part_of (column_entry blank_look above.now column)))
-        (column_entry blank_look above.now column)) }
+fn put_drawn_below(looks: &mut RowLooks, column: Column, look: SmallLook, above: &RowLooks)
+    requires pattern { has_pattern (small_of (look_at above.now column)) ≡ true }
+    requires look { look ≡ small_of (look_below (look_at above.now column)) }
+    requires valid { IsValidLook (look_below (look_at above.now column)) }
+    ensures { looks.new ≡ with_look looks.old column (look_below (look_at above.now column)) }
 {
     looks.put_drawn(column, look, above.drawing(column));
 }
 
 /// Keeps the look of the place to the left, one place to the right.
 #[inline(always)]
-fn put_to_the_right(looks: &mut RowLooks, column: u8)
+fn put_to_the_right(looks: &mut RowLooks, column: Column)
     requires from_left { 2 ≤ column }
-    requires to_right { column ≤ 40 }
-    requires valid { IsValidLook (look_with_part
-        (part_to_the_right (part_of (column_entry blank_look looks.old (column - 1))))
-        (column_entry blank_look looks.old (column - 1))) }
-    ensures { looks.new ≡ slice_set looks.old (column - 1) (look_with_part
-        (part_to_the_right (part_of (column_entry blank_look looks.old (column - 1))))
-        (column_entry blank_look looks.old (column - 1))) }
+    requires valid { IsValidLook (look_beside (look_at looks.old (column - 1))) }
+    ensures { looks.new
+        ≡ with_look looks.old column (look_beside (look_at looks.old (column - 1))) }
 {
-    let left = looks.small(column - 1);
+    let left = looks.small(Column::numbered(column.number() - 1));
     let look = SmallLook {
         part: to_the_right(left.part),
         ..left
@@ -183,46 +136,28 @@ fn put_to_the_right(looks: &mut RowLooks, column: u8)
 
 /// The same of a pattern.
 #[inline(never)]
-fn put_drawn_to_the_right(looks: &mut RowLooks, column: u8, look: SmallLook)
+fn put_drawn_to_the_right(looks: &mut RowLooks, column: Column, look: SmallLook)
     requires from_left { 2 ≤ column }
-    requires to_right { column ≤ 40 }
-    requires pattern { has_pattern (small_of (column_entry blank_look looks.old (column - 1)))
-        ≡ true }
-    requires look { look ≡ small_of (look_with_part
-        (part_to_the_right (part_of (column_entry blank_look looks.old (column - 1))))
-        (column_entry blank_look looks.old (column - 1))) }
-    requires valid { IsValidLook (look_with_part
-        (part_to_the_right (part_of (column_entry blank_look looks.old (column - 1))))
-        (column_entry blank_look looks.old (column - 1))) }
-    ensures { looks.new ≡ slice_set looks.old (column - 1) (look_with_part
-        (part_to_the_right (part_of (column_entry blank_look looks.old (column - 1))))
-        (column_entry blank_look looks.old (column - 1))) }
+    requires pattern { has_pattern (small_of (look_at looks.old (column - 1))) ≡ true }
+    requires look { look ≡ small_of (look_beside (look_at looks.old (column - 1))) }
+    requires valid { IsValidLook (look_beside (look_at looks.old (column - 1))) }
+    ensures { looks.new
+        ≡ with_look looks.old column (look_beside (look_at looks.old (column - 1))) }
 {
-    let drawing = *looks.drawing(column - 1);
+    let drawing = *looks.drawing(Column::numbered(column.number() - 1));
     looks.put_drawn(column, look, &drawing);
 }
 
-/// Keeps the look of what stands in a cell, with the drawing of a pattern.
+/// Keeps the look of what stands in a column, with the drawing of a pattern.
 #[inline(always)]
-fn keep(
-    looks: &mut RowLooks,
-    column: u8,
-    look: SmallLook,
-    what: &What,
-    colours: &Colours,
-    patterns: &Patterns,
-)
-    requires from_left { 1 ≤ column }
-    requires to_right { column ≤ 40 }
-    requires valid { IsValidWhat what.now }
+fn keep(looks: &mut RowLooks, column: Column, look: SmallLook, source: &RowSource)
     requires low { covers_below look.part ≡ false }
-    requires small { IsSmallLook look
-        (drawing_of (shape_of (drawn_with colours.now patterns.now) what.now)) }
-    ensures { looks.new ≡ slice_set looks.old (column - 1) (look_kept look
-        (drawing_of (shape_of (drawn_with colours.now patterns.now) what.now))) }
+    requires small { IsSmallLook look (own_drawing source.now column) }
+    ensures { looks.new
+        ≡ with_drawn looks.old column look (own_drawing source.now column) }
 {
     if look.has_pattern() {
-        keep_pattern(looks, column, look, what, colours, patterns);
+        keep_pattern(looks, column, look, source);
     } else {
         looks.put_single(column, look);
     }
@@ -230,24 +165,13 @@ fn keep(
 
 /// The same where it may cover the place below it.
 #[inline(always)]
-fn keep_double(
-    looks: &mut RowLooks,
-    column: u8,
-    look: SmallLook,
-    what: &What,
-    colours: &Colours,
-    patterns: &Patterns,
-)
-    requires from_left { 1 ≤ column }
-    requires to_right { column ≤ 40 }
-    requires valid { IsValidWhat what.now }
-    requires small { IsSmallLook look
-        (drawing_of (shape_of (drawn_with colours.now patterns.now) what.now)) }
-    ensures { looks.new ≡ slice_set looks.old (column - 1) (look_kept look
-        (drawing_of (shape_of (drawn_with colours.now patterns.now) what.now))) }
+fn keep_double(looks: &mut RowLooks, column: Column, look: SmallLook, source: &RowSource)
+    requires { IsSmallLook look (own_drawing source.now column) }
+    ensures { looks.new
+        ≡ with_drawn looks.old column look (own_drawing source.now column) }
 {
     if look.has_pattern() {
-        keep_pattern(looks, column, look, what, colours, patterns);
+        keep_pattern(looks, column, look, source);
     } else {
         looks.put(column, look);
     }
@@ -256,21 +180,10 @@ fn keep_double(
 /// The same of a pattern.
 // A call of its own: a drawing has no room beside looks without one.
 #[inline(never)]
-fn keep_pattern(
-    looks: &mut RowLooks,
-    column: u8,
-    look: SmallLook,
-    what: &What,
-    colours: &Colours,
-    patterns: &Patterns,
-)
-    requires from_left { 1 ≤ column }
-    requires to_right { column ≤ 40 }
-    requires valid { IsValidWhat what.now }
-    requires small { IsSmallLook look
-        (drawing_of (shape_of (drawn_with colours.now patterns.now) what.now)) }
-    ensures { looks.new ≡ slice_set looks.old (column - 1) (look_kept look
-        (drawing_of (shape_of (drawn_with colours.now patterns.now) what.now))) }
+fn keep_pattern(looks: &mut RowLooks, column: Column, look: SmallLook, source: &RowSource)
+    requires { IsSmallLook look (own_drawing source.now column) }
+    ensures { looks.new
+        ≡ with_drawn looks.old column look (own_drawing source.now column) }
 {
-    looks.put_drawn(column, look, &drawing_of(what, colours, patterns));
+    looks.put_drawn(column, look, &source.drawing(column));
 }

@@ -6,10 +6,7 @@ ghost use Rattle.cept_codes.specs.declared.look.Look.{Look};
 ghost use Rattle.cept_profile.specs.Definitions.{Definitions};
 ghost use Rattle.cept_codes.specs.declared.attribute.Size.TheVariants.{Normal};
 ghost use Rattle.cept_codes.specs.Attribute.{IsValidPen, unset_pen};
-ghost use Rattle.cept_codes.specs.Cell.{IsValidWhat};
 ghost use Rattle.cept_codes.specs.Look.{blank_look};
-ghost use Rattle.cept_codes.specs.Table.{HasMadeEntries, entry};
-ghost use Rattle.cept_profile.specs.Attributes.{cascade};
 ghost use Rattle.cept_profile.specs.Edges.{edges_of_core, is_last};
 ghost use Rattle.cept_profile.specs.Look.{look_in_row, looks_of, part_of, sets_double_size};
 ghost use Rattle.cept_profile.specs.Look.{size_in_row};
@@ -18,16 +15,19 @@ ghost use Rattle.cept_profile.specs.RowsFromAbove.{look_from, looks_in, row_from
 ghost use Rattle.cept_profile.specs.Serial.{row_in};
 ghost use Rattle.cept_profile.specs.State.{Core, definitions_of};
 ghost use Rattle.cept_profile.specs.Tiling.{column_entry, covers_below, covers_right};
+ghost use Rattle.cept_rows.specs.Brush.{attributes_by};
 ghost use Rattle.cept_rows.specs.DrawnWith.{drawn_with};
-ghost use Rattle.cept_rows.specs.RowsByCell.{look_shown, FollowsToTheRight, IsCoveredAlike};
+ghost use Rattle.cept_rows.specs.Flagged.{IsMadeTo, look_at};
+ghost use Rattle.cept_rows.specs.Places.{IsMadeBeside, IsMadeFrom};
+ghost use Rattle.cept_rows.specs.RowsByCell.{FollowsToTheRight, IsCoveredAlike};
+ghost use Rattle.cept_rows.specs.Source.{AreValidCells, own_look, place_made, row_made};
 
-use crate::cell_look::{Brush, is_plain, small_among, small_with};
+use crate::cell_look::{AtHand, is_plain, small_among};
 use crate::places::{is_covered_from_left, put_place};
 use crate::row_looks::RowLooks;
-use crate::small_look::Sign;
+use crate::source::RowSource;
 use crate::walk::Walk;
-use cept_attrs::cascade;
-use cept_codes::{Cell, Full, Pen, RowCells, Size};
+use cept_codes::{Column, Full, Pen, RowCells, Size};
 use cept_colours::Colours;
 use cept_drcs::Patterns;
 use cept_outside::Steps;
@@ -45,7 +45,7 @@ pub fn resolve_row<L: Ledger>(
     patterns: &Patterns,
     steps: &mut Steps<L>,
 ) -> RowLooks
-    requires cells { (c : ℕ) → 1 ≤ c → c ≤ 40 → IsValidWhat (row_in cells.now.cells c) }
+    requires cells { AreValidCells cells.now.cells }
     requires row { IsValidPen row.now }
     requires screen { IsValidPen screen.now }
     ensures looks { result
@@ -61,60 +61,30 @@ pub fn resolve_row<L: Ledger>(
         → last ≡ is_last (edges_of_core k) r → result ≡ looks_in (looks_of k) r }
     ensures tick { steps.new ≡ steps.old + 1 }
 {
+    let source = RowSource::new(&cells.cells, row, screen, colours, patterns).ending(last);
     let mut looks = RowLooks::flat();
-    resolve_cells(
-        &cells.cells,
-        row,
-        screen,
-        above,
-        last,
-        colours,
-        patterns,
-        &mut looks,
-        steps,
-    );
+    resolve_cells(&source, above, &mut looks, steps);
     looks
 }
 
 /// The same of forty cells where they stand. The looks take the place of those that a row held.
 pub fn resolve_cells<L: Ledger>(
-    cells: &[Cell; 40],
-    row: &Pen,
-    screen: &Pen,
+    source: &RowSource,
     above: &RowLooks,
-    last: bool,
-    colours: &Colours,
-    patterns: &Patterns,
     looks: &mut RowLooks,
     steps: &mut Steps<L>,
 )
-    requires cells { (c : ℕ) → 1 ≤ c → c ≤ 40 → IsValidWhat (row_in cells.now c) }
-    requires row { IsValidPen row.now }
-    requires screen { IsValidPen screen.now }
-    ensures looks { looks.new
-        ≡ row_from_above above.now
-        (look_in_row (drawn_with colours.now patterns.now) (row_in cells.now) row.now screen.now)
-        (size_in_row (row_in cells.now) row.now screen.now) last }
-    ensures beneath { (k : Core) (r : ℕ) → 1 ≤ r → r ≤ 24
-        → above.now ≡ looks_in (looks_of k) (r - 1)
-        → cells.now ≡ slice_index_or k.page.cells (r - 1) []
-        → row.now ≡ row_pen_in k.page.row_pens r → screen.now ≡ k.page.screen_pen
-        → drawn_with colours.now patterns.now ≡ definitions_of k.page
-        → last ≡ is_last (edges_of_core k) r → looks.new ≡ looks_in (looks_of k) r }
+    ensures looks { looks.new ≡ row_made source.now above.now }
     ensures tick { steps.new ≡ steps.old + 1 }
 {
     steps.tick();
     looks.clear();
-    let full = cascade(&Pen::UNSET, row, screen);
-    let from = each_first(
-        cells, row, screen, &full, above, last, colours, patterns, looks,
-    );
+    let full = source.attributes(&Pen::UNSET);
+    let from = each_first(source, &full, above, looks);
     if from == 41 {
         return;
     }
-    let _end = each_between(
-        from, 41, cells, row, screen, above, last, colours, patterns, looks,
-    );
+    let _end = each_between(source, Column::numbered(from), 41, above, looks);
 }
 
 /// The same from a column on, where the looks to the left of it are already so: cells to the right
@@ -122,41 +92,18 @@ pub fn resolve_cells<L: Ledger>(
 /// or shows the left side of a wide sign neither before nor after. Answers a column to whose right all
 /// stay as they are.
 pub fn resolve_cells_between<L: Ledger>(
-    from: u8,
+    source: &RowSource,
+    from: Column,
     until: u8,
-    cells: &[Cell; 40],
-    row: &Pen,
-    screen: &Pen,
     above: &RowLooks,
-    last: bool,
-    colours: &Colours,
-    patterns: &Patterns,
     looks: &mut RowLooks,
     steps: &mut Steps<L>,
 ) -> u8
-    requires from_left { 1 ≤ from }
-    requires to_right { from ≤ 41 }
-    requires cells { (c : ℕ) → 1 ≤ c → c ≤ 40 → IsValidWhat (row_in cells.now c) }
-    requires row { IsValidPen row.now }
-    requires screen { IsValidPen screen.now }
-    requires left { (c : ℕ) → 1 ≤ c → c < from → column_entry blank_look looks.old c
-        ≡ look_from (column_entry blank_look above.now)
-        (look_in_row (drawn_with colours.now patterns.now) (row_in cells.now) row.now screen.now)
-        (size_in_row (row_in cells.now) row.now screen.now) last c }
+    requires left { (c : ℕ) → 1 ≤ c → c < from
+        → column_entry blank_look looks.old c ≡ place_made source.now above.now c }
     requires right { FollowsToTheRight until (column_entry blank_look looks.old)
-        (look_from (column_entry blank_look above.now)
-        (look_in_row (drawn_with colours.now patterns.now) (row_in cells.now) row.now screen.now)
-        (size_in_row (row_in cells.now) row.now screen.now) last) }
-    ensures looks { looks.new
-        ≡ row_from_above above.now
-        (look_in_row (drawn_with colours.now patterns.now) (row_in cells.now) row.now screen.now)
-        (size_in_row (row_in cells.now) row.now screen.now) last }
-    ensures beneath { (k : Core) (r : ℕ) → 1 ≤ r → r ≤ 24
-        → above.now ≡ looks_in (looks_of k) (r - 1)
-        → cells.now ≡ slice_index_or k.page.cells (r - 1) []
-        → row.now ≡ row_pen_in k.page.row_pens r → screen.now ≡ k.page.screen_pen
-        → drawn_with colours.now patterns.now ≡ definitions_of k.page
-        → last ≡ is_last (edges_of_core k) r → looks.new ≡ looks_in (looks_of k) r }
+        (place_made source.now above.now) }
+    ensures looks { looks.new ≡ row_made source.now above.now }
     ensures order { from ≤ result + 1 }
     ensures to_right { result ≤ 40 }
     ensures stays { (c : ℕ) → result < c → c ≤ 40
@@ -164,9 +111,7 @@ pub fn resolve_cells_between<L: Ledger>(
     ensures tick { steps.new ≡ steps.old + 1 }
 {
     steps.tick();
-    each_between(
-        from, until, cells, row, screen, above, last, colours, patterns, looks,
-    )
+    each_between(source, from, until, above, looks)
 }
 
 /// The looks of a row depend on what stands to the left: rows that agree up to a column show the same
@@ -195,7 +140,7 @@ pub fn places_show_what_is_beside_them()
 fn is_single_beneath(full: &Full, above: &RowLooks) -> bool
     ensures single { result ≡ true → full.now.size ≡ Normal }
     ensures uncovered { result ≡ true → (c : ℕ)
-        → covers_below (part_of (column_entry blank_look above.now c)) ≡ false }
+        → covers_below (part_of (look_at above.now c)) ≡ false }
 {
     matches!(full.size, Size::Normal) && above.covers_nothing()
 }
@@ -203,75 +148,39 @@ fn is_single_beneath(full: &Full, above: &RowLooks) -> bool
 /// The looks of a row up to the first cell that isn't plain, where nothing covers it, and of no
 /// column where something may. It answers the column after them.
 #[inline(always)]
-fn each_first(
-    cells: &[Cell; 40],
-    row: &Pen,
-    screen: &Pen,
-    full: &Full,
-    above: &RowLooks,
-    last: bool,
-    colours: &Colours,
-    patterns: &Patterns,
-    looks: &mut RowLooks,
-) -> u8
-    requires cells { (c : ℕ) → 1 ≤ c → c ≤ 40 → IsValidWhat (row_in cells.now c) }
-    requires row { IsValidPen row.now }
-    requires screen { IsValidPen screen.now }
-    requires full { full.now ≡ cascade unset_pen row.now screen.now }
+fn each_first(source: &RowSource, full: &Full, above: &RowLooks, looks: &mut RowLooks) -> u8
+    requires { full.now ≡ attributes_by source.now unset_pen }
     ensures from_left { 1 ≤ result }
     ensures to_right { result ≤ 41 }
-    ensures looks { HasMadeEntries blank_look 1 40
-        (look_shown (drawn_with colours.now patterns.now) above.now (row_in cells.now) row.now
-        screen.now last) (entry blank_look 1 looks.old) looks.new (result - 1) }
+    ensures looks { IsMadeTo (place_made source.now above.now) looks.old looks.new (result - 1) }
 {
     if !is_single_beneath(full, above) {
         looks.columns_by_type();
         return 1;
     }
-    each_plain(cells, row, screen, full, colours, patterns, looks)
+    each_plain(source, full, looks)
 }
 
 /// The looks of what stands in each cell of a row by itself, up to the first that isn't plain, by
 /// the attributes of all that has no pen. It answers the column of that one, else 41.
-fn each_plain(
-    cells: &[Cell; 40],
-    row: &Pen,
-    screen: &Pen,
-    full: &Full,
-    colours: &Colours,
-    patterns: &Patterns,
-    looks: &mut RowLooks,
-) -> u8
-    requires cells { (c : ℕ) → 1 ≤ c → c ≤ 40 → IsValidWhat (row_in cells.now c) }
-    requires row { IsValidPen row.now }
-    requires screen { IsValidPen screen.now }
-    requires full { full.now ≡ cascade unset_pen row.now screen.now }
+fn each_plain(source: &RowSource, full: &Full, looks: &mut RowLooks) -> u8
+    requires { full.now ≡ attributes_by source.now unset_pen }
     ensures from_left { 1 ≤ result }
     ensures to_right { result ≤ 41 }
-    ensures looks { HasMadeEntries blank_look 1 40
-        (look_in_row (drawn_with colours.now patterns.now) (row_in cells.now) row.now screen.now)
-        (entry blank_look 1 looks.old) looks.new (result - 1) }
-    ensures size { (c : ℕ) → 1 ≤ c → c < result → sets_double_size (row_in cells.now c) ≡ false }
+    ensures looks { IsMadeTo (own_look source.now) looks.old looks.new (result - 1) }
+    ensures size { (c : ℕ) → 1 ≤ c → c < result
+        → sets_double_size (row_in source.now.cells c) ≡ false }
 {
     looks.columns_by_type();
-    colours.valid_by_type();
-    patterns.valid_by_type();
-    let blank = small_with(Sign::NOTHING, full, colours);
-    let mut brush = Brush {
-        pen: Pen::UNSET,
-        bare: true,
-        space: blank,
-        size: full.size,
-    };
-    for column in 1..41u8 {
-        let what = &cells[column as usize - 1].what;
+    source.valid_by_type();
+    let mut hand = AtHand::new(full, source);
+    for number in 1..41u8 {
+        let column = Column::numbered(number);
+        let what = source.what(column);
         if !is_plain(what) {
-            return column;
+            return number;
         }
-        looks.put_single(
-            column,
-            small_among(what, &blank, &mut brush, row, screen, colours),
-        );
+        looks.put_single(column, small_among(what, &mut hand, source));
     }
     41
 }
@@ -282,50 +191,26 @@ fn each_plain(
 // A call of its own: the walk along a plain row has then more at hand.
 #[inline(never)]
 fn each_between(
-    from: u8,
+    source: &RowSource,
+    from: Column,
     until: u8,
-    cells: &[Cell; 40],
-    row: &Pen,
-    screen: &Pen,
     above: &RowLooks,
-    last: bool,
-    colours: &Colours,
-    patterns: &Patterns,
     looks: &mut RowLooks,
 ) -> u8
-    requires from_left { 1 ≤ from }
-    requires to_right { from ≤ 41 }
-    requires cells { (c : ℕ) → 1 ≤ c → c ≤ 40 → IsValidWhat (row_in cells.now c) }
-    requires row { IsValidPen row.now }
-    requires screen { IsValidPen screen.now }
-    requires left { (c : ℕ) → 1 ≤ c → c < from → column_entry blank_look looks.old c
-        ≡ look_shown (drawn_with colours.now patterns.now) above.now (row_in cells.now) row.now
-        screen.now last c }
-    requires right { FollowsToTheRight until (column_entry blank_look looks.old)
-        (look_shown (drawn_with colours.now patterns.now) above.now (row_in cells.now) row.now
-        screen.now last) }
-    ensures looks { looks.new
-        ≡ row_from_above above.now
-        (look_in_row (drawn_with colours.now patterns.now) (row_in cells.now) row.now screen.now)
-        (size_in_row (row_in cells.now) row.now screen.now) last }
-    ensures order { from ≤ result + 1 }
-    ensures to_right { result ≤ 40 }
-    ensures stays { (c : ℕ) → result < c → c ≤ 40
-        → column_entry blank_look looks.new c ≡ column_entry blank_look looks.old c }
+    requires { IsMadeBeside (place_made source.now above.now) from until looks.old }
+    ensures { IsMadeFrom source.now above.now from result looks.old looks.new }
 {
     above.columns_by_type();
     looks.columns_by_type();
-    colours.valid_by_type();
-    patterns.valid_by_type();
-    let mut walk = Walk::before(from, cells, row, screen, colours);
+    source.valid_by_type();
+    let mut walk = Walk::before(from, source);
     let mut covered = is_covered_from_left(looks, from, above);
-    for column in from..41 {
+    for number in from.number()..41 {
+        let column = Column::numbered(number);
         let ended = may_end(looks, column, until);
-        covered = put_place(
-            looks, column, covered, &mut walk, cells, row, screen, above, last, colours, patterns,
-        );
+        covered = put_place(looks, column, covered, &mut walk, source, above);
         if ended & may_end(looks, column, until) {
-            return column;
+            return number;
         }
     }
     40
@@ -334,12 +219,9 @@ fn each_between(
 /// Whether a row may end in a column, which isn't left of this one: the look there covers nothing to its
 /// right.
 #[inline(always)]
-fn may_end(looks: &RowLooks, column: u8, until: u8) -> bool
-    requires from_left { 1 ≤ column }
-    requires to_right { column ≤ 40 }
+fn may_end(looks: &RowLooks, column: Column, until: u8) -> bool
     ensures past { result ≡ true → until ≤ column }
-    ensures free { result ≡ true
-        → covers_right (part_of (column_entry blank_look looks.now column)) ≡ false }
+    ensures free { result ≡ true → covers_right (part_of (look_at looks.now column)) ≡ false }
 {
-    column >= until && !looks.covers_right(column)
+    column.number() >= until && !looks.covers_right(column)
 }

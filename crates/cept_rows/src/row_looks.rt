@@ -1,34 +1,31 @@
 ghost use Rattle.std.specs.Prelude.{◌≡◌, ℕ, ◌+◌, ◌-◌, ◌<◌, ◌≤◌, ◌⊎◌, true, false, not, List};
 ghost use Rattle.std.specs.Prelude.{◌||◌, if◌then◌else◌};
 ghost use Rattle.std.specs.Prelude.{length, slice_index_or, slice_set};
-ghost use Rattle.cept_codes.specs.Attribute.{IsValidPen, unset_pen};
-ghost use Rattle.cept_codes.specs.Cell.{IsValidWhat};
 ghost use Rattle.cept_codes.specs.declared.look.Look.{Look};
-ghost use Rattle.cept_codes.specs.declared.look.Shape.TheVariants.{Space};
 ghost use Rattle.cept_codes.specs.Look.{IsValidLook, blank_look};
+ghost use Rattle.cept_codes.specs.Place.{IsColumn};
 ghost use Rattle.cept_codes.specs.Same.{same_look};
 ghost use Rattle.cept_codes.specs.Table.{entry, list_by_index, row_of};
-ghost use Rattle.cept_profile.specs.Attributes.{cascade};
-ghost use Rattle.cept_profile.specs.Look.{look_of, look_with, part_of};
+ghost use Rattle.cept_profile.specs.Look.{part_of};
 ghost use Rattle.cept_profile.specs.Names.{pattern_shown, some_place};
-ghost use Rattle.cept_profile.specs.PageParts.{paint_in};
 ghost use Rattle.cept_profile.specs.RowsFromAbove.{blank_looks, is_other_covering};
-ghost use Rattle.cept_profile.specs.Serial.{row_in};
 ghost use Rattle.cept_profile.specs.Tiling.{column_entry, covers_below, covers_right};
-ghost use Rattle.cept_rows.specs.Brush.{IsBrush};
-ghost use Rattle.cept_rows.specs.DrawnWith.{drawn_with};
-ghost use Rattle.cept_rows.specs.Flagged.{IsResolvedTo};
+ghost use Rattle.cept_rows.specs.Brush.{IsAtHand};
+ghost use Rattle.cept_rows.specs.Compared.{AreDifferences, IsSameBeside, one_covers};
+ghost use Rattle.cept_rows.specs.Flagged.{IsReplaced, IsResolvedTo, look_after, look_at};
+ghost use Rattle.cept_rows.specs.Flagged.{looks_differ, with_look};
 ghost use Rattle.cept_rows.specs.KeptRows.{HasNoPatterns};
+ghost use Rattle.cept_rows.specs.Places.{IsPlainLook, with_drawn};
 ghost use Rattle.cept_rows.specs.Planes.{has_inks, has_planes};
 ghost use Rattle.cept_rows.specs.SmallLooks.{IsSmallLook, drawing_of, has_pattern, look_kept};
 ghost use Rattle.cept_rows.specs.SmallLooks.{blank_small, no_drawing, small_of};
+ghost use Rattle.cept_rows.specs.Source.{look_by_itself};
 
-use crate::cell_look::{Brush, is_downloaded, small_alone, small_among, small_of_any, unset_brush};
-use crate::drawing::{Drawing, drawing_of, same_drawing};
+use crate::cell_look::{AtHand, is_downloaded, sign_alone, sign_in, small_alone, small_among};
+use crate::drawing::{Drawing, same_drawing};
 use crate::small_look::{SmallLook, look_kept, same};
-use cept_codes::{Cell, Look, Pen, What};
-use cept_colours::Colours;
-use cept_drcs::Patterns;
+use crate::source::RowSource;
+use cept_codes::{Column, Look, Pen};
 use cept_outside::Steps;
 use std::marker::Model;
 use std::sync::ledger::Ledger;
@@ -102,9 +99,7 @@ impl RowLooks {
 
     /// Whether the look in a column covers the place below it.
     #[inline(always)]
-    pub fn covers_below(&self, column: u8) -> bool
-        requires from_left { 1 ≤ column }
-        requires to_right { column ≤ 40 }
+    pub fn covers_below(&self, column: Column) -> bool
         ensures { result ≡ covers_below (part_of (column_entry blank_look self.now column)) }
     {
         let part = self.small(column).part;
@@ -113,10 +108,8 @@ impl RowLooks {
 
     /// Whether the look in a column covers the place to its right, where nothing covers that from above.
     #[inline(always)]
-    pub(crate) fn covers_right(&self, column: u8) -> bool
-        requires from_left { 1 ≤ column }
-        requires to_right { column ≤ 40 }
-        ensures { result ≡ covers_right (part_of (column_entry blank_look self.now column)) }
+    pub(crate) fn covers_right(&self, column: Column) -> bool
+        ensures { result ≡ covers_right (part_of (look_at self.now column)) }
     {
         let part = self.small(column).part;
         part.dx == 0 && part.w == 2
@@ -130,7 +123,8 @@ impl RowLooks {
         if self.is_plain() {
             return false;
         }
-        for column in 1..41u8 {
+        for number in 1..41u8 {
+            let column = Column::numbered(number);
             if self.small(column).has_pattern() && self.drawing(column).pattern.planes == planes {
                 return true;
             }
@@ -140,7 +134,6 @@ impl RowLooks {
 
     /// Flags besides the columns in which a pattern with inks is shown.
     pub fn flag_inked(&self, flags: &mut [bool; 40])
-        requires columns { length flags.old ≡ 40 }
         ensures { flags.new ≡ list_by_index 1 40 (λ c. entry false 1 flags.old c
             || has_inks (pattern_shown (column_entry blank_look self.now c).shape)) }
     {
@@ -149,17 +142,14 @@ impl RowLooks {
         }
         for k in 0..40u8 {
             let at = usize::from(k);
-            flags[at] = flags[at] | self.is_inked(k + 1);
+            flags[at] = flags[at] | self.is_inked(Column::numbered(k + 1));
         }
     }
 
     /// Whether a pattern with inks is shown in a column.
     #[inline(always)]
-    fn is_inked(&self, column: u8) -> bool
-        requires from_left { 1 ≤ column }
-        requires to_right { column ≤ 40 }
-        ensures { result
-            ≡ has_inks (pattern_shown (column_entry blank_look self.now column).shape) }
+    fn is_inked(&self, column: Column) -> bool
+        ensures { result ≡ has_inks (pattern_shown (look_at self.now column).shape) }
     {
         self.small(column).has_pattern() && self.drawing(column).pattern.planes != 1
     }
@@ -167,18 +157,15 @@ impl RowLooks {
     /// In which columns two rows have different looks, whether in any, and whether one of the looks
     /// that differ covers the place below it. To the left of a column they are known to be the same, and
     /// to the right of another.
-    pub fn differences(&self, other: &RowLooks, from: u8, until: u8) -> Differences
-        requires from_left { 1 ≤ from }
+    pub fn differences(&self, other: &RowLooks, from: Column, until: u8) -> Differences
         requires order { from ≤ until + 1 }
         requires to_right { until ≤ 40 }
         requires left { (c : ℕ) → 1 ≤ c → c < from
             → column_entry blank_look self.now c ≡ column_entry blank_look other.now c }
         requires right { (c : ℕ) → until < c → c ≤ 40
             → column_entry blank_look self.now c ≡ column_entry blank_look other.now c }
-        ensures columns { result.columns ≡ list_by_index 1 40 (λ c. not (same_look
-            (column_entry blank_look self.now c) (column_entry blank_look other.now c))) }
-        ensures any { result.any ≡ some_place (λ c. not (same_look
-            (column_entry blank_look self.now c) (column_entry blank_look other.now c))) }
+        ensures columns { result.columns ≡ list_by_index 1 40 (looks_differ self.now other.now) }
+        ensures any { result.any ≡ some_place (looks_differ self.now other.now) }
         ensures covering { result.covering ≡ some_place (λ c. is_other_covering
             (column_entry blank_look self.now c) (column_entry blank_look other.now c)) }
         ensures same { result.any ≡ false → self.now ≡ other.now }
@@ -186,38 +173,28 @@ impl RowLooks {
         self.columns_by_type();
         other.columns_by_type();
         if self.is_plain() || other.is_plain() {
-            self.small_differences(other, from, until)
+            self.compare(other, from, until, true)
         } else {
-            self.drawn_differences(other, from, until)
+            self.compare_drawn(other, from, until)
         }
     }
 
-    /// The same where one of the rows has no pattern.
+    /// The same, where it is known whether one of the rows has no pattern.
     // Flags are set in a branch: without one the loop would be made into vectors, a field of a look
     // at a time, and take twice as long.
     #[inline(always)]
-    fn small_differences(&self, other: &RowLooks, from: u8, until: u8) -> Differences
-        requires from_left { 1 ≤ from }
-        requires order { from ≤ until + 1 }
-        requires to_right { until ≤ 40 }
-        requires left { (c : ℕ) → 1 ≤ c → c < from
-            → column_entry blank_look self.now c ≡ column_entry blank_look other.now c }
-        requires right { (c : ℕ) → until < c → c ≤ 40
-            → column_entry blank_look self.now c ≡ column_entry blank_look other.now c }
-        requires plain { HasNoPatterns self.now ⊎ HasNoPatterns other.now }
-        ensures columns { result.columns ≡ list_by_index 1 40 (λ c. not (same_look
-            (column_entry blank_look self.now c) (column_entry blank_look other.now c))) }
-        ensures any { result.any ≡ some_place (λ c. not (same_look
-            (column_entry blank_look self.now c) (column_entry blank_look other.now c))) }
-        ensures covering { result.covering ≡ some_place (λ c. is_other_covering
-            (column_entry blank_look self.now c) (column_entry blank_look other.now c)) }
+    fn compare(&self, other: &RowLooks, from: Column, until: u8, plain: bool) -> Differences
+        requires beside { IsSameBeside self.now other.now from until }
+        requires plain { plain ≡ true → HasNoPatterns self.now ⊎ HasNoPatterns other.now }
+        ensures { AreDifferences self.now other.now result }
     {
         let mut columns = [false; 40];
         let mut any = false;
         let mut covering = false;
-        for column in from..until + 1 {
-            if !self.same_small_at(other, column) {
-                columns[usize::from(column) - 1] = true;
+        for number in from.number()..until + 1 {
+            let column = Column::numbered(number);
+            if !self.same_at(other, column, plain) {
+                columns[column.index()] = true;
                 any = true;
                 covering = self.covers_besides(other, column, covering);
             }
@@ -232,46 +209,18 @@ impl RowLooks {
     /// The same of any rows.
     // A call of its own: rows without patterns need less.
     #[inline(never)]
-    fn drawn_differences(&self, other: &RowLooks, from: u8, until: u8) -> Differences
-        requires from_left { 1 ≤ from }
-        requires order { from ≤ until + 1 }
-        requires to_right { until ≤ 40 }
-        requires left { (c : ℕ) → 1 ≤ c → c < from
-            → column_entry blank_look self.now c ≡ column_entry blank_look other.now c }
-        requires right { (c : ℕ) → until < c → c ≤ 40
-            → column_entry blank_look self.now c ≡ column_entry blank_look other.now c }
-        ensures columns { result.columns ≡ list_by_index 1 40 (λ c. not (same_look
-            (column_entry blank_look self.now c) (column_entry blank_look other.now c))) }
-        ensures any { result.any ≡ some_place (λ c. not (same_look
-            (column_entry blank_look self.now c) (column_entry blank_look other.now c))) }
-        ensures covering { result.covering ≡ some_place (λ c. is_other_covering
-            (column_entry blank_look self.now c) (column_entry blank_look other.now c)) }
+    fn compare_drawn(&self, other: &RowLooks, from: Column, until: u8) -> Differences
+        requires { IsSameBeside self.now other.now from until }
+        ensures { AreDifferences self.now other.now result }
     {
-        let mut columns = [false; 40];
-        let mut any = false;
-        let mut covering = false;
-        for column in from..until + 1 {
-            if !self.same_at(other, column) {
-                columns[usize::from(column) - 1] = true;
-                any = true;
-                covering = self.covers_besides(other, column, covering);
-            }
-        }
-        Differences {
-            columns,
-            any,
-            covering,
-        }
+        self.compare(other, from, until, false)
     }
 
     /// Whether it is known that a look covers the place below it, or the look in a column of one of
     /// two rows does.
     #[inline(always)]
-    fn covers_besides(&self, other: &RowLooks, column: u8, known: bool) -> bool
-        requires from_left { 1 ≤ column }
-        requires to_right { column ≤ 40 }
-        ensures { result ≡ (known || (covers_below (part_of (column_entry blank_look self.now column))
-            || covers_below (part_of (column_entry blank_look other.now column)))) }
+    fn covers_besides(&self, other: &RowLooks, column: Column, known: bool) -> bool
+        ensures { result ≡ (known || one_covers self.now other.now column) }
     {
         if self.covers_nothing() & other.covers_nothing() {
             return known;
@@ -284,16 +233,15 @@ impl RowLooks {
 
     /// Takes over the look in a column of another row.
     #[inline(always)]
-    pub fn copy_at(&mut self, column: u8, from: &RowLooks)
-        requires from_left { 1 ≤ column }
-        requires to_right { column ≤ 40 }
+    pub fn copy_at(&mut self, column: Column, from: &RowLooks)
         ensures { self.new
             ≡ slice_set self.old (column - 1) (column_entry blank_look from.now column) }
     {
         if from.patterned {
             self.copy_drawn(column, from);
         } else {
-            self.looks[column as usize - 1] = from.looks[column as usize - 1];
+            let k = column.index();
+            self.looks[k] = from.looks[k];
             self.tall = self.tall | from.tall;
         }
     }
@@ -301,11 +249,8 @@ impl RowLooks {
     /// The same from a row in which a look may be a pattern.
     // A call of its own: looks without one need less.
     #[inline(never)]
-    fn copy_drawn(&mut self, column: u8, from: &RowLooks)
-        requires from_left { 1 ≤ column }
-        requires to_right { column ≤ 40 }
-        ensures { self.new
-            ≡ slice_set self.old (column - 1) (column_entry blank_look from.now column) }
+    fn copy_drawn(&mut self, column: Column, from: &RowLooks)
+        ensures { self.new ≡ with_look self.old column (look_at from.now column) }
     {
         let look = from.small(column);
         if look.has_pattern() {
@@ -334,14 +279,12 @@ impl RowLooks {
     #[inline(never)]
     fn copy_flagged_drawn(&mut self, flags: &[bool], from: &RowLooks)
         requires { length flags.now ≡ 40 }
-        ensures { self.new ≡ row_of (λ c. if entry false 1 flags.now c
-            then column_entry blank_look from.now c else column_entry blank_look self.old c) }
+        ensures { self.new ≡ row_of (look_after flags.now (look_at from.now) self.old) }
     {
         self.columns_by_type();
         for k in 0..40u8 {
-            let index = usize::from(k);
-            if flags[index] {
-                self.copy_drawn(k + 1, from);
+            if flags[usize::from(k)] {
+                self.copy_drawn(Column::numbered(k + 1), from);
             }
         }
     }
@@ -362,30 +305,21 @@ impl RowLooks {
     /// it differs from the one before. One tick.
     pub fn resolve_alone<L: Ledger>(
         &mut self,
-        column: u8,
-        what: &What,
-        row: &Pen,
-        screen: &Pen,
-        colours: &Colours,
-        patterns: &Patterns,
+        column: Column,
+        source: &RowSource,
         steps: &mut Steps<L>,
     ) -> bool
-        requires from_left { 1 ≤ column }
-        requires to_right { column ≤ 40 }
-        requires valid { IsValidWhat what.now }
-        requires row { IsValidPen row.now }
-        requires screen { IsValidPen screen.now }
         ensures looks { self.new
-            ≡ slice_set self.old (column - 1)
-            (look_of (drawn_with colours.now patterns.now) row.now screen.now what.now) }
+            ≡ slice_set self.old (column - 1) (look_by_itself source.now column) }
         ensures differs { result
             ≡ not (same_look (column_entry blank_look self.old column)
-            (look_of (drawn_with colours.now patterns.now) row.now screen.now what.now)) }
+            (look_by_itself source.now column)) }
         ensures columns { length self.old ≡ 40 }
         ensures tick { steps.new ≡ steps.old + 1 }
     {
         steps.tick();
-        self.resolve_cell(column, what, row, screen, colours, patterns)
+        self.columns_by_type();
+        self.resolve_cell(column, source)
     }
 
     /// Resolves the cells of the flagged columns, each by itself, in a row without markers, and keeps
@@ -393,206 +327,95 @@ impl RowLooks {
     pub fn resolve_columns<L: Ledger>(
         &mut self,
         flags: &[bool; 40],
-        cells: &[Cell; 40],
-        row: &Pen,
-        screen: &Pen,
-        colours: &Colours,
-        patterns: &Patterns,
+        source: &RowSource,
         steps: &mut Steps<L>,
     ) -> [bool; 40]
-        requires cells { (c : ℕ) → 1 ≤ c → c ≤ 40 → IsValidWhat (row_in cells.now c) }
-        requires row { IsValidPen row.now }
-        requires screen { IsValidPen screen.now }
-        ensures looks { self.new ≡ row_of (λ c. if entry false 1 flags.now c
-            then look_of (drawn_with colours.now patterns.now) row.now screen.now (row_in cells.now c)
-            else column_entry blank_look self.old c) }
-        ensures differ { result ≡ list_by_index 1 40 (λ c. not (same_look
-            (column_entry blank_look self.old c) (column_entry blank_look self.new c))) }
+        ensures looks { self.new ≡ row_of (look_after flags.now (look_by_itself source.now) self.old) }
+        ensures differ { result ≡ list_by_index 1 40 (looks_differ self.old self.new) }
         ensures tick { steps.new ≡ steps.old + 1 }
     {
         steps.tick();
         self.columns_by_type();
-        let mut brush = unset_brush(row, screen, colours);
-        let blank = brush.space;
+        let mut hand = AtHand::new(&source.attributes(&Pen::UNSET), source);
         let mut differ = [false; 40];
         for group in 0..5u8 {
             let first = 8 * group;
             if has_flag(flags, first) {
-                self.resolve_eight(
-                    first,
-                    flags,
-                    cells,
-                    &blank,
-                    &mut brush,
-                    row,
-                    screen,
-                    colours,
-                    patterns,
-                    &mut differ,
-                );
+                self.resolve_eight(first, flags, &mut hand, source, &mut differ);
             }
         }
         differ
     }
 
-    /// Resolves the flagged ones of the eight columns after so many, in a row without markers in which
-    /// a blank cell looks so, and says for each whether its look differs from the one before.
+    /// Resolves the flagged ones of the eight columns after so many, in a row without markers, and
+    /// says for each whether its look differs from the one before.
     #[inline(always)]
     fn resolve_eight(
         &mut self,
         first: u8,
         flags: &[bool; 40],
-        cells: &[Cell; 40],
-        blank: &SmallLook,
-        brush: &mut Brush,
-        row: &Pen,
-        screen: &Pen,
-        colours: &Colours,
-        patterns: &Patterns,
+        hand: &mut AtHand,
+        source: &RowSource,
         differ: &mut [bool; 40],
     )
         requires within { first ≤ 32 }
-        requires flags { length flags.now ≡ 40 }
-        requires columns { length differ.old ≡ 40 }
-        requires cells { (c : ℕ) → 1 ≤ c → c ≤ 40 → IsValidWhat (row_in cells.now c) }
-        requires row { IsValidPen row.now }
-        requires screen { IsValidPen screen.now }
-        requires blank { blank.now
-            ≡ small_of (look_with (paint_in colours.now.paints) Space
-            (cascade unset_pen row.now screen.now)) }
-        requires brush { IsBrush colours.now row.now screen.now brush.old }
-        ensures columns { (was : List Look) → IsResolvedTo flags.now
-            (λ c. look_of (drawn_with colours.now patterns.now) row.now screen.now (row_in cells.now c))
-            was self.old differ.old first
-            → IsResolvedTo flags.now
-            (λ c. look_of (drawn_with colours.now patterns.now) row.now screen.now (row_in cells.now c))
-            was self.new differ.new (first + 8) }
-        ensures long { length differ.new ≡ 40 }
-        ensures brush { IsBrush colours.now row.now screen.now brush.new }
+        requires hand { IsAtHand source.now hand.old }
+        ensures columns { (was : List Look)
+            → IsResolvedTo flags.now (look_by_itself source.now) was self.old differ.old first
+            → IsResolvedTo flags.now (look_by_itself source.now) was self.new differ.new
+            (first + 8) }
+        ensures hand { IsAtHand source.now hand.new }
     {
         for k in first..first + 8 {
             let at = usize::from(k);
             if flags[at] {
-                let what = &cells[at].what;
-                differ[at] = self.resolve_among(
-                    k + 1,
-                    what,
-                    blank,
-                    brush,
-                    row,
-                    screen,
-                    colours,
-                    patterns,
-                );
+                differ[at] = self.resolve_among(Column::numbered(k + 1), hand, source);
             }
         }
     }
 
-    /// Resolves one cell by itself, in a row without markers in which a blank cell looks so, and
-    /// keeps its look. Of a sign with a pen the brush takes that up. Answers whether the look differs
-    /// from the one before.
+    /// Resolves one cell by itself, in a row without markers, and keeps its look. Of a sign with a pen
+    /// the brush takes that up. Answers whether the look differs from the one before.
     #[inline(always)]
-    fn resolve_among(
-        &mut self,
-        column: u8,
-        what: &What,
-        blank: &SmallLook,
-        brush: &mut Brush,
-        row: &Pen,
-        screen: &Pen,
-        colours: &Colours,
-        patterns: &Patterns,
-    ) -> bool
-        requires from_left { 1 ≤ column }
-        requires to_right { column ≤ 40 }
-        requires valid { IsValidWhat what.now }
-        requires row { IsValidPen row.now }
-        requires screen { IsValidPen screen.now }
-        requires blank { blank.now
-            ≡ small_of (look_with (paint_in colours.now.paints) Space
-            (cascade unset_pen row.now screen.now)) }
-        requires brush { IsBrush colours.now row.now screen.now brush.old }
-        ensures looks { self.new
-            ≡ slice_set self.old (column - 1)
-            (look_of (drawn_with colours.now patterns.now) row.now screen.now what.now) }
-        ensures differs { result
-            ≡ not (same_look (column_entry blank_look self.old column)
-            (look_of (drawn_with colours.now patterns.now) row.now screen.now what.now)) }
-        ensures brush { IsBrush colours.now row.now screen.now brush.new }
+    fn resolve_among(&mut self, column: Column, hand: &mut AtHand, source: &RowSource) -> bool
+        requires { IsAtHand source.now hand.old }
+        ensures look { IsReplaced self.old column (look_by_itself source.now column) self.new
+            result }
+        ensures hand { IsAtHand source.now hand.new }
     {
+        let what = source.what(column);
         if is_downloaded(what) {
-            return self.resolve_downloaded(column, what, row, screen, colours, patterns);
+            return self.resolve_downloaded(column, source);
         }
-        colours.valid_by_type();
-        patterns.valid_by_type();
-        let fresh = small_among(what, blank, brush, row, screen, colours);
+        source.valid_by_type();
+        let fresh = small_among(what, hand, source);
         self.replace(column, &fresh)
     }
 
-    /// Resolves one cell by itself, in a row without markers, and keeps its look. Answers whether it
-    /// differs from the one before.
+    /// The same by its own attributes.
     #[inline(always)]
-    fn resolve_cell(
-        &mut self,
-        column: u8,
-        what: &What,
-        row: &Pen,
-        screen: &Pen,
-        colours: &Colours,
-        patterns: &Patterns,
-    ) -> bool
-        requires from_left { 1 ≤ column }
-        requires to_right { column ≤ 40 }
-        requires valid { IsValidWhat what.now }
-        requires row { IsValidPen row.now }
-        requires screen { IsValidPen screen.now }
-        ensures looks { self.new
-            ≡ slice_set self.old (column - 1)
-            (look_of (drawn_with colours.now patterns.now) row.now screen.now what.now) }
-        ensures differs { result
-            ≡ not (same_look (column_entry blank_look self.old column)
-            (look_of (drawn_with colours.now patterns.now) row.now screen.now what.now)) }
-        ensures columns { length self.old ≡ 40 }
+    fn resolve_cell(&mut self, column: Column, source: &RowSource) -> bool
+        ensures { IsReplaced self.old column (look_by_itself source.now column) self.new result }
     {
+        let what = source.what(column);
         if is_downloaded(what) {
-            return self.resolve_downloaded(column, what, row, screen, colours, patterns);
+            return self.resolve_downloaded(column, source);
         }
-        colours.valid_by_type();
-        patterns.valid_by_type();
-        let fresh = small_alone(what, row, screen, colours);
+        source.valid_by_type();
+        let fresh = small_alone(column, sign_alone(what), source);
         self.replace(column, &fresh)
     }
 
     /// The same of a sign of the downloaded set.
     // A call of its own: a drawing has no room beside looks without one.
     #[inline(never)]
-    fn resolve_downloaded(
-        &mut self,
-        column: u8,
-        what: &What,
-        row: &Pen,
-        screen: &Pen,
-        colours: &Colours,
-        patterns: &Patterns,
-    ) -> bool
-        requires from_left { 1 ≤ column }
-        requires to_right { column ≤ 40 }
-        requires valid { IsValidWhat what.now }
-        requires row { IsValidPen row.now }
-        requires screen { IsValidPen screen.now }
-        ensures looks { self.new
-            ≡ slice_set self.old (column - 1)
-            (look_of (drawn_with colours.now patterns.now) row.now screen.now what.now) }
-        ensures differs { result
-            ≡ not (same_look (column_entry blank_look self.old column)
-            (look_of (drawn_with colours.now patterns.now) row.now screen.now what.now)) }
-        ensures columns { length self.old ≡ 40 }
+    fn resolve_downloaded(&mut self, column: Column, source: &RowSource) -> bool
+        ensures { IsReplaced self.old column (look_by_itself source.now column) self.new result }
     {
-        colours.valid_by_type();
-        patterns.valid_by_type();
-        let fresh = small_of_any(what, row, screen, colours, patterns);
-        let drawing = drawing_of(what, colours, patterns);
-        let k = column as usize - 1;
+        source.valid_by_type();
+        let fresh = small_alone(column, sign_in(source.what(column), source), source);
+        let drawing = source.drawing(column);
+        let k = column.index();
         let differs = !same_with(&self.looks[k], &self.drawn[k], &fresh, &drawing);
         self.put_drawn(column, fresh, &drawing);
         differs
@@ -602,16 +425,10 @@ impl RowLooks {
     /// from the one before.
     // A call of its own: the look is then compared at once where it stands, and not field by field.
     #[inline(never)]
-    fn replace(&mut self, column: u8, look: &SmallLook) -> bool
-        requires from_left { 1 ≤ column }
-        requires to_right { column ≤ 40 }
-        requires plain { has_pattern look.now ≡ false }
+    fn replace(&mut self, column: Column, look: &SmallLook) -> bool
+        requires look { IsPlainLook look.now }
         requires low { covers_below look.now.part ≡ false }
-        requires small { IsSmallLook look.now no_drawing }
-        ensures looks { self.new ≡ slice_set self.old (column - 1) (look_kept look.now no_drawing) }
-        ensures differs { result ≡ not (same_look (column_entry blank_look self.old column)
-            (look_kept look.now no_drawing)) }
-        ensures columns { length self.old ≡ 40 }
+        ensures { IsReplaced self.old column (look_kept look.now no_drawing) self.new result }
     {
         let differs = !same(&self.small(column), look);
         self.put_single(column, *look);
@@ -635,15 +452,19 @@ impl RowLooks {
         !self.patterned
     }
 
-    /// Whether two rows have the same look in a column.
+    /// Whether two rows have the same look in a column, where it is known whether one of them has no
+    /// pattern.
     #[inline(always)]
-    fn same_at(&self, other: &RowLooks, column: u8) -> bool
-        requires from_left { 1 ≤ column }
-        requires to_right { column ≤ 40 }
-        ensures { result ≡ same_look (column_entry blank_look self.now column)
-            (column_entry blank_look other.now column) }
+    fn same_at(&self, other: &RowLooks, column: Column, plain: bool) -> bool
+        requires { plain ≡ true → HasNoPatterns self.now ⊎ HasNoPatterns other.now }
+        ensures { result ≡ same_look (look_at self.now column) (look_at other.now column) }
     {
-        let k = column as usize - 1;
+        if plain {
+            let mine = self.small(column);
+            let theirs = other.small(column);
+            return same(&mine, &theirs);
+        }
+        let k = column.index();
         same_with(
             &self.looks[k],
             &self.drawn[k],
@@ -652,76 +473,52 @@ impl RowLooks {
         )
     }
 
-    /// The same where one of the rows has no pattern.
-    #[inline(always)]
-    fn same_small_at(&self, other: &RowLooks, column: u8) -> bool
-        requires from_left { 1 ≤ column }
-        requires to_right { column ≤ 40 }
-        requires plain { HasNoPatterns self.now ⊎ HasNoPatterns other.now }
-        ensures { result ≡ same_look (column_entry blank_look self.now column)
-            (column_entry blank_look other.now column) }
-    {
-        same(&self.small(column), &other.small(column))
-    }
-
     /// The look in a column, as it is kept.
     #[inline(always)]
-    pub(crate) fn small(&self, column: u8) -> SmallLook
-        requires from_left { 1 ≤ column }
-        requires to_right { column ≤ 40 }
-        ensures look { result ≡ small_of (column_entry blank_look self.now column) }
-        ensures valid { IsValidLook (column_entry blank_look self.now column) }
+    pub(crate) fn small(&self, column: Column) -> SmallLook
+        ensures look { result ≡ small_of (look_at self.now column) }
+        ensures valid { IsValidLook (look_at self.now column) }
         ensures columns { length self.now ≡ 40 }
+        ensures in_range { IsColumn column }
     {
-        self.looks[column as usize - 1]
+        self.looks[column.index()]
     }
 
     /// The drawing of a pattern in a column.
     #[inline(always)]
-    pub(crate) fn drawing(&self, column: u8) -> &Drawing
-        requires from_left { 1 ≤ column }
-        requires to_right { column ≤ 40 }
-        requires pattern { has_pattern (small_of (column_entry blank_look self.now column))
-            ≡ true }
-        ensures { result.now ≡ drawing_of (column_entry blank_look self.now column).shape }
+    pub(crate) fn drawing(&self, column: Column) -> &Drawing
+        requires { has_pattern (small_of (look_at self.now column)) ≡ true }
+        ensures { result.now ≡ drawing_of (look_at self.now column).shape }
     {
-        &self.drawn[column as usize - 1]
+        &self.drawn[column.index()]
     }
 
     /// Keeps a look of single height without a pattern in a column.
     #[inline(always)]
-    pub(crate) fn put_single(&mut self, column: u8, look: SmallLook)
-        requires from_left { 1 ≤ column }
-        requires to_right { column ≤ 40 }
-        requires plain { has_pattern look ≡ false }
+    pub(crate) fn put_single(&mut self, column: Column, look: SmallLook)
+        requires look { IsPlainLook look }
         requires low { covers_below look.part ≡ false }
-        requires small { IsSmallLook look no_drawing }
-        ensures { self.new ≡ slice_set self.old (column - 1) (look_kept look no_drawing) }
+        ensures { self.new ≡ with_drawn self.old column look no_drawing }
     {
-        self.looks[column as usize - 1] = look;
+        self.looks[column.index()] = look;
     }
 
     /// Keeps a look without a pattern in a column.
     #[inline(always)]
-    pub(crate) fn put(&mut self, column: u8, look: SmallLook)
-        requires from_left { 1 ≤ column }
-        requires to_right { column ≤ 40 }
-        requires plain { has_pattern look ≡ false }
-        requires small { IsSmallLook look no_drawing }
-        ensures { self.new ≡ slice_set self.old (column - 1) (look_kept look no_drawing) }
+    pub(crate) fn put(&mut self, column: Column, look: SmallLook)
+        requires { IsPlainLook look }
+        ensures { self.new ≡ with_drawn self.old column look no_drawing }
     {
-        self.looks[column as usize - 1] = look;
+        self.looks[column.index()] = look;
         self.tall = self.tall | (look.part.h == 2);
     }
 
     /// Keeps a look in a column with its drawing.
-    pub(crate) fn put_drawn(&mut self, column: u8, look: SmallLook, drawing: &Drawing)
-        requires from_left { 1 ≤ column }
-        requires to_right { column ≤ 40 }
-        requires small { IsSmallLook look drawing.now }
-        ensures { self.new ≡ slice_set self.old (column - 1) (look_kept look drawing.now) }
+    pub(crate) fn put_drawn(&mut self, column: Column, look: SmallLook, drawing: &Drawing)
+        requires { IsSmallLook look drawing.now }
+        ensures { self.new ≡ with_drawn self.old column look drawing.now }
     {
-        let k = column as usize - 1;
+        let k = column.index();
         self.looks[k] = look;
         self.drawn[k] = *drawing;
         self.patterned = self.patterned | look.has_pattern();
@@ -746,8 +543,7 @@ impl RowLooks {
 // Without an end before the last one, so that all are asked at once.
 #[inline(always)]
 fn has_flag(flags: &[bool; 40], first: u8) -> bool
-    requires flags { length flags.now ≡ 40 }
-    requires within { first ≤ 32 }
+    requires { first ≤ 32 }
     ensures { result ≡ false → (k : ℕ) → first ≤ k → k < first + 8
         → slice_index_or flags.now k false ≡ false }
 {
@@ -772,9 +568,7 @@ fn same_with(a: &SmallLook, a_drawn: &Drawing, b: &SmallLook, b_drawn: &Drawing)
 /// Takes over the flagged looks of a row.
 #[inline(always)]
 fn copy_small(looks: &mut [SmallLook; 40], flags: &[bool], from: &[SmallLook; 40])
-    requires looks { length looks.old ≡ 40 }
-    requires flags { length flags.now ≡ 40 }
-    requires from { length from.now ≡ 40 }
+    requires { length flags.now ≡ 40 }
     ensures columns { length looks.new ≡ 40 }
     ensures copied { (k : ℕ) → k < 40 → slice_index_or looks.new k blank_small
         ≡ (if slice_index_or flags.now k false then slice_index_or from.now k blank_small

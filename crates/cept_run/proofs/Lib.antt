@@ -31,4 +31,5 @@ pub mod Numbers
 mod Worked
 mod WorkedWords
 mod WorkedCourses
+mod WorkedRuns
 mod WorkedStatuses

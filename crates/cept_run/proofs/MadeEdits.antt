@@ -12,7 +12,9 @@ use Rattle.cept_editor.specs.Kept.{KeptEdits, none_kept, finds_nothing, kept_aft
 use Rattle.cept_editor.specs.Kept.{states_before, state_before_last, states_again, state_after_first, EditorState}
 use Rattle.cept_editor.specs.Kept.{editor_after, StandsAfter}
 use Rattle.cept_editor.specs.Made.{Output, output_of, IsMade, AreMade, AreCutOff}
-use Rattle.cept_editor.specs.Meaning.{TurnKind, Turn, TakeBack, MakeAgain}
+use Rattle.cept_editor.specs.declared.turn.Turn.{Turn as TurnKind}
+use Rattle.cept_editor.specs.declared.turn.Turn.TheVariants.{TakeBack, MakeAgain}
+use Rattle.cept_editor.specs.Meaning.{Turn}
 use Rattle.cept_editor.specs.Script.{EditLine}
 use Rattle.cept_editor.specs.Stepping.{nothing_event, event_from, line_events, states_ahead, GoesOn}
 use Rattle.cept_editor.proofs.Laws.{AreMade-none, AreMade-more, AreCutOff-here, AreMade-append, AreCutOff-after}
@@ -178,6 +180,16 @@ made_cut listed page lines rest whole edit old new start before after is has mak
     (subst (λ (es : List Event). AreCutOff es start after) (sym (script_events-more listed page lines edit))
     (AreCutOff-after (script_events listed page lines) (events_of_line listed page lines edit) start before after
     has.made has.stays (makes.cut page (kept_of lines) has.stands)))
+
+-- the sink failed at an edit line
+pub made_stopped : {E : Type 0} {f : E} (listed : Bool) (page : List Command) (lines rest whole : List EditLine)
+    (edit : EditLine) (old new : EditorState) (start before after : Output) → (lines ++ edit ∷ []) ++ rest ≡ whole
+    → HasMadeLines listed page lines old start before
+    → GoesOn {E = E} listed edit.line edit.step old before (Err f) new after
+    → AreCutOff (script_events listed page whole) start after
+made_stopped {E} {f} listed page lines rest whole edit old new start before after is has on =
+    made_cut {X = Unit {0}} {E = E} {f = f} listed page lines rest whole edit old new start before after is has
+    (line_cut {X = Unit {0}} {E = E} {f = f} {g = f} listed edit old new before after on)
 
 pub has_made_same : (listed : Bool) (page : List Command) (xs ys : List EditLine) (editor : EditorState)
     (start now : Output) → xs ≡ ys → HasMadeLines listed page xs editor start now → HasMadeLines listed page ys editor start now

@@ -1,19 +1,18 @@
 -- How the reading of a script or of a drawing ends, by what its parts did.
-use Rattle.std.proofs.Common.{◌≡◌, inl, ℕ, List, Option, Some, None, Ok, Err, refl, sym, ◌∙◌, ap, subst, arith}
-use Rattle.std.specs.Option.{option_map}
+use Rattle.std.proofs.Common.{◌≡◌, inl, ℕ, List, Option, Some, None, Ok, Err, refl, sym, ◌∙◌, subst, arith}
 use Rattle.cept_editor.specs.declared.script.ScriptFault.{ScriptFault}
 use Rattle.cept_editor.specs.declared.script.ScriptFault.TheVariants as faults
 use Rattle.cept_editor.specs.Fault.{SaysFault}
-use Rattle.cept_editor.specs.Script.{Fault}
+use Rattle.cept_words.specs.Faults.{Fault}
 use Rattle.cept_outside.specs.Causes.{Rose, HasCause}
 use Rattle.cept_outside.specs.ShelfState.{ShelfState, Selects, IsSound}
 use Rattle.cept_outside.specs.SinkState.{SinkState}
 use Rattle.cept_plot.specs.declared.drawing.DrawFault.{DrawFault}
 use Rattle.cept_plot.specs.declared.drawing.DrawFault.TheVariants as draw_faults
-use Rattle.cept_plot.specs.Drawings.{Fault as FaultOfDrawing, SaysFault as SaysFaultOfDrawing}
+use Rattle.cept_plot.specs.Drawings.{SaysFault as SaysFaultOfDrawing}
 use Rattle.cept_run.specs.declared.page.Stop.{Stop}
 use Rattle.cept_run.specs.declared.page.Stop.TheVariants as stops
-use Rattle.cept_run.specs.Course.{Grammar, as_fault, first_fault_in, sequel_in}
+use Rattle.cept_run.specs.Course.{Grammar, first_fault_in, sequel_in}
 use Rattle.cept_run.specs.Events.{Sequel}
 use Rattle.cept_run.specs.Page.{KeepsShelf}
 use Rattle.cept_run.specs.ScriptReading.{TakenWhole, TakingStops, FileWhole, FileStops, ScriptBad, Refuses, StopsAt}
@@ -140,7 +139,7 @@ module _ (grammar : Grammar) (name : List ℕ) (before after : ShelfState) where
         subst (λ (s : Stop). ScriptStops grammar name before old s after new) (sym refuses.0) (refuses.1, whole.stays)
 
 -- a drawing's fault is said as a script's
-pub drawing_faulty : (first : Option FaultOfDrawing) (fault : DrawFault) → SaysFaultOfDrawing first fault
-    → SaysFault (option_map as_fault first) (as_script_fault fault)
-drawing_faulty first (draw_faults.BadLine line reason) says = ap (option_map as_fault) says
+pub drawing_faulty : (first : Option Fault) (fault : DrawFault) → SaysFaultOfDrawing first fault
+    → SaysFault first (as_script_fault fault)
+drawing_faulty first (draw_faults.BadLine line reason) says = says
 drawing_faulty first draw_faults.NoMemory says = tt

@@ -5,7 +5,8 @@ use Rattle.std.proofs.Common.{length}
 use Rattle.std.proofs.lemmas.List.{take_all}
 use Rattle.std.proofs.lemmas.Option.{none-some, same_Some}
 use Rattle.std.specs.Io.KnownBytes.{append_known}
-use Rattle.cept_editor.specs.Script.{Fault, edits, edits_from, fault_from, first_fault}
+use Rattle.cept_editor.specs.Script.{edits, edits_from, first_fault}
+use Rattle.cept_words.specs.Faults.{Fault, fault_from}
 use Rattle.cept_outside.specs.ShelfState.{ShelfState, IsSound}
 use Rattle.cept_outside.specs.ShelfState.{bytes_under}
 use Rattle.cept_outside.specs.SinkState.{SinkState, HasPut, Gains, GainsPart}

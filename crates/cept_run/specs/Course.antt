@@ -1,15 +1,15 @@
 -- The course of a run: what it reads, the events of what it read, and what decides how it ends. Each request is one, and what
 -- a run does is said of its course alone. This project's own.
 use Rattle.std.specs.Prelude.{◌≡◌, ◌⊎◌, ℕ, Bool, true, false, not, ◌&&◌, List, [], ◌∷◌, Option, Some, None, is_some}
-use Rattle.std.specs.Option.{option_map}
 use Rattle.cept_codes.specs.declared.command.Command.{Command}
 use Rattle.cept_codes.specs.declared.look.Look.{Look}
 use Rattle.cept_editor.specs.Events.{Event}
-use Rattle.cept_editor.specs.Script.{Fault, edits, first_fault}
+use Rattle.cept_editor.specs.Script.{edits, first_fault}
+use Rattle.cept_words.specs.Faults.{Fault}
 use Rattle.cept_generator.specs.Generated.{generated}
 use Rattle.cept_outside.specs.ShelfState.{ShelfState, Holds, Lacks}
 use Rattle.cept_parser.specs.Items.{items}
-use Rattle.cept_plot.specs.Drawings.{Fault as FaultOfDrawing, figures_of, first_fault as first_fault_of_drawing}
+use Rattle.cept_plot.specs.Drawings.{figures_of, first_fault as first_fault_of_drawing}
 use Rattle.cept_run.specs.declared.words.Asked.{Asked}
 use Rattle.cept_run.specs.declared.words.BytesAction.{BytesAction}
 use Rattle.cept_run.specs.declared.words.End.{End}
@@ -55,14 +55,10 @@ pub data Grammar : Type 0 where
   Scripts : Grammar
   Drawings : Grammar
 
--- the fault of a drawing's line as one of a script's
-abbrev pub as_fault : FaultOfDrawing → Fault
-as_fault fault = record { line = fault.line; reason = fault.reason }
-
 -- the first line outside the grammar
 abbrev pub first_fault_in : Grammar → List ℕ → Option Fault
 first_fault_in Scripts bytes = first_fault bytes
-first_fault_in Drawings bytes = option_map as_fault (first_fault_of_drawing bytes)
+first_fault_in Drawings bytes = first_fault_of_drawing bytes
 
 -- what bytes within the grammar say is done after a page
 abbrev pub sequel_in : Grammar → List ℕ → Sequel

@@ -6,7 +6,7 @@ use Rattle.std.specs.List.{AllByRecursion}
 use Rattle.cept_codes.specs.declared.command.Command.{Command}
 use Rattle.cept_editor.specs.Events.{Event, report, paints}
 use Rattle.cept_editor.specs.Made.{ArePainted, AreMade, AreCutOff}
-use Rattle.cept_editor.specs.Script.{Fault}
+use Rattle.cept_words.specs.Faults.{Fault}
 use Rattle.cept_outside.specs.Causes.{Rose}
 use Rattle.cept_outside.specs.ShelfState.{ShelfState, Holds, KeepsFiles, bytes_under}
 use Rattle.cept_outside.specs.SinkState.{HasPut, count_after}

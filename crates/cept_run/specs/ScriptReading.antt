@@ -4,7 +4,7 @@ use Rattle.std.specs.Prelude.{◌≡◌, ◌≢◌, ◌⊎◌, ℕ, ◌^◌, ◌
 use Rattle.std.specs.Prelude.{Result, Ok, Err}
 use Rattle.cept_editor.specs.declared.script.ScriptFault.{ScriptFault}
 use Rattle.cept_editor.specs.declared.script.ScriptFault.TheVariants as faults
-use Rattle.cept_editor.specs.Script.{Fault}
+use Rattle.cept_words.specs.Faults.{Fault}
 use Rattle.cept_outside.specs.Causes.{Rose}
 use Rattle.cept_outside.specs.ShelfState.{ShelfState, KeepsFiles, bytes_under}
 use Rattle.cept_outside.specs.SinkState.{SinkState}

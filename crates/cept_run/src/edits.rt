@@ -1,11 +1,10 @@
 //! Makes the edits of a script, and puts their lines where they are asked for; or draws a drawing.
 
-ghost use Rattle.std.specs.Prelude.{◌<◌, [], length, if◌then◌else◌, slice_index_or};
+ghost use Rattle.std.specs.Prelude.{[], if◌then◌else◌};
 ghost use Rattle.cept_editor.specs.Made.{output_of};
-ghost use Rattle.cept_editor.specs.Script.{EditLine};
 ghost use Rattle.cept_outside.specs.SinkState.{PutsText};
 ghost use Rattle.cept_report.specs.Text.{nothing_line};
-ghost use Rattle.cept_run.specs.Reporting.{Draws, MakesLine, MakesLines};
+ghost use Rattle.cept_run.specs.Reporting.{Draws, MakesLines};
 
 use cept_editor::{Done, Editor, Script};
 use cept_outside::{Sink, Steps, WriteFault};
@@ -27,28 +26,6 @@ fn tell_nothing<T: Sink>(listed: bool, line: u32, sink: &mut T) -> Result<(), Wr
     }
 }
 
-/// Makes edit k of a script.
-fn make_line<T: Sink, G: Glass, L: Ledger>(
-    editor: &mut Editor,
-    script: &Script,
-    k: u32,
-    listed: bool,
-    marks: &mut Marks,
-    sink: &mut T,
-    glass: &mut G,
-    steps: &mut Steps<L>,
-) -> Result<(), WriteFault>
-    requires { k < length script.now }
-    ensures { (default : EditLine) → MakesLine listed (slice_index_or script.now k default)
-        editor.old (output_of (T.state sink.old) (G.state glass.old)) result editor.new
-        (output_of (T.state sink.new) (G.state glass.new)) }
-{
-    match editor.line(script, k, glass, marks, sink, listed, steps)? {
-        Done::Done => Ok(()),
-        Done::Nothing => tell_nothing(listed, script.line_of(k), sink),
-    }
-}
-
 /// Makes all edits of a script.
 pub fn make_lines<T: Sink, G: Glass, L: Ledger>(
     editor: &mut Editor,
@@ -64,7 +41,10 @@ pub fn make_lines<T: Sink, G: Glass, L: Ledger>(
         (output_of (T.state sink.new) (G.state glass.new)) }
 {
     for k in 0..script.len() {
-        make_line(editor, script, k, listed, marks, sink, glass, steps)?;
+        match editor.line(script, k, glass, marks, sink, listed, steps)? {
+            Done::Done => {}
+            Done::Nothing => tell_nothing(listed, script.line_of(k), sink)?,
+        }
     }
     Ok(())
 }

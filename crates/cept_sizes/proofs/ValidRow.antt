@@ -14,6 +14,7 @@ use Rattle.cept_codes.proofs.Laws.{entry_from}
 use Rattle.cept_profile.specs.Tiling.{IsTiled, column_entry, covers_below, is_covered_from_left, origin_part, part_by}
 use Rattle.cept_profile.specs.Tiling.{flat_parts, part_from, parts_in, single_part, tiled_row}
 use Rattle.cept_profile.proofs.Laws.{tiled_row-beneath}
+use Rattle.cept_sizes.specs.Parts.{AreValidParts}
 use Rattle.cept_sizes.proofs.RowTiled.{part_from-none, part_from-more}
 
 column_entry-row_of : {X : Type 0} (d : X) (f : ℕ → X) (c : ℕ) → 1 ≤ c → c ≤ 40 → column_entry d (row_of f) c ≡ f c
@@ -75,14 +76,13 @@ IsValidPart-part_from above wanted last valid (suc k) high =
     (k + 1) (valid (k + 1) (omega arith) (omega arith))
     (IsValidPart-part_from above wanted last valid k (omega arith))))
 
-pub IsValidPart-flat_parts : (c : ℕ) → 1 ≤ c → c ≤ 40 → IsValidPart (column_entry single_part flat_parts c)
+pub IsValidPart-flat_parts : AreValidParts flat_parts
 IsValidPart-flat_parts c low high =
     subst (λ p. IsValidPart p) (sym (column_entry-row_of single_part (λ _. single_part) c low high))
     (IsValidPart-origin_part false false)
 
 pub IsValidPart-tiled_row : (above : List Part) (wanted : ℕ → Size) (last : Bool)
-    → ((c : ℕ) → 1 ≤ c → c ≤ 40 → IsValidPart (column_entry single_part above c)) → (c : ℕ) → 1 ≤ c → c ≤ 40
-    → IsValidPart (column_entry single_part (tiled_row above wanted last) c)
+    → AreValidParts above → AreValidParts (tiled_row above wanted last)
 unfolding tiled_row
 IsValidPart-tiled_row above wanted last valid c low high =
     let f : ℕ → Part = part_from (column_entry single_part above) wanted last in

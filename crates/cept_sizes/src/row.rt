@@ -2,11 +2,11 @@ ghost use Rattle.std.specs.Prelude.{◌≡◌, ℕ, ◌+◌, ◌-◌, ◌<◌, �
 ghost use Rattle.cept_codes.specs.declared.attribute.Size.{Size};
 ghost use Rattle.cept_codes.specs.declared.attribute.Size.TheVariants as sizes;
 ghost use Rattle.cept_codes.specs.declared.look.Part.{Part};
-ghost use Rattle.cept_codes.specs.Look.{IsValidPart};
 ghost use Rattle.cept_codes.specs.Table.{row_of};
 ghost use Rattle.cept_profile.specs.Tiling.{IsTiled, IsTiledRow, parts_in};
 ghost use Rattle.cept_profile.specs.Tiling.{column_entry, covers_below, flat_parts, is_wide};
 ghost use Rattle.cept_profile.specs.Tiling.{single_part, tiled_row};
+ghost use Rattle.cept_sizes.specs.Parts.{AreValidParts};
 
 use crate::part::{SINGLE, below, covers_below, is_high, is_single, is_wide, origin, to_the_right};
 use cept_codes::{Part, Size};
@@ -27,8 +27,7 @@ impl Parts {
     /// Forty whole signs.
     pub fn flat() -> Parts
         ensures parts { result.parts ≡ flat_parts }
-        ensures valid { (c : ℕ) → 1 ≤ c → c ≤ 40
-            → IsValidPart (column_entry single_part result.parts c) }
+        ensures valid { AreValidParts result.parts }
     {
         Parts {
             parts: [SINGLE; 40],
@@ -38,8 +37,7 @@ impl Parts {
 
 /// The parts of the row beneath this one, in which these sizes are wanted.
 pub fn tile_row(above: &Parts, wants: &Wants, last: bool) -> Parts
-    requires above { (c : ℕ) → 1 ≤ c → c ≤ 40
-        → IsValidPart (column_entry single_part above.now.parts c) }
+    requires above { AreValidParts above.now.parts }
     ensures row { result.parts
         ≡ tiled_row above.now.parts (column_entry sizes.Normal wants.now.sizes) last }
     ensures tiled { IsTiledRow above.now.parts (column_entry sizes.Normal wants.now.sizes) last
@@ -47,8 +45,7 @@ pub fn tile_row(above: &Parts, wants: &Wants, last: bool) -> Parts
     ensures beneath { (wanted : ℕ → ℕ → Size) (is_last : ℕ → Bool) (t : List (List Part)) (r : ℕ)
         → IsTiled wanted is_last t → 1 ≤ r → r ≤ 24 → above.now.parts ≡ parts_in t (r - 1)
         → wants.now.sizes ≡ row_of (wanted r) → last ≡ is_last r → result.parts ≡ parts_in t r }
-    ensures valid { (c : ℕ) → 1 ≤ c → c ≤ 40
-        → IsValidPart (column_entry single_part result.parts c) }
+    ensures valid { AreValidParts result.parts }
 {
     let mut parts = [SINGLE; 40];
     let mut wide = false;

@@ -60,6 +60,13 @@ pub record StaysBegun (old : Edits) (before : State) (new : Edits) (after : Stat
   pub begun : IsBegun new
   pub fits : FitsTogether new after
 
+-- while no edit is begun and the state of the screen changes, the past stays, and there is no future
+pub record StaysUnbegun (old : Edits) (before : State) (new : Edits) (after : State) : Type 0 where
+  pub past : past new after ≡ past old before
+  pub future : future new after ≡ []
+  pub none_begun : IsNotBegun new
+  pub fits : FitsTogether new after
+
 -- the first of these states; where there is none, this one
 abbrev pub nearest : List State → State → State
 nearest [] now = now

@@ -1,12 +1,8 @@
-ghost use Rattle.std.specs.Prelude.{◌≡◌, ◌≤◌, ◌<◌, ◌+◌, ◌↔◌, false, [], drop, length};
+ghost use Rattle.std.specs.Prelude.{◌≡◌, ◌≤◌, ◌<◌, ◌+◌, ◌↔◌, false, [], length};
 ghost use Rattle.std.specs.List.{AllByRecursion};
-ghost use Rattle.cept_profile.specs.Look.{looks_of};
-ghost use Rattle.cept_profile.specs.State.{core_of};
 ghost use Rattle.cept_profile.specs.Valid.{IsValidState};
-ghost use Rattle.cept_repaint.specs.Applied.{IsRepainted};
-ghost use Rattle.cept_repaint.specs.Marks.{no_marks};
-ghost use Rattle.cept_repaint.specs.Renewed.{rows_renewed};
-ghost use Rattle.cept_undo.specs.Past.{handed_on, nearest, unwound_in_turn};
+ghost use Rattle.cept_undo.specs.Past.{unwound_in_turn};
+ghost use Rattle.cept_undo.specs.Turned.{PaintsTurn, TouchesNothing, TurnsTo};
 
 use cept_outside::Steps;
 use cept_repaint::{Delta, Glass, Marks, Screen};
@@ -27,32 +23,25 @@ pub(crate) fn turn<G: Glass, L: Ledger>(
     requires room { length from.old.items + length to.old.items ≤ to.old.capacity }
     requires valid { AllByRecursion IsValidState (unwound_in_turn screen.old from.old.items) }
     requires valid_back { AllByRecursion IsValidState (unwound_in_turn screen.old to.old.items) }
-    ensures state { screen.new ≡ nearest (unwound_in_turn screen.old from.old.items) screen.old }
-    ensures from { unwound_in_turn screen.new from.new.items
-        ≡ drop 1 (unwound_in_turn screen.old from.old.items) }
-    ensures to { unwound_in_turn screen.new to.new.items
-        ≡ handed_on (unwound_in_turn screen.old from.old.items) screen.old
-        (unwound_in_turn screen.old to.old.items) }
+    ensures turns { TurnsTo (unwound_in_turn screen.old from.old.items)
+        (unwound_in_turn screen.old to.old.items) screen.old
+        (unwound_in_turn screen.new from.new.items) (unwound_in_turn screen.new to.new.items)
+        screen.new }
     ensures valid { AllByRecursion IsValidState (unwound_in_turn screen.new from.new.items) }
     ensures valid_back { AllByRecursion IsValidState (unwound_in_turn screen.new to.new.items) }
     ensures total { length from.new.items + length to.new.items
         ≡ length from.old.items + length to.old.items }
     ensures from_places { from.new.capacity ≡ from.old.capacity }
     ensures to_places { to.new.capacity ≡ to.old.capacity }
-    ensures repainted { IsRepainted screen.old screen.new marks.new (G.state glass.old)
-        (G.state glass.new) }
-    ensures least { steps.old
-        + rows_renewed [] (looks_of (core_of screen.old)) (looks_of (core_of screen.new)) ≤ steps.new }
-    ensures at_most_24 { steps.new ≤ steps.old + 24 }
+    ensures paints { PaintsTurn screen.old screen.new marks.new (G.state glass.old)
+        (G.state glass.new) steps.old steps.new }
 
     // Where there is none.
     ensures nothing { (result ≡ false) ↔ (from.old.items ≡ []) }
     ensures from_stays { result ≡ false → from.new ≡ from.old }
     ensures to_stays { result ≡ false → to.new ≡ to.old }
-    ensures unchanged { result ≡ false → screen.new ≡ screen.old }
-    ensures unpainted { result ≡ false → glass.new ≡ glass.old }
-    ensures unmarked { result ≡ false → marks.new ≡ no_marks }
-    ensures unticked { result ≡ false → steps.new ≡ steps.old }
+    ensures untouched { result ≡ false → TouchesNothing screen.old screen.new glass.old glass.new
+        marks.new steps.old steps.new }
 {
     match from.pop_front() {
         Some(mut delta) => {

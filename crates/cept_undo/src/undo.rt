@@ -1,13 +1,11 @@
-ghost use Rattle.std.specs.Prelude.{◌≡◌, ◌≤◌, ◌+◌, ◌↔◌, true, [], ◌∷◌, Some, IfOk, length, take, drop};
+ghost use Rattle.std.specs.Prelude.{◌≡◌, ◌≤◌, ◌+◌, ◌↔◌, true, [], ◌∷◌, Some, IfOk, length, take};
 ghost use Rattle.cept_codes.specs.Command.{IsValidCommand};
-ghost use Rattle.cept_profile.specs.Look.{looks_of};
-ghost use Rattle.cept_profile.specs.State.{State, core_of};
+ghost use Rattle.cept_profile.specs.State.{State};
 ghost use Rattle.cept_profile.specs.Valid.{IsValidState};
-ghost use Rattle.cept_repaint.specs.Applied.{IsApplied, IsRepainted};
-ghost use Rattle.cept_repaint.specs.Marks.{no_marks};
-ghost use Rattle.cept_repaint.specs.Renewed.{rows_renewed};
+ghost use Rattle.cept_repaint.specs.Applied.{IsApplied};
 ghost use Rattle.cept_undo.specs.Past.{FitsTogether, IsBegun, IsNotBegun, StaysBegun, at_begin};
-ghost use Rattle.cept_undo.specs.Past.{future, handed_on, most_kept, nearest, past};
+ghost use Rattle.cept_undo.specs.Past.{StaysUnbegun, future, most_kept, past};
+ghost use Rattle.cept_undo.specs.Turned.{PaintsTurn, TouchesNothing, TurnsTo};
 
 use crate::turn::{give_back, take_free, turn};
 use cept_codes::{Command, NoMemory};
@@ -138,10 +136,7 @@ impl Undo {
         requires none_begun { IsNotBegun self.old }
         requires fits { FitsTogether self.old screen.old }
         requires valid { IsValidCommand command.now }
-        ensures past { past self.new screen.new ≡ past self.old screen.old }
-        ensures future { future self.new screen.new ≡ [] }
-        ensures none_begun { IsNotBegun self.new }
-        ensures fits { FitsTogether self.new screen.new }
+        ensures edits { StaysUnbegun self.old screen.old self.new screen.new }
         ensures applied { IsApplied screen.old command.now screen.new marks.new
             (G.state glass.old) (G.state glass.new) steps.old steps.new }
     {
@@ -175,10 +170,7 @@ impl Undo {
         requires none_begun { IsNotBegun self.old }
         requires fits { FitsTogether self.old screen.old }
         requires valid { IsValidCommand command.now }
-        ensures past { past self.new screen.new ≡ past self.old screen.old }
-        ensures future { future self.new screen.new ≡ [] }
-        ensures none_begun { IsNotBegun self.new }
-        ensures fits { FitsTogether self.new screen.new }
+        ensures edits { StaysUnbegun self.old screen.old self.new screen.new }
         ensures applied { IsApplied screen.old command.now screen.new marks.new
             (G.state glass.old) (G.state glass.new) steps.old steps.new }
     {
@@ -220,25 +212,18 @@ impl Undo {
     ) -> Undone
         requires none_begun { IsNotBegun self.old }
         requires fits { FitsTogether self.old screen.old }
-        ensures past { past self.new screen.new ≡ drop 1 (past self.old screen.old) }
-        ensures future { future self.new screen.new
-            ≡ handed_on (past self.old screen.old) screen.old (future self.old screen.old) }
+        ensures turns { TurnsTo (past self.old screen.old) (future self.old screen.old)
+            screen.old (past self.new screen.new) (future self.new screen.new) screen.new }
         ensures none_begun { IsNotBegun self.new }
         ensures fits { FitsTogether self.new screen.new }
-        ensures state { screen.new ≡ nearest (past self.old screen.old) screen.old }
-        ensures repainted { IsRepainted screen.old screen.new marks.new (G.state glass.old)
-            (G.state glass.new) }
-        ensures least { steps.old
-            + rows_renewed [] (looks_of (core_of screen.old)) (looks_of (core_of screen.new)) ≤ steps.new }
-        ensures at_most_24 { steps.new ≤ steps.old + 24 }
+        ensures paints { PaintsTurn screen.old screen.new marks.new (G.state glass.old)
+            (G.state glass.new) steps.old steps.new }
 
         // Where no edit is kept.
         ensures nothing { (result ≡ Undone.Nothing) ↔ (past self.old screen.old ≡ []) }
         ensures stays { result ≡ Undone.Nothing → self.new ≡ self.old }
-        ensures unchanged { result ≡ Undone.Nothing → screen.new ≡ screen.old }
-        ensures unpainted { result ≡ Undone.Nothing → glass.new ≡ glass.old }
-        ensures unmarked { result ≡ Undone.Nothing → marks.new ≡ no_marks }
-        ensures unticked { result ≡ Undone.Nothing → steps.new ≡ steps.old }
+        ensures untouched { result ≡ Undone.Nothing → TouchesNothing screen.old screen.new
+            glass.old glass.new marks.new steps.old steps.new }
     {
         if turn(
             &mut self.kept,
@@ -266,25 +251,18 @@ impl Undo {
     ) -> Redone
         requires none_begun { IsNotBegun self.old }
         requires fits { FitsTogether self.old screen.old }
-        ensures future { future self.new screen.new ≡ drop 1 (future self.old screen.old) }
-        ensures past { past self.new screen.new
-            ≡ handed_on (future self.old screen.old) screen.old (past self.old screen.old) }
+        ensures turns { TurnsTo (future self.old screen.old) (past self.old screen.old)
+            screen.old (future self.new screen.new) (past self.new screen.new) screen.new }
         ensures none_begun { IsNotBegun self.new }
         ensures fits { FitsTogether self.new screen.new }
-        ensures state { screen.new ≡ nearest (future self.old screen.old) screen.old }
-        ensures repainted { IsRepainted screen.old screen.new marks.new (G.state glass.old)
-            (G.state glass.new) }
-        ensures least { steps.old
-            + rows_renewed [] (looks_of (core_of screen.old)) (looks_of (core_of screen.new)) ≤ steps.new }
-        ensures at_most_24 { steps.new ≤ steps.old + 24 }
+        ensures paints { PaintsTurn screen.old screen.new marks.new (G.state glass.old)
+            (G.state glass.new) steps.old steps.new }
 
         // Where no edit is undone.
         ensures nothing { (result ≡ Redone.Nothing) ↔ (future self.old screen.old ≡ []) }
         ensures stays { result ≡ Redone.Nothing → self.new ≡ self.old }
-        ensures unchanged { result ≡ Redone.Nothing → screen.new ≡ screen.old }
-        ensures unpainted { result ≡ Redone.Nothing → glass.new ≡ glass.old }
-        ensures unmarked { result ≡ Redone.Nothing → marks.new ≡ no_marks }
-        ensures unticked { result ≡ Redone.Nothing → steps.new ≡ steps.old }
+        ensures untouched { result ≡ Redone.Nothing → TouchesNothing screen.old screen.new
+            glass.old glass.new marks.new steps.old steps.new }
     {
         if turn(
             &mut self.undone,

@@ -2,6 +2,7 @@ pub mod AttributeCommands
 pub mod CellCommands
 pub mod PageCommands
 pub mod Codes
+pub mod Room
 pub mod Chains
 pub mod SegmentCommands
 pub mod SegmentPieces

@@ -5,6 +5,7 @@ ghost use Rattle.cept_writer.specs.AttributeCommands.{attributes_of, class_attri
 ghost use Rattle.cept_writer.specs.AttributeCommands.{colour_commands, flash_commands};
 ghost use Rattle.cept_writer.specs.AttributeCommands.{pen_commands, size_code};
 ghost use Rattle.cept_writer.specs.Codes.{code_of};
+ghost use Rattle.cept_writer.specs.Room.{Adds, HasRoomFor};
 
 use crate::list::{Commands, Reach};
 use cept_codes::{Attr, Command, Flash, Pen, Size};
@@ -23,10 +24,9 @@ pub fn size_code(size: Size) -> u8
 
 /// Adds a colour entry, by its table and its code there, counted from the first.
 pub fn add_colour(list: &mut Commands, reach: Reach, first: u8, e: u8)
-    requires room { length list.old + 2 ≤ 72 }
+    requires room { HasRoomFor 2 list.old }
     requires first { first ≤ 16 }
-    ensures commands { list.new ≡ list.old ++ colour_commands (code_of reach) first e }
-    ensures len { length list.new ≡ length list.old + 2 }
+    ensures { Adds list.old 2 (colour_commands (code_of reach) first e) list.new }
 {
     list.add(Command::Table(e / 8));
     list.add_code(reach, first + e % 8);
@@ -34,9 +34,8 @@ pub fn add_colour(list: &mut Commands, reach: Reach, first: u8, e: u8)
 
 /// Adds a flash.
 pub fn add_flash(list: &mut Commands, reach: Reach, flash: Flash)
-    requires { length list.old + 1 ≤ 72 }
-    ensures commands { list.new ≡ list.old ++ flash_commands (code_of reach) flash }
-    ensures len { length list.new ≡ length list.old + 1 }
+    requires { HasRoomFor 1 list.old }
+    ensures { Adds list.old 1 (flash_commands (code_of reach) flash) list.new }
 {
     match flash {
         Flash::Plain => list.add_code(reach, 8),
@@ -51,10 +50,8 @@ pub fn add_flash(list: &mut Commands, reach: Reach, flash: Flash)
 
 /// Adds an attribute.
 pub fn add_attribute(list: &mut Commands, reach: Reach, attribute: Attr)
-    requires { length list.old + 2 ≤ 72 }
-    ensures commands { list.new
-        ≡ list.old ++ attribute_commands (code_of reach) attribute }
-    ensures len { length list.new ≤ length list.old + 2 }
+    requires { HasRoomFor 2 list.old }
+    ensures { Adds list.old 2 (attribute_commands (code_of reach) attribute) list.new }
 {
     match attribute {
         Attr::Fore(e) => add_colour(list, reach, 0, e),
@@ -75,10 +72,9 @@ pub fn add_attribute(list: &mut Commands, reach: Reach, attribute: Attr)
 
 /// Adds the foreground where it is set.
 fn add_fore(list: &mut Commands, reach: Reach, class: Option<u8>)
-    requires { length list.old + 2 ≤ 72 }
-    ensures commands { list.new ≡ list.old
-        ++ attributes_commands (code_of reach) (class_attributes (λ e. attrs.Fore e) class) }
-    ensures len { length list.new ≤ length list.old + 2 }
+    requires { HasRoomFor 2 list.old }
+    ensures { Adds list.old 2
+        (attributes_commands (code_of reach) (class_attributes (λ e. attrs.Fore e) class)) list.new }
 {
     if let Some(value) = class {
         add_attribute(list, reach, Attr::Fore(value));
@@ -87,10 +83,9 @@ fn add_fore(list: &mut Commands, reach: Reach, class: Option<u8>)
 
 /// Adds the background where it is set.
 fn add_back(list: &mut Commands, reach: Reach, class: Option<u8>)
-    requires { length list.old + 2 ≤ 72 }
-    ensures commands { list.new ≡ list.old
-        ++ attributes_commands (code_of reach) (class_attributes (λ e. attrs.Back e) class) }
-    ensures len { length list.new ≤ length list.old + 2 }
+    requires { HasRoomFor 2 list.old }
+    ensures { Adds list.old 2
+        (attributes_commands (code_of reach) (class_attributes (λ e. attrs.Back e) class)) list.new }
 {
     if let Some(value) = class {
         add_attribute(list, reach, Attr::Back(value));
@@ -99,10 +94,9 @@ fn add_back(list: &mut Commands, reach: Reach, class: Option<u8>)
 
 /// Adds the flash where it is set.
 fn add_flash_class(list: &mut Commands, reach: Reach, class: Option<Flash>)
-    requires { length list.old + 2 ≤ 72 }
-    ensures commands { list.new ≡ list.old
-        ++ attributes_commands (code_of reach) (class_attributes (λ f. attrs.Flash f) class) }
-    ensures len { length list.new ≤ length list.old + 2 }
+    requires { HasRoomFor 2 list.old }
+    ensures { Adds list.old 2
+        (attributes_commands (code_of reach) (class_attributes (λ f. attrs.Flash f) class)) list.new }
 {
     if let Some(value) = class {
         add_attribute(list, reach, Attr::Flash(value));
@@ -111,10 +105,10 @@ fn add_flash_class(list: &mut Commands, reach: Reach, class: Option<Flash>)
 
 /// Adds the concealing where it is set.
 fn add_conceal(list: &mut Commands, reach: Reach, class: Option<bool>)
-    requires { length list.old + 2 ≤ 72 }
-    ensures commands { list.new ≡ list.old
-        ++ attributes_commands (code_of reach) (class_attributes (λ b. attrs.Conceal b) class) }
-    ensures len { length list.new ≤ length list.old + 2 }
+    requires { HasRoomFor 2 list.old }
+    ensures { Adds list.old 2
+        (attributes_commands (code_of reach) (class_attributes (λ b. attrs.Conceal b) class))
+        list.new }
 {
     if let Some(value) = class {
         add_attribute(list, reach, Attr::Conceal(value));
@@ -123,10 +117,9 @@ fn add_conceal(list: &mut Commands, reach: Reach, class: Option<bool>)
 
 /// Adds the lining where it is set.
 fn add_lined(list: &mut Commands, reach: Reach, class: Option<bool>)
-    requires { length list.old + 2 ≤ 72 }
-    ensures commands { list.new ≡ list.old
-        ++ attributes_commands (code_of reach) (class_attributes (λ b. attrs.Lined b) class) }
-    ensures len { length list.new ≤ length list.old + 2 }
+    requires { HasRoomFor 2 list.old }
+    ensures { Adds list.old 2
+        (attributes_commands (code_of reach) (class_attributes (λ b. attrs.Lined b) class)) list.new }
 {
     if let Some(value) = class {
         add_attribute(list, reach, Attr::Lined(value));
@@ -135,10 +128,9 @@ fn add_lined(list: &mut Commands, reach: Reach, class: Option<bool>)
 
 /// Adds the boxing where it is set.
 fn add_boxed(list: &mut Commands, reach: Reach, class: Option<bool>)
-    requires { length list.old + 2 ≤ 72 }
-    ensures commands { list.new ≡ list.old
-        ++ attributes_commands (code_of reach) (class_attributes (λ b. attrs.Boxed b) class) }
-    ensures len { length list.new ≤ length list.old + 2 }
+    requires { HasRoomFor 2 list.old }
+    ensures { Adds list.old 2
+        (attributes_commands (code_of reach) (class_attributes (λ b. attrs.Boxed b) class)) list.new }
 {
     if let Some(value) = class {
         add_attribute(list, reach, Attr::Boxed(value));
@@ -147,10 +139,9 @@ fn add_boxed(list: &mut Commands, reach: Reach, class: Option<bool>)
 
 /// Adds the size where it is set.
 fn add_size(list: &mut Commands, reach: Reach, class: Option<Size>)
-    requires { length list.old + 2 ≤ 72 }
-    ensures commands { list.new ≡ list.old
-        ++ attributes_commands (code_of reach) (class_attributes (λ s. attrs.Size s) class) }
-    ensures len { length list.new ≤ length list.old + 2 }
+    requires { HasRoomFor 2 list.old }
+    ensures { Adds list.old 2
+        (attributes_commands (code_of reach) (class_attributes (λ s. attrs.Size s) class)) list.new }
 {
     if let Some(value) = class {
         add_attribute(list, reach, Attr::Size(value));
@@ -159,10 +150,10 @@ fn add_size(list: &mut Commands, reach: Reach, class: Option<Size>)
 
 /// Adds the inverting where it is set.
 fn add_invert(list: &mut Commands, reach: Reach, class: Option<bool>)
-    requires { length list.old + 2 ≤ 72 }
-    ensures commands { list.new ≡ list.old
-        ++ attributes_commands (code_of reach) (class_attributes (λ b. attrs.Invert b) class) }
-    ensures len { length list.new ≤ length list.old + 2 }
+    requires { HasRoomFor 2 list.old }
+    ensures { Adds list.old 2
+        (attributes_commands (code_of reach) (class_attributes (λ b. attrs.Invert b) class))
+        list.new }
 {
     if let Some(value) = class {
         add_attribute(list, reach, Attr::Invert(value));
@@ -171,9 +162,8 @@ fn add_invert(list: &mut Commands, reach: Reach, class: Option<bool>)
 
 /// Adds the classes that a pen sets.
 pub fn add_pen(list: &mut Commands, reach: Reach, pen: &Pen)
-    requires { length list.old + 16 ≤ 72 }
-    ensures commands { list.new ≡ list.old ++ pen_commands (code_of reach) pen.now }
-    ensures len { length list.new ≤ length list.old + 16 }
+    requires { HasRoomFor 16 list.old }
+    ensures { Adds list.old 16 (pen_commands (code_of reach) pen.now) list.new }
 {
     add_fore(list, reach, pen.fore);
     add_back(list, reach, pen.back);

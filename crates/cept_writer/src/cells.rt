@@ -1,6 +1,7 @@
 ghost use Rattle.std.specs.Prelude.{◌≡◌, ◌+◌, ◌≤◌, ◌++◌, ◌∷◌, [], length};
 ghost use Rattle.cept_codes.specs.declared.command.Command.TheVariants as commands;
 ghost use Rattle.cept_writer.specs.CellCommands.{accent_commands, marker_commands};
+ghost use Rattle.cept_writer.specs.Room.{Adds, HasRoomFor};
 
 use crate::attributes::{add_colour, add_flash, size_code};
 use crate::list::{Commands, Reach};
@@ -8,9 +9,8 @@ use cept_codes::{Command, Marker};
 
 /// Adds an accent of set S, before its sign.
 fn add_accent(list: &mut Commands, accent: u8)
-    requires { length list.old + 2 ≤ 72 }
-    ensures commands { list.new ≡ list.old ++ accent_commands accent }
-    ensures len { length list.new ≤ length list.old + 2 }
+    requires { HasRoomFor 2 list.old }
+    ensures { Adds list.old 2 (accent_commands accent) list.new }
 {
     if accent != 0 {
         list.add(Command::Single(2));
@@ -20,9 +20,8 @@ fn add_accent(list: &mut Commands, accent: u8)
 
 /// Adds a sign after a single shift.
 pub fn add_single(list: &mut Commands, g: u8, code: u8)
-    requires { length list.old + 2 ≤ 72 }
-    ensures commands { list.new ≡ list.old ++ commands.Single g ∷ commands.Graphic code ∷ [] }
-    ensures len { length list.new ≡ length list.old + 2 }
+    requires { HasRoomFor 2 list.old }
+    ensures { Adds list.old 2 (commands.Single g ∷ commands.Graphic code ∷ []) list.new }
 {
     list.add(Command::Single(g));
     list.add(Command::Graphic(code));
@@ -30,10 +29,8 @@ pub fn add_single(list: &mut Commands, g: u8, code: u8)
 
 /// Adds a sign with its accent.
 pub fn add_accented(list: &mut Commands, code: u8, accent: u8)
-    requires { length list.old + 3 ≤ 72 }
-    ensures commands { list.new
-        ≡ list.old ++ accent_commands accent ++ commands.Graphic code ∷ [] }
-    ensures len { length list.new ≤ length list.old + 3 }
+    requires { HasRoomFor 3 list.old }
+    ensures { Adds list.old 3 (accent_commands accent ++ commands.Graphic code ∷ []) list.new }
 {
     add_accent(list, accent);
     list.add(Command::Graphic(code));
@@ -41,9 +38,8 @@ pub fn add_accented(list: &mut Commands, code: u8, accent: u8)
 
 /// Adds what leaves a marker.
 pub fn add_marker(list: &mut Commands, marker: &Marker)
-    requires { length list.old + 2 ≤ 72 }
-    ensures commands { list.new ≡ list.old ++ marker_commands marker.now }
-    ensures len { length list.new ≤ length list.old + 2 }
+    requires { HasRoomFor 2 list.old }
+    ensures { Adds list.old 2 (marker_commands marker.now) list.new }
 {
     match marker {
         Marker::Alpha(e) => add_colour(list, Reach::Signs, 0, *e),

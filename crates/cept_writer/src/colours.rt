@@ -7,6 +7,7 @@ ghost use Rattle.cept_writer.specs.EntryPieces.{entries_after, entry_after, entr
 ghost use Rattle.cept_writer.specs.EntryPieces.{entry_piece, is_next_number, number_then};
 ghost use Rattle.cept_writer.specs.EntryPieces.{pieces_in_turn};
 ghost use Rattle.cept_writer.specs.PageCommands.{dclut_commands, with_colour_header};
+ghost use Rattle.cept_writer.specs.Room.{Adds, HasRoomFor};
 
 use crate::list::Commands;
 use crate::put::{put_commands, put_headed};
@@ -28,13 +29,8 @@ fn is_next_number(next: Option<u8>, i: u8) -> bool
 
 /// Adds a colour entry, after its number where that isn't the next one.
 fn add_entry(list: &mut Commands, next: Option<u8>, i: u8, colour: Rgb)
-    requires { length list.old + 2 ≤ 72 }
-    ensures commands { list.new
-        ≡ list.old ++ entry_after next (record {
-          number = i;
-          colour = colour;
-        }) }
-    ensures len { length list.new ≤ length list.old + 2 }
+    requires { HasRoomFor 2 list.old }
+    ensures { Adds list.old 2 (entry_after next (record { number = i; colour = colour })) list.new }
 {
     if !is_next_number(next, i) {
         list.add(Command::ColourStart(i));
@@ -51,12 +47,11 @@ fn add_changed(
     paint: Paint,
     default: Paint,
 ) -> Option<u8>
-    requires room { length list.old + 2 ≤ 72 }
+    requires room { HasRoomFor 2 list.old }
     requires entry { i < 32 }
     requires default { default ≡ default_paint i }
-    ensures commands { list.new ≡ list.old ++ entries_after next (changed_entry i paint) }
+    ensures adds { Adds list.old 2 (entries_after next (changed_entry i paint)) list.new }
     ensures next { result ≡ number_then next (changed_entry i paint) }
-    ensures len { length list.new ≤ length list.old + 2 }
 {
     if let Paint::Ink(colour) = paint {
         if paint == default {

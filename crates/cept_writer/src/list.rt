@@ -75,7 +75,7 @@ impl Commands {
     /// The commands.
     pub fn as_slice(&self) -> &[Command]
         ensures commands { result.now ≡ self.now }
-        ensures few { length self.now ≤ 72 }
+        ensures few { length result.now ≤ 72 }
     {
         &self.slots[..self.len]
     }

@@ -2,6 +2,7 @@ ghost use Rattle.std.specs.Prelude.{◌≡◌, ◌+◌, ◌*◌, ◌≤◌, ◌<
 ghost use Rattle.arrayvec.specs.ArrayVec.{array_vec_len};
 ghost use Rattle.cept_codes.specs.Look.{IsValidPattern, bit_of, pixel};
 ghost use Rattle.cept_parser.specs.Spelling.{half_line_byte, line_bytes, pattern_bytes, plane_bytes};
+ghost use Rattle.cept_writer.specs.Room.{AddsBytes, HasRoomForBytes};
 
 use crate::text::{Text, add_bytes};
 use cept_codes::Pattern;
@@ -41,12 +42,11 @@ fn half_line_byte(pattern: &Pattern, plane: u8, line: u8, column: u8) -> u8
 /// Adds a line of a plane: its left half, and its right half where it has one.
 #[tactic(auto, using(crate::proofs::PatternsSpelled::line_within), unfolding(cept_parser::specs::Spelling::line_bytes))]
 fn add_line(text: &mut Text, pattern: &Pattern, plane: u8, line: u8)
-    requires room { array_vec_len text.old + 2 ≤ 7272 }
+    requires room { HasRoomForBytes 2 text.old }
     requires valid { IsValidPattern pattern.now }
     requires plane { plane < pattern.now.planes }
     requires line { line < pattern.now.h }
-    ensures text { text.new.items ≡ text.old.items ++ line_bytes pattern.now plane line }
-    ensures len { array_vec_len text.new ≤ array_vec_len text.old + 2 }
+    ensures { AddsBytes text.old 2 (line_bytes pattern.now plane line) text.new }
 {
     let left = half_line_byte(pattern, plane, line, 0);
     if pattern.w == 12 {
@@ -59,11 +59,10 @@ fn add_line(text: &mut Text, pattern: &Pattern, plane: u8, line: u8)
 /// Adds a plane: its opener, and all its lines from the top.
 #[tactic(auto, unfolding(cept_parser::specs::Spelling::plane_bytes))]
 fn add_plane(text: &mut Text, pattern: &Pattern, plane: u8)
-    requires room { array_vec_len text.old + 25 ≤ 7272 }
+    requires room { HasRoomForBytes 25 text.old }
     requires valid { IsValidPattern pattern.now }
     requires plane { plane < pattern.now.planes }
-    ensures text { text.new.items ≡ text.old.items ++ plane_bytes pattern.now plane }
-    ensures len { array_vec_len text.new ≤ array_vec_len text.old + 25 }
+    ensures { AddsBytes text.old 25 (plane_bytes pattern.now plane) text.new }
 {
     add_bytes(text, &[0x30 + plane]);
     for line in 0..pattern.h {
@@ -74,10 +73,9 @@ fn add_plane(text: &mut Text, pattern: &Pattern, plane: u8)
 /// Adds all planes of a pattern, ascending.
 #[tactic(auto, unfolding(cept_parser::specs::Spelling::pattern_bytes))]
 pub fn add_pattern(text: &mut Text, pattern: &Pattern)
-    requires room { array_vec_len text.old + 101 ≤ 7272 }
+    requires room { HasRoomForBytes 101 text.old }
     requires valid { IsValidPattern pattern.now }
-    ensures text { text.new.items ≡ text.old.items ++ pattern_bytes pattern.now }
-    ensures len { array_vec_len text.new ≤ array_vec_len text.old + 101 }
+    ensures { AddsBytes text.old 101 (pattern_bytes pattern.now) text.new }
 {
     for plane in 0..pattern.planes {
         add_plane(text, pattern, plane);

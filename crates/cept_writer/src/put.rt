@@ -5,6 +5,7 @@ ghost use Rattle.cept_outside.specs.SinkState.{PutsText};
 ghost use Rattle.cept_parser.specs.Spelling.{spelling, spellings};
 ghost use Rattle.cept_profile.specs.Valid.{AllValid};
 ghost use Rattle.cept_writer.specs.Codes.{after_header};
+ghost use Rattle.cept_writer.specs.Room.{AddsBytes, AreWritable, HasRoomForBytes};
 
 use crate::list::Commands;
 use crate::spelling::add_spelling;
@@ -31,10 +32,10 @@ impl Room {
 
 /// Adds the bytes of commands one after the other.
 fn add_spellings(text: &mut Text, commands: &[Command])
-    requires room { array_vec_len text.old + 101 * length commands.now ≤ 7272 }
+    requires room { HasRoomForBytes (101 * length commands.now) text.old }
     requires valid { AllValid commands.now }
-    ensures text { text.new.items ≡ text.old.items ++ flat_map spelling commands.now }
-    ensures len { array_vec_len text.new ≤ array_vec_len text.old + 101 * length commands.now }
+    ensures { AddsBytes text.old (101 * length commands.now)
+        (flat_map spelling commands.now) text.new }
 {
     for command in commands {
         add_spelling(text, command);
@@ -47,8 +48,7 @@ pub fn put_commands_in<T: Sink>(
     text: &mut Text,
     commands: &[Command],
 ) -> Result<(), WriteFault>
-    requires few { length commands.now ≤ 72 }
-    requires valid { AllValid commands.now }
+    requires { AreWritable commands.now }
     ensures { PutsText (T.state sink.old) (spellings commands.now) result (T.state sink.new) }
 {
     text.clear();
@@ -58,8 +58,7 @@ pub fn put_commands_in<T: Sink>(
 
 /// Puts the bytes of commands, in one piece.
 pub fn put_commands<T: Sink>(sink: &mut T, commands: &[Command]) -> Result<(), WriteFault>
-    requires few { length commands.now ≤ 72 }
-    requires valid { AllValid commands.now }
+    requires { AreWritable commands.now }
     ensures { PutsText (T.state sink.old) (spellings commands.now) result (T.state sink.new) }
 {
     put_commands_in(sink, &mut Text::new(), commands)
@@ -67,8 +66,7 @@ pub fn put_commands<T: Sink>(sink: &mut T, commands: &[Command]) -> Result<(), W
 
 /// Puts the bytes of commands after their header, nothing where it stands alone.
 pub fn put_headed<T: Sink>(sink: &mut T, commands: &[Command]) -> Result<(), WriteFault>
-    requires few { length commands.now ≤ 72 }
-    requires valid { AllValid commands.now }
+    requires { AreWritable commands.now }
     ensures { let text = spellings (after_header commands.now) in
         PutsText (T.state sink.old) text result (T.state sink.new) }
 {

@@ -4,6 +4,7 @@ ghost use Rattle.cept_codes.specs.Place.{place_of};
 ghost use Rattle.cept_codes.specs.Same.{same_glyph, same_set};
 ghost use Rattle.cept_parser.specs.Spelling.{spellings};
 ghost use Rattle.cept_profile.specs.Writing.{columns_of_set};
+ghost use Rattle.cept_writer.specs.Room.{Adds, HasRoomFor};
 ghost use Rattle.cept_writer.specs.declared.link.Link.TheVariants as links;
 ghost use Rattle.cept_writer.specs.SegmentCommands.{ends_segment, is_same_protection};
 ghost use Rattle.cept_writer.specs.SegmentCommands.{is_shorter_repeated, is_written_on};
@@ -127,9 +128,8 @@ fn unit_length(glyph: &Glyph) -> u16
 
 /// Adds a sign among those of its set.
 fn add_unit(list: &mut Commands, glyph: &Glyph)
-    requires { length list.old + 3 ≤ 72 }
-    ensures commands { list.new ≡ list.old ++ unit_commands glyph.now }
-    ensures len { length list.new ≤ length list.old + 3 }
+    requires { HasRoomFor 3 list.old }
+    ensures { Adds list.old 3 (unit_commands glyph.now) list.new }
 {
     match glyph.set {
         SetId::P => add_accented(list, glyph.code, glyph.accent),
@@ -141,9 +141,8 @@ fn add_unit(list: &mut Commands, glyph: &Glyph)
 
 /// Adds a sign and copies of it, repeated where that is shorter.
 fn add_run(list: &mut Commands, copies: u8, glyph: &Glyph)
-    requires { length list.old + 9 ≤ 72 }
-    ensures commands { list.new ≡ list.old ++ run_of copies glyph.now }
-    ensures len { length list.new ≤ length list.old + 9 }
+    requires { HasRoomFor 9 list.old }
+    ensures { Adds list.old 9 (run_of copies glyph.now) list.new }
 {
     add_unit(list, glyph);
     if 3 <= u16::from(copies) * unit_length(glyph) {
@@ -158,9 +157,8 @@ fn add_run(list: &mut Commands, copies: u8, glyph: &Glyph)
 
 /// Adds what comes before the signs of a set.
 fn add_opening(list: &mut Commands, set: SetId)
-    requires { length list.old + 1 ≤ 72 }
-    ensures commands { list.new ≡ list.old ++ opening_commands set }
-    ensures len { length list.new ≤ length list.old + 1 }
+    requires { HasRoomFor 1 list.old }
+    ensures { Adds list.old 1 (opening_commands set) list.new }
 {
     match set {
         SetId::M => list.add(Command::LockLeft(1)),
@@ -171,9 +169,8 @@ fn add_opening(list: &mut Commands, set: SetId)
 
 /// Adds what comes after them.
 fn add_closing(list: &mut Commands, set: SetId)
-    requires { length list.old + 1 ≤ 72 }
-    ensures commands { list.new ≡ list.old ++ closing_commands set }
-    ensures len { length list.new ≤ length list.old + 1 }
+    requires { HasRoomFor 1 list.old }
+    ensures { Adds list.old 1 (closing_commands set) list.new }
 {
     match set {
         SetId::M => list.add(Command::LockLeft(0)),
@@ -184,13 +181,9 @@ fn add_closing(list: &mut Commands, set: SetId)
 
 /// Adds what begins a segment, where the cell continues none.
 fn add_beginning(list: &mut Commands, before: Link, at: Pos, cell: &Cell)
-    requires { length list.old + 19 ≤ 72 }
-    ensures commands { list.new
-        ≡ list.old ++ beginning_of before (record {
-          place = at;
-          cell = cell.now;
-        }) }
-    ensures len { length list.new ≤ length list.old + 19 }
+    requires { HasRoomFor 19 list.old }
+    ensures { Adds list.old 19
+        (beginning_of before (record { place = at; cell = cell.now })) list.new }
 {
     match before {
         Link::Apart => {
@@ -206,9 +199,8 @@ fn add_beginning(list: &mut Commands, before: Link, at: Pos, cell: &Cell)
 
 /// Adds the C1 set of what stands in a cell, with the pen of a sign under the parallel set.
 fn add_manner(list: &mut Commands, what: &What)
-    requires { length list.old + 17 ≤ 72 }
-    ensures commands { list.new ≡ list.old ++ manner_commands what.now }
-    ensures len { length list.new ≤ length list.old + 17 }
+    requires { HasRoomFor 17 list.old }
+    ensures { Adds list.old 17 (manner_commands what.now) list.new }
 {
     match what {
         What::Blank => {}
@@ -222,9 +214,8 @@ fn add_manner(list: &mut Commands, what: &What)
 
 /// Adds what comes before the signs of a set, where the cell doesn't go on with one.
 fn add_opening_after(list: &mut Commands, before: Link, what: &What)
-    requires { length list.old + 1 ≤ 72 }
-    ensures commands { list.new ≡ list.old ++ opening_after before what.now }
-    ensures len { length list.new ≤ length list.old + 1 }
+    requires { HasRoomFor 1 list.old }
+    ensures { Adds list.old 1 (opening_after before what.now) list.new }
 {
     match (before, what) {
         (Link::Apart, What::Serial(g)) | (Link::Apart, What::Parallel(g, _)) => {
@@ -239,9 +230,8 @@ fn add_opening_after(list: &mut Commands, before: Link, what: &What)
 
 /// Adds what comes after the signs of a set, where the next cell doesn't go on with one.
 fn add_closing_before(list: &mut Commands, what: &What, after: Link)
-    requires { length list.old + 1 ≤ 72 }
-    ensures commands { list.new ≡ list.old ++ closing_before what.now after }
-    ensures len { length list.new ≤ length list.old + 1 }
+    requires { HasRoomFor 1 list.old }
+    ensures { Adds list.old 1 (closing_before what.now after) list.new }
 {
     match (after, what) {
         (Link::Apart, What::Serial(g)) | (Link::Apart, What::Parallel(g, _)) => {
@@ -256,9 +246,8 @@ fn add_closing_before(list: &mut Commands, what: &What, after: Link)
 
 /// Adds a sign after so many equal ones, or a marker.
 fn add_run_in(list: &mut Commands, copies: u8, what: &What)
-    requires { length list.old + 9 ≤ 72 }
-    ensures commands { list.new ≡ list.old ++ run_in copies what.now }
-    ensures len { length list.new ≤ length list.old + 9 }
+    requires { HasRoomFor 9 list.old }
+    ensures { Adds list.old 9 (run_in copies what.now) list.new }
 {
     match what {
         What::Blank => {}
@@ -269,9 +258,8 @@ fn add_run_in(list: &mut Commands, copies: u8, what: &What)
 
 /// Adds equal signs at their last, or a marker.
 fn add_run_before(list: &mut Commands, copies: u8, what: &What, after: Link)
-    requires { length list.old + 9 ≤ 72 }
-    ensures commands { list.new ≡ list.old ++ run_before copies what.now after }
-    ensures len { length list.new ≤ length list.old + 9 }
+    requires { HasRoomFor 9 list.old }
+    ensures { Adds list.old 9 (run_before copies what.now after) list.new }
 {
     match after {
         Link::Equal => {}
@@ -281,13 +269,8 @@ fn add_run_before(list: &mut Commands, copies: u8, what: &What, after: Link)
 
 /// Adds the end of protection after a segment, where no cell continues this one.
 fn add_ending(list: &mut Commands, cell: &Cell, at: Pos, after: Link)
-    requires { length list.old + 1 ≤ 72 }
-    ensures commands { list.new
-        ≡ list.old ++ ending_of (record {
-          place = at;
-          cell = cell.now;
-        }) after }
-    ensures len { length list.new ≤ length list.old + 1 }
+    requires { HasRoomFor 1 list.old }
+    ensures { Adds list.old 1 (ending_of (record { place = at; cell = cell.now }) after) list.new }
 {
     match after {
         Link::Apart => {
@@ -301,7 +284,7 @@ fn add_ending(list: &mut Commands, cell: &Cell, at: Pos, after: Link)
 
 /// Adds the piece of a cell, nothing where nothing stands in it.
 pub fn add_piece(list: &mut Commands, before: Link, copies: u8, at: Pos, cell: &Cell, after: Link)
-    requires { length list.old + 31 ≤ 72 }
+    requires { HasRoomFor 31 list.old }
     ensures { list.new
         ≡ list.old ++ piece_with before copies (record {
           place = at;

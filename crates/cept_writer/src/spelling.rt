@@ -5,6 +5,7 @@ ghost use Rattle.cept_codes.specs.Look.{IsValidRgb};
 ghost use Rattle.cept_parser.specs.Runs.{bit};
 ghost use Rattle.cept_parser.specs.Spelling.{c1_set_byte, colour_byte, ones_byte, set_bytes};
 ghost use Rattle.cept_parser.specs.Spelling.{size_byte, spelling, tens_byte};
+ghost use Rattle.cept_writer.specs.Room.{AddsBytes, HasRoomForBytes};
 
 use crate::pattern::add_pattern;
 use crate::text::{Text, add_bytes};
@@ -48,10 +49,9 @@ fn size_byte(form: &Form) -> u8
 
 /// Adds the designation of a set to G0 to G3.
 fn add_designation(text: &mut Text, g: u8, set: SetId)
-    requires room { array_vec_len text.old + 101 ≤ 7272 }
+    requires room { HasRoomForBytes 101 text.old }
     requires valid { g ≤ 3 }
-    ensures text { text.new.items ≡ text.old.items ++ 0x1B ∷ (0x28 + g) ∷ set_bytes set }
-    ensures len { array_vec_len text.new ≤ array_vec_len text.old + 101 }
+    ensures { AddsBytes text.old 101 (0x1B ∷ (0x28 + g) ∷ set_bytes set) text.new }
 {
     match set {
         SetId::P => add_bytes(text, &[0x1B, 0x28 + g, 0x40]),
@@ -64,11 +64,11 @@ fn add_designation(text: &mut Text, g: u8, set: SetId)
 
 /// Adds the header of downloaded patterns of this form.
 fn add_drcs_header(text: &mut Text, form: &Form)
-    requires room { array_vec_len text.old + 101 ≤ 7272 }
+    requires room { HasRoomForBytes 101 text.old }
     requires valid { IsValidForm form.now }
-    ensures text { text.new.items ≡ text.old.items
-        ++ 0x1F ∷ 0x23 ∷ 0x20 ∷ 0x20 ∷ 0x40 ∷ size_byte form.now ∷ (0x40 + form.now.planes) ∷ [] }
-    ensures len { array_vec_len text.new ≤ array_vec_len text.old + 101 }
+    ensures { AddsBytes text.old 101
+        (0x1F ∷ 0x23 ∷ 0x20 ∷ 0x20 ∷ 0x40 ∷ size_byte form.now ∷ (0x40 + form.now.planes) ∷ [])
+        text.new }
 {
     let size = size_byte(form);
     add_bytes(
@@ -79,13 +79,12 @@ fn add_drcs_header(text: &mut Text, form: &Form)
 
 /// Adds the rows of a scrolling area.
 fn add_area(text: &mut Text, first: u8, last: u8)
-    requires room { array_vec_len text.old + 101 ≤ 7272 }
+    requires room { HasRoomForBytes 101 text.old }
     requires first { first < 100 }
     requires last { last < 100 }
-    ensures text { text.new.items ≡ text.old.items
-        ++ 0x9B ∷ tens_byte first ∷ ones_byte first ∷ 0x3B ∷ tens_byte last ∷ ones_byte last ∷ 0x55
-        ∷ [] }
-    ensures len { array_vec_len text.new ≤ array_vec_len text.old + 101 }
+    ensures { AddsBytes text.old 101
+        (0x9B ∷ tens_byte first ∷ ones_byte first ∷ 0x3B ∷ tens_byte last ∷ ones_byte last ∷ 0x55 ∷
+        []) text.new }
 {
     let (tens, ones) = digits(first);
     let (last_tens, last_ones) = digits(last);
@@ -94,11 +93,9 @@ fn add_area(text: &mut Text, first: u8, last: u8)
 
 /// Adds where colours begin.
 fn add_colour_start(text: &mut Text, i: u8)
-    requires room { array_vec_len text.old + 101 ≤ 7272 }
+    requires room { HasRoomForBytes 101 text.old }
     requires entry { i < 100 }
-    ensures text { text.new.items ≡ text.old.items
-        ++ 0x1F ∷ 0x26 ∷ tens_byte i ∷ ones_byte i ∷ [] }
-    ensures len { array_vec_len text.new ≤ array_vec_len text.old + 101 }
+    ensures { AddsBytes text.old 101 (0x1F ∷ 0x26 ∷ tens_byte i ∷ ones_byte i ∷ []) text.new }
 {
     let (tens, ones) = digits(i);
     add_bytes(text, &[0x1F, 0x26, tens, ones]);
@@ -106,11 +103,9 @@ fn add_colour_start(text: &mut Text, i: u8)
 
 /// Adds a colour.
 fn add_colour(text: &mut Text, c: &Rgb)
-    requires room { array_vec_len text.old + 101 ≤ 7272 }
+    requires room { HasRoomForBytes 101 text.old }
     requires valid { IsValidRgb c.now }
-    ensures text { text.new.items ≡ text.old.items
-        ++ colour_byte 2 c.now ∷ colour_byte 0 c.now ∷ [] }
-    ensures len { array_vec_len text.new ≤ array_vec_len text.old + 101 }
+    ensures { AddsBytes text.old 101 (colour_byte 2 c.now ∷ colour_byte 0 c.now ∷ []) text.new }
 {
     let (high, low) = colour_bytes(c);
     add_bytes(text, &[high, low]);
@@ -119,10 +114,9 @@ fn add_colour(text: &mut Text, c: &Rgb)
 /// Adds the bytes of a command, none of one that a written page doesn't have.
 #[tactic(auto, unfolding(cept_parser::specs::Spelling::spelling))]
 pub fn add_spelling(text: &mut Text, command: &Command)
-    requires room { array_vec_len text.old + 101 ≤ 7272 }
+    requires room { HasRoomForBytes 101 text.old }
     requires valid { IsValidCommand command.now }
-    ensures text { text.new.items ≡ text.old.items ++ spelling command.now }
-    ensures len { array_vec_len text.new ≤ array_vec_len text.old + 101 }
+    ensures { AddsBytes text.old 101 (spelling command.now) text.new }
 {
     match command {
         Command::FullDefaults(C1Set::Serial) => add_bytes(text, &[0x1F, 0x2F, 0x41]),

@@ -4,3 +4,4 @@ mod Taken
 mod Texts
 mod Reports
 mod ReportsTold
+mod WorkedCalls

@@ -2,7 +2,7 @@
 use Rattle.std.specs.Prelude.{◌≡◌, ◌⊎◌, ◌<◌, ◌≤◌, ◌-◌, ◌^◌, ℕ, false, ◌&&◌, min, List, [], ◌++◌, take, drop, length, codes}
 use Rattle.std.specs.Prelude.{Option, Some, None, bytes_eq}
 use Rattle.std.specs.Prelude.{if◌then◌else◌}
-use Rattle.cept_editor.specs.Script.{Fault}
+use Rattle.cept_words.specs.Faults.{Fault}
 use Rattle.cept_outside.specs.ShelfState.{Holds, bytes_under}
 use Rattle.cept_outside.specs.SinkState.{SinkState}
 use Rattle.cept_parser.specs.Items.{closed_items}

@@ -11,29 +11,6 @@ use cept_repaint::GridGlass;
 use cept_run::run::{Status, run};
 use std::alloc::Global;
 
-/// Runs the program on a page and a script.
-fn run_on(
-    alloc: Global,
-    word: &[u8],
-    given: u32,
-    number: u32,
-    page: &[u8],
-    script: &[u8],
-    sink: &mut PlainSink,
-) -> Result<Status, NoMemory>
-    ensures { IfOk result (λ status. RunsOn word.now given number page.now script.now
-        (plain_sink_state sink.old) (plain_sink_state sink.new) status) }
-{
-    // A law: before any command each place has the blank look.
-    the_first_grid();
-    let words = words_for(alloc, word, given, number)?;
-    let mut shelf = PlainShelf::new(alloc);
-    shelf.add(PAGE, page)?;
-    shelf.add(SCRIPT, script)?;
-    let mut glass = GridGlass::new(alloc)?;
-    Ok(run(alloc, &words, &mut shelf, sink, &mut glass))
-}
-
 /// Copies the bytes to the front of `out`, as far as there is room, and answers how many they are.
 fn copy_front(bytes: &[u8], out: &mut [u8]) -> u64
     ensures front { out.new ≡ take (length out.old) bytes.now ++ drop (length bytes.now) out.old }
@@ -51,26 +28,46 @@ fn room_of(out: &[u8]) -> u32
     u32::try_from(out.len()).unwrap_or(u32::MAX)
 }
 
-/// Runs the program and puts its text at the front of `out`.
-pub fn call(
-    alloc: Global,
-    word: &[u8],
-    given: u32,
-    number: u32,
-    page: &[u8],
-    script: &[u8],
-    out: &mut [u8],
-    put: &mut u64,
-) -> Status
-    ensures { Calls word.now given number page.now script.now out.old out.new put.new result }
-{
-    *put = 0;
-    let Ok(mut sink) = PlainSink::new(alloc, room_of(out)) else {
-        return Status::NoMemory;
-    };
-    let Ok(status) = run_on(alloc, word, given, number, page, script, &mut sink) else {
-        return Status::NoMemory;
-    };
-    *put = copy_front(sink.bytes(), out);
-    status
+/// What is asked of the program: a word and what is given after it, with the page and the script.
+#[derive(Clone, Copy)]
+pub struct Call<'a> {
+    pub word: &'a [u8],
+    pub given: u32,
+    pub number: u32,
+    pub page: &'a [u8],
+    pub script: &'a [u8],
+}
+
+impl<'a> Call<'a> {
+    /// Runs the program on the page and the script.
+    fn run_on(&self, alloc: Global, sink: &mut PlainSink) -> Result<Status, NoMemory>
+        ensures { IfOk result (λ status. RunsOn self.now.word.now self.now.given self.now.number
+            self.now.page.now self.now.script.now (plain_sink_state sink.old)
+            (plain_sink_state sink.new) status) }
+    {
+        // A law: before any command each place has the blank look.
+        the_first_grid();
+        let words = words_for(alloc, self.word, self.given, self.number)?;
+        let mut shelf = PlainShelf::new(alloc);
+        shelf.add(PAGE, self.page)?;
+        shelf.add(SCRIPT, self.script)?;
+        let mut glass = GridGlass::new(alloc)?;
+        Ok(run(alloc, &words, &mut shelf, sink, &mut glass))
+    }
+
+    /// Runs the program and puts its text at the front of `out`, and its length in `put`.
+    pub fn answer(&self, alloc: Global, out: &mut [u8], put: &mut u64) -> Status
+        ensures { Calls self.now.word.now self.now.given self.now.number self.now.page.now
+            self.now.script.now out.old out.new put.new result }
+    {
+        *put = 0;
+        let Ok(mut sink) = PlainSink::new(alloc, room_of(out)) else {
+            return Status::NoMemory;
+        };
+        let Ok(status) = self.run_on(alloc, &mut sink) else {
+            return Status::NoMemory;
+        };
+        *put = copy_front(sink.bytes(), out);
+        status
+    }
 }

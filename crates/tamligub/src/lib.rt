@@ -20,7 +20,7 @@ ghost use Rattle.std.specs.Prelude.{◌≤◌};
 ghost use Rattle.tamligub.specs.Called.{Called, FaultReported, FrontReported, IsMissed, Reported};
 ghost use Rattle.tamligub.specs.Called.{room_in};
 
-use crate::calling::call;
+use crate::calling::Call;
 pub use law::{notices_are_read_back, what_is_told_is_the_report};
 use std::alloc::Global;
 
@@ -49,5 +49,12 @@ pub extern "C" fn tamligub_run(
     ensures missed { IsMissed word.now given number result }
     ensures within { put.new ≤ room_in out.old }
 {
-    u32::from(call(alloc, word, given, number, page, script, out, put).number())
+    let call = Call {
+        word,
+        given,
+        number,
+        page,
+        script,
+    };
+    u32::from(call.answer(alloc, out, put).number())
 }

@@ -1,7 +1,6 @@
 //! Snapshots: all of a decoder's state as bytes that bring it back, as C calls it.
-ghost use Rattle.std.specs.Prelude.{◌≡◌, ◌⊎◌, ◌<◌, ℕ, List, false, true};
-ghost use Rattle.std.specs.Option.{ForSome};
-ghost use Rattle.cept_live.specs.Live.{HasFed, LiveState};
+ghost use Rattle.std.specs.Prelude.{◌≡◌, ◌⊎◌, ℕ, List, false, true};
+ghost use Rattle.cept_live.specs.Live.{HasFed, IsPhase, LiveState};
 ghost use Rattle.cept_live.specs.Snapshots.{snapshot_of};
 ghost use Rattle.tamligub.specs.Decoders.{HasNoSnapshot, IsKept, IsRestored, PutsTextOf};
 
@@ -23,7 +22,7 @@ pub extern "C" fn tamligub_snapshot(
     ensures snapshot { PutsTextOf snapshot_of HasNoSnapshot decoder.old out.old out.new put.new
         result }
     ensures running { result ≡ 0 → decoder.old.block.value.parser.finished ≡ false }
-    ensures phase { result ≡ 0 → ForSome decoder.old.block.value.phase (λ k. k < 6) }
+    ensures phase { result ≡ 0 → IsPhase decoder.old.block.value.phase }
     ensures kept { IsKept decoder.old decoder.new }
 {
     *put = 0;
@@ -44,8 +43,7 @@ pub extern "C" fn tamligub_snapshot(
 #[unsafe(no_mangle)]
 pub extern "C" fn tamligub_restore(alloc: Global, decoder: &mut Decoder, bytes: &[u8]) -> u32
     ensures back { (live : LiveState) (fed : List ℕ) → HasFed live fed
-        → ForSome live.phase (λ k. k < 6) → snapshot_of live ≡ bytes.now
-        → IsRestored live decoder.new result }
+        → snapshot_of live ≡ bytes.now → IsRestored live decoder.new result }
     ensures only { result ≡ 0 → (decoder.new.is_open ≡ true)
         × (snapshot_of decoder.new.block.value ≡ bytes.now) }
     ensures running { result ≡ 0 → decoder.new.block.value.parser.finished ≡ false }

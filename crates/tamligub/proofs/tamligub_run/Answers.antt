@@ -3,25 +3,25 @@ use Rattle.tamligub.proofs.tamligub_run.Goals as goal
 
 pub returns-clause-reported : goal.returns-clause-reported
 returns-clause-reported c =
-    reported c.args.word.now c.args.given c.args.number c.args.page.now c.args.script.now c.args.out.now c.call.new.out
-    c.call.new.put c.from.result c.call.result (cc) c.call.ensures
+    reported c.args.word.now c.args.given c.args.number c.args.page.now c.args.script.now c.args.out.now c.answer.new.out
+    c.answer.new.put c.from.result c.answer.result (cc) c.answer.ensures
 
 pub returns-clause-front : goal.returns-clause-front
 returns-clause-front c =
     front_reported c.args.word.now c.args.given c.args.number c.args.page.now c.args.script.now c.args.out.now
-    c.call.new.out c.call.new.put c.from.result c.call.result (cc) c.call.ensures
+    c.answer.new.out c.answer.new.put c.from.result c.answer.result (cc) c.answer.ensures
 
 pub returns-clause-fault : goal.returns-clause-fault
 returns-clause-fault c =
     fault_reported c.args.word.now c.args.given c.args.number c.args.page.now c.args.script.now c.args.out.now
-    c.call.new.out c.call.new.put c.from.result c.call.result (cc) c.call.ensures
+    c.answer.new.out c.answer.new.put c.from.result c.answer.result (cc) c.answer.ensures
 
 pub returns-clause-missed : goal.returns-clause-missed
 returns-clause-missed c =
     is_missed c.args.word.now c.args.given c.args.number c.args.page.now c.args.script.now c.args.out.now
-    c.call.new.out c.call.new.put c.from.result c.call.result (cc) c.call.ensures
+    c.answer.new.out c.answer.new.put c.from.result c.answer.result (cc) c.answer.ensures
 
 pub returns-clause-within : goal.returns-clause-within
 returns-clause-within c =
-    put_within c.args.word.now c.args.given c.args.number c.args.page.now c.args.script.now c.args.out.now c.call.new.out
-    c.call.new.put c.call.result c.call.ensures
+    put_within c.args.word.now c.args.given c.args.number c.args.page.now c.args.script.now c.args.out.now c.answer.new.out
+    c.answer.new.put c.answer.result c.answer.ensures

@@ -11,12 +11,12 @@ pub returns-clause-applies : goal.returns-clause-applies
 returns-clause-applies g c =
     let one = c.apply.ensures.applied in record {
       applied = one;
-      made = λ history valid is. made_from c.args.listed c.args.line history (history ++ c.args.command ∷ [])
-          c.args.screen.now c.apply.new.screen c.apply.new.marks _ (g.T.Sink.state c.args.sink.now)
+      made = λ history valid is. made_from c.args.listing.now.listed c.args.listing.now.line history (history ++ c.args.command ∷ [])
+          c.args.screen.now c.apply.new.screen c.apply.new.marks _ (g.T.Sink.state c.args.listing.now.sink.now)
           (g.T.Sink.state c.put_changes_if.new.sink) (g.G.Glass.state c.args.glass.now)
           (g.G.Glass.state c.apply.new.glass) is (one.goes_on history valid is)
           (one_more_differs history c.args.command) one.repainted
-          (rw c.from.ensures at c.put_changes_if.ensures.puts);
+          (rw c.from-label.ensures at c.put_changes_if.ensures.puts);
     }
 
 pub returns-clause-shown : goal.returns-clause-shown
@@ -24,6 +24,6 @@ returns-clause-shown g c =
     let looks = looks_of (core_of c.apply.new.screen) in
     subst (λ (xs : List (Place × Look)). OnErr c.put_changes_if.result (xs ≢ []))
     (ap (λ m. marked_looks m looks) c.apply.ensures.applied.repainted.marks)
-    (lines_there c.args.listed c.args.line (marked_looks c.apply.new.marks looks) c.put_changes_if.result
-    (g.T.Sink.state c.args.sink.now) (g.T.Sink.state c.put_changes_if.new.sink)
-    (rw c.from.ensures at c.put_changes_if.ensures.puts))
+    (lines_there c.args.listing.now.listed c.args.listing.now.line (marked_looks c.apply.new.marks looks) c.put_changes_if.result
+    (g.T.Sink.state c.args.listing.now.sink.now) (g.T.Sink.state c.put_changes_if.new.sink)
+    (rw c.from-label.ensures at c.put_changes_if.ensures.puts))

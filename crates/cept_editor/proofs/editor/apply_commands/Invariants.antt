@@ -7,11 +7,15 @@ use Rattle.cept_editor.proofs.editor.apply_commands.Given as goal
 -- the commands so far were applied
 abbrev pub invariant-loop-command : goal.invariant-loop-command
 invariant-loop-command g l = record {
-  gone : HasGone l.listed l.line l.fn.commands l.commands l.fn.screen
-      (output_of (g.T.Sink.state l.fn.sink) (g.G.Glass.state l.fn.glass)) l.screen
-      (output_of (g.T.Sink.state l.sink) (g.G.Glass.state l.glass)) l.marks l.fn.steps l.steps;
+  gone : HasGone l.fn.listing.listed l.fn.listing.line l.fn.commands l.commands l.fn.screen
+      (output_of (g.T.Sink.state l.fn.listing.sink.now) (g.G.Glass.state l.fn.glass)) l.screen
+      (output_of (g.T.Sink.state l.listing.sink.now) (g.G.Glass.state l.glass)) l.listing.marks.now l.fn.steps l.steps;
   edit : StaysBegun l.fn.undo l.fn.screen l.undo l.screen;
-  quiet : l.listed ≡ false → g.T.Sink.state l.sink ≡ g.T.Sink.state l.fn.sink;
+  quiet : l.fn.listing.listed ≡ false → g.T.Sink.state l.listing.sink.now ≡ g.T.Sink.state l.fn.listing.sink.now;
+  line : l.listing.line ≡ l.fn.listing.line;
+  listed : l.listing.listed ≡ l.fn.listing.listed;
+  sink : l.listing.sink.ghost_name ≡ l.fn.listing.sink.ghost_name;
+  marks : l.listing.marks.ghost_name ≡ l.fn.listing.marks.ghost_name;
 }
 
 abbrev pub decreases-loop-command : goal.decreases-loop-command

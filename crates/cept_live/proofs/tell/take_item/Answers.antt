@@ -11,5 +11,5 @@ returns-in-Command g c =
 
 pub returns-in-Refused : goal.returns-in-Refused
 returns-in-Refused g c =
-    refusal_taken c.args.screen.now c.args.renewed.now c.args.item.now c.in-Refused.reason _ _ _ _ c.in-Refused.is
+    refusal_taken c.args.display.now.screen c.args.display.now.renewed c.args.item.now c.in-Refused.reason _ _ _ _ c.in-Refused.is
     c.tell_refusal.ensures.most c.tell_refusal.ensures.tells

@@ -9,5 +9,5 @@ abbrev pub invariant-loop-item : goal.invariant-loop-item
 invariant-loop-item g l = record {
   valid : AllByRecursion (λ (i : Item). IsValidSaid i.what) (drop l.item-index l.items);
   few : l.to ≤ l.from + 960 * l.item-index;
-  taken : TakesItems l.fn.screen l.fn.renewed (take l.item-index l.items) l.fn.list l.from l.screen l.renewed l.to l.list;
+  taken : TakesItems l.fn.display.screen l.fn.display.renewed (take l.item-index l.items) l.fn.list l.from l.display.screen l.display.renewed l.to l.list;
 }

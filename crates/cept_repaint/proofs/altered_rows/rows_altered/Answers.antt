@@ -1,11 +1,10 @@
-use Rattle.std.proofs.Common.{◌≡◌, ◌+◌, ◌-◌, ℕ, Bool, List, IfSome, false, get_or, replicate, arith, sym, ap, subst, ◌∙◌}
-use Rattle.std.proofs.lemmas.List.{get_or-replicate, length-replicate}
-use Rattle.cept_codes.specs.Stroke.{IsRow}
+use Rattle.std.proofs.Common.{◌≡◌, ◌+◌, ◌-◌, ◌<◌, ℕ, Bool, List, length, false, get_or, replicate, arith, sym, ap, ◌∙◌}
+use Rattle.std.proofs.lemmas.List.{get_or-replicate, get_or_default, length-replicate}
 use Rattle.cept_codes.specs.Table.{entry}
 use Rattle.cept_codes.proofs.Laws.{HasMadeEntries-all, HasMadeEntries-more, entry-list_by_index, entry_from}
+use Rattle.cept_codes.proofs.Laws.{length-list_by_index}
 use Rattle.cept_repaint.specs.declared.followed_rows.Followed.{Followed}
 use Rattle.cept_repaint.specs.Due.{followed, freed, is_altered, is_altered_from, pens_of}
-use Rattle.cept_repaint.proofs.FollowedRows.{came-followed}
 use Rattle.cept_repaint.proofs.altered_rows.rows_altered.Goals as goal
 
 pub loop-i-init : goal.loop-i-init
@@ -17,32 +16,31 @@ loop-i-init c = record {
 }
 
 -- a row as it is read
-read : (rows : List Followed) (n at : ℕ) → at ≡ n → entry freed 1 rows (n + 1) ≡ get_or rows at freed
-read rows n at e =
+read : (rows : List Followed) (n at : ℕ) (d : Followed) → at ≡ n → at < length rows
+    → entry freed 1 rows (n + 1) ≡ get_or rows at d
+read rows n at d e within =
     let back : n + 1 - 1 ≡ at = omega (arith, e) in
     entry_from freed 1 rows (n + 1) (omega arith) ∙ ap (λ m. get_or rows m freed) back
-
-pub is_altered-requires-clause-came : goal.is_altered-requires-clause-came
-is_altered-requires-clause-came c =
-    subst (λ (f : Followed). IfSome f.from IsRow) (read c.args.rows.now c.loop-i.i c.from.result c.from.ensures)
-    (came-followed c.args.rows.now c.args.strokes.now c.requires.rows c.requires.each (c.loop-i.i + 1) (omega arith)
-    (omega (arith, c.loop-i-test.true)))
+    ∙ get_or_default rows at freed d within
 
 pub loop-i-preserved : goal.loop-i-preserved
 unfolding is_altered
 loop-i-preserved c =
     let altered : ℕ → Bool =
     is_altered c.args.strokes.now c.args.was.now c.args.before.now (pens_of c.args.page.now) c.args.after.now in
-    let row : get_or c.args.rows.now c.from.result freed ≡ followed c.args.strokes.now (c.loop-i.i + 1) =
-    sym (read c.args.rows.now c.loop-i.i c.from.result c.from.ensures)
+    let long : length c.args.rows.now ≡ 24 = ap length c.requires.rows ∙ length-list_by_index 1 24 _ in
+    let row : get_or c.args.rows.now c.from-index.result c.index-rows-index.result
+    ≡ followed c.args.strokes.now (c.loop-i.i + 1) =
+    sym (read c.args.rows.now c.loop-i.i c.from-index.result c.index-rows-index.result c.from-index.ensures
+    (omega (arith, c.from-index.ensures, long, c.loop-i-test.true)))
     ∙ ap (λ (l : List Followed). entry freed 1 l (c.loop-i.i + 1)) c.requires.rows
     ∙ entry-list_by_index freed 1 24 (followed c.args.strokes.now) (c.loop-i.i + 1) (omega arith)
     (omega (arith, c.loop-i-test.true)) in
     let is : c.is_altered.result ≡ altered (c.loop-i.i + 1) =
-    c.is_altered.ensures ∙ (λ i. is_altered_from (row i).written (c.one_defines-defined.ensures i) c.args.was.now
-    c.args.before.now (pens_of c.args.page.now) c.args.after.now (row i).from (c.loop-i.i + 1)) in
+    c.is_altered.ensures ∙ (λ i. is_altered_from (row i).written (c.one_defines.ensures i) c.args.was.now
+    c.args.before.now (pens_of c.args.page.now) c.args.after.now (row i).from (c.numbered.ensures i)) in
     HasMadeEntries-more false c.is_altered.result 1 24 altered (λ _. false) c.loop-i.altered c.loop-i.i
-    c.from-in-loop-i.result (c.loop-i.i + 1) c.loop-i.invariant c.loop-i-test.true c.from-in-loop-i.ensures (omega arith)
+    c.from-index.result (c.loop-i.i + 1) c.loop-i.invariant c.loop-i-test.true c.from-index.ensures (omega arith)
     is
 
 pub returns : goal.returns

@@ -6,7 +6,7 @@ use Rattle.cept_repaint.proofs.compared_rows.mark_differences_between.Goals as g
 pub returns-clause-marked : goal.returns-clause-marked
 returns-clause-marked c =
     HasMarkedRow-flags c.args.was.now c.args.now.now c.args.row (number c.args.row 1) c.differences-found.result.columns
-    c.args.marks.now c.mark_row.new.self c.requires.from_top c.differences-found.ensures.columns refl c.mark_row.ensures
+    c.args.marks.now c.mark_row.new.self c.differences-found.ensures.columns refl c.mark_row.ensures
 
 pub returns-clause-covering : goal.returns-clause-covering
 returns-clause-covering c =

@@ -1,4 +1,4 @@
-use Rattle.std.proofs.Common.{◌+◌, ◌-◌, [], false, Some, sym, replicate, arith, ◌∙◌}
+use Rattle.std.proofs.Common.{◌-◌, [], false, Some, sym, replicate, arith, ◌∙◌}
 use Rattle.std.proofs.lemmas.List.{get_or-replicate, length-replicate}
 use Rattle.cept_codes.proofs.Laws.{HasMadeEntries-all, HasMadeEntries-more, entry_from}
 use Rattle.cept_repaint.specs.declared.followed_rows.Followed.{Followed}
@@ -16,9 +16,10 @@ loop-i-init c = record {
 
 pub loop-i-preserved : goal.loop-i-preserved
 loop-i-preserved c =
-    let row : Followed = record { from = Some (c.loop-i.i + 1); written = false } in
-    HasMadeEntries-more freed row 1 24 (followed []) (λ _. freed) c.loop-i.rows c.loop-i.i c.from.result (c.loop-i.i + 1)
-    c.loop-i.invariant c.loop-i-test.true c.from.ensures (omega arith) (sym (followed-rest (c.loop-i.i + 1)))
+    let row : Followed = record { from = Some c.numbered.result; written = false } in
+    HasMadeEntries-more freed row 1 24 (followed []) (λ _. freed) c.loop-i.rows c.loop-i.i c.from.result c.numbered.result
+    c.loop-i.invariant c.loop-i-test.true c.from.ensures (omega (arith, c.numbered.ensures))
+    (sym (followed-rest c.numbered.result))
 
 pub returns : goal.returns
 returns c = HasMadeEntries-all freed 1 24 _ _ _ _ c.loop-i.invariant (omega arith)

@@ -26,7 +26,7 @@ returns-in-RowAttr c =
 
 pub returns-in-Carry : goal.returns-in-Carry
 returns-in-Carry c =
-    c.carried_pens.ensures
+    c.shifted_rows.ensures
     ∙ row_pens_carried c.args.pens.now c.in-Carry.first c.in-Carry.last c.in-Carry.way
     ∙ ap (λ (s : Stroke). row_pens_after c.args.pens.now s) (sym c.in-Carry.is)
 

@@ -23,19 +23,19 @@ loop-i-init c = λ k is named. record {
 pub loop-i-preserved : goal.loop-i-preserved
 loop-i-preserved c = λ k is are.
     let core : Core = core_on k c.args.page.now in
-    let row : IsNamedRow core (c.loop-i.i + 1) c.row.result.now c.row-in-loop-i.result.now
+    let row : IsNamedRow core c.numbered-row.result c.row.result.now c.row-in-loop-i.result.now
     c.colours.result.now.dclut = record {
-      from_top = omega arith;
-      to_bottom = omega (arith, c.loop-i-test.true);
+      from_top = omega (arith, c.numbered-row.ensures);
+      to_bottom = omega (arith, c.numbered-row.ensures, c.loop-i-test.true);
       valid = c.requires.valid;
       named = λ column on. ap (λ (n : RowNames). names_kept n column) c.row.ensures
-          ∙ all_named c.args.names.now core are c.requires.known (c.loop-i.i + 1) column on;
-      seen = c.row-in-loop-i.ensures ∙ ap (λ (g : List (List Look)). looks_in g (c.loop-i.i + 1)) is;
+          ∙ all_named c.args.names.now core are c.requires.known c.numbered-row.result column on;
+      seen = c.row-in-loop-i.ensures ∙ ap (λ (g : List (List Look)). looks_in g c.numbered-row.result) is;
       inks = c.colours.ensures.dclut;
     } in
     HasMadeEntries-more false c.is_redefined.result 1 24 (is_redefined core c.args.strokes.now) (λ _. false)
-    c.loop-i.redefined c.loop-i.i c.from.result (c.loop-i.i + 1) (c.loop-i.invariant k is are) c.loop-i-test.true
-    c.from.ensures (omega arith) (c.is_redefined.ensures core (c.loop-i.i + 1) row)
+    c.loop-i.redefined c.loop-i.i c.from.result c.numbered-row.result (c.loop-i.invariant k is are) c.loop-i-test.true
+    c.from.ensures (omega (arith, c.numbered-row.ensures)) (c.is_redefined.ensures core c.numbered-row.result row)
 
 pub returns : goal.returns
 returns c = λ k is are. HasMadeEntries-all false 1 24 _ _ _ _ (c.loop-i.invariant k is are) (omega arith)

@@ -3,4 +3,4 @@ use Rattle.cept_profile.specs.Serial.{is_marker, row_in}
 use Rattle.cept_repaint.proofs.row_flags.has_marker_from.Given as goal
 
 abbrev pub invariant-loop-c : goal.invariant-loop-c
-invariant-loop-c l = (d : ℕ) → l.column ≤ d → d < l.c → is_marker (row_in l.cells d) ≡ false
+invariant-loop-c l = (d : ℕ) → l.fn.column ≤ d → d < l.c → is_marker (row_in l.cells d) ≡ false

@@ -5,4 +5,4 @@ use Rattle.cept_repaint.proofs.unwinding.put_back.Goals as goal
 
 pub returns-in_default : goal.returns-in_default
 returns-in_default c =
-    cells_back-empty (is_at c.args.at) (λ _ _. c.args.old.now) c.args.grid.now c.requires (λ r k on here. search rules)
+    cells_back-empty (is_at c.args.at) (λ _ _. c.args.old.now) c.args.grid.now c.whole_by_type.ensures (λ r k on here. search rules)

@@ -1,15 +1,15 @@
 use Rattle.std.proofs.Common.{refl, ap, ◌∙◌}
 use Rattle.cept_codes.specs.declared.look.Shape.TheVariants as shapes
-use Rattle.cept_profile.specs.Look.{look_with}
-use Rattle.cept_profile.specs.PageParts.{paint_in}
-use Rattle.cept_rows.specs.SmallLooks.{small_of}
+use Rattle.cept_rows.specs.Brush.{small_shape}
 use Rattle.cept_rows.proofs.cell_look.dip.Goals as goal
 
-pub returns-clause-is : goal.returns-clause-is
-returns-clause-is c = record {
-  space = c.small_with.ensures shapes.Space refl
-      ∙ ap (λ f. small_of (look_with (paint_in c.args.colours.now.paints) shapes.Space f))
-      c.cascade-full.ensures.attributes;
-  bare = c.is_bare.ensures;
-  size = ap (λ f. f.size) c.cascade-full.ensures.attributes;
+pub returns : goal.returns
+returns c = record {
+  held = refl;
+  is = record {
+    space = c.small_with.ensures shapes.Space refl
+        ∙ ap (λ f. small_shape c.args.source.now shapes.Space f) c.attributes-full.ensures.attributes;
+    bare = c.is_bare.ensures;
+    size = ap (λ f. f.size) c.attributes-full.ensures.attributes;
+  };
 }

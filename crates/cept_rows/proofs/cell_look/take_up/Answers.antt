@@ -1,4 +1,4 @@
 use Rattle.cept_rows.proofs.cell_look.take_up.Goals as goal
 
-pub returns-else-not-holds-clause-pen : goal.returns-else-not-holds-clause-pen
-returns-else-not-holds-clause-pen c = c.holds.ensures c.if-not-holds.false
+pub returns-else-not-holds : goal.returns-else-not-holds
+returns-else-not-holds c = record { held = c.holds.ensures c.if-not-holds.false; is = c.requires.brush }

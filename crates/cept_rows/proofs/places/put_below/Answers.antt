@@ -3,7 +3,11 @@ use Rattle.cept_rows.proofs.KeptLooks.{plain_small}
 use Rattle.cept_rows.proofs.PlacesKept.{below_is}
 use Rattle.cept_rows.proofs.places.put_below.Goals as goal
 
-pub put_single-requires-clause-small : goal.put_single-requires-clause-small
-put_single-requires-clause-small c =
-    plain_small _ _ (below_is _ c.small-there.result c.below.result c.small-there.ensures.look c.below.ensures)
-    (sym c.has_pattern.ensures ∙ c.if-has_pattern.false) c.requires.valid
+pub put_single-requires-clause-look : goal.put_single-requires-clause-look
+put_single-requires-clause-look c =
+    let plain = sym c.has_pattern.ensures ∙ c.if-has_pattern.false in
+    record {
+      plain = plain;
+      small = plain_small _ _ (below_is _ c.small-there.result c.below.result c.small-there.ensures.look c.below.ensures)
+          plain c.requires;
+    }

@@ -1,117 +1,106 @@
-use Rattle.std.proofs.Common.{◌≡◌, ℕ, ◌+◌, ◌-◌, refl, ap, subst, ◌∙◌, arith}
+use Rattle.std.proofs.Common.{◌≡◌, ℕ, ◌+◌, ◌-◌, ◌≤◌, refl, ap, subst, ◌∙◌, arith}
 use Rattle.std.proofs.lemmas.Bool.{and_parts}
 use Rattle.cept_codes.specs.declared.look.Look.{Look}
 use Rattle.cept_codes.specs.Look.{blank_look}
-use Rattle.cept_codes.specs.Table.{HasMadeEntries, entry}
-use Rattle.cept_profile.specs.Look.{look_in_row, part_of, size_in_row}
+use Rattle.cept_profile.specs.Look.{part_of}
 use Rattle.cept_profile.specs.RowsFromAbove.{row_from_above}
 use Rattle.cept_profile.specs.Serial.{row_in}
-use Rattle.cept_profile.specs.Tiling.{column_entry, is_covered_from_left}
-use Rattle.cept_rows.specs.DrawnWith.{drawn_with}
-use Rattle.cept_rows.specs.RowsByCell.{look_shown}
+use Rattle.cept_profile.specs.Tiling.{is_covered_from_left}
+use Rattle.cept_rows.specs.Flagged.{IsMadeTo, look_at}
+use Rattle.cept_rows.specs.Places.{covers_next}
+use Rattle.cept_rows.specs.Source.{own_look, own_size, place_made}
 use Rattle.cept_rows.specs.Walk.{IsWalk}
 use Rattle.cept_rows.proofs.Columns.{made_all, made_next}
-use Rattle.cept_rows.proofs.RowsByPart.{AreValidDefinitions-kept, IsValidLook-cell, IsValidLook-look_from, left_made}
+use Rattle.cept_rows.proofs.RowsByPart.{IsValidLook-cell, IsValidLook-look_from, left_made}
 use Rattle.cept_rows.proofs.RowsByPart.{look_from-0, made_before, made_end, made_stays}
 use Rattle.cept_rows.proofs.resolving.each_between.Goals as goal
-use Rattle.cept_rows.proofs.resolving.each_between.Goals.{After-is_covered_from_left-covered}
+use Rattle.cept_rows.proofs.resolving.each_between.Goals.{After-number-number, After-put_place-covered}
 
-made : (c : After-is_covered_from_left-covered) → HasMadeEntries blank_look 1 40
-    (look_shown (drawn_with c.args.colours.now c.args.patterns.now) c.args.above.now (row_in c.args.cells.now)
-    c.args.row.now c.args.screen.now c.args.last) (entry blank_look 1 c.args.looks.now) c.args.looks.now (c.args.from - 1)
-made c = made_before _ c.args.looks.now c.args.from c.requires.from_left c.columns_by_type-2.ensures.columns
+made : (c : After-number-number) → IsMadeTo (place_made c.args.source.now c.args.above.now) c.args.looks.now c.args.looks.now
+    (c.args.from - 1)
+made c = made_before _ c.args.looks.now c.args.from c.number-number.ensures.in_range.0 c.columns_by_type-2.ensures.columns
     c.requires.left
 
-pub loop-column-init : goal.loop-column-init
-loop-column-init c = record {
+pub loop-number-init : goal.loop-number-init
+loop-number-init c = rw c.number-number.ensures.number (record {
   row = made c;
   walk = c.before-walk.ensures;
   covered = c.is_covered_from_left-covered.ensures
-      ∙ ap (λ (l : Look). is_covered_from_left (part_of (column_entry blank_look c.args.above.now (c.args.from - 1)))
-      (part_of l))
-      (left_made (look_shown (drawn_with c.args.colours.now c.args.patterns.now) c.args.above.now
-      (row_in c.args.cells.now) c.args.row.now c.args.screen.now c.args.last) _ c.args.looks.now c.args.from (made c)
-      (look_from-0 (column_entry blank_look c.args.above.now)
-      (look_in_row (drawn_with c.args.colours.now c.args.patterns.now) (row_in c.args.cells.now) c.args.row.now
-      c.args.screen.now)
-      (size_in_row (row_in c.args.cells.now) c.args.row.now c.args.screen.now) c.args.last) c.requires.from_left
-      c.requires.to_right);
-}
+      ∙ ap (λ (l : Look). is_covered_from_left (part_of (look_at c.args.above.now (c.args.from - 1))) (part_of l))
+      (left_made (place_made c.args.source.now c.args.above.now) _ c.args.looks.now c.args.from (made c)
+      (look_from-0 (look_at c.args.above.now) (own_look c.args.source.now) (own_size c.args.source.now)
+      c.args.source.now.last) c.number-number.ensures.in_range.0 (omega (arith, c.number-number.ensures.in_range.1)));
+})
+
+pub put_place-covered-requires-clause-walk : goal.put_place-covered-requires-clause-walk
+put_place-covered-requires-clause-walk c = rw c.numbered-column.ensures c.loop-number.invariant.walk
+
+pub put_place-covered-requires-clause-covered : goal.put_place-covered-requires-clause-covered
+put_place-covered-requires-clause-covered c = rw c.numbered-column.ensures c.loop-number.invariant.covered
 
 pub put_place-covered-requires-clause-left : goal.put_place-covered-requires-clause-left
 put_place-covered-requires-clause-left c =
-    left_made (look_shown (drawn_with c.args.colours.now c.args.patterns.now) c.args.above.now (row_in c.args.cells.now)
-    c.args.row.now c.args.screen.now c.args.last) _ c.loop-column.looks c.loop-column.column
-    c.loop-column.invariant.row (look_from-0 (column_entry blank_look c.args.above.now)
-    (look_in_row (drawn_with c.args.colours.now c.args.patterns.now) (row_in c.args.cells.now) c.args.row.now
-    c.args.screen.now)
-    (size_in_row (row_in c.args.cells.now) c.args.row.now c.args.screen.now) c.args.last)
-    (omega (arith, c.requires.from_left, c.loop-column.auto.column)) (omega arith)
+    rw c.numbered-column.ensures (left_made (place_made c.args.source.now c.args.above.now) _ c.loop-number.looks
+    c.loop-number.number c.loop-number.invariant.row
+    (look_from-0 (look_at c.args.above.now) (own_look c.args.source.now) (own_size c.args.source.now)
+    c.args.source.now.last)
+    (omega (arith, c.number-number.ensures, c.loop-number.auto.number)) (omega arith))
 
 pub put_place-covered-requires-clause-shown : goal.put_place-covered-requires-clause-shown
 put_place-covered-requires-clause-shown c =
-    let defined = drawn_with c.args.colours.now c.args.patterns.now in
-    IsValidLook-look_from c.args.above.now
-    (look_in_row defined (row_in c.args.cells.now) c.args.row.now c.args.screen.now)
-    (size_in_row (row_in c.args.cells.now) c.args.row.now c.args.screen.now) c.args.last c.columns_by_type.ensures.valid
-    (λ d from to. IsValidLook-cell defined (row_in c.args.cells.now) c.args.row.now c.args.screen.now
-    (AreValidDefinitions-kept defined c.valid_by_type.ensures c.valid_by_type-2.ensures.codes c.valid_by_type-2.ensures.valid)
-    c.requires.cells d from to) c.loop-column.column (omega (arith, c.requires.from_left, c.loop-column.auto.column)) (omega arith)
-
-pub loop-column-preserved : goal.loop-column-preserved
-loop-column-preserved c =
-    let next : c.loop-column.column ≡ c.loop-column.column + 1 - 1 = omega arith in
-    let shown : ℕ → Look =
-    look_shown (drawn_with c.args.colours.now c.args.patterns.now) c.args.above.now (row_in c.args.cells.now)
-    c.args.row.now c.args.screen.now c.args.last in
-    record {
-      row = rw c.put_place-covered.ensures.looks (made_next blank_look (shown c.loop-column.column) shown _
-          c.loop-column.looks c.loop-column.column c.loop-column.invariant.row (omega (arith, c.requires.from_left, c.loop-column.auto.column)) (omega arith)
-          refl);
-      walk = subst (λ n. IsWalk c.args.colours.now (row_in c.args.cells.now) c.args.row.now c.args.screen.now n
-          c.put_place-covered.new.walk) next c.put_place-covered.ensures.walk;
-      covered = c.put_place-covered.ensures.covered
-          ∙ ap (λ n. is_covered_from_left (part_of (column_entry blank_look c.args.above.now n)) (part_of (shown n)))
-          next;
-    }
-
-pub returns-clause-looks : goal.returns-clause-looks
-unfolding row_from_above
-returns-clause-looks c =
-    made_all blank_look _ _ c.loop-column.looks c.loop-column.column c.loop-column.invariant.row
-    c.loop-column-test.false
-
-pub returns-clause-stays : goal.returns-clause-stays
-returns-clause-stays c n past high = absurd (omega (arith, past, high))
+    let source = c.args.source.now in
+    rw c.numbered-column.ensures (IsValidLook-look_from c.args.above.now (own_look source) (own_size source) source.last
+    c.columns_by_type.ensures.valid
+    (λ d from to. IsValidLook-cell source.defined (row_in source.cells) source.row_pen source.screen_pen
+    c.valid_by_type.ensures.defined c.valid_by_type.ensures.cells d from to) c.loop-number.number
+    (omega (arith, c.number-number.ensures, c.loop-number.auto.number)) (omega arith))
 
 -- the row is made up to this column
-here : (c : goal.Then-ended-may_end) → HasMadeEntries blank_look 1 40
-    (look_shown (drawn_with c.args.colours.now c.args.patterns.now) c.args.above.now (row_in c.args.cells.now)
-    c.args.row.now c.args.screen.now c.args.last) (entry blank_look 1 c.args.looks.now) c.put_place-covered.new.looks
-    c.loop-column.column
+here : (c : After-put_place-covered) → IsMadeTo (place_made c.args.source.now c.args.above.now) c.args.looks.now
+    c.put_place-covered.new.looks c.loop-number.number
 here c =
-    let shown : ℕ → Look =
-    look_shown (drawn_with c.args.colours.now c.args.patterns.now) c.args.above.now (row_in c.args.cells.now)
-    c.args.row.now c.args.screen.now c.args.last in
-    let back : c.loop-column.column + 1 - 1 ≡ c.loop-column.column = omega arith in
-    subst (λ n. HasMadeEntries blank_look 1 40 shown (entry blank_look 1 c.args.looks.now) c.put_place-covered.new.looks n)
-    back (rw c.put_place-covered.ensures.looks (made_next blank_look (shown c.loop-column.column) shown _
-    c.loop-column.looks c.loop-column.column c.loop-column.invariant.row
-    (omega (arith, c.requires.from_left, c.loop-column.auto.column)) (omega arith) refl))
+    let shown : ℕ → Look = place_made c.args.source.now c.args.above.now in
+    let back : c.loop-number.number + 1 - 1 ≡ c.loop-number.number = omega arith in
+    subst (λ n. IsMadeTo shown c.args.looks.now c.put_place-covered.new.looks n) back
+    (rw (c.put_place-covered.ensures.looks, c.numbered-column.ensures) (made_next blank_look
+    (shown c.loop-number.number) shown _ c.loop-number.looks c.loop-number.number c.loop-number.invariant.row
+    (omega (arith, c.number-number.ensures, c.loop-number.auto.number)) (omega arith) refl))
 
-pub returns-then-ended-may_end-clause-looks : goal.returns-then-ended-may_end-clause-looks
+pub loop-number-preserved : goal.loop-number-preserved
+loop-number-preserved c =
+    let next : c.loop-number.number ≡ c.loop-number.number + 1 - 1 = omega arith in
+    record {
+      row = subst (λ n. IsMadeTo (place_made c.args.source.now c.args.above.now) c.args.looks.now
+          c.put_place-covered.new.looks n) next (here c.before.before);
+      walk = subst (λ n. IsWalk c.args.source.now n c.put_place-covered.new.walk) (c.numbered-column.ensures ∙ next)
+          c.put_place-covered.ensures.walk;
+      covered = c.put_place-covered.ensures.covered
+          ∙ ap (λ n. covers_next c.args.source.now c.args.above.now n) (c.numbered-column.ensures ∙ next);
+    }
+
+pub returns : goal.returns
 unfolding row_from_above
-returns-then-ended-may_end-clause-looks c =
-    let both = and_parts c.may_end-ended.result c.may_end.result c.if-ended-may_end.true in
-    made_end c.args.until (look_shown (drawn_with c.args.colours.now c.args.patterns.now) c.args.above.now
-    (row_in c.args.cells.now) c.args.row.now c.args.screen.now c.args.last) c.args.looks.now c.loop-column.looks
-    c.put_place-covered.new.looks c.loop-column.column c.loop-column.invariant.row (here c)
-    (omega (arith, c.requires.from_left, c.loop-column.auto.column)) (omega arith)
-    (c.may_end-ended.ensures.past both.0) c.requires.right (c.may_end-ended.ensures.free both.0)
-    (c.may_end.ensures.free both.1)
+returns c = record {
+  looks = made_all blank_look _ _ c.loop-number.looks c.loop-number.number c.loop-number.invariant.row
+      c.loop-number-test.false;
+  order = omega (arith, c.number-number.ensures);
+  to_right = omega arith;
+  stays = λ n past high. absurd (omega (arith, past, high));
+}
 
-pub returns-then-ended-may_end-clause-stays : goal.returns-then-ended-may_end-clause-stays
-returns-then-ended-may_end-clause-stays c =
-    made_stays (look_shown (drawn_with c.args.colours.now c.args.patterns.now) c.args.above.now (row_in c.args.cells.now)
-    c.args.row.now c.args.screen.now c.args.last) c.args.looks.now c.put_place-covered.new.looks c.loop-column.column
-    (here c)
+pub returns-then-ended-may_end : goal.returns-then-ended-may_end
+unfolding row_from_above
+returns-then-ended-may_end c =
+    let both = and_parts c.may_end-ended.result c.may_end.result c.if-ended-may_end.true in
+    let made = place_made c.args.source.now c.args.above.now in
+    let low : 1 ≤ c.loop-number.number = omega (arith, c.number-number.ensures, c.loop-number.auto.number) in
+    record {
+      looks = made_end c.args.until made c.args.looks.now c.loop-number.looks c.put_place-covered.new.looks
+          c.loop-number.number c.loop-number.invariant.row (here c.before.before) low (omega arith)
+          (rw (← c.numbered-column.ensures) (c.may_end-ended.ensures.past both.0)) c.requires.right
+          (rw (← c.numbered-column.ensures) (c.may_end-ended.ensures.free both.0))
+          (rw (← c.numbered-column.ensures) (c.may_end.ensures.free both.1));
+      order = omega (arith, c.number-number.ensures, c.loop-number.auto.number);
+      to_right = omega arith;
+      stays = made_stays made c.args.looks.now c.put_place-covered.new.looks c.loop-number.number (here c.before.before);
+    }

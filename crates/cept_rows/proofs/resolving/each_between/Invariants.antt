@@ -1,22 +1,13 @@
 use Rattle.std.proofs.Common.{◌≡◌, ◌-◌}
-use Rattle.cept_codes.specs.Look.{blank_look}
-use Rattle.cept_codes.specs.Table.{entry, HasMadeEntries}
-use Rattle.cept_profile.specs.Look.{part_of}
-use Rattle.cept_profile.specs.Serial.{row_in}
-use Rattle.cept_profile.specs.Tiling.{column_entry, is_covered_from_left}
-use Rattle.cept_rows.specs.DrawnWith.{drawn_with}
-use Rattle.cept_rows.specs.RowsByCell.{look_shown}
+use Rattle.cept_rows.specs.Flagged.{IsMadeTo}
+use Rattle.cept_rows.specs.Places.{covers_next}
+use Rattle.cept_rows.specs.Source.{place_made}
 use Rattle.cept_rows.specs.Walk.{IsWalk}
 use Rattle.cept_rows.proofs.resolving.each_between.Given as goal
 
-abbrev pub invariant-loop-column : goal.invariant-loop-column
-invariant-loop-column l = record {
-  row : HasMadeEntries blank_look 1 40
-      (look_shown (drawn_with l.colours l.patterns) l.above (row_in l.cells) l.row l.screen l.last)
-      (entry blank_look 1 l.initial.looks) l.looks (l.column - 1);
-  walk : IsWalk l.colours (row_in l.cells) l.row l.screen (l.column - 1) l.walk;
-  covered : l.covered
-      ≡ is_covered_from_left (part_of (column_entry blank_look l.above (l.column - 1)))
-      (part_of (look_shown (drawn_with l.colours l.patterns) l.above (row_in l.cells) l.row l.screen l.last
-      (l.column - 1)));
+abbrev pub invariant-loop-number : goal.invariant-loop-number
+invariant-loop-number l = record {
+  row : IsMadeTo (place_made l.source l.above) l.initial.looks l.looks (l.number - 1);
+  walk : IsWalk l.source (l.number - 1) l.walk;
+  covered : l.covered ≡ covers_next l.source l.above (l.number - 1);
 }

@@ -1,8 +1,6 @@
 use Rattle.std.proofs.Common.{sym, ap, ◌∙◌, arith}
 use Rattle.cept_codes.specs.Look.{blank_look}
 use Rattle.cept_codes.proofs.Laws.{HasMadeEntries-none}
-use Rattle.cept_profile.specs.Serial.{row_in}
-use Rattle.cept_rows.specs.DrawnWith.{drawn_with}
 use Rattle.cept_rows.proofs.RowsAlone.{shown_alone}
 use Rattle.cept_rows.proofs.resolving.each_first.Goals as goal
 
@@ -18,10 +16,9 @@ returns-clause-looks c =
       long = made.long;
       made = λ k low high below.
           made.made k low high below
-          ∙ shown_alone (drawn_with c.args.colours.now c.args.patterns.now) c.args.above.now (row_in c.args.cells.now)
-          c.args.row.now c.args.screen.now c.args.last c.each_plain.result
+          ∙ shown_alone c.args.source.now c.args.above.now c.each_plain.result
           (single.uncovered c.if-not-is_single_beneath.false) c.each_plain.ensures.size
-          (ap (λ f. f.size) (sym c.requires.full) ∙ single.single c.if-not-is_single_beneath.false) k low
+          (ap (λ f. f.size) (sym c.requires) ∙ single.single c.if-not-is_single_beneath.false) k low
           (omega (arith, below, c.each_plain.ensures.from_left));
       left = made.left;
     }

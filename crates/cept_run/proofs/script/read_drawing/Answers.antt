@@ -1,7 +1,6 @@
 use Rattle.std.proofs.Common.{ap}
-use Rattle.std.specs.Option.{option_map}
 use Rattle.std.proofs.lemmas.Result.{err_from_is_err_and}
-use Rattle.cept_run.specs.Course.{Drawings, as_fault}
+use Rattle.cept_run.specs.Course.{Drawings}
 use Rattle.cept_run.specs.Events.{Figures}
 use Rattle.cept_run.specs.ScriptReading.{as_script_fault}
 use Rattle.cept_run.proofs.ReadScripts.{script_unread, script_good, script_faulty, drawing_faulty}
@@ -16,7 +15,7 @@ returns-in_err-bytes-clause-ends g c =
 -- it was read
 pub returns-in-Ok-clause-ends : goal.returns-in-Ok-clause-ends
 returns-in-Ok-clause-ends g c = script_good Drawings _ _ _ _ c.in_ok-bytes.ensures.whole Figures _ _
-    (ap (option_map as_fault) (rw c.as_slice.ensures.value at c.in-Ok.ensures.good))
+    (rw c.as_slice.ensures.value at c.in-Ok.ensures.good)
     (ap Figures (rw c.as_slice.ensures.value at c.in-Ok.ensures.figures))
 
 -- it is outside the grammar, or there is no memory

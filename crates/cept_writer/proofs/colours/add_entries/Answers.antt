@@ -22,9 +22,9 @@ loop-i-preserved c =
     record {
       commands = one_added (λ j. piece_after entry_piece (last_below of_number j) (of_number j)) 0 i i _ _ _
           (omega arith) c.loop-i.invariant.commands
-          (c.add_changed-next.ensures.commands ∙ ap (λ l. c.loop-i.list ++ l)
+          (c.add_changed-next.ensures.adds.commands ∙ ap (λ l. c.loop-i.list ++ l)
           (entry_is paints i c.loop-i.next c.colour.result c.loop-i.invariant.next paint));
-      len = omega (arith, c.add_changed-next.ensures.len, c.loop-i.invariant.len);
+      len = omega (arith, c.add_changed-next.ensures.adds.len, c.loop-i.invariant.len);
       next = c.add_changed-next.ensures.next
           ∙ number_is paints i c.loop-i.next c.colour.result c.loop-i.invariant.next paint;
     }

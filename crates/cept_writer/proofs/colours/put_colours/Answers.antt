@@ -7,13 +7,16 @@ use Rattle.cept_writer.proofs.ColoursPut.{colours_headed}
 use Rattle.cept_writer.proofs.EntriesPut.{entries_valid}
 use Rattle.cept_writer.proofs.colours.put_colours.Goals as goal
 
-pub put_headed-requires-clause-valid : goal.put_headed-requires-clause-valid
-put_headed-requires-clause-valid g c =
+pub put_headed-requires : goal.put_headed-requires
+put_headed-requires g c =
     let entries = pieces_in_turn entry_piece (entry_numbered c.args.screen.now.page.paints) 32 in
     let is = c.as_slice.ensures.commands ∙ c.add_entries.ensures
     ∙ ap (λ l. l ++ entries) (c.add.ensures.commands ∙ ap (λ l. l ++ commands.ColourHeader false ∷ []) c.new-list.ensures) in
-    subst AllValid (sym is)
-    (tt, entries_valid (core_of c.args.screen.now) (c.validity_is_kept.ensures.core c.args.screen.now c.rows-rows.ensures.valid))
+    record {
+      few = c.as_slice.ensures.few;
+      valid = subst AllValid (sym is)
+          (tt, entries_valid (core_of c.args.screen.now) (c.validity_is_kept.ensures.core c.args.screen.now c.rows-rows.ensures.valid));
+    }
 
 pub returns : goal.returns
 returns g c =

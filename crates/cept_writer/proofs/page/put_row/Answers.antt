@@ -8,13 +8,16 @@ use Rattle.cept_writer.proofs.ColoursPut.{row_headed}
 use Rattle.cept_writer.proofs.PageCommandsValid.{row_valid}
 use Rattle.cept_writer.proofs.page.put_row.Goals as goal
 
-pub put_headed-requires-clause-valid : goal.put_headed-requires-clause-valid
-put_headed-requires-clause-valid g c =
+pub put_headed-requires : goal.put_headed-requires
+put_headed-requires g c =
     let pen = c.row_pen.result in
     let is = c.as_slice.ensures.commands ∙ c.add_pen.ensures.commands
     ∙ ap (λ l. l ++ pen_commands (λ n. commands.FullRow n) pen)
     (c.add.ensures.commands ∙ ap (λ l. l ++ commands.Position c.args.row 1 ∷ []) c.new-list.ensures) in
-    subst AllValid (sym is) (row_valid c.args.row pen c.requires.from_top c.requires.to_bottom c.row_pen.ensures.valid)
+    record {
+      few = c.as_slice.ensures.few;
+      valid = subst AllValid (sym is) (row_valid c.args.row pen c.requires.from_top c.requires.to_bottom c.row_pen.ensures.valid);
+    }
 
 pub returns : goal.returns
 returns g c =

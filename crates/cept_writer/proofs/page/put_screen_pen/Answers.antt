@@ -6,12 +6,15 @@ use Rattle.cept_writer.specs.AttributeCommands.{pen_commands}
 use Rattle.cept_writer.proofs.PageCommandsValid.{screen_valid}
 use Rattle.cept_writer.proofs.page.put_screen_pen.Goals as goal
 
-pub put_commands-requires-clause-valid : goal.put_commands-requires-clause-valid
-put_commands-requires-clause-valid g c =
+pub put_commands-requires : goal.put_commands-requires
+put_commands-requires g c =
     let pen = c.screen_pen.result in
     let is = c.as_slice.ensures.commands ∙ c.add_pen.ensures.commands
     ∙ ap (λ l. l ++ pen_commands (λ n. commands.FullScreen n) pen) c.new-list.ensures in
-    subst AllValid (sym is) (screen_valid pen c.screen_pen.ensures.valid)
+    record {
+      few = c.as_slice.ensures.few;
+      valid = subst AllValid (sym is) (screen_valid pen c.screen_pen.ensures.valid);
+    }
 
 pub returns : goal.returns
 returns g c =

@@ -10,10 +10,10 @@ answer : goal.returns-clause-answer
 answer c =
     c.put_into.ensures.answer
     ∙ ap (λ (x : Cell). not x.protected)
-    (entry_from blank_cell 1 c.index_mut-row.result.now c.col.result (omega (arith, c.col.ensures))
+    (entry_from blank_cell 1 c.index_mut-row.result.now c.in_column.result (omega (arith, c.in_column.ensures))
     ∙ value_read c.self.invariant c.self.view_is c.args.place c.row.result c.index.result
-    (c.col.result - 1) c.index_mut-row.result.now _ c.row.ensures.on_screen c.row.ensures.row c.index.ensures.index
-    (omega (arith, c.col.ensures)) c.index_mut-row.ensures.value)
+    (c.in_column.result - 1) c.index_mut-row.result.now _ c.row.ensures.on_screen c.row.ensures.row c.index.ensures.index
+    (omega (arith, c.in_column.ensures)) c.index_mut-row.ensures.value)
 
 pub returns-clause-answer : goal.returns-clause-answer
 returns-clause-answer c = answer c
@@ -21,5 +21,5 @@ returns-clause-answer c = answer c
 pub returns-clause-cells : goal.returns-clause-cells
 returns-clause-cells c =
     put_in_slot c.self.invariant c.self.view_is c.args.place c.args.cell c.put_into.result
-    c.row.result c.col.result c.index.result c.index_mut-row.result.now _ _ c.row.ensures.on_screen c.row.ensures.row
-    c.col.ensures.column c.index.ensures.index c.index_mut-row.ensures.value (answer c) c.put_into.ensures.cells
+    c.row.result c.in_column.result c.index.result c.index_mut-row.result.now _ _ c.row.ensures.on_screen c.row.ensures.row
+    c.in_column.ensures.column c.index.ensures.index c.index_mut-row.ensures.value (answer c) c.put_into.ensures.cells

@@ -8,12 +8,12 @@ add-requires c =
     omega (
       arith,
       end_most _ _ _ _ _ c.self.invariant,
-      lines_fit_in _ _ _ _ _ _ c.args.lines c.self.invariant c.self.view_is c.requires.whole c.requires.room,
+      lines_fit_in _ _ _ _ _ _ c.args.lines c.self.invariant c.self.view_is c.requires.whole c.requires.enough,
     )
 
 pub invariant_of-self : goal.invariant_of-self
 invariant_of-self c =
-    kept_lines _ _ _ _ _ _ _ c.args.lines c.self.invariant c.self.view_is c.requires.whole c.requires.room
+    kept_lines _ _ _ _ _ _ _ c.args.lines c.self.invariant c.self.view_is c.requires.whole c.requires.enough
     (long_same c.self.inside.form c.self.inside.strips _ c.args.lines _ _ c.strips_in-strips.ensures.strips
     c.add.ensures)
 

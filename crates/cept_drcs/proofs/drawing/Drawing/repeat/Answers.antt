@@ -3,13 +3,13 @@ use Rattle.cept_drcs.proofs.drawing.Drawing.repeat.Goals as goal
 
 pub add_pairs-requires : goal.add_pairs-requires
 add_pairs-requires c =
-    pairs_fit_in _ _ _ _ _ _ c.args.lines c.self.invariant c.self.view_is c.requires.whole c.requires.room
+    pairs_fit_in _ _ _ _ _ _ c.args.lines c.self.invariant c.self.view_is c.requires.whole c.requires.enough
     c.if-self-eq6.false
 
 pub invariant_of-self-else-self-eq6 : goal.invariant_of-self-else-self-eq6
 invariant_of-self-else-self-eq6 c =
     kept_lines _ _ _ _ c.self.inside.strips _ _ c.args.lines c.self.invariant c.self.view_is c.requires.whole
-    c.requires.room
+    c.requires.enough
     (long_pairs c.self.inside.form c.self.inside.strips _ c.args.lines _ _ c.if-self-eq6.false c.add_pairs.ensures)
 
 pub returns-then-self-eq6 : goal.returns-then-self-eq6

@@ -11,7 +11,7 @@ returns-in_err-applied-clause-goes_on g c =
     (c.apply_commands-applied.ensures.edit.at_begin ∙ c.begin.ensures.at_begin)
     ∙ ap (λ l. take most_kept (c.self.inside.screen ∷ l)) (c.apply_commands-applied.ensures.edit.past ∙ c.begin.ensures.past) in
     rw (← c.self.view_is, (err_from_is_err_and c.from_residual.result c.from_residual.ensures.1).1) (edit_cut
-    c.args.listed c.args.line c.args.commands _ _ _ _ c.in_err-applied.ensures.applies c.requires.valid c.requires.some
+    c.args.listing.now.listed c.args.listing.now.line c.args.commands _ _ _ _ c.in_err-applied.ensures.applies c.requires.valid c.requires.some
     past (c.commit.ensures.future _))
 
 pub returns-in_err-applied-clause-made : goal.returns-in_err-applied-clause-made
@@ -28,7 +28,7 @@ returns-clause-goes_on g c =
     (c.apply_commands-applied.ensures.edit.at_begin ∙ c.begin.ensures.at_begin)
     ∙ ap (λ l. take most_kept (c.self.inside.screen ∷ l)) (c.apply_commands-applied.ensures.edit.past ∙ c.begin.ensures.past) in
     rw (← c.self.view_is) (edit_made
-    c.args.listed c.args.line c.args.commands _ _ _ _ c.in_ok-applied.ensures.applies c.requires.valid c.requires.some
+    c.args.listing.now.listed c.args.listing.now.line c.args.commands _ _ _ _ c.in_ok-applied.ensures.applies c.requires.valid c.requires.some
     past (c.commit.ensures.future _))
 
 pub returns-clause-made : goal.returns-clause-made

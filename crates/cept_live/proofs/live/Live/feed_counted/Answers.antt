@@ -1,4 +1,4 @@
-use Rattle.std.proofs.Common.{arith}
+use Rattle.std.proofs.Common.{arith, inl, inr}
 use Rattle.cept_live.proofs.BytesFed.{Feeds-none, Feeds-next, possible-next, possible-none, possible-refused}
 use Rattle.cept_live.proofs.live.Live.feed_counted.Goals as goal
 
@@ -23,12 +23,35 @@ loop-taken-preserved g c =
           (omega (arith, c.if-list-notices-ge-ROOM_FOR_A_BYTE.true, so_far.few));
     }
 
-pub returns-after-loop-taken-clause-refused : goal.returns-after-loop-taken-clause-refused
-returns-after-loop-taken-clause-refused g c = possible-refused _ _ _ _ _ _ c.loop-taken.invariant.if_possible
+pub returns-after-loop-taken : goal.returns-after-loop-taken
+returns-after-loop-taken g c =
+    let so_far = c.loop-taken.invariant in
+    record {
+      feeds = so_far.feeds;
+      most = so_far.most;
+      within = omega (arith, so_far.few, so_far.feeds.room);
+      stops = inl (omega (arith, c.loop-taken-test.false));
+      refused = possible-refused _ _ _ _ _ _ so_far.if_possible;
+    }
 
-pub returns-else-list-notices-ge-ROOM_FOR_A_BYTE-clause-refused : goal.returns-else-list-notices-ge-ROOM_FOR_A_BYTE-clause-refused
-returns-else-list-notices-ge-ROOM_FOR_A_BYTE-clause-refused g c =
-    possible-refused _ _ _ _ _ _ c.loop-taken.invariant.if_possible
+pub returns-else-list-notices-ge-ROOM_FOR_A_BYTE : goal.returns-else-list-notices-ge-ROOM_FOR_A_BYTE
+returns-else-list-notices-ge-ROOM_FOR_A_BYTE g c =
+    let so_far = c.loop-taken.invariant in
+    record {
+      feeds = so_far.feeds;
+      most = so_far.most;
+      within = omega (arith, so_far.few, so_far.feeds.room);
+      stops = inr (inl (omega (arith, c.if-list-notices-ge-ROOM_FOR_A_BYTE.false, so_far.few)));
+      refused = possible-refused _ _ _ _ _ _ so_far.if_possible;
+    }
 
-pub returns-else-takes_more-clause-refused : goal.returns-else-takes_more-clause-refused
-returns-else-takes_more-clause-refused g c = possible-refused _ _ _ _ _ _ c.loop-taken.invariant.if_possible
+pub returns-else-takes_more : goal.returns-else-takes_more
+returns-else-takes_more g c =
+    let so_far = c.loop-taken.invariant in
+    record {
+      feeds = so_far.feeds;
+      most = so_far.most;
+      within = omega (arith, so_far.few, so_far.feeds.room);
+      stops = inr (inr (c.takes_more.ensures.no_more c.if-takes_more.false));
+      refused = possible-refused _ _ _ _ _ _ so_far.if_possible;
+    }

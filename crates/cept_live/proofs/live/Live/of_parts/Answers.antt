@@ -7,7 +7,7 @@ use Rattle.cept_live.proofs.PagesRead.{live_back, parser_back, phase_back}
 use Rattle.cept_live.proofs.live.Live.of_parts.Goals as goal
 
 pub returns-clause-back : goal.returns-clause-back
-returns-clause-back c = λ live bytes fed valid parts.
+returns-clause-back c = λ live bytes fed parts.
     let history = commands_of (items bytes) in
     let reads = c.in-Some.ensures.resumed
     ∙ parser_back live.parser _ _ _ fed.parser.running parts.place parts.context parts.pending in
@@ -20,4 +20,4 @@ returns-clause-back c = λ live bytes fed valid parts.
     (ap (λ (s : State). page_text (core_of s)) (sym fed.screen.is) ∙ sym parts.page)
     (control ∙ ap (λ (s : State). s.control) fed.screen.is) in cc) in
     ap (λ l. Some l) (live_back live _ _ _ _ reads (screen ∙ sym fed.screen.is)
-    (parts.phase ∙ phase_back live.phase valid) (c.marks_of.ensures live.renewed (sym parts.renewed) fed.places))
+    (parts.phase ∙ phase_back live.phase fed.phase) (c.marks_of.ensures live.renewed (sym parts.renewed) fed.places))

@@ -6,8 +6,13 @@ use Rattle.cept_parser.proofs.WaitingLemmas.{closing_none, closing_one}
 use Rattle.cept_parser.proofs.parser.Parser.last_items.Goals as goal
 use Rattle.cept_parser.proofs.parser.Parser.last_items.Goals.{After-said_at_end}
 
-pub said_at_end-requires-clause-fits : goal.said_at_end-requires-clause-fits
-said_at_end-requires-clause-fits c = waits_fits _ _ c.self.invariant.waits.waits
+pub said_at_end-requires : goal.said_at_end-requires
+said_at_end-requires c =
+    record {
+      form = c.self.invariant.waits.context.form;
+      beside = c.self.invariant.beside;
+      fits = waits_fits _ _ c.self.invariant.waits.waits;
+    }
 
 -- what is pending, as the item that is made of it
 abbrev item : After-said_at_end → Item

@@ -1,8 +1,15 @@
-use Rattle.cept_parser.proofs.ReaderLemmas.{waiting_from, idle_free}
+use Rattle.cept_parser.proofs.ReaderLemmas.{may_from, idle_free}
 use Rattle.cept_parser.proofs.reader.Reader.read.Goals as goal
 
-pub begin-requires-clause-free : goal.begin-requires-clause-free
-begin-requires-clause-free c = idle_free _ _ _ _ c.requires.waits.beside (c.is_empty.ensures.none c.if-is_empty.true)
+pub begin-requires-clause-idle : goal.begin-requires-clause-idle
+begin-requires-clause-idle c =
+    let none = c.is_empty.ensures.none c.if-is_empty.true in
+    record {
+      none = none;
+      free = idle_free _ _ _ _ c.requires.waits.beside none;
+      form = c.requires.waits.waits.context.form;
+    }
 
-pub go_on-requires-clause-waits : goal.go_on-requires-clause-waits
-go_on-requires-clause-waits c = waiting_from _ c.args.place c.start-at.result c.requires.waits c.start-at.ensures
+pub go_on-requires-clause-may : goal.go_on-requires-clause-may
+go_on-requires-clause-may c =
+    may_from _ c.args.place c.start-at.result _ c.requires.waits c.requires.few c.requires.empty c.start-at.ensures

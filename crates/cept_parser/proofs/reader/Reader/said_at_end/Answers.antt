@@ -7,9 +7,13 @@ use Rattle.cept_parser.proofs.OneByteMoreLemmas.{end_answer}
 use Rattle.cept_parser.proofs.ReaderLemmas.{beside_free, loaded, loaded_end}
 use Rattle.cept_parser.proofs.reader.Reader.said_at_end.Goals as goal
 
-pub fit_of-requires-clause-other : goal.fit_of-requires-clause-other
-fit_of-requires-clause-other c h =
-    absurd (both_ways _ (beside_free _ _ _ _ c.requires.beside c.if-self.false) (rw (← c.as_slice.ensures.value) h))
+pub fit_of-requires : goal.fit_of-requires
+fit_of-requires c =
+    record {
+      form = c.requires.form;
+      other = λ h. absurd (both_ways _ (beside_free _ _ _ _ c.requires.beside c.if-self.false)
+          (rw (← c.as_slice.ensures.value) h));
+    }
 
 pub returns : goal.returns
 returns c =

@@ -13,8 +13,8 @@ loop-i-init c =
 pub loop-i-preserved : goal.loop-i-preserved
 loop-i-preserved c =
     dclut_more (with_paints (λ _. true) (paint_in c.args.colours.now.paints) c.args.self.now) c.loop-i.self
-    c.note_dclut.new.self (dclut_in c.args.colours.now.dclut) c.loop-i.i (c.loop-i.i + 1) c.dclut.result
-    c.loop-i.invariant c.note_dclut.ensures refl c.dclut.ensures.dclut
+    c.note_dclut.new.self (dclut_in c.args.colours.now.dclut) c.loop-i.i (c.loop-i.i + 1)
+    c.loop-i.invariant c.note_dclut.ensures refl
 
 pub returns : goal.returns
 returns c =

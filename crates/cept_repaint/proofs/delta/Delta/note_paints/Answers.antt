@@ -9,7 +9,7 @@ loop-i-init c = paints_none c.args.self.now (paint_in c.args.colours.now.paints)
 pub loop-i-preserved : goal.loop-i-preserved
 loop-i-preserved c =
     paints_more c.args.self.now c.loop-i.self c.note_paint.new.self (paint_in c.args.colours.now.paints) c.loop-i.i
-    (c.loop-i.i + 1) c.paint.result c.loop-i.invariant c.note_paint.ensures refl c.paint.ensures.paint
+    (c.loop-i.i + 1) c.loop-i.invariant c.note_paint.ensures refl
 
 pub returns : goal.returns
 returns c =

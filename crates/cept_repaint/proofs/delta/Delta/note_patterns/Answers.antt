@@ -10,8 +10,7 @@ loop-code-init c =
 pub loop-code-preserved : goal.loop-code-preserved
 loop-code-preserved c =
     patterns_more c.args.self.now c.loop-code.self c.note_pattern.new.self (pattern_in c.args.patterns.now)
-    c.loop-code.code (c.loop-code.code + 1) c.get.result c.loop-code.invariant c.note_pattern.ensures refl
-    c.get.ensures.pattern
+    c.loop-code.code (c.loop-code.code + 1) c.loop-code.invariant c.note_pattern.ensures refl
 
 pub returns : goal.returns
 returns c =

@@ -10,11 +10,11 @@ use Rattle.cept_repaint.proofs.delta.Delta.notes_cells.Goals as goal
 
 pub returns-then-self-index : goal.returns-then-self-index
 returns-then-self-index c =
-    let here : get_or c.self.inside.cells.items (c.from-index.result - 1) c.index.result.now
+    let here : get_or c.self.inside.cells.items c.index-index.result c.index.result.now
     ≡ get_or c.self.inside.cells.items (c.args.row - 1) [] =
-    get_or_default c.self.inside.cells.items (c.from-index.result - 1) c.index.result.now []
+    get_or_default c.self.inside.cells.items c.index-index.result c.index.result.now []
     (omega (arith, c.self.invariant.places.cells.rows))
-    ∙ ap (λ n. get_or c.self.inside.cells.items (n - 1) []) c.from-index.ensures in
+    ∙ ap (λ n. get_or c.self.inside.cells.items n []) c.index-index.ensures.index in
     c.one_noted.ensures ∙ ap (λ (l : List (Option Cell)). list_any is_some l) (c.index.ensures ∙ here)
     ∙ ap (λ (old : OldValues). notes_cells old c.args.row) c.self.view_is
 
@@ -22,9 +22,9 @@ pub returns-else-self-index : goal.returns-else-self-index
 returns-else-self-index c =
     let unset = c.if-self-index.false in
     unset
-    ∙ sym (none_in_row c.self.inside.cells.items c.args.row c.self.invariant.places.cells c.requires.from_top
-    c.requires.to_bottom (λ k on.
+    ∙ sym (none_in_row c.self.inside.cells.items c.args.row c.self.invariant.places.cells (omega arith)
+    (omega arith) (λ k on.
     c.self.invariant.flagged.cells c.args.row k on
-    (entry_from false 1 c.self.inside.rows c.args.row c.requires.from_top
-    ∙ ap (λ n. get_or c.self.inside.rows (n - 1) false) (sym c.from-index.ensures) ∙ unset)))
+    (entry_from false 1 c.self.inside.rows c.args.row (omega arith)
+    ∙ ap (λ n. get_or c.self.inside.rows n false) (sym c.index-index.ensures.index) ∙ unset)))
     ∙ ap (λ (old : OldValues). notes_cells old c.args.row) c.self.view_is

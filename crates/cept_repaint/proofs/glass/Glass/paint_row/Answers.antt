@@ -1,11 +1,9 @@
 use Rattle.std.proofs.Common.{false, get_or, sym, ap, ◌∙◌, arith}
-use Rattle.std.proofs.lemmas.Bool.{false≢true}
 use Rattle.cept_profile.specs.Look.{looks_of}
 use Rattle.cept_profile.specs.State.{core_of}
 use Rattle.cept_repaint.proofs.PaintedRows.{PaintedTo-all, PaintedTo-as, PaintedTo-left, PaintedTo-more, PaintedTo-none}
 use Rattle.cept_repaint.proofs.glass.Glass.paint_row.Goals as goal
-use Rattle.cept_repaint.proofs.glass.Glass.paint_row.Goals.{else-flags-from, then-flags-from+in-Some}
-use Rattle.cept_repaint.proofs.glass.Glass.paint_row.Goals.{then-flags-from+in_default}
+use Rattle.cept_repaint.proofs.glass.Glass.paint_row.Goals.{else-flags-from, then-flags-from}
 
 pub loop-k-init : goal.loop-k-init
 loop-k-init g c =
@@ -15,17 +13,10 @@ pub loop-k-preserved : goal.loop-k-preserved
 loop-k-preserved g c =
     let flag = ap (λ i. get_or c.args.flags.now i false) (sym c.from.ensures) in
     elim c.if-flags-from.branch [
-      | then-flags-from+in-Some w ↦
+      | then-flags-from w ↦
           PaintedTo-as (ap g.Self.Glass.state w.self-is)
-          (PaintedTo-more c.loop-k.invariant (flag ∙ w.if-flags-from.true) w.in-Some.at
-          (g.Self.Glass.state w.paint.new.self) w.in-Some.ensures.place.0 w.in-Some.ensures.place.1 w.paint.ensures)
-      | then-flags-from+in_default w ↦
-          absurd (false≢true (w.in_default.ensures.exactly.1 (record {
-            from_top = c.requires.from_top;
-            to_bottom = c.requires.to_bottom;
-            from_left = omega arith;
-            to_right = omega arith;
-          })))
+          (PaintedTo-more c.loop-k.invariant (flag ∙ w.if-flags-from.true) w.at.result
+          (g.Self.Glass.state w.paint.new.self) w.at.ensures.row (w.at.ensures.column ∙ w.numbered.ensures) w.paint.ensures)
       | else-flags-from w ↦
           PaintedTo-as (ap g.Self.Glass.state w.self-is)
           (PaintedTo-left c.loop-k.invariant (flag ∙ w.if-flags-from.false))

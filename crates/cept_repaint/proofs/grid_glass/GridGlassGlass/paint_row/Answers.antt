@@ -14,8 +14,8 @@ use Rattle.cept_repaint.proofs.grid_glass.GridGlassGlass.paint_row.Goals as goal
 pub invariant_of-self : goal.invariant_of-self
 invariant_of-self c = record {
   valid = subst (λ (g : List (List Look)). IsValidGrid g) (sym c.copy_flagged.ensures)
-      (flagged_valid c.args.self.now.valid c.args.flags.now c.args.row c.row_looks-looks.result.now c.requires.from_top
-      c.requires.to_bottom c.columns_by_type.ensures.valid);
+      (flagged_valid c.args.self.now.valid c.args.flags.now c.args.row c.row_looks-looks.result.now c.number.ensures.in_range.0
+      c.number.ensures.in_range.1 c.columns_by_type.ensures.valid);
 }
 
 pub returns : goal.returns
@@ -23,9 +23,10 @@ returns c = record {
   grid = c.copy_flagged.ensures
       ∙ ap (λ (l : List Look). set c.args.self.now.rows (c.args.row - 1) (row_of (λ column.
       cond (entry false 1 c.args.flags.now column) (column_entry blank_look l column)
-      (column_entry blank_look (looks_in c.args.self.now.rows c.args.row) column)))) c.row_looks-looks.ensures.looks
+      (column_entry blank_look (looks_in c.args.self.now.rows c.args.row) column))))
+      (c.row_looks-looks.ensures.looks ∙ ap (looks_in (looks_of (core_of c.args.screen.now))) c.number.ensures.number)
       ∙ row_painted c.args.flags.now c.args.row (looks_of (core_of c.args.screen.now)) c.args.self.now.rows
-      (IsTable-table (look (core_of c.args.screen.now))) c.args.self.now.valid.table c.requires.from_top
-      c.requires.to_bottom;
+      (IsTable-table (look (core_of c.args.screen.now))) c.args.self.now.valid.table c.number.ensures.in_range.0
+      c.number.ensures.in_range.1;
   listed = search rules;
 }

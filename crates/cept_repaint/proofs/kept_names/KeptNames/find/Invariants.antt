@@ -5,9 +5,9 @@ use Rattle.cept_repaint.specs.Kept.{core_on}
 use Rattle.cept_repaint.specs.Named.{AreNamed, is_known}
 use Rattle.cept_repaint.proofs.kept_names.KeptNames.find.Given as goal
 
-abbrev pub invariant-loop-row : goal.invariant-loop-row
-invariant-loop-row l = record {
+abbrev pub invariant-loop-number : goal.invariant-loop-number
+invariant-loop-number l = record {
   named : (k : Core) → l.kept ≡ looks_of (core_on k l.page) → AreNamed l.fn.self (core_on k l.page)
       → AreNamed l.self (core_on k l.page);
-  known : (r : ℕ) → 1 ≤ r → r < l.row → is_known l.self r ≡ true;
+  known : (r : ℕ) → 1 ≤ r → r < l.number → is_known l.self r ≡ true;
 }

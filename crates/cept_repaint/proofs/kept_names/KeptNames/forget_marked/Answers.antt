@@ -12,14 +12,14 @@ loop-place-init c = record {
 pub loop-place-preserved : goal.loop-place-preserved
 loop-place-preserved c =
     let end : c.in-Some.place.row ≡ c.from-from.result =
-    omega (arith, c.from-from.ensures, c.row-in-Some.ensures.row) in
+    omega (arith, c.from-from.ensures, c.row.ensures.row) in
     record {
       forgotten =
           subst (λ n. AreRemembered c.args.self.now c.forget-in-Some.new.self (λ r. (r ≢ c.args.row)
           × IsUnmarkedBelow c.args.marks.now (40 * n) r)) end
           (forgotten-more c.args.marks.now c.args.row c.loop-place.from c.loop-place.invariant.forgotten
           c.in-Some.place c.in-Some.ensures.first
-          (subst (λ n. AreRemembered c.loop-place.self c.forget-in-Some.new.self (λ r. r ≢ n)) c.row.ensures.row
+          (subst (λ n. AreRemembered c.loop-place.self c.forget-in-Some.new.self (λ r. r ≢ n)) c.in_row.ensures.row
           c.forget-in-Some.ensures));
       high = omega (arith, end, c.row.ensures.on_screen);
     }

@@ -4,7 +4,7 @@ use Rattle.cept_repaint.proofs.kept_names.KeptNames.forget_marked.Given as goal
 
 abbrev pub invariant-loop-place : goal.invariant-loop-place
 invariant-loop-place l = record {
-  forgotten : AreRemembered l.fn.self l.self (λ r. (r ≢ l.row) × IsUnmarkedBelow l.marks l.from r);
+  forgotten : AreRemembered l.fn.self l.self (λ r. (r ≢ l.fn.row) × IsUnmarkedBelow l.marks l.from r);
   high : l.from ≤ 960;
 }
 

@@ -10,20 +10,20 @@ use Rattle.cept_repaint.proofs.kept_names.KeptNames.name.Goals as goal
 pub returns-then-at-lt23-clause-named : goal.returns-then-at-lt23-clause-named
 returns-then-at-lt23-clause-named c k seen are =
     AreNamed-above c.self.inside.above c.self.inside.rows c.self.inside.known c.args.self.now c.self.view_is
-    (core_on k c.args.page.now) are c.args.row c.from-at.result c.from-at.ensures c.requires.from_top (omega arith)
+    (core_on k c.args.page.now) are c.args.row c.index-at.result c.index-at.ensures.index c.index-at.ensures.in_range.0 (omega arith)
     c.name_row-names.result
     (λ column on. c.name_row-names.ensures k column on seen
     ∙ ap (λ (n : RowNames). names_beneath n (core_on k c.args.page.now) c.args.row column) c.above.ensures)
     c.is_same-same.result
-    (λ yes. c.is_same-same.ensures yes ∙ get_or_default c.self.inside.rows (c.from-at.result - 1) _ c.self.inside.above (omega (arith, c.from-at.ensures, c.self.invariant.0))
-    ∙ ap (λ n. get_or c.self.inside.rows (n - 1) c.self.inside.above) c.from-at.ensures
-    ∙ sym (entry_from c.self.inside.above 1 c.self.inside.rows c.args.row c.requires.from_top)
+    (λ yes. c.is_same-same.ensures yes ∙ get_or_default c.self.inside.rows c.index-at.result _ c.self.inside.above (omega (arith, c.index-at.ensures.below, c.self.invariant.0))
+    ∙ ap (λ n. get_or c.self.inside.rows n c.self.inside.above) c.index-at.ensures.index
+    ∙ sym (entry_from c.self.inside.above 1 c.self.inside.rows c.args.row c.index-at.ensures.in_range.0)
     ∙ ap (λ (n : NamesOfRows). row_named n c.args.row) c.self.view_is)
 
 pub returns-else-at-lt23-clause-named : goal.returns-else-at-lt23-clause-named
 returns-else-at-lt23-clause-named c k seen are =
     AreNamed-last c.self.inside.above c.self.inside.rows c.self.inside.known c.args.self.now c.self.view_is
-    (core_on k c.args.page.now) are c.args.row c.from-at.result c.from-at.ensures c.requires.from_top
-    c.requires.to_bottom (omega arith) c.name_row-names.result
+    (core_on k c.args.page.now) are c.args.row c.index-at.result c.index-at.ensures.index c.index-at.ensures.in_range.0
+    c.index-at.ensures.in_range.1 (omega arith) c.name_row-names.result
     (λ column on. c.name_row-names.ensures k column on seen
     ∙ ap (λ (n : RowNames). names_beneath n (core_on k c.args.page.now) c.args.row column) c.above.ensures)

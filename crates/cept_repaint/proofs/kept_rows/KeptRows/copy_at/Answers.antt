@@ -13,8 +13,8 @@ returns c =
     (omega (arith, c.row.ensures)) (omega (arith, c.row.ensures)) c.index.ensures.index
     ∙ ap (λ (l : List Look). set c.args.self.now (c.row.result - 1) l)
     (c.copy_at.ensures
-    ∙ ap (λ k. set row (c.col.result - 1) (column_entry blank_look c.args.from.now k)) c.col.ensures.column)
+    ∙ ap (λ k. set row (c.in_column.result - 1) (column_entry blank_look c.args.from.now k)) c.in_column.ensures.column)
     ∙ painted_is (IsTable-rows c.self.invariant.0 c.self.view_is) refl c.args.place _ (c.row.result - 1)
-    (c.col.result - 1) row [] c.col.ensures.on_screen (omega (arith, c.row.ensures)) (omega (arith, c.col.ensures))
+    (c.in_column.result - 1) row [] c.in_column.ensures.on_screen (omega (arith, c.row.ensures)) (omega (arith, c.in_column.ensures))
     (c.index_mut.ensures.value ∙ row_read c.self.invariant.0 c.self.view_is c.row.result c.index.result _ []
     (omega (arith, c.row.ensures)) (omega (arith, c.row.ensures)) c.index.ensures.index)

@@ -4,5 +4,5 @@ use Rattle.cept_repaint.proofs.kept_rows.KeptRows.copy_from.Goals as goal
 
 pub returns : goal.returns
 returns c =
-    tables-same c.loop-row.self c.args.from.now c.loop-row.invariant.0 c.whole_by_type-2.ensures
-    (λ r low high. c.loop-row.invariant.1 r low high (omega arith))
+    tables-same c.loop-number.self c.args.from.now c.loop-number.invariant.0 c.whole_by_type-2.ensures
+    (λ r low high. c.loop-number.invariant.1 r low high (omega arith))

@@ -1,8 +1,10 @@
-use Rattle.std.proofs.Common.{◌-◌, not, List, [], refl, set, ap, ◌∙◌, arith}
+use Rattle.std.proofs.Common.{◌≡◌, ◌-◌, not, List, [], refl, set, ap, ◌∙◌, arith}
 use Rattle.cept_codes.specs.declared.look.Look.{Look}
+use Rattle.cept_codes.specs.Look.{blank_look}
 use Rattle.cept_codes.specs.Same.{same_look}
-use Rattle.cept_profile.specs.Look.{look_of}
-use Rattle.cept_rows.specs.DrawnWith.{drawn_with}
+use Rattle.cept_profile.specs.Changes.{look_at}
+use Rattle.cept_profile.specs.Tiling.{column_entry}
+use Rattle.cept_rows.specs.Source.{look_by_itself}
 use Rattle.cept_scroll.proofs.Laws.{IsTable-rows, row_read, row_written}
 use Rattle.cept_repaint.specs.Kept.{looks_differ}
 use Rattle.cept_repaint.proofs.LooksWritten.{painted_is, read_is}
@@ -14,22 +16,24 @@ returns-clause-looks g c =
     row_written c.self.invariant.0 c.self.view_is c.row.result c.index.result c.resolve_alone.new.self
     (omega (arith, c.row.ensures)) (omega (arith, c.row.ensures)) c.index.ensures.index
     ∙ ap (λ (l : List Look). set c.args.self.now (c.row.result - 1) l)
-    {y = set row (c.col.result - 1) (look_of (drawn_with c.args.colours.now c.args.patterns.now) c.args.row.now
-    c.args.screen.now c.args.what.now)} c.resolve_alone.ensures.looks
-    ∙ painted_is (IsTable-rows c.self.invariant.0 c.self.view_is) refl c.args.place (look_of
-    (drawn_with c.args.colours.now c.args.patterns.now) c.args.row.now c.args.screen.now c.args.what.now)
-    (c.row.result - 1) (c.col.result - 1) row [] c.col.ensures.on_screen (omega (arith, c.row.ensures))
-    (omega (arith, c.col.ensures))
+    {y = set row (c.in_column.result - 1) (look_by_itself c.args.source.now c.args.place.column)}
+    (c.resolve_alone.ensures.looks
+    ∙ ap (λ k. set row (c.in_column.result - 1) (look_by_itself c.args.source.now k)) c.in_column.ensures.column)
+    ∙ painted_is (IsTable-rows c.self.invariant.0 c.self.view_is) refl c.args.place
+    (look_by_itself c.args.source.now c.args.place.column)
+    (c.row.result - 1) (c.in_column.result - 1) row [] c.in_column.ensures.on_screen (omega (arith, c.row.ensures))
+    (omega (arith, c.in_column.ensures))
     (c.index_mut-kept.ensures.value ∙ row_read c.self.invariant.0 c.self.view_is c.row.result c.index.result _ []
     (omega (arith, c.row.ensures)) (omega (arith, c.row.ensures)) c.index.ensures.index)
 
 pub returns-clause-differs : goal.returns-clause-differs
 unfolding looks_differ
 returns-clause-differs g c =
-    c.resolve_alone.ensures.differs
-    ∙ ap (λ (l : Look). not (same_look l (look_of
-    (drawn_with c.args.colours.now c.args.patterns.now) c.args.row.now c.args.screen.now c.args.what.now)))
-    (read_is (IsTable-rows c.self.invariant.0 c.self.view_is) refl c.args.place (c.row.result - 1) c.col.result
-    c.index_mut-kept.result.now [] c.col.ensures.on_screen (omega (arith, c.row.ensures)) c.col.ensures.column
+    let read : column_entry blank_look c.index_mut-kept.result.now c.in_column.result ≡ look_at c.args.self.now c.args.place =
+    read_is (IsTable-rows c.self.invariant.0 c.self.view_is) refl c.args.place (c.row.result - 1) c.in_column.result
+    c.index_mut-kept.result.now [] c.in_column.ensures.on_screen (omega (arith, c.row.ensures))
+    c.in_column.ensures.column
     (c.index_mut-kept.ensures.value ∙ row_read c.self.invariant.0 c.self.view_is c.row.result c.index.result _ []
-    (omega (arith, c.row.ensures)) (omega (arith, c.row.ensures)) c.index.ensures.index))
+    (omega (arith, c.row.ensures)) (omega (arith, c.row.ensures)) c.index.ensures.index) in
+    c.resolve_alone.ensures.differs
+    ∙ (λ i. not (same_look (read i) (look_by_itself c.args.source.now (c.in_column.ensures.column i))))

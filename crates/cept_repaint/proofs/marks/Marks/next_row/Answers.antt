@@ -18,7 +18,7 @@ loop-k-preserved c = λ n low high. elim (cases_lt n (40 * c.loop-k.k)) [
 ]
 
 pub returns-then-has_one-clause-before : goal.returns-then-has_one-clause-before
-returns-then-has_one-clause-before c = λ n low high. c.loop-k.invariant n low (omega (arith, high))
+returns-then-has_one-clause-before c = λ n low high. c.loop-k.invariant n low (omega (arith, high, c.numbered.ensures))
 
 pub returns-clause-none : goal.returns-clause-none
 returns-clause-none c = λ _ n low. elim (cases_lt n (40 * c.loop-k.k)) [

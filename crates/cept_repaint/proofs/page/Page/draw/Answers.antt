@@ -17,8 +17,7 @@ invariant_of-self g c =
       paints = c.set_colours.ensures.paints;
       dclut = c.set_colours.ensures.dclut;
       patterns = c.set_patterns.ensures;
-    }) c.flag_rows.ensures.marked_rows c.flag_rows.ensures.sized_rows c.flag_rows.ensures.marked
-    c.flag_rows.ensures.sized
+    }) c.flag_rows.ensures
 
 pub returns-clause-unwound : goal.returns-clause-unwound
 returns-clause-unwound g c =

@@ -8,10 +8,6 @@ use Rattle.cept_repaint.specs.Noter.{page_with}
 use Rattle.cept_repaint.proofs.ExchangedStates.{HasSameLocations-page}
 use Rattle.cept_repaint.proofs.page.Page.exchange.Goals as goal
 
-pub exchange_page-requires-clause-is : goal.exchange_page-requires-clause-is
-exchange_page-requires-clause-is c =
-    (subst (λ (p : Page). IsValidPage p) (sym c.self.view_is) c.requires.was_valid).table
-
 pub exchange_page-requires-clause-valid : goal.exchange_page-requires-clause-valid
 exchange_page-requires-clause-valid c =
     subst (λ (p : Page). IsValidPage (page_unwound p c.args.delta.now)) (sym c.self.view_is) c.requires.valid

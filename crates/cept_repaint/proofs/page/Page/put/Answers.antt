@@ -22,28 +22,26 @@ returns-clause-drawn g c =
 pub returns-clause-before : goal.returns-clause-before
 returns-clause-before g c = λ yes.
     subst (λ (p : Page). StandsAlone p c.args.place.row) c.self.view_is
-    (StandsAlone-unflagged c.self.invariant c.args.place.row c.row.ensures.on_screen.from_top
-    c.row.ensures.on_screen.to_bottom (IsUnflagged-before c.args.place c.args.cell.now c.row.ensures.on_screen
-    c.flag_put.ensures.marked c.flag_put.ensures.sized
-    (subst (λ n. IsUnflagged c.flag_put.new.marked c.flag_put.new.sized n) c.row.ensures.row
+    (StandsAlone-unflagged c.self.invariant c.args.place.row c.in_row.ensures.on_screen.from_top
+    c.in_row.ensures.on_screen.to_bottom (IsUnflagged-before c.args.place c.args.cell.now c.in_row.ensures.on_screen
+    c.flag_put.ensures
+    (subst (λ n. IsUnflagged c.flag_put.new.marked c.flag_put.new.sized n) c.in_row.ensures.row
     (c.is_unflagged.ensures yes))))
 
 pub returns-clause-after : goal.returns-clause-after
 returns-clause-after g c = λ yes.
     StandsAlone-unflagged (IsKeptPage-after tt c.self.invariant
     (IsDrawn-put (page_of c.self.inside) c.args.place c.args.cell.now c.put.new.self c.self.invariant.rows
-    c.self.invariant.colours c.self.invariant.names c.self.invariant.codes c.put.ensures.cells)
-    c.flag_put.ensures.marked_rows c.flag_put.ensures.sized_rows c.flag_put.ensures.marked c.flag_put.ensures.sized)
-    c.args.place.row c.row.ensures.on_screen.from_top c.row.ensures.on_screen.to_bottom
-    (subst (λ n. IsUnflagged c.flag_put.new.marked c.flag_put.new.sized n) c.row.ensures.row
+    c.self.invariant.colours c.self.invariant.names c.self.invariant.codes c.put.ensures.cells) c.flag_put.ensures)
+    c.args.place.row c.in_row.ensures.on_screen.from_top c.in_row.ensures.on_screen.to_bottom
+    (subst (λ n. IsUnflagged c.flag_put.new.marked c.flag_put.new.sized n) c.in_row.ensures.row
     (c.is_unflagged.ensures yes))
 
 pub invariant_of-self : goal.invariant_of-self
 invariant_of-self g c =
     IsKeptPage-after tt c.self.invariant
     (IsDrawn-put (page_of c.self.inside) c.args.place c.args.cell.now c.put.new.self c.self.invariant.rows
-    c.self.invariant.colours c.self.invariant.names c.self.invariant.codes c.put.ensures.cells)
-    c.flag_put.ensures.marked_rows c.flag_put.ensures.sized_rows c.flag_put.ensures.marked c.flag_put.ensures.sized
+    c.self.invariant.colours c.self.invariant.names c.self.invariant.codes c.put.ensures.cells) c.flag_put.ensures
 
 pub returns-clause-unwound : goal.returns-clause-unwound
 returns-clause-unwound g c =

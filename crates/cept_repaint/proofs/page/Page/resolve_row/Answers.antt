@@ -1,20 +1,8 @@
-use Rattle.std.proofs.Common.{◌-◌, List, [], get_or, sym, ap, subst, ◌∙◌}
-use Rattle.cept_codes.specs.declared.cell.Cell.{Cell}
-use Rattle.cept_codes.specs.Cell.{IsValidWhat}
-use Rattle.cept_codes.specs.Place.{OnScreen}
-use Rattle.cept_profile.specs.Serial.{row_in}
-use Rattle.cept_profile.specs.State.{Page}
+use Rattle.std.proofs.Common.{ap, ◌∙◌}
+use Rattle.cept_rows.specs.Source.{Source, row_made}
 use Rattle.cept_repaint.proofs.page.Page.resolve_row.Goals as goal
 
-pub resolve_cells-requires-clause-cells : goal.resolve_cells-requires-clause-cells
-resolve_cells-requires-clause-cells g c = λ column low high.
-    let row = c.cells-cells.ensures.cells []
-    ∙ ap (λ (p : Page). get_or p.cells (c.args.row - 1) []) c.self.view_is in
-    let on : OnScreen c.args.row column = record {
-      from_top = c.requires.from_top;
-      to_bottom = c.requires.to_bottom;
-      from_left = low;
-      to_right = high;
-    } in
-    subst (λ (cells : List Cell). IsValidWhat (row_in cells column)) (sym row)
-    (c.requires.valid.cells c.args.row column on)
+pub returns-clause-looks : goal.returns-clause-looks
+returns-clause-looks g c =
+    c.resolve_cells.ensures.looks ∙ ap (λ (s : Source). row_made s c.args.above.now)
+    (c.ending.ensures ∙ ap (λ (s : Source). record s { last = c.args.last }) c.source.ensures)

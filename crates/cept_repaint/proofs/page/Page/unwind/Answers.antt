@@ -7,10 +7,6 @@ use Rattle.cept_repaint.specs.Noter.{page_with}
 use Rattle.cept_repaint.proofs.ExchangedStates.{HasSameLocations-refl}
 use Rattle.cept_repaint.proofs.page.Page.unwind.Goals as goal
 
-pub unwind_page-requires-clause-is : goal.unwind_page-requires-clause-is
-unwind_page-requires-clause-is c =
-    (subst (λ (p : Page). IsValidPage p) (sym c.self.view_is) c.requires.was_valid).table
-
 pub unwind_page-requires-clause-valid : goal.unwind_page-requires-clause-valid
 unwind_page-requires-clause-valid c =
     subst (λ (p : Page). IsValidPage (page_unwound p c.args.delta.now)) (sym c.self.view_is) c.requires.valid

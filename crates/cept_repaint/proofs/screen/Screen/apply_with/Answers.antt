@@ -26,7 +26,7 @@ returns-clause-unwound g c =
     (g.N.Noter.noted c.write_and_paint.new.noter) c.args.self.now c.write_and_paint.new.self
     (subst (λ (s : State). g.N.Noter.noted c.note_control.new.self
     ≡ option_map (with_control s.control) (g.N.Noter.noted c.args.noter.now)) c.self.view_is c.note_control.ensures)
-    (c.write_and_paint.ensures.unwound
+    (c.write_and_paint.ensures.noted.unwound
     ∙ ap (λ (p : Page). page_behind (g.N.Noter.noted c.note_control.new.self) p) c.write_attribute.ensures.page)
 
 pub returns-then-write_attribute-clause-applied : goal.returns-then-write_attribute-clause-applied
@@ -54,7 +54,7 @@ returns-clause-noted g c =
     (subst (λ (s : State). g.N.Noter.noted c.write_and_paint.new.noter
     ≡ option_map (with_strokes s.page (strokes_of s.control c.args.command.now))
     (g.N.Noter.noted c.note_control.new.self))
-    (c.write_attribute.ensures.left c.if-write_attribute.false) c.write_and_paint.ensures.noted)
+    (c.write_attribute.ensures.left c.if-write_attribute.false) c.write_and_paint.ensures.noted.noted)
 
 pub returns-then-write_attribute-clause-noted : goal.returns-then-write_attribute-clause-noted
 returns-then-write_attribute-clause-noted g c =

@@ -6,12 +6,12 @@ use Rattle.cept_repaint.proofs.screen.Screen.exchange.Goals as goal
 
 pub returns-clause-unwound : goal.returns-clause-unwound
 returns-clause-unwound g c =
-    (λ i. unwound (c.exchange_values.ensures.state i) (c.exchange_values.ensures.exchanged i))
+    (λ i. unwound (c.exchange_values.ensures.back.state i) (c.exchange_values.ensures.exchanged i))
     ∙ unwound-exchanged c.args.self.now c.args.delta.now c.exchange_values.ensures.was_valid
 
 pub returns-clause-again : goal.returns-clause-again
 returns-clause-again g c =
-    (λ i. exchanged (c.exchange_values.ensures.state i) (c.exchange_values.ensures.exchanged i))
+    (λ i. exchanged (c.exchange_values.ensures.back.state i) (c.exchange_values.ensures.exchanged i))
     ∙ exchanged-twice c.args.self.now c.args.delta.now c.places_by_type.ensures
 
 pub returns-clause-locations : goal.returns-clause-locations

@@ -11,7 +11,7 @@ use Rattle.cept_repaint.proofs.screen.Screen.row_looks.Goals as goal
 pub returns-clause-parts : goal.returns-clause-parts
 returns-clause-parts c column low high =
     ap (λ (l : List Look). part_of (column_entry blank_look l column))
-    (c.row.ensures
+    (c.row.ensures ∙ ap (looks_in c.self.inside.picture.looks) c.numbered.ensures
     ∙ ap (λ (g : List (List Look)). looks_in g c.args.row) c.self.invariant.looks
     ∙ ap (λ (s : State). looks_in (looks_of (core_of s)) c.args.row) c.self.view_is)
     ∙ part_of-look_seen (core_of c.args.self.now) c.args.row column

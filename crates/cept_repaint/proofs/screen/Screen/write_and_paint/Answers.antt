@@ -11,17 +11,17 @@ use Rattle.cept_repaint.proofs.screen.Screen.write_and_paint.Goals as goal
 pub returns-clause-applied : goal.returns-clause-applied
 returns-clause-applied g c =
     let new = looks_of (core_of c.write.new.self) in record {
-      goes_on = goes_on_after c.args.self.now c.write.new.self c.args.command.now c.requires c.write.ensures.after;
-      after = c.write.ensures.after;
+      goes_on = goes_on_after c.args.self.now c.write.new.self c.args.command.now c.requires c.write.ensures.written.after;
+      after = c.write.ensures.written.after;
       repainted = record {
-        marks = c.write.ensures.marks;
+        marks = c.write.ensures.written.marks;
         shown = c.paint_marked.ensures.shown
-            ∙ ap (λ m. grid_with_paints (g.G.Glass.state c.args.glass.now).grid (marked_looks m new)) c.write.ensures.marks;
+            ∙ ap (λ m. grid_with_paints (g.G.Glass.state c.args.glass.now).grid (marked_looks m new)) c.write.ensures.written.marks;
         told = subst (λ (l : List (Place × Look)). Lists (g.G.Glass.state c.args.glass.now).paints l
             (g.G.Glass.state c.paint_marked.new.glass).paints)
-            (ap (λ m. marked_looks m new) c.write.ensures.marks) c.paint_marked.ensures.told;
+            (ap (λ m. marked_looks m new) c.write.ensures.written.marks) c.paint_marked.ensures.told;
       };
-      cost = c.write.ensures.cost;
-      least = c.write.ensures.least;
-      at_most_24 = c.write.ensures.at_most_24;
+      cost = c.write.ensures.written.cost;
+      least = c.write.ensures.written.least;
+      at_most_24 = c.write.ensures.written.at_most_24;
     }

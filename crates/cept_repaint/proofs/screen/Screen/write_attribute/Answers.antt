@@ -13,7 +13,7 @@ invariant_of-self c =
 
 pub returns-clause-after : goal.returns-clause-after
 returns-clause-after c = λ _.
-    state_after-still c.self.inside.page c.self.inside.control c.args.command.now c.step_attribute.new.self
+    state_after-still c.self.inside.picture.page c.self.inside.control c.args.command.now c.step_attribute.new.self
     (c.step_attribute.ensures.state c.if-not-step_attribute.false)
     (c.step_attribute.ensures.strokes c.if-not-step_attribute.false)
     ∙ ap (λ (s : State). state_after s c.args.command.now) c.self.view_is
@@ -25,7 +25,7 @@ returns-clause-strokes c = λ _.
 
 pub returns-clause-looks : goal.returns-clause-looks
 returns-clause-looks c =
-    looks_of-still c.self.inside.page c.self.inside.control c.step_attribute.new.self c.step_attribute.ensures.edges
+    looks_of-still c.self.inside.picture.page c.self.inside.control c.step_attribute.new.self c.step_attribute.ensures.edges
     ∙ ap (λ (s : State). looks_of (core_of s)) c.self.view_is
 
 pub invariant_of-self-2 : goal.invariant_of-self-2

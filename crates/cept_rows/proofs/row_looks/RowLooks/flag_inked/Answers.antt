@@ -9,12 +9,13 @@ use Rattle.cept_rows.proofs.row_looks.RowLooks.flag_inked.Goals as goal
 
 pub returns-then-is_plain : goal.returns-then-is_plain
 returns-then-is_plain c =
-    none_inked c.args.self.now c.args.flags.now c.requires.columns (c.is_plain.ensures c.if-is_plain.true)
+    none_inked c.args.self.now c.args.flags.now (omega arith) (c.is_plain.ensures c.if-is_plain.true)
 
 pub loop-k-preserved : goal.loop-k-preserved
 loop-k-preserved c =
     flagged_more c.args.flags.now (λ column. has_inks (pattern_shown (column_entry blank_look c.args.self.now column).shape))
-    c.loop-k.flags c.loop-k.k c.from-at.result c.from-at.ensures c.loop-k-test.true c.loop-k.invariant c.is_inked.ensures
+    c.loop-k.flags c.loop-k.k c.from-at.result c.from-at.ensures c.loop-k-test.true c.loop-k.invariant
+    (rw (← c.numbered.ensures) c.is_inked.ensures)
 
 pub returns : goal.returns
 returns c = HasMadeEntries-all false 1 40 _ _ _ _ c.loop-k.invariant (omega arith)

@@ -10,12 +10,13 @@ returns-then-is_plain c =
 
 pub returns-then-drawing-planes : goal.returns-then-drawing-planes
 returns-then-drawing-planes c =
-    sym (found_there (shows_planes c.args.self.now c.args.planes) c.loop-column.column c.loop-column.auto.column (omega
-    arith) (sym (planes_asked c.args.self.now c.args.planes c.loop-column.column c.small.result c.drawing.result.now
-    c.small.ensures.look (sym c.has_pattern.ensures ∙ c.if-has_pattern.true) c.drawing.ensures)
+    sym (found_there (shows_planes c.args.self.now c.args.planes) c.loop-number.number c.loop-number.auto.number (omega
+    arith) (sym (planes_asked c.args.self.now c.args.planes c.loop-number.number c.small.result c.drawing.result.now
+    (rw (← c.numbered-column.ensures) c.small.ensures.look) (sym c.has_pattern.ensures ∙ c.if-has_pattern.true)
+    (rw (← c.numbered-column.ensures) c.drawing.ensures))
     ∙ grind (arith, nat_tests, c.if-drawing-planes.true)))
 
 pub returns : goal.returns
 returns c =
-    sym (found_nowhere (shows_planes c.args.self.now c.args.planes) c.loop-column.column c.loop-column-test.false
-    c.loop-column.invariant)
+    sym (found_nowhere (shows_planes c.args.self.now c.args.planes) c.loop-number.number c.loop-number-test.false
+    c.loop-number.invariant)

@@ -3,13 +3,13 @@ use Rattle.cept_rows.proofs.row_looks.RowLooks.small.Goals as goal
 
 pub returns-clause-look : goal.returns-clause-look
 returns-clause-look c =
-    small_at c.self.inside c.args.self.now c.args.column _ c.self.invariant c.self.view_is c.requires.from_left
-    c.requires.to_right
+    rw c.index.ensures.index (small_at c.self.inside c.args.self.now c.args.column _ c.self.invariant c.self.view_is
+    c.index.ensures.in_range.0 c.index.ensures.in_range.1)
 
 pub returns-clause-valid : goal.returns-clause-valid
 returns-clause-valid c =
-    valid_at c.self.inside c.args.self.now c.args.column c.self.invariant c.self.view_is c.requires.from_left
-    c.requires.to_right
+    valid_at c.self.inside c.args.self.now c.args.column c.self.invariant c.self.view_is c.index.ensures.in_range.0
+    c.index.ensures.in_range.1
 
 pub returns-clause-columns : goal.returns-clause-columns
 returns-clause-columns c = columns_of c.self.inside c.args.self.now c.self.view_is

@@ -1,7 +1,7 @@
 use Rattle.std.proofs.Common.{◌≡◌, ◌≤◌, List, Option, [], drop, length, sym, ap, ◌∙◌, arith}
 use Rattle.cept_profile.specs.OldValues.{OldValues}
 use Rattle.circular_buffer.specs.Buffer.{Buffer}
-use Rattle.cept_undo.specs.Past.{Edits, future, past}
+use Rattle.cept_undo.specs.Past.{Edits, StaysUnbegun, future, past}
 use Rattle.cept_undo.proofs.InTurn.{first_and_rest, none_first}
 use Rattle.cept_undo.proofs.Room.{HasRoom-noted, latest_noted}
 use Rattle.cept_undo.proofs.TakenBack.{FitsTogether-none, FitsTogether-same, future-none, past-none, past-noted, still_none}
@@ -26,8 +26,8 @@ invariant_of-self-in-Some-2 g c =
 abbrev edits_after : List OldValues → List OldValues → Option OldValues → Edits
 edits_after kept undone begun = record { kept = kept; undone = undone; begun = begun }
 
-pub returns-in-Some-clause-past : goal.returns-in-Some-clause-past
-returns-in-Some-clause-past g c =
+pub returns-in-Some-clause-edits : goal.returns-in-Some-clause-edits
+returns-in-Some-clause-edits g c =
     let edits = edits_after c.push_front.new.self.items c.give_back.new.undone.items c.self.inside.begun in
     let still = still_none _ c.args.self.now c.self.view_is c.requires.none_begun in
     let within : length c.self.inside.kept.items ≤ c.self.inside.kept.capacity =
@@ -41,44 +41,28 @@ returns-in-Some-clause-past g c =
     c.pop_front.new.self c.push_front.new.self within c.in-Some.ensures.value c.pop_front.ensures.items
     c.push_front.ensures.items)
     c.apply_noting.ensures.unwound in
-    elim c.match-push_front.branch [
-      | in-Some-1 w ↦ rw w.self-is same
-      | in-None-1 w ↦ rw w.self-is same
-    ]
-
-pub returns-in-Some-clause-future : goal.returns-in-Some-clause-future
-returns-in-Some-clause-future g c =
-    let edits = edits_after c.push_front.new.self.items c.give_back.new.undone.items c.self.inside.begun in
     let none : future edits c.apply_noting.new.self ≡ [] =
     future-none edits c.apply_noting.new.self c.give_back.ensures.none in
+    let stays : StaysUnbegun c.args.self.now c.args.screen.now edits c.apply_noting.new.self = record {
+      past = same;
+      future = none;
+      none_begun = still;
+      fits = FitsTogether-same c.args.self.now edits c.args.screen.now c.apply_noting.new.self still same none c.requires.fits;
+    } in
     elim c.match-push_front.branch [
-      | in-Some-1 w ↦ rw w.self-is none
-      | in-None-1 w ↦ rw w.self-is none
+      | in-Some-1 w ↦ rw w.self-is stays
+      | in-None-1 w ↦ rw w.self-is stays
     ]
 
-pub returns-in-Some-clause-fits : goal.returns-in-Some-clause-fits
-returns-in-Some-clause-fits g c =
+pub returns-in-None-clause-edits : goal.returns-in-None-clause-edits
+returns-in-None-clause-edits g c =
     let still = still_none _ c.args.self.now c.self.view_is c.requires.none_begun in
-    FitsTogether-same c.args.self.now c.match-push_front.self c.args.screen.now c.apply_noting.new.self
-    (elim c.match-push_front.branch [
-      | in-Some-1 w ↦ rw w.self-is still
-      | in-None-1 w ↦ rw w.self-is still
-    ])
-    (returns-in-Some-clause-past g c) (returns-in-Some-clause-future g c) c.requires.fits
-
-pub returns-in-None-clause-past : goal.returns-in-None-clause-past
-returns-in-None-clause-past g c =
-    let none = none_first c.self.inside.kept.items c.in-None.ensures.value in
-    past-none _ c.apply_from.new.self
-    (ap (λ (b : Buffer OldValues). b.items) c.pop_front.ensures.items ∙ ap (drop 1) none)
-    ∙ sym (past-none c.args.self.now c.args.screen.now (sym (ap (λ (u : Edits). u.kept) c.self.view_is) ∙ none))
-
-pub returns-in-None-clause-future : goal.returns-in-None-clause-future
-returns-in-None-clause-future g c = future-none _ c.apply_from.new.self c.give_back.ensures.none
-
-pub returns-in-None-clause-fits : goal.returns-in-None-clause-fits
-returns-in-None-clause-fits g c =
-    FitsTogether-none _ c.apply_from.new.self (still_none _ c.args.self.now c.self.view_is c.requires.none_begun)
-    (ap (λ (b : Buffer OldValues). b.items) c.pop_front.ensures.items
-    ∙ ap (drop 1) (none_first c.self.inside.kept.items c.in-None.ensures.value))
-    c.give_back.ensures.none
+    let first = none_first c.self.inside.kept.items c.in-None.ensures.value in
+    let none = ap (λ (b : Buffer OldValues). b.items) c.pop_front.ensures.items ∙ ap (drop 1) first in
+    record {
+      past = past-none _ c.apply_from.new.self none
+          ∙ sym (past-none c.args.self.now c.args.screen.now (sym (ap (λ (u : Edits). u.kept) c.self.view_is) ∙ first));
+      future = future-none _ c.apply_from.new.self c.give_back.ensures.none;
+      none_begun = still;
+      fits = FitsTogether-none _ c.apply_from.new.self still none c.give_back.ensures.none;
+    }

@@ -16,30 +16,25 @@ pub turn-requires-clause-valid_back : goal.turn-requires-clause-valid_back
 turn-requires-clause-valid_back g c =
     held_future_valid _ c.args.self.now c.args.screen.now c.self.view_is c.requires.fits
 
-pub returns-clause-past : goal.returns-clause-past
-returns-clause-past g c =
-    past-unbegun _ c.turn.new.screen
-    (still_none _ c.args.self.now c.self.view_is c.requires.none_begun)
-    ∙ c.turn.ensures.from
-    ∙ ap (λ (l : List State). drop 1 l) (held_past _ c.args.self.now c.args.screen.now c.self.view_is c.requires.none_begun)
-
-pub returns-clause-future : goal.returns-clause-future
-returns-clause-future g c =
-    future-of _ c.turn.new.screen
-    ∙ c.turn.ensures.to
-    ∙ (λ i. handed_on (held_past _ c.args.self.now c.args.screen.now c.self.view_is c.requires.none_begun i)
-    c.args.screen.now (held_future _ c.args.self.now c.args.screen.now c.self.view_is i))
+pub returns-clause-turns : goal.returns-clause-turns
+returns-clause-turns g c = record {
+  state = c.turn.ensures.turns.state
+      ∙ ap (λ (l : List State). nearest l c.args.screen.now)
+      (held_past _ c.args.self.now c.args.screen.now c.self.view_is c.requires.none_begun);
+  rest = past-unbegun _ c.turn.new.screen
+      (still_none _ c.args.self.now c.self.view_is c.requires.none_begun)
+      ∙ c.turn.ensures.turns.rest
+      ∙ ap (λ (l : List State). drop 1 l) (held_past _ c.args.self.now c.args.screen.now c.self.view_is c.requires.none_begun);
+  others = future-of _ c.turn.new.screen
+      ∙ c.turn.ensures.turns.others
+      ∙ (λ i. handed_on (held_past _ c.args.self.now c.args.screen.now c.self.view_is c.requires.none_begun i)
+      c.args.screen.now (held_future _ c.args.self.now c.args.screen.now c.self.view_is i));
+}
 
 pub returns-clause-fits : goal.returns-clause-fits
 returns-clause-fits g c =
     FitsTogether-sides _ c.turn.new.screen (still_none _ c.args.self.now c.self.view_is c.requires.none_begun)
     c.turn.ensures.valid c.turn.ensures.valid_back
-
-pub returns-clause-state : goal.returns-clause-state
-returns-clause-state g c =
-    c.turn.ensures.state
-    ∙ ap (λ (l : List State). nearest l c.args.screen.now)
-    (held_past _ c.args.self.now c.args.screen.now c.self.view_is c.requires.none_begun)
 
 pub returns-clause-nothing : goal.returns-clause-nothing
 returns-clause-nothing g c =
