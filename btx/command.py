@@ -30,8 +30,8 @@ def parsers():
     for word, module in OWN.items():
         one = words.add_parser(word, help=module.SUMMARY, description=module.__doc__, allow_abbrev=False)
         module.arguments(one)
-    for word, (wanted, puts) in program.WORDS.items():
-        one = words.add_parser(word, help=puts, description=f"Puts {puts}.", usage=messages.usage(word).partition(": ")[2])
+    for word, (wanted, writes) in program.WORDS.items():
+        one = words.add_parser(word, help=writes, description=f"Writes {writes}.", usage=messages.usage(word).partition(": ")[2])
         for name in wanted.split(" "):
             one.add_argument(name)
         one.add_argument("-o", "--output", metavar="FILE", help="where to write it, once it is whole; without this to standard output")

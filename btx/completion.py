@@ -1,5 +1,5 @@
-"""Puts the completion of btx for a shell: its words, the options of each with their values, and files. A checkout's is taken by
-. <(bin/btx completion bash), one of zsh likewise after compinit; bin/btx completion fish | source does it for fish. An install puts all
+"""Prints the completion of btx for a shell: its words, the options of each with their values, and files. A checkout's is taken by
+. <(bin/btx completion bash), one of zsh likewise after compinit; bin/btx completion fish | source does it for fish. An install keeps all
 three where the shells look for them."""
 import argparse
 

@@ -17,7 +17,7 @@ PATIENCE = 1
 
 
 class Dropped(Exception):
-    """What was put isn't whole, and isn't kept."""
+    """What was written isn't whole, and isn't kept."""
 
 
 def mode_of(name):

@@ -133,9 +133,9 @@ def sentence(path, word, words, status, given=None):
         rest = "" if given and given.out else "; what stands in it is only the front of the whole"
         return f"{word}: the output failed, as on a full disk{rest}"
     if status == 6:
-        return f"{word}: there is not enough memory; nothing was put"
+        return f"{word}: there is not enough memory; nothing was written"
     if status == 7:
         return too_long(word, files_of(word, words), given)
     if status == 8:
-        return f"{word}: {words[0]}: this is no page in seven bits; only what stands before its first wrong byte was put"
+        return f"{word}: {words[0]}: this is no page in seven bits; only what stands before its first wrong byte was written"
     return f"{word}: the program ended with status {status}, which it doesn't have"

@@ -63,7 +63,7 @@ def given(word, words, out):
 
 
 def put(path, word, words, out):
-    """Runs the program and answers its status. A file takes what is put where that is whole."""
+    """Runs the program and answers its status. A file takes the output where that is whole."""
     if out is None:
         return subprocess.run([path, word, *words], close_fds=False).returncode
     with contextlib.suppress(files.Dropped), files.output(out) as file:

@@ -15,7 +15,7 @@ PROVES = f"{shlex.quote(BUILD)} proves and builds it, in {PROOF}"
 KEEPS = f"{shlex.quote(BUILD)} --quick keeps an unproved one, in about a minute"
 NEEDED = {"rt": "the Rattle kit with its command rt", "wasm-opt": "wasm-opt (Debian: apt-get install binaryen)"}
 
-# Each word of the program: what stands after it, and what it puts.
+# Each word of the program: what stands after it, and what it writes.
 WORDS = {
     "changes": ("PAGE", "for each item a line for each cell that it changes, or the line of its refusal"),
     "check": ("PAGE", "the line of each refused item, then how many items there are and how many are refused"),
@@ -99,13 +99,13 @@ def ending_with_us(signal):
 
 
 def put(program, word, *words, before=()):
-    """What the program puts, and its status; words may stand before it that start it."""
+    """The output of the program, and its status; words may stand before it that start it."""
     done = subprocess.run([*before, program, word, *words], stdin=subprocess.DEVNULL, stdout=subprocess.PIPE, close_fds=False)
     return done.stdout, done.returncode
 
 
 def bytes_put(program, word, page, *after, before=()):
-    """What the program puts for a page that is read to its end; else the run's end is raised."""
+    """The output of the program for a page that is read to its end; else the run's end is raised."""
     output, status = put(program, word, page, *after, before=before)
     if status not in (READ_TO_THE_END, WITH_REFUSALS):
         raise Ended(word, [page, *after], status)

@@ -185,11 +185,26 @@ class Install(stand.Case):
         self.assertGreater(len(named), 8)
         for name in named:
             self.assertTrue(os.path.isfile(os.path.join(folder, name)), name)
-        for name in ("view", "edit"):
-            with open(os.path.join(folder, name, "README.md"), encoding="utf-8") as file:
-                for picture in re.findall(r"\]\(([^)]*\.png)\)", file.read()):
-                    self.assertTrue(os.path.isfile(os.path.join(folder, name, picture)), picture)
         self.assertTrue(os.path.isfile(os.path.join(folder, "examples", "weather.drawing")))
+
+    def test_each_installed_document_has_what_it_names(self):
+        """Documents, pictures, and the examples in C with their header, by their place or beside the document."""
+        prefix = self.path("prefix")
+        self.is_right(self.run_of(INSTALL, prefix, env=stand.environment()))
+        folder, count = os.path.join(prefix, "share/doc/tamligub"), 0
+        for place, _, names in os.walk(folder):
+            for document in (name for name in names if name.endswith(".md")):
+                with open(os.path.join(place, document), encoding="utf-8") as file:
+                    text = file.read()
+                at = os.path.relpath(place, folder)
+                for name in set(re.findall(r"[\w./-]+\.(?:md|png|c|h)\b", text)):
+                    for one in (os.path.normpath(name), os.path.normpath(os.path.join(at, name))):
+                        if os.path.isfile(os.path.join(stand.ROOT, one)):
+                            count += 1
+                            self.assertTrue(os.path.isfile(os.path.join(folder, one)), (document, one))
+                for link in re.findall(r"\]\(([^)#]+)\)", text):
+                    self.assertTrue(os.path.isfile(os.path.join(place, link)), (document, link))
+        self.assertGreater(count, 40)
 
     def test_pkg_config_takes_a_prefix_with_spaces(self):
         command, = self.needs("pkg-config")

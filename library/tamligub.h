@@ -3,7 +3,7 @@
  *
  * A page is a stored page as bytes, as it came over the line. A script is a text of lines, each an edit of the page, such as
  * "at 1 2" or "text XY", or "undo" or "redo". A drawing is a text of lines, each a figure, such as "line 0 0 79 71"; it is handed in as
- * a script. cept_tool(1) has the words, the texts that they put, the scripts and the drawings. */
+ * a script. cept_tool(1) has the words, the texts that they write, the scripts and the drawings. */
 #ifndef TAMLIGUB_H
 #define TAMLIGUB_H
 
@@ -33,7 +33,7 @@ enum {
     TAMLIGUB_USAGE = 2,      /* no such word, or it takes something else than is given (but for 4), or no such number; no text */
     TAMLIGUB_BAD_SCRIPT = 3, /* a line of the script can't be read; the text says which */
     TAMLIGUB_UNREAD = 4,     /* a number is given where the word takes a page or a script */
-    TAMLIGUB_NO_ROOM = 5,    /* the text is longer than `room`: its front was put */
+    TAMLIGUB_NO_ROOM = 5,    /* the text is longer than `room`: its front was written */
     TAMLIGUB_NO_MEMORY = 6,  /* no text */
     TAMLIGUB_TOO_LONG = 7,   /* the page has more than 2^24 bytes, or the script more than 2^20 */
     TAMLIGUB_NOT_SEVEN = 8   /* `eight`: the page isn't in seven bits */
@@ -45,9 +45,9 @@ enum {
  *   given   one of the numbers above
  *   number  0 to 4294967295; looked at only where a number is given
  *   page    0 to 2^24 bytes; looked at only where a page is given, as is the script, which has 0 to 2^20
- *   out     the text is put at its front, which has room for `room` bytes, of which 2^32 - 1 are used at most; what stands after
+ *   out     the text is written at its front, which has room for `room` bytes, of which 2^32 - 1 are used at most; what stands after
  *           the text stays
- *   put     how many bytes of text were put, at most `room`
+ *   put     how many bytes of text were written, at most `room`
  *
  * No pointer may be null, not even where the length is 0. `out` and `put` may overlap neither each other nor anything else that is
  * handed in; word, page and script may. What is handed in is read during the call alone, and nothing is kept between calls. Several
@@ -66,7 +66,7 @@ uint32_t tamligub_run(const uint8_t *word, size_t word_length, uint32_t given, u
  *   calls have the same one at a time, and it stays on the thread that opened it; different ones may be used by different threads.
  * - No pointer is null, not even where the length is 0, and none leads into what another one leads to.
  * - All that a call may write to was written before, with anything: a list of notices may begin as zeros. What stands behind the notices
- *   that are put stays as it is.
+ *   that are written stays as it is.
  * - The room for notices is that for a byte, or for a phase of flashing, or more. Where it is less nothing is done.
  *
  * A decoder takes all its memory by malloc when it is opened, about 750 KB; after that only tamligub_write and tamligub_snapshot take
@@ -147,32 +147,32 @@ typedef struct {
 /* Opens a decoder before the first byte; one that is open is closed first. Answers 0, or 6 where there is no memory: none is open then. */
 uint32_t tamligub_open(tamligub_decoder *decoder);
 
-/* Feeds bytes, as long as `list` has room for as many more notices as one byte may need. Puts the notices at the front of `list`, which
- * has room for `room` of them, and their number in `notices`, and answers how many bytes were taken. It takes none and puts none where no
- * decoder is open, the page has ended, `room` is too little, or 2^32 bytes were taken. */
+/* Feeds bytes, as long as `list` has room for as many more notices as one byte may need. Writes the notices at the front of `list`, which
+ * has room for `room` of them, and their number in `notices`, and answers how many bytes were taken. It takes none and writes none where
+ * no decoder is open, the page has ended, `room` is too little, or 2^32 bytes were taken. */
 uint64_t tamligub_feed(tamligub_decoder *decoder, const uint8_t *bytes, size_t length, tamligub_notice *list, size_t room,
                        uint64_t *notices);
 
-/* Ends the page: puts the notices of the item that is left at the front of `list`, and their number in `notices`. Answers 0; or 1 where no
- * decoder is open, the page had ended, or `room` is below TAMLIGUB_ROOM_FOR_A_BYTE. */
+/* Ends the page: writes the notices of the item that is left at the front of `list`, and their number in `notices`. Answers 0; or 1 where
+ * no decoder is open, the page had ended, or `room` is below TAMLIGUB_ROOM_FOR_A_BYTE. */
 uint32_t tamligub_finish(tamligub_decoder *decoder, tamligub_notice *list, size_t room, uint64_t *notices);
 
-/* Puts the look at a place in `notice`, as of an item that has all bytes before it that were taken; what flashes is as it was fed. Answers
- * 0; or 1 where no decoder is open or there is no such place. */
+/* Writes the look at a place in `notice`, as of an item that has all bytes before it that were taken; what flashes is as it was fed.
+ * Answers 0; or 1 where no decoder is open or there is no such place. */
 uint32_t tamligub_look(tamligub_decoder *decoder, uint8_t row, uint8_t column, tamligub_notice *notice);
 
-/* Puts in `state` where the decoder stands. Answers 0; or 1 where none is open. */
+/* Writes in `state` where the decoder stands. Answers 0; or 1 where none is open. */
 uint32_t tamligub_state(tamligub_decoder *decoder, tamligub_decoder_state *state);
 
-/* Puts the page as bytes, as the word `write` does, at the front of `out`, which has room for `room` of them, and their number in `put`.
+/* Writes the page as bytes, as the word `write` does, at the front of `out`, which has room for `room` of them, and their number in `put`.
  * Answers 0; 1 where no decoder is open; 5 where there is no room for all of them; 6 where there is no memory. In the last three cases
  * `put` is 0 and `out` stays. */
 uint32_t tamligub_write(tamligub_decoder *decoder, uint8_t *out, size_t room, uint64_t *put);
 
-/* Puts all of the state at the front of `out`, which has room for `room` bytes, and their number in `put`, at most TAMLIGUB_BESIDE_A_PAGE
- * more than tamligub_write puts. tamligub_restore brings it back, bytes under way and the phase of flashing included: also in another
- * process, which may have a library of another machine. Answers 0; 1 where no decoder is open, or its page has ended; 5 where there is no
- * room for all of them; 6 where there is no memory. In the last three cases `put` is 0 and `out` stays. */
+/* Writes all of the state at the front of `out`, which has room for `room` bytes, and their number in `put`, at most
+ * TAMLIGUB_BESIDE_A_PAGE more than tamligub_write writes. tamligub_restore brings it back, bytes under way and the phase of flashing
+ * included: also in another process, which may have a library of another machine. Answers 0; 1 where no decoder is open, or its page has
+ * ended; 5 where there is no room for all of them; 6 where there is no memory. In the last three cases `put` is 0 and `out` stays. */
 uint32_t tamligub_snapshot(tamligub_decoder *decoder, uint8_t *out, size_t room, uint64_t *put);
 
 /* Opens a decoder in the state that a snapshot has; one that is open is closed first. From then on it says what the one would have said of
@@ -181,8 +181,8 @@ uint32_t tamligub_snapshot(tamligub_decoder *decoder, uint8_t *out, size_t room,
 uint32_t tamligub_restore(tamligub_decoder *decoder, const uint8_t *bytes, size_t length);
 
 /* What flashes looks otherwise from one of six phases to the next, as under the word `flash`; when they come is for the host to say. The
- * first call begins the first phase over a blank display, and puts all places that aren't blank. The second begins the next phase, after
- * the last one the first again, and puts the places that are shown otherwise: a place that was fed since the phase began shows its look as
+ * first call begins the first phase over a blank display, and tells all places that aren't blank. The second begins the next phase, after
+ * the last one the first again, and tells the places that are shown otherwise: a place that was fed since the phase began shows its look as
  * it was fed. Without the first call the second begins the first phase over what was fed. Both answer 0; or 1 where no decoder is open or
  * `room` is below TAMLIGUB_ROOM_FOR_A_PHASE. */
 uint32_t tamligub_flash_start(tamligub_decoder *decoder, tamligub_notice *list, size_t room, uint64_t *notices);

@@ -1,7 +1,7 @@
 // The program, in browsers and in Node, over a WebAssembly.Module made of tamligub.wasm.
 //
 // run(module, word, { page, script, number }) answers { status, text }. A call has an instance of its own, and so keeps nothing; what is
-// handed in is put after the module's own memory, for which the memory is grown first. Where the text doesn't fit (status 5) it asks
+// handed in stands after the module's own memory, for which the memory is grown first. Where the text doesn't fit (status 5) it asks
 // again with more room.
 //
 // new Decoder(module) is a decoder that is fed bytes as they come, and so is new Decoder(instance), of which one instance may have many:

@@ -13,8 +13,8 @@
   // What `btx` says where a page isn't decoded to its end.
   const ENDS = {
     4: "it could not be read to its end",
-    5: "its text is longer than there is room for; only the front of it was put",
-    6: "there is not enough memory; nothing was put",
+    5: "its text is longer than there is room for; only the front of it was written",
+    6: "there is not enough memory; nothing was written",
     7: "the page has more than 16,777,216 bytes; only the items of the first 16,777,216 were read",
   };
   const text = (bytes) => new TextDecoder("utf-8").decode(bytes);
@@ -39,7 +39,7 @@
     }
   }
 
-  // The text that the program puts for a page.
+  // The text that the program writes for a page.
   function put(module, word, file, number) {
     try {
       const answer = tamligub.run(module, word, { page: file.bytes, number });
@@ -166,7 +166,7 @@
   }, true);
 
   part("file-page").multiple = true;
-  say("open-words", "Take stored pages, one or several, or the text that cept_tool changes PAGE puts, with the other texts if you like. "
+  say("open-words", "Take stored pages, one or several, or the text that cept_tool changes PAGE prints, with the other texts if you like. "
     + "Files and whole folders can also be dropped anywhere on this page, and files pasted; of a folder what ends in .btx is taken. "
     + "Nothing leaves your machine.");
 })((window.Tamligub = window.Tamligub || {}));

@@ -1,0 +1,147 @@
+"""The first programs of docs/EMBEDDING.md and docs/ARCHIVES.md, run as they are printed, and the places that documents name."""
+import os
+import re
+import shutil
+import subprocess
+import sys
+
+import stand
+
+DOCUMENTS = ("README.md", "CONTRIBUTING.md", "docs", "edit/README.md", "view/README.md", "library/README.md", "cases/README.md", "pages/README.md")
+# Folders whose files documents name with their place.
+FOLDERS = r"(?:docs|library|edit|view|cases|pages|btx|btx_tests|bench|building|bin|desktop|must-not-compile|crates)"
+
+
+def text_of(name):
+    with open(os.path.join(stand.ROOT, name), encoding="utf-8") as file:
+        return file.read()
+
+
+def all_documents():
+    """The names of all documents."""
+    for name in DOCUMENTS:
+        path = os.path.join(stand.ROOT, name)
+        yield from [name] if os.path.isfile(path) else sorted(f"{name}/{one}" for one in os.listdir(path) if one.endswith(".md"))
+
+
+def blocks(name, language):
+    """The blocks of a document in a language, in order."""
+    return re.findall(rf"^```{language}\n(.*?)^```", text_of(name), re.DOTALL | re.MULTILINE)
+
+
+class Documents(stand.Case):
+    def clone(self):
+        """A copy of the tree with the program where `./build` leaves it."""
+        tree = self.path("clone")
+        shutil.copytree(stand.ROOT, tree, ignore=shutil.ignore_patterns("out", ".git", "__pycache__", "proofs", "must-fail"))
+        os.makedirs(os.path.join(tree, "crates", "cept_tool", "out"))
+        shutil.copy(stand.program, os.path.join(tree, "crates", "cept_tool", "out", "cept_tool"))
+        return tree
+
+    def output(self, *words, **more):
+        keys = {"stdin": subprocess.DEVNULL, "stdout": subprocess.PIPE, "stderr": subprocess.PIPE, "timeout": stand.LONG, "env": stand.environment()}
+        done = subprocess.run(words, **{**keys, **more})
+        self.assertEqual(done.returncode, 0, done.stderr.decode())
+        return done.stdout.decode()
+
+    def test_the_program_in_python(self):
+        code, = blocks("docs/EMBEDDING.md", "python")
+        printed = re.search(r"this prints `(.*?)`:", text_of("docs/EMBEDDING.md"))[1]
+        self.assertEqual(self.output(sys.executable, "-c", code, cwd=self.clone()), printed + "\n")
+
+    def test_the_display_in_rattle(self):
+        if not stand.there("rt"):
+            self.skipTest("the Rattle kit is not on this machine")
+        tree, text = self.clone(), text_of("docs/EMBEDDING.md")
+        with open(os.path.join(tree, "crates.txt"), "a", encoding="utf-8") as file:
+            file.write(re.search(r"^my_terminal: .*\n", text, re.MULTILINE)[0])
+        crate = os.path.join(tree, "crates", "my_terminal")
+        os.makedirs(os.path.join(crate, "src"))
+        with open(os.path.join(crate, "src", "main.rt"), "w", encoding="utf-8") as file:
+            file.write(blocks("docs/EMBEDDING.md", "rust")[0])
+        # An A at the first place, a B at row 2, column 3, which has the number 42.
+        self.assertIn("A" + "." * 41 + "B..\n", self.output("rt", "try", cwd=crate))
+
+    def test_the_parts_that_stand_elsewhere(self):
+        """A decoder in C is the example's, the display in Rattle that of the tests, and what flashes is called as there."""
+        code, = blocks("docs/EMBEDDING.md", "c")
+        self.assertIn(code, text_of("library/example_live.c"))
+        whole, flashing = blocks("docs/EMBEDDING.md", "rust")
+        display = re.search(r"impl<G: Glass> Glass for Terminal<G> \{.*?\n\}\n", whole, re.DOTALL)[0]
+        self.assertIn(display, text_of("crates/cept_run_tests/src/glasses.rt"))
+        tests = text_of("crates/cept_screen_tests/src/flash.rt")
+        for call in re.findall(r"(?:blink|Blink)[.:]+\w+\(", flashing):
+            self.assertIn(call, tests)
+
+    def test_the_library_in_c_and_in_node(self):
+        """What is built without a proof: the example over the library, and the module in Node, where both are made."""
+        name, folder = f"btx_tests/run: {self.id()}", os.path.join(stand.ROOT, "library", "out")
+        builds, nodes = blocks("docs/EMBEDDING.md", "sh")
+        if not os.path.exists(os.path.join(folder, "libtamligub.a")):
+            self.leave_out(why="there is no library/out/libtamligub.a (library/build library/out makes it)")
+        tree = self.clone()
+        shutil.copytree(folder, os.path.join(tree, "library", "out"))
+        if stand.absent.needed(name, "cc"):
+            lines = [line for line in builds.splitlines() if line.startswith(("cc library/example.c -I", "library/out/example "))]
+            self.assertEqual(len(lines), 2)
+            self.assertEqual(self.output("bash", "-ec", "\n".join(lines), cwd=tree), stand.put("show", stand.page("title")).decode())
+        if stand.absent.needed(name, "node") and stand.absent.module(name):
+            self.assertIn(stand.put("show", stand.page("title")).decode(), self.output("bash", "-ec", nodes, cwd=tree))
+
+    def test_a_collection_without_a_website(self):
+        pages, _ = blocks("docs/ARCHIVES.md", "sh")
+        status, name = re.search(r"as in `(\d) (\S+)`", text_of("docs/ARCHIVES.md")).groups()
+        self.assertEqual(self.output("sh", "-ec", pages, cwd=self.clone()), f"{status} {name}\n")
+
+    def test_over_seven_bits(self):
+        _, pipe = blocks("docs/ARCHIVES.md", "sh")
+        page = self.written("page", b"A\x9d\xe1")
+        env = stand.environment(PATH=f"{os.path.dirname(self.as_cept_tool())}:{os.environ['PATH']}")
+        self.output("sh", "-ec", pipe, cwd=self.folder, env=env)
+        with open(self.path("received"), "rb") as file:
+            self.assertEqual(file.read(), b"A\x1b\x5d\xe1")
+        self.assertTrue(os.path.exists(page))
+
+    def as_cept_tool(self):
+        """The program by its own name, in a folder of its own."""
+        os.makedirs(self.path("bin"))
+        os.symlink(stand.program, self.path("bin", "cept_tool"))
+        return self.path("bin", "cept_tool")
+
+    def test_places_that_documents_name_are_there(self):
+        for name in all_documents():
+            text = text_of(name)
+            beside = os.path.dirname(os.path.join(stand.ROOT, name))
+            for picture in re.findall(r"\]\(([^)#]+)\)", text):
+                self.assertTrue(os.path.exists(os.path.join(beside, picture)), (name, picture))
+            for place in re.findall(rf"`({FOLDERS}/[\w.-]+(?:/[\w.-]+)*)(?=[` ])", text):
+                if "/out" not in place and not place.startswith("crates/my_terminal/"):
+                    self.assertTrue(os.path.exists(os.path.join(stand.ROOT, place)), (name, place))
+
+
+class Proofs(stand.Case):
+    """The tables of docs/PROOFS.md: each row names what stands in the code."""
+
+    def rows(self):
+        """The rows of the tables: promise, function and clauses, with the number of the line."""
+        for number, line in enumerate(text_of("docs/PROOFS.md").splitlines(), 1):
+            cells = [cell.strip() for cell in line.split("|")[1:-1]]
+            if line.startswith("| ") and cells[0] not in ("promise", "---"):
+                yield number, cells
+
+    def words_of_the_code(self):
+        """All words of the sources and the definitions of the crates."""
+        words = set()
+        for place, _, names in os.walk(os.path.join(stand.ROOT, "crates")):
+            if {"src", "specs"} & set(place.split(os.sep)):
+                texts = [text_of(os.path.join(os.path.relpath(place, stand.ROOT), name)) for name in names if name.endswith((".rt", ".antt"))]
+                words.update(*(re.findall(r"\w+", text) for text in texts))
+        return words
+
+    def test_each_row_has_three_cells_and_each_name_stands_in_the_code(self):
+        known, rows = self.words_of_the_code(), list(self.rows())
+        self.assertGreater(len(rows), 250)
+        for number, cells in rows:
+            self.assertEqual(len(cells), 3, number)
+            for name in re.findall(r"`([^`]+)`", cells[1] + cells[2]):
+                self.assertTrue(set(re.split(r"::|\.", name)) <= known, (number, name))
