@@ -4,12 +4,12 @@ import os
 import signal
 import sys
 
-from btx import VERSION, archive, check_script, completion, diff, editor, files, html, jobs, messages, near, passing, picture, program
-from btx import say, terminal, viewer
+from btx import VERSION, archive, cast, check_script, completion, diff, editor, files, film, html, jobs, messages, near, passing, picture
+from btx import program, say, svg, terminal, viewer
 
 OWN = {
-    "terminal": terminal, "html": html, "viewer": viewer, "editor": editor, "png": picture, "archive": archive, "diff": diff,
-    "check-script": check_script, "completion": completion,
+    "terminal": terminal, "html": html, "viewer": viewer, "editor": editor, "png": picture, "gif": film, "svg": svg, "cast": cast,
+    "archive": archive, "diff": diff, "check-script": check_script, "completion": completion,
 }
 KNOWN = (*program.WORDS, *OWN, "help")
 # Words that do without the program.

@@ -34,7 +34,7 @@ def differing(one, other):
 def beside(painter, screens):
     """Two screens beside each other, a line for each row, with a gap where the terminal has room for one."""
     gap = " " * (shutil.get_terminal_size().columns > 2 * looks.COLUMNS)
-    for rows in zip(*(terminal.still(painter, {place: looks.look_of(text) for place, text in one.items()}, looks.ROWS) for one in screens)):
+    for rows in zip(*(painter.still({place: looks.look_of(text) for place, text in one.items()}, looks.ROWS) for one in screens)):
         yield gap.join(row.rstrip("\n") for row in rows) + "\n"
 
 
@@ -48,7 +48,7 @@ def run(path, options):
     screens = [screen_of(path, page) for page in (options.first, options.second)]
     different = list(differing(*screens))
     if different and not options.quiet:
-        painter = terminal.Painter(terminal.depth_of(os.environ), options.reveal)
+        painter = terminal.Painter(terminal.depth_of(os.environ), options.reveal, terminal.signs_known(os.environ))
         sys.stdout.writelines(beside(painter, screens))
     sys.stdout.writelines(f"{row} {column} {one} | {other}\n" for (row, column), one, other in different)
     return DIFFERENT if different else SAME

@@ -57,11 +57,16 @@ def last_cells(changes):
     return b"".join(lines[place] for place in sorted(lines)).decode("ascii")
 
 
+def inks_of(shape):
+    """The inks that a pattern names; of one plane it names none."""
+    return re.findall("...", "".join(shape.split("/")[2:]))
+
+
 def pattern_of(shape):
     """A downloaded pattern: the number of each pixel's ink, line after line, and the inks where it names them."""
-    form, words, *inks = shape[1:].split("/")
+    form, words = shape[1:].split("/")[:2]
     width, height, planes = map(int, form.split("x"))
     bits = sum(int(words[at : at + 16], 16) << (4 * at) for at in range(0, len(words), 16))
     size = width * height
     numbers = [sum((bits >> (plane * size + pixel) & 1) << plane for plane in range(planes)) for pixel in range(size)]
-    return Pattern(width, height, re.findall("...", inks[0]) if inks else None, numbers)
+    return Pattern(width, height, inks_of(shape) or None, numbers)

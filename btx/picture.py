@@ -1,83 +1,90 @@
-"""Writes a PNG of the screen at the end of a page, as the viewer paints it. A Chromium without a window paints it."""
+"""Writes PNGs of the screens at the end of pages, each dot of two by three pixels: 960 by 720. Of several pages each has a file of its own
+in a folder. What flashes is shown as it is seen."""
 import argparse
-import base64
 import os
-import re
-import shutil
-import subprocess
 import sys
-import tempfile
 
-from btx import files, html, program, say
+from btx import canvas, files, html, looks, pillow, program, say
 
-SUMMARY = "a picture of the screen at the end of a page, as PNG"
-BROWSERS = ("chromium", "chromium-browser", "google-chrome", "chromium-headless-shell")
-SCRIPTS = ("text.js", "signs.js", "paint.js", "screen.js", "still.js")
-OPTIONS = "--headless --disable-gpu --disable-dev-shm-usage --no-first-run --disable-extensions --disable-background-networking".split()
-LEAST_CELL, MOST_CELL = 4, 64
-MOST_SECONDS = 120
-NOT_THERE = 127
+SUMMARY = "a picture of the screen at the end of each page, as PNG"
+MOST_SCALE, PHASES = 8, 6
+ENDING = ".png"
 
 
-def cell(text):
-    value = int(text)
-    if not LEAST_CELL <= value <= MOST_CELL:
-        raise argparse.ArgumentTypeError(f"a cell is {LEAST_CELL} to {MOST_CELL} pixels wide")
-    return value
+def whole(least, most, what):
+    """Reads a number between two."""
+    def read(text):
+        value = int(text)
+        if not least <= value <= most:
+            raise argparse.ArgumentTypeError(f"{what} is {least} to {most}")
+        return value
+    read.__name__ = "int"
+    return read
 
 
-def arguments(parser):
-    parser.add_argument("page", metavar="PAGE")
-    parser.add_argument("-o", "--output", metavar="FILE", help="where to write it; without this to standard output")
-    parser.add_argument("--cell", type=cell, default=16, metavar="PIXELS", help="the width of a cell, 4 to 64; without this 16")
+def add_scale(parser):
+    """The option of the size, which every picture has."""
+    scale, what = whole(1, MOST_SCALE, "a scale"), "how many times two by three pixels a dot has, 1 to 8; without it 1"
+    parser.add_argument("--scale", type=scale, default=1, metavar="TIMES", help=what)
+
+
+def add_reveal(parser):
     parser.add_argument("--reveal", action="store_true", help="show what is concealed")
 
 
-def browser():
-    """The Chromium of this machine, or None."""
-    return next(filter(None, map(shutil.which, BROWSERS)), None)
+def add_phase(parser):
+    phase, what = whole(0, PHASES - 1, "a phase"), "which of the six phases of flashing, 0 to 5; without it each sign as it is seen"
+    parser.add_argument("--phase", type=phase, metavar="PHASE", help=what)
 
 
-def document(cells, width, reveal):
-    """A document that paints looks into pictures and holds these as text."""
-    scripts = "\n".join(f"<script>{html.text_of(name)}</script>" for name in SCRIPTS)
-    data = html.data_of({"pages": cells, "cell": width, "reveal": reveal})
-    return (
-        '<!doctype html>\n<html lang="en"><meta charset="utf-8"><title>Tamligub</title><p id="pictures"></p>\n'
-        f'<script type="application/json" id="settings">{data}</script>\n{scripts}</html>\n'
-    )
+def arguments(parser):
+    parser.add_argument("pages", metavar="PAGE", nargs="+")
+    where = "where to write it, of several pages the folder; without this to standard output"
+    parser.add_argument("-o", "--output", metavar="FILE", help=where)
+    add_scale(parser)
+    add_reveal(parser)
+    add_phase(parser)
 
 
-def pictures_of(chromium, cells, width, reveal):
-    """A PNG for each text of cells."""
-    with tempfile.TemporaryDirectory(prefix="btx-") as folder:
-        path = os.path.join(folder, "still.html")
-        with open(path, "w", encoding="utf-8") as file:
-            file.write(document(cells, width, reveal))
-        # Chromium's own sandbox refuses to run for root.
-        words = [chromium, *OPTIONS, *["--no-sandbox"] * (os.geteuid() == 0), f"--user-data-dir={folder}/profile", "--dump-dom", path]
-        done = subprocess.run(words, stdin=subprocess.DEVNULL, stdout=subprocess.PIPE, stderr=subprocess.DEVNULL, timeout=MOST_SECONDS)
-    found = re.search(r'<p id="pictures">([^<]*)</p>', done.stdout.decode("utf-8", "replace"))
-    return [base64.b64decode(one.partition(",")[2]) for one in found[1].split()] if found else []
+def refused(word, options):
+    """Why a call can't be done, or None."""
+    if options.output is None and sys.stdout.isatty():
+        return f"a terminal shows no {word.upper()}; -o FILE writes it into a file"
+    if len(options.pages) > 1 and options.output in (None, files.STANDARD):
+        return "several pages take a folder, by -o FOLDER"
+    if options.pages.count(files.STANDARD) > 1:
+        return "standard input is one page, and - stands more than once"
+    return None
+
+
+def targets_of(options, ending):
+    """Where each picture is written: into a folder by the page's name, or where the option says."""
+    if len(options.pages) == 1 and not os.path.isdir(options.output or ""):
+        return [options.output]
+    os.makedirs(options.output, exist_ok=True)
+    names = [name.replace(os.sep, "_") for name in html.names_of(options.pages)]
+    return [os.path.join(options.output, name + ending) for name in names]
+
+
+def cells_of(path, page):
+    """The looks at the end of a page."""
+    with files.read_again(page) as again:
+        return looks.cells_of(program.text_put(path, "cells", again))
+
+
+def write(image, path, options):
+    """Writes the picture of each page."""
+    for page, target in zip(options.pages, targets_of(options, ENDING)):
+        board = canvas.Canvas(options.reveal, options.phase)
+        picture = board.picture(image, board.screen(cells_of(path, page)), options.scale)
+        with files.output(target) as file:
+            picture.save(file, "PNG")
+    return 0
 
 
 def run(path, options):
-    if options.output is None and sys.stdout.isatty():
-        say("png: a terminal shows no PNG; -o FILE writes it into a file")
+    why = refused("png", options)
+    if why:
+        say(f"png: {why}")
         return 2
-    chromium = browser()
-    if not chromium:
-        say("png: it takes a Chromium, and none is on this machine (Debian: apt-get install chromium)")
-        return NOT_THERE
-    with files.read_again(options.page) as page:
-        cells = program.text_put(path, "cells", page)
-    try:
-        pictures = pictures_of(chromium, [cells], options.cell, options.reveal)
-    except subprocess.TimeoutExpired:
-        pictures = []
-    if not pictures:
-        say(f"png: {chromium} painted nothing")
-        return 5
-    with files.output(options.output) as file:
-        file.write(pictures[0])
-    return 0
+    return pillow.guarded("png", write, path, options)

@@ -1,10 +1,22 @@
-"""The sign in Unicode that stands for a look in a terminal: letters as `show` has them, mosaics and patterns by signs that
-were made for old computers."""
+"""The sign in Unicode that stands for a look in a terminal: letters as `show` has them, mosaics and patterns by signs for which a cell is
+parted in six or in four blocks, or by signs of ASCII."""
 import collections
+import unicodedata
 
-from btx import letters, looks
+from btx import letters, looks, painting
 
 NO_SIGN, SOME_MOSAIC, SOME_PATTERN, FULL = "\ufffd", "\u2592", "\u25a1", "\u2588"
+# What stands for mosaics and patterns: signs of six blocks, which were made for old computers; signs of four; or those of ASCII.
+SEXTANTS, BLOCKS, ASCII = "sextants", "blocks", "ascii"
+QUADRANTS = " ▘▝▀▖▌▞▛▗▚▐▜▄▙▟█"
+# The least and the most of a cell that is seen, with three steps between.
+SHADES = " .:oO#"
+# The signs of the supplementary set that have no sign of ASCII in them.
+NEAREST = dict(zip(
+    "¡¢£¥§¤‘“«←↑→↓°±²³×µ¶·÷’”»¼½¾¿―¹®©™♪ΩÆĐªĦĲĿŁØŒºÞŦŊŉĸæđðħıĳŀłøœßþŧŋ■",
+    "!cLYS*'\"<<^>vo+23xuP./'\">113?-1RCTnOADaHILLOOoPTNnkaddhiilloosptn#", strict=True,
+))
+LINES_OF_ASCII = "++++<>v^/\\\\/+.Oo|-+++++++++><^v"
 
 
 def row_of(first, *last):
@@ -69,27 +81,85 @@ def share(paints, fore, back):
     return count / ((count + paints.count(back)) or 1)
 
 
-def pattern_sign(look):
-    """A pattern in six blocks: the sign, and the two paints that it has most of. A block is seen where it has at least the share
-    of the foreground that the whole pattern has, so that thin lines are seen too."""
-    pattern = looks.pattern_of(look.shape)
-    paints = paints_of(look, pattern)
+Blocks = collections.namedtuple("Blocks", "bits fore back share")
+
+
+def blocks_of(look, paints, width, down):
+    """Paints in lines of a width as two blocks across and some down: a bit for each, the two paints that there are most of, and the share
+    of the first. A block is seen where it has at least the share of the foreground that the whole has, so that thin lines are seen too."""
     often = [paint for paint, _ in collections.Counter(paints).most_common(2)]
     back = look.back if look.back in often or len(often) == 1 else often[0]
     fore = next((paint for paint in often if paint != back), look.fore)
-    half, blocks = pattern.width // 2, 0
-    for block in range(6):
-        lines = range(block // 2 * pattern.height // 3, (block // 2 + 1) * pattern.height // 3)
+    half, height, bits = width // 2, len(paints) // width, 0
+    for block in range(2 * down):
+        lines = range(block // 2 * height // down, (block // 2 + 1) * height // down)
         columns = range(block % 2 * half, block % 2 * half + half)
-        here = [paints[line * pattern.width + column] for line in lines for column in columns]
-        blocks |= (fore in here and share(here, fore, back) >= share(paints, fore, back)) << block
-    return sextant(blocks), fore, back
+        here = [paints[line * width + column] for line in lines for column in columns]
+        bits |= (fore in here and share(here, fore, back) >= share(paints, fore, back)) << block
+    return Blocks(bits, fore, back, share(paints, fore, back))
 
 
-def shown(look, revealed):
-    """The sign, the foreground and the background that a cell shows: a large sign stands in its first cell alone."""
-    if look.shape == "-" or look.down or look.right or (look.concealed and not revealed):
+def dots_of(look):
+    """The paint of each dot that a cell shows of its sign, without lines between blocks and frames."""
+    dots, paints = painting.cell_of(look._replace(flash="S", concealed=False, lined=False, boxed=False), 0, True)
+    return [paints[number] for number in dots]
+
+
+def pattern_sign(look):
+    """A pattern in six blocks: the sign, and the two paints that it has most of."""
+    pattern = looks.pattern_of(look.shape)
+    found = blocks_of(look, paints_of(look, pattern), pattern.width, 3)
+    return sextant(found.bits), found.fore, found.back
+
+
+def is_large(look):
+    return look.high > 1 or look.wide > 1
+
+
+def is_drawn(look):
+    """Whether a look shows a mosaic or a pattern: of a large one each cell has its part."""
+    return look.shape[0] in "MN%"
+
+
+def by_dots(look, kind):
+    """The sign that is nearest to a cell's dots."""
+    found = blocks_of(look, dots_of(look), painting.WIDTH, 3 if kind == SEXTANTS else 2)
+    if kind == ASCII:
+        step = 0 if found.share == 0 else 1 + int(found.share * (len(SHADES) - 2))
+        return SHADES[step], found.fore, found.back
+    return (sextant if kind == SEXTANTS else QUADRANTS.__getitem__)(found.bits), found.fore, found.back
+
+
+def line_of(shape):
+    """The code among the line mosaics from 4/0 on, or None for another shape."""
+    code = int(shape[1:3], 16) - 0x40 if shape[0] == "N" else -1
+    return code if 0 <= code < len(LINES_OF_ASCII) else None
+
+
+def drawn_sign(look, kind):
+    """The sign of a mosaic or a pattern."""
+    line = line_of(look.shape)
+    if kind == SEXTANTS and not is_large(look):
+        return pattern_sign(look) if look.shape[0] == "%" else (sign_of(look.shape), look.fore, look.back)
+    # Lines, discs and arrows are in most fonts, but not the slanted lines.
+    if line is not None and not is_large(look) and (kind == ASCII or not 4 <= line < 12):
+        return (LINES_OF_ASCII if kind == ASCII else LINES)[line], look.fore, look.back
+    return by_dots(look, kind)
+
+
+def as_ascii(sign):
+    """A sign as one of ASCII."""
+    plain = unicodedata.normalize("NFD", sign)[0]
+    return plain if plain.isascii() else NEAREST.get(sign) or "?"
+
+
+def shown(look, revealed, kind=SEXTANTS):
+    """The sign, the foreground and the background that a cell shows: a large letter stands in its first cell alone."""
+    if look.shape == "-" or (look.concealed and not revealed):
         return " ", look.fore, look.back
-    if look.shape[0] == "%":
-        return pattern_sign(look)
-    return sign_of(look.shape), look.fore, look.back
+    if is_drawn(look):
+        return drawn_sign(look, kind)
+    if look.down or look.right:
+        return " ", look.fore, look.back
+    sign = sign_of(look.shape)
+    return as_ascii(sign) if kind == ASCII else sign, look.fore, look.back

@@ -1,18 +1,23 @@
-"""Shows a page in colour in a terminal. Mosaics are shown by signs that Unicode has for old computers, a sign of double size in its
-first cell. Colours are of 24 bits where COLORTERM says so, else of the 256 of the terminal; with NO_COLOR there are none."""
+"""Shows a page in colour in a terminal, as a picture where it says that it has them. Without, mosaics are shown by signs of six blocks that
+Unicode has for old computers, where the terminal is known to draw these or where they are asked for, else by the quarters that most fonts
+have; a letter of double size stands in its first cell. Colours are of 24 bits where COLORTERM says so, else of the 256 of the terminal;
+with NO_COLOR there are none, and no pictures."""
 import argparse
 import os
 import sys
 import time
 
-from btx import files, looks, messages, program, say, signs
+from btx import canvas, files, looks, messages, program, say, screens, signs
 
 SUMMARY = "the page in colour in the terminal"
 BITS_OF_A_BYTE = 10
 STEPS = (0, 95, 135, 175, 215, 255)
 FORE, BACK = 38, 48
+ALL_COLOURS = 2**24
 UNDERLINED, BLINKING = "4", "5"
-PLAIN, HIDE, SHOW, CLEAR = "\x1b[0m", "\x1b[?25l", "\x1b[?25h", "\x1b[2J"
+PLAIN, HIDE, SHOW, CLEAR, HOME = "\x1b[0m", "\x1b[?25l", "\x1b[?25h", "\x1b[2J", "\x1b[1;1H"
+AUTO = "auto"
+KINDS = (AUTO, signs.SEXTANTS, signs.BLOCKS, signs.ASCII, screens.KITTY, screens.SIXEL)
 
 
 def speed(text):
@@ -22,17 +27,36 @@ def speed(text):
     return value
 
 
+def add_signs(parser, kinds, usual):
+    what = f"what shows mosaics: {', '.join(kinds)}; without it {usual}"
+    parser.add_argument("--signs", choices=kinds, default=usual, metavar="SIGNS", help=what)
+
+
 def arguments(parser):
     parser.add_argument("page", metavar="PAGE")
     parser.add_argument("--reveal", action="store_true", help="show what is concealed")
     parser.add_argument("--replay", type=speed, metavar="BITS", help="play it as a line of so many bits a second would, as 1200")
+    add_signs(parser, KINDS, AUTO)
+
+
+def signs_known(environment):
+    """The signs that a terminal is known to show."""
+    return signs.SEXTANTS if screens.draws_sextants(environment) else signs.BLOCKS
+
+
+def kind_of(asked, environment):
+    """What shows mosaics: what is asked for, or what the terminal is known to have."""
+    if asked != AUTO:
+        return asked
+    pictured = sys.stdout.isatty() and not environment.get("NO_COLOR")
+    return (pictured and screens.protocol()) or signs_known(environment)
 
 
 def depth_of(environment):
     """How many colours there are: 0, 256 or 2^24."""
     if environment.get("NO_COLOR"):
         return 0
-    return 2**24 if environment.get("COLORTERM") in ("truecolor", "24bit") else 256
+    return ALL_COLOURS if environment.get("COLORTERM") in ("truecolor", "24bit") else 256
 
 
 def distance(one, other):
@@ -61,8 +85,8 @@ def colour_of(paint, layer, depth):
 class Painter:
     """Makes a terminal's text of looks."""
 
-    def __init__(self, depth, revealed):
-        self.depth, self.revealed = depth, revealed
+    def __init__(self, depth, revealed, kind=signs.SEXTANTS):
+        self.depth, self.revealed, self.kind = depth, revealed, kind
         self.known = {}
 
     def style(self, look, fore, back):
@@ -73,7 +97,7 @@ class Painter:
     def cell(self, look):
         """The style and the sign of a cell."""
         if look not in self.known:
-            sign, fore, back = signs.shown(look, self.revealed)
+            sign, fore, back = signs.shown(look, self.revealed, self.kind)
             self.known[look] = self.style(look, fore, back), sign
         return self.known[look]
 
@@ -86,32 +110,86 @@ class Painter:
             last = style
         return text + PLAIN
 
+    def still(self, cells, rows):
+        """The whole page, a line for each row."""
+        for row in range(1, rows + 1):
+            yield self.row([cells.get((row, column), looks.BLANK) for column in range(1, looks.COLUMNS + 1)]) + "\n"
 
-def still(painter, cells, rows):
-    """The whole page, a line for each row."""
-    for row in range(1, rows + 1):
-        yield painter.row([cells.get((row, column), looks.BLANK) for column in range(1, looks.COLUMNS + 1)]) + "\n"
+    def begun(self):
+        """What makes the screen blank."""
+        return HIDE + CLEAR + repaint(self, blank_screen())
+
+    def changed(self, changed):
+        """What repaints some cells."""
+        return repaint(self, changed)
+
+
+class PicturePainter:
+    """Shows the screen as a picture, anew at each change."""
+
+    def __init__(self, revealed, protocol):
+        self.board, self.protocol, self.cells = canvas.Canvas(revealed), protocol, {}
+
+    def picture(self):
+        return screens.picture(self.protocol, self.board, self.cells)
+
+    def still(self, cells, rows):
+        self.cells = cells
+        yield self.picture()
+        # The picture of kitty leaves the cursor where it is, that of sixel moves it below itself.
+        yield "\n" * (rows if self.protocol == screens.KITTY else 1)
+
+    def begun(self):
+        return HIDE + CLEAR + HOME + self.picture()
+
+    def changed(self, changed):
+        self.cells |= changed
+        return HOME + self.picture()
+
+
+def painter_of(options, environment):
+    kind = kind_of(options.signs, environment)
+    if kind in screens.PROTOCOLS:
+        return PicturePainter(options.reveal, kind)
+    return Painter(depth_of(environment), options.reveal, kind)
+
+
+def blank_screen():
+    return {(row, column): looks.BLANK for row in range(1, looks.ROWS + 1) for column in range(1, looks.COLUMNS + 1)}
 
 
 def repaint(painter, changed):
-    """What repaints some cells, each at its place: neighbours without a new position."""
-    text, after = "", None
+    """What repaints some cells, each at its place: neighbours without a new position, and a style where it changes."""
+    text, after, last = "", None, None
     for row, column in sorted(changed):
         style, sign = painter.cell(changed[row, column])
-        text += ("" if (row, column) == after else f"\x1b[{row};{column}H") + style + sign
-        after = row, column + 1
+        text += ("" if (row, column) == after else f"\x1b[{row};{column}H") + (style if style != last else "") + sign
+        after, last = (row, column + 1), style
     return text + PLAIN
+
+
+def size_of(stream):
+    """The rows and columns of the terminal, or None where there is none."""
+    try:
+        size = os.get_terminal_size(stream.fileno())
+    except OSError:
+        return None
+    return size.lines, size.columns
+
+
+def too_small(size):
+    """What is said of a terminal that is too small for a page, or None."""
+    if size is None or size[0] >= looks.ROWS and size[1] >= looks.COLUMNS:
+        return None
+    return f"the terminal has {size[0]} rows of {size[1]}, and a page {looks.ROWS} of {looks.COLUMNS}"
 
 
 def lines_of(stream):
     """How many rows the terminal has, or more than enough where there is none."""
-    try:
-        size = os.get_terminal_size(stream.fileno())
-    except OSError:
-        return looks.ROWS + 1
-    if size.lines < looks.ROWS or size.columns < looks.COLUMNS:
-        raise OSError(0, f"the terminal has {size.lines} rows of {size.columns}, and a page {looks.ROWS} of {looks.COLUMNS}")
-    return size.lines
+    size = size_of(stream)
+    if too_small(size):
+        raise OSError(0, too_small(size))
+    return size[0] if size else looks.ROWS + 1
 
 
 def wait(until):
@@ -122,13 +200,13 @@ def play(painter, moments, length, bits, stream):
     """Shows each change when the byte at its place has come."""
     last = min(lines_of(stream), looks.ROWS + 1)
     seconds = BITS_OF_A_BYTE / bits
-    stream.write(HIDE + CLEAR + repaint(painter, {(r, c): looks.BLANK for r in range(1, looks.ROWS + 1) for c in range(1, looks.COLUMNS + 1)}))
+    stream.write(painter.begun())
     stream.flush()
     begun = time.monotonic()
     try:
         for place, changed in moments:
             wait(begun + (place + 1) * seconds)
-            stream.write(repaint(painter, changed))
+            stream.write(painter.changed(changed))
             stream.flush()
         wait(begun + length * seconds)
     finally:
@@ -138,15 +216,17 @@ def play(painter, moments, length, bits, stream):
 
 def show(path, page, options):
     """Shows a page that can be read again, and answers the program's status."""
-    painter = Painter(depth_of(os.environ), options.reveal)
+    painter = painter_of(options, os.environ)
     if options.replay:
         moments = looks.moments_of(program.text_put(path, "changes", page))
         play(painter, moments, os.path.getsize(page), options.replay, sys.stdout)
     else:
         cells = looks.cells_of(program.text_put(path, "cells", page))
         rows = program.text_put(path, "show", page).count("\n")
-        sys.stdout.writelines(still(painter, cells, rows))
+        sys.stdout.writelines(painter.still(cells, rows))
         sys.stdout.flush()
+        if too_small(size_of(sys.stdout)):
+            say(f"terminal: {too_small(size_of(sys.stdout))}")
     return program.put(path, "check", page)[1]
 
 

@@ -11,7 +11,10 @@ from html import escape
 
 from btx import html, making
 
-SCRIPTS = ("text.js", "signs.js", "paint.js", "film.js", "screen.js", "player.js", "panels.js", "files.js", "viewer.js", "archive.js", "language.js", "walk.js")
+SCRIPTS = (
+    "text.js", "signs.js", "shapes.js", "dots.js", "paint.js", "film.js", "screen.js", "player.js", "panels.js", "files.js", "viewer.js",
+    "archive.js", "language.js", "walk.js",
+)
 # What a page of an archive has besides those of the viewer.
 OWN_SCRIPTS = ("site.js", "language.js", "walk.js")
 STYLES = ("style.css", "archive.css")
@@ -45,13 +48,12 @@ def write(path, text):
 
 
 def halves():
-    """The viewer's document before and after a page's data, with places for what is each page's own; outlines are off."""
+    """The viewer's document before and after a page's data, with places for what is each page's own."""
     changed = {
         'href="style.css"': 'href="{up}viewer/style.css"',
         "<h1>Tamligub</h1>": '<h1><a href="{up}index.html">Archive</a></h1>',
         "<title>Tamligub: a page being built</title>": "<title>{title}</title>",
         "</header>": '</header>\n<nav id="walk" data-up="{up}" data-part="{part}" data-address="{address}"></nav>',
-        'aria-keyshortcuts="o" checked': 'aria-keyshortcuts="o"',
         '<script src="viewer.js"></script>': "\n".join(f'<script src="{name}"></script>' for name in ("viewer.js", *OWN_SCRIPTS)),
         '<script src="': '<script src="{up}viewer/',
     }

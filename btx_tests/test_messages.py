@@ -136,7 +136,8 @@ class Messages(stand.Case):
         self.ends(["show", "x"], 127, "BTX_PROGRAM is nowhere", env=stand.environment(BTX_PROGRAM="nowhere"))
 
     def test_help_and_version(self):
-        for word in ("changes", "check", "show", "cells", "write", "trace", "edit", "plot", "gen", "load", "terminal", "html", "png", "archive", "diff"):
+        program = ("changes", "check", "show", "cells", "write", "trace", "edit", "plot", "gen", "load")
+        for word in (*program, "terminal", "html", "png", "gif", "svg", "cast", "archive", "diff"):
             self.assertIn(f"usage: btx {word}".encode(), self.ends([word, "--help"], 0).stdout)
             self.assertIn(f"\n    {word} ".encode(), self.ends(["--help"], 0).stdout)
         self.assertRegex(self.ends(["--version"], 0).stdout.decode(), r"^btx \d+\.\d+\n$")

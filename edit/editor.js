@@ -7,7 +7,7 @@
   const PAUSE = 250;
   // A script of so many lines is laid out after the pause alone.
   const LONG_SCRIPT = 250;
-  const [LEAST_CELL, STILL_CELL] = [8, 16];
+  const [LEAST_CELL, STILL_CELL] = [8, 24];
   // Pixels of the page for what stands above and below the screen.
   const ROOM_BELOW = 262;
   const WRITES_ON = "#pen button, #mosaic button, #draw button, #undo, #redo";
@@ -148,7 +148,7 @@
     placeCaret() {
       const caret = part("caret");
       const ratio = this.ratio || 1;
-      const [width, height] = [this.screen.cellWidth / ratio, this.screen.cellHeight / ratio];
+      const [width, height] = [this.screen.cellWidth, this.screen.cellHeight].map((side) => (side * this.screen.shrink) / ratio);
       const draws = this.drawing.drawing();
       const { x, y } = draws ? this.drawing.cursor : {};
       const cell = [(this.typing.column - 1) * width, (this.typing.row - 1) * height, width, height];
@@ -241,7 +241,7 @@
       return word("entryNamed", { name: NAMES[paint] ? word(NAMES[paint]) : paint, number: entry });
     }
 
-    // A picture of the end in the first phase of the flash, as `btx png` makes it.
+    // A picture of the end, as `btx png` makes it.
     still() {
       const canvas = document.createElement("canvas");
       tamligub.paintStill(canvas, { looks: this.sheet.known.list, grid: this.sheet.making.end() }, STILL_CELL, 1, part("reveal").checked);
@@ -304,7 +304,7 @@
       const wide = part("stage").clientWidth - 2;
       const high = (Math.max(window.innerHeight - ROOM_BELOW, window.innerHeight / 2) / ROWS / tamligub.TALL) * COLUMNS;
       const cell = Math.max(LEAST_CELL, Math.floor((Math.min(wide, high) * ratio) / COLUMNS));
-      if (cell === this.screen.cellWidth && ratio === this.ratio) return;
+      if (cell === this.screen.asked && ratio === this.ratio) return;
       this.ratio = ratio;
       this.screen.lay(cell, ratio);
       this.paint();

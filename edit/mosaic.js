@@ -25,9 +25,9 @@
     fill(set) {
       const buttons = PALETTES[set].map((sign) => {
         const code = `${sign.set} ${sign.code >> 4}/${sign.code & 15}`;
-        const canvas = make("canvas", { width: 20, height: 25, "aria-hidden": true });
+        const canvas = make("canvas", { width: 24, height: 30, "aria-hidden": true });
         const look = tamligub.readLook(`${sign.set}${sign.code.toString(16).toUpperCase()} 11.00 FFF 000 S---`);
-        new tamligub.Painter(canvas, 20, 25).cell(look, 0, 0, 0, true);
+        new tamligub.Painter(canvas, 24, 30).cell(look, 0, 0, 0, true);
         const write = () => this.editor.typing.write([sign]);
         return make("button", { type: "button", class: "sign", name: "code", values: { code }, onclick: write }, canvas);
       });

@@ -14,21 +14,26 @@
       this.looks = [];
       this.phase = 0;
       this.revealed = false;
+      this.font = false;
       this.told = false;
       this.painted = 0;
     }
 
-    // Lays the canvases out with cells of so many pixels of the display, and forgets what was painted.
-    lay(cellWidth, ratio) {
-      const [width, height] = [cellWidth, Math.round(cellWidth * TALL)];
+    // Lays the canvases out with cells of so many pixels of the display, and forgets what was painted. Four dots have whole pixels, so that
+    // stems are alike; cells with fewer pixels than dots are painted larger, and made smaller by the browser.
+    lay(asked, ratio) {
+      const { WIDTH } = tamligub.DOTS;
+      const width = asked < WIDTH ? WIDTH : asked - (asked % (WIDTH / 4));
+      const height = Math.round(width * TALL);
+      [this.asked, this.ratio, this.shrink] = [asked, ratio, Math.min(1, asked / WIDTH)];
       for (const canvas of [this.page, this.outlines]) {
         canvas.width = width * tamligub.COLUMNS;
         canvas.height = height * tamligub.ROWS;
-        canvas.style.width = `${canvas.width / ratio}px`;
-        canvas.style.height = `${canvas.height / ratio}px`;
+        canvas.style.width = `${(canvas.width * this.shrink) / ratio}px`;
+        canvas.style.height = `${(canvas.height * this.shrink) / ratio}px`;
       }
       [this.cellWidth, this.cellHeight] = [width, height];
-      this.painter = new tamligub.Painter(this.page, width, height);
+      this.painter = new tamligub.Painter(this.page, width, height, this.font);
       this.forget();
     }
 
@@ -123,10 +128,10 @@
     }
   }
 
-  // Paints a grid of looks into a canvas once, in the first phase of the flash.
+  // Paints a grid of looks into a canvas once, flashing signs as they are seen.
   function paintStill(canvas, { looks, grid }, cellWidth, ratio, revealed) {
     const screen = new Screen(canvas, document.createElement("canvas"));
-    [screen.looks, screen.revealed] = [looks, revealed];
+    [screen.looks, screen.revealed, screen.phase] = [looks, revealed, null];
     screen.lay(cellWidth, ratio);
     screen.show(grid);
   }

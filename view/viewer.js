@@ -136,10 +136,18 @@
       const ratio = window.devicePixelRatio || 1;
       const room = Math.min(part("stage").clientWidth - 2, ((window.innerHeight * 0.8) / ROWS / tamligub.TALL) * COLUMNS);
       const cell = Math.max(LEAST_CELL, Math.floor((room * ratio) / COLUMNS));
-      if (cell === this.screen.cellWidth && ratio === this.ratio) return;
-      this.ratio = ratio;
+      if (cell !== this.screen.asked || ratio !== this.screen.ratio) this.layAnew(cell, ratio);
+    }
+
+    layAnew(cell, ratio) {
       this.screen.lay(cell, ratio);
       if (this.film()) this.moved();
+    }
+
+    // Whether letters are those of the browser's font.
+    letters(font) {
+      this.screen.font = font;
+      this.layAnew(this.screen.asked, this.screen.ratio);
     }
 
     // Paints the end of a page into a small canvas of the index.
@@ -241,6 +249,7 @@
       viewer.turn(viewer.screen.phase);
       viewer.text();
     });
+    on("font", "change", () => viewer.letters(part("font").checked));
     on("text-part", "toggle", () => viewer.text());
     on("copy", "click", () => viewer.copy());
     on("save", "click", () => viewer.save());

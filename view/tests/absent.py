@@ -10,7 +10,7 @@ import sys
 # The Debian package of each program, and of a library of Python.
 PACKAGES = {
     "c++": "g++", "cc": "gcc libc6-dev", "chromium": "chromium", "dpkg": "dpkg", "dpkg-deb": "dpkg", "fish": "fish", "man": "man-db", "node": "nodejs", "parallel": "parallel",
-    "pkg-config": "pkg-config", "pyte": "python3-pyte", "setpriv": "util-linux", "ssh": "openssh-client", "ssh-keygen": "openssh-client",
+    "PIL": "python3-pil", "pkg-config": "pkg-config", "pyte": "python3-pyte", "setpriv": "util-linux", "ssh": "openssh-client", "ssh-keygen": "openssh-client",
     "sshd": "openssh-server", "tmux": "tmux", "valgrind": "valgrind", "wasm-opt": "binaryen", "zsh": "zsh",
 }
 NAMES = {"chromium": ("chromium", "chromium-browser", "google-chrome", "chromium-headless-shell"), "node": ("node", "nodejs")}

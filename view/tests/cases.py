@@ -3,12 +3,17 @@ import json
 import os
 import re
 import subprocess
+import sys
 
 import browser
 from looks import want_of
 
 HERE = os.path.dirname(os.path.abspath(__file__))
 VIEW = os.path.dirname(HERE)
+sys.path.append(os.path.dirname(VIEW))
+from btx import looks as btx_looks  # noqa: E402
+from btx import painting  # noqa: E402
+
 PAGES = os.path.join(os.path.dirname(VIEW), "pages")
 BLANK = "- 11.00 FFF 000 S---"
 # In milliseconds: a phase of the flash, of which a second has six, and the time from one picture of a display to the next.
@@ -168,6 +173,31 @@ def taken(tab, stand, name, flash):
     parts = {"name": name, "changes": stand.put("changes", name), "check": None, "page": None, "flash": flash}
     tab.value(f"Tamligub.viewer.takeParts({json.dumps(parts)})")
     assert tab.value("Tamligub.part('fault').textContent") == "", tab.value("Tamligub.part('fault').textContent")
+
+
+def letters_are_in_dots(tab, stand):
+    """Each dot of each letter has the colour that btx gives it, by the same rule."""
+    opened(tab, stand)
+    for name in ("title", "signs"):
+        go_to(tab, stand, name)
+        letters = [(cell, look) for cell, look in enumerate(looks_at_end(stand, name)) if look[0] in "PS"]
+        middles = [((dot % 12 + 0.5) / 12, (dot // 12 + 0.5) / 10) for dot in range(120)]
+        found = tab.value(f"probe.colours({json.dumps([(cell, x, y) for cell, _ in letters for x, y in middles])})")
+        for at, (cell, look) in enumerate(letters):
+            wanted = painting.colours_of(btx_looks.look_of(look), 0, False)
+            assert found[120 * at : 120 * at + 120] == wanted, f"{name}: {look} at row {cell // 40 + 1}, column {cell % 40 + 1}"
+
+
+def letters_of_a_font_stand_in_their_cells(tab, stand):
+    """Where they are asked for they take the place of dots, and mosaics stay; taken back all is as before."""
+    opened(tab, stand)
+    go_to(tab, stand, "title")
+    before = tab.value("probe.sum()")
+    tab.value("Tamligub.part('font').click()")
+    compare(tab, looks_at_end(stand, "title"), 0, False, "letters of a font")
+    assert tab.value("probe.sum()") != before, "letters are still in dots"
+    tab.value("Tamligub.part('font').click()")
+    assert tab.value("probe.sum()") == before, "the dots aren't as before"
 
 
 def flash_has_six_phases(tab, stand):
@@ -475,7 +505,7 @@ def all_controls_have_names_and_are_reached(tab, stand):
     for _ in range(60):
         tab.key("Tab", 9)
         reached.add(tab.value("document.activeElement.id"))
-    wanted = set("screen bytes first back play forward last speed outline reveal flash copy save".split())
+    wanted = set("screen bytes first back play forward last speed outline reveal font flash copy save".split())
     wanted |= set("paste letters text file-changes file-page file-check file-flash".split())
     assert wanted <= reached, f"Tab doesn't reach {wanted - reached}"
 
@@ -665,7 +695,7 @@ def the_text_of_flash_is_opened_and_dropped(tab, stand):
 def the_index_has_small_pictures(tab, stand):
     opened(tab, stand)
     assert tab.value("[...document.querySelectorAll('#index button')].map((one) => one.textContent)") == stand.names, "the names"
-    tab.until("document.querySelector('#index canvas').width === 240")
+    tab.until("document.querySelector('#index canvas').width === 480")
     script = """[...document.querySelectorAll('#index canvas')].slice(0, 3).every((canvas) =>
       canvas.getContext('2d').getImageData(0, 0, canvas.width, canvas.height).data.some((byte, at) => at % 4 < 3 && byte > 100))"""
     tab.until(script)
@@ -740,7 +770,8 @@ def a_big_page_is_painted_cell_by_cell(tab, stand):
 
 
 CASES = (
-    the_canvas_shows_the_cells, flash_has_six_phases, phases_by_the_lines_of_flash_are_those_of_the_looks,
+    the_canvas_shows_the_cells, letters_are_in_dots, letters_of_a_font_stand_in_their_cells,
+    flash_has_six_phases, phases_by_the_lines_of_flash_are_those_of_the_looks,
     lines_of_flash_are_what_is_shown, files_have_the_lines_of_flash_where_a_page_flashes, the_text_of_flash_is_opened_and_dropped,
     the_flash_runs_only_where_something_flashes,
     concealed_cells_show_when_revealed, double_density_is_sharp, each_command_repaints_its_cells_alone,

@@ -9,7 +9,7 @@ TRIANGLES = {
     "N75": ((0.2, 0.2), (0.8, 0.8)), "N65": ((0.8, 0.2), (0.2, 0.8)),
 }
 
-FULL = ("M5F", "N3F")
+FULL = ("M5F", "N3F", "P7F")
 
 
 def colours_of(paint):
@@ -33,6 +33,16 @@ def pixels_of(shape):
     size = width * height
     numbers = [sum((bits >> (plane * size + n) & 1) << plane for plane in range(planes)) for n in range(size)]
     return width, height, numbers, re.findall("...", inks[0]) if inks else None
+
+
+def dots_over(width, height, parts):
+    """The middles of the sign's dots, twelve by ten in each cell, each with the number of the pixel below it; none that is between two."""
+    across, down = 12 * parts[1], 10 * parts[0]
+    for y in range(down):
+        for x in range(across):
+            if (2 * y + 1) * height % (2 * down):
+                pixel = (2 * y + 1) * height // (2 * down) * width + (2 * x + 1) * width // (2 * across)
+                yield (x + 0.5) / across, (y + 0.5) / down, pixel
 
 
 class Want:
@@ -68,9 +78,9 @@ def want_of(look, phase, revealed):
         want.at(MIDDLES, back)
     elif shape[0] == "%":
         width, height, numbers, inks = pixels_of(shape)
-        for n, number in enumerate(numbers):
-            paint = inks[number] if inks else fore if number else back
-            want.within(parts, (n % width + 0.5) / width, (n // width + 0.5) / height, paint)
+        for x, y, n in dots_over(width, height, parts):
+            paint = inks[numbers[n]] if inks else fore if numbers[n] else back
+            want.within(parts, x, y, paint)
     elif shape[0] == "M" and shape[1] in "2367":
         code = int(shape[1:3], 16)
         bits = code & 0x1F | (code & 0x40) >> 1
@@ -85,7 +95,8 @@ def want_of(look, phase, revealed):
     else:
         want.inked = parts == (1, 1, 0, 0) and fore != back and shape != "N5F"
     if kinds[3] == "b":
-        want.within(parts, 0.5, 0.005, fore)
+        # Of a dotted frame the seventh dot.
+        want.within(parts, 0.55, 0.005, fore)
     parted = shape[0] == "M" and shape[1] in "2367"
     if seen and kinds[2] == "l" and not parted:
         want.within(parts, 0.5, 0.985, fore)

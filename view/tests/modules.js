@@ -9,7 +9,7 @@ const vm = require("node:vm");
 
 const folder = path.dirname(__dirname);
 const context = vm.createContext({ window: {} });
-for (const file of ["text.js", "signs.js", "film.js", "paint.js"]) {
+for (const file of ["text.js", "signs.js", "shapes.js", "dots.js", "film.js", "paint.js"]) {
   vm.runInContext(fs.readFileSync(path.join(folder, file), "utf8"), context, { filename: file });
 }
 const tamligub = context.window.Tamligub;
@@ -141,38 +141,6 @@ test("a text names the first line that is not understood", () => {
   const check = tamligub.readCheck("! 0 2 6 Interrupted\nitems 3 refused 1\n");
   assert.deepStrictEqual([check.items, check.refused, check.refusals.length, check.refusals[0].name], [3, 1, 1, "Interrupted"]);
   assert.throws(() => tamligub.readCheck("items 3\n"), (fault) => fault.number === 1);
-});
-
-test("each mosaic is of a kind that has a name", () => {
-  const kinds = ["blocks", "slope", "quarters", "lines", "slants", "dot", "sign", "bar", "checks"];
-  const seen = new Set();
-  for (const set of ["M", "N"]) {
-    for (let code = 0x21; code < 0x80; code++) {
-      const mosaic = tamligub.mosaicOf(set, code);
-      if (mosaic === null) continue;
-      assert.ok(kinds.includes(mosaic.kind), `${set}${code.toString(16)}`);
-      seen.add(mosaic.kind);
-    }
-  }
-  assert.deepStrictEqual([...seen].sort(), [...kinds].sort());
-});
-
-test("the blocks of a mosaic are bits 1, 2, 4, 8, 16 and 64 of its code", () => {
-  for (const code of [0x21, 0x22, 0x24, 0x28, 0x30, 0x60, 0x7f, 0x35]) {
-    const blocks = [1, 2, 4, 8, 16, 64].reduce((sum, bit, at) => sum | (code & bit ? 1 << at : 0), 0);
-    assert.deepStrictEqual({ ...tamligub.mosaicOf("M", code) }, { kind: "blocks", blocks });
-  }
-});
-
-test("a slope fills the side of its corner", () => {
-  const area = (polygon) => Math.abs(polygon.reduce((sum, [x, y], at) => {
-    const [u, v] = polygon[(at + 1) % polygon.length];
-    return sum + x * v - u * y;
-  }, 0)) / 2;
-  const close = (one, other) => assert.ok(Math.abs(one - other) < 1e-9, `${one}, not ${other}`);
-  close(area(tamligub.polygonOf("l0 r3", "l3")), 0.5);
-  close(area(tamligub.polygonOf("l2 c3", "l3")), 1 / 12);
-  close(area(tamligub.polygonOf("l2 c3", "r0")), 11 / 12);
 });
 
 test("signs are those of the profile's table", () => {

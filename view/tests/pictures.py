@@ -17,7 +17,7 @@ def write(tab, stand, folder):
         tab.size(1000 if whole else 760, 760 if whole else 900)
         tab.open(stand.written("picture.html", [stand.drawn(page)]))
         tab.value("Tamligub.part('flash').checked && Tamligub.part('flash').click()")
-        if not whole:
+        if whole:
             tab.value("Tamligub.part('outline').click()")
         if bytes_come is not None:
             tab.value(f"Tamligub.viewer.player.toBytes({bytes_come})")

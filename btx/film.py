@@ -1,0 +1,97 @@
+"""Writes a GIF of a page being built at the speed of a line, and then as it flashes, again and again. A frame stands for each time at
+which something changes, at most fifty in a second."""
+import dataclasses
+import os
+import sys
+
+from btx import canvas, files, looks, picture, pillow, program, say, terminal
+
+SUMMARY = "a film of a page being built and flashing, as GIF"
+# Browsers show no frame for less than two hundredths of a second.
+STEPS, STEP = 50, 2
+PHASES = 6
+# How long the end is seen, in seconds; in each all phases of the flash turn once.
+REST = 3
+
+
+def arguments(parser):
+    parser.add_argument("page", metavar="PAGE")
+    parser.add_argument("-o", "--output", metavar="FILE", help="where to write it; without this to standard output")
+    parser.add_argument("--replay", type=terminal.speed, default=1200, metavar="BITS", help="at how many bits a second; without this 1200")
+    parser.add_argument("--end", action="store_true", help="show the end of the page alone, as it flashes")
+    picture.add_scale(parser)
+    picture.add_reveal(parser)
+
+
+@dataclasses.dataclass
+class Frame:
+    """Dots, and how many steps they are seen."""
+
+    dots: bytes
+    steps: int
+
+
+def steps_of_phases(until):
+    """The steps at which a phase begins, before some step."""
+    turn = 0
+    while round(turn * STEPS / PHASES) < until:
+        yield round(turn * STEPS / PHASES), turn % PHASES
+        turn += 1
+
+
+def flashes(cells):
+    return any(look.flash != "S" for look in cells.values())
+
+
+def frames_of(board, moments, until):
+    """The frames of moments, each the step at which cells change and their looks. A phase makes a frame where something flashes."""
+    cells, changes, frames = {}, {}, []
+    for step, changed in moments:
+        changes.setdefault(step, {}).update(changed)
+    phases = dict(steps_of_phases(until))
+    board.phase = 0
+    for step in sorted({0, *changes, *phases}):
+        cells.update(changes.get(step, {}))
+        board.phase = phases.get(step, board.phase)
+        if frames and step not in changes and not flashes(cells):
+            continue
+        dots = board.screen(cells)
+        if not frames or dots != frames[-1][1]:
+            frames.append((step, dots))
+    ends = [step for step, _ in frames[1:]] + [until]
+    return [Frame(dots, end - step) for (step, dots), end in zip(frames, ends)]
+
+
+def moments_of(path, page, bits):
+    """The steps at which cells change, and how many there are until the page has come."""
+    seconds = terminal.BITS_OF_A_BYTE / bits
+    moments = looks.moments_of(program.text_put(path, "changes", page))
+    steps = [(int((place + 1) * seconds * STEPS), changed) for place, changed in moments]
+    return steps, max([int(os.path.getsize(page) * seconds * STEPS), *(step for step, _ in steps)])
+
+
+def film_of(board, path, options):
+    """The frames of a page."""
+    with files.read_again(options.page) as page:
+        if options.end:
+            return frames_of(board, [(0, looks.cells_of(program.text_put(path, "cells", page)))], STEPS)
+        moments, length = moments_of(path, page, options.replay)
+    return frames_of(board, moments, length + REST * STEPS)
+
+
+def write(image, path, options):
+    board = canvas.Canvas(options.reveal)
+    frames = film_of(board, path, options)
+    pictures = (board.picture(image, frame.dots, options.scale) for frame in frames)
+    durations = [10 * STEP * frame.steps for frame in frames]
+    keys = {"duration": durations, "loop": 0} if len(frames) > 1 else {}
+    with files.output(options.output) as file:
+        next(pictures).save(file, "GIF", save_all=True, append_images=pictures, optimize=False, **keys)
+    return 0
+
+
+def run(path, options):
+    if options.output is None and sys.stdout.isatty():
+        say("gif: a terminal shows no GIF; -o FILE writes it into a file")
+        return 2
+    return pillow.guarded("gif", write, path, options)
