@@ -1,6 +1,6 @@
-"""Prints the completion of btx for a shell: its words, the options of each with their values, and files. A checkout's is taken by
-. <(bin/btx completion bash), one of zsh likewise after compinit; bin/btx completion fish | source does it for fish. An install keeps all
-three where the shells look for them."""
+"""Writes the completion of btx for a shell: its words, the options of each with their values, and files. Of a checkout
+. <(bin/btx completion bash) loads it, in zsh likewise after compinit; bin/btx completion fish | source does so in fish. An install keeps
+all three where the shells look for them."""
 import argparse
 
 SUMMARY = "the completion of a shell: bash, zsh or fish"

@@ -20,16 +20,16 @@ WORDS = {
     "changes": ("PAGE", "for each item a line for each cell that it changes, or the line of its refusal"),
     "check": ("PAGE", "the line of each refused item, then how many items there are and how many are refused"),
     "show": ("PAGE", "the screen at the end of the page as text"),
-    "cells": ("PAGE", "a line for each cell of that screen whose look isn't the blank look"),
+    "cells": ("PAGE", "a line for each cell whose look isn't the blank look, at the end of the page"),
     "write": ("PAGE", "the page at its end as bytes, which bring it back"),
     "seven": ("PAGE", "the bytes of the page in seven bits, for a path that carries no more"),
-    "eight": ("PAGE", "such bytes back in eight"),
+    "eight": ("PAGE", "bytes that seven wrote, back in eight bits"),
     "trace": ("PAGE SCRIPT", "for each edit of a script a line for each cell that it changes"),
     "edit": ("PAGE SCRIPT", "the page after the edits of a script, as bytes"),
     "plot": ("PAGE DRAWING", "the page with a drawing on its field of 80 by 72 points, as bytes"),
-    "flash": ("PAGE NUMBER", "what each of a number of turns of flashing changes, at most 600"),
+    "flash": ("PAGE NUMBER", "what each turn of flashing changes, for a number of turns up to 600"),
     "gen": ("NUMBER", "the generated page of a number, 0 to 4294967295, as bytes"),
-    "load": ("NUMBER", "how many bytes, items and paints that page has"),
+    "load": ("NUMBER", "how many bytes, items and paints the generated page of a number has"),
 }
 # The words whose second file has lines: a script or a drawing.
 SCRIPTED = ("trace", "edit", "plot")

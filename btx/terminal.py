@@ -35,7 +35,7 @@ def add_signs(parser, kinds, usual):
 def arguments(parser):
     parser.add_argument("page", metavar="PAGE")
     parser.add_argument("--reveal", action="store_true", help="show what is concealed")
-    parser.add_argument("--replay", type=speed, metavar="BITS", help="play it as a line of so many bits a second would, as 1200")
+    parser.add_argument("--replay", type=speed, metavar="BITS", help="play it as over a line of so many bits a second, such as 1200")
     add_signs(parser, KINDS, AUTO)
 
 
