@@ -6,7 +6,7 @@ import os
 import shutil
 import sys
 
-from btx import collection, html, jobs, lists, making, program, progress, website
+from btx import collection, html, jobs, lists, making, pillow, program, progress, website
 
 SUMMARY = "a website of a folder of pages, with an index and a report"
 WORDS, NO_PAGE, NOT_THERE = 2, 4, 127
@@ -62,10 +62,19 @@ def fault_of(options):
 
 def known(site, here, name):
     """The facts of a page that is made already of the very bytes that it has, or None."""
-    facts = site.facts(name)
+    facts = None if site.lacks_picture(name) else site.facts(name)
     try:
         return facts if facts and making.sum_of(making.stored(here.path(name))) == facts.sha256 else None
     except making.Unread:
+        return None
+
+
+def painter():
+    """Pillow's module of images. Where there is none it says so, and no pictures are made."""
+    try:
+        return pillow.image()
+    except pillow.Missing as fault:
+        say(f"no small pictures are made: {fault}")
         return None
 
 
@@ -78,7 +87,7 @@ class Archive:
 
     def __init__(self, options, here):
         self.options, self.here = options, here
-        self.site = website.Website(options.output)
+        self.site = website.Website(options.output, painter())
         unread = {folder: making.unreadable(why) for folder, why in here.unread.items()}
         there = {} if options.again else {name: known(self.site, here, name) for name in here.names}
         self.facts = {**unread, **{name: old for name, old in there.items() if old}}

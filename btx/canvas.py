@@ -62,8 +62,12 @@ class Canvas:
             dots += map(b"".join, zip(*(self.lines(cells.get((row, column), looks.BLANK)) for column in columns)))
         return b"".join(dots)
 
-    def picture(self, image, dots, scale):
-        """Dots as a picture of Pillow, each of two by three pixels and so many times that."""
+    def small(self, image, dots):
+        """Dots as a picture of Pillow, each a pixel."""
         picture = image.frombytes("P", (WIDTH, HEIGHT), dots)
         picture.putpalette(self.palette.colours())
-        return picture.resize((WIDTH * DOT[0] * scale, HEIGHT * DOT[1] * scale), image.NEAREST)
+        return picture
+
+    def picture(self, image, dots, scale):
+        """The same, each dot of two by three pixels and so many times that."""
+        return self.small(image, dots).resize((WIDTH * DOT[0] * scale, HEIGHT * DOT[1] * scale), image.NEAREST)

@@ -1,7 +1,8 @@
 """Writes one file with the viewer and the decoder in it, to open in a browser: stored pages that are dropped on it, opened or pasted are
-decoded there, several and whole folders too. Nothing in it is fetched from elsewhere, nothing leaves the machine, and no script runs in
-it but the viewer's own."""
+decoded there, several and whole folders too; until then it says how, and has pages to look at. Nothing in it is fetched from elsewhere,
+nothing leaves the machine, and no script runs in it but the viewer's own."""
 import base64
+import glob
 import os
 
 from btx import files, html, program, say
@@ -9,6 +10,9 @@ from btx import files, html, program, say
 SUMMARY = "a file that shows stored pages that are dropped on it, in a browser"
 LIBRARY = os.path.join(program.ROOT, "library")
 MODULE = os.path.join(LIBRARY, "out", "tamligub.wasm")
+# The page that says how one is opened, and those to look at.
+WELCOME = os.path.join(html.VIEW, "welcome.btx")
+PAGES = os.path.join(program.ROOT, "pages")
 NOT_THERE = 127
 
 
@@ -33,17 +37,26 @@ def data_of(module):
     return f'<script type="application/wasm-base64" id="module">{base64.b64encode(module).decode()}</script>'
 
 
+def examples():
+    """What a viewer shows until a page is opened, each page with its name and its bytes."""
+    stored = []
+    for path in (WELCOME, *sorted(glob.glob(os.path.join(glob.escape(PAGES), "*.btx")))):
+        with open(path, "rb") as file:
+            stored.append({"name": html.names_of([path])[0], "page": base64.b64encode(file.read()).decode()})
+    return f'<script type="application/json" id="examples">{html.data_of(stored)}</script>'
+
+
 def inside(scripts):
     return "\n".join(f"<script>{script}</script>" for script in scripts)
 
 
 def html_with(module):
-    """The viewer's document with its style, its scripts and the module inside."""
+    """The viewer's document with its style, its scripts, examples and the module inside."""
     document, style = html.text_of("index.html"), html.text_of("style.css")
     scripts = [*map(html.text_of, html.SCRIPT.findall(document)), caller(), html.text_of("decoder.js")]
     head, tail = html.SCRIPT.sub("", html.with_policy(document, policy_of(style, scripts))).split(html.DATA)
     head = head.replace('<link rel="stylesheet" href="style.css">', f"<style>{style}</style>")
-    return f"{head}{html.DATA}\n{data_of(module)}\n{inside(scripts)}\n{tail.lstrip()}"
+    return f"{head}{html.DATA}\n{examples()}\n{data_of(module)}\n{inside(scripts)}\n{tail.lstrip()}"
 
 
 def missing():

@@ -3,13 +3,14 @@ import contextlib
 import dataclasses
 import errno
 import hashlib
+import io
 import json
 import os
 import shutil
 import urllib.parse
 from html import escape
 
-from btx import html, making
+from btx import canvas, html, looks, making
 
 SCRIPTS = (
     "text.js", "signs.js", "shapes.js", "dots.js", "paint.js", "film.js", "screen.js", "player.js", "panels.js", "files.js", "viewer.js",
@@ -19,7 +20,7 @@ SCRIPTS = (
 OWN_SCRIPTS = ("site.js", "language.js", "walk.js")
 STYLES = ("style.css", "archive.css")
 # What is made of a page, each kind in a folder of its own; the facts, by which it counts as made, come last and go first.
-KINDS = {"pages": ".html", "pictures": ".js", "made": ".json"}
+KINDS = {"pages": ".html", "pictures": ".png", "made": ".json"}
 # All folders of a website.
 FOLDERS = (*KINDS, "viewer", "entries", "words", "walk")
 # Of a file's 255 bytes the endings take some.
@@ -39,12 +40,23 @@ def part_of(name):
     return hashlib.sha256(os.fsencode(name)).hexdigest()[:2]
 
 
-def write(path, text):
+def write_bytes(path, data):
     """A file, whole or not at all."""
     os.makedirs(os.path.dirname(path), exist_ok=True)
-    with open(path + ".part", "w", encoding="utf-8") as file:
-        file.write(text)
+    with open(path + ".part", "wb") as file:
+        file.write(data)
     os.replace(path + ".part", path)
+
+
+def write(path, text):
+    write_bytes(path, text.encode("utf-8"))
+
+
+def picture_of(image, cells):
+    """The screen of a text of cells as a PNG, by Pillow: a pixel for each dot."""
+    board, file = canvas.Canvas(False), io.BytesIO()
+    board.small(image, board.screen(looks.cells_of(cells))).save(file, "PNG")
+    return file.getvalue()
 
 
 def halves():
@@ -64,10 +76,10 @@ def halves():
 
 
 class Website:
-    """The files of an archive in a folder."""
+    """The files of an archive in a folder. Without Pillow's module of images pages have no pictures."""
 
-    def __init__(self, out):
-        self.out = out
+    def __init__(self, out, image=None):
+        self.out, self.image = out, image
         self.head, self.tail = halves()
 
     def begin(self, title):
@@ -98,14 +110,22 @@ class Website:
         except (OSError, ValueError, TypeError):
             return None
 
+    def lacks_picture(self, name):
+        """Whether a page has no picture that could be made."""
+        return self.image is not None and not os.path.isfile(self.path("pictures", name))
+
+    def remove_kind(self, kind, name):
+        """Takes away one of the files of a page, and folders that are empty without it."""
+        path = self.path(kind, name)
+        with contextlib.suppress(FileNotFoundError, NotADirectoryError, IsADirectoryError):
+            os.remove(path)
+        with contextlib.suppress(OSError):
+            os.removedirs(os.path.dirname(path))
+
     def remove(self, name):
-        """Takes away what was made of a page, and folders that are empty without it."""
+        """Takes away what was made of a page."""
         for kind in reversed(KINDS):
-            path = self.path(kind, name)
-            with contextlib.suppress(FileNotFoundError, NotADirectoryError, IsADirectoryError):
-                os.remove(path)
-            with contextlib.suppress(OSError):
-                os.removedirs(os.path.dirname(path))
+            self.remove_kind(kind, name)
 
     def document(self, name, facts, parts):
         """The viewer with a page; its style and scripts are those of the whole archive."""
@@ -122,7 +142,10 @@ class Website:
         with contextlib.suppress(FileNotFoundError):
             os.remove(self.path("made", name))
         write(self.path("pages", name), self.document(name, facts, parts))
-        write(self.path("pictures", name), f"Tamligub.picture({html.data_of(parts['cells'])});\n")
+        if self.image:
+            write_bytes(self.path("pictures", name), picture_of(self.image, parts["cells"]))
+        else:
+            self.remove_kind("pictures", name)
         write(self.path("made", name), html.data_of(dataclasses.asdict(facts)))
 
     def add(self, name, facts, parts):

@@ -91,6 +91,11 @@ class Case(unittest.TestCase):
             self.leave_out(names[paths.index(None)])
         return paths
 
+    def needs_pillow(self):
+        """Skips this test where there is no Pillow."""
+        if not absent.has_library("PIL"):
+            self.leave_out("PIL")
+
     def leave_out(self, name=None, why=None):
         """Skips this test, since a program is absent, or for another reason that the machine gives."""
         self.skipTest(absent.left_out(f"btx_tests/run: {self.id()}", name, why))

@@ -15,9 +15,11 @@ import zlib
 
 import archives
 from archives import ODD, data_in, entries_in
+import pngs
 import stand
 
 import browser
+import looks as second_reading
 from btx import lists, looks, website
 
 NAMES = "[...document.querySelectorAll('#tiles .name')].map((one) => one.textContent)"
@@ -67,9 +69,55 @@ class Archive(archives.Case):
             self.assertEqual(page["check"], check)
             with open(path, "rb") as file:
                 self.assertEqual(base64.b64decode(page["page"]), file.read())
-            with open(os.path.join(self.out, "pictures", address + ".js"), encoding="utf-8") as file:
-                self.assertEqual(json.loads(file.read()[len("Tamligub.picture(") : -len(");\n")]), stand.put("cells", path).decode())
+            if stand.absent.has_library("PIL"):
+                self.assertEqual(pngs.size_of(self.small_picture(address)), (480, 240))
         return report, names
+
+    def small_picture(self, name):
+        with open(os.path.join(self.out, "pictures", name + ".png"), "rb") as file:
+            return file.read()
+
+    def pictures(self):
+        folder = os.path.join(self.out, "pictures")
+        return sorted(os.listdir(folder)) if os.path.isdir(folder) else []
+
+    def without_pillow(self):
+        """An environment in which Pillow can't be had."""
+        os.makedirs(self.path("PIL"), exist_ok=True)
+        self.written("PIL/__init__.py", b"raise ImportError\n")
+        return stand.environment(PYTHONPATH=self.folder)
+
+    def test_small_pictures_show_the_cells_a_pixel_a_dot(self):
+        self.needs_pillow()
+        names = ["title", "boat", "patterns", "flashing", "answers"]
+        self.small(*names)
+        self.archive()
+        self.assertEqual(self.pictures(), sorted(name + ".btx.png" for name in names))
+        for name in names:
+            lines = pngs.rows_of(self.small_picture(name + ".btx"))
+            for line in stand.put("cells", stand.page(name)).decode().splitlines():
+                row, column, look = line.split(" ", 2)
+                # What flashes is shown as it is seen, and what is concealed isn't.
+                phase = next(phase for phase in range(6) if second_reading.is_on(look.split(" ")[4][0], phase))
+                for x, y, colours in second_reading.want_of(look, phase, False).points:
+                    pixel = lines[int((int(row) - 1 + y) * 10)][int((int(column) - 1 + x) * 12)]
+                    self.assertIn(pixel, colours, (name, line, x, y))
+
+    def test_without_pillow_a_sentence_says_so_and_pages_have_no_pictures(self):
+        self.small("title", "boat")
+        done = self.archive(env=self.without_pillow())
+        said = "no small pictures are made: it takes Pillow, and this Python has none (Debian: apt-get install python3-pil)"
+        self.assertEqual(done.stderr.decode(), f"btx: archive: {said}\n")
+        self.assertEqual(self.pictures(), [])
+        self.assertEqual(sorted(self.report()), ["boat.btx", "title.btx"])
+        self.needs_pillow()
+        # Pages without pictures get them as soon as they can be made; what a page showed before isn't shown of another.
+        done = self.archive()
+        self.assertEqual((done.stderr, self.pictures()), (b"", ["boat.btx.png", "title.btx.png"]))
+        self.assertIn(b"; 2 were there", self.archive().stdout)
+        shutil.copy(stand.page("house"), os.path.join(self.source, "boat.btx"))
+        self.assertIn(b"; 1 were there", self.archive(env=self.without_pillow()).stdout)
+        self.assertEqual(self.pictures(), ["title.btx.png"])
 
     def test_each_page_has_its_viewer_and_its_line(self):
         self.add_bad()
@@ -247,32 +295,46 @@ class Index(stand.Case):
         self.tab.value(f"(({{ id, value }}) => {{ const part = document.getElementById(id); part.value = value; "
                        f"part.dispatchEvent(new Event(id === 'search' ? 'input' : 'change')); }})({json.dumps({'id': name, 'value': value})})")
 
-    def test_an_index_of_2000_pages_makes_what_is_in_sight(self):
+    def test_an_index_of_2000_pages_asks_for_what_is_in_sight(self):
+        self.needs_pillow()
         source = self.path("source")
         os.mkdir(source)
         shutil.copy(stand.page("boat"), source)
         out = self.archive(source)
         facts = website.Website(out).facts("boat.btx")
         for number in range(2000):
-            os.link(os.path.join(out, "pictures", "boat.btx.js"), os.path.join(out, "pictures", f"{number}.btx.js"))
+            os.link(os.path.join(out, "pictures", "boat.btx.png"), os.path.join(out, "pictures", f"{number}.btx.png"))
         lists.write(out, {f"{number}.btx": facts for number in range(2000)}, ",")
         index = os.path.join(out, "index.html")
-        with self.tab.beforehand(browser.WORK + ASKED):
+        with self.tab.beforehand(ASKED):
             self.open(index)
-        # Pictures are made once all that is in sight is there.
-        in_sight = "[...document.querySelectorAll('#tiles canvas')].filter((one) => one.getBoundingClientRect().top < innerHeight)"
-        self.tab.until(f"{in_sight}.length > 0 && {in_sight}.every((one) => one.width === 240)")
+        # Pictures come once all that is in sight is there.
+        in_sight = "[...document.querySelectorAll('#tiles img')].filter((one) => one.getBoundingClientRect().top < innerHeight)"
+        self.tab.until(f"{in_sight}.length > 0 && {in_sight}.every((one) => one.complete && one.naturalWidth === 480)")
         self.assertEqual(self.tab.value("document.getElementById('count').textContent"), "2,000 of 2,000 pages")
         seen, tiles = self.tab.value(f"[{in_sight}.length, document.querySelectorAll('#tiles li').length]")
-        painted, read = (self.tab.value(f"work.of('{name}').count") for name in ("paintStill", "readCells"))
+        wanted = self.tab.value("document.querySelectorAll('#tiles img[src]').length")
         # Those in sight, and those of one more screen; tiles, of which the next are made before they come into sight, for five.
-        self.assertTrue(seen <= painted == read <= 2 * seen, (seen, painted, read))
+        self.assertTrue(seen <= wanted <= 2 * seen, (seen, wanted))
         self.assertTrue(seen <= tiles <= 5 * seen, (seen, tiles))
         # Of the index's eight parts those of the pages in sight.
         asked = self.tab.value("asked.filter((name) => /entries|words/.test(name))")
         self.assertEqual([name.rpartition("/entries/")[2] for name in asked], ["0.js"])
 
+    def test_where_there_are_no_pictures_the_index_has_none(self):
+        source = self.path("source")
+        os.mkdir(source)
+        for name in ("title", "boat"):
+            shutil.copy(stand.page(name), source)
+        out = self.archive(source)
+        shutil.rmtree(os.path.join(out, "pictures"), ignore_errors=True)
+        self.open(os.path.join(out, "index.html"))
+        self.are(["boat.btx", "title.btx"])
+        self.tab.until("document.querySelectorAll('#tiles img').length === 0")
+        self.assertEqual(self.tab.value("document.querySelectorAll('#tiles a').length"), 2)
+
     def test_index_filters_searches_and_leads_to_the_viewer(self):
+        self.needs_pillow()
         source = self.path("source")
         os.mkdir(source)
         for name in ("title", "boat", "refused"):
@@ -294,12 +356,13 @@ class Index(stand.Case):
         self.choose("search", "")
         self.choose("order", "refused")
         self.tab.until(f"{NAMES}[0] === 'refused.btx'")
-        # The boat's water is blue and its sky cyan, once its picture has come into sight and is made.
+        # The boat's picture comes into sight, 4 to 3.
         self.choose("search", "boat.btx")
-        pixel = "(([canvas]) => [...canvas.getContext('2d').getImageData(PLACE, 1, 1).data].join())(document.querySelectorAll('#tiles canvas'))"
         self.are(["boat.btx"])
-        self.tab.until(f"document.querySelector('#tiles canvas').width === 240 && {pixel.replace('PLACE', '3, 20')} === '0,255,255,255'")
-        self.assertEqual(self.tab.value(pixel.replace("PLACE", "3, 130")), "0,0,255,255")
+        self.tab.until("(([image]) => image.complete && image.naturalWidth === 480)(document.querySelectorAll('#tiles img'))")
+        box = "(({ width, height }) => [width, height])(document.querySelector('#tiles img').getBoundingClientRect())"
+        self.assertEqual(self.tab.value(box), [240, 180])
+        self.assertTrue(self.tab.value("document.querySelector('#tiles img').src.endsWith('/pictures/boat.btx.png')"))
         self.choose("search", "50%")
         self.tab.value("document.querySelector('#tiles a').click()")
         self.tab.until("window.Tamligub !== undefined && Tamligub.viewer !== undefined && Tamligub.viewer.film() !== null")

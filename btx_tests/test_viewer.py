@@ -1,5 +1,6 @@
 """The file with the viewer and the decoder in it. That it decodes is tested by view/test_decoder."""
 import base64
+import json
 import os
 import re
 import subprocess
@@ -23,6 +24,20 @@ class Viewer(stand.Case):
         document = self.document()
         self.assertEqual(re.findall(rb'(?:src|href)="(?!#)([^"]*)"', document), [])
         self.assertIn(b"default-src 'none'", document)
+
+    def test_pages_to_look_at_are_inside(self):
+        found = re.search(rb'<script type="application/json" id="examples">([^<]*)</script>', self.document())
+        stored = {one["name"]: base64.b64decode(one["page"]) for one in json.loads(found[1])}
+        self.assertEqual(list(stored), ["welcome", *stand.all_pages()])
+        for name in stand.all_pages():
+            with open(stand.page(name), "rb") as file:
+                self.assertEqual(stored[name], file.read())
+
+    def test_the_page_that_says_how_one_is_opened_is_that_of_its_script(self):
+        view = os.path.join(stand.ROOT, "view")
+        done = stand.btx("edit", self.written("empty", b""), os.path.join(view, "welcome.script"))
+        with open(os.path.join(view, "welcome.btx"), "rb") as file:
+            self.assertEqual((done.returncode, done.stdout), (0, file.read()))
 
     def test_output_and_module_can_be_named(self):
         whole = self.document()

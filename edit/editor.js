@@ -306,8 +306,18 @@
       const cell = Math.max(LEAST_CELL, Math.floor((Math.min(wide, high) * ratio) / COLUMNS));
       if (cell === this.screen.asked && ratio === this.ratio) return;
       this.ratio = ratio;
-      this.screen.lay(cell, ratio);
+      this.layAnew(cell);
+    }
+
+    layAnew(cell) {
+      this.screen.lay(cell, this.ratio);
       this.paint();
+    }
+
+    // Whether letters are those of the browser's font.
+    letters(font) {
+      this.screen.font = font;
+      this.layAnew(this.screen.asked);
     }
   }
 
@@ -374,6 +384,7 @@
       editor.paint();
       editor.rest();
     });
+    on("font", "change", () => editor.letters(part("font").checked));
     on("reveal", "change", () => editor.screen.turn(0, part("reveal").checked));
     document.addEventListener("keydown", (event) => onKey(editor, event));
     // After a click of the mouse on a tool the keys go on writing.

@@ -1,10 +1,9 @@
-// The index of an archive: entries that are searched, filtered and sorted, folders, and small pictures that are made as they come into
-// sight. What is chosen stands in the address.
+// The index of an archive: entries that are searched, filtered and sorted, folders, and small pictures that are asked for as they come
+// into sight. What is chosen stands in the address.
 (function (tamligub) {
   "use strict";
 
   const { word, grouped, kept } = tamligub;
-  const CELL = 6;
   const AT_ONCE = 60;
   const FIELDS = ["name", "address", "bytes", "status", "items", "refused", "meaning", "title", "alike"];
   const LETTERS = { "ß": "ss", "æ": "ae", "œ": "oe", "ø": "o", "ł": "l", "đ": "d", "ı": "i" };
@@ -62,16 +61,20 @@
     return asked.get(address);
   }
 
-  // A canvas that has come into sight asks for the cells of its page; the file calls `picture` with them.
+  // A picture is asked for when it has come into sight; where a page has none it goes.
   const inSight = new IntersectionObserver((seen) => {
     for (const { target } of seen.filter((one) => one.isIntersecting)) {
       inSight.unobserve(target);
-      script(`pictures/${target.dataset.address}.js`).canvas = target;
+      target.src = `pictures/${target.dataset.address}.png`;
     }
   }, { rootMargin: "200px" });
 
-  function picture(cells) {
-    tamligub.paintStill(document.currentScript.canvas, tamligub.readCells(cells), CELL, 1, false);
+  function picture(address) {
+    const image = make("img");
+    [image.alt, image.decoding, image.dataset.address] = ["", "async", address];
+    image.addEventListener("error", () => image.remove());
+    inSight.observe(image);
+    return image;
   }
 
   function factsOf(entry) {
@@ -88,12 +91,8 @@
     const item = make("li");
     const holder = isRead(entry.status) ? make("a") : make("div");
     if (isRead(entry.status)) {
-      const canvas = make("canvas");
       holder.href = `pages/${entry.address}.html`;
-      canvas.dataset.address = entry.address;
-      canvas.setAttribute("aria-hidden", "true");
-      inSight.observe(canvas);
-      holder.append(canvas);
+      holder.append(picture(entry.address));
     } else {
       holder.append(make("span", "unread", word("notRead", { why: entry.meaning })));
     }
@@ -220,7 +219,7 @@
     choose();
   }
 
-  Object.assign(tamligub, { picture, entries, words });
+  Object.assign(tamligub, { entries, words });
   for (const [id, kind] of [["search", "input"], ["filter", "change"], ["order", "change"]]) part(id).addEventListener(kind, choose);
   part("language").addEventListener("change", speak);
   part("choice").addEventListener("submit", (event) => event.preventDefault());

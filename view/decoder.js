@@ -19,7 +19,9 @@
   };
   const text = (bytes) => new TextDecoder("utf-8").decode(bytes);
 
-  const compiled = WebAssembly.compile(Uint8Array.from(atob(part("module").textContent), (sign) => sign.charCodeAt(0)));
+  const bytesIn = (letters) => Uint8Array.from(atob(letters), (sign) => sign.charCodeAt(0));
+
+  const compiled = WebAssembly.compile(bytesIn(part("module").textContent));
 
   // A page that can't be shown, by its name and the status of the program.
   class PageFault extends Error {
@@ -147,6 +149,16 @@
     return Promise.all(lists).then((all) => all.flat());
   }
 
+  // Until a page is opened the screen says how, and there are pages to look at.
+  async function showExamples() {
+    const module = await compiled;
+    const { viewer } = tamligub;
+    if (viewer.pages.length) return;
+    const stored = JSON.parse(part("examples").textContent);
+    viewer.take(stored.map(({ name, page }) => decoded(module, { name, bytes: bytesIn(page) })));
+    viewer.follow();
+  }
+
   async function take(event, data) {
     event.preventDefault();
     event.stopImmediatePropagation();
@@ -169,4 +181,5 @@
   say("open-words", "Take stored pages, one or several, or the text that cept_tool changes PAGE prints, with the other texts if you like. "
     + "Files and whole folders can also be dropped anywhere on this page, and files pasted; of a folder what ends in .btx is taken. "
     + "Nothing leaves your machine.");
+  tamligub.examples = tamligub.begun.then(showExamples);
 })((window.Tamligub = window.Tamligub || {}));

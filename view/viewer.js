@@ -298,5 +298,5 @@
     part("open-part").open = !viewer.pages.length;
   }
 
-  begin();
+  tamligub.begun = begin();
 })((window.Tamligub = window.Tamligub || {}));

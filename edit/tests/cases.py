@@ -615,6 +615,47 @@ def what_flashes_is_that_of_flash(hand):
     assert hand.tab.value("Tamligub.editor.screen.looks.every((look) => look.flash === 'S')"), "a sign is hidden"
 
 
+# A number for each cell, by the colours of its pixels.
+CELLS_SEEN = """(() => {
+  const { page, cellWidth, cellHeight } = Tamligub.editor.screen;
+  const brush = page.getContext("2d");
+  return Array.from({ length: 960 }, (_, cell) => {
+    const [x, y] = [(cell % 40) * cellWidth, Math.floor(cell / 40) * cellHeight];
+    const words = new Uint32Array(brush.getImageData(x, y, cellWidth, cellHeight).data.buffer);
+    return words.reduce((sum, word) => Math.imul(sum ^ word, 16777619), 2166136261) >>> 0;
+  });
+})()"""
+
+
+def letters_of_the_browsers_font_take_the_place_of_dots(hand):
+    """Where they are asked for each letter is another picture in its cell, what is written then too; mosaics, patterns and what is kept stay."""
+    hand.fresh(page("title"))
+    still(hand)
+    hand.cell(24, 3)
+    hand.type("Gr")
+    dots = hand.tab.value(CELLS_SEEN)
+    hand.click("#font")
+    hand.cell(24, 5)
+    hand.type("oß")
+    looks, seen = hand.looks(), hand.tab.value(CELLS_SEEN)
+    blank = seen[looks.index(BLANK)]
+    for cell, look in enumerate(looks):
+        at = f"{look} at row {cell // 40 + 1}, column {cell % 40 + 1}"
+        # Of a letter of double size a part may be empty in both.
+        if look[0] in "PS" and look.split(" ")[1] == "11.00":
+            assert seen[cell] not in (dots[cell], blank), f"{at} isn't a letter of the font"
+        elif look[0] not in "PS":
+            assert seen[cell] == dots[cell], f"{at} is another"
+    assert sum(look[0] in "PS" for look in looks) > 40 and sum(look[0] in "MN" for look in looks) > 10, "the page has no letters and mosaics"
+    picture = hand.kept("#keep-picture")[1]
+    kept = hand.written("lettered.btx", hand.edited(page=read(page("title"))))
+    pictures = [base64.b64encode(one).decode() for one in (picture, btx(hand, "png", kept))]
+    assert hand.tab.value(f"({SAME_PICTURE})({json.dumps(pictures)})"), "the picture that is kept isn't that of btx png"
+    hand.click("#font")
+    back = hand.tab.value(CELLS_SEEN)
+    assert [cell for cell in range(960) if back[cell] != dots[cell]] == [23 * 40 + 4, 23 * 40 + 5], "the dots aren't as before"
+
+
 def tidying_takes_undone_lines_out(hand):
     hand.fresh()
     still(hand)
@@ -644,7 +685,7 @@ def the_keyboard_alone_does_all(hand):
         hand.key("Tab")
         reached.add(hand.tab.value("document.activeElement.id || document.activeElement.dataset.word || document.activeElement.tagName"))
     for name in ("new", "open", "keep-page", "keep-script", "keep-picture", "keep-html", "undo", "redo", "language", "typing", "reveal", "flash",
-                 "tab-pen", "first", "back", "step", "forward", "last", "tidy", "script"):
+                 "font", "tab-pen", "first", "back", "step", "forward", "last", "tidy", "script"):
         assert name in reached, f"{name} isn't reached by Tab: {sorted(reached)}"
     hand.go_to("#typing")
     hand.key("ArrowDown", 4)
@@ -797,7 +838,7 @@ CASES = (
     rows_screen_area_format_and_colours_are_lines,
     patterns_have_inks, drawings_are_seen_before_they_are_kept, without_plot_only_drawing_is_absent, a_bad_line_is_told,
     lines_are_stepped_and_pointed_at, a_crash_loses_nothing, an_unsaved_page_is_asked_about, refused_items_are_told, what_is_kept,
-    what_flashes_is_that_of_flash, tidying_takes_undone_lines_out, the_keyboard_alone_does_all, every_control_has_a_name_in_both_languages,
-    it_fits_small_screens, a_finger_places_the_caret, random_actions_show_what_the_program_says,
-    lines_that_end_a_break_of_the_page_are_run_from_it, no_other_script_runs,
+    what_flashes_is_that_of_flash, letters_of_the_browsers_font_take_the_place_of_dots, tidying_takes_undone_lines_out,
+    the_keyboard_alone_does_all, every_control_has_a_name_in_both_languages, it_fits_small_screens, a_finger_places_the_caret,
+    random_actions_show_what_the_program_says, lines_that_end_a_break_of_the_page_are_run_from_it, no_other_script_runs,
 )
