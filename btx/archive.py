@@ -6,7 +6,7 @@ import os
 import shutil
 import sys
 
-from btx import collection, html, jobs, lists, making, pillow, program, progress, website
+from btx import collection, html, jobs, lists, making, pillow, program, progress, viewer, website
 
 SUMMARY = "a website of a folder of pages, with an index and a report"
 WORDS, NO_PAGE, NOT_THERE = 2, 4, 127
@@ -87,7 +87,7 @@ class Archive:
 
     def __init__(self, options, here):
         self.options, self.here = options, here
-        self.site = website.Website(options.output, painter())
+        self.site = website.Website(options.output, painter(), viewer.module_script())
         unread = {folder: making.unreadable(why) for folder, why in here.unread.items()}
         there = {} if options.again else {name: known(self.site, here, name) for name in here.names}
         self.facts = {**unread, **{name: old for name, old in there.items() if old}}

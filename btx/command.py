@@ -4,8 +4,8 @@ import os
 import signal
 import sys
 
-from btx import VERSION, archive, cast, check_script, completion, diff, editor, files, film, html, jobs, messages, near, passing, picture
-from btx import program, say, svg, terminal, viewer
+from btx import VERSION, archive, cast, check_script, completion, diff, editor, files, film, html, jobs, library, messages, near, passing
+from btx import picture, program, say, svg, terminal, viewer
 
 OWN = {
     "terminal": terminal, "html": html, "viewer": viewer, "editor": editor, "png": picture, "gif": film, "svg": svg, "cast": cast,
@@ -17,7 +17,7 @@ BY_THEMSELVES = ("viewer", "editor", "completion")
 NOT_THERE = 127
 EPILOG = """The words of the program pass through with its output and its status; what a status means is said on standard error.
 btx PAGE shows a page as terminal does, btx help WORD describes a word, and a file that is named - is standard input.
-man btx and man cept_tool say more. BTX_PROGRAM can name another program."""
+man btx and man cept_tool say more. BTX_PROGRAM can name another program, and TAMLIGUB_LIBRARY another library."""
 
 
 def parsers():
@@ -46,8 +46,8 @@ def unknown(word):
 
 
 def program_for(beside):
-    """The path of the program; of an unproved one that nobody has named it says so."""
-    path = program.found(beside)
+    """The library, or the path of the program; of an unproved one that nobody has named it says so."""
+    path = library.found(beside)
     if path == program.QUICK and not os.environ.get("BTX_PROGRAM"):
         say(f"this program is unproved and slow, as ./build --quick keeps it; {program.PROVES}")
     return path
@@ -93,7 +93,7 @@ def run(words, beside):
     if not word.startswith("-") and word not in KNOWN:
         return unknown(word)
     if words == jobs.WORKER:
-        return jobs.work(program.found(beside))
+        return jobs.work(library.found(beside))
     options = parser.parse_args(words)
     options.beside, options.parser = beside, parser
     path = None if options.word in BY_THEMSELVES else program_for(beside)

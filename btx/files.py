@@ -99,6 +99,13 @@ def read_again(name):
             raise
 
 
+def put_all(output, data):
+    """Writes bytes to an open file, by its number, whole."""
+    left = memoryview(data)
+    while left:
+        left = left[os.write(output, left) :]
+
+
 def mode_for(path):
     """The mode of a file that is written anew: that of the one in its place, or that of any new file."""
     if os.path.exists(path):

@@ -23,7 +23,7 @@ def by_threads(path, website, here, names, jobs):
     program where it is stopped: the system ends these with this process."""
 
     def make(name):
-        return name, website.add(name, *making.made(path, here.path(name)))
+        return name, website.add(name, *making.made(path, here.path(name), website.has_module))
 
     pool, waiting = concurrent.futures.ThreadPoolExecutor(jobs), iter(names)
     try:
@@ -39,8 +39,8 @@ def by_threads(path, website, here, names, jobs):
 class Sent:
     """The pages that go to the jobs of parallel, each read once as it is sent; those that can't be read are kept back."""
 
-    def __init__(self, here, names):
-        self.here, self.names, self.unread = here, names, {}
+    def __init__(self, here, names, has_module):
+        self.here, self.names, self.has_module, self.unread = here, names, has_module, {}
 
     def lines(self):
         """For each page that can be read a line with its number and its bytes."""
@@ -50,7 +50,7 @@ class Sent:
             except making.Unread as unread:
                 self.unread[name] = unread.facts
             else:
-                yield json.dumps({"number": number, "page": page}) + "\n"
+                yield json.dumps({"number": number, "page": page, "module": self.has_module}) + "\n"
 
     def feed(self, stream):
         try:
@@ -60,9 +60,15 @@ class Sent:
             pass  # The runner has ended; what it lacks is seen by the results that don't come.
 
 
+def own_command(beside):
+    """What a shell of this machine starts btx by: the command, or Python where it is a part of the package."""
+    path = os.path.join(beside, "btx")
+    return shlex.quote(path) if os.path.exists(path) else f"{shlex.quote(sys.executable)} -m tamligub"
+
+
 def parallel_words(options):
     """The words that start GNU parallel."""
-    remote = options.remote or ("btx" if options.sshlogin else shlex.quote(os.path.join(options.beside, "btx")))
+    remote = options.remote or ("btx" if options.sshlogin else own_command(options.beside))
     machines = itertools.chain.from_iterable(["--sshlogin", login] for login in options.sshlogin)
     jobs = ["--jobs", str(options.jobs)] if options.jobs else []
     return ["parallel", "--will-cite", "--pipe", "-N", str(PAGES_A_JOB), *jobs, *machines, f"{remote} {shlex.join(WORKER)}"]
@@ -70,7 +76,7 @@ def parallel_words(options):
 
 def by_parallel(website, here, names, words):
     """The same by GNU parallel: pages go to its jobs and results come back over their input and output."""
-    sent = Sent(here, names)
+    sent = Sent(here, names, website.has_module)
     runner = subprocess.Popen([*program.ending_with_us("TERM"), *words], stdin=subprocess.PIPE, stdout=subprocess.PIPE, text=True, encoding="ascii")
     feeder = threading.Thread(target=sent.feed, args=(runner.stdin,), daemon=True)
     feeder.start()
@@ -90,7 +96,7 @@ def work(path):
     """What runs on the machines of parallel: a line for each page comes in, and one for each goes out."""
     for line in sys.stdin:
         job = json.loads(line)
-        facts, parts = making.made_of_bytes(path, base64.b64decode(job["page"]))
+        facts, parts = making.made_of_bytes(path, base64.b64decode(job["page"]), job["module"])
         sys.stdout.write(json.dumps({"number": job["number"], "facts": dataclasses.asdict(facts), "parts": parts}) + "\n")
         sys.stdout.flush()
     return 0

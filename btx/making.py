@@ -1,17 +1,20 @@
 """What an archive needs of one page, made by runs of the program: facts for its lists, and parts for its files."""
 import base64
+import contextlib
 import dataclasses
 import hashlib
 import os
 import re
 import stat
-import tempfile
 import zlib
 
-from btx import looks, messages, program, signs
+from btx import files, looks, messages, program, signs
 
 # Parts are packed quickly: the text of changes is long, and much of it the same.
 LEVEL = 1
+# A page of more bytes than this is kept as its bytes alone, where the website has the decoder's module: the browser decodes it. Its text of
+# changes is a hundred times as long.
+LONG = 2**14
 UNREADABLE, FAULT, TOO_LONG = 4, 5, 7
 # A program that a signal ended has the number of the signal and this, as in a shell.
 SIGNALS = 128
@@ -111,25 +114,42 @@ def title_of(cells):
     return next(filter(None, lines), "")
 
 
-def parts_of(path, source, page):
-    """The parts of a page that is read to its end. Its screen follows from its changes; how many items it has doesn't."""
-    before = program.ending_with_us("KILL")
+@contextlib.contextmanager
+def handed(path, page):
+    """What is handed to a run of a page: the library takes the bytes, and the program the name of a copy."""
+    if not isinstance(path, str):
+        yield page
+        return
+    with files.copy_of(page) as name:
+        yield name
+
+
+def shown_of(path, source, page, has_module, before):
+    """The parts that show a page: its screen, and of a page whose changes the browser doesn't decode these too. The screen at the end
+    follows from the changes, unless it takes too long to find there."""
+    if has_module and len(page) > LONG:
+        return {"cells": program.text_put(path, "cells", source, before=before)}
     changes = program.bytes_put(path, "changes", source, before=before)
-    check = program.text_put(path, "check", source, before=before)
     cells = looks.last_cells(changes)
     if cells is None:
         cells = program.text_put(path, "cells", source, before=before)
-    return {"deflated": packed(changes), "check": check, "page": base64.b64encode(page).decode("ascii"), "cells": cells}
+    return {"deflated": packed(changes), "cells": cells}
 
 
-def made_of_bytes(path, page):
-    """The facts of a page whose bytes are given, and its parts; None for these where it isn't read to its end."""
+def parts_of(path, source, page, has_module):
+    """The parts of a page that is read to its end. How many items it has only `check` says."""
+    before = program.ending_with_us("KILL")
+    check = program.text_put(path, "check", source, before=before)
+    return shown_of(path, source, page, has_module, before) | {"check": check, "page": base64.b64encode(page).decode("ascii")}
+
+
+def made_of_bytes(path, page, has_module=False):
+    """The facts of a page whose bytes are given, and its parts, for a website with or without the decoder's module; None for these where
+    it isn't read to its end."""
     size = len(page)
     try:
-        with tempfile.NamedTemporaryFile(prefix="btx-") as file:
-            file.write(page)
-            file.flush()
-            parts = parts_of(path, file.name, page)
+        with handed(path, page) as source:
+            parts = parts_of(path, source, page, has_module)
     except program.Ended as end:
         return ended(size, end.status if end.status >= 0 else SIGNALS - end.status), None
     items, refused = program.counts_in(parts["check"])
@@ -139,9 +159,9 @@ def made_of_bytes(path, page):
     return Facts(size, status, MEANINGS[status], sum_of(page), items, refused, title_of(cells), screen, words_of(cells)), parts
 
 
-def made(path, source):
+def made(path, source, has_module=False):
     """The same of a page in a file."""
     try:
-        return made_of_bytes(path, stored(source))
+        return made_of_bytes(path, stored(source), has_module)
     except Unread as unread:
         return unread.facts, None

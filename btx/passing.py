@@ -5,7 +5,7 @@ import os
 import signal
 import subprocess
 
-from btx import files, messages, program, say, typed
+from btx import files, library, messages, program, say, typed
 
 OUTPUT = ("-o", "--output")
 WHOLE = (program.READ_TO_THE_END, program.WITH_REFUSALS)
@@ -62,12 +62,24 @@ def given(word, words, out):
         yield Given(own, script, out)
 
 
+def into(output, path, word, words):
+    """Runs the program, or the library, with its output in an open file, and answers its status."""
+    if isinstance(path, str):
+        return subprocess.run([path, word, *words], stdout=output, close_fds=False).returncode
+    text, status = path.put(word, *words)
+    try:
+        files.put_all(output, text)
+    except OSError:
+        return library.FAULT
+    return status
+
+
 def put(path, word, words, out):
     """Runs the program and answers its status. A file takes the output where that is whole."""
     if out is None:
-        return subprocess.run([path, word, *words], close_fds=False).returncode
+        return into(messages.OUTPUT, path, word, words)
     with contextlib.suppress(files.Dropped), files.output(out) as file:
-        status = subprocess.run([path, word, *words], stdout=file, close_fds=False).returncode
+        status = into(file.fileno(), path, word, words)
         if status not in WHOLE:
             raise files.Dropped
     return status

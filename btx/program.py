@@ -99,7 +99,9 @@ def ending_with_us(signal):
 
 
 def put(program, word, *words, before=()):
-    """The output of the program, and its status; words may stand before it that start it."""
+    """The output of the program, and its status; words may stand before it that start it. The library runs in this process."""
+    if not isinstance(program, str):
+        return program.put(word, *words)
     done = subprocess.run([*before, program, word, *words], stdin=subprocess.DEVNULL, stdout=subprocess.PIPE, close_fds=False)
     return done.stdout, done.returncode
 

@@ -27,6 +27,14 @@ def caller():
         return "(function (tamligub) {\n" + file.read() + "tamligub.run = run;\n})((window.Tamligub = window.Tamligub || {}));\n"
 
 
+def module_script():
+    """A script with the module of library/out, and what calls it; None where it isn't made."""
+    if not os.path.exists(MODULE):
+        return None
+    with open(MODULE, "rb") as file:
+        return f'{caller()}Tamligub.module = "{base64.b64encode(file.read()).decode()}";\n'
+
+
 def policy_of(style, scripts):
     """A policy that lets no other style or script in, and lets these compile the module."""
     policy = f"default-src 'none'; img-src blob: data:; style-src {html.sum_of(style)}; script-src 'wasm-unsafe-eval' "

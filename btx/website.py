@@ -28,6 +28,8 @@ LONGEST = 255 - len(".json.part")
 # A page may have a name under which no file of an archive can stand.
 NO_NAMES = (errno.ENAMETOOLONG, errno.EISDIR, errno.ENOTDIR, errno.EEXIST)
 POLICY = "default-src 'none'; img-src blob: data:; style-src 'self'; script-src 'self'"
+# The decoder's module, for pages that are decoded in the browser; no other page asks for it.
+MODULE, COMPILES = "module.js", " 'wasm-unsafe-eval'"
 
 
 def address(name):
@@ -59,34 +61,39 @@ def picture_of(image, cells):
     return file.getvalue()
 
 
-def halves():
-    """The viewer's document before and after a page's data, with places for what is each page's own."""
+def halves(decodes):
+    """The viewer's document before and after a page's data, with places for what is each page's own; of pages that it decodes, or whose
+    texts it has."""
+    scripts = (*([MODULE] if decodes else []), "viewer.js", *OWN_SCRIPTS)
     changed = {
         'href="style.css"': 'href="{up}viewer/style.css"',
         "<h1>Tamligub</h1>": '<h1><a href="{up}index.html">Archive</a></h1>',
         "<title>Tamligub: a page being built</title>": "<title>{title}</title>",
         "</header>": '</header>\n<nav id="walk" data-up="{up}" data-part="{part}" data-address="{address}"></nav>',
-        '<script src="viewer.js"></script>': "\n".join(f'<script src="{name}"></script>' for name in ("viewer.js", *OWN_SCRIPTS)),
+        '<script src="viewer.js"></script>': "\n".join(f'<script src="{name}"></script>' for name in scripts),
         '<script src="': '<script src="{up}viewer/',
     }
-    document = html.with_policy(html.text_of("index.html"), POLICY)
+    document = html.with_policy(html.text_of("index.html"), POLICY + (COMPILES if decodes else ""))
     for old, new in changed.items():
         document = document.replace(old, new)
     return document.split(html.DATA)
 
 
 class Website:
-    """The files of an archive in a folder. Without Pillow's module of images pages have no pictures."""
+    """The files of an archive in a folder. Without Pillow's module of images pages have no pictures, and without the decoder's module, as a
+    script, all have their texts of changes."""
 
-    def __init__(self, out, image=None):
-        self.out, self.image = out, image
-        self.head, self.tail = halves()
+    def __init__(self, out, image=None, module=None):
+        self.out, self.image, self.module, self.has_module = out, image, module, module is not None
+        self.halves = {decodes: halves(decodes) for decodes in (False, True)}
 
     def begin(self, title):
         """What all pages have in common: scripts, styles, and the title of the archive, by which pages don't change."""
         os.makedirs(os.path.join(self.out, "viewer"), exist_ok=True)
         for name in (*SCRIPTS, *STYLES):
             shutil.copyfile(os.path.join(html.VIEW, name), os.path.join(self.out, "viewer", name))
+        if self.has_module:
+            write(os.path.join(self.out, "viewer", MODULE), self.module)
         site = html.data_of({"title": title})
         write(os.path.join(self.out, "viewer", "site.js"), f"(window.Tamligub = window.Tamligub || {{}}).site = {site};\n")
 
@@ -131,10 +138,10 @@ class Website:
         """The viewer with a page; its style and scripts are those of the whole archive."""
         shown = html.shown_name(name)
         places = {"up": "../" * (name.count("/") + 1), "part": part_of(name), "address": address(name), "title": facts.title or shown}
-        head, tail = self.head, self.tail
+        head, tail = self.halves["deflated" not in parts]
         for place, value in places.items():
             head, tail = (text.replace("{" + place + "}", escape(value)) for text in (head, tail))
-        data = {"name": shown, **{part: parts[part] for part in ("deflated", "check", "page")}}
+        data = {"name": shown, **{part: parts[part] for part in ("deflated", "check", "page") if part in parts}}
         return f'{head}<script type="application/json" id="pages">{html.data_of([data])}</script>{tail}'
 
     def write_page(self, name, facts, parts):

@@ -50,7 +50,7 @@ with open(words[words.index("-o") + 1], "w") as file:
 print("logic=proved functions=1 native=nat")
 """
 # A library with one export, and its header.
-HEADER = "uint32_t tamligub_run(const uint8_t *word, size_t word_length);\n"
+HEADER = "#define TAMLIGUB_VERSION \"0.1\"\nuint32_t tamligub_run(const uint8_t *word, size_t word_length);\n"
 CODE = r"""target datalayout = "e-m:e"
 target triple = "x86_64-unknown-linux-gnu"
 define internal i32 @tamligub_inner(i64 %0) #0 {

@@ -20,7 +20,7 @@ import stand
 
 import browser
 import looks as second_reading
-from btx import lists, looks, website
+from btx import lists, looks, making, website
 
 NAMES = "[...document.querySelectorAll('#tiles .name')].map((one) => one.textContent)"
 
@@ -177,6 +177,19 @@ class Archive(archives.Case):
             again = "".join(f"9 {row} {column} {told.get((row, column), looks.BLANK_TEXT)}\n" for row, column in places)
             self.assertEqual(looks.last_cells(b"0 1 1 never\n" * 2**17 + again.encode()), cells)
         self.assertIsNone(looks.last_cells(b"0 1 1 P41 11.00 FFF 000 S---\n" * 2**17))
+
+    def test_a_long_page_has_its_texts_where_no_module_decodes_it(self):
+        """Facts, screen and texts of a page of more than 16,384 bytes, with the module and without; a page of so many has them always."""
+        long = stand.put("gen", "1")
+        self.assertGreater(len(long), making.LONG)
+        facts, parts = making.made_of_bytes(stand.program, long)
+        shown, decoded = making.made_of_bytes(stand.program, long, True)
+        self.assertEqual(shown, facts)
+        changes = zlib.decompress(base64.b64decode(parts.pop("deflated")))
+        self.assertEqual(changes, stand.put("changes", self.written("long", long)))
+        self.assertEqual(decoded, parts)
+        short = long[: making.LONG]
+        self.assertEqual(making.made_of_bytes(stand.program, short, True), making.made_of_bytes(stand.program, short))
 
     def test_a_stop_leaves_what_goes_on(self):
         # A program that waits at its sixteenth run, after more than one page, and is interrupted there with btx.

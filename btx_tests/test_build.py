@@ -3,6 +3,7 @@ they end. That the kit proves is its own; test_readme has it compile the quick p
 import contextlib
 import io
 import os
+import re
 import shutil
 import signal
 import subprocess
@@ -12,7 +13,7 @@ import unittest.mock
 
 import stand
 import stub_kit
-from building import crates, module, plan, proving, whole
+from building import crates, module, npm, plan, proving, shared, whole
 
 CRATES = """low:
 high: low kitlib
@@ -21,6 +22,9 @@ cept_tool: high
 tamligub staticlib: high low kitlib
 """
 ORDER = ["low", "high", "cept_tool", "tamligub"]
+LIBRARIES = ("libtamligub.a", "libtamligub.so.1", "tamligub.h", "tamligub_signs.h")
+# What is made beside the libraries.
+BESIDE = ("libtamligub.so", "tamligub.pc")
 
 
 class Build(stand.Case):
@@ -29,8 +33,10 @@ class Build(stand.Case):
         self.tree, self.temporary = self.path("clone"), self.path("temporary")
         shutil.copytree(os.path.join(stand.ROOT, "building"), self.path("clone", "building"), ignore=shutil.ignore_patterns("__pycache__"))
         os.makedirs(self.path("clone", "library"))
-        for name in ("build", "HANDLES", "library/build", "library/heap.c"):
+        for name in ("build", "HANDLES", "library/build", "library/heap.c", "library/tamligub.js"):
             shutil.copy(os.path.join(stand.ROOT, name), self.path("clone", name))
+        for name in ("library/npm", "shapes"):
+            shutil.copytree(os.path.join(stand.ROOT, name), self.path("clone", name), ignore=shutil.ignore_patterns("__pycache__"))
         self.put("library/tamligub.h", stub_kit.HEADER)
         minutes = {"low": "10.2", "high": "20.5", "cept_tool": "1", "tamligub": "4"}
         rows = "".join(f"| `{name}` | {count} |\n" for name, count in minutes.items())
@@ -69,7 +75,7 @@ class Build(stand.Case):
 
     def test_all_is_built_of_one_proof(self):
         paths, said = self.run_of("build")
-        made = ("crates/cept_tool/out/cept_tool", *(f"library/out/{name}" for name in whole.MADE))
+        made = ("crates/cept_tool/out/cept_tool", *(f"library/out/{name}" for name in (*whole.MADE, *BESIDE, "npm")))
         self.assertEqual(paths, [os.path.join(self.tree, place) for place in made])
         self.assertTrue(os.access(paths[0], os.X_OK))
         for number, name in enumerate(ORDER, 1):
@@ -84,7 +90,8 @@ class Build(stand.Case):
         self.assertEqual(seen, ["./HANDLES", "./crates.txt", *(f"./crates/{name}/src/lib.rt" for name in ("cept_tool", "high", "low"))])
         self.run_of("library/build", self.path("made"))
         self.assertNotIn("cept_tool", self.text("seen"))
-        self.assertEqual(sorted(os.listdir(self.path("made"))), ["libtamligub.a", "tamligub.h", "tamligub.wasm", "tamligub64.wasm"])
+        self.assertEqual(sorted(os.listdir(self.path("made"))), sorted([*whole.MADE, *BESIDE, "npm"]))
+        self.assertEqual(os.readlink(self.path("made", "libtamligub.so")), "libtamligub.so.1")
 
     def test_what_an_earlier_run_has_proved_is_told_apart(self):
         said = self.run_of("build", STUB="kept low kept high")[1]
@@ -142,10 +149,10 @@ class Build(stand.Case):
         said = self.run_of("build", PATH=bare)[1]
         self.assertIn("wasm-opt on this machine (Debian: apt-get install binaryen)", said.splitlines()[1])
         # No module of an earlier build stays beside a library of this one.
-        self.assertEqual(self.made(), ["libtamligub.a", "tamligub.h", "tamligub64.wasm"])
+        self.assertEqual(self.made(), sorted([*LIBRARIES, *BESIDE, "tamligub64.wasm"]))
         said = self.run_of("build", TARGETS="x86-64")[1]
         self.assertIn("the clang of the kit has no WebAssembly", said.splitlines()[1])
-        self.assertEqual(self.made(), ["libtamligub.a", "tamligub.h"])
+        self.assertEqual(self.made(), sorted([*LIBRARIES, *BESIDE]))
 
     def test_without_the_kit(self):
         os.remove(self.path("kit", "bin", "rt"))
@@ -195,6 +202,37 @@ class Plan(stand.Case):
         with unittest.mock.patch.object(plan, "table", lambda: {"cept_codes": 10.0}):
             expected = 10 * plan.lines_of("cept_profile") / plan.lines_of("cept_codes")
             self.assertEqual(plan.minutes_of(["cept_codes", "cept_profile"]), {"cept_codes": 10.0, "cept_profile": expected})
+
+
+class Shared(stand.Case):
+    def test_exports_are_those_of_the_header_in_one_version(self):
+        lines = [line.strip() for line in shared.version_script().splitlines()]
+        self.assertEqual((lines[0], lines[-2:]), ("TAMLIGUB_1 {", ["local: *;", "};"]))
+        self.assertEqual(lines[2:-2], sorted(f"{name};" for name in module.exports()))
+
+    def test_all_versions_are_the_same(self):
+        names = ("library/python/pyproject.toml", "library/python/tamligub/__init__.py", "library/npm/package.json", "btx/__init__.py")
+        found = {}
+        for name in names:
+            with open(os.path.join(stand.ROOT, name), encoding="utf-8") as file:
+                found[name] = re.search(r'(?:version"?:?|VERSION|__version__) ?=? ?"([\d.]+)"', file.read())[1]
+        self.assertEqual(set(found.values()), {shared.version(), shared.version() + ".0"})
+
+
+class Npm(stand.Case):
+    def test_the_scripts_have_all_of_the_library_and_export_it(self):
+        for name, text in npm.scripts().items():
+            self.assertNotIn("typeof exports", text)
+            self.assertIn("class Decoder {", text)
+            self.assertIn("export { Decoder, load, run };" if name.endswith(".mjs") else "module.exports = { Decoder, load, run };", text)
+
+    def test_the_types_name_all_calls(self):
+        with open(os.path.join(npm.SOURCE, "tamligub.d.ts"), encoding="utf-8") as file:
+            types = file.read()
+        body = re.search(r"^class Decoder \{\n(.*?)^\}$", npm.text_of(npm.SCRIPT), re.MULTILINE | re.DOTALL)[1]
+        own = {"call", "noticesOf", "textOf"}
+        for call in set(re.findall(r"^    (?:static )?(\w+)\(", body, re.MULTILINE)) - own:
+            self.assertRegex(types, rf"\b{call}\(")
 
 
 class Module(stand.Case):

@@ -44,10 +44,27 @@ class Documents(stand.Case):
         self.assertEqual(done.returncode, 0, done.stderr.decode())
         return done.stdout.decode()
 
-    def test_the_program_in_python(self):
-        code, = blocks("docs/EMBEDDING.md", "python")
-        printed = re.search(r"this prints `(.*?)`:", text_of("docs/EMBEDDING.md"))[1]
-        self.assertEqual(self.output(sys.executable, "-c", code, cwd=self.clone()), printed + "\n")
+    def with_libraries(self):
+        """The same tree with what `library/build` leaves, where it was built; else this test is left out."""
+        folder = os.path.join(stand.ROOT, "library", "out")
+        if not os.path.exists(os.path.join(folder, "libtamligub.so.1")):
+            self.leave_out(why="there is no library/out/libtamligub.so.1 (library/build library/out makes it)")
+        tree = self.clone()
+        shutil.copytree(folder, os.path.join(tree, "library", "out"), symlinks=True)
+        return tree
+
+    def test_the_programs_in_python(self):
+        tree = self.with_libraries()
+        first, records = blocks("docs/EMBEDDING.md", "python")
+        printed = re.search(r"^prints this:\n\n```\n(.*?)^```", text_of("docs/EMBEDDING.md"), re.DOTALL | re.MULTILINE)[1]
+        env = stand.environment(PYTHONPATH=os.path.join(tree, "library", "python"))
+        self.assertEqual(self.output(sys.executable, "-c", first, cwd=tree, env=env), printed)
+        if not stand.absent.has_library("numpy"):
+            stand.absent.left_out(f"btx_tests/run: {self.id()}, records by numpy", "numpy")
+        else:
+            env["PYTHONPATH"] += os.pathsep + stand.absent.PYTHON
+            count, _ = self.output(sys.executable, "-c", records, cwd=tree, env=env).split()
+            self.assertEqual(int(count), stand.put("changes", self.written("page", stand.put("gen", "1"))).count(b"\n"))
 
     def test_the_display_in_rattle(self):
         if not stand.there("rt"):
@@ -65,7 +82,7 @@ class Documents(stand.Case):
     def test_the_parts_that_stand_elsewhere(self):
         """A decoder in C is the example's, the display in Rattle that of the tests, and what flashes is called as there."""
         code, = blocks("docs/EMBEDDING.md", "c")
-        self.assertIn(code, text_of("library/example_live.c"))
+        self.assertIn(code, text_of("library/example_feed.c"))
         whole, flashing = blocks("docs/EMBEDDING.md", "rust")
         display = re.search(r"impl<G: Glass> Glass for Terminal<G> \{.*?\n\}\n", whole, re.DOTALL)[0]
         self.assertIn(display, text_of("crates/cept_run_tests/src/glasses.rt"))
@@ -73,20 +90,31 @@ class Documents(stand.Case):
         for call in re.findall(r"(?:blink|Blink)[.:]+\w+\(", flashing):
             self.assertIn(call, tests)
 
-    def test_the_library_in_c_and_in_node(self):
-        """What is built without a proof: the example over the library, and the module in Node, where both are made."""
-        name, folder = f"btx_tests/run: {self.id()}", os.path.join(stand.ROOT, "library", "out")
-        builds, nodes = blocks("docs/EMBEDDING.md", "sh")
-        if not os.path.exists(os.path.join(folder, "libtamligub.a")):
-            self.leave_out(why="there is no library/out/libtamligub.a (library/build library/out makes it)")
-        tree = self.clone()
-        shutil.copytree(folder, os.path.join(tree, "library", "out"))
-        if stand.absent.needed(name, "cc"):
-            lines = [line for line in builds.splitlines() if line.startswith(("cc library/example.c -I", "library/out/example "))]
-            self.assertEqual(len(lines), 2)
-            self.assertEqual(self.output("bash", "-ec", "\n".join(lines), cwd=tree), stand.put("show", stand.page("title")).decode())
-        if stand.absent.needed(name, "node") and stand.absent.module(name):
-            self.assertIn(stand.put("show", stand.page("title")).decode(), self.output("bash", "-ec", nodes, cwd=tree))
+    def test_the_library_in_c(self):
+        """The examples over the libraries, as they are built and run there; an install goes to a home of its own."""
+        tree, (calls, decoders, _) = self.with_libraries(), blocks("docs/EMBEDDING.md", "sh")
+        self.needs("cc", "pkg-config")
+        env = {name: value for name, value in stand.environment(HOME=self.path("home")).items() if name != "BTX_PROGRAM"}
+        shown = self.output("bash", "-ec", calls, cwd=tree, env=env)
+        want = stand.put("show", stand.page("title")).decode()
+        self.assertEqual((shown.count(want), "installed; begin with" in shown), (2, True))
+        self.assertIn("row 1, column 2: sign 54 of set 0\n", self.output("bash", "-ec", decoders, cwd=tree, env=env))
+        with open(os.path.join(tree, "library", "out", "title.ppm"), "rb") as file:
+            self.assertEqual(file.read(11), b"P6\n480 240\n")
+
+    def test_the_package_in_node(self):
+        tree, packs = self.with_libraries(), blocks("docs/EMBEDDING.md", "sh")[2]
+        self.needs("node", "npm")
+        if not os.path.exists(os.path.join(tree, "library", "out", "npm")):
+            self.leave_out("wasm-opt")
+        env = stand.environment(npm_config_cache=self.path("cache"), npm_config_update_notifier="false")
+        self.output("bash", "-ec", packs, cwd=tree, env=env)
+        code, = blocks("docs/EMBEDDING.md", "js")
+        with open(os.path.join(tree, "project", "first.mjs"), "w", encoding="utf-8") as file:
+            file.write(code)
+        said = self.output("node", "project/first.mjs", stand.page("title"), cwd=tree)
+        self.assertTrue(said.startswith(stand.put("show", stand.page("title")).decode()))
+        self.assertEqual(said.count("\n"), 24 + stand.put("changes", stand.page("title")).count(b"\n"))
 
     def test_a_collection_without_a_website(self):
         pages, _ = blocks("docs/ARCHIVES.md", "sh")

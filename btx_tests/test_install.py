@@ -1,16 +1,16 @@
 """The install under a prefix and as a Debian package, each used as a reader would, from where it was put."""
 import configparser
-import importlib.machinery
-import importlib.util
 import os
 import re
 import shlex
 import struct
 import subprocess
+import sys
 import tempfile
 import xml.etree.ElementTree
 
 import stand
+from building import deb, parts, tree
 
 INSTALL = os.path.join(stand.ROOT, "install")
 
@@ -70,21 +70,63 @@ class Install(stand.Case):
 
     def test_a_debian_package_is_installed_used_and_removed(self):
         self.needs("dpkg", "dpkg-deb")
-        path = self.is_right(self.run_of(INSTALL, "--deb", self.path("deb"), env=stand.environment())).decode().strip()
+        paths = self.is_right(self.run_of(INSTALL, "--deb", self.path("deb"), env=stand.environment())).decode().split()
         system = self.path("system")
         for place in ("var/lib/dpkg/info", "var/lib/dpkg/updates", "usr"):
             os.makedirs(os.path.join(system, place))
         open(os.path.join(system, "var/lib/dpkg/status"), "w", encoding="ascii").close()
         # A system of its own in a folder, so that the machine's own packages stay as they are.
         dpkg = ["dpkg", "--root=" + system, "--log=/dev/null", "--force-not-root", "--force-depends", "--force-bad-path"]
-        self.is_right(self.run_of(*dpkg, "--install", path))
+        self.is_right(self.run_of(*dpkg, "--install", *paths))
         usr = os.path.join(system, "usr")
         self.works(usr)
+        self.passes(system, [os.path.basename(path).partition("_")[0] for path in paths])
         if stand.absent.needed(f"btx_tests/run: {self.id()}, the manual", "man"):
             self.reads_manual(usr)
-        self.is_right(self.run_of(*dpkg, "--remove", "tamligub"))
+        self.is_right(self.run_of(*dpkg, "--remove", *(os.path.basename(path).partition("_")[0] for path in paths)))
         left = [name for _, _, names in os.walk(usr) for name in names]
         self.assertEqual(left, [])
+
+    def passes(self, system, packages):
+        """Runs the tests of these packages, as debian/tests has them for autopkgtest, in a system that stands in a folder."""
+        usr, kind = os.path.join(system, "usr"), deb.multiarch()
+        own = {
+            "PATH": f"{usr}/bin:{os.environ['PATH']}", "PYTHONPATH": f"{usr}/lib/python3/dist-packages", "LD_LIBRARY_PATH": f"{usr}/lib/{kind}",
+            "PKG_CONFIG_LIBDIR": f"{usr}/lib/{kind}/pkgconfig", "PKG_CONFIG_SYSROOT_DIR": system, "PYTHONDONTWRITEBYTECODE": "1",
+        }
+        with open(os.path.join(stand.ROOT, "debian", "tests", "control"), encoding="utf-8") as file:
+            listed = dict(re.findall(r"^Tests: (\S+)\nDepends: ([\w-]+)", file.read(), re.MULTILINE))
+        self.assertEqual(set(listed.values()), set(deb.PACKAGES))
+        for name, package in listed.items():
+            if package in packages and (name != "c-library" or stand.absent.needed(f"btx_tests/run: {self.id()}, {name}", "cc", "pkg-config")):
+                os.makedirs(self.path(name))
+                env = {**self.bare(), **own, "AUTOPKGTEST_TMP": self.path(name)}
+                self.is_right(self.run_of(os.path.join(stand.ROOT, "debian", "tests", name), env=env))
+
+    def test_lintian_has_no_error_on_the_packages(self):
+        lintian, _, _, _ = self.needs("lintian", "dpkg-deb", "readelf", "dpkg")
+        paths = self.is_right(self.run_of(INSTALL, "--deb", self.path("deb"), env=stand.environment())).decode().split()
+        self.assertIn(len(paths), (1, len(deb.PACKAGES)))
+        done = self.run_of(lintian, "--fail-on", "error", *paths)
+        self.assertEqual((done.returncode, re.findall("^E: .*", done.stdout.decode(), re.MULTILINE)), (0, []))
+
+    def test_the_library_under_a_prefix(self):
+        """A program in C is built by pkg-config and runs as it is, and btx and Python take the library from there."""
+        prefix = self.path("pre fix")
+        self.is_right(self.run_of(INSTALL, prefix, env=stand.environment()))
+        if not os.path.exists(os.path.join(prefix, "lib", "libtamligub.so.1")):
+            self.leave_out(why="there is no library/out/libtamligub.so.1 (library/build library/out makes it)")
+        page, want = stand.page("title"), stand.put("show", stand.page("title"))
+        code = f"import tamligub, sys; sys.stdout.buffer.write(tamligub.show(open({page!r}, 'rb').read()).encode())"
+        env = {**self.bare(), "PYTHONPATH": os.path.join(prefix, "share/tamligub/library/python")}
+        self.assertEqual(self.is_right(self.run_of(sys.executable, "-c", code, env=env)), want)
+        os.remove(os.path.join(prefix, "bin", "cept_tool"))
+        self.assertEqual(self.is_right(self.run_of(os.path.join(prefix, "bin", "btx"), "show", page)), want)
+        self.needs("cc", "pkg-config")
+        env = {**self.bare(), "PKG_CONFIG_PATH": os.path.join(prefix, "lib", "pkgconfig")}
+        line = f"eval cc {stand.ROOT}/library/example.c $(pkg-config --cflags --libs tamligub) -o {self.path('example')}"
+        self.is_right(self.run_of("sh", "-ec", line, env=env))
+        self.assertEqual(self.is_right(self.run_of(self.path("example"), page)), want)
 
     def test_the_completion_of_bash(self):
         script = self.written("btx.bash", stand.btx("completion", "bash").stdout)
@@ -210,11 +252,9 @@ class Install(stand.Case):
 
     def test_pkg_config_takes_a_prefix_with_spaces(self):
         command, = self.needs("pkg-config")
-        loader = importlib.machinery.SourceFileLoader("install", INSTALL)
-        module = importlib.util.module_from_spec(importlib.util.spec_from_loader("install", loader))
-        loader.exec_module(module)
-        self.written("tamligub.pc", module.pkg_config("/a place/of it").encode())
-        for words, wanted in ((["--cflags"], ["-I/a place/of it/include"]), (["--libs"], ["-L/a place/of it/lib", "-ltamligub"])):
+        self.written("tamligub.pc", parts.pkg_config(tree.Tree("", "/a place/of it")).encode())
+        path = "-Wl,-rpath,/a place/of it/lib"
+        for words, wanted in ((["--cflags"], ["-I/a place/of it/include"]), (["--libs"], ["-L/a place/of it/lib", path, "-ltamligub"])):
             found = self.run_of(command, *words, "tamligub", env={**self.bare(), "PKG_CONFIG_PATH": self.folder})
             self.assertEqual(shlex.split(self.is_right(found).decode()), wanted)
 

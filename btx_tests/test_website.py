@@ -69,6 +69,23 @@ class Website(archives.Case):
         self.shows(WALK, "prev:◀ Eine gestörte Übertragung")
         self.assertEqual(self.tab.faults, [])
 
+    def test_a_long_page_is_decoded_in_the_browser(self):
+        """By the module that all long pages of the website share; a short one doesn't ask for it."""
+        self.module()
+        path = self.written("collection/lang.btx", stand.put("gen", "1"))
+        self.archive()
+        self.open("pages/lang.btx.html")
+        self.tab.until("Tamligub.viewer.film() !== null")
+        looks = self.tab.value("Array.from(Tamligub.viewer.screen.shown, (number) => Tamligub.viewer.screen.looks[number].text)")
+        shown = [f"{1 + cell // 40} {1 + cell % 40} {look}" for cell, look in enumerate(looks) if look != "- 11.00 FFF 000 S---"]
+        self.assertEqual(shown, stand.put("cells", path).decode().splitlines())
+        self.assertEqual(self.tab.value("Tamligub.viewer.film().linesUpTo(Tamligub.viewer.film().moment)"), stand.put("changes", path).count(b"\n"))
+        loaded = "[...document.scripts].some((one) => one.src.endsWith('/module.js'))"
+        self.assertTrue(self.tab.value(loaded))
+        self.open("pages/boat.btx.html")
+        self.assertFalse(self.tab.value(loaded))
+        self.assertEqual(self.tab.faults, [])
+
     def test_the_way_stays_right_where_a_page_is_gone(self):
         self.archive()
         os.remove(os.path.join(self.source, "boat.btx"))

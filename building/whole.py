@@ -1,14 +1,16 @@
 """Program, library and module of one proof."""
 import os
 import shutil
+import sys
 import tempfile
 
-from building import ROOT, archive, crates, module, plan, proving, tell
+from building import ROOT, archive, crates, module, npm, plan, proving, running, shared, tell
 
 PROGRAM = "cept_tool"
 PLACE = os.path.join(ROOT, "crates", PROGRAM, "out", PROGRAM)
 LIBRARY = os.path.join(ROOT, "library", "out")
-MADE = ("libtamligub.a", "tamligub.h", "tamligub64.wasm", "tamligub.wasm")
+SIGNS, CONFIG = "tamligub_signs.h", "tamligub.pc"
+MADE = ("libtamligub.a", shared.NAME, "tamligub.h", SIGNS, "tamligub64.wasm", "tamligub.wasm")
 
 
 def put(source, path, mode):
@@ -20,13 +22,41 @@ def put(source, path, mode):
     return path
 
 
+def linked(target, path):
+    """A link in its place at once."""
+    if os.path.lexists(path + ".new"):
+        os.remove(path + ".new")
+    os.symlink(target, path + ".new")
+    os.replace(path + ".new", path)
+    return path
+
+
+def beside(out):
+    """What stands beside the libraries: what pkg-config reads, and the name by which a linker finds the shared one. Answers the paths."""
+    here = "${pcfiledir}"
+    path = os.path.join(out, CONFIG)
+    with open(path, "w", encoding="utf-8") as file:
+        file.write(shared.pkg_config(here, here, here, shared.version(), is_searched=False))
+    return [linked(shared.NAME, os.path.join(out, shared.LINK)), path]
+
+
 def put_library(paths, out):
     """Puts what was made of the library into a folder, and takes away what an earlier build left there of the rest. Answers the paths."""
     for name in MADE:
         path = os.path.join(out, name)
         if os.path.exists(path) and name not in map(os.path.basename, paths):
             os.remove(path)
-    return [put(path, os.path.join(out, os.path.basename(path)), 0o644) for path in paths]
+    kept = [put(path, os.path.join(out, os.path.basename(path)), 0o644) for path in paths]
+    wasm = os.path.join(out, "tamligub.wasm")
+    shutil.rmtree(os.path.join(out, npm.FOLDER), ignore_errors=True)
+    return kept + beside(out) + ([npm.make(wasm, out)] if wasm in kept else [])
+
+
+def signs_for_c(work):
+    """The header that says how signs look. Answers its path."""
+    path = os.path.join(work, SIGNS)
+    running.do(sys.executable, os.path.join(ROOT, "shapes", "make"), "--header", path, cwd=work)
+    return path
 
 
 def begin(names):
@@ -48,9 +78,9 @@ def make(out, with_program):
     with tempfile.TemporaryDirectory(prefix="tamligub-build-") as work:
         proved = crates.repository(below, os.path.join(work, "proved"))
         source = crates.copied(archive.NAME, os.path.join(work, archive.NAME))
-        header = shutil.copy(module.HEADER, work)
         proving.prove(proved, course)
         paths = [put(os.path.join(proved, "crates", name, "out", name), PLACE, 0o755) for name in programs]
         built, bitcode = archive.make(source, proved, work)
         tell(course.done(archive.NAME))
-        return paths + put_library([built, header, *module.make(bitcode, work)], out)
+        headers = [shutil.copy(module.HEADER, work), signs_for_c(work)]
+        return paths + put_library([built, shared.make(built, work), *headers, *module.make(bitcode, work)], out)

@@ -1,15 +1,25 @@
 /* A decoder and page editor for Bildschirmtext (videotex, CEPT profile 1): the whole program as one function, and a decoder that is fed
- * bytes as they come. Link libtamligub.a, and nothing but a C library.
+ * bytes as they come. Link libtamligub.a, or libtamligub.so.1 as a shared library, and nothing but a C library.
  *
  * A page is a stored page as bytes, as it came over the line. A script is a text of lines, each an edit of the page, such as
  * "at 1 2" or "text XY", or "undo" or "redo". A drawing is a text of lines, each a figure, such as "line 0 0 79 71"; it is handed in as
- * a script. cept_tool(1) has the words, the texts that they write, the scripts and the drawings. */
+ * a script. cept_tool(1) has the words, the texts that they write, the scripts and the drawings.
+ *
+ * What stays the same: a program that was built with this header runs with every later version whose shared library is libtamligub.so.1,
+ * without being built again. These versions keep each function, with what it takes and answers; each record, with its size and the places
+ * of its fields; each number, with its meaning; each word, with the form of its text; and the rooms that suffice. They may add functions,
+ * words, statuses and reasons, so that a host takes a number that it doesn't know for a fault that it doesn't know. What a page shows may
+ * differ only where an earlier version was wrong about the profile. A version that keeps less is libtamligub.so.2. The functions here have
+ * the symbol version TAMLIGUB_1, and the shared library exports nothing else. A snapshot may be refused by another version: then
+ * tamligub_restore answers 1. */
 #ifndef TAMLIGUB_H
 #define TAMLIGUB_H
 
 #include <stdbool.h>
 #include <stddef.h>
 #include <stdint.h>
+
+#define TAMLIGUB_VERSION "0.1"
 
 #ifdef __cplusplus
 extern "C" {

@@ -32,6 +32,11 @@
     return look.flash === "R" && phase >= 3 ? 2 : 1;
   }
 
+  // The first phase in which a sign is seen, for a picture that stands still.
+  function phaseSeen(look) {
+    return [0, 1, 2, 3, 4, 5].find((phase) => appearance(look, phase, true) !== 0);
+  }
+
   // The text of the steady look that is painted in a phase: without a sign and its line where only the background is seen.
   function seenText(look, phase) {
     const seen = appearance(look, phase, true) !== 0;
@@ -116,5 +121,5 @@
     return runs;
   }
 
-  Object.assign(tamligub, { DOTS: { WIDTH, HEIGHT }, PICTURE, appearance, foreOf, seenText, paintsOf, runsOf });
+  Object.assign(tamligub, { DOTS: { WIDTH, HEIGHT }, PICTURE, appearance, phaseSeen, foreOf, seenText, paintsOf, runsOf });
 })((window.Tamligub = window.Tamligub || {}));

@@ -68,11 +68,20 @@
     return JSON.parse(tamligub.part("pages").textContent).map((page) => ({ ...page, page: bytesIn(page.page) }));
   }
 
-  // The same pages; of one whose text of changes is packed, as in an archive, it is unpacked.
+  function inflated(letters) {
+    const stream = new Blob([bytesIn(letters)]).stream().pipeThrough(new DecompressionStream("deflate"));
+    return new Response(stream).text();
+  }
+
+  // The text of changes of a stored page, by the module of an archive.
+  async function decoded(page) {
+    return text(tamligub.run(await WebAssembly.compile(bytesIn(tamligub.module)), "changes", { page }).text);
+  }
+
+  // The same pages with their texts of changes: in an archive that of a short page is packed, and a long page is decoded.
   async function unpacked(pages) {
-    for (const page of pages.filter((one) => one.deflated !== undefined)) {
-      const stream = new Blob([bytesIn(page.deflated)]).stream().pipeThrough(new DecompressionStream("deflate"));
-      page.changes = await new Response(stream).text();
+    for (const page of pages.filter((one) => one.changes === undefined)) {
+      page.changes = await (page.deflated === undefined ? decoded(page.page) : inflated(page.deflated));
       delete page.deflated;
     }
     return pages;

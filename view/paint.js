@@ -13,11 +13,6 @@
     return Array.from({ length: count + 1 }, (_, edge) => Math.round((edge * length) / count));
   }
 
-  // The first phase in which a sign is seen, for a picture that stands still.
-  function phaseSeen(look) {
-    return [0, 1, 2, 3, 4, 5].find((phase) => tamligub.appearance(look, phase, true) !== 0);
-  }
-
   // Whether a font has the sign of a look.
   function isLetter(look) {
     return look.kind === "sign" && (look.set === "P" || look.set === "S") && look.code !== 0x7f && tamligub.unicodeOf(look) !== NO_SIGN;
@@ -46,9 +41,8 @@
       return this.known.get(key);
     }
 
-    // Paints the cell whose left upper pixel is at x, y. Without a phase a flashing sign is painted as it is seen.
-    cell(look, x, y, asked, revealed) {
-      const phase = asked === null ? phaseSeen(look) : asked;
+    // Paints the cell whose left upper pixel is at x, y.
+    cell(look, x, y, phase, revealed) {
       const lettered = this.font && isLetter(look);
       const text = lettered ? look.text.replace(/^\S+/, "-") : look.text;
       const runs = this.runsOf(lettered ? { ...look, kind: "space", text } : look, phase, revealed);

@@ -12,6 +12,7 @@
       this.outlines = outlines;
       this.shown = new Uint32Array(tamligub.CELLS).fill(NEVER);
       this.looks = [];
+      // Which of the six phases is shown; where it is null each flashing sign is shown as it is seen.
       this.phase = 0;
       this.revealed = false;
       this.font = false;
@@ -46,9 +47,15 @@
       return [(cell % tamligub.COLUMNS) * this.cellWidth, Math.floor(cell / tamligub.COLUMNS) * this.cellHeight];
     }
 
+    // The phase in which a look is painted.
+    phaseOf(look, phase = this.phase) {
+      return phase === null ? tamligub.phaseSeen(look) : phase;
+    }
+
     paint(cell, number) {
       const [x, y] = this.placeOf(cell);
-      this.painter.cell(this.looks[number], x, y, this.phase, this.revealed);
+      const look = this.looks[number];
+      this.painter.cell(look, x, y, this.phaseOf(look), this.revealed);
       this.shown[cell] = number;
       this.painted++;
     }
@@ -65,7 +72,7 @@
     // The same where a cell may have been painted by another number that is seen alike, as a flashing look and the steady one that
     // is told of its phase.
     exchange(grid) {
-      const seen = (number) => tamligub.seenText(this.looks[number], this.phase);
+      const seen = (number) => tamligub.seenText(this.looks[number], this.phaseOf(this.looks[number]));
       for (let cell = 0; cell < grid.length; cell++) {
         const number = this.shown[cell];
         if (number !== NEVER && number !== grid[cell] && seen(number) === seen(grid[cell])) this.shown[cell] = grid[cell];
@@ -75,21 +82,22 @@
 
     // Shows what a film has come to: what its commands made of the cells, and at its end, where phases are told, the one of now.
     showFilm(film) {
-      if (this.told && !film.isTold()) this.exchange(film.end);
-      if (!this.told || !film.isTold()) this.show(film.grid);
-      if (film.isTold()) this.exchange(film.phases[this.phase]);
-      this.told = film.isTold();
+      const told = film.isTold() && this.phase !== null;
+      if (this.told && !told) this.exchange(film.end);
+      if (!this.told || !told) this.show(film.grid);
+      if (told) this.exchange(film.phases[this.phase]);
+      this.told = told;
     }
 
     // Goes to a phase of the flash, or reveals; repaints the cells that look otherwise by it.
     turn(phase, revealed) {
-      const { appearance } = tamligub;
+      const shown = (look, asked, all) => tamligub.appearance(look, this.phaseOf(look, asked), all);
       const changed = [];
       this.shown.forEach((number, cell) => {
         if (number === NEVER) return;
         const look = this.looks[number];
         if (look.flash === "S" && !look.concealed) return;
-        if (appearance(look, phase, revealed) !== appearance(look, this.phase, this.revealed)) changed.push(cell);
+        if (shown(look, phase, revealed) !== shown(look, this.phase, this.revealed)) changed.push(cell);
       });
       [this.phase, this.revealed] = [phase, revealed];
       changed.forEach((cell) => this.paint(cell, this.shown[cell]));

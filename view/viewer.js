@@ -115,20 +115,28 @@
       const film = this.film();
       const wanted = part("flash").checked && film !== null && (film.isTold() ? film.isToldToFlash() : this.screen.flashes());
       if (wanted && !this.flashing) {
+        if (this.screen.phase === null) this.turn(0);
         this.flashing = setInterval(() => this.turn((this.screen.phase + 1) % tamligub.PHASES), PHASE_TIME);
       }
       if (!wanted && this.flashing) {
         clearInterval(this.flashing);
         this.flashing = 0;
-        this.turn(0);
+        this.rest();
       }
+    }
+
+    // Shows the first phase; where no flash is wanted each sign as it is seen, so that none stays away.
+    rest() {
+      this.turn(part("flash").checked ? 0 : null);
     }
 
     turn(phase) {
       this.screen.turn(phase, part("reveal").checked);
       const film = this.film();
       // The clock may go on while another text is opened, and no film is there yet.
-      if (this.screen.told && film !== null) this.screen.show(film.phases[phase]);
+      if (film === null) return;
+      if (this.screen.told && phase !== null) this.screen.show(film.phases[phase]);
+      else if (film.isTold()) this.screen.showFilm(film);
     }
 
     // Lays the screen out for the room that there is, in whole pixels of the display.
@@ -244,7 +252,10 @@
     on("bytes", "input", () => player.toBytes(Number(part("bytes").value)));
     on("speed", "change", () => player.setSpeed(Number(part("speed").value)));
     on("outline", "change", () => viewer.film() && viewer.outline());
-    on("flash", "change", () => viewer.flash());
+    on("flash", "change", () => {
+      viewer.flash();
+      if (!viewer.flashing) viewer.rest();
+    });
     on("reveal", "change", () => {
       viewer.turn(viewer.screen.phase);
       viewer.text();
@@ -290,6 +301,7 @@
     joinControls(viewer);
     joinFiles(viewer);
     viewer.lay();
+    viewer.rest();
     window.addEventListener("resize", () => viewer.lay());
     onDensity(() => viewer.lay());
     window.addEventListener("hashchange", () => viewer.follow());

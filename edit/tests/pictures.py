@@ -12,10 +12,10 @@ LIGHT = (
     (33, "30 7F 7F 60"), (33, "35 7F 7F 6A"), (33, "22 7F 7F 21"), (34, "7F 7F"), (34, "7F 7F"), (34, "7F 7F"), (33, "6A 7F 7F 35"),
     (33, "7F 7F 7F 7F"),
 )
-# A life buoy, line by line.
+# A life buoy, line by line; a dot is two parts wide and three high.
 BUOY = (
-    "000011110000", "001111111100", "011100001110", "011001100110", "110011110011", "110011110011", "011001100110", "011100001110",
-    "001111111100", "000011110000",
+    "000000000000", "000111111000", "011111111110", "111100001111", "111000000111", "111000000111", "111100001111", "011111111110",
+    "000111111000", "000000000000",
 )
 
 
@@ -37,7 +37,7 @@ def row(hand, number, ground):
 
 def write(hand, folder):
     os.makedirs(folder, exist_ok=True)
-    hand.fresh(size=(1100, 760))
+    hand.fresh(size=(1100, 780))
     hand.click("#flash")
     hand.tab_of("colours")
     hand.click("#entries .swatch", 12)

@@ -105,11 +105,12 @@ class Stand:
 
 
 def opened(tab, stand):
-    """The file of all pages, with the flash's clock stopped."""
+    """The file of all pages, with the flash's clock stopped in the first phase."""
     tab.size(1280, 1000)
     tab.open(stand.html)
     tab.value(PROBES)
     tab.value("Tamligub.part('flash').checked && Tamligub.part('flash').click()")
+    tab.value("Tamligub.viewer.turn(0)")
 
 
 def opened_by_a_clock(tab, stand):
@@ -135,10 +136,10 @@ def moments_of(changes):
 
 
 def compare(tab, looks, phase, revealed, where):
-    """Compares the canvas with what 960 looks have to show."""
+    """Compares the canvas with what 960 looks have to show in a phase, or each in one of its own."""
     points, colours, inked = [], [], []
     for cell, look in enumerate(looks):
-        want = want_of(look, phase, revealed)
+        want = want_of(look, phase(look) if callable(phase) else phase, revealed)
         for x, y, right in want.points:
             points.append((cell, round(x, 4), round(y, 4)))
             colours.append(right)
@@ -261,7 +262,7 @@ def lines_of_flash_are_what_is_shown(tab, stand):
     turned = tab.value(f"clock.turn({4 * PHASE}), [Tamligub.viewer.screen.phase, ...probe.colours([[0, 0.5, 0.5]])]")
     assert turned == [4, "00FF00"], f"after four turns {turned}"
     tab.value("Tamligub.part('flash').click()")
-    assert tab.value("[clock.waiting(), Tamligub.viewer.screen.phase]") == [0, 0], "the clock goes on"
+    assert tab.value("[clock.waiting(), Tamligub.viewer.screen.phase]") == [0, None], "the clock goes on"
     parts["flash"] = f"0 1 1 {steady}\n"
     tab.value(f"Tamligub.viewer.takeParts({json.dumps(parts)}); Tamligub.part('flash').click()")
     assert tab.value("clock.waiting()") == 0, "a clock runs where no turn changes anything"
@@ -269,6 +270,23 @@ def lines_of_flash_are_what_is_shown(tab, stand):
         parts["flash"] = text
         tab.value(f"Tamligub.viewer.takeParts({json.dumps(parts)})")
         assert said in tab.value("Tamligub.part('fault').textContent"), f"{text} isn't told"
+
+
+def without_the_flash_each_sign_is_seen(tab, stand):
+    """Those too that the first phase doesn't show; with it the first phase comes first."""
+    opened_by_a_clock(tab, stand)
+    seen = {"F": 0, "I": 3, "R": 0, "1": 0, "2": 2, "3": 4, "S": 0}
+    for name in ("flashing", "timetable"):
+        looks = looks_at_end(stand, name)
+        for flash in (None, stand.put("flash", name, "6")):
+            taken(tab, stand, name, flash)
+            tab.value("Tamligub.viewer.rest()")
+            assert tab.value("[clock.waiting(), Tamligub.viewer.screen.phase]") == [0, None], f"{name} flashes"
+            compare(tab, looks, lambda look: seen[look.split(" ")[4][0]], False, f"{name} at rest")
+            tab.value("Tamligub.part('flash').click()")
+            compare(tab, looks, 0, False, f"{name} as it begins to flash")
+            tab.value("Tamligub.part('flash').click()")
+            compare(tab, looks, lambda look: seen[look.split(" ")[4][0]], False, f"{name} at rest again")
 
 
 def files_have_the_lines_of_flash_where_a_page_flashes(tab, stand):
@@ -771,7 +789,7 @@ def a_big_page_is_painted_cell_by_cell(tab, stand):
 
 CASES = (
     the_canvas_shows_the_cells, letters_are_in_dots, letters_of_a_font_stand_in_their_cells,
-    flash_has_six_phases, phases_by_the_lines_of_flash_are_those_of_the_looks,
+    flash_has_six_phases, without_the_flash_each_sign_is_seen, phases_by_the_lines_of_flash_are_those_of_the_looks,
     lines_of_flash_are_what_is_shown, files_have_the_lines_of_flash_where_a_page_flashes, the_text_of_flash_is_opened_and_dropped,
     the_flash_runs_only_where_something_flashes,
     concealed_cells_show_when_revealed, double_density_is_sharp, each_command_repaints_its_cells_alone,

@@ -1,0 +1,56 @@
+"""The package for npm: the 32-bit module with `library/tamligub.js`, once as an ES module and once for CommonJS, and its types."""
+import os
+import shutil
+
+from building import ROOT
+
+SOURCE = os.path.join(ROOT, "library", "npm")
+SCRIPT = os.path.join(ROOT, "library", "tamligub.js")
+FOLDER = "npm"
+EXPORTS = 'if (typeof exports !== "undefined") Object.assign(exports, { run, Decoder });\n'
+# The last lines of each script: where its module stands, and what it exports.
+LAST = {
+    "tamligub.mjs": """
+// The module of this package, or of another source.
+const load = (source = new URL("tamligub.wasm", import.meta.url)) => compiled(source);
+
+export { Decoder, load, run };
+""",
+    "tamligub.cjs": """
+// The module of this package, or of another source.
+const load = (source = require("node:url").pathToFileURL(require("node:path").join(__dirname, "tamligub.wasm"))) => compiled(source);
+
+module.exports = { Decoder, load, run };
+""",
+}
+COPIED = ("package.json", "README.md", "example.html", "tamligub.d.ts")
+# Where a name is required the types have a name of their own.
+TYPES = ("tamligub.d.ts", "tamligub.d.cts")
+
+
+def text_of(path):
+    with open(path, encoding="utf-8") as file:
+        return file.read()
+
+
+def scripts():
+    """The text of each script by its name."""
+    body, ends, rest = text_of(SCRIPT).partition(EXPORTS)
+    if not ends or rest:
+        raise ValueError(f"{SCRIPT} doesn't end with its exports")
+    return {name: body + text_of(os.path.join(SOURCE, "load.js")) + last for name, last in LAST.items()}
+
+
+def make(module, out):
+    """Puts the package of a module into a folder of `out`, in place of an earlier one. Answers its path."""
+    folder = os.path.join(out, FOLDER)
+    shutil.rmtree(folder, ignore_errors=True)
+    os.makedirs(folder)
+    for name in COPIED:
+        shutil.copyfile(os.path.join(SOURCE, name), os.path.join(folder, name))
+    shutil.copyfile(os.path.join(SOURCE, TYPES[0]), os.path.join(folder, TYPES[1]))
+    shutil.copyfile(module, os.path.join(folder, "tamligub.wasm"))
+    for name, text in scripts().items():
+        with open(os.path.join(folder, name), "w", encoding="utf-8") as file:
+            file.write(text)
+    return folder

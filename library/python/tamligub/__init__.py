@@ -1,0 +1,30 @@
+"""A decoder and page editor for Bildschirmtext (videotex, CEPT profile 1), over the shared library `libtamligub.so.1`.
+
+A page is a stored page as bytes, as it came over the line. `show`, `check`, `changes`, `write`, `edit` and `plot` take a page as a whole;
+a `Decoder` is fed bytes as they come. Times are counted in bytes: `at` is how many of them stand before an item. Rows count from 1 to 24
+and columns from 1 to 40.
+
+>>> from tamligub import Decoder, show
+>>> print(show(b"Guten Tag")[:9])
+Guten Tag
+>>> decoder = Decoder()
+>>> for notice in decoder.feed(b"A"):
+...     print(notice.row, notice.column, notice.look.shape)
+1 1 P41
+
+The functions of the library are proved to say what the program says; this binding is only tested. It takes no locks: calls of several
+threads run at once, and a decoder stays on its thread.
+"""
+from .binding import Missing
+from .decoder import Decoder
+from .faults import BadScript, Closed, NoSnapshot, NotSeven, TooLong
+from .looks import COLUMNS, REASONS, ROWS, Change, Colour, Look, Pattern, Pen, Refusal, Sign, State
+from .records import LAYOUT, Notices
+from .words import Check, changes, check, edit, eight, generated, plot, seven, show, write
+
+__version__ = "0.1"
+__all__ = [
+    "COLUMNS", "LAYOUT", "REASONS", "ROWS", "BadScript", "Change", "Check", "Closed", "Colour", "Decoder", "Look", "Missing", "NoSnapshot",
+    "NotSeven", "Notices", "Pattern", "Pen", "Refusal", "Sign", "State", "TooLong", "changes", "check", "edit", "eight", "generated",
+    "plot", "seven", "show", "write",
+]

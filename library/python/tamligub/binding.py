@@ -1,0 +1,142 @@
+"""The calls of the shared library, by ctypes: what C hands over, and nothing else. The other modules make values of it.
+
+The library is looked for where TAMLIGUB_LIBRARY says, beside this package (as in a wheel), in `library/out` of a checkout, under the
+prefix of an install, and last where the system finds libraries by their names."""
+from __future__ import annotations
+
+import ctypes
+import functools
+import mmap
+import os
+from typing import Final, NamedTuple
+
+NAME: Final = "libtamligub.so.1"
+VARIABLE: Final = "TAMLIGUB_LIBRARY"
+HERE: Final = os.path.dirname(os.path.realpath(__file__))
+# What is given after a word.
+NOTHING, PAGE, PAGE_AND_SCRIPT, NUMBER, PAGE_AND_NUMBER = range(5)
+# How a call ends.
+DONE, REFUSALS, USAGE, BAD_SCRIPT, UNREAD, NO_ROOM, NO_MEMORY, TOO_LONG, NOT_SEVEN = range(9)
+ROOM_FOR_A_BYTE: Final = 1920
+ROOM_FOR_A_PHASE: Final = 960
+SIZE_OF_NOTICE: Final = 184
+SIZE_OF_STATE: Final = 40
+# In bytes: the room that a text is first given, for each byte of the page too, and the most that a call uses.
+LEAST_ROOM, ROOM_FOR_EACH, MOST_FIRST, MOST_ROOM = 2**18, 192, 2**26, 2**32 - 1
+
+
+class Handle(ctypes.Structure):
+    """A decoder, as C keeps it: all of it zero where none is open."""
+
+    _fields_ = [("at", ctypes.c_void_p), ("is_open", ctypes.c_bool)]
+
+
+class Answer(NamedTuple):
+    """How a call ended, and the text that it wrote."""
+
+    status: int
+    text: bytes
+
+
+class Missing(OSError):
+    """The shared library isn't on this machine; the text says where it was looked for."""
+
+
+BYTES, SIZE, WORD, COUNT = ctypes.c_void_p, ctypes.c_size_t, ctypes.c_uint32, ctypes.POINTER(ctypes.c_uint64)
+HANDLE: Final = ctypes.POINTER(Handle)
+# Each function of the header: what it answers, and what it takes.
+FUNCTIONS: Final = {
+    "tamligub_run": (WORD, BYTES, SIZE, WORD, WORD, BYTES, SIZE, BYTES, SIZE, BYTES, SIZE, COUNT),
+    "tamligub_open": (WORD, HANDLE),
+    "tamligub_feed": (ctypes.c_uint64, HANDLE, BYTES, SIZE, BYTES, SIZE, COUNT),
+    "tamligub_finish": (WORD, HANDLE, BYTES, SIZE, COUNT),
+    "tamligub_look": (WORD, HANDLE, ctypes.c_uint8, ctypes.c_uint8, BYTES),
+    "tamligub_state": (WORD, HANDLE, BYTES),
+    "tamligub_write": (WORD, HANDLE, BYTES, SIZE, COUNT),
+    "tamligub_snapshot": (WORD, HANDLE, BYTES, SIZE, COUNT),
+    "tamligub_restore": (WORD, HANDLE, BYTES, SIZE),
+    "tamligub_flash_start": (WORD, HANDLE, BYTES, SIZE, COUNT),
+    "tamligub_flash_turn": (WORD, HANDLE, BYTES, SIZE, COUNT),
+    "tamligub_close": (None, HANDLE),
+}
+
+
+def places() -> list[str]:
+    """Where the library may be, the likeliest place first; the last is its name alone."""
+    named = os.environ.get(VARIABLE)
+    if named:
+        return [named]
+    beside = ("", "../../out", "../../../../../lib")
+    return [*(os.path.normpath(os.path.join(HERE, place, NAME)) for place in beside), NAME]
+
+
+def joined(library: ctypes.CDLL) -> ctypes.CDLL:
+    """The library, with what each of its functions answers and takes."""
+    for name, (answers, *takes) in FUNCTIONS.items():
+        function = getattr(library, name)
+        function.restype, function.argtypes = answers, takes
+    return library
+
+
+def at(path: str) -> ctypes.CDLL:
+    """The library of a file."""
+    return joined(ctypes.CDLL(path))
+
+
+@functools.lru_cache(1)
+def library() -> ctypes.CDLL:
+    """The library of this process; `Missing` where there is none."""
+    looked = places()
+    for place in looked:
+        if place == looked[-1] or os.path.exists(place):
+            try:
+                return at(place)
+            except OSError as fault:
+                raise Missing(f"there is no {NAME}: {fault}; {VARIABLE} can name it") from fault
+    raise AssertionError("the last place is always tried")
+
+
+def address(data: bytes) -> int:
+    """Where bytes stand, as long as they are kept."""
+    found = ctypes.cast(ctypes.c_char_p(data), ctypes.c_void_p).value
+    assert found is not None
+    return found
+
+
+def given_of(page: bytes | None, script: bytes | None, number: int | None) -> int:
+    """The number that says what is given."""
+    if page is None:
+        return NOTHING if number is None else NUMBER
+    if script is not None:
+        return PAGE_AND_SCRIPT
+    return PAGE if number is None else PAGE_AND_NUMBER
+
+
+def room_for(page: bytes | None) -> int:
+    """How much room a text is first given."""
+    return min(MOST_FIRST, LEAST_ROOM + ROOM_FOR_EACH * len(page or b""))
+
+
+def run(
+    word: str, page: bytes | None = None, script: bytes | None = None, number: int | None = None, calls: ctypes.CDLL | None = None
+) -> Answer:
+    """A call of the program: a word and what is given after it. A text that is longer than its room is asked for again with more.
+
+    >>> run("show", b"Guten Tag").text.decode()[:9]
+    'Guten Tag'
+    """
+    called, room, put = (calls or library()).tamligub_run, room_for(page), ctypes.c_uint64()
+    name, first, second = word.encode(), page or b"", script or b""
+    given = given_of(page, script, number)
+    while True:
+        # Only what is written of it takes memory.
+        with mmap.mmap(-1, room, flags=mmap.MAP_PRIVATE | mmap.MAP_ANONYMOUS) as kept:
+            out = (ctypes.c_char * room).from_buffer(kept)
+            status = called(
+                address(name), len(name), given, number or 0, address(first), len(first), address(second), len(second),
+                ctypes.addressof(out), room, ctypes.byref(put),
+            )
+            del out
+            if status != NO_ROOM or room == MOST_ROOM:
+                return Answer(status, kept[: put.value])
+        room = min(MOST_ROOM, 4 * room)

@@ -1,0 +1,191 @@
+"""A decoder that is fed bytes as they come."""
+from __future__ import annotations
+
+import ctypes
+import threading
+from types import TracebackType
+from typing import Final
+
+from . import binding, words
+from .faults import Closed, NoSnapshot
+from .looks import COLUMNS, HEAD, ROWS, Look, State, look_of, state_of
+from .records import Notices
+
+# So many notices there is room for in one call.
+ROOM: Final = 2 * binding.ROOM_FOR_A_BYTE
+
+
+class Room(threading.local):
+    """What the decoders of a thread share: room for notices, and for numbers."""
+
+    def __init__(self) -> None:
+        self.list = ctypes.create_string_buffer(ROOM * binding.SIZE_OF_NOTICE)
+        self.count = ctypes.c_uint64()
+
+    def records(self) -> bytes:
+        """The records that the last call wrote."""
+        return ctypes.string_at(self.list, self.count.value * binding.SIZE_OF_NOTICE)
+
+
+shared: Final = Room()
+
+
+class Decoder:
+    """A decoder of one page, before its first byte. It takes about 750 KB of memory, gives it back when it is closed or forgotten, and may
+    be used in a `with` block. It stays on the thread that made it: calls from another one raise RuntimeError. `Closed` is raised by calls
+    on one that is closed, and by what a page that has ended can't do any more; MemoryError where there is no memory.
+
+    >>> with Decoder() as decoder:
+    ...     for notice in decoder.feed(b"A\\x1fBCB"):
+    ...         print(notice)
+    0 1 1 P41 11.00 FFF 000 S---
+    4 2 3 P42 11.00 FFF 000 S---
+    """
+
+    __slots__ = ("_calls", "_handle", "_thread", "__weakref__")
+
+    def __init__(self) -> None:
+        self._calls = binding.library()
+        self._handle, self._thread = binding.Handle(), threading.get_ident()
+        if self._calls.tamligub_open(self._handle) != binding.DONE:
+            raise MemoryError("there is no memory for a decoder")
+
+    def __enter__(self) -> Decoder:
+        return self
+
+    def __exit__(self, kind: type[BaseException] | None, fault: BaseException | None, trace: TracebackType | None) -> None:
+        self.close()
+
+    def __del__(self) -> None:
+        # Only the thread that opened it may close it; where that is another one the memory stays taken.
+        if getattr(self, "_thread", None) == threading.get_ident() and self._handle.is_open:
+            self._calls.tamligub_close(self._handle)
+
+    def _own(self) -> binding.Handle:
+        """The decoder as C knows it."""
+        if threading.get_ident() != self._thread:
+            raise RuntimeError("a decoder stays on the thread that made it")
+        if not self._handle.is_open:
+            raise Closed("the decoder is closed")
+        return self._handle
+
+    def close(self) -> None:
+        """Gives the memory back; on a closed decoder nothing is done."""
+        if self._handle.is_open:
+            self._calls.tamligub_close(self._own())
+
+    def feed(self, data: bytes | bytearray | memoryview) -> Notices:
+        """Feeds bytes, in pieces of any size, and answers what their items change or refuse, in order. All bytes are taken before it
+        answers. `Closed` where the page has ended, OverflowError where it would have more than 2^32 bytes.
+
+        >>> [str(one) for one in Decoder().feed(b"\\x8f\\x9b\\x9b")]
+        ['! 1 1 6 Interrupted']
+        """
+        handle, held = self._own(), bytes(data)
+        said, start, done = [], binding.address(held), 0
+        while done < len(held):
+            taken = self._calls.tamligub_feed(handle, start + done, len(held) - done, shared.list, ROOM, shared.count)
+            if not taken:
+                raise Closed("the page has ended") if self.state().ended else OverflowError("no page has more than 2^32 bytes")
+            said.append(shared.records())
+            done += taken
+        return Notices(b"".join(said))
+
+    def finish(self) -> Notices:
+        """Ends the page, and answers what its end says. `Closed` where it had ended before."""
+        return self._noticed("tamligub_finish", "the page has ended")
+
+    def flash_start(self) -> Notices:
+        """Begins the first of six phases of flashing over a blank display: a change for each place that isn't blank."""
+        return self._noticed("tamligub_flash_start", "the decoder is closed")
+
+    def flash_turn(self) -> Notices:
+        """Goes on to the next phase, after the last one to the first: a change for each place that is shown otherwise. Six a second are
+        what a terminal of the service shows."""
+        return self._noticed("tamligub_flash_turn", "the decoder is closed")
+
+    def _noticed(self, name: str, fault: str) -> Notices:
+        """What a call says that takes no bytes."""
+        if getattr(self._calls, name)(self._own(), shared.list, ROOM, shared.count) != binding.DONE:
+            raise Closed(fault)
+        return Notices(shared.records())
+
+    def look(self, row: int, column: int) -> Look:
+        """How a place looks: row 1 to 24 from the top, column 1 to 40 from the left. IndexError where there is no such place.
+
+        >>> str(Decoder().look(24, 40))
+        '- 11.00 FFF 000 S---'
+        """
+        handle = self._own()
+        if not (1 <= row <= ROWS and 1 <= column <= COLUMNS):
+            raise IndexError(f"there is no row {row}, column {column}")
+        self._calls.tamligub_look(handle, row, column, shared.list)
+        return look_of(ctypes.string_at(ctypes.addressof(shared.list) + HEAD.size, binding.SIZE_OF_NOTICE - HEAD.size))
+
+    def screen(self) -> tuple[tuple[Look, ...], ...]:
+        """The looks of all places: 24 rows of 40, also of those below a format of 20 rows.
+
+        >>> screen = Decoder().screen()
+        >>> len(screen), len(screen[0])
+        (24, 40)
+        """
+        return tuple(tuple(self.look(row, column) for column in range(1, COLUMNS + 1)) for row in range(1, ROWS + 1))
+
+    def text(self) -> str:
+        """The screen as text, as the word `show` writes it: a line of 40 signs for each row of the format, each with its accent behind it.
+
+        >>> decoder = Decoder()
+        >>> _ = decoder.feed(b"Seite 0a")
+        >>> decoder.text().splitlines()[0].rstrip()
+        'Seite 0a'
+        """
+        return words.show(self.write())
+
+    def state(self) -> State:
+        """Where the decoder stands.
+
+        >>> state = Decoder().state()
+        >>> state.row, state.column, state.rows, state.sets
+        (1, 1, 24, 'PMSN')
+        """
+        self._calls.tamligub_state(self._own(), shared.list)
+        return state_of(ctypes.string_at(shared.list, binding.SIZE_OF_STATE))
+
+    def write(self) -> bytes:
+        """The page as bytes, which bring it back: what the word `write` writes."""
+        return self._written("tamligub_write")
+
+    def snapshot(self) -> bytes:
+        """All of the state as bytes, also those that are no item yet and the phase of flashing. `Closed` where the page has ended."""
+        return self._written("tamligub_snapshot")
+
+    def _written(self, name: str) -> bytes:
+        """The bytes of a call that writes them, with as much room as they need."""
+        handle, room = self._own(), ctypes.sizeof(shared.list)
+        while True:
+            out = ctypes.create_string_buffer(room)
+            status = getattr(self._calls, name)(handle, out, room, shared.count)
+            if status == binding.DONE:
+                return ctypes.string_at(out, shared.count.value)
+            if status == binding.NO_MEMORY:
+                raise MemoryError("there is no memory for the bytes")
+            if status != binding.NO_ROOM:
+                raise Closed("the page has ended")
+            room *= 4
+
+    @classmethod
+    def restored(cls, snapshot: bytes) -> Decoder:
+        """A decoder in the state that a snapshot has. `NoSnapshot` where the bytes are none.
+
+        >>> first = Decoder()
+        >>> _ = first.feed(b"\\x1b")
+        >>> Decoder.restored(first.snapshot()).state().pending
+        1
+        """
+        decoder, held = cls(), bytes(snapshot)
+        status = decoder._calls.tamligub_restore(decoder._handle, binding.address(held), len(held))
+        if status == binding.NO_MEMORY:
+            raise MemoryError("there is no memory for a decoder")
+        if status != binding.DONE:
+            raise NoSnapshot("these bytes are no snapshot")
+        return decoder

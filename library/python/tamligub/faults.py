@@ -1,0 +1,26 @@
+"""What can't be done, each as an exception of its own."""
+from __future__ import annotations
+
+
+class TooLong(ValueError):
+    """The page has more than 2^24 bytes, or the script or drawing more than 2^20."""
+
+
+class BadScript(ValueError):
+    """A line of the script or the drawing can't be read: which, counted from 1, and the number and name of the reason."""
+
+    def __init__(self, line: int, reason: int, name: str) -> None:
+        super().__init__(f"line {line}: {name}")
+        self.line, self.reason, self.name = line, reason, name
+
+
+class NotSeven(ValueError):
+    """The page isn't in seven bits."""
+
+
+class Closed(ValueError):
+    """The decoder is closed, or its page has ended."""
+
+
+class NoSnapshot(ValueError):
+    """These bytes are no snapshot of a decoder."""
