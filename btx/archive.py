@@ -6,7 +6,7 @@ import os
 import shutil
 import sys
 
-from btx import collection, html, jobs, lists, making, pillow, program, progress, viewer, website
+from btx import collection, debian, html, jobs, lists, making, pillow, program, progress, viewer, website
 
 SUMMARY = "a website of a folder of pages, with an index and a report"
 WORDS, NO_PAGE, NOT_THERE = 2, 4, 127
@@ -73,7 +73,7 @@ def painter():
     """Pillow's module of images. Where there is none it says so, and no pictures are made."""
     try:
         return pillow.image()
-    except pillow.Missing as fault:
+    except debian.Missing as fault:
         say(f"no small pictures are made: {fault}")
         return None
 

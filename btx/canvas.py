@@ -5,6 +5,8 @@ WIDTH, HEIGHT = looks.COLUMNS * painting.WIDTH, looks.ROWS * painting.HEIGHT
 # A dot is two pixels wide and three high, so that a screen is 4 to 3.
 DOT = (2, 3)
 MOST_COLOURS = 256
+# So many looks are kept with their dots: a line may bring any number of patterns.
+MOST_KNOWN = 2**14
 
 
 def distance(one, other):
@@ -50,6 +52,8 @@ class Canvas:
     def lines(self, look):
         """The lines of a cell."""
         phase = painting.phase_of(look) if self.phase is None else self.phase
+        if len(self.known) == MOST_KNOWN:
+            self.known.clear()
         if (look, phase) not in self.known:
             numbers = self.numbers(look, phase)
             self.known[look, phase] = [numbers[at : at + painting.WIDTH] for at in range(0, len(numbers), painting.WIDTH)]

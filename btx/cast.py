@@ -3,7 +3,7 @@ it."""
 import json
 import os
 
-from btx import files, html, looks, program, signs, terminal
+from btx import files, html, looks, program, recording, signs, terminal
 
 SUMMARY = "the replay of a page in a terminal, as asciinema takes it"
 VERSION = 2
@@ -14,7 +14,9 @@ REST = 3
 def arguments(parser):
     parser.add_argument("page", metavar="PAGE")
     parser.add_argument("-o", "--output", metavar="FILE", help="where to write it; without this to standard output")
-    parser.add_argument("--replay", type=terminal.speed, default=1200, metavar="BITS", help="at how many bits a second; without this 1200")
+    played = parser.add_mutually_exclusive_group()
+    played.add_argument("--replay", type=terminal.speed, default=1200, metavar="BITS", help="at how many bits a second; without this 1200")
+    recording.add_times(played)
     parser.add_argument("--reveal", action="store_true", help="show what is concealed")
     terminal.add_signs(parser, (signs.SEXTANTS, signs.BLOCKS, signs.ASCII), signs.BLOCKS)
 
@@ -23,27 +25,26 @@ def line_of(value):
     return json.dumps(value, ensure_ascii=False) + "\n"
 
 
-def events_of(painter, moments, length, bits):
+def events_of(painter, moments, length, clock):
     """What the terminal is told: when, in seconds, and what."""
-    seconds = terminal.BITS_OF_A_BYTE / bits
     yield 0, painter.begun()
     for place, changed in moments:
-        yield (place + 1) * seconds, painter.changed(changed)
-    yield length * seconds + REST, terminal.PLAIN
+        yield clock.when(place + 1), painter.changed(changed)
+    yield clock.when(length) + REST, terminal.PLAIN
 
 
-def recording(painter, moments, length, bits, title):
+def lines(painter, moments, length, clock, title):
     """The lines of the file: a head, and an event in each."""
     yield line_of({"version": VERSION, "width": looks.COLUMNS, "height": looks.ROWS, "title": title})
-    for time, text in events_of(painter, moments, length, bits):
+    for time, text in events_of(painter, moments, length, clock):
         yield line_of([round(time, 4), "o", text])
 
 
 def run(path, options):
-    painter = terminal.Painter(terminal.ALL_COLOURS, options.reveal, options.signs)
+    painter, clock = terminal.Painter(terminal.ALL_COLOURS, options.reveal, options.signs), recording.clock_of(options)
     with files.read_again(options.page) as page:
         moments, length = looks.moments_of(program.text_put(path, "changes", page)), os.path.getsize(page)
     with files.output(options.output) as file:
-        for line in recording(painter, moments, length, options.replay, html.names_of([options.page])[0]):
+        for line in lines(painter, moments, length, clock, html.names_of([options.page])[0]):
             file.write(line.encode("utf-8"))
     return 0

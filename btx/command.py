@@ -4,16 +4,17 @@ import os
 import signal
 import sys
 
-from btx import VERSION, archive, cast, check_script, completion, diff, editor, files, film, html, jobs, library, messages, near, passing
-from btx import picture, program, say, svg, terminal, viewer
+from btx import VERSION, archive, cast, check_script, completion, cut, diff, editor, files, film, host, html, jobs, library, line, messages
+from btx import near, passing, picture, program, say, svg, terminal, viewer
 
 OWN = {
     "terminal": terminal, "html": html, "viewer": viewer, "editor": editor, "png": picture, "gif": film, "svg": svg, "cast": cast,
-    "archive": archive, "diff": diff, "check-script": check_script, "completion": completion,
+    "archive": archive, "diff": diff, "check-script": check_script, "line": line, "cut": cut, "host": host,
+    "completion": completion,
 }
 KNOWN = (*program.WORDS, *OWN, "help")
 # Words that do without the program.
-BY_THEMSELVES = ("viewer", "editor", "completion")
+BY_THEMSELVES = ("viewer", "editor", "line", "cut", "host", "completion")
 NOT_THERE = 127
 EPILOG = """The words of the program pass through with its output and its status; what a status means is said on standard error.
 btx PAGE shows a page as terminal does, btx help WORD describes a word, and a file that is named - is standard input.

@@ -7,7 +7,7 @@ SUMMARY = "the completion of a shell: bash, zsh or fish"
 FILES, FOLDERS, NOTHING = "files", "folders", "nothing"
 # What can stand for a value of a name: files, folders, or some that are usual. Of any other name nothing is known.
 VALUES = {
-    "FILE": FILES, "MODULE": FILES, "PAGE": FILES, "SCRIPT": FILES, "DRAWING": FILES, "FOLDER": FOLDERS, "OUT": FOLDERS,
+    "FILE": FILES, "MODULE": FILES, "PAGE": FILES, "SCRIPT": FILES, "DRAWING": FILES, "FOLDER": FOLDERS, "OUT": FOLDERS, "RECORDING": FILES,
     "BITS": ("1200", "2400", "9600"), "TIMES": ("1", "2", "4"), "PHASE": ("0", "1", "2", "3", "4", "5"),
 }
 

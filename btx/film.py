@@ -4,7 +4,7 @@ import dataclasses
 import os
 import sys
 
-from btx import canvas, files, looks, picture, pillow, program, say, terminal
+from btx import canvas, files, looks, picture, pillow, program, recording, say, terminal
 
 SUMMARY = "a film of a page being built and flashing, as GIF"
 # Browsers show no frame for less than two hundredths of a second.
@@ -64,7 +64,7 @@ def frames_of(board, moments, until):
 
 def moments_of(path, page, bits):
     """The steps at which cells change, and how many there are until the page has come."""
-    seconds = terminal.BITS_OF_A_BYTE / bits
+    seconds = recording.BITS_OF_A_BYTE / bits
     moments = looks.moments_of(program.text_put(path, "changes", page))
     steps = [(int((place + 1) * seconds * STEPS), changed) for place, changed in moments]
     return steps, max([int(os.path.getsize(page) * seconds * STEPS), *(step for step, _ in steps)])

@@ -6,7 +6,7 @@ import json
 import os
 import re
 
-from btx import files, program, say
+from btx import files, program, recording, say
 
 SUMMARY = "a file that shows pages being built, in a browser"
 VIEW = os.path.join(program.ROOT, "view")
@@ -20,6 +20,7 @@ TURNED = re.compile("^[1-9]", re.MULTILINE)
 def arguments(parser):
     parser.add_argument("pages", metavar="PAGE", nargs="+")
     parser.add_argument("-o", "--output", metavar="FILE", help="where to write it; without this to standard output")
+    recording.add_times(parser)
 
 
 def names_of(paths):
@@ -33,15 +34,16 @@ def shown_name(name):
     return os.fsencode(name).decode("utf-8", "backslashreplace")
 
 
-def page_of(path, name, page):
-    """What the viewer needs of a page: of one that flashes also what each turn changes."""
+def page_of(path, name, page, timed=False):
+    """What the viewer needs of a page: of one that flashes also what each turn changes, of a recording when its bytes came."""
+    times = {"times": recording.times_of(page).pieces()} if timed else {}
     with files.read_again(page) as again:
         changes, check = (program.text_put(path, word, again) for word in ("changes", "check"))
         flash = program.text_put(path, "flash", again, TURNS)
         with open(again, "rb") as file:
             stored = base64.b64encode(file.read()).decode("ascii")
     turned = {"flash": flash} if TURNED.search(flash) else {}
-    return {"name": name, "changes": changes, "check": check, **turned, "page": stored}
+    return {"name": name, "changes": changes, "check": check, **turned, **times, "page": stored}
 
 
 def text_of(name):
@@ -79,7 +81,7 @@ def run(path, options):
         say("html: standard input is one page, and - stands more than once")
         return 2
     names = names_of(options.pages)
-    pages = [page_of(path, name, page) for name, page in zip(names, options.pages)]
+    pages = [page_of(path, name, page, options.times) for name, page in zip(names, options.pages)]
     with files.output(options.output) as file:
         file.write(html_of(pages).encode("utf-8"))
     return 0

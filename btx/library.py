@@ -91,18 +91,23 @@ def is_current(path, beside):
     return other is None or os.path.getmtime(path) >= os.path.getmtime(other)
 
 
+def standing(beside):
+    """The path of a library that is beside this command, in the package for Python or in the checkout, or None."""
+    own = binding()
+    installed = [os.path.normpath(os.path.join(beside, "..", folder, NAME)) for folder in ("lib", os.path.join("lib", KIND))]
+    in_package = os.path.join(own.HERE, NAME) if own else ""
+    return next(filter(os.path.isfile, (*installed, in_package, MADE)), None)
+
+
 def place(beside):
-    """The path of the library: the one that is named, beside this command, or in the checkout; None where the program is to be taken."""
+    """The path of the library: the one that is named, or that is there; None where the program is to be taken."""
     named = os.environ.get(VARIABLE)
     if named is not None:
         return named or None
     if os.environ.get("BTX_PROGRAM"):
         return None
-    own = binding()
-    installed = [os.path.normpath(os.path.join(beside, "..", folder, NAME)) for folder in ("lib", os.path.join("lib", KIND))]
-    in_package = os.path.join(own.HERE, NAME) if own else ""
-    there = [path for path in (*installed, in_package, MADE) if os.path.isfile(path)]
-    return there[0] if there and (there[0] != MADE or is_current(MADE, beside)) else None
+    there = standing(beside)
+    return there if there != MADE or is_current(MADE, beside) else None
 
 
 def at(path):

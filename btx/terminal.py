@@ -7,10 +7,11 @@ import os
 import sys
 import time
 
-from btx import canvas, files, looks, messages, program, say, screens, signs
+from btx import canvas, files, looks, messages, program, recording, say, screens, signs
 
 SUMMARY = "the page in colour in the terminal"
-BITS_OF_A_BYTE = 10
+# So many looks are kept with what shows them: a line may bring any number of patterns.
+MOST_KNOWN = 2**14
 STEPS = (0, 95, 135, 175, 215, 255)
 FORE, BACK = 38, 48
 ALL_COLOURS = 2**24
@@ -35,7 +36,9 @@ def add_signs(parser, kinds, usual):
 def arguments(parser):
     parser.add_argument("page", metavar="PAGE")
     parser.add_argument("--reveal", action="store_true", help="show what is concealed")
-    parser.add_argument("--replay", type=speed, metavar="BITS", help="play it as over a line of so many bits a second, such as 1200")
+    played = parser.add_mutually_exclusive_group()
+    played.add_argument("--replay", type=speed, metavar="BITS", help="play it as over a line of so many bits a second, such as 1200")
+    recording.add_times(played)
     add_signs(parser, KINDS, AUTO)
 
 
@@ -96,6 +99,8 @@ class Painter:
 
     def cell(self, look):
         """The style and the sign of a cell."""
+        if len(self.known) == MOST_KNOWN:
+            self.known.clear()
         if look not in self.known:
             sign, fore, back = signs.shown(look, self.revealed, self.kind)
             self.known[look] = self.style(look, fore, back), sign
@@ -196,19 +201,18 @@ def wait(until):
     time.sleep(max(0, until - time.monotonic()))
 
 
-def play(painter, moments, length, bits, stream):
+def play(painter, moments, length, clock, stream):
     """Shows each change when the byte at its place has come."""
     last = min(lines_of(stream), looks.ROWS + 1)
-    seconds = BITS_OF_A_BYTE / bits
     stream.write(painter.begun())
     stream.flush()
     begun = time.monotonic()
     try:
         for place, changed in moments:
-            wait(begun + (place + 1) * seconds)
+            wait(begun + clock.when(place + 1))
             stream.write(painter.changed(changed))
             stream.flush()
-        wait(begun + length * seconds)
+        wait(begun + clock.when(length))
     finally:
         stream.write(f"{PLAIN}\x1b[{last};1H{SHOW}" + ("\n" if last == looks.ROWS else ""))
         stream.flush()
@@ -217,9 +221,9 @@ def play(painter, moments, length, bits, stream):
 def show(path, page, options):
     """Shows a page that can be read again, and answers the program's status."""
     painter = painter_of(options, os.environ)
-    if options.replay:
-        moments = looks.moments_of(program.text_put(path, "changes", page))
-        play(painter, moments, os.path.getsize(page), options.replay, sys.stdout)
+    if options.replay or options.times:
+        clock, moments = recording.clock_of(options), looks.moments_of(program.text_put(path, "changes", page))
+        play(painter, moments, os.path.getsize(page), clock, sys.stdout)
     else:
         cells = looks.cells_of(program.text_put(path, "cells", page))
         rows = program.text_put(path, "show", page).count("\n")

@@ -1,6 +1,6 @@
 """Writes one file with the viewer and the decoder in it, to open in a browser: stored pages that are dropped on it, opened or pasted are
-decoded there, several and whole folders too; until then it says how, and has pages to look at. Nothing in it is fetched from elsewhere,
-nothing leaves the machine, and no script runs in it but the viewer's own."""
+decoded there, several and whole folders too; until then it says how, and has pages to look at. A line is watched over a WebSocket that is
+named there. Nothing in it is fetched from elsewhere, no page leaves the machine, and no script runs in it but the viewer's own."""
 import base64
 import glob
 import os
@@ -13,6 +13,9 @@ MODULE = os.path.join(LIBRARY, "out", "tamligub.wasm")
 # The page that says how one is opened, and those to look at.
 WELCOME = os.path.join(html.VIEW, "welcome.btx")
 PAGES = os.path.join(program.ROOT, "pages")
+# The scripts that stand over the module, and what the policy lets out: a line that is named in the viewer.
+OWN = ("decoder.js", "line.js")
+LINES = "connect-src ws: wss:; "
 NOT_THERE = 127
 
 
@@ -24,7 +27,8 @@ def arguments(parser):
 def caller():
     """The script that calls the module."""
     with open(os.path.join(LIBRARY, "tamligub.js"), encoding="utf-8") as file:
-        return "(function (tamligub) {\n" + file.read() + "tamligub.run = run;\n})((window.Tamligub = window.Tamligub || {}));\n"
+        own = file.read() + "Object.assign(tamligub, { run, Decoder });\n"
+    return "(function (tamligub) {\n" + own + "})((window.Tamligub = window.Tamligub || {}));\n"
 
 
 def module_script():
@@ -35,9 +39,9 @@ def module_script():
         return f'{caller()}Tamligub.module = "{base64.b64encode(file.read()).decode()}";\n'
 
 
-def policy_of(style, scripts):
-    """A policy that lets no other style or script in, and lets these compile the module."""
-    policy = f"default-src 'none'; img-src blob: data:; style-src {html.sum_of(style)}; script-src 'wasm-unsafe-eval' "
+def policy_of(style, scripts, more=""):
+    """A policy that lets no other style or script in, and lets these compile the module, and more where that is said."""
+    policy = f"default-src 'none'; {more}img-src blob: data:; style-src {html.sum_of(style)}; script-src 'wasm-unsafe-eval' "
     return policy + " ".join(map(html.sum_of, scripts))
 
 
@@ -61,8 +65,8 @@ def inside(scripts):
 def html_with(module):
     """The viewer's document with its style, its scripts, examples and the module inside."""
     document, style = html.text_of("index.html"), html.text_of("style.css")
-    scripts = [*map(html.text_of, html.SCRIPT.findall(document)), caller(), html.text_of("decoder.js")]
-    head, tail = html.SCRIPT.sub("", html.with_policy(document, policy_of(style, scripts))).split(html.DATA)
+    scripts = [*map(html.text_of, html.SCRIPT.findall(document)), caller(), *map(html.text_of, OWN)]
+    head, tail = html.SCRIPT.sub("", html.with_policy(document, policy_of(style, scripts, LINES))).split(html.DATA)
     head = head.replace('<link rel="stylesheet" href="style.css">', f"<style>{style}</style>")
     return f"{head}{html.DATA}\n{examples()}\n{data_of(module)}\n{inside(scripts)}\n{tail.lstrip()}"
 

@@ -1,5 +1,6 @@
 """The install under a prefix and as a Debian package, each used as a reader would, from where it was put."""
 import configparser
+import glob
 import os
 import re
 import shlex
@@ -44,6 +45,17 @@ class Install(stand.Case):
                 self.assertEqual((done.returncode, done.stdout), (127, b""))
                 self.assertIn(b"the decoder's module isn't installed", done.stderr)
         self.assertIn(b"no such file", self.run_of(command, "show", "nowhere").stderr)
+        self.shows_a_line(prefix, command, page)
+
+    def shows_a_line(self, prefix, command, page):
+        """Whether btx shows what comes over standard input by the library under the prefix, or says that there is none."""
+        with open(page, "rb") as file:
+            done = self.run_of(command, "line", "-", stdin=file, cwd="/")
+        if glob.glob(os.path.join(glob.escape(prefix), "lib", "**", "libtamligub.so.1"), recursive=True):
+            self.assertIn(b"Tag!", self.is_right(done))
+        else:
+            self.assertEqual((done.returncode, done.stdout), (127, b""))
+            self.assertIn(b"the decoder's library isn't installed", done.stderr)
 
     def reads_manual(self, prefix):
         for name, said in (("btx", b"Bildschirmtext"), ("cept_tool", b"EXIT STATUS")):
@@ -131,13 +143,14 @@ class Install(stand.Case):
     def test_the_completion_of_bash(self):
         script = self.written("btx.bash", stand.btx("completion", "bash").stdout)
         for words, wanted in (
-            (["btx", "te"], ["terminal"]), (["btx", "c"], ["cast", "changes", "check", "cells", "check-script", "colours.btx", "completion"]),
+            (["btx", "te"], ["terminal"]), (["btx", "c"], ["cast", "changes", "check", "cells", "check-script", "colours.btx", "completion", "cut"]),
             (["btx", "terminal", "--re"], ["--reveal", "--replay"]), (["btx", "help", "ar"], ["archive"]),
             (["btx", "edit", "--o"], ["--output"]),
             (["btx", "terminal", "--replay", "1"], ["1200"]), (["btx", "show", "title.b"], ["title.btx"]), (["btx", "--v"], ["--version"]),
             (["btx", "gen", ""], []), (["btx", "archive", "exp"], ["expected"]), (["btx", "completion", ""], ["bash", "zsh", "fish"]),
             (["btx", "png", "-o", "boat.b"], ["boat.btx"]), (["btx", "png", "--scale", "boat.b"], []), (["btx", "gif", "--replay", "2"], ["2400"]),
-            (["btx", "terminal", "--signs", "s"], ["sextants", "sixel"]),
+            (["btx", "terminal", "--signs", "s"], ["sextants", "sixel"]), (["btx", "host", "exp"], ["expected"]), (["btx", "host", "--bits", "9"], ["9600"]),
+            (["btx", "line", "--k"], ["--keys"]), (["btx", "cut", "boat.b"], ["boat.btx"]),
         ):
             line = f". {script}; COMP_WORDS=({shlex.join(words)}); COMP_CWORD={len(words) - 1}; _btx; printf '%s\\n' \"${{COMPREPLY[@]}}\""
             found = self.run_of("bash", "-c", line, cwd=stand.PAGES)
@@ -182,7 +195,7 @@ class Install(stand.Case):
         self.assertGreater(len(words), 20)
         for word in words:
             help_of = stand.btx(word, "--help").stdout.decode()
-            options = {part.strip(",") for part in help_of.split() if part.startswith("--") and part.strip(",") != "--help"}
+            options = {*re.findall(r"--[a-z-]*[a-z]", help_of)} - {"--help"}
             for known in texts:
                 self.assertRegex(known, rf"\b{word}\b")
                 for option in options:

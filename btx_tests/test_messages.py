@@ -137,7 +137,7 @@ class Messages(stand.Case):
 
     def test_help_and_version(self):
         program = ("changes", "check", "show", "cells", "write", "trace", "edit", "plot", "gen", "load")
-        for word in (*program, "terminal", "html", "png", "gif", "svg", "cast", "archive", "diff"):
+        for word in (*program, "terminal", "html", "png", "gif", "svg", "cast", "archive", "diff", "line", "cut", "host"):
             self.assertIn(f"usage: btx {word}".encode(), self.ends([word, "--help"], 0).stdout)
             self.assertIn(f"\n    {word} ".encode(), self.ends(["--help"], 0).stdout)
         self.assertRegex(self.ends(["--version"], 0).stdout.decode(), r"^btx \d+\.\d+\n$")

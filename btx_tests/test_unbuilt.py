@@ -8,6 +8,8 @@ import stand
 
 PARTS = ("bin", "btx", "building", "desktop", "docs", "edit", "library", "pages", "view")
 PROVES = "proves and builds it, in about 40 minutes on four processors"
+# What else than the program a word needs.
+PARTLY = dict.fromkeys(("viewer", "editor"), "the decoder's module") | dict.fromkeys(("line", "cut"), "the decoder's library")
 UNPROVED = "this program is unproved and slow, as ./build --quick keeps it"
 
 
@@ -47,18 +49,18 @@ class Unbuilt(stand.Case):
         """Each word of btx, as its help lists them, with what it needs after it."""
         text = self.run_of("bin/btx", "--help")[1].decode()
         words = [line.split()[0] for line in text.splitlines() if line.startswith("    ") and line[4] not in " W"]
-        after = {"archive": [stand.PAGES, "-o", self.path("website")], "gen": ["1"], "load": ["1"], "viewer": [], "editor": [], "diff": [stand.page("title")] * 2}
+        after = {"archive": [stand.PAGES, "-o", self.path("website")], "cut": [stand.page("title"), "-o", self.path("pages")], "line": ["-"], "gen": ["1"], "load": ["1"], "viewer": [], "editor": [], "diff": [stand.page("title")] * 2}
         self.assertGreater(len(words), 15)
-        return [[word, *after.get(word, [stand.page("title")])] for word in words if word != "completion"]
+        return [[word, *after.get(word, [stand.page("title")])] for word in words if word not in ("completion", "host")]
 
     def test_each_word_says_what_is_missing_the_command_and_how_long_it_takes(self):
         for request in self.requests():
             status, output, error = self.run_of("bin/btx", *request)
             self.assertEqual((status, output, error.count("\n")), (127, b"", 1), error)
             self.assertIn(f"isn't built: {self.tree}/build {PROVES}", error)
-            is_whole = request[0] in ("viewer", "editor")
+            is_whole = request[0] in PARTLY
             self.assertEqual(f"{self.tree}/build --quick keeps an unproved one, in about a minute" in error, not is_whole, error)
-            self.assertIn("the decoder's module" if is_whole else "the program", error)
+            self.assertIn(PARTLY.get(request[0], "the program"), error)
             self.assertNotIn("this machine", error)
 
     def test_without_the_kit_they_say_that_it_is_needed(self):

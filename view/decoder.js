@@ -181,5 +181,5 @@
   say("open-words", "Take stored pages, one or several, or the text that cept_tool changes PAGE prints, with the other texts if you like. "
     + "Files and whole folders can also be dropped anywhere on this page, and files pasted; of a folder what ends in .btx is taken. "
     + "Nothing leaves your machine.");
-  tamligub.examples = tamligub.begun.then(showExamples);
+  Object.assign(tamligub, { compiled, decoded, examples: tamligub.begun.then(showExamples) });
 })((window.Tamligub = window.Tamligub || {}));

@@ -1,8 +1,44 @@
-// Plays a film at the speed of a line: a moment comes when the byte at its place has come. Between moments nothing runs.
+// Plays a film at the speed of a line, or in its own time: a moment comes when the byte at its place has come. Between moments nothing
+// runs.
 (function (tamligub) {
   "use strict";
 
   const LEAST_WAIT = 15;
+  // The speed of a film that plays in its own time.
+  const OWN_TIME = -1;
+
+  // A line of so many bits a second: how many bytes have come after some milliseconds, and when so many have.
+  class Steady {
+    constructor(speed) {
+      this.each = speed / (1000 * tamligub.BITS_OF_A_BYTE);
+    }
+
+    bytes(milliseconds) {
+      return Math.floor(milliseconds * this.each + 1e-6);
+    }
+
+    when(bytes) {
+      return bytes / this.each;
+    }
+  }
+
+  // The same of a recording, of its pieces, each milliseconds and a length. Bytes of which no time is known come with the last piece.
+  class Recorded {
+    constructor(pieces) {
+      let end = 0;
+      this.pieces = pieces.map(([when, length]) => ({ when, end: (end += length) }));
+    }
+
+    bytes(milliseconds) {
+      const come = this.pieces.filter(({ when }) => when <= milliseconds + 1e-6);
+      return come.length === this.pieces.length ? Infinity : come.length ? come[come.length - 1].end : 0;
+    }
+
+    when(bytes) {
+      const piece = this.pieces.find(({ end }) => bytes <= end) || this.pieces[this.pieces.length - 1];
+      return bytes && piece ? piece.when : 0;
+    }
+  }
 
   class Player {
     // `moved` is called after each move of the film, `ended` when playing stops.
@@ -38,10 +74,16 @@
       this.resume();
     }
 
+    // When bytes come; null where they come at once.
+    line() {
+      if (this.speed === OWN_TIME) return new Recorded(this.film.times || []);
+      return this.speed ? new Steady(this.speed) : null;
+    }
+
     // Begins to count the time from now on, from the bytes that have come.
     resume() {
-      this.begun = performance.now();
-      this.origin = this.come;
+      this.clock = this.line();
+      this.begun = performance.now() - (this.clock ? this.clock.when(this.come) : 0);
       this.wait();
     }
 
@@ -53,22 +95,17 @@
       if (playing) this.resume();
     }
 
-    bytesEach(milliseconds) {
-      return (milliseconds * this.speed) / (1000 * tamligub.BITS_OF_A_BYTE);
-    }
-
     // Sets the clock for the next moment.
     wait() {
       const film = this.film;
       const next = film.moment < film.moments.length ? film.moments[film.moment].place + 1 : film.length;
-      const due = this.speed ? (next - this.origin) / this.bytesEach(1) - (performance.now() - this.begun) : 0;
+      const due = this.clock ? this.clock.when(next) - (performance.now() - this.begun) : 0;
       this.timer = setTimeout(() => this.tick(), Math.max(due, LEAST_WAIT));
     }
 
     tick() {
       const film = this.film;
-      const bytes = this.speed ? this.origin + this.bytesEach(performance.now() - this.begun) : film.length;
-      const whole = Math.min(film.length, Math.floor(bytes + 1e-6));
+      const whole = Math.min(film.length, this.clock ? this.clock.bytes(performance.now() - this.begun) : film.length);
       this.jump(film.momentsWithin(whole), whole);
       if (whole < film.length) this.wait();
       else this.pause();
@@ -105,5 +142,5 @@
     }
   }
 
-  Object.assign(tamligub, { Player });
+  Object.assign(tamligub, { Player, Recorded, OWN_TIME });
 })((window.Tamligub = window.Tamligub || {}));

@@ -11,6 +11,7 @@
     constructor() {
       this.pages = [];
       this.page = null;
+      this.line = null;
       this.pointed = -1;
       this.screen = new tamligub.Screen(part("page"), part("outlines"));
       this.player = new tamligub.Player(() => this.moved(), () => this.rested());
@@ -26,11 +27,13 @@
     // The film of a page, made at its first use.
     filmOf(page) {
       if (!page.film) page.film = new tamligub.Film(this.courseOf(page), page.page, page.flash);
+      page.film.times = page.times || null;
       return page.film;
     }
 
     // Takes pages and opens the first, or says what isn't understood.
     take(pages) {
+      if (this.line) this.line.leave();
       this.pages = pages;
       tamligub.showIndex(pages, (number) => this.open(number), (page, canvas) => this.small(page, canvas));
       if (pages.length) this.open(0);
@@ -65,7 +68,33 @@
       part("bytes").max = film.length;
       tamligub.showRefusals(film, check, page.name);
       this.player.open(film);
+      this.offerTime(film.times !== null);
       this.rested();
+    }
+
+    // Offers the time of the page's own where there is one, and takes it.
+    offerTime(own) {
+      part("own-time").hidden = part("own-time").disabled = !own;
+      if (own !== (this.player.speed === tamligub.OWN_TIME)) this.setSpeed(own ? tamligub.OWN_TIME : 1200);
+    }
+
+    setSpeed(speed) {
+      part("speed").value = speed;
+      this.player.setSpeed(speed);
+    }
+
+    // Shows a line in place of a page, which paints by itself until it ends.
+    watch(line) {
+      if (this.line) this.line.leave();
+      this.player.pause();
+      this.player.film = null;
+      [this.page, this.line, this.pointed] = [null, line, -1];
+      this.flash();
+      this.screen.looks = line.looks;
+      this.screen.forget();
+      this.screen.outline([], -1);
+      say("name", line.name);
+      say("fault", "");
     }
 
     film() {
@@ -150,6 +179,7 @@
     layAnew(cell, ratio) {
       this.screen.lay(cell, ratio);
       if (this.film()) this.moved();
+      else if (this.line) this.line.show();
     }
 
     // Whether letters are those of the browser's font.

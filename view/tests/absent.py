@@ -14,7 +14,7 @@ PACKAGES = {
     "lintian": "lintian", "mypy": "mypy", "npm": "npm", "numpy": "python3-numpy", "PIL": "python3-pil", "pkg-config": "pkg-config",
     "pyproject-build": "python3-build python3-setuptools python3-wheel", "pyte": "python3-pyte", "readelf": "binutils", "setpriv": "util-linux",
     "ssh": "openssh-client", "ssh-keygen": "openssh-client", "sshd": "openssh-server", "tmux": "tmux", "tsc": "node-typescript",
-    "valgrind": "valgrind", "wasm-opt": "binaryen", "zsh": "zsh",
+    "valgrind": "valgrind", "websockets": "python3-websockets", "wasm-opt": "binaryen", "zsh": "zsh",
 }
 NAMES = {"chromium": ("chromium", "chromium-browser", "google-chrome", "chromium-headless-shell"), "node": ("node", "nodejs")}
 # Where Debian puts servers, and libraries for any Python of the machine.

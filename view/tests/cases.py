@@ -97,6 +97,13 @@ class Stand:
             subprocess.run(words, stdout=file, check=True, timeout=600)
         return path
 
+    def timed(self, name, recording):
+        """The file that btx writes of a recording with its times."""
+        path = os.path.join(self.place, name)
+        words = [os.path.join(VIEW, "../bin/btx"), "html", "--times", recording, "-o", path]
+        subprocess.run(words, check=True, timeout=600, env={**os.environ, "BTX_PROGRAM": os.path.abspath(self.program)})
+        return path
+
     def kept(self, name, text):
         path = os.path.join(self.place, name)
         with open(path, "w", encoding="utf-8", newline="") as file:
@@ -480,6 +487,33 @@ def nothing_runs_between_commands(tab, stand):
     assert tab.value("clock.waiting()") == 0, "a timer waits after the end"
 
 
+def a_recording_plays_in_its_own_time(tab, stand):
+    """Ten bytes in three pieces, and one of which no time is known, which comes with the last. A page without times has none to choose."""
+    recording, plain = stand.kept("timed.btx", "ABCDEFGHIJK"), stand.kept("plain.btx", "A")
+    stand.kept("timed.btx.times", "40 3\n60 0\n300 2\n1000 5\n")
+    with tab.beforehand(browser.CLOCK):
+        tab.open(stand.timed("timed.html", recording))
+    speed = "[Tamligub.part('speed').value, Tamligub.part('own-time').hidden, Tamligub.viewer.player.speed]"
+    assert tab.value(speed) == ["-1", False, -1], tab.value(speed)
+    played = tab.value(f"{PLAYED}(-1, 100000)")
+    turns = {moment: played["come"].index(moment) + 1 for moment in sorted({*played["come"]}) if moment}
+    assert [*turns] == [3, 5, 11], turns
+    for turn, due in zip(turns.values(), (40, 300, 1000)):
+        assert due <= turn <= due + FRAME, turns
+    # One timer for each piece.
+    assert (played["bytes"], played["due"]) == (11, 3), (played["bytes"], played["due"])
+    # From the middle it goes on from the time at which what is shown had come.
+    tab.value("Tamligub.viewer.player.toBytes(5); Tamligub.part('play').click()")
+    assert tab.value("clock.turn(690), Tamligub.viewer.film().moment") == 5, "it goes on too soon"
+    assert tab.value(f"clock.turn({10 + FRAME}), Tamligub.viewer.film().moment") == 11, "it doesn't go on"
+    tab.value("Tamligub.viewer.player.toStart(); Tamligub.part('speed').value = '0'; Tamligub.part('speed').dispatchEvent(new Event('change'))")
+    tab.value("Tamligub.part('play').click()")
+    assert tab.value(f"clock.turn({FRAME}), Tamligub.viewer.film().moment") == 11, "it doesn't come at once"
+    with tab.beforehand(browser.CLOCK):
+        tab.open(stand.written("plain.html", [plain]))
+    assert tab.value(speed) == ["1200", True, 1200], tab.value(speed)
+
+
 def keys_do_what_buttons_do(tab, stand):
     opened(tab, stand)
     go_to(tab, stand, "title")
@@ -794,7 +828,7 @@ CASES = (
     the_flash_runs_only_where_something_flashes,
     concealed_cells_show_when_revealed, double_density_is_sharp, each_command_repaints_its_cells_alone,
     back_is_as_forward_and_as_a_whole_repaint, the_slider_shows_what_has_come, the_text_is_that_of_show,
-    nothing_runs_between_commands, pages_play_at_the_speed_of_the_line,
+    nothing_runs_between_commands, pages_play_at_the_speed_of_the_line, a_recording_plays_in_its_own_time,
     keys_do_what_buttons_do, all_controls_have_names_and_are_reached, light_and_dark_have_contrast,
     refusals_are_listed_and_lead_to_their_moments, no_byte_of_a_page_is_markup, a_cell_tells_its_line_and_bytes,
     a_pointer_over_the_screen_names_the_cell, text_that_is_no_changes_names_its_line, files_are_opened_and_dropped,

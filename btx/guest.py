@@ -1,0 +1,92 @@
+"""What a host for trying terminals says to one guest: which page answers which request, and the bytes by which a page begins and a request
+is shown. It knows no sockets and no clock."""
+import os
+import re
+
+from btx import letters
+
+PAGE = re.compile(r"0*(\d+)([b-z]?)\.btx")
+MOST_SIGNS = 16
+# The keys that begin and end a request, and ASCII's signs for them.
+BEGIN, END = b"\x13*", b"\x1c#"
+# A page begins as on a decoder that was just opened, under the parallel set.
+AT_FIRST = b"\x1f\x2f\x42"
+# A line at the foot: a break of the service at row 24, whose end brings all back; the row is blank first.
+FOOT, BACK = b"\x1f\x2f\x40\x58\x18", b"\x1f\x2f\x4f"
+
+
+def written(text):
+    """A text as bytes once the primary set is locked."""
+    return b"".join(letters.bytes_of(sign) or b"" for sign in letters.signs_in(text))
+
+
+def foot(text):
+    """What shows a text in the last row, and leaves all else."""
+    return FOOT + written(text) + BACK
+
+
+class Pages:
+    """The stored pages of a folder, by number and part. Where no name is a number, the pages have the numbers from 0 on in the order of
+    their names."""
+
+    def __init__(self, folder):
+        names = sorted(name for name in os.listdir(folder) if name.endswith(".btx"))
+        found = [(PAGE.fullmatch(name), name) for name in names]
+        self.folder, self.names = folder, {(match[1], match[2]): name for match, name in found if match}
+        if not self.names:
+            self.names = {(str(number), ""): name for number, name in enumerate(names)}
+        if self.first() is None:
+            raise OSError(0, "no file in it ends in .btx", folder)
+
+    def listed(self):
+        """The numbers with the names, in order, where these don't say them."""
+        return [f"*{number}# {name}" for (number, _), name in self.names.items() if not PAGE.fullmatch(name)]
+
+    def first(self):
+        """The page 0, or else the one with the lowest number; None where there is no page."""
+        whole = [number for number, part in self.names if not part]
+        return min(whole, key=int, default=None)
+
+    def page(self, number, part):
+        """The bytes of a page."""
+        with open(os.path.join(self.folder, self.names[number, part]), "rb") as file:
+            return file.read()
+
+
+class Guest:
+    """Where one guest stands: the page and the part that are shown, and what was typed of a request."""
+
+    def __init__(self, pages):
+        self.pages, self.number, self.part, self.typed = pages, pages.first(), "", None
+
+    def shown(self):
+        """The bytes of the page that is shown."""
+        return AT_FIRST + self.pages.page(self.number, self.part)
+
+    def take(self, byte):
+        """Takes a byte, and answers what is sent for it, and whether that is a page."""
+        sign = bytes([byte])
+        if sign in END:
+            return self.asked()
+        if sign in BEGIN:
+            self.typed = ""
+        elif self.typed is None or not sign.isdigit():
+            return b"", False
+        elif len(self.typed) == MOST_SIGNS:
+            self.typed = None
+            return foot(f"Mehr als {MOST_SIGNS} Zeichen, more than {MOST_SIGNS} signs"), False
+        else:
+            self.typed += sign.decode("ascii")
+        return foot("*" + self.typed), False
+
+    def asked(self):
+        """Answers a request that is whole: a number, or the next part of what is shown."""
+        typed, self.typed = self.typed, None
+        if typed is None:
+            wanted = self.number, chr(ord(self.part or "a") + 1)
+        else:
+            wanted = typed and typed.lstrip("0") or typed and self.pages.first(), ""
+        if wanted not in self.pages.names:
+            return foot(f"{'#' if typed is None else f'*{typed}#'}: keine Seite, no page"), False
+        self.number, self.part = wanted
+        return self.shown(), True

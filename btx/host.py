@@ -1,0 +1,152 @@
+"""A small host for trying terminals: a test bench, and no service. It has the stored pages of a folder: *12# shows 12.btx, # the next part,
+12b.btx, and *0# the first page, which each guest sees at first. Bytes go out at the speed of a line. Guests that send nonsense or nothing
+are dropped after a time. With --web the line is a WebSocket, for the viewer in a browser."""
+import argparse
+import asyncio
+import time
+
+from btx import debian, guest, messages, recording, say, web
+
+SUMMARY = "a small host for trying terminals, with the pages of a folder"
+HERE = "127.0.0.1"
+BITS, PATIENCE, GUESTS = 1200, 300, 100
+# What goes out at once goes out so often a second, at most.
+PIECES = 50
+# So many bytes of a guest are kept while a page goes out.
+MOST_TYPED = 64
+
+
+def port(text):
+    value = int(text)
+    if not 0 <= value <= 65535:
+        raise argparse.ArgumentTypeError("a port is 0 to 65535")
+    return value
+
+
+def count(text):
+    value = int(text)
+    if value < 1:
+        raise argparse.ArgumentTypeError("it takes a number from 1 on")
+    return value
+
+
+def bits(text):
+    return 0 if text == "0" else count(text)
+
+
+def arguments(parser):
+    parser.add_argument("folder", metavar="FOLDER")
+    parser.add_argument("--port", type=port, required=True, metavar="N", help="the port; 0 takes one that is free, and says which")
+    parser.add_argument("--bits", type=bits, default=BITS, metavar="BITS",
+                        help=f"how many bits a second; 0 is at once, and without it {BITS}")
+    parser.add_argument("--bind", default=HERE, metavar="ADDRESS", help="for which address it listens; without it this machine alone")
+    parser.add_argument("--patience", type=count, default=PATIENCE, metavar="SECONDS",
+                        help=f"after how long a guest is dropped who asks for nothing; without it {PATIENCE}")
+    parser.add_argument("--guests", type=count, default=GUESTS, metavar="N", help=f"how many there may be at once; without it {GUESTS}")
+    parser.add_argument("--web", action="store_true", help="the line is a WebSocket, for the viewer; takes python3-websockets")
+
+
+class Stream:
+    """The line of a guest by TCP."""
+
+    def __init__(self, reader, writer):
+        self.reader, self.writer = reader, writer
+        self.name = "{}:{}".format(*writer.get_extra_info("peername")[:2])
+
+    async def read(self):
+        """What the guest sends; empty bytes at the end."""
+        return await self.reader.read(MOST_TYPED)
+
+    async def write(self, data):
+        self.writer.write(data)
+        await self.writer.drain()
+
+    async def close(self):
+        """Ends the line once what waits has gone out, for which nobody waits."""
+        self.writer.close()
+
+
+class Host:
+    """The guests of a folder of pages."""
+
+    def __init__(self, options):
+        self.options, self.guests = options, 0
+        self.speed = recording.Speed(options.bits) if options.bits else None
+
+    async def taken(self, line, data):
+        """Sends bytes at once, to a guest who takes them."""
+        try:
+            await asyncio.wait_for(line.write(data), self.options.patience)
+        except asyncio.TimeoutError:
+            raise OSError(0, f"it took nothing for {self.options.patience} seconds") from None
+
+    async def put(self, line, data):
+        """Sends bytes at the speed of the line."""
+        begun, at = time.monotonic(), 0
+        while at < len(data):
+            end = len(data)
+            if self.speed:
+                end = min(end, int((time.monotonic() - begun) * self.options.bits / recording.BITS_OF_A_BYTE))
+            if end > at:
+                await self.taken(line, data[at:end])
+                at = end
+            if at < len(data):
+                await asyncio.sleep(max(1 / PIECES, begun + self.speed.when(at + 1) - time.monotonic()))
+
+    async def serve(self, line):
+        """Serves a guest until it goes; why it is dropped is raised."""
+        here = guest.Guest(guest.Pages(self.options.folder))
+        await self.put(line, here.shown())
+        until = time.monotonic() + self.options.patience
+        while True:
+            typed = await asyncio.wait_for(line.read(), max(0, until - time.monotonic()))
+            if not typed:
+                return
+            for byte in typed:
+                data, is_page = here.take(byte)
+                await self.put(line, data)
+                if is_page:
+                    until = time.monotonic() + self.options.patience
+
+    async def welcome(self, line):
+        """Has a guest served, where there is room for one."""
+        self.guests += 1
+        try:
+            if self.guests > self.options.guests:
+                say(f"host: {line.name} is sent away: {self.options.guests} guests are there")
+                return
+            await self.serve(line)
+        except asyncio.TimeoutError:
+            say(f"host: {line.name} is dropped: it asked for no page within {self.options.patience} seconds")
+        except OSError as fault:
+            say(f"host: {line.name} is dropped: {messages.why(fault)}")
+        except asyncio.CancelledError:
+            # The run ends, and all lines with it.
+            return
+        finally:
+            self.guests -= 1
+            await line.close()
+
+
+async def listen(options):
+    """Serves guests until the run is ended."""
+    host = Host(options)
+    if options.web:
+        server = await web.serve(host.welcome, options.bind, options.port)
+    else:
+        server = await asyncio.start_server(lambda *streams: host.welcome(Stream(*streams)), options.bind, options.port)
+    address, chosen = server.sockets[0].getsockname()[:2]
+    speed = f"{options.bits} bit/s" if options.bits else "at once"
+    say(f"host: {'ws://' if options.web else ''}{address}:{chosen}, {speed}; a test bench, and no service")
+    await asyncio.Event().wait()
+
+
+def run(_, options):
+    for line in guest.Pages(options.folder).listed():
+        say(f"host: {line}")
+    try:
+        asyncio.run(listen(options))
+    except debian.Missing as fault:
+        say(f"host: {fault}")
+        return debian.NOT_THERE
+    return 0

@@ -1,0 +1,118 @@
+"""Keys of a terminal, and the bytes that they send. A table of one's own has a line for each key: its name or its sign, and bytes in two
+digits each, `nothing`, or `leave`."""
+import codecs
+import re
+
+from btx import letters, near
+
+# What a key sends that leaves.
+LEAVE = "leave"
+SEQUENCE = re.compile(r"\x1b\[[0-?]*[ -/]*[@-~]|\x1bO[ -~]|\x1b", re.DOTALL)
+ARROWS = {"A": "up", "B": "down", "C": "right", "D": "left", "H": "home", "F": "end", "P": "f1", "Q": "f2", "R": "f3", "S": "f4"}
+NUMBERED = {
+    1: "home", 2: "insert", 3: "delete", 4: "end", 5: "pageup", 6: "pagedown", 7: "home", 8: "end", 11: "f1", 12: "f2", 13: "f3", 14: "f4",
+    15: "f5", 17: "f6", 18: "f7", 19: "f8", 20: "f9", 21: "f10", 23: "f11", 24: "f12",
+}
+CONTROLS = {"\r": "return", "\n": "return", "\t": "tab", "\x08": "backspace", "\x7f": "backspace", "\x1b": "escape"}
+# Names of signs that a table can't have as they are.
+SIGNS = {"space": " ", "hash": "#"}
+NAMES = sorted({*ARROWS.values(), *NUMBERED.values(), *CONTROLS.values(), *SIGNS, *(f"ctrl-{chr(code)}" for code in range(0x61, 0x7B))})
+# What the keys send of which the sign doesn't say it: the two that begin and end a request, and those that move the position.
+USUAL = {
+    "*": b"\x13", "#": b"\x1c", "return": b"\x0d", "backspace": b"\x08", "left": b"\x08", "right": b"\x09", "down": b"\x0a", "up": b"\x0b",
+    "home": b"\x1e", "ctrl-c": LEAVE,
+}
+BYTES = re.compile(r"(?:[0-9A-Fa-f]{2} ?)+")
+
+
+def named(sequence):
+    """The name of a key that a terminal sends as a sequence, or an empty one of a sequence that isn't known."""
+    if len(sequence) == 1:
+        return CONTROLS[sequence]
+    number = re.fullmatch(r"\x1b\[(\d+)~", sequence)
+    if number:
+        return NUMBERED.get(int(number[1]), "")
+    return ARROWS.get(sequence[-1], "") if len(sequence) == 3 else ""
+
+
+def of_sign(sign):
+    """The name of a key that sends a sign, or the sign itself."""
+    if sign in CONTROLS:
+        return CONTROLS[sign]
+    return f"ctrl-{chr(ord(sign) + 0x60)}" if len(sign) == 1 and 0 < ord(sign) < 27 else sign
+
+
+def keys_in(text):
+    """The keys of a text, each by its name or its sign."""
+    at, keys = 0, []
+    while at < len(text):
+        found = SEQUENCE.match(text, at)
+        if found:
+            keys.append(named(found[0]))
+        end = found.end() if found else text.find("\x1b", at) if "\x1b" in text[at:] else len(text)
+        keys += [] if found else map(of_sign, letters.signs_in(text[at:end]))
+        at = end
+    return keys
+
+
+def bytes_in(words):
+    """What a line of a table has a key send, or None where that can't be read."""
+    if words in (LEAVE, "nothing"):
+        return LEAVE if words == LEAVE else b""
+    return bytes.fromhex(words) if BYTES.fullmatch(words) else None
+
+
+def entry(line):
+    """The key and the bytes of a line of a table, or why it is none."""
+    key, _, words = line.partition(" ")
+    key = SIGNS.get(key, key)
+    if len(letters.signs_in(key)) > 1 and key not in NAMES:
+        nearest = near.nearest(key, NAMES)
+        raise ValueError(f"{key} is no key" + (f"; the nearest is {nearest}" if nearest else ""))
+    sent = bytes_in(words.strip())
+    if sent is None:
+        raise ValueError(f"after {key} stand its bytes, two digits each, nothing, or leave")
+    return key, sent
+
+
+def table_in(text, path):
+    """The table of a text: the usual one with what its lines say."""
+    table = dict(USUAL)
+    for number, line in enumerate(text.splitlines(), 1):
+        words = " ".join(line.split())
+        if not words or words.startswith("#"):
+            continue
+        try:
+            key, sent = entry(words)
+        except ValueError as fault:
+            raise OSError(0, f"line {number}: {fault}", path) from None
+        table[key] = sent
+    if LEAVE not in table.values():
+        raise OSError(0, "no key leaves", path)
+    return table
+
+
+def table_of(path):
+    """The table of a file, or the usual one where none is named."""
+    if path is None:
+        return USUAL
+    with open(path, encoding="utf-8-sig", errors="replace") as file:
+        return table_in(file.read(), path)
+
+
+class Keyboard:
+    """Reads what a terminal sends for keys, in any pieces."""
+
+    def __init__(self, table):
+        self.table = table
+        self.decoder = codecs.getincrementaldecoder("utf-8")("ignore")
+
+    def of_key(self, key):
+        """What a key sends: as the table says, or else the bytes of its sign."""
+        if key in self.table:
+            return self.table[key]
+        return b"" if key == "" or key in NAMES else letters.bytes_of(key) or b""
+
+    def sent(self, data):
+        """What the keys of some bytes send, one by one: bytes, or LEAVE."""
+        return [sent for sent in map(self.of_key, keys_in(self.decoder.decode(data))) if sent]

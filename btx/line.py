@@ -1,0 +1,278 @@
+"""Shows in colour in the terminal what comes over a line, as it comes: from a host by TCP, over a serial device, or from standard input.
+Keys are sent as bytes, and Ctrl C leaves. What came can be kept as a stored page, with the times at which it came. A host can do no more
+than paint: what it sends is decoded, and looks are painted."""
+import argparse
+import contextlib
+import os
+import select
+import signal
+import sys
+import time
+
+from btx import files, glass, keyboard, live, messages, passing, recording, say, terminal, wire
+
+SUMMARY = "a line in the terminal: a host, a serial device or standard input"
+NAMES = "HOST:PORT, serial:DEVICE:BITS, as serial:/dev/ttyS0:1200, or -"
+DONE, BROKEN, STALLED = 0, 4, 5
+PATIENCE = 60
+# The least time between two pictures, in seconds; cells are painted at once.
+PICTURES_AFTER = 0.1
+PHASE = 1 / 6
+# So many bytes of keys wait for a line that takes none; what is struck then is lost.
+MOST_UNSENT = 4096
+EVER = float("inf")
+
+
+def line_name(text):
+    try:
+        return wire.Name(text)
+    except ValueError:
+        raise argparse.ArgumentTypeError(f"{text} is no line: {NAMES}") from None
+
+
+def arguments(parser):
+    parser.add_argument("line", metavar="LINE", type=line_name, help=NAMES)
+    parser.add_argument("--record", metavar="FILE", help="keep what comes, as a stored page, and in FILE.times when it came")
+    parser.add_argument("--keys", metavar="FILE", help="a table of what keys send")
+    parser.add_argument("--patience", type=recording.seconds, default=PATIENCE, metavar="SECONDS",
+                        help=f"how long an answer is waited for; 0 is for ever, and without it {PATIENCE}")
+    parser.add_argument("--reveal", action="store_true", help="show what is concealed")
+    terminal.add_signs(parser, terminal.KINDS, terminal.AUTO)
+
+
+class End(Exception):
+    """The line is at its end: the sentence that is said of it, if there is one, the status, and whether the page stays in the terminal."""
+
+    def __init__(self, status, text="", stays=True):
+        super().__init__(text)
+        self.status, self.stays = status, stays
+
+
+class Shown:
+    """The looks that a line has come to show, in the phase of flashing that is on."""
+
+    def __init__(self, decoder):
+        self.decoder, self.cells, self.flashing, self.count = decoder, {}, set(), 0
+
+    def taken(self, changed):
+        """Takes what was fed; what flashes is shown as it is seen until its next phase begins."""
+        self.flashing -= changed.keys()
+        self.flashing |= {place for place, look in changed.items() if look.flash != "S"}
+        return self.now({place: look._replace(flash="S") for place, look in changed.items()})
+
+    def now(self, changed):
+        self.cells |= changed
+        return changed
+
+    def feed(self, data):
+        self.count += len(data)
+        return self.taken(self.decoder.feed(data))
+
+    def finish(self):
+        return self.taken(self.decoder.finish())
+
+    def turn(self):
+        """Begins the next phase."""
+        return self.now({place: look._replace(flash="S") for place, look in self.decoder.turn().items()})
+
+    def position(self):
+        state = self.decoder.state()
+        return state.row, state.column
+
+
+class Timers:
+    """What is due and when: the next phase, the end of patience, and painting that waits."""
+
+    def __init__(self, patience):
+        self.patience = patience or EVER
+        self.phase = self.answer = self.paint = EVER
+
+    def await_answer(self):
+        """Begins to wait for an answer."""
+        self.answer = time.monotonic() + self.patience
+
+    def wait(self, now):
+        """How many milliseconds there are until the first is due, or None where none is."""
+        due = min(self.phase, self.answer, self.paint)
+        return None if due == EVER else max(0, 1000 * (due - now))
+
+
+class Session:
+    """A line that is shown until it ends or is left."""
+
+    def __init__(self, line, shown, pane, keys, table, options):
+        self.line, self.shown, self.glass, self.keys, self.patience = line, shown, pane, keys, options.patience
+        self.keyboard = keyboard.Keyboard(table)
+        self.recorder = recording.Recorder(options.record) if options.record else None
+        self.timers = Timers(options.patience if line.sends else 0)
+        self.unsent, self.waiting, self.painted = b"", {}, -EVER
+
+    def run(self, signals):
+        """Shows the line, and ends by raising why."""
+        self.timers.await_answer()
+        while True:
+            events = dict(self.polled(signals.reading))
+            if signals.reading in events:
+                self.signalled(signals.told())
+            if self.keys in events:
+                self.struck()
+            if self.line.fileno() in events:
+                self.moved(events[self.line.fileno()])
+            self.pass_on(time.monotonic())
+
+    def polled(self, signals):
+        """What there is to do, once there is something."""
+        watch = select.poll()
+        watch.register(signals, select.POLLIN)
+        watch.register(self.line.fileno(), select.POLLIN | (select.POLLOUT if self.unsent else 0))
+        if self.keys is not None:
+            watch.register(self.keys, select.POLLIN)
+        return watch.poll(self.timers.wait(time.monotonic()))
+
+    def bytes_so_far(self):
+        return f"after {self.shown.count:,} bytes"
+
+    def moved(self, event):
+        """Takes what has come, and sends what waits."""
+        try:
+            if event & select.POLLOUT:
+                self.unsent = self.unsent[self.line.send(self.unsent) :]
+            data = self.line.read() if event & ~select.POLLOUT else None
+        except BlockingIOError:
+            return
+        except OSError as fault:
+            raise End(BROKEN, f"{messages.why(fault)}, {self.bytes_so_far()}") from None
+        if data is not None:
+            self.came(data)
+
+    def came(self, data):
+        """Takes what has come over the line."""
+        if not data:
+            raise End(DONE, f"the line has ended, {self.bytes_so_far()}" if self.line.sends else "")
+        if self.recorder:
+            self.recorder.came(data)
+        self.show(self.shown.feed(data))
+        self.timers.answer = EVER
+        if not self.glass.has_keys():
+            self.timers.await_answer()
+
+    def show(self, changed):
+        """Paints what has changed, or has it wait for its time."""
+        self.waiting |= changed
+        due = self.painted + (PICTURES_AFTER if isinstance(self.glass.painter, terminal.PicturePainter) else 0)
+        if time.monotonic() < due:
+            self.timers.paint = due
+        else:
+            self.paint()
+
+    def paint(self):
+        changed, self.waiting, self.timers.paint = self.waiting, {}, EVER
+        self.glass.paint(changed, self.shown.position())
+        self.painted = time.monotonic()
+        if self.shown.flashing and self.timers.phase == EVER:
+            self.timers.phase = self.painted + PHASE
+
+    def pass_on(self, now):
+        """Does what is due."""
+        if now >= self.timers.answer:
+            raise End(STALLED, f"nothing came for {self.patience:g} seconds, {self.bytes_so_far()}")
+        if now >= self.timers.phase:
+            self.timers.phase = now + PHASE if self.shown.flashing else EVER
+            self.show(self.shown.turn())
+        if now >= self.timers.paint:
+            self.paint()
+
+    def struck(self):
+        """Sends what the keys that were struck send."""
+        try:
+            data = os.read(self.keys, wire.PIECE)
+        except OSError:
+            data = b""
+        if not data:
+            self.keys = None
+        for sent in self.keyboard.sent(data):
+            if sent == keyboard.LEAVE:
+                raise End(DONE, stays=False)
+            self.send(sent)
+
+    def send(self, data):
+        if not self.line.sends or len(self.unsent) + len(data) > MOST_UNSENT:
+            return
+        if self.recorder:
+            self.recorder.key()
+        self.unsent += data
+        self.timers.await_answer()
+
+    def signalled(self, numbers):
+        """Stops and goes on as other programs do, and paints all where the terminal may be another."""
+        if signal.SIGTSTP in numbers:
+            self.glass.end()
+            os.kill(os.getpid(), signal.SIGSTOP)
+        if {signal.SIGTSTP, signal.SIGCONT, signal.SIGWINCH} & numbers:
+            self.glass.again(self.shown.cells, self.shown.position())
+
+    def finish(self):
+        """Ends the page that came."""
+        self.waiting |= self.shown.finish()
+        self.paint()
+
+    def leave_page(self):
+        """Leaves the page in the terminal as it was."""
+        self.glass.leave_page(self.shown.cells, self.shown.decoder.state().rows)
+
+
+def keys_for(line):
+    """The file from which keys come: standard input, or the terminal where that is the line; None where there is none."""
+    if line.sends:
+        return files.INPUT
+    try:
+        return os.open("/dev/tty", os.O_RDWR | os.O_NOCTTY)
+    except OSError:
+        return None
+
+
+def hold(session, signals):
+    """Runs a session in the terminal, and answers why it ended. By then the terminal is as it was."""
+    try:
+        session.glass.begin(session.shown.cells)
+        session.run(signals)
+    except End as end:
+        if end.stays:
+            session.finish()
+        return end
+    except live.Full as fault:
+        return End(BROKEN, str(fault))
+    finally:
+        session.glass.end()
+        if session.recorder:
+            session.recorder.close()
+
+
+def watch(line, table, options):
+    """Shows a line, and answers why it ended. In too small a terminal nothing begins."""
+    terminal.lines_of(sys.stdout)
+    painter, keys = terminal.painter_of(options, os.environ), keys_for(line)
+    with live.Live() as decoder, glass.Signals() as signals:
+        pane = glass.Glass(painter, sys.stdout, keys)
+        session = Session(line, Shown(decoder), pane, keys, table, options)
+        end = hold(session, signals)
+        if end.stays:
+            session.leave_page()
+    return end
+
+
+def run(_, options):
+    live.library()
+    table = keyboard.table_of(options.keys)
+    if options.line.text == files.STANDARD and os.isatty(files.INPUT):
+        say("line: - is standard input, and that is a terminal")
+        return 2
+    sys.stdout.reconfigure(encoding="utf-8", newline="\n")
+    try:
+        with contextlib.closing(options.line.open()) as line:
+            end = watch(line, table, options)
+    except glass.Signalled as signalled:
+        passing.end_by(signalled.number)
+    if str(end):
+        say(f"line: {options.line.text}: {end}")
+    return end.status

@@ -1,0 +1,85 @@
+"""The line of a guest as a WebSocket, by the library of Python that Debian has; and the viewer for a browser that asks the same port for a
+page."""
+import http
+import os
+
+from btx import debian, viewer
+
+NAME, PACKAGE = "websockets", "python3-websockets"
+MOST_MESSAGE = 1024
+# The names by which this machine alone reaches itself.
+HERE = ("127.0.0.1", "localhost", "::1", "[::1]")
+ABSENT = "This port is a WebSocket. The viewer for it isn't built; ./build builds it.\n"
+
+
+def library(module):
+    return debian.module(module, NAME, PACKAGE)
+
+
+class Socket:
+    """The line of a guest."""
+
+    def __init__(self, connection):
+        self.connection, self.closed = connection, library("websockets.exceptions").ConnectionClosed
+        self.name = "{}:{}".format(*connection.remote_address[:2])
+
+    async def read(self):
+        """What the guest sends; empty bytes at the end."""
+        try:
+            data = await self.connection.recv()
+        except self.closed:
+            return b""
+        return data if isinstance(data, bytes) else data.encode("utf-8")
+
+    async def write(self, data):
+        try:
+            await self.connection.send(data)
+        except self.closed:
+            raise ConnectionResetError(0, "it has gone") from None
+
+    async def close(self):
+        await self.connection.close()
+
+
+def document():
+    """The viewer with the decoder's module, or None where that isn't there."""
+    if not os.path.exists(viewer.MODULE):
+        return None
+    with open(viewer.MODULE, "rb") as file:
+        return viewer.html_with(file.read()).encode("utf-8")
+
+
+def page():
+    """What a browser gets that asks for a page, and not for a WebSocket."""
+    found = document()
+    kind = "text/html" if found else "text/plain"
+    status = http.HTTPStatus.OK if found else http.HTTPStatus.NOT_FOUND
+    return status, [("Content-Type", f"{kind}; charset=utf-8")], found or ABSENT.encode("ascii")
+
+
+def is_open_to(headers, address, port):
+    """Whether a document may open the line: a file of a machine, and what this port serves itself. Other websites may not. Of the names
+    that this machine has in a network only who asks knows."""
+    origin, own = headers.get("Origin", "null"), [f"http://{name}:{port}" for name in (*HERE, address)]
+    if address not in HERE:
+        own.append(f"http://{headers.get('Host')}")
+    return origin in ("null", "file://", *own)
+
+
+async def serve(welcome, address, port):
+    """A server whose guests are welcomed."""
+    legacy, ports = library("websockets.legacy.server"), []
+
+    async def begin(connection, _=None):
+        await welcome(Socket(connection))
+
+    async def answer(_, headers):
+        if "Upgrade" not in headers:
+            return page()
+        if not is_open_to(headers, address, *ports):
+            return http.HTTPStatus.FORBIDDEN, [], b"Another website may not open this line.\n"
+        return None
+
+    server = await legacy.serve(begin, address, port, max_size=MOST_MESSAGE, process_request=answer, compression=None)
+    ports.append(server.sockets[0].getsockname()[1])
+    return server
