@@ -44,7 +44,7 @@ enum {
     TAMLIGUB_BAD_SCRIPT = 3, /* a line of the script can't be read; the text says which */
     TAMLIGUB_UNREAD = 4,     /* a number is given where the word takes a page or a script */
     TAMLIGUB_NO_ROOM = 5,    /* the text is longer than `room`: its front was written */
-    TAMLIGUB_NO_MEMORY = 6,  /* no text */
+    TAMLIGUB_NO_MEMORY = 6,  /* the words are right, and there is no memory for page, screen or text; no text */
     TAMLIGUB_TOO_LONG = 7,   /* the page has more than 2^24 bytes, or the script more than 2^20 */
     TAMLIGUB_NOT_SEVEN = 8   /* `eight`: the page isn't in seven bits */
 };
@@ -79,7 +79,7 @@ uint32_t tamligub_run(const uint8_t *word, size_t word_length, uint32_t given, u
  *   that are written stays as it is.
  * - The room for notices is that for a byte, or for a phase of flashing, or more. Where it is less nothing is done.
  *
- * A decoder takes all its memory by malloc when it is opened, about 750 KB; after that only tamligub_write and tamligub_snapshot take
+ * A decoder takes all its memory by malloc when it is opened, about 400 KB; after that only tamligub_write and tamligub_snapshot take
  * some, and give it back.
  * Where a call answers 1 no more was done than that `notices` is 0. */
 

@@ -9,7 +9,8 @@ use Rattle.cept_profile.specs.State.{State, state}
 use Rattle.cept_profile.specs.Valid.{AllValid}
 use Rattle.cept_profile.proofs.Laws.{state-one_more}
 use Rattle.cept_undo.specs.Past.{most_kept}
-use Rattle.cept_editor.specs.Applying.{state_after_all, editor_after_turn, editor_after_step, editor_after_steps, HasMade}
+use Rattle.cept_editor.specs.Applying.{editor_after_turn, editor_after_step, editor_after_steps, HasMade}
+use Rattle.cept_repaint.specs.InTurn.{state_after_all}
 use Rattle.cept_editor.specs.Applying.{MarksLast}
 use Rattle.cept_editor.specs.Kept.{KeptEdits, none_kept, finds_nothing, kept_after, kept_after_all, kept, remaining}
 use Rattle.cept_editor.specs.Kept.{commands_of_edits, EditorState, editor_after}

@@ -4,36 +4,21 @@ use Rattle.std.specs.Prelude.{◌≡◌, ◌≢◌, ℕ, ◌+◌, ◌≤◌, Boo
 use Rattle.cept_codes.specs.declared.command.Command.{Command}
 use Rattle.cept_profile.specs.Changes.{changes_between, differences}
 use Rattle.cept_profile.specs.Look.{looks_of}
-use Rattle.cept_profile.specs.Reach.{rows_in_reach}
-use Rattle.cept_profile.specs.State.{State, state, state_after, core_of}
+use Rattle.cept_profile.specs.State.{State, state, core_of}
 use Rattle.cept_profile.specs.Valid.{AllValid}
+use Rattle.cept_redraw.specs.Renewed.{rows_renewed}
 use Rattle.cept_repaint.specs.Applied.{IsApplied}
-use Rattle.cept_repaint.specs.Renewed.{rows_renewed, rows_renewed_by}
+use Rattle.cept_repaint.specs.InTurn.{rows_in_reach_of_all, rows_renewed_by_all, state_after_all}
 use Rattle.cept_undo.specs.Past.{most_kept, nearest, handed_on}
 use Rattle.cept_editor.specs.Kept.{EditorState}
 use Rattle.cept_editor.specs.Made.{Output, IsMade, AreMade, AreCutOff}
 use Rattle.cept_editor.specs.Meaning.{Step, TurnKind, Turn, TakeBack, MakeAgain, Edit}
 use Rattle.cept_editor.specs.Stepping.{event_from, edit_events}
 
--- a state after commands, one after the other
-unfoldable pub state_after_all : State → List Command → State
-state_after_all s [] = s
-state_after_all s (c ∷ cs) = state_after_all (state_after s c) cs
-
--- how many rows commands may resolve, each after the ones before it
-unfoldable pub rows_in_reach_of_all : State → List Command → ℕ
-rows_in_reach_of_all s [] = 0
-rows_in_reach_of_all s (c ∷ cs) = rows_in_reach s c + rows_in_reach_of_all (state_after s c) cs
-
 -- how many rows an edit line may resolve: those that its commands may, and all 24 at a turn
 abbrev pub rows_of_step : State → Step → ℕ
 rows_of_step s (Turn turn) = 24
 rows_of_step s (Edit commands) = rows_in_reach_of_all s commands
-
--- how many rows commands renew, each after the ones before it
-unfoldable pub rows_renewed_by_all : State → List Command → ℕ
-rows_renewed_by_all s [] = 0
-rows_renewed_by_all s (c ∷ cs) = rows_renewed_by s c + rows_renewed_by_all (state_after s c) cs
 
 -- ---- edit lines by the states alone
 

@@ -3,7 +3,7 @@ use Rattle.std.proofs.Common.{◌≡◌, ◌≢◌, ℕ, ◌+◌, ◌<◌, ◌�
 use Rattle.std.proofs.Common.{inl, inr, arith}
 use Rattle.std.proofs.lemmas.Bool.{cases_eq, cases_lt}
 use Rattle.std.proofs.lemmas.List.{get_or_past, get_or-replicate, get_or-set_other, get_or-set_same, length-replicate, length-set}
-use Rattle.cept_repaint.specs.Marks.{is_marked, no_marks}
+use Rattle.cept_redraw.specs.Marks.{is_marked, no_marks}
 
 -- of the places with numbers below n those are marked of which the test holds, and no others
 pub record AreMarkedBelow (test : ℕ → Bool) (marks : List Bool) (n : ℕ) : Type 0 where

@@ -18,7 +18,7 @@ use Rattle.cept_flash.specs.SeenFlashing.{flashes_seen, turns}
 use Rattle.cept_flash.proofs.MarkedInTurn.{is_marked-no_marks, length-no_marks}
 use Rattle.cept_flash.proofs.TurningLooks.{same_at_phases}
 use Rattle.cept_profile.specs.Changes.{differences, look_at}
-use Rattle.cept_repaint.specs.Marks.{is_marked, no_marks}
+use Rattle.cept_redraw.specs.Marks.{is_marked, no_marks}
 
 -- the look of the place with this number differs at the phases
 abbrev pub turns_at : List (List Look) → ℕ → ℕ → ℕ → Bool

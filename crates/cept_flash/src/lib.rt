@@ -6,3 +6,4 @@ mod blink;
 mod phases;
 
 pub use blink::Blink;
+pub use phases::{look_at_phase, next_phase};

@@ -50,7 +50,7 @@ fn differ(a: bool, b: bool) -> bool
 }
 
 /// The phase after this one: 5 leads to 0.
-pub(crate) fn next_phase(phase: u8) -> u8
+pub fn next_phase(phase: u8) -> u8
     requires { phase < 6 }
     ensures next { result ≡ next_phase phase }
     ensures valid { result < 6 }
@@ -72,8 +72,8 @@ fn halved(paint: Paint) -> Paint
     }
 }
 
-/// A look at a phase.
-pub(crate) fn look_at_phase(look: &Look, phase: u8) -> Look
+/// A look at a phase, 0 to 5.
+pub fn look_at_phase(look: &Look, phase: u8) -> Look
     requires { IsValidLook look.now }
     ensures look { result ≡ look_at_phase look.now phase }
     ensures valid { IsValidLook result }

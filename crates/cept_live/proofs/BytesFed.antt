@@ -9,7 +9,7 @@ use Rattle.cept_codes.specs.declared.look.Look.{Look}
 use Rattle.cept_parser.specs.Items.{items, closed_items, reading_within}
 use Rattle.cept_parser.specs.State.{Leads}
 use Rattle.cept_profile.specs.State.{state}
-use Rattle.cept_repaint.specs.Marks.{no_marks}
+use Rattle.cept_redraw.specs.Marks.{no_marks}
 use Rattle.cept_live.specs.declared.notice.Notice.{Notice}
 use Rattle.cept_live.specs.Notices.{Saying, notice_of, sayings_after}
 use Rattle.cept_live.specs.Live.{live_start}

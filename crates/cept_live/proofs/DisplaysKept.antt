@@ -21,7 +21,7 @@ use Rattle.cept_profile.specs.Changes.{changes, changes_between, differences, gr
 use Rattle.cept_profile.specs.Look.{grid, looks_of}
 use Rattle.cept_profile.specs.State.{State, core_of, state}
 use Rattle.cept_profile.proofs.Laws.{grid-none, grid_with_paints-append, grid_with_paints-changes_between}
-use Rattle.cept_repaint.specs.Marks.{is_marked, no_marks}
+use Rattle.cept_redraw.specs.Marks.{is_marked, no_marks}
 use Rattle.cept_live.specs.declared.notice.Notice.{Notice}
 use Rattle.cept_live.specs.Live.{LiveState, live_start, Stands, HasFed, TellsItems, Feeds, Ends}
 use Rattle.cept_live.specs.Notices.{change_sayings, item_sayings, said_sayings, sayings_after}

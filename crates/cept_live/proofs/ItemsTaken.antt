@@ -15,8 +15,7 @@ use Rattle.cept_profile.specs.Changes.{changes, changes_between, marked_looks}
 use Rattle.cept_profile.specs.Look.{looks_of}
 use Rattle.cept_profile.specs.State.{State, state, core_of}
 use Rattle.cept_profile.specs.Valid.{AllValid}
-use Rattle.cept_repaint.specs.Applied.{IsApplied}
-use Rattle.cept_repaint.specs.GlassState.{GlassState}
+use Rattle.cept_repaint.specs.Applied.{GoesOn, IsWritten}
 use Rattle.cept_live.specs.declared.notice.Notice.{Notice}
 use Rattle.cept_live.specs.Notices.{Saying, Refusal, change_sayings, said_sayings, item_sayings, sayings_after}
 use Rattle.cept_live.specs.Live.{Stands, Tells, TakesItems}
@@ -59,8 +58,7 @@ sayings_after-append seen (x ∷ xs) ys =
 -- the command of an item is applied
 pub stands-command : (old new : State) (item : Item) (command : Command) → item.what ≡ said.Command command
     → IsValidCommand command
-    → ((history : List Command) → AllValid history → old ≡ state history → new ≡ state (history ++ command ∷ []))
-    → (seen : List Item) → Stands old seen → Stands new (seen ++ item ∷ [])
+    → GoesOn old command new → (seen : List Item) → Stands old seen → Stands new (seen ++ item ∷ [])
 stands-command old new item command is valid goes_on seen stands = record {
   valid = subst AllValid (sym more) (AllValid-more (commands_of seen) command stands.valid valid);
   is = goes_on (commands_of seen) stands.valid stands.is ∙ ap state (sym more);
@@ -82,15 +80,15 @@ stands-refusal screen item reason is seen stands = record {
 
 -- a command is taken
 pub command_taken : (old new : State) (renewed after : List Bool) (item : Item) (command : Command) (marks : List Bool)
-    (before shown : GlassState) (begun ended : ℕ) (list now : List Notice) (from to : ℕ) → item.what ≡ said.Command command
-    → IsValidCommand command → IsApplied old command new marks before shown begun ended → to ≤ from + 960
+    (begun ended : ℕ) (list now : List Notice) (from to : ℕ) → item.what ≡ said.Command command → IsValidCommand command
+    → GoesOn old command new → IsWritten old command new marks begun ended → to ≤ from + 960
     → TellsMarked list from renewed (change_sayings item.at (marked_looks marks (looks_of (core_of new)))) to now after
     → TakesItems old renewed (item ∷ []) list from new after to now
-command_taken old new renewed after item command marks before shown begun ended list now from to is valid applied most told =
+command_taken old new renewed after item command marks begun ended list now from to is valid goes_on written most told =
     record {
       most = omega (arith, most);
       room = told.tells.room;
-      stands = stands-command old new item command is valid applied.goes_on;
+      stands = stands-command old new item command is valid goes_on;
       tells = λ seen stands. subst (λ (xs : List Saying). Tells list from xs to now) (same seen stands) told.tells;
       marks_are = λ seen stands. told.renews ∙ ap (marked_with renewed) (same seen stands);
     }
@@ -101,8 +99,8 @@ command_taken old new renewed after item command marks before shown begun ended 
     same : (seen : List Item) → Stands old seen
         → change_sayings item.at (marked_looks marks (looks_of (core_of new))) ≡ sayings_after seen (item ∷ [])
     same seen stands =
-        let next : new ≡ state (commands_of seen ++ command ∷ []) = applied.goes_on (commands_of seen) stands.valid stands.is in
-        ap (λ (m : List Bool). change_sayings item.at (marked_looks m (looks_of (core_of new)))) applied.repainted.marks
+        let next : new ≡ state (commands_of seen ++ command ∷ []) = goes_on (commands_of seen) stands.valid stands.is in
+        ap (λ (m : List Bool). change_sayings item.at (marked_looks m (looks_of (core_of new)))) written.marks
         ∙ ap (λ (s : State). change_sayings item.at (changes_between (looks_of (core_of s)) (looks_of (core_of new)))) stands.is
         ∙ ap (λ (s : State). change_sayings item.at (changes_between (looks_of (core_of (state (commands_of seen)))) (looks_of (core_of s))))
         next

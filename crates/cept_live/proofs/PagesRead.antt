@@ -13,7 +13,7 @@ use Rattle.cept_parser.specs.Items.{closed_items, commands, items, reading_withi
 use Rattle.cept_parser.specs.State.{ParserState, running_state}
 use Rattle.cept_profile.specs.Control.{ControlState}
 use Rattle.cept_profile.specs.State.{State, core, core_of, state}
-use Rattle.cept_repaint.specs.Marks.{no_marks}
+use Rattle.cept_redraw.specs.Marks.{no_marks}
 use Rattle.cept_live.specs.Live.{IsPhase, LiveState, Stands}
 use Rattle.cept_live.specs.Parts.{phase_by}
 

@@ -1,6 +1,6 @@
 -- What a phase of flashing changes on what was shown.
-use Rattle.std.proofs.Common.{◌≡◌, ℕ, ◌+◌, ◌<◌, ◌≤◌, Bool, true, false, not, Option, Some, None, List, length, set}
-use Rattle.std.proofs.Common.{refl, sym, ◌∙◌, ap, subst, arith}
+use Rattle.std.proofs.Common.{◌≡◌, ℕ, ◌+◌, ◌<◌, ◌≤◌, Bool, true, false, not, Option, List, length, set}
+use Rattle.std.proofs.Common.{sym, ◌∙◌, ap, subst, arith}
 use Rattle.std.proofs.lemmas.List.{get_or_past}
 use Rattle.std.proofs.lemmas.List.FromFn.{get_or-map-range_with_len, length-map-range_with_len}
 use Rattle.cept_codes.specs.declared.look.Look.{Look}
@@ -11,13 +11,16 @@ use Rattle.cept_codes.specs.Table.{value_at}
 use Rattle.cept_codes.proofs.Laws.{number-lt, number-place_of, place_of-number, value_at-table}
 use Rattle.cept_flash.specs.Phases.{frame, look_at_phase}
 use Rattle.cept_profile.specs.Changes.{differences, look_at, marked_looks}
-use Rattle.cept_repaint.specs.Marks.{IsFirstFrom, is_marked}
+use Rattle.cept_redraw.specs.Marks.{is_marked}
 use Rattle.cept_live.specs.declared.notice.Notice.{Notice}
 use Rattle.cept_live.specs.Live.{Tells}
 use Rattle.cept_live.specs.Notices.{Change, Saying, change_sayings, notice_of}
+use Rattle.cept_live.specs.declared.flashing.Before.{Before}
+use Rattle.cept_live.specs.declared.flashing.Before.TheVariants as befores
 use Rattle.cept_live.specs.Shown.{look_shown, shown_of}
+use Rattle.cept_live.specs.Turning.{look_before, looks_before}
 use Rattle.cept_live.proofs.SayingsTold.{Tells-more, Tells-none, sayings_below, sayings_below-all, sayings_below-next, sayings_below-none}
-use Rattle.cept_live.proofs.SayingsTold.{sayings_below-place, sayings_below-unmarked}
+use Rattle.cept_live.proofs.SayingsTold.{sayings_below-unmarked}
 
 -- ---- one place
 
@@ -51,41 +54,22 @@ look_at-shown_of looks phase renewed p on =
     value_at-table (λ r c. look_shown phase (is_marked renewed (number r c)) (value_at blank_look looks r c)) blank_look
     p.row p.column on
 
-module _ (looks : List (List Look)) (phase : Option ℕ) (renewed : List Bool) (k : ℕ) (p : Place)
-    (on : OnScreen p.row p.column) where
-  -- whether it is shown otherwise at phase k
-  turned-at : is_marked (differences (shown_of looks phase renewed) (frame looks k)) (number p.row p.column)
-      ≡ not (same_look (look_shown phase (is_marked renewed (number p.row p.column)) (look_at looks p)) (look_at (frame looks k) p))
-  turned-at =
-      differences-at (shown_of looks phase renewed) (frame looks k) p on
-      ∙ ap (λ (l : Look). not (same_look l (look_at (frame looks k) p))) (look_at-shown_of looks phase renewed p on)
+-- and as it is shown before a phase begins
+pub look_at-before : (before : Before) (looks : List (List Look)) (renewed : List Bool) (p : Place)
+    → OnScreen p.row p.column → look_at (looks_before before looks renewed) p
+    ≡ look_before before (is_marked renewed (number p.row p.column)) (look_at looks p)
+look_at-before befores.Blank looks renewed p on = value_at-table (λ _ _. blank_look) blank_look p.row p.column on
+look_at-before (befores.Shown phase) looks renewed p on = look_at-shown_of looks phase renewed p on
 
-  -- it was renewed, or nothing flashed
-  pub turned-renewed : look_shown phase (is_marked renewed (number p.row p.column)) (look_at looks p) ≡ look_at looks p
-      → not (same_look (look_at looks p) (look_at (frame looks k) p))
-      ≡ is_marked (differences (shown_of looks phase renewed) (frame looks k)) (number p.row p.column)
-  turned-renewed itself =
-      sym (turned-at ∙ ap (λ (l : Look). not (same_look l (look_at (frame looks k) p))) itself)
-
-  -- it was shown at a phase before
-  pub turned-kept : (before : ℕ) → phase ≡ Some before → is_marked renewed (number p.row p.column) ≡ false
-      → is_marked (differences (frame looks before) (frame looks k)) (number p.row p.column)
-      ≡ is_marked (differences (shown_of looks phase renewed) (frame looks k)) (number p.row p.column)
-  turned-kept before was kept =
-      differences-at (frame looks before) (frame looks k) p on
-      ∙ ap (λ (l : Look). not (same_look l (look_at (frame looks k) p)))
-      (look_at-frame looks before p on
-      ∙ sym (ap (λ (o : Option ℕ). look_shown o (is_marked renewed (number p.row p.column)) (look_at looks p)) was
-      ∙ ap (λ b. look_shown (Some before) b (look_at looks p)) kept))
-      ∙ sym turned-at
-
--- a look that was renewed, or that doesn't flash, is shown as it is
-pub shown-renewed : (phase : Option ℕ) (renewed : Bool) (look : Look) → renewed ≡ true → look_shown phase renewed look ≡ look
-shown-renewed None renewed look e = refl
-shown-renewed (Some k) renewed look e = ap (λ b. look_shown (Some k) b look) e
-
-pub shown-steady : (phase : Option ℕ) (renewed : Bool) (look : Look) → phase ≡ None → look_shown phase renewed look ≡ look
-shown-steady phase renewed look e = ap (λ (o : Option ℕ). look_shown o renewed look) e
+-- whether it is shown otherwise at phase k
+pub turned-at : (before : Before) (looks : List (List Look)) (renewed : List Bool) (k : ℕ) (p : Place)
+    → OnScreen p.row p.column
+    → is_marked (differences (looks_before before looks renewed) (frame looks k)) (number p.row p.column)
+    ≡ not (same_look (look_before before (is_marked renewed (number p.row p.column)) (look_at looks p))
+    (look_at_phase (look_at looks p) k))
+turned-at before looks renewed k p on =
+    differences-at (looks_before before looks renewed) (frame looks k) p on
+    ∙ (λ i. not (same_look (look_at-before before looks renewed p on i) (look_at-frame looks k p on i)))
 
 -- ---- one place after the other
 
@@ -93,16 +77,6 @@ pub turned-none : (list : List Notice) (at : ℕ) (marks : List Bool) (g : List 
     → Tells list 0 (sayings_below at marks g 0) 0 list
 turned-none list at marks g =
     subst (λ (xs : List Saying). Tells list 0 xs 0 list) (sym (sayings_below-none at marks g)) (Tells-none list 0)
-
--- the next marked place
-pub turned-next : (list now : List Notice) (to at : ℕ) (marks : List Bool) (g : List (List Look)) (low : ℕ) (p : Place)
-    → IsFirstFrom marks low p → to < length list → Tells list 0 (sayings_below at marks g low) to now
-    → Tells list 0 (sayings_below at marks g (number p.row p.column + 1)) (to + 1)
-    (set now to (notice_of (Change at p (look_at g p))))
-turned-next list now to at marks g low p first room so_far =
-    subst (λ (xs : List Saying). Tells list 0 xs (to + 1) (set now to (notice_of (Change at p (look_at g p)))))
-    (sym (sayings_below-place at marks g low p first))
-    (Tells-more list now 0 to (sayings_below at marks g low) (Change at p (look_at g p)) room so_far)
 
 -- a place that is marked
 pub turned-told : (list now : List Notice) (to at : ℕ) (marks : List Bool) (g : List (List Look)) (n : ℕ) (p : Place)

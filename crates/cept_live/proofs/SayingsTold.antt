@@ -7,7 +7,7 @@ use Rattle.cept_codes.specs.Place.{Place, number, place_of}
 use Rattle.cept_codes.proofs.Laws.{place_of-number, number-lt}
 use Rattle.cept_profile.specs.Changes.{look_at, marked_looks, marked_looks_below}
 use Rattle.cept_profile.proofs.Laws.{marked_looks_below-next, marked_looks_below-unmarked, marked_looks_below-whole}
-use Rattle.cept_repaint.specs.Marks.{is_marked, IsFirstFrom}
+use Rattle.cept_redraw.specs.Marks.{is_marked, IsFirstFrom}
 use Rattle.cept_live.specs.declared.notice.Notice.{Notice}
 use Rattle.cept_live.specs.Notices.{Saying, Change, Refusal, change_sayings, notice_of}
 use Rattle.cept_live.specs.Live.{Tells}

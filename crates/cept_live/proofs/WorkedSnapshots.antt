@@ -2,7 +2,7 @@
 use Rattle.std.proofs.Common.{◌≡◌, [], ◌∷◌, ◌++◌, refl, replicate}
 use Rattle.cept_parser.specs.declared.context.ColourKind.TheVariants as kinds
 use Rattle.cept_parser.specs.declared.context.Mode.TheVariants as modes
-use Rattle.cept_repaint.specs.Marks.{no_marks}
+use Rattle.cept_redraw.specs.Marks.{no_marks}
 use Rattle.cept_live.specs.Live.{live_start}
 use Rattle.cept_live.specs.Snapshots.{context_bytes, number_bytes, part, snapshot_head}
 

@@ -7,7 +7,7 @@ use Rattle.cept_parser.specs.Items.{items, closed_items, commands_of}
 use Rattle.cept_parser.specs.State.{ParserState, Leads}
 use Rattle.cept_profile.specs.State.{State, state}
 use Rattle.cept_profile.specs.Valid.{AllValid}
-use Rattle.cept_repaint.specs.Marks.{no_marks}
+use Rattle.cept_redraw.specs.Marks.{no_marks}
 use Rattle.cept_live.specs.declared.notice.Notice.{Notice}
 use Rattle.cept_live.specs.Notices.{Saying, notice_of, sayings_after}
 use Rattle.cept_live.specs.Renewed.{marked_with}

@@ -10,7 +10,7 @@ use Rattle.cept_flash.specs.Phases.{frame, look_at_phase, next_phase}
 use Rattle.cept_profile.specs.Changes.{changes_between}
 use Rattle.cept_profile.specs.Look.{looks_of}
 use Rattle.cept_profile.specs.State.{core_of}
-use Rattle.cept_repaint.specs.Marks.{is_marked, no_marks}
+use Rattle.cept_redraw.specs.Marks.{is_marked, no_marks}
 use Rattle.cept_live.specs.declared.notice.Notice.{Notice}
 use Rattle.cept_live.specs.Live.{LiveState, Tells}
 use Rattle.cept_live.specs.Notices.{Saying, Change, Refusal, change_sayings}

@@ -1,14 +1,18 @@
--- What goes together where a display turns from one phase of flashing to the next (this project's own). Private clauses alone cite
--- this file.
-use Rattle.std.specs.Prelude.{◌≡◌, ℕ, Some}
-use Rattle.cept_flash.specs.Phases.{frame}
-use Rattle.cept_profile.specs.Changes.{differences}
-use Rattle.cept_profile.specs.Look.{looks_of}
-use Rattle.cept_profile.specs.State.{core_of}
-use Rattle.cept_live.specs.declared.flashing.Turning.{Turning}
+-- What is shown before a phase of flashing begins (this project's own). Private clauses alone cite this file.
+use Rattle.std.specs.Prelude.{Bool, List}
+use Rattle.cept_codes.specs.declared.look.Look.{Look}
+use Rattle.cept_codes.specs.Look.{blank_look}
+use Rattle.cept_codes.specs.Table.{table}
+use Rattle.cept_live.specs.declared.flashing.Before.{Before}
+use Rattle.cept_live.specs.declared.flashing.Before.TheVariants as befores
+use Rattle.cept_live.specs.Shown.{look_shown, shown_of}
 
--- the blink keeps the looks of the screen, and the places are marked that look otherwise at its phase than at the one before
-pub record IsTurning (t : Turning) : Type 0 where
-  pub looks : t.blink.now.looks ≡ looks_of (core_of t.screen.now)
-  pub turned : (k : ℕ) → t.phase ≡ Some k
-      → t.turned.now ≡ differences (frame t.blink.now.looks k) (frame t.blink.now.looks t.blink.now.phase)
+-- at a place with this look, renewed since a phase began or not
+abbrev pub look_before : Before → Bool → Look → Look
+look_before befores.Blank renewed look = blank_look
+look_before (befores.Shown phase) renewed look = look_shown phase renewed look
+
+-- at all places of a grid of looks
+abbrev pub looks_before : Before → List (List Look) → List Bool → List (List Look)
+looks_before befores.Blank g renewed = table (λ _ _. blank_look)
+looks_before (befores.Shown phase) g renewed = shown_of g phase renewed

@@ -12,7 +12,7 @@ ghost use Rattle.cept_parser.specs.Items.{closed_items, commands_of, items};
 ghost use Rattle.cept_profile.specs.Changes.{changes, changes_between, grid_with_paints};
 ghost use Rattle.cept_profile.specs.Look.{looks_of};
 ghost use Rattle.cept_profile.specs.State.{core_of};
-ghost use Rattle.cept_repaint.specs.Marks.{no_marks};
+ghost use Rattle.cept_redraw.specs.Marks.{no_marks};
 ghost use Rattle.cept_report.specs.Text.{change_lines, refusal_line};
 ghost use Rattle.cept_live.specs.declared.notice.Notice.{Notice};
 ghost use Rattle.cept_live.specs.Lines.{lines_after, lines_of};

@@ -8,7 +8,7 @@ ghost use Rattle.cept_profile.specs.Look.{looks_of};
 ghost use Rattle.cept_profile.specs.State.{core_of};
 ghost use Rattle.cept_writer.specs.CompactCommands.{page_text};
 
-use crate::flashing::{Turning, tell_phase, turn_on};
+use crate::flashing::{Before, Turning};
 use crate::notice::Notice;
 use crate::parts::{Parts, marks_of, parts_of};
 use crate::restore::screen_of;
@@ -18,11 +18,11 @@ use crate::tell::{Display, take_items};
 use crate::writing::{Text, has_bytes, put_front};
 use cept_codes::{NoMemory, Pos};
 use cept_control::Control;
-use cept_flash::Blink;
+use cept_flash::next_phase;
 use cept_outside::{Sink, Steps, WriteFault};
 use cept_parser::{Closed, Parser};
 use cept_profile::validity_is_kept;
-use cept_repaint::{GridGlass, Marks, Screen};
+use cept_repaint::{Marks, Screen};
 use std::alloc::Global;
 use std::marker::{Brand, Model};
 use std::sync::ledger::{Blank, Ledger};
@@ -40,17 +40,15 @@ pub struct Fed {
     pub notices: usize,
 }
 
-/// A decoder, the display of its commands, and the looks that flash on it. All its memory is taken at
-/// the start.
+/// A decoder, the display of its commands, and the phase of flashing that it shows. All its memory is
+/// taken at the start.
 #[derive(Drop)]
 pub struct Live {
     parser: Parser,
     display: Display,
     closed: Closed,
     ended: bool,
-    blink: Blink,
     phase: Option<u8>,
-    fresh: bool,
 }
 
 impl Model for Live {
@@ -66,7 +64,7 @@ impl Model for Live {
       renewed = l.display.renewed;
     } };
 
-    ghost invariant = { λ l. IsInStep l.parser l.display.screen l.phase l.ended l.blink l.fresh };
+    ghost invariant = { λ l. IsInStep l.parser l.phase l.ended };
 }
 
 impl Live {
@@ -77,6 +75,7 @@ impl Live {
     ghost use Rattle.cept_live.specs.Shown.{Begins, phase_after, shown};
     ghost use Rattle.cept_live.specs.Snapshots.{snapshot_of};
     ghost use Rattle.cept_live.specs.States.{state_record};
+    ghost use Rattle.cept_live.specs.Turning.{looks_before};
     ghost use Rattle.cept_live.specs.Written.{Writes};
 
     /// A decoder before the first byte.
@@ -88,15 +87,12 @@ impl Live {
             parser: Parser::new(),
             display: Display {
                 screen: Screen::new(alloc)?,
-                glass: GridGlass::new(alloc)?,
                 marks: Marks::new(),
                 renewed: Marks::new(),
             },
             closed: Closed::new(),
             ended: false,
-            blink: Blink::new(alloc)?,
             phase: None,
-            fresh: false,
         })
     }
 
@@ -117,7 +113,6 @@ impl Live {
         ensures most { result ≤ from + 1920 }
     {
         self.parser.push_into(byte, &mut self.closed);
-        self.fresh = false;
         take_items(self.closed.as_slice(), &mut self.display, list, from, steps)
     }
 
@@ -180,7 +175,6 @@ impl Live {
         let mut steps = Steps::<L>::new(blank);
         let items = self.parser.finish();
         self.ended = true;
-        self.fresh = false;
         take_items(items.as_slice(), &mut self.display, list, 0, &mut steps)
     }
 
@@ -237,6 +231,27 @@ impl Live {
         put_front(alloc, &self.display.screen, out)
     }
 
+    /// Begins a phase of flashing: tells the places that are shown otherwise at it, from the start of
+    /// the list on. Answers how many.
+    fn begin(&mut self, before: Before, phase: u8, list: &mut [Notice]) -> usize
+        requires room { 960 ≤ length list.old }
+        requires phase { phase < 6 }
+        ensures { Begins self.old
+            (looks_before before (looks_of (core_of self.old.screen)) self.old.renewed) phase list.old
+            self.new result list.new }
+    {
+        let turning = Turning {
+            before,
+            renewed: &self.display.renewed,
+            screen: &self.display.screen,
+            phase,
+        };
+        let to = turning.tell(self.parser.place(), list);
+        self.display.renewed.clear();
+        self.phase = Some(phase);
+        to
+    }
+
     /// Begins the first phase of flashing over a blank display: tells the places that are not blank
     /// at it, with their looks there, from the start of the list on. Answers how many; none where the
     /// list has room for fewer than 960: all stays then.
@@ -249,13 +264,7 @@ impl Live {
         if list.len() < ROOM_FOR_A_PHASE {
             return None;
         }
-        let display = &mut self.display;
-        self.blink.start(&display.screen, &mut display.marks);
-        display.renewed.clear();
-        self.phase = Some(0);
-        self.fresh = true;
-        let at = self.parser.place();
-        Some(tell_phase(at, &self.display.marks, &self.blink, list))
+        Some(self.begin(Before::Blank, 0, list))
     }
 
     /// Begins the next phase of flashing over what is shown, after the last the first, and where none
@@ -271,25 +280,11 @@ impl Live {
         if list.len() < ROOM_FOR_A_PHASE {
             return None;
         }
-        turn_on(
-            &mut self.blink,
-            &self.display.screen,
-            self.phase,
-            self.fresh,
-            &mut self.display.marks,
-        );
-        let turning = Turning {
-            phase: self.phase,
-            renewed: &self.display.renewed,
-            turned: &self.display.marks,
-            screen: &self.display.screen,
-            blink: &self.blink,
+        let phase = match self.phase {
+            None => 0,
+            Some(before) => next_phase(before),
         };
-        let to = turning.tell(self.parser.place(), list);
-        self.display.renewed.clear();
-        self.phase = Some(self.blink.phase());
-        self.fresh = true;
-        Some(to)
+        Some(self.begin(Before::Shown(self.phase), phase, list))
     }
 
     /// Puts a snapshot, all of the state of a decoder that runs, at the front of `out`, where there is
@@ -321,23 +316,19 @@ impl Live {
         let Some(control) = Control::of_bytes(parts.control) else {
             return Ok(None);
         };
-        let mut glass = GridGlass::new(alloc)?;
-        let Some(screen) = screen_of(alloc, parts.page, &control, &mut glass)? else {
+        let Some(screen) = screen_of(alloc, parts.page, &control)? else {
             return Ok(None);
         };
         Ok(Some(Live {
             parser,
             display: Display {
                 screen,
-                glass,
                 marks: Marks::new(),
                 renewed: marks_of(parts.renewed),
             },
             closed: Closed::new(),
             ended: false,
-            blink: Blink::new(alloc)?,
             phase: parts.phase,
-            fresh: false,
         }))
     }
 

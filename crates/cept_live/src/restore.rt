@@ -14,35 +14,28 @@ use cept_codes::{Item, NoMemory, Said};
 use cept_control::Control;
 use cept_outside::Steps;
 use cept_parser::{Closed, Parser};
-use cept_repaint::{Glass, Marks, Screen};
+use cept_repaint::{Marks, Screen};
 use cept_writer::compact_texts_bring_pages_back;
 use std::alloc::Global;
 use std::marker::Brand;
 use std::sync::ledger::{Blank, Ledger};
 
 /// Applies the command of an item, if it says one.
-fn apply_item<G: Glass, L: Ledger>(
-    item: &Item,
-    screen: &mut Screen,
-    glass: &mut G,
-    marks: &mut Marks,
-    steps: &mut Steps<L>,
-)
+fn apply_item<L: Ledger>(item: &Item, screen: &mut Screen, marks: &mut Marks, steps: &mut Steps<L>)
     requires { IsValidSaid item.now.what }
     ensures { (seen : List Item) → Stands screen.old seen
         → Stands screen.new (seen ++ item.now ∷ []) }
 {
     match &item.what {
-        Said::Command(command) => screen.apply_from(command, glass, marks, steps),
+        Said::Command(command) => screen.apply_unseen(command, marks, steps),
         Said::Refused(_) => {}
     }
 }
 
 /// Applies the commands of items one after the other.
-fn apply_items<G: Glass, L: Ledger>(
+fn apply_items<L: Ledger>(
     items: &[Item],
     screen: &mut Screen,
-    glass: &mut G,
     marks: &mut Marks,
     steps: &mut Steps<L>,
 )
@@ -51,12 +44,12 @@ fn apply_items<G: Glass, L: Ledger>(
         → Stands screen.new (seen ++ items.now) }
 {
     for item in items {
-        apply_item(item, screen, glass, marks, steps);
+        apply_item(item, screen, marks, steps);
     }
 }
 
 /// Reads the bytes of a page to their end, and applies its commands to a screen at the start.
-fn read_into<G: Glass, L: Ledger>(page: &[u8], screen: &mut Screen, glass: &mut G, blank: Blank)
+fn read_into<L: Ledger>(page: &[u8], screen: &mut Screen, blank: Blank)
     requires few { length page.now < 2 ^ 32 }
     requires start { screen.old ≡ state [] }
     requires name { blank.name ≡ L.name }
@@ -70,31 +63,26 @@ fn read_into<G: Glass, L: Ledger>(page: &[u8], screen: &mut Screen, glass: &mut 
     let mut marks = Marks::new();
     for byte in page {
         parser.push_into(*byte, &mut closed);
-        apply_items(closed.as_slice(), screen, glass, &mut marks, &mut steps);
+        apply_items(closed.as_slice(), screen, &mut marks, &mut steps);
     }
     let last = parser.finish();
-    apply_items(last.as_slice(), screen, glass, &mut marks, &mut steps);
+    apply_items(last.as_slice(), screen, &mut marks, &mut steps);
 }
 
-/// The screen after the bytes of a page. What it shows is painted on a glass.
-pub fn read_page<G: Glass>(alloc: Global, page: &[u8], glass: &mut G) -> Result<Screen, NoMemory>
+/// The screen after the bytes of a page.
+pub fn read_page(alloc: Global, page: &[u8]) -> Result<Screen, NoMemory>
     requires { length page.now < 2 ^ 32 }
     ensures { IfOk result (λ screen. Stands screen (closed_items page.now)) }
 {
     let mut screen = Screen::new(alloc)?;
     let blank = Blank::new(1);
-    read_into::<G, Brand>(page, &mut screen, glass, blank);
+    read_into::<Brand>(page, &mut screen, blank);
     Ok(screen)
 }
 
 /// The screen of a written page with this control, none where the page has other settings than
 /// control has.
-pub fn screen_of<G: Glass>(
-    alloc: Global,
-    page: &[u8],
-    control: &Control,
-    glass: &mut G,
-) -> Result<Option<Screen>, NoMemory>
+pub fn screen_of(alloc: Global, page: &[u8], control: &Control) -> Result<Option<Screen>, NoMemory>
     requires { length page.now < 2 ^ 32 }
     ensures { (history : List Command) → AllValid history
         → page_text (core history) ≡ page.now → control.now ≡ (state history).control
@@ -102,7 +90,7 @@ pub fn screen_of<G: Glass>(
 {
     // A law: the bytes of a written page bring its core back.
     compact_texts_bring_pages_back();
-    let mut screen = read_page(alloc, page, glass)?;
+    let mut screen = read_page(alloc, page)?;
     if screen.take_control(control) {
         Ok(Some(screen))
     } else {

@@ -12,15 +12,14 @@ ghost use Rattle.cept_live.specs.Renewed.{marked_with};
 use crate::notice::Notice;
 use cept_codes::{Item, Reason, Said};
 use cept_outside::Steps;
-use cept_repaint::{GridGlass, Marks, Screen};
+use cept_repaint::{Marks, Screen};
 use std::sync::ledger::Ledger;
 
-/// What commands are applied to: the screen, the glass on which it is painted, the places that the
-/// last command changed, and those that items changed since the phase of flashing began.
+/// What commands are applied to: the screen, the places that the last command changed, and those that
+/// items changed since the phase of flashing began.
 #[derive(Drop)]
 pub(crate) struct Display {
     pub screen: Screen,
-    pub glass: GridGlass,
     pub marks: Marks,
     pub renewed: Marks,
 }
@@ -79,13 +78,12 @@ fn take_item<L: Ledger>(
 {
     let Display {
         screen,
-        glass,
         marks,
         renewed,
     } = display;
     match &item.what {
         Said::Command(command) => {
-            screen.apply_from(command, glass, marks, steps);
+            screen.apply_unseen(command, marks, steps);
             tell_marked(item.at, marks, screen, renewed, list, from)
         }
         Said::Refused(reason) => tell_refusal(item.at, item.len, *reason, list, from),

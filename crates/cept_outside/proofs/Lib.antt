@@ -5,3 +5,4 @@ mod PartsOfTexts
 pub mod Laws
 mod PutSoFar
 mod NumbersReached
+mod Worked

@@ -49,6 +49,8 @@ Gains-nil s = record {
   bytes = append_known-nil s.bytes;
   counted = count_after-nil s.count;
   room = refl;
+  flushes = refl;
+  always = refl;
   unflushed = λ h. absurd (omega (arith, h));
   unflushed_stays = λ _. refl;
 }
@@ -70,6 +72,8 @@ Gains-append a b c xs ys first second = record {
   counted = second.counted ∙ ap (λ n. count_after n (length ys)) first.counted
       ∙ count_after-more a.count (length xs) (length ys) ∙ ap (count_after a.count) (sym (length-append xs ys));
   room = second.room ∙ first.room;
+  flushes = second.flushes ∙ first.flushes;
+  always = second.always ∙ first.always;
   unflushed = λ some. unflushed_after a b c xs ys first second some;
   unflushed_stays = λ none.
       let counts : length xs + length ys ≡ 0 = sym (length-append xs ys) ∙ ap length none in

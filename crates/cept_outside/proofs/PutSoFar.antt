@@ -55,6 +55,8 @@ IsPutSoFar-more text rest next n old mid new is so_far puts stays =
               more,
             ));
         room = puts.room ∙ so_far.put.room;
+        flushes = puts.flushes ∙ so_far.put.flushes;
+        always = puts.always ∙ so_far.put.always;
         unflushed = λ _. puts.unflushed;
         unflushed_stays = λ e. absurd (omega (
           arith,

@@ -1,6 +1,6 @@
 -- A sink in memory, of a fixed room, whose calls fail where they are told to and at puts into a full list. This
 -- project's own.
-use Rattle.std.specs.Prelude.{ℕ, List}
+use Rattle.std.specs.Prelude.{ℕ, false, List}
 use Rattle.cept_outside.specs.declared.mem_sink.MemSink.{MemSink}
 use Rattle.cept_outside.specs.Calls.{faults_of}
 use Rattle.cept_outside.specs.PlainSink.{plain_sink_room, plain_sink_state}
@@ -22,8 +22,10 @@ mem_sink_numbers sink = sink.calls.numbers.items
 abbrev pub mem_sink_refused : MemSink → ℕ
 mem_sink_refused sink = sink.list.refused
 
--- it tells its bytes and its room; its faults are the numbers that are reached, and the puts into a full list
+-- it tells its bytes and its room, and its flush may fail; its faults are the numbers that are reached, and the puts into
+-- a full list
 abbrev pub mem_sink_state : MemSink → SinkState
 mem_sink_state sink = record (plain_sink_state sink.list) {
+  always_flushes = false;
   faults = faults_of sink.calls.numbers.items sink.calls.count sink.list.refused;
 }

@@ -1,5 +1,5 @@
 -- A sink in memory, of a fixed room, that fails only at a put into a full list. This project's own.
-use Rattle.std.specs.Prelude.{ℕ, List, Some, length}
+use Rattle.std.specs.Prelude.{ℕ, true, List, Some, length}
 use Rattle.cept_outside.specs.declared.plain_sink.PlainSink.{PlainSink}
 use Rattle.cept_outside.specs.SinkState.{SinkState}
 
@@ -11,12 +11,14 @@ plain_sink_bytes sink = sink.bytes.items
 abbrev pub plain_sink_room : PlainSink → ℕ
 plain_sink_room sink = sink.room
 
--- it tells its bytes and its room; its faults are the puts into a full list
+-- it tells its bytes and its room, and no flush fails; its faults are the puts into a full list
 abbrev pub plain_sink_state : PlainSink → SinkState
 plain_sink_state sink = record {
   bytes = Some sink.bytes.items;
   count = Some (length sink.bytes.items);
   room = Some sink.room;
   unflushed = sink.unflushed;
+  flushes = sink.flushes;
+  always_flushes = true;
   faults = sink.refused;
 }

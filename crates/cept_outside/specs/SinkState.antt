@@ -1,6 +1,6 @@
 -- A sink: bytes are put at its end, and flushed. This project's own.
 use Rattle.std.specs.Prelude.{◌≡◌, ℕ, ◌+◌, ◌-◌, ◌^◌, ◌<◌, ◌≤◌, min, Bool, true, false, List, [], take, length, Option}
-use Rattle.std.specs.Prelude.{Result, OnOk, OnErr, IfOk}
+use Rattle.std.specs.Prelude.{Result, OnOk, OnErr, IfOk, IsOk}
 use Rattle.std.specs.Io.KnownBytes.{append_known}
 use Rattle.std.specs.Option.{option_map}
 use Rattle.cept_outside.specs.Causes.{HasCause}
@@ -15,12 +15,20 @@ pub record SinkState : Type 0 where
   pub room : Option ℕ
   -- bytes were put since the last flush that succeeded
   pub unflushed : Bool
+  -- how many flushes succeeded, up to the greatest u64
+  pub flushes : ℕ
+  -- no flush fails: a fact that stays
+  pub always_flushes : Bool
   -- the count of faults, which never falls: no call fails where it doesn't rise
   pub faults : ℕ
 
 -- a count after so many more bytes, where it is told: it stands still at the greatest u64
 abbrev pub count_after : Option ℕ → ℕ → Option ℕ
 count_after count more = option_map (λ n. n + min more (2 ^ 64 - 1 - n)) count
+
+-- a count of flushes after one more: it stands still at the greatest u64
+abbrev pub one_more : ℕ → ℕ
+one_more flushes = min (flushes + 1) (2 ^ 64 - 1)
 
 -- the front of the piece is appended, at least a byte; a failure appends nothing
 pub record Puts {E : Type 0} (old : SinkState) (piece : List ℕ) (result : Result ℕ E) (new : SinkState) : Type 0 where
@@ -29,22 +37,28 @@ pub record Puts {E : Type 0} (old : SinkState) (piece : List ℕ) (result : Resu
   pub appended : IfOk result (λ n. new.bytes ≡ append_known old.bytes (take n piece))
   pub counted : IfOk result (λ n. new.count ≡ count_after old.count n)
   pub room : new.room ≡ old.room
+  pub flushes : new.flushes ≡ old.flushes
+  pub always : new.always_flushes ≡ old.always_flushes
   pub unflushed : OnOk result (new.unflushed ≡ true)
   pub failed : OnErr result ((new.bytes ≡ old.bytes) × (new.count ≡ old.count) × (new.unflushed ≡ old.unflushed))
 
--- nothing is appended, and after a success nothing is unflushed
+-- nothing is appended, and after a success, which is counted, nothing is unflushed
 pub record Flushes {X E : Type 0} (old : SinkState) (result : Result X E) (new : SinkState) : Type 0 where
   pub bytes : new.bytes ≡ old.bytes
   pub count : new.count ≡ old.count
   pub room : new.room ≡ old.room
-  pub flushed : OnOk result (new.unflushed ≡ false)
-  pub failed : OnErr result (new.unflushed ≡ old.unflushed)
+  pub always : new.always_flushes ≡ old.always_flushes
+  pub sure : old.always_flushes ≡ true → IsOk result
+  pub flushed : OnOk result ((new.unflushed ≡ false) × (new.flushes ≡ one_more old.flushes))
+  pub failed : OnErr result ((new.unflushed ≡ old.unflushed) × (new.flushes ≡ old.flushes))
 
--- these bytes were put, in one call or several; unflushed stays where there are none
+-- these bytes were put, in one call or several, and nothing was flushed; unflushed stays where there are none
 pub record Gains (old : SinkState) (part : List ℕ) (new : SinkState) : Type 0 where
   pub bytes : new.bytes ≡ append_known old.bytes part
   pub counted : new.count ≡ count_after old.count (length part)
   pub room : new.room ≡ old.room
+  pub flushes : new.flushes ≡ old.flushes
+  pub always : new.always_flushes ≡ old.always_flushes
   pub unflushed : 0 < length part → new.unflushed ≡ true
   pub unflushed_stays : part ≡ [] → new.unflushed ≡ old.unflushed
 

@@ -1,5 +1,5 @@
 -- A sink that hands its bytes on to a writer, and holds some of them back for a while. This project's own.
-use Rattle.std.specs.Prelude.{ℕ, ◌-◌, List, length, Option, None, drop, nat_lt, ◌||◌}
+use Rattle.std.specs.Prelude.{ℕ, ◌-◌, false, List, length, Option, None, drop, nat_lt, ◌||◌}
 use Rattle.std.specs.Io.KnownBytes.{append_known}
 use Rattle.cept_outside.specs.declared.std_sink.StdSink.{StdSink}
 use Rattle.cept_outside.specs.SinkState.{SinkState}
@@ -12,6 +12,8 @@ module _ {W : Type 0} where
     count = None;
     room = None;
     unflushed = nat_lt sink.sent (length sink.held.items) || sink.writer.unflushed;
+    flushes = sink.writer.flushes;
+    always_flushes = false;
     faults = sink.writer.faults.count;
   }
 

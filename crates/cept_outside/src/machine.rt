@@ -6,6 +6,7 @@ ghost use Rattle.std.specs.Prelude.{is_some, IsSome, IsOk, IsErr, IfOk, OnOk, On
 ghost use Rattle.std.specs.Io.KnownBytes.{Keeps, ReadConsumes, WriteAppends};
 ghost use Rattle.cept_outside.specs.Causes.{HasCause};
 ghost use Rattle.cept_outside.specs.Machine.{bytes_ahead};
+ghost use Rattle.cept_outside.specs.SinkState.{one_more};
 
 use crate::fault::Failed;
 use std::fs;
@@ -116,11 +117,13 @@ impl<'a, R: Files> Reader<'a, R> {
     }
 }
 
-/// A writer, and whether bytes were written since its last flush that succeeded.
+/// A writer, whether bytes were written since its last flush that succeeded, and how many did, up to
+/// the greatest u64.
 #[derive(Drop)]
 pub struct Writer<W> {
     out: W,
     unflushed: bool,
+    flushes: u64,
     faults: Faults,
 }
 
@@ -129,11 +132,13 @@ impl<W: Write> Writer<W> {
     pub fn new(out: W) -> Writer<W>
         ensures out { result.out ≡ out }
         ensures unflushed { result.unflushed ≡ false }
+        ensures flushes { result.flushes ≡ 0 }
         ensures faults { result.faults.count ≡ 0 }
     {
         Writer {
             out,
             unflushed: false,
+            flushes: 0,
             faults: Faults::new(),
         }
     }
@@ -147,6 +152,7 @@ impl<W: Write> Writer<W> {
             bytes.now }
         ensures unflushed { OnOk result (self.new.unflushed ≡ true) }
         ensures failed { OnErr result (self.new.unflushed ≡ self.old.unflushed) }
+        ensures flushes { self.new.flushes ≡ self.old.flushes }
         ensures cause { HasCause self.old.faults.count self.new.faults.count result }
     {
         let answer = self.out.write(bytes);
@@ -161,13 +167,16 @@ impl<W: Write> Writer<W> {
     /// Flushes the writer.
     pub fn flush(&mut self) -> Result<(), Failed>
         ensures kept { Keeps (W.contents self.old.out) (W.contents self.new.out) }
-        ensures flushed { OnOk result (self.new.unflushed ≡ false) }
-        ensures failed { OnErr result (self.new.unflushed ≡ self.old.unflushed) }
+        ensures flushed { OnOk result ((self.new.unflushed ≡ false)
+            × (self.new.flushes ≡ one_more self.old.flushes)) }
+        ensures failed { OnErr result ((self.new.unflushed ≡ self.old.unflushed)
+            × (self.new.flushes ≡ self.old.flushes)) }
         ensures cause { HasCause self.old.faults.count self.new.faults.count result }
     {
         let answer = self.out.flush();
         self.faults.judge(answer)?;
         self.unflushed = false;
+        self.flushes = self.flushes.saturating_add(1);
         Ok(())
     }
 }

@@ -29,7 +29,15 @@ impl MemSink {
     /// An empty list with room for so many bytes, whose calls don't fail.
     pub fn new(alloc: Global, room: u32) -> Result<MemSink, NoMemory>
         ensures state { IfOk result (λ sink. mem_sink_state sink
-            ≡ record { bytes = Some []; count = Some 0; room = Some room; unflushed = false; faults = 0 }) }
+            ≡ record {
+              bytes = Some [];
+              count = Some 0;
+              room = Some room;
+              unflushed = false;
+              flushes = 0;
+              always_flushes = false;
+              faults = 0;
+            }) }
         ensures room { IfOk result (λ sink. mem_sink_room sink ≡ room) }
         ensures count { IfOk result (λ sink. mem_sink_count sink ≡ 0) }
         ensures numbers { IfOk result (λ sink. mem_sink_numbers sink ≡ []) }

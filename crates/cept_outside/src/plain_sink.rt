@@ -1,5 +1,5 @@
 ghost use Rattle.std.specs.Prelude.{◌≡◌, ℕ, ◌+◌, ◌-◌, ◌^◌, ◌<◌, ◌≤◌, ◌↔◌, min, List, []};
-ghost use Rattle.std.specs.Prelude.{length, Some, false};
+ghost use Rattle.std.specs.Prelude.{length, Some, false, true};
 ghost use Rattle.std.specs.Prelude.{nat_le, nat_lt, IsErr, IsOk, IfOk, vec_len, vec_capacity};
 ghost use Rattle.std.specs.Prelude.{if◌then◌else◌};
 ghost use Rattle.cept_outside.specs.Causes.{HasCause};
@@ -16,6 +16,7 @@ pub struct PlainSink {
     bytes: Vec<u8>,
     room: usize,
     unflushed: bool,
+    flushes: u64,
     refused: u64,
     ghost reserved: { room ≤ vec_capacity bytes },
     ghost within: { vec_len bytes ≤ room },
@@ -35,6 +36,8 @@ impl PlainSink {
               count = Some 0;
               room = Some room;
               unflushed = false;
+              flushes = 0;
+              always_flushes = true;
               faults = 0;
             }) }
     {
@@ -43,6 +46,7 @@ impl PlainSink {
             bytes: Vec::with_capacity(alloc, room)?,
             room,
             unflushed: false,
+            flushes: 0,
             refused: 0,
         })
     }
@@ -110,6 +114,7 @@ impl Sink for PlainSink {
         ensures never_fails { IsOk result }
     {
         self.unflushed = false;
+        self.flushes = self.flushes.saturating_add(1);
         Ok(())
     }
 }

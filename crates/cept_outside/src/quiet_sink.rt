@@ -1,4 +1,4 @@
-ghost use Rattle.std.specs.Prelude.{◌≡◌, ◌+◌, ◌-◌, ◌^◌, ◌<◌, min, length, Some, None, Ok, IsOk, false};
+ghost use Rattle.std.specs.Prelude.{◌≡◌, ◌+◌, ◌-◌, ◌^◌, ◌<◌, min, length, Some, None, Ok, IsOk, false, true};
 ghost use Rattle.cept_outside.specs.Causes.{HasCause};
 ghost use Rattle.cept_outside.specs.SinkState.{Puts, Flushes};
 
@@ -11,6 +11,7 @@ use crate::sink::Sink;
 pub struct QuietSink {
     count: u64,
     unflushed: bool,
+    flushes: u64,
 }
 
 impl QuietSink {
@@ -19,12 +20,21 @@ impl QuietSink {
     /// A sink that nothing was put into.
     pub fn new() -> QuietSink
         ensures state { quiet_sink_state result
-            ≡ record { bytes = None; count = Some 0; room = None; unflushed = false; faults = 0 } }
+            ≡ record {
+              bytes = None;
+              count = Some 0;
+              room = None;
+              unflushed = false;
+              flushes = 0;
+              always_flushes = true;
+              faults = 0;
+            } }
         ensures count { quiet_sink_count result ≡ 0 }
     {
         QuietSink {
             count: 0,
             unflushed: false,
+            flushes: 0,
         }
     }
 
@@ -67,6 +77,7 @@ impl Sink for QuietSink {
         ensures count { quiet_sink_count self.new ≡ quiet_sink_count self.old }
     {
         self.unflushed = false;
+        self.flushes = self.flushes.saturating_add(1);
         Ok(())
     }
 }

@@ -6,7 +6,8 @@ use crate::fault::Failed;
 
 /// A place where bytes are put one after the other.
 pub trait Sink {
-    /// The bytes put, whether some of them aren't flushed, and the count of faults.
+    /// The bytes put, whether some of them aren't flushed, how many flushes succeeded, whether one can
+    /// fail, and the count of faults.
     ghost state: { Self → SinkState };
 
     /// Puts the front of the piece and answers how many bytes, at least one. A failure puts

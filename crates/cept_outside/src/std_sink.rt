@@ -32,7 +32,15 @@ impl<W: Write> StdSink<W> {
     /// Nothing is held back.
     pub fn new(out: W) -> StdSink<W>
         ensures state { std_sink_state result
-            ≡ record { bytes = None; count = None; room = None; unflushed = false; faults = 0 } }
+            ≡ record {
+              bytes = None;
+              count = None;
+              room = None;
+              unflushed = false;
+              flushes = 0;
+              always_flushes = false;
+              faults = 0;
+            } }
         ensures held { held_bytes result ≡ [] }
         ensures free { free_room result ≡ 4096 }
         ensures kept { Keeps (W.contents out) (written_and_held W.contents result) }
@@ -50,6 +58,7 @@ impl<W: Write> StdSink<W> {
             result }
         ensures unflushed { (std_sink_state self.new).unflushed
             ≡ (std_sink_state self.old).unflushed }
+        ensures flushes { (std_sink_state self.new).flushes ≡ (std_sink_state self.old).flushes }
         ensures kept { Keeps (written_and_held W.contents self.old)
             (written_and_held W.contents self.new) }
         ensures all { OnOk result (held_bytes self.new ≡ []) }

@@ -12,7 +12,8 @@ use Rattle.cept_profile.specs.Valid.{AllValid}
 use Rattle.cept_profile.proofs.Laws.{grid_with_paints-append}
 use Rattle.cept_repaint.specs.Applied.{IsApplied}
 use Rattle.cept_repaint.specs.GlassState.{GlassState, Lists}
-use Rattle.cept_plot.specs.Painted.{changes_of_all, rows_in_reach_of_all, state_after_all}
+use Rattle.cept_plot.specs.Painted.{changes_of_all}
+use Rattle.cept_repaint.specs.InTurn.{rows_in_reach_of_all, rows_renewed_by_all, state_after_all}
 use Rattle.cept_plot.specs.ValidPainted.{ArePaintedAndValid}
 
 -- ---- the commands of two lists
@@ -41,6 +42,14 @@ rows_in_reach_of_all-append s [] second = omega arith
 rows_in_reach_of_all-append s (c ∷ first) second =
     omega (arith, rows_in_reach_of_all-append (state_after s c) first second)
 
+rows_renewed_by_all-append : (s : State) (first second : List Command)
+    → rows_renewed_by_all s (first ++ second)
+    ≡ rows_renewed_by_all s first + rows_renewed_by_all (state_after_all s first) second
+unfolding rows_renewed_by_all state_after_all
+rows_renewed_by_all-append s [] second = omega arith
+rows_renewed_by_all-append s (c ∷ first) second =
+    omega (arith, rows_renewed_by_all-append (state_after s c) first second)
+
 pub AllValid-append : (first second : List Command) → AllValid first → AllValid second → AllValid (first ++ second)
 AllValid-append [] second former latter = latter
 AllValid-append (c ∷ first) second former latter = (former.0, AllValid-append first second former.1 latter)
@@ -62,7 +71,7 @@ Lists-more before mid after xs ys a b = record {
 -- ---- no command, one, and others after them
 
 pub painted_none : (s : State) (g : GlassState) (n : ℕ) → ArePaintedAndValid [] s s g g n n
-unfolding state_after_all changes_of_all rows_in_reach_of_all grid_with_paints
+unfolding state_after_all changes_of_all rows_in_reach_of_all rows_renewed_by_all grid_with_paints
 painted_none s g n = record {
   valid = tt;
   in_turn = record {
@@ -71,13 +80,14 @@ painted_none s g n = record {
     shown = refl;
     told = Lists-none g.paints;
     cost = omega arith;
+    least = omega arith;
   };
 }
 
 pub painted_one : {c : Command} {old new : State} {marked : List Bool} {before now : GlassState} {from to : ℕ}
     → IsValidCommand c → IsApplied old c new marked before now from to
     → ArePaintedAndValid (c ∷ []) old new before now from to
-unfolding state_after_all changes_of_all rows_in_reach_of_all
+unfolding state_after_all changes_of_all rows_in_reach_of_all rows_renewed_by_all
 painted_one {c} {old} {new} {marked} {before} {now} {from} {to} valid is =
     let here = changes_between (looks_of (core_of old)) (looks_of (core_of new)) in
     let there = changes_between (looks_of (core_of old)) (looks_of (core_of (state_after old c))) in
@@ -91,6 +101,7 @@ painted_one {c} {old} {new} {marked} {before} {now} {from} {to} valid is =
         shown = is.repainted.shown ∙ ap (λ (l : List (Place × Look)). grid_with_paints before.grid l) same;
         told = subst (λ (l : List (Place × Look)). Lists before.paints l now.paints) same is.repainted.told;
         cost = omega (arith, is.cost);
+        least = omega (arith, is.least);
       };
     }
 
@@ -106,6 +117,9 @@ painted_more {first} {second} {a} {b} {c} {x} {y} {z} {i} {j} {k} one two =
     let rows : rows_in_reach_of_all a first + rows_in_reach_of_all b second ≡ rows_in_reach_of_all a (first ++ second) =
     ap (λ (s : State). rows_in_reach_of_all a first + rows_in_reach_of_all s second) was.after
     ∙ sym (rows_in_reach_of_all-append a first second) in
+    let anew : rows_renewed_by_all a first + rows_renewed_by_all b second ≡ rows_renewed_by_all a (first ++ second) =
+    ap (λ (s : State). rows_renewed_by_all a first + rows_renewed_by_all s second) was.after
+    ∙ sym (rows_renewed_by_all-append a first second) in
     record {
       valid = AllValid-append first second one.valid two.valid;
       in_turn = record {
@@ -120,5 +134,6 @@ painted_more {first} {second} {a} {b} {c} {x} {y} {z} {i} {j} {k} one two =
         told = subst (λ (l : List (Place × Look)). Lists x.paints l z.paints) changes
             (Lists-more x.paints y.paints z.paints front (changes_of_all b second) was.told is.told);
         cost = omega (arith, was.cost, is.cost, rows);
+        least = omega (arith, was.least, is.least, anew);
       };
     }

@@ -4,7 +4,7 @@ ghost use Rattle.std.specs.Prelude.{◌≡◌, ℕ, Bool, List};
 ghost use Rattle.cept_plot.specs.declared.figure.Figure.{Figure};
 ghost use Rattle.cept_plot.specs.Commands.{IsDrawnOn, drawn};
 ghost use Rattle.cept_plot.specs.Drawings.{points_after_all};
-ghost use Rattle.cept_plot.specs.Painted.{state_after_all};
+ghost use Rattle.cept_repaint.specs.InTurn.{state_after_all};
 ghost use Rattle.cept_plot.specs.Points.{OnField};
 ghost use Rattle.cept_profile.specs.State.{Core, State, core_of};
 ghost use Rattle.cept_profile.specs.Valid.{AllValid, IsValidState};

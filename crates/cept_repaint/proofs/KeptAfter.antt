@@ -14,15 +14,16 @@ use Rattle.cept_profile.specs.Strokes.{strokes_of}
 use Rattle.cept_profile.specs.Valid.{IsValidState}
 use Rattle.cept_profile.proofs.Laws.{IsValidState-state_after}
 use Rattle.cept_profile.specs.Reach.{rows_in_reach}
-use Rattle.cept_repaint.specs.Kept.{AreEdges, AreLooksOn, core_on}
-use Rattle.cept_repaint.specs.Named.{AreNamed, AreNamedOn, IsKept, NamesOfRows}
-use Rattle.cept_repaint.specs.Renewed.{rows_renewed, rows_renewed_by}
-use Rattle.cept_repaint.specs.Resolved.{rows_resolved_by}
+use Rattle.cept_page.proofs.Laws.{page_after-none}
+use Rattle.cept_redraw.specs.Kept.{AreEdges, AreLooksOn, core_on}
+use Rattle.cept_redraw.specs.Named.{AreNamed, AreNamedOn, NamesOfRows}
+use Rattle.cept_redraw.specs.Renewed.{rows_renewed}
+use Rattle.cept_redraw.specs.Resolved.{rows_resolved_by}
+use Rattle.cept_redraw.proofs.Laws.{AreNamed-alike, AreLooksOn-one}
+use Rattle.cept_repaint.specs.Kept.{IsKept}
+use Rattle.cept_repaint.specs.Applied.{rows_renewed_by}
 use Rattle.cept_repaint.proofs.MixedCommands.{resolved-in_reach}
-use Rattle.cept_repaint.proofs.RedefinedRows.{AreNamed-alike}
-use Rattle.cept_repaint.proofs.OnePlace.{page_after-none}
 use Rattle.cept_profile.proofs.Laws.{looks_of-alike}
-use Rattle.cept_repaint.proofs.WalkedRows.{AreLooksOn-one}
 
 -- two states of the same page and the same control are the same
 pub same_state : (p q : Page) (c d : ControlState) → p ≡ q → c ≡ d

@@ -8,25 +8,23 @@ use Rattle.cept_codes.specs.Stroke.{IsValidStroke}
 use Rattle.cept_profile.specs.Control.{ControlState, control_after}
 use Rattle.cept_profile.specs.Edges.{Edges, edges_of}
 use Rattle.cept_profile.specs.Look.{looks_of}
-use Rattle.cept_profile.specs.OldValues.{OldValues, page_unwound, unwound}
+use Rattle.cept_profile.specs.OldValues.{OldValues, page_unwound}
 use Rattle.cept_profile.specs.Reach.{rows_in_reach}
 use Rattle.cept_profile.specs.State.{Page, State, core_of, page_after, state_after}
 use Rattle.cept_profile.specs.Strokes.{strokes_of}
 use Rattle.cept_profile.specs.Valid.{IsValidPage, IsValidState}
 use Rattle.cept_profile.proofs.Laws.{IsValidState-state_after, rows_in_reach-le}
-use Rattle.cept_repaint.specs.declared.picture.Picture.{Picture}
+use Rattle.cept_page.specs.Behind.{page_behind}
+use Rattle.cept_redraw.specs.declared.picture.Picture.{Picture}
+use Rattle.cept_redraw.specs.Picture.{AreDrawable, AreTicksOf, IsKeptOn, IsNotedAlong, IsRedrawn, IsRestored}
+use Rattle.cept_redraw.specs.Restored.{rows_unwound}
 use Rattle.cept_repaint.specs.Applied.{IsPutBack, IsWritten}
-use Rattle.cept_repaint.specs.Kept.{state_of_parts}
-use Rattle.cept_repaint.specs.Named.{IsKept}
-use Rattle.cept_repaint.specs.Noter.{page_behind}
-use Rattle.cept_repaint.specs.Picture.{AreDrawable, AreTicksOf, IsKeptOn, IsNotedAlong, IsRedrawn, IsRestored}
-use Rattle.cept_repaint.specs.Restored.{rows_unwound}
+use Rattle.cept_repaint.specs.Kept.{state_of_parts, IsKept}
 use Rattle.cept_repaint.proofs.KeptAfter.{AreEdges-state, AreLooksOn-state, AreNamed-drawn, AreNamedOn-state}
 use Rattle.cept_repaint.proofs.KeptAfter.{IsKept-state_after, looks_of-drawn, marks-kept, renewed-of, resolved-of}
 use Rattle.cept_repaint.proofs.KeptAfter.{state_after-drawn}
-use Rattle.cept_repaint.proofs.NotedInOrder.{noted-strokes_of}
-use Rattle.cept_repaint.proofs.UnwoundRows.{rows_unwound-le}
-use Rattle.cept_repaint.proofs.UnwoundStates.{renewed-kept, rows_restored-of, state_unwound, valid_unwound}
+use Rattle.cept_repaint.proofs.NotedCommands.{noted-strokes_of}
+use Rattle.cept_repaint.proofs.UnwoundStates.{rows_unwound-le, renewed-kept, rows_restored-of, state_unwound, valid_unwound}
 
 -- ---- before
 

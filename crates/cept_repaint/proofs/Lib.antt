@@ -1,55 +1,15 @@
-pub mod ExchangedStates
-pub mod ExchangedValues
-pub mod FlagsAnew
-pub mod UnwoundPages
-pub mod PutBack
-pub mod NotedPages
-pub mod NotedInOrder
-pub mod KeptDelta
-pub mod NotedInTurn
-pub mod NotedValues
-pub mod AppliedCommands
-pub mod AloneRows
-pub mod AlteredRows
-pub mod FollowedRows
-pub mod KeptAfter
-pub mod KeptNames
-pub mod LooksSeen
-pub mod LeftOfColumns
-pub mod LooksWritten
-pub mod MarkedDifferences
-pub mod MarkedRows
-pub mod MarkedWithin
-pub mod MixedCommands
-pub mod MovedEdges
-pub mod MovedRows
-pub mod NamedRows
-pub mod NamesAfter
-pub mod OnePlace
-pub mod PageParts
-pub mod PaintedInOrder
-pub mod Refreshed
-pub mod RedefinedRows
-pub mod RestingRows
-pub mod RowsOfLooks
-pub mod RowsDue
-pub mod TurnedLooks
-pub mod Unmarked
-pub mod ValidGrids
-pub mod WalkedRows
-pub mod WalkedDown
-pub mod BesideOfColumns
+mod AppliedCommands
+mod KeptAfter
+mod KeptPictures
+mod LooksSeen
+mod MixedCommands
+mod MovedEdges
+mod NotedCommands
+mod NotedStates
+mod PaintedInOrder
+mod PaintedRows
+mod TakenControl
+mod TapedRows
 mod Unchanged
-pub mod UnwoundStates
-pub mod UnwoundRows
-pub mod WorkedExchange
-pub mod NoneNoted
-pub mod FlaggedPlaces
-pub mod RedefinedPlaces
-pub mod RefreshedPlaces
-pub mod RowsRenewed
-pub mod PaintedRows
-pub mod TapedRows
-pub mod TakenControl
-pub mod DrawnPictures
-pub mod KeptPictures
+mod UnwoundStates
+mod ValidGrids

@@ -10,7 +10,7 @@ use Rattle.cept_profile.specs.Look.{look, looks_of, part_of, parts_of}
 use Rattle.cept_profile.specs.RowsFromAbove.{look_seen, looks_in}
 use Rattle.cept_profile.specs.State.{Core}
 use Rattle.cept_profile.specs.Tiling.{column_entry, part_at}
-use Rattle.cept_repaint.proofs.RowsOfLooks.{look_seen-at}
+use Rattle.cept_redraw.proofs.Laws.{look_seen-at}
 
 -- in a column of the looks of a row stands the look of that place
 pub look_at-in_row : (k : Core) (place : Place) (looks : List Look) (row column : ℕ) → OnScreen place.row place.column

@@ -2,7 +2,8 @@
 -- may resolve the rows in its reach and no others.
 use Rattle.std.proofs.Common.{◌≡◌, ℕ, ◌+◌, ◌==◌, ◌||◌, ◌&&◌, not, cond, Bool, true, false, List, [], ◌∷◌, ◌++◌}
 use Rattle.std.proofs.Common.{Option, Some, None, ◌⊎◌, inl, inr, zero, suc, refl, sym, ap, ◌∙◌, arith}
-use Rattle.std.specs.List.{list_any}
+use Rattle.std.proofs.Math.Bool.{or-false}
+use Rattle.std.specs.List.{count_by, list_any, range_with_len}
 use Rattle.std.proofs.lemmas.Bool.{and_from, cases_Bool, eq-eqb, or_left, true≢false}
 use Rattle.std.proofs.lemmas.Bool.Decides.{nat_tests}
 use Rattle.cept_codes.specs.declared.attribute.Attr.{Attr}
@@ -34,9 +35,8 @@ use Rattle.cept_profile.specs.Writing.{control_after_copies, graphic_result, sig
 use Rattle.cept_profile.specs.Writing.{strokes_of_repeat, strokes_of_sign}
 use Rattle.cept_profile.proofs.Laws.{is_reached-by, reaches-by, rows_in_reach-counted, strokes_of_copies-more}
 use Rattle.cept_profile.proofs.Laws.{strokes_of_copies-none}
-use Rattle.cept_repaint.specs.Resolved.{are_same_edges, defines, is_same_area, may_resolve, mixes, one_else}
-use Rattle.cept_repaint.specs.Resolved.{rows_resolved_by}
-use Rattle.cept_repaint.proofs.RowsDue.{or_false, same_count}
+use Rattle.cept_redraw.specs.Resolved.{are_same_edges, defines, is_same_area, may_resolve, mixes, one_else}
+use Rattle.cept_redraw.specs.Resolved.{rows_resolved_by}
 
 -- ---- strokes that define nothing
 
@@ -244,12 +244,12 @@ resolved-in_reach s command =
     let new : Core = core_of (state_after s command) in
     let xs : List Stroke = strokes_of s.control command in
     let both : Bool = mixes (edges_of s.control) (edges_of (control_after s.control command)) xs in
-    same_count (may_resolve old new xs) (reaches s command) (λ r low high.
+    let same : (r : ℕ) → may_resolve old new xs r ≡ reaches s command r = λ r.
     elim (cases_Bool both) [
       | inl so ↦
           let is : is_reached old new xs r ≡ true = reached old new xs r (written s.control command so r) in
           or_left (is_reached old new xs r) both is ∙ sym is ∙ sym (reaches-by s command r)
       | inr none ↦
-          ap (λ b. is_reached old new xs r || b) none ∙ or_false (is_reached old new xs r) ∙ sym (reaches-by s command r)
-    ])
-    ∙ sym (rows_in_reach-counted s command)
+          ap (λ b. is_reached old new xs r || b) none ∙ or-false (is_reached old new xs r) ∙ sym (reaches-by s command r)
+    ] in
+    (λ i. count_by (λ r. same r i) (range_with_len 1 24)) ∙ sym (rows_in_reach-counted s command)

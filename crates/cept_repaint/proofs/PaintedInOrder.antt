@@ -8,9 +8,9 @@ use Rattle.cept_codes.proofs.Laws.{place_of-number, number-lt}
 use Rattle.cept_profile.specs.Changes.{look_at, marked_looks, marked_looks_below, grid_with_paint, grid_with_paints}
 use Rattle.cept_profile.proofs.Laws.{grid_with_paints-append, marked_looks_below-none, marked_looks_below-next}
 use Rattle.cept_profile.proofs.Laws.{marked_looks_below-unmarked, marked_looks_below-whole}
+use Rattle.cept_redraw.specs.Marks.{is_marked, IsFirstFrom}
 use Rattle.cept_repaint.specs.Applied.{PaintsAll}
 use Rattle.cept_repaint.specs.GlassState.{GlassState, Lists, Paints}
-use Rattle.cept_repaint.specs.Marks.{is_marked, IsFirstFrom}
 
 -- the first marked place from `from` on comes next
 listed_below_first : (marks : List Bool) (g : List (List Look)) (from : ℕ) (p : Place) → IsFirstFrom marks from p

@@ -19,10 +19,10 @@ use Rattle.cept_profile.specs.RowsFromAbove.{looks_in}
 use Rattle.cept_profile.specs.Tiling.{column_entry}
 use Rattle.cept_profile.specs.Valid.{IsValidGrid}
 use Rattle.cept_profile.proofs.Laws.{grid_with_paints-append, marked_looks_below-next, marked_looks_below-unmarked}
+use Rattle.cept_redraw.specs.Marks.{is_marked}
+use Rattle.cept_redraw.proofs.Laws.{look_seen-at}
 use Rattle.cept_repaint.specs.GlassState.{GlassState, Lists, Paints, PaintsRow, flagged_looks, place_with_look}
-use Rattle.cept_repaint.specs.Marks.{is_marked}
 use Rattle.cept_repaint.proofs.PaintedInOrder.{Lists-more, Lists-none, PaintedSoFar, painted_all_push}
-use Rattle.cept_repaint.proofs.RowsOfLooks.{look_seen-at}
 use Rattle.cept_repaint.proofs.ValidGrids.{IsValidGrid-with_row}
 
 -- ---- the list of a row

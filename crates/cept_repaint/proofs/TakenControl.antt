@@ -5,8 +5,8 @@ use Rattle.cept_profile.specs.Control.{ControlState}
 use Rattle.cept_profile.specs.Look.{looks_of}
 use Rattle.cept_profile.specs.State.{Core, Page, State, core_of}
 use Rattle.cept_profile.specs.Valid.{IsValidControl, IsValidState}
-use Rattle.cept_repaint.specs.Kept.{state_of_parts}
-use Rattle.cept_repaint.specs.Named.{AreNamed, IsKept, NamesOfRows}
+use Rattle.cept_redraw.specs.Named.{AreNamed, NamesOfRows}
+use Rattle.cept_repaint.specs.Kept.{state_of_parts, IsKept}
 
 -- a state with the same core is valid where its control is
 IsValidState-same_core : (p : Page) (own other : ControlState) → IsValidControl other → other.rows ≡ own.rows

@@ -2,11 +2,10 @@
 use Rattle.std.proofs.Common.{◌≡◌, ℕ, ◌≤◌, Bool, false, List, refl, subst}
 use Rattle.cept_codes.specs.declared.look.Look.{Look}
 use Rattle.cept_profile.specs.Changes.{changes_between, differences, grid_with_paints}
+use Rattle.cept_redraw.specs.Marks.{is_marked, no_marks}
+use Rattle.cept_redraw.proofs.Laws.{differences_none, is_marked-no_marks}
 use Rattle.cept_repaint.specs.GlassState.{GlassState, Lists}
-use Rattle.cept_repaint.specs.Marks.{is_marked, no_marks}
 use Rattle.cept_repaint.proofs.PaintedInOrder.{PaintedSoFar-none, PaintedSoFar-grid, PaintedSoFar-marked_looks}
-use Rattle.cept_repaint.proofs.Refreshed.{differences_none}
-use Rattle.cept_repaint.proofs.Unmarked.{is_marked-no_marks}
 
 none_differs : (was now : List (List Look)) → was ≡ now → (n : ℕ) → 0 ≤ n → is_marked (differences was now) n ≡ false
 none_differs was now e n _ =

@@ -1,5 +1,8 @@
 -- A state after old values were put back, by its parts.
-use Rattle.std.proofs.Common.{◌≡◌, List, [], Option, unwrap_or, sym, ap, subst, ◌∙◌}
+use Rattle.std.proofs.Common.{◌≡◌, ◌≤◌, ◌||◌, List, [], Option, unwrap_or, sym, ap, subst, ◌∙◌, arith}
+use Rattle.std.specs.List.{range_with_len}
+use Rattle.std.proofs.lemmas.List.FromFn.{length-range_with_len}
+use Rattle.std.proofs.lemmas.List.Sums.{count_by-le-length}
 use Rattle.cept_profile.specs.Control.{ControlState}
 use Rattle.cept_codes.specs.declared.look.Look.{Look}
 use Rattle.cept_profile.specs.Edges.{Edges, edges_of}
@@ -7,9 +10,12 @@ use Rattle.cept_profile.specs.Look.{looks_of}
 use Rattle.cept_profile.specs.OldValues.{OldValues, page_unwound, unwound}
 use Rattle.cept_profile.specs.State.{Page, State, core_of}
 use Rattle.cept_profile.specs.Valid.{IsValidPage, IsValidState}
+use Rattle.cept_delta.specs.Noted.{notes_row, notes_screen}
+use Rattle.cept_redraw.specs.Renewed.{rows_renewed}
+use Rattle.cept_profile.specs.RowsFromAbove.{is_covered_otherwise}
+use Rattle.cept_redraw.specs.Restored.{is_unwound, rows_unwound}
 use Rattle.cept_repaint.specs.Kept.{state_of_parts}
-use Rattle.cept_repaint.specs.Renewed.{rows_renewed}
-use Rattle.cept_repaint.specs.Restored.{rows_restored, rows_unwound}
+use Rattle.cept_repaint.specs.Applied.{rows_restored}
 use Rattle.cept_repaint.proofs.KeptAfter.{same_state}
 
 pub state_unwound : (p : Page) (c : ControlState) (old : OldValues) (q : Page) (d : ControlState)
@@ -45,3 +51,24 @@ pub renewed-kept : (s t u : State) (was now : List (List Look)) → was ≡ look
 renewed-kept s t u was now kept e looks =
     let first : was ≡ looks_of (core_of t) = kept ∙ ap (λ (x : State). looks_of (core_of x)) e in
     λ i. rows_renewed [] (first i) (looks i)
+
+-- ---- how many rows
+
+-- all at most
+pub rows_unwound-le : (old : OldValues) (before after : Edges) (was now : List (List Look))
+    → rows_unwound old before after was now ≤ 24
+unfolding rows_unwound
+rows_unwound-le old before after was now =
+    omega (
+      arith,
+      count_by-le-length (λ r. is_unwound old before after r || is_covered_otherwise was r now r) (range_with_len 1 24),
+      length-range_with_len 1 24,
+    )
+
+-- as many whatever is noted of control
+pub rows_unwound-control : (old : OldValues) (control : Option ControlState) (noted : OldValues) (before after : Edges)
+    (was now : List (List Look)) → noted ≡ record old { control = control }
+    → rows_unwound noted before after was now ≡ rows_unwound old before after was now
+unfolding rows_unwound is_unwound notes_row notes_screen
+rows_unwound-control old control noted before after was now is =
+    ap (λ (v : OldValues). rows_unwound v before after was now) is

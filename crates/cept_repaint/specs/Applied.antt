@@ -4,19 +4,36 @@ use Rattle.cept_codes.specs.declared.command.Command.{Command}
 use Rattle.cept_codes.specs.declared.look.Look.{Look}
 use Rattle.cept_codes.specs.Place.{Place}
 use Rattle.cept_profile.specs.Changes.{changes_between, differences, grid_with_paints}
+use Rattle.cept_profile.specs.Edges.{edges_of_core}
 use Rattle.cept_profile.specs.Look.{looks_of}
 use Rattle.cept_profile.specs.Reach.{rows_in_reach}
-use Rattle.cept_profile.specs.State.{State, core_of, state, state_after}
+use Rattle.cept_profile.specs.Strokes.{strokes_of}
+use Rattle.cept_profile.specs.State.{Core, State, core_of, state, state_after}
 use Rattle.cept_profile.specs.Valid.{AllValid}
 use Rattle.cept_profile.specs.OldValues.{OldValues, unwound}
+use Rattle.cept_redraw.specs.Renewed.{rows_renewed}
+use Rattle.cept_redraw.specs.Restored.{rows_unwound}
 use Rattle.cept_repaint.specs.GlassState.{GlassState, Lists}
-use Rattle.cept_repaint.specs.Renewed.{rows_renewed, rows_renewed_by}
-use Rattle.cept_repaint.specs.Restored.{rows_restored}
+
+-- how many rows a command renews in this state
+abbrev pub rows_renewed_by : State → Command → ℕ
+rows_renewed_by s command =
+    rows_renewed (strokes_of s.control command) (looks_of (core_of s)) (looks_of (core_of (state_after s command)))
+
+-- how many rows may have to be resolved between two cores where old values are put back
+abbrev pub rows_restored : OldValues → Core → Core → ℕ
+rows_restored old before after =
+    rows_unwound old (edges_of_core before) (edges_of_core after) (looks_of before) (looks_of after)
 
 -- these paints were made, one after the other: each look at its place of the grid, and all of them in the list
 pub record PaintsAll (old : GlassState) (paints : List (Place × Look)) (new : GlassState) : Type 0 where
   pub shown : new.grid ≡ grid_with_paints old.grid paints
   pub told : Lists old.paints paints new.paints
+
+-- after whatever commands the state stood, it stands after these and one more
+abbrev pub GoesOn : State → Command → State → Type 0
+GoesOn old command new =
+    (history : List Command) → AllValid history → old ≡ state history → new ≡ state (history ++ command ∷ [])
 
 -- a command was written: the state is that after it, exactly the places are marked whose look changes, and no more rows
 -- were resolved than are in its reach and no fewer than it renews
@@ -48,9 +65,7 @@ pub record IsRepainted (old new : State) (marked : List Bool) (before now : Glas
 -- renews
 pub record IsApplied (old : State) (command : Command) (new : State) (marked : List Bool) (before now : GlassState)
     (from to : ℕ) : Type 0 where
-  -- after whatever commands the state stood
-  pub goes_on : (history : List Command) → AllValid history → old ≡ state history
-      → new ≡ state (history ++ command ∷ [])
+  pub goes_on : GoesOn old command new
   pub after : new ≡ state_after old command
   pub repainted : IsRepainted old new marked before now
   pub cost : to ≤ from + rows_in_reach old command

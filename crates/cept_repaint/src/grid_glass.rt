@@ -5,9 +5,9 @@ ghost use Rattle.cept_profile.specs.Valid.{IsValidGrid};
 ghost use Rattle.cept_repaint.specs.ValidGrid.{IsValidGrid-prop};
 
 use crate::glass::Glass;
-use crate::kept_rows::KeptRows;
 use crate::screen::Screen;
 use cept_codes::{Look, NoMemory, Pos, Row};
+use cept_redraw::KeptRows;
 use std::alloc::Global;
 
 /// A glass in memory. It keeps the look at each place, and tells no list of paints.

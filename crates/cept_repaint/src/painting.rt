@@ -5,8 +5,8 @@ ghost use Rattle.cept_profile.specs.State.{core_of};
 ghost use Rattle.cept_repaint.specs.Applied.{PaintsAll};
 
 use crate::glass::Glass;
-use crate::marks::Marks;
 use crate::screen::Screen;
+use cept_redraw::Marks;
 
 /// Paints the marked places in reading order, each once, with the screen's look.
 pub(crate) fn paint_marked<G: Glass>(screen: &Screen, glass: &mut G, marks: &Marks)

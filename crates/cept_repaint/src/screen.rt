@@ -8,34 +8,32 @@ ghost use Rattle.cept_codes.specs.Stroke.{IsPaintOf};
 ghost use Rattle.cept_profile.specs.Changes.{look_at};
 ghost use Rattle.cept_profile.specs.Look.{looks_of, part_of, parts_of};
 ghost use Rattle.cept_profile.specs.NotedStrokes.{with_command};
-ghost use Rattle.cept_profile.specs.OldValues.{unwound};
+ghost use Rattle.cept_profile.specs.OldValues.{no_old_values, unwound, with_control};
 ghost use Rattle.cept_profile.specs.PageParts.{dclut_in, paint_in, pattern_in, row_pen_in};
 ghost use Rattle.cept_profile.specs.RowsFromAbove.{looks_in};
 ghost use Rattle.cept_profile.specs.State.{Page as PageState, core_of, state, state_after};
 ghost use Rattle.cept_profile.specs.Strokes.{strokes_of};
 ghost use Rattle.cept_profile.specs.Tiling.{column_entry, part_at};
 ghost use Rattle.cept_profile.specs.Valid.{IsValidState};
-ghost use Rattle.cept_repaint.specs.Applied.{IsApplied, IsPutBack, IsRepainted, IsWritten};
-ghost use Rattle.cept_repaint.specs.Exchanged.{HasSameLocations, exchanged};
-ghost use Rattle.cept_repaint.specs.Kept.{cell_at, state_of_parts};
-ghost use Rattle.cept_repaint.specs.Marks.{no_marks};
+ghost use Rattle.cept_delta.specs.Exchanged.{HasSameLocations, exchanged};
+ghost use Rattle.cept_page.specs.Parts.{cell_at};
+ghost use Rattle.cept_redraw.specs.Marks.{no_marks};
+ghost use Rattle.cept_redraw.specs.Picture.{IsNotedAlong};
+ghost use Rattle.cept_redraw.specs.Renewed.{rows_renewed};
+ghost use Rattle.cept_repaint.specs.Applied.{GoesOn, IsApplied, IsPutBack, IsRepainted, IsWritten, rows_restored};
+ghost use Rattle.cept_repaint.specs.Kept.{state_of_parts};
 ghost use Rattle.cept_repaint.specs.MovedEdges.{may_move_edges};
-ghost use Rattle.cept_repaint.specs.Noter.{state_behind};
-ghost use Rattle.cept_repaint.specs.Picture.{IsNotedAlong};
-ghost use Rattle.cept_repaint.specs.Renewed.{rows_renewed};
-ghost use Rattle.cept_repaint.specs.Restored.{rows_restored};
+ghost use Rattle.cept_repaint.specs.StateBehind.{state_behind};
 
-use crate::delta::Delta;
 use crate::glass::Glass;
-use crate::marks::Marks;
 use crate::moved_edges::may_move_edges;
-use crate::noter::{NoNotes, Noter};
 use crate::painting::paint_marked;
-use crate::picture::Picture;
 use arrayvec::ArrayVec;
 use cept_codes::{Cell, Command, Look, NoMemory, Paint, Pattern, Pen, Pos, Row, Stroke};
 use cept_control::Control;
+use cept_delta::{Delta, NoNotes, Noter};
 use cept_outside::Steps;
+use cept_redraw::{Marks, Picture};
 use cept_rows::RowLooks;
 use std::alloc::Global;
 use std::marker::Model;
@@ -52,7 +50,7 @@ pub struct Screen {
 
 impl Model for Screen {
     ghost use Rattle.cept_profile.specs.State.{State};
-    ghost use Rattle.cept_repaint.specs.Named.{IsKept};
+    ghost use Rattle.cept_repaint.specs.Kept.{IsKept};
 
     ghost Value = { State };
 
@@ -119,6 +117,23 @@ impl Screen {
             (G.state glass.new) steps.old steps.new }
     {
         self.apply_with(command, glass, marks, &mut NoNotes, steps);
+    }
+
+    /// The same of a screen that nobody sees, without a glass.
+    pub fn apply_unseen<L: Ledger>(
+        &mut self,
+        command: &Command,
+        marks: &mut Marks,
+        steps: &mut Steps<L>,
+    )
+        requires { IsValidCommand command.now }
+        ensures goes_on { GoesOn self.old command.now self.new }
+        ensures written { IsWritten self.old command.now self.new marks.new steps.old steps.new }
+    {
+        if self.write_attribute(command, marks) {
+            return;
+        }
+        self.write(command, marks, &mut NoNotes, steps);
     }
 
     /// Applies a command in the same way, and notes in a delta the old value of each location that
@@ -350,6 +365,15 @@ impl Screen {
         ensures valid { IsValidState self.now }
     {
         &self.control
+    }
+
+    /// Has a delta forget all old values and note the control: the state unwinds to itself by it.
+    pub fn begin_notes(&self, delta: &mut Delta)
+        ensures values { delta.new ≡ with_control self.now.control no_old_values }
+        ensures unwound { unwound self.now delta.new ≡ self.now }
+        ensures valid { IsValidState self.now }
+    {
+        delta.restart(self.control());
     }
 
     /// Takes another control in place of its own, if its settings are those of the page: the same

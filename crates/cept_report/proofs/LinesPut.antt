@@ -12,7 +12,7 @@ use Rattle.cept_outside.proofs.Laws.{Gains-nil, Gains-append}
 use Rattle.cept_profile.specs.Changes.{look_at, marked_looks, marked_looks_below}
 use Rattle.cept_profile.proofs.Laws.{marked_looks_below-whole, marked_looks_below-next, marked_looks_below-unmarked}
 use Rattle.cept_profile.proofs.Laws.{marked_looks_below-rest}
-use Rattle.cept_repaint.specs.Marks.{is_marked, IsFirstFrom}
+use Rattle.cept_redraw.specs.Marks.{is_marked, IsFirstFrom}
 use Rattle.cept_report.specs.Text.{change_line, change_lines}
 
 -- the lines of one place more

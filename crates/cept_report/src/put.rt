@@ -5,7 +5,7 @@ ghost use Rattle.cept_outside.specs.SinkState.{PutsText};
 ghost use Rattle.cept_profile.specs.Changes.{look_at, marked_looks};
 ghost use Rattle.cept_profile.specs.Look.{looks_of};
 ghost use Rattle.cept_profile.specs.State.{core_of};
-ghost use Rattle.cept_repaint.specs.Marks.{IsFirstFrom};
+ghost use Rattle.cept_redraw.specs.Marks.{IsFirstFrom};
 ghost use Rattle.cept_report.specs.Screen.{cells_text, screen_text};
 ghost use Rattle.cept_report.specs.Text.{change_line, change_lines, check_line, refusal_line};
 ghost use Rattle.cept_report.specs.Text.{marked_lines, nothing_line, script_fault_line, load_line};

@@ -1,10 +1,12 @@
 -- What stands in a column by itself, kept there.
-use Rattle.std.proofs.Common.{◌≡◌, ℕ, false, Bool, List, sym, ap, subst, ◌∙◌}
+use Rattle.std.proofs.Common.{◌≡◌, ℕ, false, Bool, List, refl, sym, ap, subst, ◌∙◌}
 use Rattle.cept_codes.specs.declared.cell.What.{What}
 use Rattle.cept_codes.specs.declared.look.Look.{Look}
+use Rattle.cept_codes.specs.declared.look.Shape.TheVariants as shapes
 use Rattle.cept_codes.specs.Attribute.{unset_pen}
 use Rattle.cept_codes.specs.Cell.{IsValidWhat}
 use Rattle.cept_profile.specs.Look.{look_of, shape_of}
+use Rattle.cept_profile.specs.PageParts.{paint_in}
 use Rattle.cept_profile.specs.Serial.{own_attributes_of, row_in}
 use Rattle.cept_profile.proofs.Laws.{IsValidLook-look_of}
 use Rattle.cept_rows.specs.declared.drawing.Drawing.{Drawing}
@@ -13,11 +15,12 @@ use Rattle.cept_rows.specs.Brush.{attributes_by, small_shape}
 use Rattle.cept_rows.specs.Flagged.{IsReplaced}
 use Rattle.cept_rows.specs.Places.{IsPlainLook, own_drawing}
 use Rattle.cept_rows.specs.RowsByCell.{is_downloaded}
-use Rattle.cept_rows.specs.SmallLooks.{IsSmallLook, look_kept, no_drawing, small_of}
+use Rattle.cept_rows.specs.SmallLooks.{IsSmallLook, look_kept, no_drawing, sign_of, small_of}
 use Rattle.cept_rows.specs.Source.{IsValidSource, Source, look_by_itself}
 use Rattle.cept_rows.proofs.KeptLooks.{plain_is, plain_small}
 use Rattle.cept_rows.proofs.RowsAlone.{look_of_itself}
 use Rattle.cept_rows.proofs.Signs.{any_kept, any_small, look_of_is_plain}
+use Rattle.cept_rows.proofs.WalkedRows.{space_with_sign}
 
 -- by the attributes of all that has no pen
 pub among_is : (source : Source) (c : ℕ) (w : What) (s : SmallLook) → w ≡ row_in source.cells c
@@ -27,6 +30,16 @@ pub among_is : (source : Source) (c : ℕ) (w : What) (s : SmallLook) → w ≡ 
 among_is source c w s there e =
     e ∙ ap small_of (look_of_itself source.defined source.row_pen source.screen_pen w)
     ∙ ap (λ v. small_of (look_of source.defined source.row_pen source.screen_pen v)) there
+
+-- a sign in the look of a space
+pub sign_is : (source : Source) (c : ℕ) (w : What) (space s : SmallLook) → w ≡ row_in source.cells c
+    → space ≡ small_shape source shapes.Space
+    (own_attributes_of w source.row_pen source.screen_pen (attributes_by source unset_pen))
+    → s ≡ record space { sign = sign_of (shape_of source.defined w) } → s ≡ small_of (look_by_itself source c)
+sign_is source c w space s there e is =
+    among_is source c w s there (is ∙ space_with_sign (paint_in source.defined.paints) (shape_of source.defined w)
+    (own_attributes_of w source.row_pen source.screen_pen (attributes_by source unset_pen)) space
+    (sign_of (shape_of source.defined w)) e refl)
 
 -- without a pattern
 pub alone_plain : (source : Source) (c : ℕ) (w : What) (s : SmallLook) → IsValidSource source

@@ -2,13 +2,14 @@
 use Rattle.std.specs.Prelude.{◌≡◌, true}
 use Rattle.cept_codes.specs.declared.attribute.Full.{Full}
 use Rattle.cept_codes.specs.declared.attribute.Pen.{Pen}
+use Rattle.cept_codes.specs.declared.cell.What.{What}
+use Rattle.cept_codes.specs.declared.cell.What.TheVariants as whats
 use Rattle.cept_codes.specs.declared.look.Shape.{Shape}
 use Rattle.cept_codes.specs.declared.look.Shape.TheVariants as shapes
 use Rattle.cept_codes.specs.Attribute.{unset_pen}
 use Rattle.cept_profile.specs.Attributes.{cascade}
 use Rattle.cept_profile.specs.Look.{look_with}
 use Rattle.cept_profile.specs.PageParts.{paint_in}
-use Rattle.cept_rows.specs.declared.cell_look.AtHand.{AtHand}
 use Rattle.cept_rows.specs.declared.cell_look.Brush.{Brush}
 use Rattle.cept_rows.specs.declared.small_look.SmallLook.{SmallLook}
 use Rattle.cept_rows.specs.SmallLooks.{small_of}
@@ -42,7 +43,7 @@ pub record IsDipped (source : Source) (pen : Pen) (brush : Brush) : Type 0 where
   pub held : brush.pen ≡ pen
   pub is : IsBrush source brush
 
--- how a blank cell looks in a row without markers, and a brush
-pub record IsAtHand (source : Source) (hand : AtHand) : Type 0 where
-  pub blank : hand.blank ≡ space_by source unset_pen
-  pub brush : IsBrush source hand.brush
+-- how a space looks in place of a sign: in parallel as one with its pen, else as a blank cell
+abbrev pub space_for : What → SmallLook → SmallLook → SmallLook
+space_for (whats.Parallel g p) blank written = written
+space_for _ blank written = blank

@@ -10,8 +10,8 @@ ghost use Rattle.cept_profile.specs.PageParts.{paint_in};
 ghost use Rattle.cept_profile.specs.Serial.{is_marker, own_attributes_of, row_in};
 ghost use Rattle.cept_codes.specs.declared.cell.Marker.{Marker};
 ghost use Rattle.cept_codes.specs.declared.cell.What.TheVariants.{Marker as stands};
-ghost use Rattle.cept_rows.specs.Brush.{IsAtHand, IsBare, IsBrush, IsDipped};
-ghost use Rattle.cept_rows.specs.Brush.{attributes_by, small_shape};
+ghost use Rattle.cept_rows.specs.Brush.{IsBare, IsBrush, IsDipped};
+ghost use Rattle.cept_rows.specs.Brush.{attributes_by, small_shape, space_by, space_for};
 ghost use Rattle.cept_rows.specs.SmallLooks.{sign_of, small_of};
 ghost use Rattle.cept_rows.specs.RowsByCell.{is_downloaded, is_set_d, pattern_of_sign};
 ghost use Rattle.cept_rows.specs.Source.{look_by_itself};
@@ -97,30 +97,20 @@ pub(crate) struct Brush {
     pub(crate) size: Size,
 }
 
-/// What is at hand along a row without markers: how a blank cell looks in it, and a brush.
-#[derive(Clone, Copy)]
-pub(crate) struct AtHand {
-    pub(crate) blank: SmallLook,
-    pub(crate) brush: Brush,
-}
-
-impl AtHand {
-    /// The brush holds the pen that sets nothing, whose attributes are these.
+impl Brush {
+    /// It holds the pen that sets nothing, whose attributes are these.
     #[inline(always)]
-    pub(crate) fn new(full: &Full, source: &RowSource) -> AtHand
+    pub(crate) fn new(full: &Full, source: &RowSource) -> Brush
         requires { full.now ≡ attributes_by source.now unset_pen }
-        ensures { IsAtHand source.now result }
+        ensures brush { IsBrush source.now result }
+        ensures space { result.space ≡ space_by source.now unset_pen }
     {
         source.valid_by_type();
-        let blank = source.small_with(Sign::NOTHING, full);
-        AtHand {
-            blank,
-            brush: Brush {
-                pen: Pen::UNSET,
-                bare: true,
-                space: blank,
-                size: full.size,
-            },
+        Brush {
+            pen: Pen::UNSET,
+            bare: true,
+            space: source.small_with(Sign::NOTHING, full),
+            size: full.size,
         }
     }
 }
@@ -216,32 +206,56 @@ fn dip(brush: &mut Brush, pen: &Pen, source: &RowSource)
     };
 }
 
-/// The look of what stands in a cell and is shown by itself, in a row without markers. Of a sign with
-/// a pen the brush takes that up.
+/// The look of what stands in a cell and is shown by itself, in a row without markers in which a blank
+/// cell looks so. Of a sign with a pen the brush takes that up.
 #[inline(always)]
-pub(crate) fn small_among(what: &What, hand: &mut AtHand, source: &RowSource) -> SmallLook
+pub(crate) fn small_among(
+    what: &What,
+    blank: &SmallLook,
+    brush: &mut Brush,
+    source: &RowSource,
+) -> SmallLook
     requires valid { IsValidWhat what.now }
     requires set { is_downloaded what.now ≡ false }
-    requires hand { IsAtHand source.now hand.old }
+    requires blank { blank.now ≡ space_by source.now unset_pen }
+    requires brush { IsBrush source.now brush.old }
     ensures look { result
         ≡ small_shape source.now (shape_of source.now.defined what.now)
         (own_attributes_of what.now source.now.row_pen source.now.screen_pen
         (attributes_by source.now unset_pen)) }
-    ensures hand { IsAtHand source.now hand.new }
+    ensures brush { IsBrush source.now brush.new }
+{
+    if let What::Parallel(_, pen) = what {
+        take_up(brush, pen, source);
+    }
+    SmallLook {
+        sign: sign_alone(what),
+        ..*space_for(what, blank, &brush.space)
+    }
+}
+
+/// A sign that isn't of the downloaded set, in the look of a space.
+#[inline(always)]
+pub(crate) fn with_sign(space: &SmallLook, glyph: &Glyph) -> SmallLook
+    requires { is_set_d glyph.now.set ≡ false }
+    ensures { (defined : Definitions)
+        → result ≡ record space.now { sign = sign_of (shape_of_sign defined glyph.now) } }
+{
+    SmallLook {
+        sign: sign_of_set(glyph),
+        ..*space
+    }
+}
+
+/// How a space looks in place of what stands in a cell: of a sign with a pen as with that, else as a
+/// blank cell.
+#[inline(always)]
+fn space_for<'s>(what: &What, blank: &'s SmallLook, written: &'s SmallLook) -> &'s SmallLook
+    ensures { result.now ≡ space_for what.now blank.now written.now }
 {
     match what {
-        What::Blank | What::Marker(_) => hand.blank,
-        What::Serial(glyph) => SmallLook {
-            sign: sign_of_set(glyph),
-            ..hand.blank
-        },
-        What::Parallel(glyph, pen) => {
-            take_up(&mut hand.brush, pen, source);
-            SmallLook {
-                sign: sign_of_set(glyph),
-                ..hand.brush.space
-            }
-        }
+        What::Parallel(_, _) => written,
+        What::Blank | What::Serial(_) | What::Marker(_) => blank,
     }
 }
 

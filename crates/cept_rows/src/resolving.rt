@@ -22,7 +22,7 @@ ghost use Rattle.cept_rows.specs.Places.{IsMadeBeside, IsMadeFrom};
 ghost use Rattle.cept_rows.specs.RowsByCell.{FollowsToTheRight, IsCoveredAlike};
 ghost use Rattle.cept_rows.specs.Source.{AreValidCells, own_look, place_made, row_made};
 
-use crate::cell_look::{AtHand, is_plain, small_among};
+use crate::cell_look::{Brush, is_plain, small_among};
 use crate::places::{is_covered_from_left, put_place};
 use crate::row_looks::RowLooks;
 use crate::source::RowSource;
@@ -173,14 +173,15 @@ fn each_plain(source: &RowSource, full: &Full, looks: &mut RowLooks) -> u8
 {
     looks.columns_by_type();
     source.valid_by_type();
-    let mut hand = AtHand::new(full, source);
+    let mut brush = Brush::new(full, source);
+    let blank = brush.space;
     for number in 1..41u8 {
         let column = Column::numbered(number);
         let what = source.what(column);
         if !is_plain(what) {
             return number;
         }
-        looks.put_single(column, small_among(what, &mut hand, source));
+        looks.put_single(column, small_among(what, &blank, &mut brush, source));
     }
     41
 }

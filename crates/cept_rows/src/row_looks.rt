@@ -10,7 +10,8 @@ ghost use Rattle.cept_profile.specs.Look.{part_of};
 ghost use Rattle.cept_profile.specs.Names.{pattern_shown, some_place};
 ghost use Rattle.cept_profile.specs.RowsFromAbove.{blank_looks, is_other_covering};
 ghost use Rattle.cept_profile.specs.Tiling.{column_entry, covers_below, covers_right};
-ghost use Rattle.cept_rows.specs.Brush.{IsAtHand};
+ghost use Rattle.cept_codes.specs.Attribute.{unset_pen};
+ghost use Rattle.cept_rows.specs.Brush.{IsBrush, space_by};
 ghost use Rattle.cept_rows.specs.Compared.{AreDifferences, IsSameBeside, one_covers};
 ghost use Rattle.cept_rows.specs.Flagged.{IsReplaced, IsResolvedTo, look_after, look_at};
 ghost use Rattle.cept_rows.specs.Flagged.{looks_differ, with_look};
@@ -21,11 +22,13 @@ ghost use Rattle.cept_rows.specs.SmallLooks.{IsSmallLook, drawing_of, has_patter
 ghost use Rattle.cept_rows.specs.SmallLooks.{blank_small, no_drawing, small_of};
 ghost use Rattle.cept_rows.specs.Source.{look_by_itself};
 
-use crate::cell_look::{AtHand, is_downloaded, sign_alone, sign_in, small_alone, small_among};
+use crate::cell_look::{
+    Brush, is_downloaded, sign_alone, sign_in, small_alone, take_up, with_sign,
+};
 use crate::drawing::{Drawing, same_drawing};
 use crate::small_look::{SmallLook, look_kept, same};
 use crate::source::RowSource;
-use cept_codes::{Column, Look, Pen};
+use cept_codes::{Column, Look, Pen, What};
 use cept_outside::Steps;
 use std::marker::Model;
 use std::sync::ledger::Ledger;
@@ -319,7 +322,13 @@ impl RowLooks {
     {
         steps.tick();
         self.columns_by_type();
-        self.resolve_cell(column, source)
+        let what = source.what(column);
+        if is_downloaded(what) {
+            return self.resolve_downloaded(column, &source.here());
+        }
+        source.valid_by_type();
+        let fresh = small_alone(column, sign_alone(what), source);
+        self.replace(column, &fresh)
     }
 
     /// Resolves the cells of the flagged columns, each by itself, in a row without markers, and keeps
@@ -336,12 +345,13 @@ impl RowLooks {
     {
         steps.tick();
         self.columns_by_type();
-        let mut hand = AtHand::new(&source.attributes(&Pen::UNSET), source);
+        let mut brush = Brush::new(&source.attributes(&Pen::UNSET), source);
+        let blank = brush.space;
         let mut differ = [false; 40];
         for group in 0..5u8 {
             let first = 8 * group;
             if has_flag(flags, first) {
-                self.resolve_eight(first, flags, &mut hand, source, &mut differ);
+                self.resolve_eight(first, flags, &blank, &mut brush, source, &mut differ);
             }
         }
         differ
@@ -354,22 +364,24 @@ impl RowLooks {
         &mut self,
         first: u8,
         flags: &[bool; 40],
-        hand: &mut AtHand,
+        blank: &SmallLook,
+        brush: &mut Brush,
         source: &RowSource,
         differ: &mut [bool; 40],
     )
         requires within { first ≤ 32 }
-        requires hand { IsAtHand source.now hand.old }
+        requires blank { blank.now ≡ space_by source.now unset_pen }
+        requires brush { IsBrush source.now brush.old }
         ensures columns { (was : List Look)
             → IsResolvedTo flags.now (look_by_itself source.now) was self.old differ.old first
             → IsResolvedTo flags.now (look_by_itself source.now) was self.new differ.new
             (first + 8) }
-        ensures hand { IsAtHand source.now hand.new }
+        ensures brush { IsBrush source.now brush.new }
     {
         for k in first..first + 8 {
             let at = usize::from(k);
             if flags[at] {
-                differ[at] = self.resolve_among(Column::numbered(k + 1), hand, source);
+                differ[at] = self.resolve_among(Column::numbered(k + 1), blank, brush, source);
             }
         }
     }
@@ -377,36 +389,36 @@ impl RowLooks {
     /// Resolves one cell by itself, in a row without markers, and keeps its look. Of a sign with a pen
     /// the brush takes that up. Answers whether the look differs from the one before.
     #[inline(always)]
-    fn resolve_among(&mut self, column: Column, hand: &mut AtHand, source: &RowSource) -> bool
-        requires { IsAtHand source.now hand.old }
+    fn resolve_among(
+        &mut self,
+        column: Column,
+        blank: &SmallLook,
+        brush: &mut Brush,
+        source: &RowSource,
+    ) -> bool
+        requires blank { blank.now ≡ space_by source.now unset_pen }
+        requires brush { IsBrush source.now brush.old }
         ensures look { IsReplaced self.old column (look_by_itself source.now column) self.new
             result }
-        ensures hand { IsAtHand source.now hand.new }
+        ensures brush { IsBrush source.now brush.new }
     {
         let what = source.what(column);
         if is_downloaded(what) {
             return self.resolve_downloaded(column, source);
         }
         source.valid_by_type();
-        let fresh = small_among(what, hand, source);
-        self.replace(column, &fresh)
-    }
-
-    /// The same by its own attributes.
-    #[inline(always)]
-    fn resolve_cell(&mut self, column: Column, source: &RowSource) -> bool
-        ensures { IsReplaced self.old column (look_by_itself source.now column) self.new result }
-    {
-        let what = source.what(column);
-        if is_downloaded(what) {
-            return self.resolve_downloaded(column, source);
+        match what {
+            What::Blank | What::Marker(_) => self.replace(column, blank),
+            What::Serial(glyph) => self.replace(column, &with_sign(blank, glyph)),
+            What::Parallel(glyph, pen) => {
+                take_up(brush, pen, source);
+                self.replace(column, &with_sign(&brush.space, glyph))
+            }
         }
-        source.valid_by_type();
-        let fresh = small_alone(column, sign_alone(what), source);
-        self.replace(column, &fresh)
     }
 
-    /// The same of a sign of the downloaded set.
+    /// Resolves one cell with a sign of the downloaded set by itself, in a row without markers, and keeps
+    /// its look. Answers whether it differs from the one before.
     // A call of its own: a drawing has no room beside looks without one.
     #[inline(never)]
     fn resolve_downloaded(&mut self, column: Column, source: &RowSource) -> bool

@@ -99,6 +99,22 @@ impl<'p> RowSource<'p> {
         RowSource { last, ..self }
     }
 
+    /// The same, made where it is called: what is handed to a call of its own has to stand in memory, and
+    /// this one needn't then.
+    #[inline(always)]
+    pub(crate) fn here(&self) -> RowSource<'p>
+        ensures { result ≡ self.now }
+    {
+        RowSource {
+            cells: self.cells,
+            row_pen: self.row_pen,
+            screen_pen: self.screen_pen,
+            colours: self.colours,
+            patterns: self.patterns,
+            last: self.last,
+        }
+    }
+
     /// Tells the prover that all of it is valid: reading a field opens the model.
     #[inline(always)]
     pub(crate) fn valid_by_type(&self)
@@ -178,7 +194,6 @@ impl<'p> RowSource<'p> {
     }
 
     /// The drawing of what stands in a column.
-    #[inline(always)]
     pub(crate) fn drawing(&self, column: Column) -> Drawing
         ensures { result ≡ own_drawing self.now column }
     {

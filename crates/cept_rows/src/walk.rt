@@ -3,7 +3,7 @@ ghost use Rattle.cept_codes.specs.declared.cell.What.TheVariants.{Marker as stan
 ghost use Rattle.cept_profile.specs.Serial.{row_in};
 ghost use Rattle.cept_rows.specs.Walk.{IsOwnLook, IsWalk};
 
-use crate::cell_look::{AtHand, Brush, sign_held, sign_of_glyph, take_up};
+use crate::cell_look::{Brush, sign_held, sign_of_glyph, take_up};
 use crate::small_look::{Sign, SmallLook};
 use crate::source::RowSource;
 use cept_attrs::{Influence, Marked};
@@ -33,11 +33,11 @@ impl Walk {
     {
         source.valid_by_type();
         let influence = Influence::at_start(source.row_pen(), source.screen_pen());
-        let hand = AtHand::new(influence.full(), source);
+        let brush = Brush::new(influence.full(), source);
         Walk {
             influence,
-            space: hand.blank,
-            brush: hand.brush,
+            space: brush.space,
+            brush,
         }
     }
 

@@ -15,7 +15,8 @@ use Rattle.cept_plot.specs.declared.figure.Figure.{Figure}
 use Rattle.cept_plot.specs.Commands.{IsDrawnOn, drawn}
 use Rattle.cept_plot.specs.Drawings.{points_after_all}
 use Rattle.cept_plot.specs.Lit.{is_lit}
-use Rattle.cept_plot.specs.Painted.{ArePaintedInTurn, changes_of_all, state_after_all}
+use Rattle.cept_plot.specs.Painted.{ArePaintedInTurn, changes_of_all}
+use Rattle.cept_repaint.specs.InTurn.{state_after_all}
 use Rattle.cept_plot.specs.Points.{OnField, is_in_field}
 use Rattle.cept_plot.proofs.Laws.{drawn_on as drawn_by, drawn_valid, drawn_same, point_after}
 use Rattle.cept_profile.specs.Changes.{changes_between, grid_with_paints}

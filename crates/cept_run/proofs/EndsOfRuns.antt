@@ -11,7 +11,7 @@ use Rattle.cept_words.specs.Faults.{Fault}
 use Rattle.cept_editor.proofs.Laws.{AreCutOff-longer, cut_untouched}
 use Rattle.cept_outside.specs.Causes.{Rose, HasCause}
 use Rattle.cept_outside.specs.ShelfState.{ShelfState, Holds, Selects, IsSound}
-use Rattle.cept_outside.specs.SinkState.{SinkState}
+use Rattle.cept_outside.specs.SinkState.{SinkState, one_more}
 use Rattle.cept_outside.proofs.Laws.{HasPut-nothing}
 use Rattle.cept_parser.specs.Items.{items, closed_items}
 use Rattle.cept_codes.specs.declared.look.Look.{Look}
@@ -265,7 +265,8 @@ module _ (plan : Plan) (grammar : Grammar) (name : List ℕ) (script : Source) (
     whole_cut : (bytes : List ℕ) → ((page : List ℕ) → mid.left ≡ Some page → bytes ≡ page)
         → (after.shelf.taken ≡ length bytes) × (after.shelf.ended ≡ true) × (length bytes ≤ 2 ^ 24)
         → AreCutOff (the_run asked grammar bytes told after.glass.grid) (output before) (output after)
-        ⊎ AreMade (the_run asked grammar bytes told after.glass.grid) (output before) (output after)
+        ⊎ (AreMade (the_run asked grammar bytes told after.glass.grid) (output before) (output after)
+        × (before.sink.always_flushes ≡ false))
         → (before.glass.grid ≡ grid [] → PutsFront (report (meant_run bytes)) before.sink after.sink)
         → IsReportCut course before after
     whole_cut bytes read taken cut front = record {
@@ -409,6 +410,7 @@ module _ (plan : Plan) (grammar : Grammar) (name : List ℕ) (script : Source) (
           taken = λ other named. taken;
           selected = selects_page;
           flushed = puts.flushed;
+          flushes = puts.flushes ∙ ap one_more made.put.flushes;
           shelf_stays = stays ∙ same_faults;
           sink_stays = puts.stays ∙ sink_stays;
         }

@@ -61,6 +61,11 @@ pub script_paints : (action : ScriptAction) → (asked_of_script action).paintin
 script_paints scripts.Trace = refl
 script_paints scripts.Edit = refl
 
+-- nor of a page and a script
+pub script_blink : (action : ScriptAction) → HasBlink (asked_of_script action).end None
+script_blink scripts.Trace = tt
+script_blink scripts.Edit = tt
+
 pub easel_edited : (asked : Asked) (editor : EditorState) (lines : List EditLine) → asked.painting ≡ true
     → editor ≡ record { screen = state []; past = []; future = [] }
     → easels.Editor editor lines ≡ easel_at (followed asked (Edits lines)) []

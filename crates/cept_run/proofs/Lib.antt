@@ -23,6 +23,7 @@ pub mod EndsOfRuns
 pub mod GeneratedPages
 pub mod LoadedPages
 pub mod WholeRuns
+mod KnownPages
 mod TurnedPieces
 mod TurnedPages
 pub mod PutEnds

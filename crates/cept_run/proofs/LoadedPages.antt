@@ -9,7 +9,7 @@ use Rattle.cept_editor.proofs.Laws.{AreCutOff-longer, cut_untouched, report-one,
 use Rattle.cept_editor.proofs.Laws.{AreMade-end, AreCutOff-end}
 use Rattle.cept_outside.specs.Causes.{Rose}
 use Rattle.cept_outside.specs.ShelfState.{ShelfState}
-use Rattle.cept_outside.specs.SinkState.{SinkState, Gains, GainsPart, count_after}
+use Rattle.cept_outside.specs.SinkState.{SinkState, Gains, GainsPart, count_after, one_more}
 use Rattle.cept_profile.specs.Changes.{grid_with_paints}
 use Rattle.cept_repaint.specs.GlassState.{GlassState}
 use Rattle.cept_parser.specs.Items.{closed_items}
@@ -84,6 +84,7 @@ module _ (page : List ℕ) (before after : Outside) (shelf : after.shelf ≡ bef
     taken = λ name e. cc;
     selected = λ name e. cc;
     flushed = puts.flushed;
+    flushes = puts.flushes;
     shelf_stays = ap (λ (s : ShelfState). s.faults) shelf;
     sink_stays = puts.stays;
   }
@@ -101,12 +102,17 @@ module _ (page : List ℕ) (before after : Outside) (shelf : after.shelf ≡ bef
     taken = λ name e. cc;
   }
     where
-      by_text : GainsPart before.sink page after.sink ⊎ Gains before.sink page after.sink
-          → AreCutOff (event ∷ []) (output before) (output after) ⊎ AreMade (event ∷ []) (output before) (output after)
+      by_text : GainsPart before.sink page after.sink ⊎ (Gains before.sink page after.sink
+          × (before.sink.always_flushes ≡ false))
+          → AreCutOff (event ∷ []) (output before) (output after)
+          ⊎ (AreMade (event ∷ []) (output before) (output after) × (before.sink.always_flushes ≡ false))
       by_text (inl part) = inl (AreCutOff-end [] event (output before) (output before) (output after)
           (AreMade-none (output before)) refl refl part puts.cause puts.later same)
-      by_text (inr all) = inr (AreMade-end [] event (output before) (output before) (output after)
-          (AreMade-none (output before)) refl all same)
+      by_text (inr all) = inr (
+        AreMade-end [] event (output before) (output before) (output after)
+            (AreMade-none (output before)) refl all.0 same,
+        all.1,
+      )
 
   pub runs_put : (result : Result Bool Stop) → PutsEnd page false before.sink result after.sink
       → RunsCourse bare before after (status_at_end result)
@@ -159,7 +165,8 @@ module _ (plan : Plan) (page : List ℕ) (before after : Outside) (shelf : after
   abbrev meant_run : List Event
   meant_run = the_run asked Scripts page [] (grid (all asked Scripts page []))
 
-  loaded_cut : AreCutOff shown_run (output before) (output after) ⊎ AreMade shown_run (output before) (output after)
+  loaded_cut : AreCutOff shown_run (output before) (output after)
+      ⊎ (AreMade shown_run (output before) (output after) × (before.sink.always_flushes ≡ false))
       → (before.glass.grid ≡ grid [] → PutsFront (report meant_run) before.sink after.sink)
       → IsReportCut loaded before after
   loaded_cut cut front = record {
@@ -239,6 +246,7 @@ module _ (plan : Plan) (page : List ℕ) (before after : Outside) (shelf : after
       taken = λ name e. cc;
       selected = λ name e. cc;
       flushed = puts.flushed;
+      flushes = puts.flushes ∙ ap one_more made.put.flushes;
       shelf_stays = ap (λ (s : ShelfState). s.faults) shelf;
       sink_stays = puts.stays ∙ stays;
     }

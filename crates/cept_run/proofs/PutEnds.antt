@@ -1,8 +1,14 @@
 -- The text at the end, put and flushed.
-use Rattle.std.proofs.Common.{inr, List, ℕ, Ok, Err, ◌∙◌, subst, arith}
+use Rattle.std.proofs.Common.{◌≡◌, inr, false, List, ℕ, Ok, Err, sym, ap, ◌∙◌, subst, arith}
+use Rattle.std.proofs.lemmas.Bool.{false_from_ne_true}
 use Rattle.cept_outside.specs.Causes.{Rose, HasCause}
-use Rattle.cept_outside.specs.SinkState.{SinkState, PutsText, Flushes}
+use Rattle.cept_outside.specs.SinkState.{SinkState, PutsText, Flushes, one_more}
 use Rattle.cept_run.specs.Outside.{PutsWhole, PutsUnflushed}
+
+-- a flush that failed can fail
+pub can_fail : {X E : Type 0} {f : E} {mid after : SinkState} → Flushes {X = X} mid (Err f) after
+    → mid.always_flushes ≡ false
+can_fail flushes = false_from_ne_true _ (λ always. let no = flushes.sure always in cc)
 
 module _ {X E Y F : Type 0} {x : X} (text : List ℕ) (before mid after : SinkState)
     (puts : PutsText {X = X} {E = E} before text (Ok x) mid) where
@@ -12,13 +18,18 @@ module _ {X E Y F : Type 0} {x : X} (text : List ℕ) (before mid after : SinkSt
   put_unflushed flushes cause = record {
     cause = subst (λ n. Rose n after.faults) puts.cause.stays cause.failed;
     later = omega (arith, puts.cause.stays, cause.later);
-    put = inr (record {
-      bytes = flushes.bytes ∙ puts.whole.bytes;
-      counted = flushes.count ∙ puts.whole.counted;
-      room = flushes.room ∙ puts.whole.room;
-      unflushed = λ some. flushes.failed ∙ puts.whole.unflushed some;
-      unflushed_stays = λ none. flushes.failed ∙ puts.whole.unflushed_stays none;
-    });
+    put = inr (
+      record {
+        bytes = flushes.bytes ∙ puts.whole.bytes;
+        counted = flushes.count ∙ puts.whole.counted;
+        room = flushes.room ∙ puts.whole.room;
+        flushes = flushes.failed.1 ∙ puts.whole.flushes;
+        always = flushes.always ∙ puts.whole.always;
+        unflushed = λ some. flushes.failed.0 ∙ puts.whole.unflushed some;
+        unflushed_stays = λ none. flushes.failed.0 ∙ puts.whole.unflushed_stays none;
+      },
+      sym puts.whole.always ∙ can_fail flushes,
+    );
   }
 
   -- it was put and flushed
@@ -28,6 +39,7 @@ module _ {X E Y F : Type 0} {x : X} (text : List ℕ) (before mid after : SinkSt
     put = flushes.bytes ∙ puts.whole.bytes;
     counted = flushes.count ∙ puts.whole.counted;
     room = flushes.room ∙ puts.whole.room;
-    flushed = flushes.flushed;
+    flushed = flushes.flushed.0;
+    flushes = flushes.flushed.1 ∙ ap one_more puts.whole.flushes;
     stays = cause.stays ∙ puts.cause.stays;
   }

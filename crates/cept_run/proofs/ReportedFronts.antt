@@ -41,11 +41,12 @@ reports_nothing asked grammar page script before after same =
 pub same_sink : (s t : SinkState) → Gains s [] t → t.faults ≡ s.faults → t ≡ s
 same_sink s t gains stays =
     same_parts s t (gains.bytes ∙ sym (append_known-nil s.bytes)) (gains.counted ∙ sym (count_after-nil s.count))
-    gains.room (gains.unflushed_stays refl) stays
+    gains.room (gains.unflushed_stays refl) gains.flushes gains.always stays
   where
     same_parts : (a b : SinkState) → b.bytes ≡ a.bytes → b.count ≡ a.count → b.room ≡ a.room
-        → b.unflushed ≡ a.unflushed → b.faults ≡ a.faults → b ≡ a
-    same_parts a b bytes count room unflushed faults = grind (arith, bytes, count, room, unflushed, faults)
+        → b.unflushed ≡ a.unflushed → b.flushes ≡ a.flushes → b.always_flushes ≡ a.always_flushes → b.faults ≡ a.faults → b ≡ a
+    same_parts a b bytes count room unflushed flushes always faults =
+        grind (arith, bytes, count, room, unflushed, flushes, always, faults)
 
 -- what was made of no bytes was nothing
 pub made_nothing : (asked : Asked) (bytes : List ℕ) (before after : Outside) → bytes ≡ []

@@ -157,16 +157,19 @@ module _ (asked : Asked) (grammar : Grammar) (bytes script : List ℕ) where
     -- the sink failed
     pub cut_at_end : PutsUnflushed the_text sink after.sink
         → AreCutOff (the_run after.glass.grid) (output before) (output after)
-        ⊎ AreMade (the_run after.glass.grid) (output before) (output after)
+        ⊎ (AreMade (the_run after.glass.grid) (output before) (output after) × (before.sink.always_flushes ≡ false))
     cut_at_end puts = by_text puts.put
       where
-        by_text : GainsPart sink the_text after.sink ⊎ Gains sink the_text after.sink
+        by_text : GainsPart sink the_text after.sink ⊎ (Gains sink the_text after.sink × (sink.always_flushes ≡ false))
             → AreCutOff (the_run after.glass.grid) (output before) (output after)
-            ⊎ AreMade (the_run after.glass.grid) (output before) (output after)
+            ⊎ (AreMade (the_run after.glass.grid) (output before) (output after) × (before.sink.always_flushes ≡ false))
         by_text (inl part) = inl (AreCutOff-end edited last (output before) middle (output after) made sink_stays
             refl part puts.cause puts.later refl)
-        by_text (inr whole) = inr (AreMade-end edited last (output before) middle (output after) made refl
-            whole refl)
+        by_text (inr whole) = inr (
+          AreMade-end edited last (output before) middle (output after) made refl
+              whole.0 refl,
+          sym made.put.always ∙ whole.1,
+        )
 
     pub put_to_end : PutsUnflushed the_text sink after.sink → HasPut before.sink after.sink
     put_to_end puts = HasPut-more before.sink sink after.sink (put_made edited (output before) middle made)

@@ -96,9 +96,9 @@ gives_still before mid name bytes keeps (inr lacks) = inr (
 
 -- ---- what was put
 
-pub put_either : (text : List ℕ) (s t : SinkState) → GainsPart s text t ⊎ Gains s text t → HasPut s t
+pub put_either : {X : Type 0} (text : List ℕ) (s t : SinkState) → GainsPart s text t ⊎ (Gains s text t × X) → HasPut s t
 put_either text s t (inl part) = record { part = take part.size text; gains = part.gains }
-put_either text s t (inr all) = record { part = text; gains = all }
+put_either text s t (inr all) = record { part = text; gains = all.0 }
 
 -- bytes were put and nothing flushed; or the run ended with a flush, and the sink kept its room
 abbrev pub EndsPut : Status → SinkState → SinkState → Type 0

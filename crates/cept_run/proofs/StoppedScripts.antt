@@ -1,5 +1,5 @@
 -- How a run ends by its script or its drawing.
-use Rattle.std.proofs.Common.{◌≡◌, ◌≢◌, ◌⊎◌, inl, inr, ℕ, ◌^◌, ◌<◌, ◌≤◌, true, List, []}
+use Rattle.std.proofs.Common.{◌≡◌, ◌≢◌, ◌⊎◌, inl, inr, ℕ, ◌^◌, ◌<◌, ◌≤◌, true, false, List, []}
 use Rattle.std.proofs.Common.{Option, Some, None, is_some, IsSome, refl, sym, ◌∙◌, ap, subst, arith}
 use Rattle.std.proofs.Common.{length}
 use Rattle.std.proofs.lemmas.List.{take_all}
@@ -177,9 +177,10 @@ module _ (asked : Asked) (grammar : Grammar) (page name : List ℕ) (before : Ou
     }
 
     -- or a part of it
-    most_part : GainsPart before.sink text sink ⊎ Gains before.sink text sink → PutsAtMost text before now
+    most_part : GainsPart before.sink text sink ⊎ (Gains before.sink text sink × (before.sink.always_flushes ≡ false))
+        → PutsAtMost text before now
     most_part (inl part) = record { unpainted = refl; size = part.size; put = part.gains.bytes }
-    most_part (inr all) = most_all all.bytes
+    most_part (inr all) = most_all all.0.bytes
 
   pub ends_at_script : (stop : Stop) → IsSound shelf → ScriptStops grammar name before.shelf before.sink stop shelf sink
       → RunsCourse course before now (status_of stop)
@@ -224,6 +225,7 @@ module _ (asked : Asked) (grammar : Grammar) (page name : List ℕ) (before : Ou
       too_long = ends.0.cause;
       selected = λ chosen is. selected_so_long name shelf sound ends.0.cause chosen is (selects.selects chosen is);
       longer = ends.0.longer;
+      unselected = λ other is chosen. page_unselected (chosen ∙ ap (λ n. Some (Some n)) (sym (name_in page other is)));
       unput = ends.1;
       unpainted = refl;
     });
@@ -236,6 +238,7 @@ module _ (asked : Asked) (grammar : Grammar) (page name : List ℕ) (before : Ou
     counted = ends.put.counted;
     unpainted = refl;
     flushed = ends.put.flushed;
+    flushes = ends.put.flushes;
     taken = ends.bad.taken;
     ended = ends.bad.ended;
     shelf_stays = ends.bad.stays;

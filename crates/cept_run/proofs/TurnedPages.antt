@@ -209,6 +209,7 @@ module _ (action : BytesAction) (name : List ℕ) (before : Outside) where
       taken = λ other named. (ends.taken, ends.ended);
       selected = selects_page;
       flushed = ends.put.flushed;
+      flushes = ends.put.flushes;
       shelf_stays = ends.stays ∙ selected;
       sink_stays = ends.put.stays;
     }
@@ -278,11 +279,12 @@ module _ (action : BytesAction) (name : List ℕ) (before : Outside) where
 
     by_put : (page : List ℕ) → PutsUnflushed (turned action page) before.sink after.sink
         → AreCutOff (text_event (turned action page) ∷ []) (output before) (output after)
-        ⊎ AreMade (text_event (turned action page) ∷ []) (output before) (output after)
+        ⊎ (AreMade (text_event (turned action page) ∷ []) (output before) (output after)
+        × (before.sink.always_flushes ≡ false))
     by_put page puts =
         elim puts.put [
           | inl part ↦ inl (text_cut before after (turned action page) same part puts.cause puts.later)
-          | inr all ↦ inr (text_made before after (turned action page) same all)
+          | inr all ↦ inr (text_made before after (turned action page) same all.0, all.1)
         ]
 
     unreadable_by : (ends : TurnsNot action mid before.sink after.shelf after.sink) (page : List ℕ)

@@ -21,7 +21,7 @@ use Rattle.cept_run.proofs.StoppedScripts.{name_in}
 -- ---- a known page, whatever is selected at the end
 
 -- where the page is known, either it is selected at the end, or no name is
-selected_at_end : (name : List ℕ) (before after : ShelfState) (selected : Option (Option (List ℕ))) (page : List ℕ)
+pub selected_at_end : (name : List ℕ) (before after : ShelfState) (selected : Option (Option (List ℕ))) (page : List ℕ)
     → after.selected ≡ selected → IsSound before → KeepsFiles before after → Holds before name page
     → ((chosen : Option (List ℕ)) → after.selected ≡ Some chosen → (chosen ≡ None) ⊎ (chosen ≡ Some name))
     → (after.selected ≡ Some None) ⊎ (after.selected ≡ Some (Some name))
@@ -45,7 +45,7 @@ page_alone name own script chosen given (inr (inr named)) =
     absurd (subst (λ (s : Source). IsNamed s chosen) given named)
 
 -- what the shelf does, where the page is in a file
-reads_files : (course : Course) (name : List ℕ) (before after : ShelfState) (status : Status) → course.page ≡ File name
+pub reads_files : (course : Course) (name : List ℕ) (before after : ShelfState) (status : Status) → course.page ≡ File name
     → TouchesShelf course course.page before after status → ReadsFiles course name before after status
 reads_files course name before after status is =
     subst (λ (s : Source). TouchesShelf course s before after status) is

@@ -1,9 +1,9 @@
 -- What a run has from outside: a shelf to read, a sink to put into, and a glass to paint on. This project's own.
-use Rattle.std.specs.Prelude.{◌≡◌, ◌⊎◌, ◌≤◌, ℕ, false, List, ◌++◌, length}
+use Rattle.std.specs.Prelude.{◌≡◌, ◌⊎◌, ◌<◌, ◌≤◌, ℕ, false, true, List, ◌++◌, length}
 use Rattle.std.specs.Io.KnownBytes.{append_known}
 use Rattle.cept_outside.specs.ShelfState.{ShelfState}
 use Rattle.cept_outside.specs.Causes.{Rose}
-use Rattle.cept_outside.specs.SinkState.{SinkState, Gains, GainsPart, count_after}
+use Rattle.cept_outside.specs.SinkState.{SinkState, Gains, GainsPart, count_after, one_more}
 use Rattle.cept_repaint.specs.GlassState.{GlassState}
 use Rattle.cept_editor.specs.Made.{Output, output_of}
 
@@ -21,23 +21,26 @@ outside_of shelf sink glass = record { shelf = shelf; sink = sink; glass = glass
 abbrev pub output : Outside → Output
 output o = output_of o.sink o.glass
 
--- a text was put whole and flushed
+-- a text was put whole and then flushed, once
 pub record PutsWhole (text : List ℕ) (before after : SinkState) : Type 0 where
   pub put : after.bytes ≡ append_known before.bytes text
   pub counted : after.count ≡ count_after before.count (length text)
   pub room : after.room ≡ before.room
   pub flushed : after.unflushed ≡ false
+  pub flushes : after.flushes ≡ one_more before.flushes
   pub stays : after.faults ≡ before.faults
 
--- a text was put, whole or a part of it from its front on, and the sink failed
+-- a text was put and the sink failed: a part of it was put, from its front on; or the whole, and the flush failed, as it
+-- can
 pub record PutsUnflushed (text : List ℕ) (before after : SinkState) : Type 0 where
   pub cause : Rose before.faults after.faults
   pub later : before.faults ≤ after.faults
-  pub put : GainsPart before text after ⊎ Gains before text after
+  pub put : GainsPart before text after ⊎ (Gains before text after × (before.always_flushes ≡ false))
 
--- a front of a text was put: a part of it, or all
+-- a front of a text was put: a part of it; or all, where a flush can fail
 pub record PutsFront (text : List ℕ) (before after : SinkState) : Type 0 where
   pub part : List ℕ
   pub rest : List ℕ
   pub is : part ++ rest ≡ text
+  pub short : before.always_flushes ≡ true → 0 < length rest
   pub put : Gains before part after

@@ -9,7 +9,7 @@ use Rattle.cept_editor.specs.Made.{ArePainted, AreMade, AreCutOff}
 use Rattle.cept_words.specs.Faults.{Fault}
 use Rattle.cept_outside.specs.Causes.{Rose}
 use Rattle.cept_outside.specs.ShelfState.{ShelfState, Holds, KeepsFiles, bytes_under}
-use Rattle.cept_outside.specs.SinkState.{HasPut, count_after}
+use Rattle.cept_outside.specs.SinkState.{HasPut, count_after, one_more}
 use Rattle.cept_parser.specs.Items.{closed_items, commands, is_refusal}
 use Rattle.cept_profile.specs.Changes.{grid_with_paints}
 use Rattle.cept_profile.specs.Look.{grid}
@@ -106,6 +106,7 @@ pub record EndsWhole (course : Course) (before after : Outside) (refused : Bool)
       → (after.shelf.taken ≡ length page) × (after.shelf.ended ≡ true)
   pub selected : (name : List ℕ) → course.page ≡ File name → SelectsNoOther name after.shelf
   pub flushed : after.sink.unflushed ≡ false
+  pub flushes : after.sink.flushes ≡ one_more before.sink.flushes
   -- no fault was counted on the way
   pub shelf_stays : after.shelf.faults ≡ before.shelf.faults
   pub sink_stays : after.sink.faults ≡ before.sink.faults
@@ -133,6 +134,7 @@ pub record EndsAtBadLine (course : Course) (before after : Outside) : Type 0 whe
   pub counted : after.sink.count ≡ count_after before.sink.count (length (fault_text bad.fault))
   pub unpainted : after.glass ≡ before.glass
   pub flushed : after.sink.unflushed ≡ false
+  pub flushes : after.sink.flushes ≡ one_more before.sink.flushes
   -- all bytes of the script were taken, up to where the shelf said that it ends, and no fault was counted on the way
   pub taken : after.shelf.taken ≡ length bad.script
   pub ended : after.shelf.ended ≡ true
@@ -187,10 +189,11 @@ pub record IsReportCut (course : Course) (before after : Outside) : Type 0 where
   pub script_is : HasBytes before.shelf course.script script
   pub good : course.fault script ≡ None
   pub script_not_too_long : length script ≤ 2 ^ 20
-  -- at one event, which was painted and no later one; or the report was put, and not flushed
+  -- at one event, which was painted and no later one; or the report was put, and the flush failed, as it can
   pub cut : AreCutOff (course.events page script after.glass.grid) (output before) (output after)
-      ⊎ AreMade (course.events page script after.glass.grid) (output before) (output after)
-  -- so where the glass was blank, a front of the report was put
+      ⊎ (AreMade (course.events page script after.glass.grid) (output before) (output after)
+      × (before.sink.always_flushes ≡ false))
+  -- so where the glass was blank, a front of the report was put, and not the whole where no flush fails
   pub front : before.glass.grid ≡ grid [] → PutsFront (report_of course page script) before.sink after.sink
   -- of a page in a file, beside which none is selected, all was taken, up to where the shelf said that it ends; or a front
   pub taken : (name : List ℕ) → course.page ≡ File name → SelectsNoOther name after.shelf
@@ -251,6 +254,8 @@ pub record IsScriptTooLong (course : Course) (before after : Outside) : Type 0 w
   pub too_long : 2 ^ 20 < after.shelf.taken
   pub selected : (chosen : Option (List ℕ)) → after.shelf.selected ≡ Some chosen → chosen ≡ Some name
   pub longer : (script : List ℕ) → Gives before.shelf name script → 2 ^ 20 < length script
+  -- the page isn't selected
+  pub unselected : (page : List ℕ) → course.page ≡ File page → after.shelf.selected ≡ Some (Some page) → ⊥
   -- nothing was put and nothing painted
   pub unput : after.sink ≡ before.sink
   pub unpainted : after.glass ≡ before.glass
@@ -351,7 +356,7 @@ pub record RunsCourse (course : Course) (before after : Outside) (status : Statu
       → course.fault script ≡ Some fault → PutsAtMost (fault_text fault) before after
   -- what paints nothing doesn't touch the glass
   pub unpainted : course.painting ≡ false → after.glass ≡ before.glass
-  -- no early end flushes, but that at a script's bad line
+  -- no early end flushes, but that at a script's bad line: where bytes are put, no flush succeeds
   pub unflushed : is_flushed status ≡ false → HasPut before.sink after.sink
   -- the sink keeps its room
   pub room : after.sink.room ≡ before.sink.room

@@ -1,6 +1,6 @@
 -- The words of the program: which of them are a request, and what a request asks for. This project's own.
 use Rattle.std.specs.Prelude.{◌≢◌, ℕ, ◌^◌, Bool, true, false, ◌&&◌, List, [], ◌∷◌, Option, Some, None, codes}
-use Rattle.std.specs.Prelude.{if◌then◌else◌, string_bytes, length, nat_lt, nat_le}
+use Rattle.std.specs.Prelude.{if◌then◌else◌, length, nat_lt, nat_le}
 use Rattle.std.specs.Char.{is_ascii_digit}
 use Rattle.std.specs.List.{list_all}
 use Rattle.std.specs.Option.{option_map, option_and_then}
@@ -37,12 +37,12 @@ pub data Request : Type 0 where
 
 -- a request by its names' bytes
 abbrev pub request_by : NamedRequest → Request
-request_by (named.Page action page) = Page action (string_bytes page.now)
-request_by (named.Bytes action page) = Bytes action (string_bytes page.now)
-request_by (named.Script action page script) = Script action (string_bytes page.now) (string_bytes script.now)
+request_by (named.Page action page) = Page action page.now
+request_by (named.Bytes action page) = Bytes action page.now
+request_by (named.Script action page script) = Script action page.now script.now
 request_by (named.Number action number) = Number action number
-request_by (named.Flash page turns) = Flash (string_bytes page.now) turns
-request_by (named.Drawing page drawing) = Drawing (string_bytes page.now) (string_bytes drawing.now)
+request_by (named.Flash page turns) = Flash page.now turns
+request_by (named.Drawing page drawing) = Drawing page.now drawing.now
 
 -- the table of the first words
 abbrev pub word_of : List ℕ → Option Word

@@ -1,6 +1,6 @@
 //! Laws of the report. The functions do nothing: their contracts are the laws.
 
-ghost use Rattle.std.specs.Prelude.{◌≡◌, ◌^◌, ℕ, List, [], ◌∷◌, ◌++◌, Some, take, true, false};
+ghost use Rattle.std.specs.Prelude.{◌≡◌, ◌≢◌, ◌^◌, ℕ, List, [], ◌∷◌, ◌++◌, Some, take, true, false};
 ghost use Rattle.cept_codes.specs.declared.command.Command.{Command};
 ghost use Rattle.cept_codes.specs.declared.item.Item.{Item};
 ghost use Rattle.cept_codes.specs.declared.item.Reason.{Reason};
@@ -74,7 +74,8 @@ pub fn a_drawing_is_drawn_on_its_page()
 {}
 
 /// A known page that can't be read on, or is too long, is reported as far as it was taken, whether
-/// it is selected at the end or not: where it isn't, nothing was taken. No script is asked for.
+/// it is selected at the end or not: where it isn't, nothing was taken. Where a script is asked for,
+/// or a drawing, it is that which may be selected at the end, and of the page nothing is reported.
 pub fn a_known_page_is_reported_as_far_as_taken()
     ensures read_fault { (words : List (List ℕ)) (request : Request) (name own page : List ℕ)
         (before after : Outside)
@@ -88,4 +89,28 @@ pub fn a_known_page_is_reported_as_far_as_taken()
         → request_of words ≡ Some request → (course_of request).page ≡ File name
         → Holds before.shelf name page → (course_of request).script ≡ Given own
         → ReportsFront (course_of request) (take (2 ^ 24) page) before after }
+    ensures read_fault_selected { (words : List (List ℕ)) (request : Request)
+        (name page : List ℕ) (before after : Outside)
+        → IsSound before.shelf → IsSound after.shelf → Runs words before after statuses.ReadFault
+        → request_of words ≡ Some request → (course_of request).page ≡ File name
+        → Holds before.shelf name page → after.shelf.selected ≡ Some (Some name)
+        → ReportsFront (course_of request) (take after.shelf.taken page) before after }
+    ensures read_fault_unselected { (words : List (List ℕ)) (request : Request)
+        (name page : List ℕ) (before after : Outside)
+        → IsSound before.shelf → IsSound after.shelf → Runs words before after statuses.ReadFault
+        → request_of words ≡ Some request → (course_of request).page ≡ File name
+        → Holds before.shelf name page → after.shelf.selected ≢ Some (Some name)
+        → ReportsFront (course_of request) [] before after }
+    ensures too_long_selected { (words : List (List ℕ)) (request : Request)
+        (name page : List ℕ) (before after : Outside)
+        → Runs words before after statuses.TooLong
+        → request_of words ≡ Some request → (course_of request).page ≡ File name
+        → Holds before.shelf name page → after.shelf.selected ≡ Some (Some name)
+        → ReportsFront (course_of request) (take (2 ^ 24) page) before after }
+    ensures too_long_unselected { (words : List (List ℕ)) (request : Request)
+        (name page : List ℕ) (before after : Outside)
+        → IsSound before.shelf → Runs words before after statuses.TooLong
+        → request_of words ≡ Some request → (course_of request).page ≡ File name
+        → Holds before.shelf name page → after.shelf.selected ≢ Some (Some name)
+        → ReportsFront (course_of request) [] before after }
 {}

@@ -1,4 +1,4 @@
-ghost use Rattle.std.specs.Prelude.{◌≡◌, ◌≢◌, ◌^◌, ◌<◌, ◌≤◌, [], List, None, ℕ};
+ghost use Rattle.std.specs.Prelude.{◌≡◌, ◌≢◌, ◌^◌, ◌<◌, ◌≤◌, [], List, None, Some, ℕ};
 ghost use Rattle.std.specs.Prelude.{map, string_bytes, length};
 ghost use Rattle.cept_editor.specs.Made.{Output};
 ghost use Rattle.cept_generator.specs.Generated.{generated};
@@ -17,7 +17,7 @@ ghost use Rattle.cept_run.specs.Run.{Runs, RunsCourse, Asks, IsShortScript};
 ghost use Rattle.cept_run.specs.Run.{status_number, status_of, status_at_end};
 ghost use Rattle.cept_run.specs.ScriptReading.{ScriptKnown};
 ghost use Rattle.cept_run.specs.Words.{Request as Asked, HasTwoNames, Page, Script as OfScript};
-ghost use Rattle.cept_run.specs.Words.{Flash, Number, Drawing as OfDrawing, request_by};
+ghost use Rattle.cept_run.specs.Words.{Flash, Number, Drawing as OfDrawing, request_by, request_of};
 
 use crate::decoder::Decoder;
 use crate::easel::Easel;
@@ -26,9 +26,17 @@ use crate::page::{Stop, read_page};
 use crate::script::{read_drawing, read_script};
 use crate::turning::put_bytes;
 use crate::words::{
-    BytesAction, DRAWN, LOADED, NumberAction, PageAction, Request, ScriptAction, asked_of_phases,
-    request_of,
+    BytesAction, DRAWN, LOADED, NumberAction, PageAction, ScriptAction, asked_of_phases, request_of,
 };
+pub use crate::words::{Request, request_with};
+
+/// The name of a file. A parameter `&str` has a fact of its own, beside which no ghost members of a
+/// ledger can be picked: `report_stored` takes this in its place.
+#[derive(Clone, Copy)]
+struct Name<'a> {
+    text: &'a str,
+}
+
 use cept_editor::Editor;
 use cept_flash::Blink;
 use cept_generator::{generated_pages_are_read, generated_pages_are_short};
@@ -146,7 +154,7 @@ fn end_report<T: Sink, G: Glass>(
 fn report_stored<F: Shelf, T: Sink, G: Glass, L: Ledger>(
     decoder: &mut Decoder,
     blink: &mut Option<Blink>,
-    page: &String,
+    page: &Name<'_>,
     shelf: &mut F,
     sink: &mut T,
     glass: &mut G,
@@ -159,10 +167,10 @@ fn report_stored<F: Shelf, T: Sink, G: Glass, L: Ledger>(
     requires parts { blank.parts ≡ L.parts }
     requires some { 0 < blank.parts }
     ensures { (grammar : Grammar) (script : Source) (bytes : List ℕ) (start : ShelfState)
-        → ScriptKnown grammar (string_bytes page.now) script bytes start (F.state shelf.old)
+        → ScriptKnown grammar page.now.text.now script bytes start (F.state shelf.old)
         → sequel_of (plan_in decoder.old.reporter) ≡ sequel_in grammar bytes
         → RunsCourse
-        (reporting decoder.old.reporter.asked grammar (File (string_bytes page.now)) script)
+        (reporting decoder.old.reporter.asked grammar (File page.now.text.now) script)
         (outside_of start (T.state sink.old) (G.state glass.old))
         (outside_of (F.state shelf.new) (T.state sink.new) (G.state glass.new))
         (status_at_end result) }
@@ -171,7 +179,7 @@ fn report_stored<F: Shelf, T: Sink, G: Glass, L: Ledger>(
     compact_pages_are_spelled();
     compact_texts_bring_pages_back();
     validity_is_kept();
-    let Ok(()) = shelf.select(page.as_str()) else {
+    let Ok(()) = shelf.select(page.text) else {
         return Err(Stop::ReadFault);
     };
     let mut steps = Steps::<L>::new(blank);
@@ -184,12 +192,12 @@ fn report_stored<F: Shelf, T: Sink, G: Glass, L: Ledger>(
 fn report_page<F: Shelf, T: Sink, G: Glass>(
     alloc: Global,
     action: PageAction,
-    page: &String,
+    page: &str,
     shelf: &mut F,
     sink: &mut T,
     glass: &mut G,
 ) -> Result<bool, Stop>
-    ensures { RunsCourse (course_of (Page action (string_bytes page.now)))
+    ensures { RunsCourse (course_of (Page action page.now))
         (outside_of (F.state shelf.old) (T.state sink.old) (G.state glass.old))
         (outside_of (F.state shelf.new) (T.state sink.new) (G.state glass.new))
         (status_at_end result) }
@@ -199,22 +207,30 @@ fn report_page<F: Shelf, T: Sink, G: Glass>(
     let mut decoder = Decoder::new(asked, easel);
     // No step is counted: the ledger is a blank one.
     let blank = Blank::new(1);
-    report_stored::<F, T, G, Brand>(&mut decoder, &mut None, page, shelf, sink, glass, blank)
+    report_stored::<F, T, G, Brand>(
+        &mut decoder,
+        &mut None,
+        &Name { text: page },
+        shelf,
+        sink,
+        glass,
+        blank,
+    )
 }
 
 /// Reads a script, and then reports a page and the edits of the script.
 fn report_edited<F: Shelf, T: Sink, G: Glass>(
     alloc: Global,
     action: ScriptAction,
-    page: &String,
-    script: &String,
+    page: &str,
+    script: &str,
     shelf: &mut F,
     sink: &mut T,
     glass: &mut G,
 ) -> Result<bool, Stop>
-    requires { string_bytes script.now ≢ string_bytes page.now }
+    requires { script.now ≢ page.now }
     ensures { RunsCourse
-        (course_of (OfScript action (string_bytes page.now) (string_bytes script.now)))
+        (course_of (OfScript action page.now script.now))
         (outside_of (F.state shelf.old) (T.state sink.old) (G.state glass.old))
         (outside_of (F.state shelf.new) (T.state sink.new) (G.state glass.new))
         (status_at_end result) }
@@ -224,21 +240,29 @@ fn report_edited<F: Shelf, T: Sink, G: Glass>(
     let mut decoder = Decoder::new(action.asked(), Easel::Editor(editor, script));
     // No step is counted: the ledger is a blank one.
     let blank = Blank::new(1);
-    report_stored::<F, T, G, Brand>(&mut decoder, &mut None, page, shelf, sink, glass, blank)
+    report_stored::<F, T, G, Brand>(
+        &mut decoder,
+        &mut None,
+        &Name { text: page },
+        shelf,
+        sink,
+        glass,
+        blank,
+    )
 }
 
 /// Reads a drawing, and then reports a page and draws the drawing on it.
 fn report_drawn<F: Shelf, T: Sink, G: Glass>(
     alloc: Global,
-    page: &String,
-    drawing: &String,
+    page: &str,
+    drawing: &str,
     shelf: &mut F,
     sink: &mut T,
     glass: &mut G,
 ) -> Result<bool, Stop>
-    requires { string_bytes drawing.now ≢ string_bytes page.now }
+    requires { drawing.now ≢ page.now }
     ensures { RunsCourse
-        (course_of (OfDrawing (string_bytes page.now) (string_bytes drawing.now)))
+        (course_of (OfDrawing page.now drawing.now))
         (outside_of (F.state shelf.old) (T.state sink.old) (G.state glass.old))
         (outside_of (F.state shelf.new) (T.state sink.new) (G.state glass.new))
         (status_at_end result) }
@@ -248,19 +272,27 @@ fn report_drawn<F: Shelf, T: Sink, G: Glass>(
     let mut decoder = Decoder::new(DRAWN, Easel::Drawing(screen, drawing));
     // No step is counted: the ledger is a blank one.
     let blank = Blank::new(1);
-    report_stored::<F, T, G, Brand>(&mut decoder, &mut None, page, shelf, sink, glass, blank)
+    report_stored::<F, T, G, Brand>(
+        &mut decoder,
+        &mut None,
+        &Name { text: page },
+        shelf,
+        sink,
+        glass,
+        blank,
+    )
 }
 
 /// Reports a page that flashes through so many turns.
 fn report_phases<F: Shelf, T: Sink, G: Glass>(
     alloc: Global,
-    page: &String,
+    page: &str,
     turns: u16,
     shelf: &mut F,
     sink: &mut T,
     glass: &mut G,
 ) -> Result<bool, Stop>
-    ensures { RunsCourse (course_of (Flash (string_bytes page.now) turns))
+    ensures { RunsCourse (course_of (Flash page.now turns))
         (outside_of (F.state shelf.old) (T.state sink.old) (G.state glass.old))
         (outside_of (F.state shelf.new) (T.state sink.new) (G.state glass.new))
         (status_at_end result) }
@@ -271,7 +303,15 @@ fn report_phases<F: Shelf, T: Sink, G: Glass>(
     let mut decoder = Decoder::new(asked, easel);
     // No step is counted: the ledger is a blank one.
     let blank = Blank::new(1);
-    report_stored::<F, T, G, Brand>(&mut decoder, &mut blink, page, shelf, sink, glass, blank)
+    report_stored::<F, T, G, Brand>(
+        &mut decoder,
+        &mut blink,
+        &Name { text: page },
+        shelf,
+        sink,
+        glass,
+        blank,
+    )
 }
 
 /// Reads a generated page to its end, puts the text at the end and flushes. Answers whether an item
@@ -375,6 +415,22 @@ fn report_request<F: Shelf, T: Sink, G: Glass>(
     }
 }
 
+/// Runs the program on a request: it does all that `run` does on words that are this request.
+pub fn run_request<F: Shelf, T: Sink, G: Glass>(
+    alloc: Global,
+    request: Request<'_>,
+    shelf: &mut F,
+    sink: &mut T,
+    glass: &mut G,
+) -> Status
+    requires { HasTwoNames (request_by request) }
+    ensures { (words : List (List ℕ)) → request_of words ≡ Some (request_by request.entry)
+        → Runs words (outside_of (F.state shelf.old) (T.state sink.old) (G.state glass.old))
+        (outside_of (F.state shelf.new) (T.state sink.new) (G.state glass.new)) result }
+{
+    Status::at_end(report_request(alloc, request, shelf, sink, glass))
+}
+
 /// Runs the program on its words, those after the program's name, over a shelf, a sink and a glass.
 ///
 /// `changes PAGE`, `show PAGE`, `cells PAGE` and `write PAGE` apply the commands of the page one
@@ -417,7 +473,7 @@ pub fn run<F: Shelf, T: Sink, G: Glass>(
     let Some(request) = request_of(words.as_slice()) else {
         return Status::Usage;
     };
-    Status::at_end(report_request(alloc, request, shelf, sink, glass))
+    run_request(alloc, request, shelf, sink, glass)
 }
 
 /// Runs the program over a shelf and a sink that never fail: it does all that `run` does, no fault

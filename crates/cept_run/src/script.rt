@@ -1,6 +1,6 @@
 //! Takes a script from the shelf and reads its edits, or a drawing and reads its figures.
 
-ghost use Rattle.std.specs.Prelude.{◌≡◌, string_bytes, IfOk, IfErr, false};
+ghost use Rattle.std.specs.Prelude.{◌≡◌, IfOk, IfErr, false};
 ghost use Rattle.cept_run.specs.Course.{Scripts, Drawings};
 ghost use Rattle.cept_run.specs.Events.{Edits, Figures};
 ghost use Rattle.cept_run.specs.Page.{KeepsShelf};
@@ -51,14 +51,14 @@ fn take_script<F: Shelf>(alloc: Global, shelf: &mut F) -> Result<Vec<u8>, Stop>
 }
 
 /// Selects a script or a drawing and takes it.
-fn take_file<F: Shelf>(alloc: Global, name: &String, shelf: &mut F) -> Result<Vec<u8>, Stop>
-    ensures whole { IfOk result (λ bytes. FileWhole (string_bytes name.now) bytes.items
+fn take_file<F: Shelf>(alloc: Global, name: &str, shelf: &mut F) -> Result<Vec<u8>, Stop>
+    ensures whole { IfOk result (λ bytes. FileWhole name.now bytes.items
         (F.state shelf.old) (F.state shelf.new)) }
-    ensures stopped { IfErr result (λ stop. FileStops (string_bytes name.now) (F.state shelf.old)
+    ensures stopped { IfErr result (λ stop. FileStops name.now (F.state shelf.old)
         stop (F.state shelf.new)) }
-    ensures shelf { SelectsScript (string_bytes name.now) (F.state shelf.old) (F.state shelf.new) }
+    ensures shelf { SelectsScript name.now (F.state shelf.old) (F.state shelf.new) }
 {
-    let Ok(()) = shelf.select(name.as_str()) else {
+    let Ok(()) = shelf.select(name) else {
         return Err(Stop::ReadFault);
     };
     take_script(alloc, shelf)
@@ -91,13 +91,13 @@ fn stop_at<T: Sink>(fault: ScriptFault, sink: &mut T) -> Stop
 /// line that says so.
 pub fn read_script<F: Shelf, T: Sink>(
     alloc: Global,
-    name: &String,
+    name: &str,
     shelf: &mut F,
     sink: &mut T,
 ) -> Result<Script, Stop>
-    ensures ends { ScriptEnds Scripts Edits (string_bytes name.now) (F.state shelf.old)
+    ensures ends { ScriptEnds Scripts Edits name.now (F.state shelf.old)
         (T.state sink.old) result (F.state shelf.new) (T.state sink.new) }
-    ensures shelf { SelectsScript (string_bytes name.now) (F.state shelf.old) (F.state shelf.new) }
+    ensures shelf { SelectsScript name.now (F.state shelf.old) (F.state shelf.new) }
 {
     let bytes = take_file(alloc, name, shelf)?;
     match Script::read(bytes) {
@@ -120,13 +120,13 @@ fn as_script_fault(fault: DrawFault) -> ScriptFault
 /// the line that says so.
 pub fn read_drawing<F: Shelf, T: Sink>(
     alloc: Global,
-    name: &String,
+    name: &str,
     shelf: &mut F,
     sink: &mut T,
 ) -> Result<Drawing, Stop>
-    ensures ends { ScriptEnds Drawings Figures (string_bytes name.now) (F.state shelf.old)
+    ensures ends { ScriptEnds Drawings Figures name.now (F.state shelf.old)
         (T.state sink.old) result (F.state shelf.new) (T.state sink.new) }
-    ensures shelf { SelectsScript (string_bytes name.now) (F.state shelf.old) (F.state shelf.new) }
+    ensures shelf { SelectsScript name.now (F.state shelf.old) (F.state shelf.new) }
 {
     let bytes = take_file(alloc, name, shelf)?;
     match Drawing::read(alloc, bytes.as_slice()) {

@@ -2,7 +2,6 @@
 //! in memory.
 
 ghost use Rattle.std.specs.Prelude.{◌≡◌, ◌≤◌, ◌^◌, List, ℕ, [], ◌++◌, true, false, not, length};
-ghost use Rattle.std.specs.Prelude.{string_bytes};
 ghost use Rattle.arrayvec.specs.ArrayVec.{array_vec_len};
 ghost use Rattle.cept_outside.specs.SinkState.{SinkState};
 ghost use Rattle.cept_repaint.specs.GlassState.{GlassState};
@@ -191,15 +190,15 @@ fn turn_page<F: Shelf, T: Sink>(
 /// Puts the bytes of a page in another form.
 pub fn put_bytes<F: Shelf, T: Sink>(
     action: BytesAction,
-    page: &String,
+    page: &str,
     shelf: &mut F,
     sink: &mut T,
 ) -> Result<bool, Stop>
-    ensures { (glass : GlassState) → RunsCourse (course_of (Bytes action (string_bytes page.now)))
+    ensures { (glass : GlassState) → RunsCourse (course_of (Bytes action page.now))
         (outside_of (F.state shelf.old) (T.state sink.old) glass)
         (outside_of (F.state shelf.new) (T.state sink.new) glass) (status_at_end result) }
 {
-    let Ok(()) = shelf.select(page.as_str()) else {
+    let Ok(()) = shelf.select(page) else {
         return Err(Stop::ReadFault);
     };
     turn_page(action, shelf, sink)

@@ -242,18 +242,18 @@ fn word_of(word: &str) -> Option<Word>
 #[derive(Clone, Copy, Debug)]
 pub enum Request<'a> {
     /// Of the page of this name.
-    Page(PageAction, &'a String),
+    Page(PageAction, &'a str),
     /// Of the bytes of the page of this name.
-    Bytes(BytesAction, &'a String),
+    Bytes(BytesAction, &'a str),
     /// Of the page of the first name and the script of the second.
-    Script(ScriptAction, &'a String, &'a String),
+    Script(ScriptAction, &'a str, &'a str),
     /// Of the generated page of this number.
     Number(NumberAction, u32),
     /// Of the page of this name, which flashes through so many turns, at most 600.
-    Flash(&'a String, u16),
+    Flash(&'a str, u16),
     /// Of the page of the first name and the drawing of the second: the page with it, as bytes that
     /// bring it back.
-    Drawing(&'a String, &'a String),
+    Drawing(&'a str, &'a str),
 }
 
 /// Whether each byte is a digit.
@@ -274,8 +274,8 @@ fn number_of(word: &str) -> Option<u32>
 }
 
 /// An action and the one word after it, the name of a page.
-fn page_request(action: PageAction, words: &[String]) -> Option<Request<'_>>
-    ensures { option_map request_by result ≡ page_request action (map string_bytes words.now) }
+fn page_request<'a>(action: PageAction, words: &[&'a str]) -> Option<Request<'a>>
+    ensures { option_map request_by result ≡ page_request action (map (λ w. w.now) words.now) }
 {
     match words {
         [page] if !page.is_empty() => Some(Request::Page(action, page)),
@@ -284,8 +284,8 @@ fn page_request(action: PageAction, words: &[String]) -> Option<Request<'_>>
 }
 
 /// An action and the one word after it, the name of a page.
-fn bytes_request(action: BytesAction, words: &[String]) -> Option<Request<'_>>
-    ensures { option_map request_by result ≡ bytes_request action (map string_bytes words.now) }
+fn bytes_request<'a>(action: BytesAction, words: &[&'a str]) -> Option<Request<'a>>
+    ensures { option_map request_by result ≡ bytes_request action (map (λ w. w.now) words.now) }
 {
     match words {
         [page] if !page.is_empty() => Some(Request::Bytes(action, page)),
@@ -294,9 +294,9 @@ fn bytes_request(action: BytesAction, words: &[String]) -> Option<Request<'_>>
 }
 
 /// An action and the two words after it, the names of a page and of a script.
-fn script_request(action: ScriptAction, words: &[String]) -> Option<Request<'_>>
+fn script_request<'a>(action: ScriptAction, words: &[&'a str]) -> Option<Request<'a>>
     ensures request { option_map request_by result
-        ≡ script_request action (map string_bytes words.now) }
+        ≡ script_request action (map (λ w. w.now) words.now) }
     ensures differ { IfSome result (λ request. HasTwoNames (request_by request)) }
 {
     match words {
@@ -308,11 +308,11 @@ fn script_request(action: ScriptAction, words: &[String]) -> Option<Request<'_>>
 }
 
 /// An action and the one word after it, the number of a generated page.
-fn number_request(action: NumberAction, words: &[String]) -> Option<Request<'_>>
-    ensures { option_map request_by result ≡ number_request action (map string_bytes words.now) }
+fn number_request<'a>(action: NumberAction, words: &[&'a str]) -> Option<Request<'a>>
+    ensures { option_map request_by result ≡ number_request action (map (λ w. w.now) words.now) }
 {
     match words {
-        [number] => Some(Request::Number(action, number_of(number.as_str())?)),
+        [number] => Some(Request::Number(action, number_of(number)?)),
         _ => None,
     }
 }
@@ -330,20 +330,18 @@ fn turns_of(word: &str) -> Option<u16>
 }
 
 /// The two words after the first, the name of a page and a number of turns.
-fn flash_request(words: &[String]) -> Option<Request<'_>>
-    ensures { option_map request_by result ≡ flash_request (map string_bytes words.now) }
+fn flash_request<'a>(words: &[&'a str]) -> Option<Request<'a>>
+    ensures { option_map request_by result ≡ flash_request (map (λ w. w.now) words.now) }
 {
     match words {
-        [page, number] if !page.is_empty() => {
-            Some(Request::Flash(page, turns_of(number.as_str())?))
-        }
+        [page, number] if !page.is_empty() => { Some(Request::Flash(page, turns_of(number)?)) }
         _ => None,
     }
 }
 
 /// The two words after the first, the names of a page and of a drawing.
-fn drawing_request(words: &[String]) -> Option<Request<'_>>
-    ensures request { option_map request_by result ≡ drawing_request (map string_bytes words.now) }
+fn drawing_request<'a>(words: &[&'a str]) -> Option<Request<'a>>
+    ensures request { option_map request_by result ≡ drawing_request (map (λ w. w.now) words.now) }
     ensures differ { IfSome result (λ request. HasTwoNames (request_by request)) }
 {
     match words {
@@ -354,21 +352,33 @@ fn drawing_request(words: &[String]) -> Option<Request<'_>>
     }
 }
 
-/// What the words ask for, where they are a request.
+/// What a first word asks for with those after it, where they are a request.
 #[tactic(auto, unfolding(crate::specs::Words::request_of))]
-pub fn request_of(words: &[String]) -> Option<Request<'_>>
-    ensures request { option_map request_by result ≡ request_of (map string_bytes words.now) }
+pub fn request_with<'a>(word: &str, after: &[&'a str]) -> Option<Request<'a>>
+    ensures request { option_map request_by result
+        ≡ request_of (word.now ∷ map (λ w. w.now) after.now) }
     ensures differ { IfSome result (λ request. HasTwoNames (request_by request)) }
 {
-    let [word, after @ ..] = words else {
-        return None;
-    };
-    match word_of(word.as_str())? {
+    match word_of(word)? {
         Word::Page(action) => page_request(action, after),
         Word::Bytes(action) => bytes_request(action, after),
         Word::Script(action) => script_request(action, after),
         Word::Number(action) => number_request(action, after),
         Word::Flash => flash_request(after),
         Word::Plot => drawing_request(after),
+    }
+}
+
+/// What the words ask for, where they are a request.
+#[tactic(auto, unfolding(crate::specs::Words::request_of))]
+pub fn request_of(words: &[String]) -> Option<Request<'_>>
+    ensures request { option_map request_by result ≡ request_of (map string_bytes words.now) }
+    ensures differ { IfSome result (λ request. HasTwoNames (request_by request)) }
+{
+    match words {
+        [word] => request_with(word.as_str(), &[]),
+        [word, one] => request_with(word.as_str(), &[one.as_str()]),
+        [word, one, other] => request_with(word.as_str(), &[one.as_str(), other.as_str()]),
+        _ => None,
     }
 }

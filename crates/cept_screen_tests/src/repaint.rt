@@ -34,7 +34,7 @@ fn taken_back<L: Ledger>(alloc: Global, blank: Blank) -> Result<TapeGlass, NoMem
     let mut steps = Steps::<L>::new(blank);
     let a = Command::Graphic(0x41);
     apply(&mut screen, a, &mut glass, &mut marks, &mut steps);
-    delta.reset(&screen);
+    screen.begin_notes(&mut delta);
     let clear = Command::Clear;
     screen.apply_noting(clear, &mut glass, &mut marks, &mut delta, &mut steps);
     let over = Command::Graphic(0x42);

@@ -2,3 +2,4 @@ pub mod InTurn
 pub mod Unchanged
 pub mod Room
 pub mod TakenBack
+mod Worked

@@ -13,9 +13,9 @@ use Rattle.cept_codes.proofs.Laws.{look_decides}
 use Rattle.cept_profile.specs.Changes.{changes_between, differences, grid_with_paints, look_at}
 use Rattle.cept_profile.specs.MovedRows.{row_before}
 use Rattle.cept_profile.proofs.Laws.{changes_between-same}
+use Rattle.cept_redraw.specs.Marks.{no_marks}
+use Rattle.cept_redraw.specs.Renewed.{look_otherwise, rows_renewed}
 use Rattle.cept_repaint.specs.GlassState.{Lists}
-use Rattle.cept_repaint.specs.Marks.{no_marks}
-use Rattle.cept_repaint.specs.Renewed.{look_otherwise, rows_renewed}
 
 unmarked : (f : ℕ → Bool) (n : ℕ) → ((k : ℕ) → f k ≡ false) → replicate n false ≡ map f (range_with_len 0 n)
 unmarked f n none =

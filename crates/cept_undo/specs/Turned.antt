@@ -2,10 +2,10 @@
 use Rattle.std.specs.Prelude.{◌≡◌, ℕ, ◌+◌, ◌≤◌, Bool, List, [], drop}
 use Rattle.cept_profile.specs.Look.{looks_of}
 use Rattle.cept_profile.specs.State.{State, core_of}
+use Rattle.cept_redraw.specs.Marks.{no_marks}
+use Rattle.cept_redraw.specs.Renewed.{rows_renewed}
 use Rattle.cept_repaint.specs.Applied.{IsRepainted}
 use Rattle.cept_repaint.specs.GlassState.{GlassState}
-use Rattle.cept_repaint.specs.Marks.{no_marks}
-use Rattle.cept_repaint.specs.Renewed.{rows_renewed}
 use Rattle.cept_undo.specs.Past.{handed_on, nearest}
 
 -- the screen stands at the first of the states ahead, if there is one; the others stay ahead, and the state before comes first

@@ -94,7 +94,7 @@ impl Undo {
     {
         let mut delta = take_free(&mut self.undone, &mut self.spare);
         give_back(&mut self.undone, &mut self.spare);
-        delta.reset(screen);
+        screen.begin_notes(&mut delta);
         self.begun = Some(delta);
     }
 

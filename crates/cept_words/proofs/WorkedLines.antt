@@ -1,6 +1,9 @@
 -- Worked lines, words and numbers, by computing.
-use Rattle.std.proofs.Common.{◌≡◌, [], ◌∷◌, ◌++◌, codes, map, Some, None, refl}
+use Rattle.std.proofs.Common.{◌≡◌, ℕ, List, [], ◌∷◌, ◌++◌, codes, map, Option, Some, None, Result, Ok, Err, refl}
 use Rattle.std.specs.List.{range_with_len}
+use Rattle.cept_codes.specs.declared.line_reason.LineReason.{LineReason}
+use Rattle.cept_codes.specs.declared.line_reason.LineReason.TheVariants as reasons
+use Rattle.cept_words.specs.Faults.{fault_from}
 use Rattle.cept_words.specs.Lines.{lines, number, words}
 
 lines-none : lines [] ≡ []
@@ -49,3 +52,18 @@ lines-of_other_ends = refl
 
 words-of_other_bytes : words (codes "a\tb," ++ 0xA0 ∷ codes "c") ≡ (codes "a\tb," ++ 0xA0 ∷ codes "c") ∷ []
 words-of_other_bytes = refl
+
+-- of lines of which those that are no number mean nothing, the first such one, by its number from 1 on
+abbrev meant : Option ℕ → Result ℕ LineReason
+meant (Some n) = Ok n
+meant None = Err reasons.UnknownWord
+
+abbrev number_or : List ℕ → Result ℕ LineReason
+number_or line = meant (number line)
+
+first_fault : map (λ bytes. fault_from number_or 1 (lines (codes bytes))) ("7\n8" ∷ "a" ∷ "7\na\n8\nb" ∷ "7\n8\n9\na\n" ∷ [])
+    ≡ None ∷ Some (record { line = 1; reason = reasons.UnknownWord })
+    ∷ Some (record { line = 2; reason = reasons.UnknownWord })
+    ∷ Some (record { line = 4; reason = reasons.UnknownWord }) ∷ []
+unfolding fault_from
+first_fault = refl

@@ -1,6 +1,7 @@
 mod BlockValues
 mod NoticesRead
 mod Taken
+mod Unasked
 mod Texts
 mod Reports
 mod ReportsTold

@@ -1,7 +1,7 @@
 -- What stands in the slice after a run, and what its status says.
-use Rattle.std.proofs.Common.{◌≡◌, ◌⊎◌, inl, inr, ℕ, ◌<◌, Bool, true, false, ◌&&◌, List, [], ◌++◌, Some, codes, cond}
+use Rattle.std.proofs.Common.{◌≡◌, ◌⊎◌, inl, inr, ℕ, ◌<◌, Bool, true, false, ◌&&◌, List, ◌++◌, Some, codes, cond}
 use Rattle.std.proofs.Common.{refl, sym, ap, subst, ◌∙◌, ◌≤◌, Option, None, arith, length, is_some, IsSome}
-use Rattle.std.proofs.Common.{take, drop, append-nil, take-append-drop}
+use Rattle.std.proofs.Common.{take, drop, take-append-drop, length-append, length-take}
 use Rattle.std.proofs.lemmas.Option.{same_Some}
 use Rattle.std.specs.Io.KnownBytes.{append_known}
 use Rattle.cept_editor.specs.Events.{report}
@@ -90,10 +90,12 @@ module _ (word : List ℕ) (given number : ℕ) (page script old new : List ℕ)
     rest = drop part.size whole;
     is = sym (take-append-drop part.size whole)
         ∙ ap (λ t. t ++ drop part.size whole) (sym (put_is (take part.size whole) part.gains));
+    short = omega (arith, part.short, ap length (put_is (take part.size whole) part.gains), length-take part.size whole);
   }
 
-  whole_is : (whole : List ℕ) → Gains run.runs.before.sink whole run.runs.after.sink → IsFront run.text whole
-  whole_is whole gains = record { rest = []; is = sym (put_is whole gains) ∙ sym (append-nil run.text) }
+  -- no flush of the sink fails
+  flushes_always : run.runs.before.sink.always_flushes ≡ true
+  flushes_always = ap (λ (s : SinkState). s.always_flushes) (run.runs.before_sink ∙ run.empty)
 
   -- the room of the sink is used up
   full_by : EndsAtWriteFault course run.runs.before run.runs.after
@@ -125,6 +127,13 @@ module _ (word : List ℕ) (given number : ℕ) (page script old new : List ℕ)
           record {
             rest = front.rest;
             is = sym front.is ∙ ap (λ t. t ++ front.rest) (sym (put_is front.part front.put));
+            short = omega (
+              arith,
+              front.short flushes_always,
+              ap length (put_is front.part front.put),
+              ap length front.is,
+              length-append front.part front.rest,
+            );
           }
 
       by_cut : IsReportCut course run.runs.before run.runs.after ⊎ IsFaultCut course run.runs.before run.runs.after
@@ -142,10 +151,11 @@ module _ (word : List ℕ) (given number : ℕ) (page script old new : List ℕ)
           inr (bad.fault, subst (λ l. course.fault l ≡ Some bad.fault) named bad.found, of_fault c.put.put)
         where
           of_fault : GainsPart run.runs.before.sink (fault_text c.bad.fault) run.runs.after.sink
-              ⊎ Gains run.runs.before.sink (fault_text c.bad.fault) run.runs.after.sink
+              ⊎ (Gains run.runs.before.sink (fault_text c.bad.fault) run.runs.after.sink
+              × (run.runs.before.sink.always_flushes ≡ false))
               → IsFront run.text (fault_text c.bad.fault)
           of_fault (inl part) = part_is _ part
-          of_fault (inr gains) = whole_is _ gains
+          of_fault (inr all) = let no : false ≡ true = sym all.1 ∙ flushes_always in cc
 
   front_by : (s : Status) → answer ≡ status_number s → RunsCourse course run.runs.before run.runs.after s
       → answer ≡ 5 → IsFrontReported course read lines old new put
@@ -179,7 +189,8 @@ room_in_run word given number page script old start end status on empty =
 pub put_within : (word : List ℕ) (given number : ℕ) (page script old new : List ℕ) (put : ℕ) (status : Status)
     → Calls word given number page script old new put status → put ≤ room_in old
 put_within word given number page script old new put status (inl run) = omega (arith, run.holding.count, run.within)
-put_within word given number page script old new put status (inr not) = omega (arith, not.none)
+put_within word given number page script old new put status (inr (inl not)) = omega (arith, not.unput.none)
+put_within word given number page script old new put status (inr (inr nothing)) = omega (arith, nothing.unput.none)
 
 -- ---- a line outside the grammar, a file that isn't there
 
@@ -243,8 +254,10 @@ pub reported : (word : List ℕ) (given number : ℕ) (page script old new : Lis
 reported word given number page script old new put answer status is (inl run) request read lines asks page_is lines_are low =
     by_status word given number page script old new put answer status run (course_of request) read lines page_is lines_are
     status is (run.runs.runs.request request asks).ends low
-reported word given number page script old new put answer status is (inr not) request read lines asks page_is lines_are low =
+reported word given number page script old new put answer status is (inr (inl not)) request read lines asks page_is lines_are low =
     let six = is ∙ ap status_number not.memory in absurd (omega (arith, six, low))
+reported word given number page script old new put answer status is (inr (inr nothing)) request read lines asks page_is lines_are low =
+    let two = is ∙ ap status_number nothing.usage in absurd (omega (arith, two, low))
 
 pub front_reported : (word : List ℕ) (given number : ℕ) (page script old new : List ℕ) (put answer : ℕ) (status : Status)
     → answer ≡ status_number status → Calls word given number page script old new put status
@@ -252,8 +265,10 @@ pub front_reported : (word : List ℕ) (given number : ℕ) (page script old new
 front_reported word given number page script old new put answer status is (inl run) request read lines asks page_is lines_are five =
     front_by word given number page script old new put answer status run (course_of request) read lines page_is lines_are
     status is (run.runs.runs.request request asks) five
-front_reported word given number page script old new put answer status is (inr not) request read lines asks page_is lines_are five =
+front_reported word given number page script old new put answer status is (inr (inl not)) request read lines asks page_is lines_are five =
     let six = is ∙ ap status_number not.memory in absurd (omega (arith, six, five))
+front_reported word given number page script old new put answer status is (inr (inr nothing)) request read lines asks page_is lines_are five =
+    let two = is ∙ ap status_number nothing.usage in absurd (omega (arith, two, five))
 
 pub fault_reported : (word : List ℕ) (given number : ℕ) (page script old new : List ℕ) (put answer : ℕ) (status : Status)
     → answer ≡ status_number status → Calls word given number page script old new put status
@@ -261,8 +276,10 @@ pub fault_reported : (word : List ℕ) (given number : ℕ) (page script old new
 fault_reported word given number page script old new put answer status is (inl run) request lines asks lines_are three =
     fault_by word given number page script old new put answer status run (course_of request) status lines lines_are is
     (run.runs.runs.request request asks).ends three
-fault_reported word given number page script old new put answer status is (inr not) request lines asks lines_are three =
+fault_reported word given number page script old new put answer status is (inr (inl not)) request lines asks lines_are three =
     let six = is ∙ ap status_number not.memory in absurd (omega (arith, six, three))
+fault_reported word given number page script old new put answer status is (inr (inr nothing)) request lines asks lines_are three =
+    let two = is ∙ ap status_number nothing.usage in absurd (omega (arith, two, three))
 
 pub is_missed : (word : List ℕ) (given number : ℕ) (page script old new : List ℕ) (put answer : ℕ) (status : Status)
     → answer ≡ status_number status → Calls word given number page script old new put status
@@ -270,8 +287,10 @@ pub is_missed : (word : List ℕ) (given number : ℕ) (page script old new : Li
 is_missed word given number page script old new put answer status is (inl run) request asks four page_there script_there =
     missed_by word given number page script old new put answer status run (course_of request) status is
     (run.runs.runs.request request asks) four page_there script_there
-is_missed word given number page script old new put answer status is (inr not) request asks four page_there script_there =
+is_missed word given number page script old new put answer status is (inr (inl not)) request asks four page_there script_there =
     let six = is ∙ ap status_number not.memory in absurd (omega (arith, six, four))
+is_missed word given number page script old new put answer status is (inr (inr nothing)) request asks four page_there script_there =
+    let two = is ∙ ap status_number nothing.usage in absurd (omega (arith, two, four))
 
 -- ---- the files of the shelf
 

@@ -1,6 +1,6 @@
 -- What a call does: it is a run over a shelf, a sink and a glass in memory. This project's own.
 use Rattle.std.specs.Prelude.{◌≡◌, ◌⊎◌, ◌<◌, ◌≤◌, ◌-◌, ◌^◌, ℕ, false, ◌&&◌, min, List, [], ◌++◌, take, drop, length, codes}
-use Rattle.std.specs.Prelude.{Option, Some, None, bytes_eq}
+use Rattle.std.specs.Prelude.{◌↔◌, true, Option, Some, None, IsSome, bytes_eq}
 use Rattle.std.specs.Prelude.{if◌then◌else◌}
 use Rattle.cept_words.specs.Faults.{Fault}
 use Rattle.cept_outside.specs.ShelfState.{Holds, bytes_under}
@@ -18,9 +18,17 @@ use Rattle.tamligub.specs.Words.{words_for}
 
 -- ---- the run
 
--- a sink with so much room into which nothing was put
+-- a sink with so much room into which nothing was put, and of which no flush fails
 abbrev pub empty_sink : ℕ → SinkState
-empty_sink room = record { bytes = Some []; count = Some 0; room = Some room; unflushed = false; faults = 0 }
+empty_sink room = record {
+  bytes = Some [];
+  count = Some 0;
+  room = Some room;
+  unflushed = false;
+  flushes = 0;
+  always_flushes = true;
+  faults = 0;
+}
 
 -- how many bytes of a slice are used: as many as it has, but 2^32 - 1 at most
 abbrev pub room_in : List ℕ → ℕ
@@ -67,16 +75,28 @@ pub record HasRun (word : List ℕ) (given number : ℕ) (page script old new : 
     pub within : length text ≤ room_in old
     pub holding : Holding text old new put
 
--- there was no memory to begin with
-pub record HasNotRun (old new : List ℕ) (put : ℕ) (status : Status) : Type 0 where
-  pub memory : status ≡ statuses.NoMemory
+-- nothing is put into the slice
+pub record PutsNone (old new : List ℕ) (put : ℕ) : Type 0 where
   pub stays : new ≡ old
   pub none : put ≡ 0
+
+-- the words are a request, and there was no memory to begin with it
+pub record HasNotRun (words : List (List ℕ)) (old new : List ℕ) (put : ℕ) (status : Status) : Type 0 where
+  pub memory : status ≡ statuses.NoMemory
+  pub asked : IsSome (request_of words)
+  pub unput : PutsNone old new put
+
+-- the words are no request
+pub record IsNoRequest (words : List (List ℕ)) (old new : List ℕ) (put : ℕ) (status : Status) : Type 0 where
+  pub usage : status ≡ statuses.Usage
+  pub unasked : request_of words ≡ None
+  pub unput : PutsNone old new put
 
 -- what a call did
 abbrev pub Calls : List ℕ → ℕ → ℕ → List ℕ → List ℕ → List ℕ → List ℕ → ℕ → Status → Type 0
 Calls word given number page script old new put status =
-    HasRun word given number page script old new put status ⊎ HasNotRun old new put status
+    HasRun word given number page script old new put status
+    ⊎ HasNotRun (words_for word given number) old new put status ⊎ IsNoRequest (words_for word given number) old new put status
 
 -- the same, by the number that it answers
 pub record Called (word : List ℕ) (given number : ℕ) (page script old new : List ℕ) (put answer : ℕ) : Type 0 where
@@ -102,10 +122,11 @@ pub record IsReported (course : Course) (page script old new : List ℕ) (put an
   pub holding : Holding (report_of course page script) old new put
   pub status : answer ≡ (if course.judged && has_refusal (closed_items page) then 1 else 0)
 
--- a text is the front of another
+-- a text is the front of another, and not the whole
 pub record IsFront (text whole : List ℕ) : Type 0 where
   pub rest : List ℕ
   pub is : whole ≡ text ++ rest
+  pub short : length text < length whole
 
 -- the front of the report, or of the line of the script's first fault
 abbrev pub IsCutOff : Course → List ℕ → List ℕ → List ℕ → Type 0
@@ -132,7 +153,7 @@ Reported word given number page script old new put answer = (request : Request) 
     → Supplies page script (course_of request).page read → Supplies page script (course_of request).script lines
     → answer < 2 → IsReported (course_of request) read lines old new put answer
 
--- there was no room for what is put
+-- there was no room for all that is put
 abbrev pub FrontReported : List ℕ → ℕ → ℕ → List ℕ → List ℕ → List ℕ → List ℕ → ℕ → ℕ → Type 0
 FrontReported word given number page script old new put answer = (request : Request) (read lines : List ℕ)
     → request_of (words_for word given number) ≡ Some request
@@ -145,6 +166,14 @@ FaultReported word given number page script old new put answer = (request : Requ
     → request_of (words_for word given number) ≡ Some request
     → Supplies page script (course_of request).script lines → answer ≡ 3
     → IsFaultReported (course_of request) lines old new put
+
+-- 2 is answered exactly where the words are no request
+abbrev pub UsageAnswered : List ℕ → ℕ → ℕ → ℕ → Type 0
+UsageAnswered word given number answer = (answer ≡ 2) ↔ (request_of (words_for word given number) ≡ None)
+
+-- where the words are no request, or there is no memory, nothing is put
+abbrev pub NothingPut : List ℕ → List ℕ → ℕ → ℕ → Type 0
+NothingPut old new put answer = (answer ≡ 2) ⊎ (answer ≡ 6) → PutsNone old new put
 
 -- a file that the words ask for isn't one that the call supplies
 abbrev pub IsMissed : List ℕ → ℕ → ℕ → ℕ → Type 0

@@ -18,7 +18,7 @@ mod words;
 
 ghost use Rattle.std.specs.Prelude.{◌≤◌};
 ghost use Rattle.tamligub.specs.Called.{Called, FaultReported, FrontReported, IsMissed, Reported};
-ghost use Rattle.tamligub.specs.Called.{room_in};
+ghost use Rattle.tamligub.specs.Called.{NothingPut, UsageAnswered, room_in};
 
 use crate::calling::Call;
 pub use law::{notices_are_read_back, what_is_told_is_the_report};
@@ -46,6 +46,8 @@ pub extern "C" fn tamligub_run(
         result }
     ensures fault { FaultReported word.now given number page.now script.now out.old out.new put.new
         result }
+    ensures usage { UsageAnswered word.now given number result }
+    ensures nothing { NothingPut out.old out.new put.new result }
     ensures missed { IsMissed word.now given number result }
     ensures within { put.new ≤ room_in out.old }
 {

@@ -1,10 +1,11 @@
-//! The words of a call, as a program is given them.
-ghost use Rattle.std.specs.Prelude.{◌≡◌, [], ◌∷◌, ◌++◌, map, string_bytes, IfOk, OnOk};
+//! The words of a call, and what they ask for. It takes no memory.
+ghost use Rattle.std.specs.Prelude.{◌≡◌, ◌∷◌, ℕ, Some, IfSome, decimal};
+ghost use Rattle.std.specs.Option.{option_map};
+ghost use Rattle.cept_run.specs.Words.{HasTwoNames, request_by, request_of};
 ghost use Rattle.tamligub.specs.Words.{words_for, words_after};
 
-use cept_codes::NoMemory;
+use cept_run::run::{Request, request_with};
 use itoa::Buffer;
-use std::alloc::Global;
 
 /// The name that the page has on the shelf.
 pub const PAGE: &str = "page";
@@ -12,66 +13,37 @@ pub const PAGE: &str = "page";
 /// The name that the script has.
 pub const SCRIPT: &str = "script";
 
-/// Adds a word.
-fn add(alloc: Global, words: &mut Vec<String>, word: &str) -> Result<(), NoMemory>
-    ensures { OnOk result (map string_bytes words.new.items
-        ≡ map string_bytes words.old.items ++ word.now ∷ []) }
+/// What a first word asks for with what is given after it, where these are a request. The number
+/// stands here as its digits.
+fn request_after<'a>(first: &str, given: u32, digits: &'a str) -> Option<Request<'a>>
+    ensures request { (number : ℕ) → digits.now ≡ decimal number
+        → option_map request_by result ≡ request_of (first.now ∷ words_after given number) }
+    ensures differ { IfSome result (λ request. HasTwoNames (request_by request)) }
 {
-    words.push(String::from_str(alloc, word)?)?;
-    Ok(())
-}
-
-/// Adds the words that stand after the first.
-fn add_given(
-    alloc: Global,
-    words: &mut Vec<String>,
-    given: u32,
-    number: u32,
-) -> Result<(), NoMemory>
-    ensures { OnOk result (map string_bytes words.new.items
-        ≡ map string_bytes words.old.items ++ words_after given number) }
-{
-    let mut buffer = Buffer::new();
-    let decimal = buffer.format(number);
+    let names = [PAGE, SCRIPT];
+    let numbered = [PAGE, digits];
     match given {
-        1 => add(alloc, words, PAGE),
-        2 => {
-            add(alloc, words, PAGE)?;
-            add(alloc, words, SCRIPT)
-        }
-        3 => add(alloc, words, decimal),
-        4 => {
-            add(alloc, words, PAGE)?;
-            add(alloc, words, decimal)
-        }
-        _ => Ok(()),
+        1 => request_with(first, &names[..1]),
+        2 => request_with(first, &names),
+        3 => request_with(first, &numbered[1..]),
+        4 => request_with(first, &numbered),
+        _ => request_with(first, &names[..0]),
     }
 }
 
-/// The first word and those after it.
-fn words_of(alloc: Global, first: &str, given: u32, number: u32) -> Result<Vec<String>, NoMemory>
-    ensures { IfOk result (λ words. map string_bytes words.items
-        ≡ first.now ∷ words_after given number) }
-{
-    let mut words = Vec::new(alloc);
-    add(alloc, &mut words, first)?;
-    add_given(alloc, &mut words, given, number)?;
-    Ok(words)
-}
-
-/// The words of a call: none where the first isn't UTF-8.
-pub fn words_for(
-    alloc: Global,
+/// What the words of a call ask for, where they are a request: none is where the first isn't UTF-8.
+pub fn request_for<'a>(
     word: &[u8],
     given: u32,
     number: u32,
-) -> Result<Vec<String>, NoMemory>
-    ensures { IfOk result (λ words. map string_bytes words.items
-        ≡ words_for word.now given number) }
+    buffer: &'a mut Buffer,
+) -> Option<Request<'a>>
+    ensures request { option_map request_by result
+        ≡ request_of (words_for word.now given number) }
+    ensures differ { IfSome result (λ request. HasTwoNames (request_by request)) }
 {
     let Ok(first) = str::from_utf8(word) else {
-        return Ok(Vec::new(alloc));
+        return None;
     };
-    let words = words_of(alloc, first, given, number)?;
-    Ok(words)
+    request_after(first, given, buffer.format(number))
 }

@@ -2,4 +2,4 @@ use Rattle.cept_live.proofs.restore.read_page.Given as goal
 
 -- the ledger of the blank that is handed on
 abbrev pub ghosts-read_into : goal.ghosts-read_into
-ghosts-read_into g a = record { name = a.blank.name; parts = a.blank.parts }
+ghosts-read_into a = record { name = a.blank.name; parts = a.blank.parts }

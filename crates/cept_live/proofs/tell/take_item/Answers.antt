@@ -5,8 +5,9 @@ use Rattle.cept_live.proofs.tell.take_item.Goals as goal
 
 pub returns-in-Command : goal.returns-in-Command
 returns-in-Command g c =
-    command_taken _ _ _ _ c.args.item.now c.in-Command.command _ _ _ _ _ _ _ _ _ c.in-Command.is
-    (subst IsValidSaid c.in-Command.is c.requires.valid) c.apply_from.ensures.applied c.tell_marked.ensures.most
+    command_taken _ _ _ _ c.args.item.now c.in-Command.command _ _ _ _ _ _ _ c.in-Command.is
+    (subst IsValidSaid c.in-Command.is c.requires.valid) c.apply_unseen.ensures.goes_on c.apply_unseen.ensures.written
+    c.tell_marked.ensures.most
     (record { tells = c.tell_marked.ensures.tells; renews = c.tell_marked.ensures.renews })
 
 pub returns-in-Refused : goal.returns-in-Refused

@@ -22,7 +22,7 @@ pub loop-number-init : goal.loop-number-init
 loop-number-init c = record {
   looks = search rules;
   markers = search rules;
-  hand = c.new-hand.ensures;
+  brush = c.new-brush.ensures.brush;
   sizes = search rules;
 }
 
@@ -79,7 +79,7 @@ loop-number-preserved c =
       markers = one_more (λ e. is_marker (row_in cells e) ≡ false) c.loop-number.number
           c.loop-number.invariant.markers (ap is_marker (sym (there c.before))
           ∙ c.if-not-is_plain.ensures.marker refl);
-      hand = c.small_among.ensures.hand;
+      brush = c.small_among.ensures.brush;
       sizes = one_more (λ e. sets_double_size (row_in cells e) ≡ false) c.loop-number.number
           c.loop-number.invariant.sizes (ap sets_double_size (sym (there c.before))
           ∙ c.if-not-is_plain.ensures.size refl);

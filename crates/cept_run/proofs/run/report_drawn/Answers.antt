@@ -1,4 +1,4 @@
-use Rattle.std.proofs.Common.{refl, ◌∙◌, ap, subst, string_bytes}
+use Rattle.std.proofs.Common.{refl, ◌∙◌, ap, subst}
 use Rattle.std.proofs.lemmas.Result.{err_from_is_err_and}
 use Rattle.cept_outside.specs.SinkState.{SinkState}
 use Rattle.cept_run.specs.declared.words.Asked.{Asked}
@@ -34,17 +34,17 @@ returns g c =
     c.new-decoder.ensures.easel refl in
     let ends = c.in_ok-drawing.ensures.ends in
     subst (λ (s : SinkState). RunsCourse
-    (reporting asked_to_draw Drawings (File (string_bytes c.args.page.now)) (File (string_bytes c.args.drawing.now)))
+    (reporting asked_to_draw Drawings (File c.args.page.now) (File c.args.drawing.now))
     (outside_of (g.F.Shelf.state c.args.shelf.now) s (g.G.Glass.state c.args.glass.now))
     (outside_of (g.F.Shelf.state c.report_stored.new.shelf) (g.T.Sink.state c.report_stored.new.sink)
     (g.G.Glass.state c.report_stored.new.glass)) (status_at_end c.report_stored.result)) ends.1
     (subst (λ (a : Asked). RunsCourse
-    (reporting a Drawings (File (string_bytes c.args.page.now)) (File (string_bytes c.args.drawing.now)))
+    (reporting a Drawings (File c.args.page.now) (File c.args.drawing.now))
     (outside_of (g.F.Shelf.state c.args.shelf.now) (g.T.Sink.state c.read_drawing.new.sink)
     (g.G.Glass.state c.args.glass.now))
     (outside_of (g.F.Shelf.state c.report_stored.new.shelf) (g.T.Sink.state c.report_stored.new.sink)
     (g.G.Glass.state c.report_stored.new.glass)) (status_at_end c.report_stored.result))
     c.new-decoder.ensures.asked
-    (c.report_stored.ensures Drawings (File (string_bytes c.args.drawing.now)) ends.0.bytes _
+    (c.report_stored.ensures Drawings (File c.args.drawing.now) ends.0.bytes _
     (script_read Drawings _ _ (Figures figures) _ _ c.requires c.read_drawing.ensures.shelf ends.0)
     (ap sequel_of plan ∙ sequel_followed asked_to_draw (Figures figures) refl ∙ ends.0.are)))

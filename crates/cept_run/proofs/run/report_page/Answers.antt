@@ -1,4 +1,4 @@
-use Rattle.std.proofs.Common.{[], None, refl, sym, ◌∙◌, ap, subst, string_bytes}
+use Rattle.std.proofs.Common.{[], None, refl, sym, ◌∙◌, ap, subst}
 use Rattle.cept_run.specs.declared.words.Asked.{Asked}
 use Rattle.cept_run.specs.Course.{File, Given, Scripts, reporting}
 use Rattle.cept_run.specs.Outside.{outside_of}
@@ -23,7 +23,7 @@ pub returns : goal.returns
 returns g c =
     let asked = c.asked-asked.result in
     let plan = plan_alone c.new-decoder.result.reporter asked _ c.new-decoder.ensures.asked c.new-decoder.ensures.easel c.in_ok-easel.ensures.start in
-    subst (λ (a : Asked). RunsCourse (reporting a Scripts (File (string_bytes c.args.page.now)) (Given []))
+    subst (λ (a : Asked). RunsCourse (reporting a Scripts (File c.args.page.now) (Given []))
     (outside_of (g.F.Shelf.state c.args.shelf.now) (g.T.Sink.state c.args.sink.now) (g.G.Glass.state c.args.glass.now))
     (outside_of (g.F.Shelf.state c.report_stored.new.shelf) (g.T.Sink.state c.report_stored.new.sink)
     (g.G.Glass.state c.report_stored.new.glass)) (status_at_end c.report_stored.result))

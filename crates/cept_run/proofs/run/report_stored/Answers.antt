@@ -11,7 +11,7 @@ use Rattle.cept_run.proofs.run.report_stored.Goals as goal
 pub returns-in_default : goal.returns-in_default
 returns-in_default g c = λ grammar script bytes start known sequel.
     ends_unselected (plan_in c.args.decoder.now.reporter) grammar _ script bytes _ _ known _ _
-    (rw c.as_str.ensures.value at c.in_default.ensures.selects) c.in_default.ensures.cause
+    c.in_default.ensures.selects c.in_default.ensures.cause
 
 -- the reading of the page stopped
 pub returns-in_err-bytes : goal.returns-in_err-bytes
@@ -19,7 +19,7 @@ returns-in_err-bytes g c = λ grammar script bytes start known sequel.
     let p = err_from_is_err_and c.from_residual.result c.from_residual.ensures.1 in
     rw (p.1, p.2) (ends_stopped (plan_in c.args.decoder.now.reporter) grammar _ script bytes _ _ known
     (g.F.Shelf.state c.select.new.self) _ _ (g.met.F.Shelf.sound c.args.shelf.now)
-    (rw c.as_str.ensures.value at c.in-Ok.ensures.selects) c.in-Ok.ensures.cause.stays c.read_page.ensures.shelf _
+    c.in-Ok.ensures.selects c.in-Ok.ensures.cause.stays c.read_page.ensures.shelf _
     (g.met.F.Shelf.sound c.read_page.new.shelf) c.in_err-bytes.ensures.ends)
 
 -- the sink failed at an edit
@@ -29,7 +29,7 @@ returns-in_err-make_edits g c = λ grammar script bytes start known sequel.
     let p = err_from_is_err_and c.from_residual-in_err-make_edits.result c.from_residual-in_err-make_edits.ensures.1 in
     let read = c.in_ok-bytes.ensures.ends in
     rw (p.1, p.2) (ends_unedited plan grammar _ script bytes _ _ known (g.F.Shelf.state c.select.new.self) _ _
-    (g.met.F.Shelf.sound c.args.shelf.now) (rw c.as_str.ensures.value at c.in-Ok.ensures.selects)
+    (g.met.F.Shelf.sound c.args.shelf.now) c.in-Ok.ensures.selects
     c.in-Ok.ensures.cause.stays c.read_page.ensures.shelf read.bytes read.known (read.taken, read.ended) read.stays read.few sequel _ refl
     (c.in_err-make_edits.ensures.cut plan (closed_items read.bytes) _ read.reported))
 
@@ -41,7 +41,7 @@ returns g c = λ grammar script bytes start known sequel.
     let edited = c.in_ok-make_edits.ensures.edited plan (closed_items read.bytes) _ read.reported in
     let h = remaining_at_end plan (closed_items read.bytes) in
     ends_put plan grammar _ script bytes _ _ known (g.F.Shelf.state c.select.new.self) _ _
-    (g.met.F.Shelf.sound c.args.shelf.now) (rw c.as_str.ensures.value at c.in-Ok.ensures.selects)
+    (g.met.F.Shelf.sound c.args.shelf.now) c.in-Ok.ensures.selects
     c.in-Ok.ensures.cause.stays c.read_page.ensures.shelf read.bytes read.known (read.taken, read.ended) read.stays read.few sequel _
     edited.made edited.stays
     (restores h (c.compact_pages_are_spelled.ensures.none (core h) (c.validity_is_kept.ensures.core (state h)

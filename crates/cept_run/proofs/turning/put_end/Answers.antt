@@ -1,4 +1,5 @@
 use Rattle.std.proofs.Common.{◌++◌, ◌∙◌, ap, sym, refl, inl}
+use Rattle.cept_outside.specs.SinkState.{one_more}
 use Rattle.cept_run.specs.Turned.{turned_front}
 use Rattle.cept_run.proofs.TurnedPieces.{all_put, part_put, fault_since, later_since, can_end, cannot_end}
 use Rattle.cept_run.proofs.turning.put_end.Goals as goal
@@ -26,7 +27,8 @@ returns g c = λ action b start has.
         put = c.in-Ok-flush.ensures.flushes.bytes ∙ put.bytes;
         counted = c.in-Ok-flush.ensures.flushes.count ∙ put.counted;
         room = c.in-Ok-flush.ensures.flushes.room ∙ put.room;
-        flushed = c.in-Ok-flush.ensures.flushes.flushed;
+        flushed = c.in-Ok-flush.ensures.flushes.flushed.0;
+        flushes = c.in-Ok-flush.ensures.flushes.flushed.1 ∙ ap one_more put.flushes;
         stays = c.in-Ok-flush.ensures.cause.stays ∙ puts.cause.stays ∙ has.stays;
       },
       can_end _ _ (c.is_open.ensures action b has.stands) c.if-is_open.false,

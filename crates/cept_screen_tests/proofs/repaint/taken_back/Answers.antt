@@ -6,5 +6,5 @@ use Rattle.cept_screen_tests.proofs.repaint.taken_back.Goals as goal
 pub restore-requires : goal.restore-requires
 restore-requires g c =
     subst (λ (s : State). IsValidState s)
-    (sym (c.apply_noting-2.ensures.unwound ∙ c.apply_noting.ensures.unwound ∙ c.reset.ensures.unwound))
-    c.reset.ensures.valid
+    (sym (c.apply_noting-2.ensures.unwound ∙ c.apply_noting.ensures.unwound ∙ c.begin_notes.ensures.unwound))
+    c.begin_notes.ensures.valid

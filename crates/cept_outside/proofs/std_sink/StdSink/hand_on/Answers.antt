@@ -8,5 +8,6 @@ loop-self-preserved g c = record {
       c.as_slice.ensures.value c.loop-self.invariant.kept c.in_ok-count.ensures.appends;
   unflushed = still_unflushed c.loop-self.self.sent _ _ c.loop-self.self.writer.unflushed _ _ (omega arith)
       c.in_ok-count.ensures.unflushed c.loop-self.invariant.unflushed;
+  flushes = c.in_ok-count.ensures.flushes ∙ c.loop-self.invariant.flushes;
   faults = c.in_ok-count.ensures.cause.stays ∙ c.loop-self.invariant.faults;
 }

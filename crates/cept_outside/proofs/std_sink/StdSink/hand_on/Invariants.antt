@@ -7,6 +7,7 @@ abbrev pub invariant-loop-self : goal.invariant-loop-self
 invariant-loop-self g l = record {
   kept : Keeps (written_and_held g.W.Write.contents l.initial.self) (written_and_held g.W.Write.contents l.self);
   unflushed : (std_sink_state l.self).unflushed ≡ (std_sink_state l.initial.self).unflushed;
+  flushes : (std_sink_state l.self).flushes ≡ (std_sink_state l.initial.self).flushes;
   faults : (std_sink_state l.self).faults ≡ (std_sink_state l.initial.self).faults;
 }
 

@@ -1,5 +1,5 @@
-use Rattle.cept_repaint.proofs.NotedPages.{unwound-behind}
-use Rattle.cept_repaint.proofs.NotedInOrder.{noted-some}
+use Rattle.cept_repaint.proofs.NotedStates.{unwound-behind}
+use Rattle.cept_repaint.proofs.NotedCommands.{noted-some}
 use Rattle.cept_repaint.proofs.screen.Screen.apply_noting.Goals as goal
 
 pub returns-clause-unwound : goal.returns-clause-unwound

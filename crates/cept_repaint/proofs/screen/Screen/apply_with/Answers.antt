@@ -2,15 +2,16 @@ use Rattle.std.proofs.Common.{◌≡◌, sym, ap, subst, ◌∙◌}
 use Rattle.std.specs.Prelude.{option_map}
 use Rattle.cept_profile.specs.OldValues.{with_control}
 use Rattle.cept_profile.specs.State.{Page, State}
+use Rattle.cept_page.specs.Behind.{page_behind}
+use Rattle.cept_page.proofs.Laws.{noted-none}
 use Rattle.cept_repaint.specs.Applied.{IsApplied}
-use Rattle.cept_repaint.specs.Noter.{page_behind}
 use Rattle.cept_repaint.proofs.AppliedCommands.{IsApplied-unseen}
-use Rattle.cept_repaint.proofs.NotedPages.{state_behind-control}
 use Rattle.std.proofs.Common.{List, length}
 use Rattle.cept_codes.specs.declared.stroke.Stroke.{Stroke}
 use Rattle.cept_profile.specs.NotedStrokes.{with_strokes}
 use Rattle.cept_profile.specs.Strokes.{strokes_of}
-use Rattle.cept_repaint.proofs.NotedInOrder.{noted-command, noted-none}
+use Rattle.cept_repaint.proofs.NotedStates.{state_behind-control}
+use Rattle.cept_repaint.proofs.NotedCommands.{noted-command}
 use Rattle.cept_repaint.proofs.screen.Screen.apply_with.Goals as goal
 
 pub returns-clause-applied : goal.returns-clause-applied

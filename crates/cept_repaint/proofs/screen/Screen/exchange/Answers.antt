@@ -1,7 +1,7 @@
 use Rattle.std.proofs.Common.{sym, subst, ◌∙◌}
 use Rattle.cept_profile.specs.OldValues.{OldValues, unwound}
-use Rattle.cept_repaint.specs.Exchanged.{HasSameLocations, exchanged}
-use Rattle.cept_repaint.proofs.ExchangedStates.{HasSameLocations-exchanged, exchanged-twice, unwound-exchanged}
+use Rattle.cept_delta.specs.Exchanged.{HasSameLocations, exchanged}
+use Rattle.cept_delta.proofs.Laws.{HasSameLocations-exchanged, exchanged-twice, unwound-exchanged}
 use Rattle.cept_repaint.proofs.screen.Screen.exchange.Goals as goal
 
 pub returns-clause-unwound : goal.returns-clause-unwound

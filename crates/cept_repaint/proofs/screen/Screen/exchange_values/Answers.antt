@@ -2,12 +2,11 @@ use Rattle.std.proofs.Common.{sym, ap, subst, ◌∙◌}
 use Rattle.cept_profile.specs.OldValues.{OldValues, page_unwound, unwound}
 use Rattle.cept_profile.specs.State.{State}
 use Rattle.cept_profile.specs.Valid.{IsValidPage, IsValidState}
-use Rattle.cept_repaint.specs.Exchanged.{exchanged, page_exchanged}
+use Rattle.cept_delta.specs.Exchanged.{exchanged, page_exchanged}
 use Rattle.cept_repaint.specs.Kept.{state_of_parts}
 use Rattle.cept_repaint.proofs.KeptAfter.{AreEdges-state}
 use Rattle.cept_repaint.proofs.KeptPictures.{IsKept-restored, IsKeptOn-state, IsPutBack-restored}
-use Rattle.cept_repaint.proofs.UnwoundRows.{rows_unwound-control}
-use Rattle.cept_repaint.proofs.UnwoundStates.{valid_page_unwound}
+use Rattle.cept_repaint.proofs.UnwoundStates.{rows_unwound-control, valid_page_unwound}
 use Rattle.cept_repaint.proofs.screen.Screen.exchange_values.Goals as goal
 
 pub exchange-requires-clause-kept : goal.exchange-requires-clause-kept

@@ -1,5 +1,5 @@
 use Rattle.std.proofs.Common.{◌+◌, ◌*◌, ◌≡◌, arith, subst, sym}
-use Rattle.cept_rows.specs.Brush.{IsAtHand}
+use Rattle.cept_rows.specs.Brush.{IsBrush}
 use Rattle.cept_rows.proofs.FlaggedColumns.{IsResolvedTo-as, IsResolvedTo-differ, IsResolvedTo-looks, IsResolvedTo-none}
 use Rattle.cept_rows.proofs.FlaggedColumns.{IsResolvedTo-skip, IsResolvedTo-to}
 use Rattle.cept_rows.proofs.row_looks.RowLooks.resolve_columns.Goals as goal
@@ -8,7 +8,7 @@ use Rattle.cept_rows.proofs.row_looks.RowLooks.resolve_columns.Goals.{then-has_f
 pub loop-group-init : goal.loop-group-init
 loop-group-init g c = record {
   columns = IsResolvedTo-none _ _ c.args.self.now c.columns_by_type.ensures.columns;
-  hand = c.new-hand.ensures;
+  brush = c.new-brush.ensures.brush;
 }
 
 pub loop-group-preserved : goal.loop-group-preserved
@@ -19,13 +19,13 @@ loop-group-preserved g c =
         columns = IsResolvedTo-to next
             (IsResolvedTo-as w.self-is w.differ-is
             (w.resolve_eight.ensures.columns c.args.self.now c.loop-group.invariant.columns));
-        hand = subst (λ h. IsAtHand c.args.source.now h) (sym w.hand-is) w.resolve_eight.ensures.hand;
+        brush = subst (λ b. IsBrush c.args.source.now b) (sym w.brush-is) w.resolve_eight.ensures.brush;
       }
       | else-has_flag w ↦ record {
         columns = IsResolvedTo-to next
             (IsResolvedTo-as w.self-is w.differ-is
             (IsResolvedTo-skip 8 c.loop-group.invariant.columns (c.has_flag.ensures w.if-has_flag.false)));
-        hand = subst (λ h. IsAtHand c.args.source.now h) (sym w.hand-is) c.loop-group.invariant.hand;
+        brush = subst (λ b. IsBrush c.args.source.now b) (sym w.brush-is) c.loop-group.invariant.brush;
       }
     ]
 

@@ -1,5 +1,5 @@
 use Rattle.std.proofs.Common.{◌+◌, ◌≡◌, ◌∙◌, ap, get_or, arith, subst, sym, false, refl}
-use Rattle.cept_rows.specs.Brush.{IsAtHand}
+use Rattle.cept_rows.specs.Brush.{IsBrush}
 use Rattle.cept_rows.proofs.FlaggedColumns.{IsResolvedTo-as, IsResolvedTo-left, IsResolvedTo-more, IsResolvedTo-to}
 use Rattle.cept_rows.proofs.row_looks.RowLooks.resolve_eight.Goals as goal
 use Rattle.cept_rows.proofs.row_looks.RowLooks.resolve_eight.Goals.{then-flags-at, else-flags-at}
@@ -7,7 +7,7 @@ use Rattle.cept_rows.proofs.row_looks.RowLooks.resolve_eight.Goals.{then-flags-a
 pub loop-k-init : goal.loop-k-init
 loop-k-init c = record {
   columns = λ was first. first;
-  hand = c.requires.hand;
+  brush = c.requires.brush;
 }
 
 pub loop-k-preserved : goal.loop-k-preserved
@@ -20,12 +20,12 @@ loop-k-preserved c =
             w.resolve_among.result w.resolve_among.new.self c.from-at.result c.from-at.ensures refl
             (rw (← w.numbered.ensures) w.resolve_among.ensures.look.looks)
             (rw (← w.numbered.ensures) w.resolve_among.ensures.look.differs));
-        hand = subst (λ h. IsAtHand c.args.source.now h) (sym w.hand-is) w.resolve_among.ensures.hand;
+        brush = subst (λ b. IsBrush c.args.source.now b) (sym w.brush-is) w.resolve_among.ensures.brush;
       }
       | else-flags-at w ↦ record {
         columns = λ was first. IsResolvedTo-as w.self-is w.differ-is
             (IsResolvedTo-left (c.loop-k.invariant.columns was first) (flag ∙ w.if-flags-at.false));
-        hand = subst (λ h. IsAtHand c.args.source.now h) (sym w.hand-is) c.loop-k.invariant.hand;
+        brush = subst (λ b. IsBrush c.args.source.now b) (sym w.brush-is) c.loop-k.invariant.brush;
       }
     ]
 

@@ -17,6 +17,6 @@ returns c =
       valid = subst IsValidFull (sym full)
           (IsValidFull-cascade unset_pen c.args.source.now.row_pen c.args.source.now.screen_pen
           (record { fore = tt; back = tt }) c.valid_by_type.ensures.row_pen c.valid_by_type.ensures.screen_pen);
-      space = c.new-hand.ensures.blank ∙ ap (λ f. small_shape c.args.source.now shapes.Space f) (sym full);
-      brush = c.new-hand.ensures.brush;
+      space = c.new-brush.ensures.space ∙ ap (λ f. small_shape c.args.source.now shapes.Space f) (sym full);
+      brush = c.new-brush.ensures.brush;
     }

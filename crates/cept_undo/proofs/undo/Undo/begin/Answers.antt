@@ -5,16 +5,16 @@ use Rattle.cept_undo.proofs.undo.Undo.begin.Goals as goal
 
 pub returns-clause-past : goal.returns-clause-past
 returns-clause-past c =
-    past-begin c.args.self.now _ c.args.screen.now c.reset.new.self c.requires.none_begun
-    (ap (λ (u : Edits). u.kept) c.self.view_is) refl c.reset.ensures.unwound
+    past-begin c.args.self.now _ c.args.screen.now c.begin_notes.new.delta c.requires.none_begun
+    (ap (λ (u : Edits). u.kept) c.self.view_is) refl c.begin_notes.ensures.unwound
 
 pub returns-clause-future : goal.returns-clause-future
 returns-clause-future c = future-none _ c.args.screen.now c.give_back.ensures.none
 
 pub returns-clause-at_begin : goal.returns-clause-at_begin
-returns-clause-at_begin c = at_begin-begin _ c.args.screen.now c.reset.new.self refl c.reset.ensures.unwound
+returns-clause-at_begin c = at_begin-begin _ c.args.screen.now c.begin_notes.new.delta refl c.begin_notes.ensures.unwound
 
 pub returns-clause-fits : goal.returns-clause-fits
 returns-clause-fits c =
     FitsTogether-begin c.args.self.now _ c.args.screen.now (returns-clause-past c) (returns-clause-at_begin c)
-    (returns-clause-future c) c.requires.fits c.reset.ensures.valid
+    (returns-clause-future c) c.requires.fits c.begin_notes.ensures.valid

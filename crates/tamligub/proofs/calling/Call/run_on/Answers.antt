@@ -1,8 +1,7 @@
-use Rattle.std.proofs.Common.{List, ℕ, None, refl, subst, rules}
+use Rattle.std.proofs.Common.{None, refl, rules}
 use Rattle.cept_outside.specs.PlainShelf.{plain_shelf_state}
 use Rattle.cept_outside.specs.PlainSink.{plain_sink_state}
 use Rattle.cept_run.specs.Outside.{Outside, outside_of}
-use Rattle.cept_run.specs.Run.{Runs}
 use Rattle.tamligub.proofs.Reports.{files_added}
 use Rattle.tamligub.proofs.calling.Call.run_on.Goals as goal
 
@@ -10,8 +9,8 @@ pub returns : goal.returns
 returns c =
     let before : Outside = outside_of (plain_shelf_state c.add-2.new.self) (plain_sink_state c.args.sink.now)
     (record { grid = c.in_ok-glass.glass.rows; paints = None }) in
-    let after : Outside = outside_of (plain_shelf_state c.run.new.shelf) (plain_sink_state c.run.new.sink)
-    (record { grid = c.run.new.glass.rows; paints = None }) in
+    let after : Outside = outside_of (plain_shelf_state c.run_request.new.shelf) (plain_sink_state c.run_request.new.sink)
+    (record { grid = c.run_request.new.glass.rows; paints = None }) in
     record {
       before = before;
       after = after;
@@ -26,5 +25,5 @@ returns c =
       blank = search rules;
       before_sink = refl;
       after_sink = refl;
-      runs = subst (λ (words : List (List ℕ)). Runs words before after c.run.result) c.in_ok-words.ensures c.run.ensures;
+      runs = c.run_request.ensures _ c.requires.request;
     }

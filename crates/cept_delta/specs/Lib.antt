@@ -1,0 +1,5 @@
+pub mod Delta
+pub mod Exchanged
+pub mod Noted
+pub mod Noter
+pub mod PutBack

@@ -1,0 +1,7 @@
+use Rattle.std.proofs.Common.{◌≡◌, false, take}
+use Rattle.std.specs.List.{list_any}
+use Rattle.cept_redraw.specs.Resolved.{defines}
+use Rattle.cept_redraw.proofs.followed_rows.one_defines.Given as goal
+
+abbrev pub invariant-loop-stroke : goal.invariant-loop-stroke
+invariant-loop-stroke l = list_any defines (take l.stroke-index l.strokes) ≡ false

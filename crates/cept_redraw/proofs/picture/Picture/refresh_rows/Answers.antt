@@ -1,0 +1,84 @@
+use Rattle.std.proofs.Common.{◌≡◌, ◌-◌, ◌||◌, false, get_or, refl, sym, ap, subst, ◌∙◌, arith}
+use Rattle.cept_codes.proofs.Laws.{entry_from}
+use Rattle.cept_profile.specs.Edges.{Edges, edges_of_core, is_last}
+use Rattle.cept_profile.specs.Look.{looks_of}
+use Rattle.cept_profile.specs.RowsFromAbove.{is_covered_otherwise, looks_in}
+use Rattle.cept_profile.specs.State.{Core, Page}
+use Rattle.cept_profile.specs.Valid.{IsValidPage}
+use Rattle.cept_redraw.specs.declared.picture.Picture.{Picture}
+use Rattle.cept_redraw.specs.Due.{at_rest, is_due}
+use Rattle.cept_redraw.specs.Kept.{AreLooksOn, core_on}
+use Rattle.cept_redraw.proofs.DrawnPictures.{HasSameRest-as, HasSameRest-more, IsRefreshedRow-on}
+use Rattle.cept_redraw.proofs.RestingRows.{due-rest, row_from-rest}
+use Rattle.cept_redraw.proofs.WalkedRows.{WalkedTo-as, WalkedTo-cost, WalkedTo-first, WalkedTo-kept, WalkedTo-looks}
+use Rattle.cept_redraw.proofs.WalkedRows.{WalkedTo-marks, WalkedTo-more}
+use Rattle.cept_redraw.proofs.picture.Picture.refresh_rows.Given as given
+use Rattle.cept_redraw.proofs.picture.Picture.refresh_rows.Goals as goal
+use Rattle.cept_redraw.proofs.picture.Picture.refresh_rows.Goals.{then-flag-covered, else-flag-covered}
+
+pub loop-row-init : goal.loop-row-init
+loop-row-init g c = record {
+  rest = record { page = refl; names = refl };
+  walked = λ k _.
+      WalkedTo-first c.args.flags.now at_rest (core_on k c.args.self.now.page) c.args.self.now.looks c.args.marks.now
+      c.args.steps.now c.whole_by_type.ensures c.requires.none;
+}
+
+pub refresh_row-covered-requires-clause-valid : goal.refresh_row-covered-requires-clause-valid
+refresh_row-covered-requires-clause-valid g c =
+    subst (λ (p : Page). IsValidPage p) (sym c.loop-row.invariant.rest.page) c.requires.others.valid
+
+-- whether the row is due, as it is asked
+due : (g : given.Over) (c : goal.Joined-flag-covered g) (k : Core) → edges_of_core k ≡ c.args.edges.now
+    → (get_or c.args.flags.now (c.from.result - 1) false || c.loop-row.covered)
+    ≡ is_due c.args.flags.now at_rest c.args.self.now.looks (looks_of (core_on k c.args.self.now.page)) c.loop-row.row
+due g c k same =
+    (λ i. get_or c.args.flags.now (c.from.ensures i - 1) false || (c.loop-row.invariant.walked k same).covering i)
+    ∙ ap (λ b. b || is_covered_otherwise c.args.self.now.looks c.loop-row.row
+    (looks_of (core_on k c.args.self.now.page)) c.loop-row.row)
+    (sym (entry_from false 1 c.args.flags.now c.loop-row.row c.loop-row.auto.row))
+    ∙ sym (due-rest c.args.flags.now c.args.self.now.looks (looks_of (core_on k c.args.self.now.page)) c.loop-row.row
+    c.loop-row.auto.row (omega arith))
+
+pub loop-row-preserved : goal.loop-row-preserved
+loop-row-preserved g c =
+    let row = c.loop-row.row in
+    let m = c.loop-row.invariant in
+    record {
+      rest = elim c.if-flag-covered.branch [
+        | then-flag-covered w ↦ HasSameRest-as w.self-is (HasSameRest-more m.rest w.refresh_row-covered.ensures.rest)
+        | else-flag-covered w ↦ HasSameRest-as w.self-is m.rest
+      ];
+      walked = λ k same. elim c.if-flag-covered.branch [
+        | then-flag-covered w ↦
+            let refreshed = w.refresh_row-covered in
+            WalkedTo-as (ap (λ (p : Picture). p.looks) w.self-is) w.marks-is w.covered-is w.steps-is
+            (WalkedTo-more (m.walked k same) c.whole_by_type.ensures c.loop-row.auto.row (omega arith)
+            (sym (due g c k same) ∙ w.if-flag-covered.true)
+            w.is_last-last.result (w.is_last-last.ensures ∙ ap (λ (e : Edges). is_last e row) (sym same))
+            refreshed.new.self.looks refreshed.new.marks refreshed.result refreshed.new.steps
+            (IsRefreshedRow-on (looks_in c.loop-row.self.looks (row - 1)) row w.is_last-last.result c.loop-row.self.looks
+            refreshed.new.self.looks c.loop-row.marks refreshed.new.marks c.args.self.now.page c.loop-row.self.page
+            m.rest.page refreshed.ensures.refreshed)
+            refreshed.ensures.covering refreshed.ensures.tick)
+        | else-flag-covered w ↦
+            WalkedTo-as (ap (λ (p : Picture). p.looks) w.self-is) w.marks-is w.covered-is w.steps-is
+            (WalkedTo-kept (m.walked k same) c.whole_by_type.ensures c.loop-row.auto.row (omega arith)
+            (c.requires.others.stay k same) (sym (due g c k same) ∙ w.if-flag-covered.false)
+            (row_from-rest row c.loop-row.auto.row (omega arith)))
+      ];
+    }
+
+pub returns-clause-rest : goal.returns-clause-rest
+returns-clause-rest g c = c.loop-row.invariant.rest
+
+pub returns-clause-refreshed : goal.returns-clause-refreshed
+returns-clause-refreshed g c =
+    let m = c.loop-row.invariant in
+    let one = m.walked c.requires.others.of_core.0 c.requires.others.of_core.1 in
+    record {
+      looks = subst (λ (p : Page). AreLooksOn c.loop-row.self.looks p c.args.edges.now) (sym m.rest.page)
+          (λ k same. WalkedTo-looks (m.walked k same) (omega arith));
+      marks = WalkedTo-marks one c.requires.none;
+      cost = WalkedTo-cost one (omega arith);
+    }

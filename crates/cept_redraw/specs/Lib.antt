@@ -1,0 +1,9 @@
+pub mod Due
+pub mod Kept
+pub mod Marks
+pub mod Named
+pub mod Picture
+pub mod Redefined
+pub mod Renewed
+pub mod Resolved
+pub mod Restored

@@ -1,0 +1,97 @@
+-- A page with the looks that are kept of it, and what it is for it to be redrawn, refreshed and restored (this project's
+-- own).
+use Rattle.std.specs.Prelude.{ℕ, ◌≡◌, ◌≤◌, ◌+◌, Bool, List, [], Option, option_map}
+use Rattle.std.specs.List.{AllByRecursion}
+use Rattle.cept_codes.specs.declared.look.Look.{Look}
+use Rattle.cept_codes.specs.declared.stroke.Stroke.{Stroke}
+use Rattle.cept_codes.specs.Stroke.{IsValidStroke}
+use Rattle.cept_profile.specs.Changes.{differences}
+use Rattle.cept_profile.specs.Edges.{Edges, edges_of_core}
+use Rattle.cept_profile.specs.NotedStrokes.{with_strokes}
+use Rattle.cept_profile.specs.OldValues.{OldValues, page_unwound}
+use Rattle.cept_profile.specs.State.{Core, Page, page_after}
+use Rattle.cept_profile.specs.Valid.{IsValidPage}
+use Rattle.cept_page.specs.Behind.{page_behind}
+use Rattle.cept_redraw.specs.declared.followed_rows.Followed.{Followed}
+use Rattle.cept_redraw.specs.declared.picture.Picture.{Picture}
+use Rattle.cept_redraw.specs.Due.{rows_due, FollowsBeside, LeftStays, OtherRowsStay}
+use Rattle.cept_redraw.specs.Kept.{AreEdges, AreLooksOn, core_on}
+use Rattle.cept_redraw.specs.Named.{AreNamedOn}
+use Rattle.cept_redraw.specs.Renewed.{rows_renewed}
+use Rattle.cept_redraw.specs.Resolved.{rows_resolved_by}
+use Rattle.cept_redraw.specs.Restored.{rows_unwound}
+
+-- the page is valid, the kept looks are those that it has with these edges, and so are the names that are known
+pub record IsKeptOn (picture : Picture) (edges : Edges) : Type 0 where
+  pub valid : IsValidPage picture.page
+  pub of_core : AreEdges edges
+  pub looks : AreLooksOn picture.looks picture.page edges
+  pub named : AreNamedOn picture.names picture.page edges
+
+-- ---- redrawn by strokes
+
+-- strokes that may be drawn on a page: each is valid, and so is the page after them
+pub record AreDrawable (strokes : List Stroke) (p : Page) : Type 0 where
+  pub each : AllByRecursion IsValidStroke strokes
+  pub valid : IsValidPage (page_after p strokes)
+
+-- the strokes were drawn, after which the page has these edges; all is kept on it, and exactly the places whose look
+-- changed are marked
+pub record IsRedrawn (strokes : List Stroke) (edges : Edges) (was now : Picture) (marked : List Bool) : Type 0 where
+  pub page : now.page ≡ page_after was.page strokes
+  pub kept : IsKeptOn now edges
+  pub marks : marked ≡ differences was.looks now.looks
+
+-- so many rows were resolved: no more than the strokes may resolve where the edges lead from these to those, and no fewer
+-- than they renew
+pub record AreTicksOf (strokes : List Stroke) (before after : Edges) (was now : Picture) (from to : ℕ) : Type 0 where
+  pub cost : (k m : Core) → edges_of_core k ≡ before → edges_of_core m ≡ after
+      → to ≤ from + rows_resolved_by (core_on k was.page) (core_on m now.page) strokes
+  pub least : from + rows_renewed strokes was.looks now.looks ≤ to
+
+-- what the strokes change on a page was noted, where anything may be noted, and what the page unwinds to stays
+pub record IsNotedAlong (strokes : List Stroke) (before : Option OldValues) (was : Page) (after : Option OldValues)
+    (now : Page) : Type 0 where
+  pub unwound : page_behind after now ≡ page_behind before was
+  pub noted : after ≡ option_map (with_strokes was strokes) before
+
+-- ---- refreshed
+
+-- all but looks, and room for them, is as it was
+pub record HasSameRest (was now : Picture) : Type 0 where
+  pub page : now.page ≡ was.page
+  pub names : now.names ≡ was.names
+
+-- on a valid page with these edges each row that isn't due looks as that did of which it came, where these rows are
+-- flagged and so followed, and these looks stood before
+pub record AreOthersKept (flags : List Bool) (rows : List Followed) (stood : List (List Look)) (p : Page)
+    (edges : Edges) : Type 0 where
+  pub valid : IsValidPage p
+  pub of_core : AreEdges edges
+  pub stay : (k : Core) → edges_of_core k ≡ edges → OtherRowsStay flags rows stood (core_on k p)
+
+-- to the left of one column row `first` looks as it did, and to the right of another where nothing covers it otherwise;
+-- so do the rows below it, each to the left of one column less
+pub record StaysAround (first from until : ℕ) (picture : Picture) (edges : Edges) : Type 0 where
+  pub left : (k : Core) → edges_of_core k ≡ edges → LeftStays first from picture.looks (core_on k picture.page)
+  pub beside : (k : Core) → edges_of_core k ≡ edges → FollowsBeside first until picture.looks (core_on k picture.page)
+
+-- the looks are those of the page with these edges again, the places are marked where these differ from those that stood
+-- before, and each row that is due was resolved and no other
+pub record IsRefreshedOn (flags : List Bool) (rows : List Followed) (stood : List (List Look)) (edges : Edges)
+    (now : Picture) (marked : List Bool) (from to : ℕ) : Type 0 where
+  pub looks : AreLooksOn now.looks now.page edges
+  pub marks : marked ≡ differences stood now.looks
+  pub cost : to ≡ from + rows_due flags rows stood now.looks
+
+-- ---- restored
+
+-- old values were put back on the page, where the edges lead from these to those; all is kept on it, exactly the places
+-- whose look changed are marked, and just the rows were resolved that may look otherwise
+pub record IsRestored (old : OldValues) (before after : Edges) (was now : Picture) (marked : List Bool)
+    (from to : ℕ) : Type 0 where
+  pub page : now.page ≡ page_unwound was.page old
+  pub kept : IsKeptOn now after
+  pub marks : marked ≡ differences was.looks now.looks
+  pub cost : to ≡ from + rows_unwound old before after was.looks now.looks
+  pub least : from + rows_renewed [] was.looks now.looks ≤ to

@@ -1,0 +1,43 @@
+ghost use Rattle.std.specs.Prelude.{◌≡◌, IfOk, []};
+ghost use Rattle.cept_codes.specs.Look.{blank_look};
+ghost use Rattle.cept_codes.specs.Table.{table};
+ghost use Rattle.cept_profile.specs.State.{Core, page};
+ghost use Rattle.cept_redraw.specs.Named.{AreNamed};
+
+use crate::kept_names::KeptNames;
+use crate::kept_rows::KeptRows;
+use cept_codes::NoMemory;
+use cept_page::Page;
+use cept_rows::RowLooks;
+use std::alloc::Global;
+
+/// A page, the looks that are kept of it, and what its rows name. Beside these there is room for the
+/// looks that stood before rows moved, and for a row while it is resolved.
+#[derive(Drop)]
+pub struct Picture {
+    pub page: Page,
+    pub looks: KeptRows,
+    pub(crate) stood: KeptRows,
+    pub names: KeptNames,
+    pub(crate) fresh: RowLooks,
+}
+
+impl Picture {
+    /// The page at the start, of which all looks are blank and no names are known.
+    pub fn new(alloc: Global) -> Result<Picture, NoMemory>
+        ensures page { IfOk result (λ picture. picture.page ≡ page []) }
+        ensures looks { IfOk result (λ picture. picture.looks ≡ table (λ _ _. blank_look)) }
+        ensures names { IfOk result (λ picture. (k : Core) → AreNamed picture.names k) }
+    {
+        let page = Page::new(alloc)?;
+        let looks = KeptRows::new(alloc)?;
+        let stood = KeptRows::new(alloc)?;
+        Ok(Picture {
+            page,
+            looks,
+            stood,
+            names: KeptNames::new(),
+            fresh: RowLooks::flat(),
+        })
+    }
+}

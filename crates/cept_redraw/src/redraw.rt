@@ -1,0 +1,286 @@
+//! A picture redrawn: strokes are drawn on its page, and the rows resolved that they alter or cover otherwise, and no
+//! others. The cases stand at the head of the crate.
+
+ghost use Rattle.std.specs.Prelude.{◌≡◌, ◌≢◌, ◌≤◌, ◌+◌, ◌==◌, ℕ, false, ◌∷◌, [], IfSome, if◌then◌else◌};
+ghost use Rattle.cept_codes.specs.declared.cell.Cell.{Cell};
+ghost use Rattle.cept_codes.specs.Place.{OnScreen};
+ghost use Rattle.cept_codes.specs.Table.{list_by_index};
+ghost use Rattle.cept_profile.specs.Changes.{differences, grid_with_paint, look_at};
+ghost use Rattle.cept_profile.specs.Edges.{edges_of};
+ghost use Rattle.cept_profile.specs.Look.{looks_of};
+ghost use Rattle.cept_profile.specs.State.{Core};
+ghost use Rattle.cept_profile.specs.Valid.{IsValidPage};
+ghost use Rattle.cept_page.specs.Parts.{pens_of};
+ghost use Rattle.cept_page.specs.MarkedRows.{StandsAlone};
+ghost use Rattle.cept_redraw.specs.Due.{at_rest, followed, is_altered, rows_due};
+ghost use Rattle.cept_redraw.specs.Kept.{AreEdges, OthersStay, core_on, look_alone, is_other_look};
+ghost use Rattle.cept_redraw.specs.Marks.{no_marks};
+ghost use Rattle.cept_redraw.specs.Named.{AreAllKnown, AreJustRemembered, IsStill, IsUnmarkedBelow};
+ghost use Rattle.cept_redraw.specs.Picture.{AreDrawable, AreOthersKept, AreTicksOf, IsKeptOn, IsNotedAlong};
+ghost use Rattle.cept_redraw.specs.Picture.{IsRedrawn, IsRefreshedOn, StaysAround};
+ghost use Rattle.cept_redraw.specs.Resolved.{one_else};
+
+use crate::altered_rows::{only_put, rows_altered};
+use crate::followed_rows::{follow_rows, one_else, one_moved};
+use crate::kept_rows::KeptRows;
+use crate::marks::Marks;
+use crate::moved_rows::turn_rows;
+use crate::picture::Picture;
+use crate::redefined_rows::rows_redefined;
+use crate::resolved_rows::row_source;
+use cept_codes::{Pos, Row, Stroke};
+use cept_control::{Control, Edges};
+use cept_delta::Noter;
+use cept_outside::Steps;
+use cept_page::Page;
+use cept_rows::{places_show_what_is_beside_them, rows_show_what_stands_to_the_left};
+use std::sync::ledger::Ledger;
+
+impl Picture {
+    /// Draws the strokes on the page, resolves the rows that they alter or cover otherwise and no
+    /// others, takes over the looks of those that moved, and keeps all looks. Marks the places at
+    /// which these differ from those before, and no others. The page has these edges before and
+    /// those after. Notes what the strokes change.
+    pub fn redraw<N: Noter, L: Ledger>(
+        &mut self,
+        strokes: &[Stroke],
+        before: &Edges,
+        after: &Edges,
+        marks: &mut Marks,
+        noter: &mut N,
+        steps: &mut Steps<L>,
+    )
+        requires kept { IsKeptOn self.old before.now }
+        requires to { AreEdges after.now }
+        requires strokes { AreDrawable strokes.now self.old.page }
+        ensures redrawn { IsRedrawn strokes.now after.now self.old self.new marks.new }
+        ensures ticks { AreTicksOf strokes.now before.now after.now self.old self.new steps.old steps.new }
+        ensures noted { IsNotedAlong strokes.now (N.noted noter.old) self.old.page (N.noted noter.new)
+            self.new.page }
+    {
+        marks.clear();
+        if !before.is_same(after) {
+            self.redraw_rows(strokes, before, after, marks, noter, steps);
+            return;
+        }
+        if strokes.is_empty() {
+            return;
+        }
+        self.redraw_drawn(strokes, after, marks, noter, steps);
+    }
+
+    /// The same where the edges stay: they are those of this control, which is asked only where they
+    /// are needed.
+    pub fn redraw_within<N: Noter, L: Ledger>(
+        &mut self,
+        strokes: &[Stroke],
+        control: &Control,
+        marks: &mut Marks,
+        noter: &mut N,
+        steps: &mut Steps<L>,
+    )
+        requires kept { IsKeptOn self.old (edges_of control.now) }
+        requires strokes { AreDrawable strokes.now self.old.page }
+        ensures redrawn { IsRedrawn strokes.now (edges_of control.now) self.old self.new marks.new }
+        ensures ticks { AreTicksOf strokes.now (edges_of control.now) (edges_of control.now) self.old self.new
+            steps.old steps.new }
+        ensures noted { IsNotedAlong strokes.now (N.noted noter.old) self.old.page (N.noted noter.new)
+            self.new.page }
+    {
+        marks.clear();
+        if strokes.is_empty() {
+            return;
+        }
+        match only_put(strokes) {
+            Some(put) => {
+                // A law: a cell shows in no place to its left.
+                rows_show_what_stands_to_the_left();
+                // Another: a place shows what is beside it.
+                places_show_what_is_beside_them();
+                let among = self.page.puts_among_signs(put.place, put.cell);
+                if self.page.put(put.place, put.cell, noter) {
+                    self.refresh_place(put.place, marks, steps);
+                } else {
+                    let row = put.place.row();
+                    let from = put.place.col();
+                    let until = last_otherwise(from, among);
+                    let edges = control.edges();
+                    self.refresh_put(row, from, until, &edges, marks, steps);
+                }
+            }
+            None => {
+                let within = control.edges();
+                self.redraw_drawn(strokes, &within, marks, noter, steps);
+            }
+        }
+    }
+
+    /// The same of any strokes, where nothing is marked yet. The page has these edges.
+    fn redraw_drawn<N: Noter, L: Ledger>(
+        &mut self,
+        strokes: &[Stroke],
+        edges: &Edges,
+        marks: &mut Marks,
+        noter: &mut N,
+        steps: &mut Steps<L>,
+    )
+        requires none { marks.old ≡ no_marks }
+        requires kept { IsKeptOn self.old edges.now }
+        requires strokes { AreDrawable strokes.now self.old.page }
+        ensures redrawn { IsRedrawn strokes.now edges.now self.old self.new marks.new }
+        ensures ticks { AreTicksOf strokes.now edges.now edges.now self.old self.new steps.old steps.new }
+        ensures noted { IsNotedAlong strokes.now (N.noted noter.old) self.old.page (N.noted noter.new)
+            self.new.page }
+    {
+        if one_else(strokes) {
+            self.redraw_rows(strokes, edges, edges, marks, noter, steps);
+        } else {
+            self.redraw_defined(strokes, edges, marks, noter, steps);
+        }
+    }
+
+    /// The same of any strokes and edges, where nothing is marked yet: just the rows that are due are
+    /// resolved.
+    // Apart, since most commands write a sign that is resolved by itself, which needs less.
+    #[inline(never)]
+    fn redraw_rows<N: Noter, L: Ledger>(
+        &mut self,
+        strokes: &[Stroke],
+        before: &Edges,
+        after: &Edges,
+        marks: &mut Marks,
+        noter: &mut N,
+        steps: &mut Steps<L>,
+    )
+        requires none { marks.old ≡ no_marks }
+        requires kept { IsKeptOn self.old before.now }
+        requires to { AreEdges after.now }
+        requires strokes { AreDrawable strokes.now self.old.page }
+        ensures redrawn { IsRedrawn strokes.now after.now self.old self.new marks.new }
+        ensures noted { IsNotedAlong strokes.now (N.noted noter.old) self.old.page (N.noted noter.new)
+            self.new.page }
+        ensures cost { steps.new ≡ steps.old + rows_due (list_by_index 1 24
+            (is_altered strokes.now (pens_of self.old.page) before.now (pens_of self.new.page) after.now))
+            (list_by_index 1 24 (followed strokes.now)) self.old.looks self.new.looks }
+        ensures remembered { AreJustRemembered self.old.names self.new.names (λ r. IsStill (list_by_index 1 24
+            (is_altered strokes.now (pens_of self.old.page) before.now (pens_of self.new.page) after.now))
+            (list_by_index 1 24 (followed strokes.now)) marks.new r) }
+    {
+        let was = self.page.pens();
+        self.page.draw_all(strokes, noter);
+        let rows = follow_rows(strokes);
+        let altered = rows_altered(strokes, &rows, &was, before, &self.page, after);
+        if one_moved(&rows) {
+            self.stood.copy_from(&self.looks);
+            turn_rows(strokes, &mut self.looks);
+            self.move_rows(&rows, &altered, after, marks, steps);
+        } else {
+            self.refresh_rows(&altered, after, marks, steps);
+        }
+        self.names.forget_rows(&altered, &rows, marks);
+    }
+
+    /// The same of strokes that all define something, where nothing is marked yet: the rows that name
+    /// it are resolved, or the places of such a row. The page has these edges.
+    #[inline(never)]
+    fn redraw_defined<N: Noter, L: Ledger>(
+        &mut self,
+        strokes: &[Stroke],
+        edges: &Edges,
+        marks: &mut Marks,
+        noter: &mut N,
+        steps: &mut Steps<L>,
+    )
+        requires none { marks.old ≡ no_marks }
+        requires kept { IsKeptOn self.old edges.now }
+        requires strokes { AreDrawable strokes.now self.old.page }
+        requires define { one_else strokes.now ≡ false }
+        ensures redrawn { IsRedrawn strokes.now edges.now self.old self.new marks.new }
+        ensures ticks { AreTicksOf strokes.now edges.now edges.now self.old self.new steps.old steps.new }
+        ensures noted { IsNotedAlong strokes.now (N.noted noter.old) self.old.page (N.noted noter.new)
+            self.new.page }
+        ensures known { AreAllKnown self.new.names }
+    {
+        self.names.find(&self.page, &self.looks);
+        let redefined = rows_redefined(&self.page, strokes, &self.looks, &self.names);
+        self.page.draw_all(strokes, noter);
+        self.refresh_redefined(strokes, &redefined, edges, marks, steps);
+    }
+
+    /// Resolves a row from a column on, to whose left it looks as it did, and the rows below it that
+    /// are covered otherwise than before. To the right of another column it looks so already where
+    /// nothing covers it otherwise. Forgets what the row names, and each row in which a place is marked.
+    #[inline(never)]
+    fn refresh_put<L: Ledger>(
+        &mut self,
+        row: u8,
+        from: u8,
+        until: u8,
+        edges: &Edges,
+        marks: &mut Marks,
+        steps: &mut Steps<L>,
+    )
+        requires from_top { 1 ≤ row }
+        requires to_bottom { row ≤ 24 }
+        requires from_left { 1 ≤ from }
+        requires to_right { from ≤ 40 }
+        requires none { marks.old ≡ no_marks }
+        requires around { StaysAround row from until self.old edges.now }
+        requires others { AreOthersKept (list_by_index 1 24 (λ q. row == q)) at_rest self.old.looks
+            self.old.page edges.now }
+        ensures page { self.new.page ≡ self.old.page }
+        ensures refreshed { IsRefreshedOn (list_by_index 1 24 (λ q. row == q)) at_rest self.old.looks edges.now
+            self.new marks.new steps.old steps.new }
+        ensures remembered { AreJustRemembered self.old.names self.new.names
+            (λ r. (r ≢ row) × IsUnmarkedBelow marks.new 960 r) }
+    {
+        self.refresh_down(row, from, until, edges, marks, steps);
+        self.names.forget_marked(Row::numbered(row), marks);
+    }
+
+    /// Resolves one cell by itself: where all other places have the looks that are kept, so has this.
+    fn refresh_place<L: Ledger>(&mut self, place: Pos, marks: &mut Marks, steps: &mut Steps<L>)
+        requires none { marks.old ≡ no_marks }
+        requires valid { IsValidPage self.old.page }
+        requires alone { StandsAlone self.old.page place.row }
+        ensures page { self.new.page ≡ self.old.page }
+        ensures kept { (k : Core) → OthersStay self.old.looks (core_on k self.old.page) place
+            → self.new.looks ≡ looks_of (core_on k self.old.page) }
+        ensures marks { marks.new ≡ differences self.old.looks self.new.looks }
+        ensures remembered { AreJustRemembered self.old.names self.new.names (λ r. r ≢ place.row) }
+        ensures cost { steps.new ≡ steps.old + 1 }
+        ensures on_screen { OnScreen place.row place.column }
+    {
+        self.looks.whole_by_type();
+        marks.places_by_type();
+        self.names.forget(place.in_row());
+        if resolve_alone(&self.page, place, &mut self.looks, steps) {
+            marks.mark(place);
+        }
+    }
+}
+
+/// The last column of a row in which a cell may look otherwise by itself, where one is put in this column,
+/// among signs or not.
+fn last_otherwise(column: u8, among: bool) -> u8
+    ensures { result ≡ (if among then column else 41) }
+{
+    if among { column } else { 41 }
+}
+
+/// Resolves one cell by itself, and keeps its look. Answers whether it differs from the one before.
+/// One tick.
+fn resolve_alone<L: Ledger>(
+    page: &Page,
+    place: Pos,
+    kept: &mut KeptRows,
+    steps: &mut Steps<L>,
+) -> bool
+    requires { IsValidPage page.now }
+    ensures looks { kept.new ≡ grid_with_paint kept.old place (look_alone page.now place) }
+    ensures differs { result ≡ is_other_look (look_at kept.old place) (look_alone page.now place) }
+    ensures on_screen { OnScreen place.row place.column }
+    ensures tick { steps.new ≡ steps.old + 1 }
+{
+    kept.resolve_alone(place, &row_source(page, place.in_row()), steps)
+}

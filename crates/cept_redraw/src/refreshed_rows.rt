@@ -1,0 +1,232 @@
+//! Rows of a picture resolved anew: from the top, or from one row down as long as the next is covered
+//! otherwise than before.
+
+ghost use Rattle.std.specs.Prelude.{◌≡◌, ◌≤◌, ◌<◌, ◌+◌, ◌-◌, ◌==◌, ℕ, false, length, slice_set};
+ghost use Rattle.cept_codes.specs.Look.{blank_look};
+ghost use Rattle.cept_codes.specs.Table.{list_by_index};
+ghost use Rattle.cept_profile.specs.RowsFromAbove.{looks_in};
+ghost use Rattle.cept_profile.specs.Tiling.{column_entry};
+ghost use Rattle.cept_profile.specs.Valid.{IsValidPage};
+ghost use Rattle.cept_redraw.specs.Due.{at_rest};
+ghost use Rattle.cept_redraw.specs.Kept.{is_other_above, row_beneath, IsLeftOf, IsRefreshedRow, IsRightOf};
+ghost use Rattle.cept_redraw.specs.Marks.{no_marks};
+ghost use Rattle.cept_redraw.specs.Picture.{AreOthersKept, HasSameRest, IsRefreshedOn, StaysAround};
+ghost use Rattle.cept_rows.specs.RowsByCell.{FollowsToTheRight};
+
+use crate::compared_rows::mark_differences_between;
+use crate::kept_rows::KeptRows;
+use crate::marks::Marks;
+use crate::picture::Picture;
+use crate::resolved_rows::{resolve_between, resolve_row, row_source};
+use cept_codes::{Column, Row};
+use cept_control::Edges;
+use cept_outside::Steps;
+use cept_rows::RowLooks;
+use std::sync::ledger::Ledger;
+
+/// How a row was refreshed: whether what covers the row below differs, and a column to whose right it looks
+/// as it did.
+#[derive(Clone, Copy)]
+struct Refreshed {
+    covering: bool,
+    end: u8,
+}
+
+impl Picture {
+    /// Resolves the flagged rows and those that are covered otherwise than before, from the top, where no
+    /// row moved.
+    pub(crate) fn refresh_rows<L: Ledger>(
+        &mut self,
+        flags: &[bool; 24],
+        edges: &Edges,
+        marks: &mut Marks,
+        steps: &mut Steps<L>,
+    )
+        requires flags { length flags.now ≡ 24 }
+        requires none { marks.old ≡ no_marks }
+        requires others { AreOthersKept flags.now at_rest self.old.looks self.old.page edges.now }
+        ensures rest { HasSameRest self.old self.new }
+        ensures refreshed { IsRefreshedOn flags.now at_rest self.old.looks edges.now self.new marks.new
+            steps.old steps.new }
+    {
+        self.looks.whole_by_type();
+        let mut covered = false;
+        for row in 1..25u8 {
+            let flag = flags[usize::from(row) - 1];
+            if flag | covered {
+                let last = edges.is_last(row);
+                covered = self.refresh_row(row, last, marks, steps);
+            }
+        }
+    }
+
+    /// Resolves a row from a column on, to whose left it looks as it did, and each row below it as long as
+    /// it is covered otherwise than before. To the right of another column the row looks as it did where
+    /// nothing covers it otherwise.
+    pub(crate) fn refresh_down<L: Ledger>(
+        &mut self,
+        row: u8,
+        from: u8,
+        until: u8,
+        edges: &Edges,
+        marks: &mut Marks,
+        steps: &mut Steps<L>,
+    )
+        requires from_top { 1 ≤ row }
+        requires to_bottom { row ≤ 24 }
+        requires from_left { 1 ≤ from }
+        requires to_right { from ≤ 40 }
+        requires none { marks.old ≡ no_marks }
+        requires around { StaysAround row from until self.old edges.now }
+        requires others { AreOthersKept (list_by_index 1 24 (λ q. row == q)) at_rest self.old.looks
+            self.old.page edges.now }
+        ensures rest { HasSameRest self.old self.new }
+        ensures refreshed { IsRefreshedOn (list_by_index 1 24 (λ q. row == q)) at_rest self.old.looks edges.now
+            self.new marks.new steps.old steps.new }
+    {
+        self.looks.whole_by_type();
+        let mut first = from;
+        let mut end = until;
+        for at in row..25u8 {
+            let last = edges.is_last(at);
+            let found = self.refresh_row_between(at, first, end, last, marks, steps);
+            if !found.covering {
+                return;
+            }
+            first = to_the_left(first);
+            end = found.end + 1;
+        }
+    }
+
+    /// Resolves a row beneath the looks kept of the row above, keeps its looks, and marks the places at
+    /// which they differ from those before. Answers whether what covers the row below differs. One tick.
+    pub(crate) fn refresh_row<L: Ledger>(
+        &mut self,
+        row: u8,
+        last: bool,
+        marks: &mut Marks,
+        steps: &mut Steps<L>,
+    ) -> bool
+        requires from_top { 1 ≤ row }
+        requires to_bottom { row ≤ 24 }
+        requires valid { IsValidPage self.old.page }
+        ensures rest { HasSameRest self.old self.new }
+        ensures refreshed { IsRefreshedRow (row_beneath (looks_in self.old.looks (row - 1)) self.old.page row last)
+            row self.old.looks self.new.looks marks.old marks.new }
+        ensures covering { result ≡ is_other_above (looks_in self.old.looks row) (looks_in self.new.looks row) }
+        ensures tick { steps.new ≡ steps.old + 1 }
+    {
+        let at = Row::numbered(row);
+        resolve_row(
+            &self.page,
+            at,
+            self.looks.above(at),
+            last,
+            &mut self.fresh,
+            steps,
+        );
+        take_row(
+            row,
+            Column::numbered(1),
+            40,
+            &self.fresh,
+            &mut self.looks,
+            marks,
+        )
+    }
+
+    /// The same, where to the left of a column the row looks so already, and to the right of another each
+    /// place that follows one which does, or which covers nothing to its right before and after.
+    fn refresh_row_between<L: Ledger>(
+        &mut self,
+        row: u8,
+        from: u8,
+        until: u8,
+        last: bool,
+        marks: &mut Marks,
+        steps: &mut Steps<L>,
+    ) -> Refreshed
+        requires from_top { 1 ≤ row }
+        requires to_bottom { row ≤ 24 }
+        requires from_left { 1 ≤ from }
+        requires to_right { from ≤ 40 }
+        requires valid { IsValidPage self.old.page }
+        requires left { IsLeftOf from (looks_in self.old.looks row)
+            (row_beneath (looks_in self.old.looks (row - 1)) self.old.page row last) }
+        requires right { FollowsToTheRight until (column_entry blank_look (looks_in self.old.looks row))
+            (column_entry blank_look (row_beneath (looks_in self.old.looks (row - 1)) self.old.page row last)) }
+        ensures rest { HasSameRest self.old self.new }
+        ensures refreshed { IsRefreshedRow (row_beneath (looks_in self.old.looks (row - 1)) self.old.page row last)
+            row self.old.looks self.new.looks marks.old marks.new }
+        ensures covering { result.covering ≡ is_other_above (looks_in self.old.looks row) (looks_in self.new.looks row) }
+        ensures to_right { result.end ≤ 40 }
+        ensures stays { IsRightOf result.end (looks_in self.old.looks row) (looks_in self.new.looks row) }
+        ensures tick { steps.new ≡ steps.old + 1 }
+    {
+        let at = Row::numbered(row);
+        let first = Column::numbered(from);
+        let source = row_source(&self.page, at).ending(last);
+        self.fresh.copy_from(self.looks.row(at));
+        let end = resolve_between(
+            &source,
+            first,
+            until,
+            self.looks.above(at),
+            &mut self.fresh,
+            steps,
+        );
+        let covering = take_row(row, first, end, &self.fresh, &mut self.looks, marks);
+        Refreshed { covering, end }
+    }
+}
+
+/// The column to the left of a column, or the first.
+fn to_the_left(column: u8) -> u8
+    requires from_left { 1 ≤ column }
+    requires to_right { column ≤ 40 }
+    ensures from_left { 1 ≤ result }
+    ensures to_right { result ≤ 40 }
+    ensures less { (c : ℕ) → 1 ≤ c → c < result → c + 1 < column }
+{
+    if column == 1 { 1 } else { column - 1 }
+}
+
+/// Keeps these looks of a row, and marks the places at which they differ from those before, which are
+/// the same to the left of a column and to the right of another. Answers whether what covers the row below
+/// differs.
+fn take_row(
+    row: u8,
+    from: Column,
+    until: u8,
+    looks: &RowLooks,
+    kept: &mut KeptRows,
+    marks: &mut Marks,
+) -> bool
+    requires from_top { 1 ≤ row }
+    requires to_bottom { row ≤ 24 }
+    requires order { from ≤ until + 1 }
+    requires to_right { until ≤ 40 }
+    requires left { IsLeftOf from (looks_in kept.old row) looks.now }
+    requires right { IsRightOf until (looks_in kept.old row) looks.now }
+    ensures refreshed { IsRefreshedRow looks.now row kept.old kept.new marks.old marks.new }
+    ensures covering { result ≡ is_other_above (looks_in kept.old row) (looks_in kept.new row) }
+{
+    kept.whole_by_type();
+    looks.columns_by_type();
+    let at = Row::numbered(row);
+    let found = mark_differences_between(at, from, until, kept.row(at), looks, marks);
+    keep_row(row, looks, found.any, kept);
+    found.covering
+}
+
+/// Keeps these looks of a row, where they aren't known to be those that it has.
+fn keep_row(row: u8, looks: &RowLooks, differ: bool, kept: &mut KeptRows)
+    requires from_top { 1 ≤ row }
+    requires to_bottom { row ≤ 24 }
+    requires same { differ ≡ false → looks_in kept.old row ≡ looks.now }
+    ensures { kept.new ≡ slice_set kept.old (row - 1) looks.now }
+{
+    if differ {
+        kept.copy_row(Row::numbered(row), looks);
+    }
+}

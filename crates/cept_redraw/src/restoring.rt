@@ -1,0 +1,112 @@
+ghost use Rattle.std.specs.Prelude.{◌≡◌, ◌≤◌, ◌+◌, [], length};
+ghost use Rattle.cept_codes.specs.Table.{list_by_index};
+ghost use Rattle.cept_profile.specs.OldValues.{page_unwound};
+ghost use Rattle.cept_profile.specs.Valid.{IsValidPage};
+ghost use Rattle.cept_delta.specs.Exchanged.{page_exchanged};
+ghost use Rattle.cept_delta.specs.Noted.{notes_screen};
+ghost use Rattle.cept_redraw.specs.Due.{at_rest};
+ghost use Rattle.cept_redraw.specs.Kept.{AreEdges};
+ghost use Rattle.cept_redraw.specs.Named.{AreNamedOn};
+ghost use Rattle.cept_redraw.specs.Picture.{AreOthersKept, IsKeptOn, IsRefreshedOn, IsRestored};
+ghost use Rattle.cept_redraw.specs.Renewed.{rows_renewed};
+ghost use Rattle.cept_redraw.specs.Restored.{is_unwound};
+
+use crate::altered_rows::is_last_under_one;
+use crate::marks::Marks;
+use crate::picture::Picture;
+use cept_control::Edges;
+use cept_delta::Delta;
+use cept_outside::Steps;
+use std::sync::ledger::Ledger;
+
+impl Picture {
+    /// Puts old values back on the page, resolves the rows that they may alter or that are covered
+    /// otherwise than before and no others, and keeps all looks. Marks the places at which these
+    /// differ from those before, and no others. The page has these edges before and those after.
+    pub fn unwind<L: Ledger>(
+        &mut self,
+        delta: &Delta,
+        before: &Edges,
+        after: &Edges,
+        marks: &mut Marks,
+        steps: &mut Steps<L>,
+    )
+        requires kept { IsKeptOn self.old before.now }
+        requires to { AreEdges after.now }
+        requires valid { IsValidPage (page_unwound self.old.page delta.now) }
+        ensures { IsRestored delta.now before.now after.now self.old self.new marks.new
+            steps.old steps.new }
+    {
+        let rows = rows_unwound(delta, before, after);
+        self.page.unwind(delta);
+        self.refresh_unwound(&rows, after, marks, steps);
+    }
+
+    /// Exchanges old values with those of the page, and does the same otherwise.
+    pub fn exchange<L: Ledger>(
+        &mut self,
+        delta: &mut Delta,
+        before: &Edges,
+        after: &Edges,
+        marks: &mut Marks,
+        steps: &mut Steps<L>,
+    )
+        requires kept { IsKeptOn self.old before.now }
+        requires to { AreEdges after.now }
+        requires valid { IsValidPage (page_unwound self.old.page delta.old) }
+        ensures restored { IsRestored delta.old before.now after.now self.old self.new marks.new
+            steps.old steps.new }
+        ensures noted { delta.new ≡ page_exchanged self.old.page delta.old }
+    {
+        let rows = rows_unwound(delta, before, after);
+        self.page.exchange(delta);
+        self.refresh_unwound(&rows, after, marks, steps);
+    }
+
+    /// Resolves the flagged rows and those that are covered otherwise than before, and keeps all
+    /// looks. Marks the places at which these differ from those before, and no others. What rows name
+    /// is forgotten.
+    fn refresh_unwound<L: Ledger>(
+        &mut self,
+        flags: &[bool; 24],
+        edges: &Edges,
+        marks: &mut Marks,
+        steps: &mut Steps<L>,
+    )
+        requires flags { length flags.now ≡ 24 }
+        requires others { AreOthersKept flags.now at_rest self.old.looks self.old.page edges.now }
+        ensures page { self.new.page ≡ self.old.page }
+        ensures refreshed { IsRefreshedOn flags.now at_rest self.old.looks edges.now self.new marks.new
+            steps.old steps.new }
+        ensures named { AreNamedOn self.new.names self.new.page edges.now }
+        ensures least { steps.old + rows_renewed [] self.old.looks self.new.looks ≤ steps.new }
+    {
+        marks.clear();
+        self.refresh_rows(flags, edges, marks, steps);
+        self.names.forget_all();
+    }
+}
+
+/// For each row from the top, whether it may look otherwise of itself after old values are put
+/// back. The page has these edges before and those after.
+fn rows_unwound(delta: &Delta, before: &Edges, after: &Edges) -> [bool; 24]
+    ensures { result ≡ list_by_index 1 24 (is_unwound delta.now before.now after.now) }
+{
+    let screen = delta.notes_screen();
+    let mut rows = [false; 24];
+    for i in 0..24u8 {
+        rows[usize::from(i)] = is_unwound(delta, screen, before, after, i + 1);
+    }
+    rows
+}
+
+/// Whether a row may, where it is known whether something is noted by which any row may look.
+#[tactic(auto, unfolding(crate::specs::Restored::is_unwound))]
+fn is_unwound(delta: &Delta, screen: bool, before: &Edges, after: &Edges, row: u8) -> bool
+    requires from_top { 1 ≤ row }
+    requires to_bottom { row ≤ 24 }
+    requires screen { screen ≡ notes_screen delta.now }
+    ensures { result ≡ is_unwound delta.now before.now after.now row }
+{
+    delta.notes_row(row) || screen || is_last_under_one(before, row, after, row)
+}

@@ -1,5 +1,0 @@
-use Rattle.cept_repaint.proofs.MarkedWithin.{HasFlagsBelow}
-use Rattle.cept_repaint.proofs.marks.add_flags.Given as goal
-
-abbrev pub invariant-loop-i : goal.invariant-loop-i
-invariant-loop-i l = HasFlagsBelow l.flags l.fn.first l.fn.marks l.marks l.i

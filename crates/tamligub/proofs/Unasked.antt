@@ -1,0 +1,89 @@
+-- Words that are no request, and a call that puts nothing.
+use Rattle.std.proofs.Common.{◌≡◌, inl, inr, ℕ, List, [], ◌++◌, Option, Some, None, is_some, length, take, drop}
+use Rattle.std.proofs.Common.{refl, sym, ap, subst, ◌∙◌, arith}
+use Rattle.std.proofs.lemmas.Option.{same_Some}
+use Rattle.cept_outside.specs.SinkState.{SinkState}
+use Rattle.cept_run.specs.Outside.{Outside}
+use Rattle.cept_run.specs.Run.{Runs, status_number}
+use Rattle.cept_run.specs.Words.{Request, request_of}
+use Rattle.cept_run.specs.declared.run.Status.{Status}
+use Rattle.cept_run.specs.declared.run.Status.TheVariants as statuses
+use Rattle.tamligub.specs.Called.{Calls, Holding, HasRun, NothingPut, PutsNone, UsageAnswered}
+use Rattle.tamligub.specs.Words.{words_for}
+
+-- the status with a number
+usage_by : (s : Status) → status_number s ≡ 2 → s ≡ statuses.Usage
+usage_by statuses.Done e = cc
+usage_by statuses.Refusals e = cc
+usage_by statuses.Usage e = refl
+usage_by statuses.Script e = cc
+usage_by statuses.ReadFault e = cc
+usage_by statuses.WriteFault e = cc
+usage_by statuses.NoMemory e = cc
+usage_by statuses.TooLong e = cc
+usage_by statuses.NotSeven e = cc
+
+memory_by : (s : Status) → status_number s ≡ 6 → s ≡ statuses.NoMemory
+memory_by statuses.Done e = cc
+memory_by statuses.Refusals e = cc
+memory_by statuses.Usage e = cc
+memory_by statuses.Script e = cc
+memory_by statuses.ReadFault e = cc
+memory_by statuses.WriteFault e = cc
+memory_by statuses.NoMemory e = refl
+memory_by statuses.TooLong e = cc
+memory_by statuses.NotSeven e = cc
+
+pub usage_answered : (word : List ℕ) (given number : ℕ) (page script old new : List ℕ) (put answer : ℕ) (status : Status)
+    → answer ≡ status_number status → Calls word given number page script old new put status
+    → UsageAnswered word given number answer
+usage_answered word given number page script old new put answer status is (inl run) = (
+  (λ two. run.runs.runs.usage.0 (usage_by status (sym is ∙ two))),
+  (λ none. is ∙ ap status_number (run.runs.runs.usage.1 none)),
+)
+usage_answered word given number page script old new put answer status is (inr (inl not)) =
+    let six = is ∙ ap status_number not.memory in (
+      (λ two. absurd (omega (arith, six, two))),
+      (λ none. let no = sym (ap is_some none) ∙ not.asked in cc),
+    )
+usage_answered word given number page script old new put answer status is (inr (inr nothing)) =
+    ((λ two. nothing.unasked), (λ none. is ∙ ap status_number nothing.usage))
+
+-- of no text nothing stands in the slice
+none_held : (text old new : List ℕ) (put : ℕ) → text ≡ [] → Holding text old new put → PutsNone old new put
+none_held text old new put none holding = record {
+  stays = holding.front ∙ ap (λ t. take (length old) t ++ drop (length t) old) none ∙ nothing_first (length old);
+  none = holding.count ∙ ap length none;
+}
+  where
+    nothing_first : (n : ℕ) → take n [] ++ old ≡ old
+    nothing_first n = grind arith
+
+-- a run that puts nothing
+unput_run : (word : List ℕ) (given number : ℕ) (page script old new : List ℕ) (put : ℕ) (status : Status)
+    (run : HasRun word given number page script old new put status)
+    → run.runs.after.sink ≡ run.runs.before.sink → PutsNone old new put
+unput_run word given number page script old new put status run same =
+    let none : run.text ≡ [] =
+    same_Some run.text [] (sym run.is ∙ ap (λ (s : SinkState). s.bytes) (sym run.runs.after_sink ∙ same
+    ∙ run.runs.before_sink ∙ run.empty)) in
+    none_held run.text old new put none run.holding
+
+unput_by : (words : List (List ℕ)) (before after : Outside) (asked : Option Request) → request_of words ≡ asked
+    → Runs words before after statuses.NoMemory → after.sink ≡ before.sink
+unput_by words before after (Some request) is runs = (runs.request request is).ends.unput
+unput_by words before after None is runs = ap (λ (o : Outside). o.sink) (runs.untouched (runs.usage.1 is))
+
+pub nothing_put : (word : List ℕ) (given number : ℕ) (page script old new : List ℕ) (put answer : ℕ) (status : Status)
+    → answer ≡ status_number status → Calls word given number page script old new put status
+    → NothingPut old new put answer
+nothing_put word given number page script old new put answer status is (inl run) (inl two) =
+    unput_run word given number page script old new put status run
+    (ap (λ (o : Outside). o.sink) (run.runs.runs.untouched (usage_by status (sym is ∙ two))))
+nothing_put word given number page script old new put answer status is (inl run) (inr six) =
+    let on = run.runs in
+    unput_run word given number page script old new put status run
+    (unput_by (words_for word given number) on.before on.after (request_of (words_for word given number)) refl
+    (subst (λ (s : Status). Runs (words_for word given number) on.before on.after s) (memory_by status (sym is ∙ six)) on.runs))
+nothing_put word given number page script old new put answer status is (inr (inl not)) either = not.unput
+nothing_put word given number page script old new put answer status is (inr (inr nothing)) either = nothing.unput
