@@ -4,11 +4,13 @@ in it but the editor's own."""
 import os
 import re
 
-from btx import html, program, viewer
+from btx import html, modules, program, viewer
 
 SUMMARY = "a file with the page editor, in a browser"
 EDIT = os.path.join(program.ROOT, "edit")
+# The scripts of the viewer, and the first of the editor's modules.
 SCRIPT = re.compile(r'<script src="([\w./]+)"></script>\n?')
+MODULE = re.compile(r'<script type="module" src="([\w.]+)"></script>\n?')
 DATA = html.DATA
 
 
@@ -29,8 +31,9 @@ def template():
 def html_with(module):
     """The editor's document with its style, its scripts, the module, and the viewer's document inside."""
     document, style = text_of("index.html"), text_of("edit.css")
-    scripts = [viewer.caller(), *map(text_of, SCRIPT.findall(document))]
-    head, tail = SCRIPT.sub("", html.with_policy(document, viewer.policy_of(style, scripts))).split(DATA)
+    scripts = [viewer.caller(), *map(text_of, SCRIPT.findall(document)), *modules.scripts_of(EDIT, MODULE.search(document)[1])]
+    bare = MODULE.sub("", SCRIPT.sub("", html.with_policy(document, viewer.policy_of(style, scripts))))
+    head, tail = bare.split(DATA)
     head = head.replace('<link rel="stylesheet" href="edit.css">', f"<style>{style}</style>")
     data = f'<script type="application/json" id="viewer">{template()}</script>\n{viewer.data_of(module)}'
     return f"{head}{data}\n{viewer.inside(scripts)}\n{tail.lstrip()}"

@@ -14,10 +14,10 @@ from btx import canvas, html, looks, making
 
 SCRIPTS = (
     "text.js", "signs.js", "shapes.js", "dots.js", "paint.js", "film.js", "screen.js", "player.js", "panels.js", "files.js", "viewer.js",
-    "archive.js", "language.js", "walk.js",
+    "words.js", "language.js", "archive.js", "walk.js",
 )
 # What a page of an archive has besides those of the viewer.
-OWN_SCRIPTS = ("site.js", "language.js", "walk.js")
+OWN_SCRIPTS = ("site.js", "walk.js")
 STYLES = ("style.css", "archive.css")
 # What is made of a page, each kind in a folder of its own; the facts, by which it counts as made, come last and go first.
 KINDS = {"pages": ".html", "pictures": ".png", "made": ".json"}
@@ -68,7 +68,7 @@ def halves(decodes):
     changed = {
         'href="style.css"': 'href="{up}viewer/style.css"',
         "<h1>Tamligub</h1>": '<h1><a href="{up}index.html">Archive</a></h1>',
-        "<title>Tamligub: a page being built</title>": "<title>{title}</title>",
+        '<title data-word="viewer">Tamligub</title>': "<title>{title}</title>",
         "</header>": '</header>\n<nav id="walk" data-up="{up}" data-part="{part}" data-address="{address}"></nav>',
         '<script src="viewer.js"></script>': "\n".join(f'<script src="{name}"></script>' for name in scripts),
         '<script src="': '<script src="{up}viewer/',

@@ -67,6 +67,15 @@ def btx(*words, command=BTX, **more):
     return subprocess.run([command, *words], **{**keys, **more})
 
 
+def is_running(number):
+    """Whether a process is there and hasn't ended."""
+    try:
+        with open(f"/proc/{number}/stat", encoding="ascii") as file:
+            return file.read().rpartition(")")[2].split()[0] != "Z"
+    except OSError:
+        return False
+
+
 class Case(unittest.TestCase):
     """A test with a folder of its own."""
 

@@ -32,15 +32,6 @@ new MutationObserver((changes) => {
 }).observe(document, { childList: true, subtree: true });"""
 
 
-def is_running(number):
-    """Whether a process is there and hasn't ended."""
-    try:
-        with open(f"/proc/{number}/stat", encoding="ascii") as file:
-            return file.read().rpartition(")")[2].split()[0] != "Z"
-    except OSError:
-        return False
-
-
 class Archive(archives.Case):
     def add_bad(self):
         """A page that is too long, one that isn't there, and one that is no file."""
@@ -208,13 +199,18 @@ class Archive(archives.Case):
         self.assertRegex(done.stdout, rb"; [1-9]\d* were there")
         self.is_whole()
 
+    def waiting(self):
+        """A file of runs, and a program that notes its number in it and then never ends."""
+        runs = self.written("runs", b"")
+        slow = self.written("slow", f"#!/bin/sh\necho $$ >> {runs}\nexec sleep 3600\n".encode())
+        os.chmod(slow, 0o755)
+        return runs, slow
+
     def test_killed_it_leaves_no_run_behind(self):
         self.needs("setpriv")
         for words in ([], ["--jobs-by", "parallel"]) if stand.there("parallel") else ([],):
             with self.subTest(words):
-                runs = self.written("runs", b"")
-                slow = self.written("slow", f"#!/bin/sh\necho $$ >> {runs}\nexec sleep 3600\n".encode())
-                os.chmod(slow, 0o755)
+                runs, slow = self.waiting()
                 run = stand.begun("archive", self.source, "-o", self.out, "--jobs", "2", *words, env=stand.environment(BTX_PROGRAM=slow))
                 while run.poll() is None and self.lines(runs) < 2:
                     time.sleep(0.05)
@@ -226,9 +222,9 @@ class Archive(archives.Case):
                 run.stderr.close()
                 # A run that never ends would be seen here for ever.
                 end = time.monotonic() + stand.LONG
-                while any(map(is_running, begun)) and time.monotonic() < end:
+                while any(map(stand.is_running, begun)) and time.monotonic() < end:
                     time.sleep(0.05)
-                self.assertEqual([number for number in begun if is_running(number)], [])
+                self.assertEqual([number for number in begun if stand.is_running(number)], [])
 
     def lines(self, path):
         with open(path, "rb") as file:
@@ -272,15 +268,24 @@ class Archive(archives.Case):
         done = self.archive("--jobs-by", "parallel", "--remote", "false", status=5)
         self.assertIn(b"18 pages were not made", done.stderr)
 
-    def test_over_ssh_on_this_machine(self):
+    def over_ssh(self, *words, **more):
+        """An archive over two logins of this machine."""
         self.needs("parallel", "sshd", "ssh", "ssh-keygen")
-        words = [os.path.join(stand.ROOT, "btx_tests", "over_ssh"), self.source, self.out]
-        keys = {"stdout": subprocess.PIPE, "stderr": subprocess.STDOUT, "env": stand.environment(), "timeout": stand.LONG}
+        words = [os.path.join(stand.ROOT, "btx_tests", "over_ssh"), self.source, self.out, *words]
+        keys = {"stdout": subprocess.PIPE, "stderr": subprocess.STDOUT, "env": stand.environment(**more), "timeout": stand.LONG}
         done = subprocess.run(words, **keys)
         if done.returncode == 77:
             self.leave_out(why=done.stdout.decode().strip())
         self.assertEqual(done.returncode, 0, done.stdout.decode())
+
+    def test_over_ssh_on_this_machine(self):
+        self.over_ssh()
         self.is_whole()
+
+    def test_killed_it_leaves_no_run_behind_over_ssh(self):
+        self.needs("setpriv")
+        runs, slow = self.waiting()
+        self.over_ssh(runs, BTX_PROGRAM=slow)
 
 
 class Index(stand.Case):
@@ -331,7 +336,7 @@ class Index(stand.Case):
         self.assertTrue(seen <= wanted <= 2 * seen, (seen, wanted))
         self.assertTrue(seen <= tiles <= 5 * seen, (seen, tiles))
         # Of the index's eight parts those of the pages in sight.
-        asked = self.tab.value("asked.filter((name) => /entries|words/.test(name))")
+        asked = self.tab.value("asked.filter((name) => /\\/(entries|words)\\//.test(name))")
         self.assertEqual([name.rpartition("/entries/")[2] for name in asked], ["0.js"])
 
     def test_where_there_are_no_pictures_the_index_has_none(self):

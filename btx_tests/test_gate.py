@@ -56,17 +56,20 @@ class Gate(stand.Case):
         bare = self.path("bin")
         os.mkdir(bare)
         os.symlink(sys.executable, os.path.join(bare, "python3"))
-        tests = ("view/test", "view/test_decoder", "edit/test", "library/test", "library/test_web")
+        tests = ("view/test", "view/test_decoder", "edit/test", "edit/check_scripts", "library/test", "library/test_web")
         lines = self.path("left_out")
         for test in tests:
-            words = [os.path.join(stand.ROOT, test), stand.program, *["out"] * (test == "library/test")]
+            given = {"edit/check_scripts": [], "library/test": [stand.program, "out"]}.get(test, [stand.program])
+            words = [os.path.join(stand.ROOT, test), *given]
             keys = {"stdout": subprocess.PIPE, "stderr": subprocess.STDOUT, "timeout": stand.LONG}
             done = subprocess.run(words, env=stand.environment(PATH=bare, TAMLIGUB_LEFT_OUT=lines), **keys)
             self.assertEqual(done.returncode, 0, (test, done.stdout))
         with open(lines, encoding="utf-8") as file:
             told = {(package, line.split(":")[1].strip()) for package, line in (one.split("\t") for one in file.read().splitlines())}
-        wanted = {("nodejs", "view/test"), ("gcc libc6-dev", "library/test")} | {("chromium", test) for test in tests[:3]}
+        wanted = {("nodejs", test) for test in ("view/test", "edit/test")} | {("chromium", test) for test in tests[:3]}
+        wanted |= {("gcc libc6-dev", "library/test"), *((package, "edit/check_scripts") for package in ("node-typescript", "eslint"))}
         there = os.path.exists(stand.absent.MODULE)
+        wanted |= set() if there else {("binaryen", "edit/test")}
         wanted |= {(package, "library/test_web") for package in (("nodejs", "chromium") if there else ("binaryen",))}
         self.assertEqual(told, wanted)
         with contextlib.redirect_stdout(io.StringIO()) as said:

@@ -3,7 +3,6 @@ import base64
 import json
 import os
 import re
-import subprocess
 
 import stand
 
@@ -44,11 +43,6 @@ class Html(stand.Case):
         document = stand.btx("html", name, name, cwd=self.folder).stdout
         self.assertNotIn(b"script><b>", document)
         self.assertEqual([page["name"] for page in self.data_in(document)], [name, name])
-
-    def test_page_to_html_is_the_same(self):
-        words = [os.path.join(stand.ROOT, "view", "page_to_html"), "--program", stand.program, stand.page("title")]
-        document = subprocess.run(words, stdout=subprocess.PIPE, timeout=stand.LONG).stdout
-        self.assertEqual(document, stand.btx("html", stand.page("title")).stdout)
 
     def test_a_page_that_cannot_be_read(self):
         for words in (["html", "nowhere"], ["html", stand.page("title"), "nowhere"]):

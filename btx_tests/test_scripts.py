@@ -7,10 +7,10 @@ import unicodedata
 import stand
 
 COLUMNS, ROWS, NONE = 39, 23, "\ufffd"
-LOADS = """const { readFileSync } = require("fs"), vm = require("vm");
-const context = vm.createContext({ window: {} });
-for (const name of ["view/text.js", "view/signs.js", "edit/lines.js"]) vm.runInContext(readFileSync(name, "utf8"), context);
-const lines = JSON.parse(readFileSync(0, "utf8")), { inGrammar, unknownIn } = context.window.Tamligub;
+LOADS = """import { readFileSync } from "node:fs";
+import "./edit/tests/scripts.js";
+const { inGrammar, unknownIn } = await import("./edit/lines.js");
+const lines = JSON.parse(readFileSync(0, "utf8"));
 process.stdout.write(JSON.stringify(lines.map((line) => [inGrammar(line), unknownIn(line)])));
 """
 
@@ -86,7 +86,7 @@ class Scripts(stand.Case):
         node, = self.needs("node")
         lines = [f"text {sign}" for sign in self.all_signs()] + ["", " ", "\t# Größe", "text", "text ", "text\tA", "  text  ü ", "text \tü"]
         lines += [" at  1\t2 ", "undo\t", "raw 41 ", "texts ü", "text A„ü", "text ö\u0301", "text \u0308", "#", "Text ü", "text A\u030aa"]
-        done = subprocess.run([node, "-e", LOADS], input=json.dumps(lines), capture_output=True, text=True, cwd=stand.ROOT, timeout=stand.LONG)
+        done = subprocess.run([node, "--input-type=module", "-e", LOADS], input=json.dumps(lines), capture_output=True, text=True, cwd=stand.ROOT, timeout=stand.LONG)
         self.assertEqual(done.returncode, 0, done.stderr)
         results = dict(zip(lines, json.loads(done.stdout)))
         good = [line for line, (_, unknown) in results.items() if not unknown and line not in ("text", "text ", "texts ü", "Text ü")]

@@ -3,7 +3,6 @@ import base64
 import json
 import os
 import re
-import subprocess
 
 import stand
 
@@ -47,12 +46,6 @@ class Viewer(stand.Case):
 
     def test_it_does_without_the_program(self):
         self.assertIn(b"<canvas", self.document(env=stand.environment(BTX_PROGRAM="nowhere")))
-
-    def test_make_viewer_is_the_same(self):
-        whole = self.document()
-        for words in ((), (self.module(),)):
-            made = subprocess.run([os.path.join(stand.ROOT, "view", "make_viewer"), *words], stdout=subprocess.PIPE, timeout=stand.LONG)
-            self.assertEqual(made.stdout, whole)
 
     def test_a_module_that_is_not_there(self):
         done = stand.btx("viewer", "--module", "nowhere", cwd=self.folder)

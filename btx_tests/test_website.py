@@ -158,6 +158,14 @@ class Website(archives.Case):
         self.open("pages/boat.btx.html")
         self.shows("document.querySelector('#walk [rel=next]').title", "nächste Seite")
         self.shows("document.querySelector('h1').textContent", "Archiv von Bildschirmtext-Seiten")
+        self.shows("document.getElementById('save').textContent", "PNG sichern")
+        # And the index as the page did last; the title of a page is its own in any language.
+        self.choose("language", "en")
+        self.shows("document.querySelector('#walk [rel=next]').title", "next page")
+        self.shows("document.getElementById('save').textContent", "Save PNG")
+        self.shows("document.title", "Segelboot")
+        self.open()
+        self.shows("document.getElementById('language').value", "en")
 
     def test_titles(self):
         self.archive()

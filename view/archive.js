@@ -213,21 +213,18 @@
   const words = (first, pages) => found.set(first, pages);
 
   function speak() {
-    tamligub.setLanguage(part("language").value);
-    document.documentElement.lang = tamligub.spoken();
     document.title = part("title").textContent = tamligub.title();
     choose();
   }
 
   Object.assign(tamligub, { entries, words });
   for (const [id, kind] of [["search", "input"], ["filter", "change"], ["order", "change"]]) part(id).addEventListener(kind, choose);
-  part("language").addEventListener("change", speak);
   part("choice").addEventListener("submit", (event) => event.preventDefault());
   window.addEventListener("hashchange", () => {
     readAddress();
     choose();
   });
   readAddress();
-  part("language").value = tamligub.spoken();
-  speak();
+  tamligub.onLanguage(speak);
+  tamligub.joinLanguages(part("language"));
 })((window.Tamligub = window.Tamligub || {}));

@@ -3,32 +3,30 @@
 (function (tamligub) {
   "use strict";
 
-  const { part, say } = tamligub;
+  const { part, say, tell, word } = tamligub;
   const WHOLE = [0, 1];
   const [UNREAD, NO_MEMORY] = [4, 6];
   // Each phase of the flash once, and back to the first.
   const TURNS = 6;
   const TURNED = /^[1-9]/m;
   const PAGE = /\.btx$/i;
-  // What `btx` says where a page isn't decoded to its end.
-  const ENDS = {
-    4: "it could not be read to its end",
-    5: "its text is longer than there is room for; only the front of it was written",
-    6: "there is not enough memory; nothing was written",
-    7: "the page has more than 16,777,216 bytes; only the items of the first 16,777,216 were read",
-  };
+  // Where a page isn't decoded to its end there are the words of `btx` for these statuses.
+  const ENDS = [4, 5, 6, 7];
   const text = (bytes) => new TextDecoder("utf-8").decode(bytes);
 
   const bytesIn = (letters) => Uint8Array.from(atob(letters), (sign) => sign.charCodeAt(0));
 
   const compiled = WebAssembly.compile(bytesIn(part("module").textContent));
 
-  // A page that can't be shown, by its name and the status of the program.
+  // A page that can't be shown, or a folder without pages, by its name and the words that say why.
   class PageFault extends Error {
-    constructor(name, status) {
-      super(`${name}: ${ENDS[status] || `the program ended with status ${status}`}`);
+    constructor(name, key, values = {}) {
+      super(key);
+      this.told = () => word("of", { name, why: word(key, values) });
     }
   }
+
+  const ended = (name, status) => new PageFault(name, ENDS.includes(status) ? `ended${status}` : "ended", { status });
 
   // Whether the first line of some bytes is a line of `changes`.
   function isChanges(bytes) {
@@ -45,10 +43,10 @@
   function put(module, word, file, number) {
     try {
       const answer = tamligub.run(module, word, { page: file.bytes, number });
-      if (!WHOLE.includes(answer.status)) throw new PageFault(file.name, answer.status);
+      if (!WHOLE.includes(answer.status)) throw ended(file.name, answer.status);
       return text(answer.text);
     } catch (fault) {
-      throw fault instanceof PageFault ? fault : new PageFault(file.name, NO_MEMORY);
+      throw fault instanceof PageFault ? fault : ended(file.name, NO_MEMORY);
     }
   }
 
@@ -75,7 +73,7 @@
         found.push(await take(one));
       } catch (fault) {
         if (!(fault instanceof PageFault)) throw fault;
-        faults.push(fault.message);
+        faults.push(fault);
       }
     }
     return found;
@@ -85,7 +83,7 @@
     try {
       return { name, bytes: new Uint8Array(await file.arrayBuffer()) };
     } catch (fault) {
-      throw new PageFault(name, UNREAD);
+      throw ended(name, UNREAD);
     }
   }
 
@@ -100,7 +98,7 @@
     }
     const shown = await kept(pages, faults, (file) => decoded(module, file));
     if (shown.length) tamligub.viewer.take(shown);
-    if (faults.length) say("fault", faults.join("; "));
+    if (faults.length) tell("fault", () => faults.map((fault) => fault.told()).join("; "));
   }
 
   // What stands in a folder, which is a handle, or an entry in a browser that has no handles.
@@ -130,9 +128,9 @@
     const found = [];
     try {
       for await (const page of pagesIn(await folder, name)) found.push(page);
-      if (!found.length) faults.push(`${name}: no file in it ends in .btx`);
+      if (!found.length) faults.push(new PageFault(name, "noPages"));
     } catch (fault) {
-      faults.push(new PageFault(name, UNREAD).message);
+      faults.push(ended(name, UNREAD));
     }
     return found.sort((one, other) => (one.path < other.path ? -1 : 1));
   }
@@ -178,8 +176,7 @@
   }, true);
 
   part("file-page").multiple = true;
-  say("open-words", "Take stored pages, one or several, or the text that cept_tool changes PAGE prints, with the other texts if you like. "
-    + "Files and whole folders can also be dropped anywhere on this page, and files pasted; of a folder what ends in .btx is taken. "
-    + "Nothing leaves your machine.");
+  part("open-words").dataset.word = "openPages";
+  say("open-words", word("openPages"));
   Object.assign(tamligub, { compiled, decoded, examples: tamligub.begun.then(showExamples) });
 })((window.Tamligub = window.Tamligub || {}));

@@ -53,7 +53,7 @@
     const read = async (id) => (file(id) ? bytesOf(file(id)) : null);
     const [changes, page, check, flash] = await Promise.all(["changes", "page", "check", "flash"].map((one) => read(`file-${one}`)));
     return {
-      name: changes ? changes.name : "pasted text",
+      name: changes ? changes.name : tamligub.word("pasted"),
       changes: changes ? text(changes.bytes) : form.querySelector("#paste").value,
       page: page ? page.bytes : null,
       check: check ? text(check.bytes) : null,

@@ -16,7 +16,7 @@
     const phases = tamligub.readFlash(text, changes.known);
     const steady = (number) => changes.looks[number].flash === "S";
     if (!last.every((number, cell) => !steady(number) || phases.every((grid) => grid[cell] === number))) {
-      throw new tamligub.TextFault("The text of flash is of another page.");
+      throw new tamligub.TextFault("otherFlash");
     }
     return phases;
   }

@@ -3,7 +3,7 @@
 (function (tamligub) {
   "use strict";
 
-  const { part, say, COLUMNS, PHASES } = tamligub;
+  const { part, say, word, grouped, COLUMNS, PHASES } = tamligub;
   const PHASE_TIME = 1000 / PHASES;
   const [PLACE, STEADY] = [1, "S"];
   const hex = (number, digits) => number.toString(16).toUpperCase().padStart(digits, "0");
@@ -54,7 +54,7 @@
       tell(0);
       offer(true);
       part("line-save").disabled = false;
-      say("state", "The line is open.");
+      say("state", word("lineOpen"));
     }
 
     came(bytes) {
@@ -119,7 +119,7 @@
     async ended() {
       const came = this.viewer.line === this;
       this.close();
-      if (!came) say("fault", `${this.name}: the line can't be opened`);
+      if (!came) say("fault", word("of", { name: this.name, why: word("lineUnopened") }));
       else await keep(this);
     }
   }
@@ -134,7 +134,7 @@
     const unknown = ["count-moments", "count-last", "count-all", "count-whole", "cell-line", "cell-bytes", "refusals-count", "text"];
     unknown.forEach((id) => say(id, ""));
     part("refusals").replaceChildren();
-    say("count-bytes", bytes.toLocaleString("en"));
+    say("count-bytes", grouped(bytes));
   }
 
   // Shows what came over a line as a page, with its own time; one that is too long is told.
@@ -142,9 +142,10 @@
     const bytes = new Uint8Array(await new Blob(line.pieces).arrayBuffer());
     try {
       line.viewer.take([{ ...tamligub.decoded(line.module, { name: line.name, bytes }), times: line.times }]);
-      say("state", "The line has ended. What came is a page.");
+      say("state", word("lineEnded"));
     } catch (fault) {
-      say("fault", fault.message);
+      if (!fault.told) throw fault;
+      say("fault", fault.told());
     }
   }
 
@@ -155,7 +156,7 @@
     link.download = "line.btx";
     link.click();
     setTimeout(() => URL.revokeObjectURL(link.href), 1000);
-    say("state", "What came is saved.");
+    say("state", word("lineSaved"));
   }
 
   async function open(event) {
@@ -165,7 +166,7 @@
     try {
       new Line(tamligub.viewer, module, address);
     } catch (fault) {
-      say("fault", `${address}: this is no address of a WebSocket`);
+      say("fault", word("of", { name: address, why: word("lineNowhere") }));
     }
   }
 

@@ -3,15 +3,20 @@
 (function (tamligub) {
   "use strict";
 
-  const { COLUMNS, CELLS } = tamligub;
+  const { COLUMNS, CELLS, word, grouped } = tamligub;
   const MOST_REFUSALS = 1000;
   const MOST_BYTES = 32;
+  const told = new Map();
 
   const part = (id) => document.getElementById(id);
   const say = (id, text) => {
     part(id).textContent = text;
   };
-  const grouped = (number) => number.toLocaleString("en");
+  // The same by a function that makes the text, and makes it again in another language.
+  const tell = (id, make) => {
+    told.set(id, make);
+    say(id, make());
+  };
 
   function make(tag, text, attributes) {
     const element = document.createElement(tag);
@@ -22,14 +27,14 @@
 
   function hexadecimal(bytes) {
     const shown = [...bytes.subarray(0, MOST_BYTES)].map((byte) => byte.toString(16).toUpperCase().padStart(2, "0"));
-    return shown.join(" ") + (bytes.length > MOST_BYTES ? ` … ${bytes.length} bytes` : "");
+    return bytes.length > MOST_BYTES ? word("moreBytes", { shown: shown.join(" "), count: bytes.length }) : shown.join(" ");
   }
 
   function showCounts(film, come) {
     const [from, to] = film.lastLines();
-    say("count-bytes", `${grouped(come)} of ${grouped(film.length)}`);
-    say("count-moments", `${grouped(film.moment)} of ${grouped(film.moments.length)}`);
-    say("count-last", `${to - from} of ${CELLS} cells`);
+    say("count-bytes", word("some", { some: grouped(come), all: grouped(film.length) }));
+    say("count-moments", word("some", { some: grouped(film.moment), all: grouped(film.moments.length) }));
+    say("count-last", word("someCells", { some: to - from, all: CELLS }));
     say("count-all", grouped(to));
     say("count-whole", grouped(film.moment * CELLS));
   }
@@ -39,20 +44,19 @@
     const [from, to] = film.lastLines();
     const last = film.moment ? film.moments[film.moment - 1] : null;
     const done = !last
-      ? "nothing has come"
+      ? word("nothingCame")
       : last.refusal
-        ? `refused at byte ${last.place}: ${last.refusal.name}`
-        : `the command at byte ${last.place} repainted ${to - from} of ${CELLS} cells`;
-    return `${come} of ${film.length} bytes: ${done}.`;
+        ? word("cameRefused", { place: last.place, name: last.refusal.name })
+        : word("cameCells", { place: last.place, some: to - from, all: CELLS });
+    return word("state", { come, length: film.length, done });
   }
 
   // The line of a cell, and the bytes that made it.
   function showCell(film, cell) {
     const [row, column] = [Math.floor(cell / COLUMNS) + 1, (cell % COLUMNS) + 1];
-    const place = `Row ${row}, column ${column}`;
     const line = film.lineOf(cell);
     if (line < 0) {
-      say("cell-line", `${place}: no command has changed it; it is blank.`);
+      say("cell-line", word("cellBlank", { row, column }));
       say("cell-bytes", "");
       return;
     }
@@ -60,8 +64,8 @@
     const at = film.moments[moment].place;
     const look = film.changes.looks[film.changes.numbers[line]];
     const bytes = film.bytesOf(moment);
-    say("cell-line", `${place}: ${at} ${row} ${column} ${look.text}`);
-    say("cell-bytes", bytes ? `Bytes from ${at} up to the next change: ${hexadecimal(bytes)}` : `Its command is at byte ${at}.`);
+    say("cell-line", word("cellLine", { row, column, text: `${at} ${row} ${column} ${look.text}` }));
+    say("cell-bytes", bytes ? word("cellBytes", { at, bytes: hexadecimal(bytes) }) : word("cellAt", { at }));
   }
 
   // The refusals, each a link to its moment. `check` tells how many items there are.
@@ -70,18 +74,23 @@
     const list = part("refusals");
     list.replaceChildren();
     for (const refusal of refusals.slice(0, MOST_REFUSALS)) {
-      const link = make("a", `byte ${refusal.place}: ${refusal.name}, length ${refusal.length}`, {
+      const link = make("a", word("refusal", refusal), {
         href: `#${encodeURIComponent(name)}@${refusal.place}`,
       });
       const item = make("li");
       item.append(link);
       list.append(item);
     }
-    const more = refusals.length > MOST_REFUSALS ? ` The first ${MOST_REFUSALS} are listed.` : "";
-    const count = refusals.length ? grouped(refusals.length) : "None";
-    const items = check ? ` of ${grouped(check.items)} items ${refusals.length > 1 ? "are" : "is"}` : "";
-    const other = check && !sameRefusals(check.refusals, refusals) ? " The text of check is of another page." : "";
-    say("refusals-count", `${count}${items} refused.${more}${other}`);
+    const more = refusals.length > MOST_REFUSALS ? word("refusedFirst", { most: MOST_REFUSALS }) : "";
+    const other = check && !sameRefusals(check.refusals, refusals) ? word("otherCheck") : "";
+    say("refusals-count", countOf(refusals.length, check) + more + other);
+  }
+
+  // How many items are refused, of how many where `check` is there.
+  function countOf(refused, check) {
+    const many = refused > 1 ? "Some" : refused ? "One" : "None";
+    if (check) return word(`refused${many}Of`, { count: grouped(refused), items: grouped(check.items) });
+    return word(refused ? "refusedSome" : "refusedNone", { count: grouped(refused) });
   }
 
   function sameRefusals(one, other) {
@@ -117,5 +126,7 @@
     });
   }
 
-  Object.assign(tamligub, { part, say, showCounts, stateOf, showCell, showRefusals, showIndex, markIndex });
+  tamligub.onLanguage(() => told.forEach((text, id) => say(id, text())));
+
+  Object.assign(tamligub, { part, say, tell, showCounts, stateOf, showCell, showRefusals, showIndex, markIndex });
 })((window.Tamligub = window.Tamligub || {}));

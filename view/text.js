@@ -2,7 +2,7 @@
 // Their grammar stands in docs/PROFILE.md under "Texts".
 //
 // The viewer's files are plain scripts, each a function that adds to the one name Tamligub: a browser loads no JavaScript
-// modules from a file system, and page_to_html puts the same files into one page.
+// modules from a file system, and `btx html` puts the same files into one page.
 (function (tamligub) {
   "use strict";
 
@@ -23,14 +23,18 @@
   const SHORTEST = "0 1 1 - 11.00 FFF 000 S---".length;
   const MOST = 1e9;
 
-  // A text that can't be shown; the message says why.
-  class TextFault extends Error {}
+  // A text that can't be shown: the key of the words that say why, and the values in these.
+  class TextFault extends Error {
+    constructor(key, values = {}) {
+      super(key);
+      [this.key, this.values] = [key, values];
+    }
+  }
 
   // A text that isn't what it was taken for: the number of the first line that isn't understood, and what it holds.
   class LineFault extends TextFault {
-    constructor(number, line, kind) {
-      const shown = line.length > 80 ? line.slice(0, 80) + " …" : line;
-      super(`Line ${number} is not understood as ${kind}: “${shown}”`);
+    constructor(number, line, key) {
+      super(key, { number, line: line.length > 80 ? line.slice(0, 80) + " …" : line });
       this.number = number;
     }
   }
@@ -194,7 +198,7 @@
 
   function readChanges(text) {
     const course = new Course(text);
-    return taken(course, text, (line) => course.refuse(line), "a change line or a refusal");
+    return taken(course, text, (line) => course.refuse(line), "notChanges");
   }
 
   // The text of `trace`, whose moments are lines of a script: with the refusals of the page, and with the lines at which nothing could
@@ -203,13 +207,13 @@
     const [refusals, nothings] = [[], []];
     const refuse = (line) => refusals.push(refusalOf(line)) > 0 && refusals[refusals.length - 1] !== null;
     const other = (line) => NOTHING.test(line) && nothings.push(Number(NOTHING.exec(line)[1])) > 0;
-    return Object.assign(taken(new Course(text, known), text, refuse, "a line of trace", other), { refusals, nothings });
+    return Object.assign(taken(new Course(text, known), text, refuse, "notTrace", other), { refusals, nothings });
   }
 
   // The text of `flash`: the grids of the six phases, whose numbers are among the looks that are known already. A phase to which
   // nothing changes is the one before it; the turn after the last leads back to the first.
   function readFlash(text, known) {
-    const { cells, numbers, moments, count } = taken(new Course(text, known), text, () => false, "a line of flash");
+    const { cells, numbers, moments, count } = taken(new Course(text, known), text, () => false, "notFlash");
     const phases = [new Uint32Array(CELLS)];
     for (let turn = 0; turn <= PHASES; turn++) {
       const at = moments.findIndex((moment) => moment.place === turn);
@@ -221,7 +225,7 @@
     }
     const again = phases.pop();
     if (!again.every((number, cell) => number === phases[0][cell])) {
-      throw new TextFault("The text of flash doesn't lead back to its first phase; that of flash PAGE 6 does.");
+      throw new TextFault("openFlash");
     }
     return phases;
   }
@@ -235,7 +239,7 @@
       const [row, column] = [reader.number(), reader.number()];
       const inside = row >= 1 && row <= ROWS && column >= 1 && column <= COLUMNS;
       const look = inside ? known.number(line.slice(reader.at)) : -1;
-      if (look < 0) throw new LineFault(index + 1, line, "a cell line");
+      if (look < 0) throw new LineFault(index + 1, line, "notCells");
       grid[(row - 1) * COLUMNS + column - 1] = look;
     });
     return { looks: known.list, grid };
@@ -246,11 +250,11 @@
     const lines = linesOf(text);
     const refusals = lines.slice(0, -1).map((line, index) => {
       const refusal = refusalOf(line);
-      if (!refusal) throw new LineFault(index + 1, line, "a refusal");
+      if (!refusal) throw new LineFault(index + 1, line, "notRefusal");
       return refusal;
     });
     const last = CHECK.exec(lines[lines.length - 1] || "");
-    if (!last) throw new LineFault(Math.max(lines.length, 1), lines[lines.length - 1] || "", "a check line");
+    if (!last) throw new LineFault(Math.max(lines.length, 1), lines[lines.length - 1] || "", "notCheck");
     return { refusals, items: Number(last[1]), refused: Number(last[2]) };
   }
 

@@ -2,7 +2,7 @@
 (function (tamligub) {
   "use strict";
 
-  const { part, say, COLUMNS, ROWS } = tamligub;
+  const { part, say, tell, word, COLUMNS, ROWS } = tamligub;
   const PHASE_TIME = 1000 / 6;
   const SMALL_CELL = 6;
   const LEAST_CELL = 6;
@@ -12,6 +12,7 @@
       this.pages = [];
       this.page = null;
       this.line = null;
+      this.check = null;
       this.pointed = -1;
       this.screen = new tamligub.Screen(part("page"), part("outlines"));
       this.player = new tamligub.Player(() => this.moved(), () => this.rested());
@@ -41,32 +42,31 @@
 
     // Takes the texts of one page.
     takeParts(parts) {
-      if (parts.changes === null) say("fault", "The text of changes of its page isn't there.");
+      if (parts.changes === null) tell("fault", () => word("noChanges"));
       else this.take([parts]);
     }
 
     open(number) {
       const page = this.pages[number];
-      say("fault", "");
+      tell("fault", () => "");
       try {
         this.show(page);
         tamligub.markIndex(number);
       } catch (fault) {
         if (!(fault instanceof tamligub.TextFault)) throw fault;
-        say("fault", `${page.name}: ${fault.message}`);
+        tell("fault", () => word("of", { name: page.name, why: word(fault.key, fault.values) }));
       }
     }
 
     show(page) {
       const film = this.filmOf(page);
-      const check = page.check ? tamligub.readCheck(page.check) : null;
+      this.check = page.check ? tamligub.readCheck(page.check) : null;
       this.page = page;
       this.pointed = -1;
       this.screen.looks = film.changes.looks;
       this.screen.forget();
-      say("name", page.name);
       part("bytes").max = film.length;
-      tamligub.showRefusals(film, check, page.name);
+      this.sayPage();
       this.player.open(film);
       this.offerTime(film.times !== null);
       this.rested();
@@ -114,7 +114,7 @@
     rested() {
       if (!this.film()) return;
       const state = tamligub.stateOf(this.film(), this.player.come);
-      say("play-word", this.player.playing() ? "Pause" : "Play");
+      say("play-word", word(this.player.playing() ? "pause" : "play"));
       say("state", state);
       part("bytes").setAttribute("aria-valuetext", state);
       if (this.pointed >= 0) tamligub.showCell(this.film(), this.pointed);
@@ -206,7 +206,7 @@
       const copied = navigator.clipboard
         ? await navigator.clipboard.writeText(text).then(() => true, () => document.execCommand("copy"))
         : document.execCommand("copy");
-      say("state", copied ? "The text is copied." : "The text is selected below; copy it with your browser's keys.");
+      say("state", word(copied ? "copied" : "selected"));
     }
 
     save() {
@@ -217,8 +217,27 @@
         link.download = `${this.page.name}.png`;
         link.click();
         setTimeout(() => URL.revokeObjectURL(link.href), 1000);
-        say("state", "The picture is saved.");
+        say("state", word("saved"));
       });
+    }
+
+    // Says what the page is, until something in it is pointed at.
+    sayPage() {
+      say("name", this.page ? this.page.name : word("noPage"));
+      if (this.pointed < 0) {
+        say("cell-line", word("pointAt"));
+        say("cell-bytes", "");
+      }
+      if (this.page) tamligub.showRefusals(this.filmOf(this.page), this.check, this.page.name);
+      else say("refusals-count", word("none"));
+    }
+
+    // Says all again in another language.
+    speak() {
+      this.sayPage();
+      if (this.film()) tamligub.showCounts(this.film(), this.player.come);
+      say("play-word", word(this.player.playing() ? "pause" : "play"));
+      this.rested();
     }
 
     // Goes where the address points: #page@byte.
@@ -330,6 +349,8 @@
     part("flash").checked = !window.matchMedia("(prefers-reduced-motion: reduce)").matches;
     joinControls(viewer);
     joinFiles(viewer);
+    tamligub.onLanguage(() => viewer.speak());
+    tamligub.joinLanguages(part("language"));
     viewer.lay();
     viewer.rest();
     window.addEventListener("resize", () => viewer.lay());

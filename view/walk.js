@@ -5,6 +5,7 @@
   const { word, kept } = tamligub;
   const here = document.getElementById("walk").dataset;
   const index = `${here.up}index.html`;
+  let steps = null;
 
   function link(text, address, relation) {
     const element = document.createElement("a");
@@ -31,7 +32,12 @@
 
   // A part of the archive's order has for the address of each page its neighbours, each with address and title.
   function walk(part) {
-    const steps = part[here.address] || [null, null];
+    steps = part[here.address] || [null, null];
+    showSteps();
+  }
+
+  function showSteps() {
+    if (!steps) return;
     const both = [["before", "prev", "◀ "], ["after", "next", "▶ "]];
     const links = both.map(([key, relation, sign], at) => {
       if (!steps[at]) return "";
@@ -43,12 +49,16 @@
     document.getElementById("walk").replaceChildren(links[0], ...folders(), links[1]);
   }
 
+  function speak() {
+    document.getElementById("walk").setAttribute("aria-label", word("walk"));
+    document.querySelector("h1 a").textContent = tamligub.title();
+    showSteps();
+  }
+
   function begin() {
-    const nav = document.getElementById("walk");
-    nav.setAttribute("aria-label", word("walk"));
-    nav.lang = tamligub.spoken();
+    speak();
+    tamligub.onLanguage(speak);
     const back = document.querySelector("h1 a");
-    back.textContent = tamligub.title();
     back.href = index + (kept("sessionStorage", `tamligub-index ${new URL(index, document.baseURI)}`) || "");
     const script = document.createElement("script");
     script.src = `${here.up}walk/${here.part}.js`;

@@ -57,7 +57,7 @@ class Browser:
         self.reading, in_write = (fcntl.fcntl(end, fcntl.F_DUPFD, 20) for end in os.pipe())
         options = (
             "--headless=new --no-sandbox --disable-gpu --disable-dev-shm-usage --no-first-run --disable-extensions "
-            "--disable-background-networking --disable-component-update --force-device-scale-factor=1 --hide-scrollbars "
+            "--disable-background-networking --disable-component-update --force-device-scale-factor=1 --hide-scrollbars --accept-lang=en "
             "--remote-debugging-pipe"
         ).split()
 

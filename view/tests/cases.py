@@ -63,7 +63,7 @@ window.probe = {
 
 
 class Stand:
-    """The repository's pages, what the program puts for each, and the file that page_to_html writes of them."""
+    """The repository's pages, what the program puts for each, and the file that btx html writes of them."""
 
     def __init__(self, program, place):
         self.program = program
@@ -93,8 +93,9 @@ class Stand:
     def written(self, name, paths):
         path = os.path.join(self.place, name)
         with open(path, "wb") as file:
-            words = [os.path.join(VIEW, "page_to_html"), "--program", self.program, *paths]
-            subprocess.run(words, stdout=file, check=True, timeout=600)
+            words = [os.path.join(VIEW, "../bin/btx"), "html", "--", *paths]
+            env = {**os.environ, "BTX_PROGRAM": os.path.abspath(self.program)}
+            subprocess.run(words, stdout=file, check=True, timeout=600, env=env)
         return path
 
     def timed(self, name, recording):
@@ -767,7 +768,7 @@ def the_picture_and_the_text_can_be_taken(tab, stand):
 
 
 def a_big_file_is_read_once(tab, stand):
-    """Two pages in a file of page_to_html, one of 50,000 bytes each of which changes a cell: each text is read once, for its small picture
+    """Two pages in a file of btx html, one of 50,000 bytes each of which changes a cell: each text is read once, for its small picture
     and its film, however often its page is opened, and each picture is painted once."""
     page = os.path.join(stand.place, "big.btx")
     with open(page, "wb") as file:
