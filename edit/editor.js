@@ -1,430 +1,544 @@
 // Joins the parts: the sheet, the screen, writing, the tools, the script and what is kept.
-(function (tamligub) {
-  "use strict";
+import { COLUMNS, PHASES, ROWS, Screen, TALL, lastGrid, paintStill, readFlash, readTrace, run, unicodeOf } from "./shared.js";
+import { setLanguage, word } from "./words.js";
+import { AskFault, Asker } from "./ask.js";
+import { raw } from "./lines.js";
+import { Sheet } from "./sheet.js";
+import { joinTabs, make, part, say } from "./controls.js";
+import { Typing } from "./typing.js";
+import { Pen } from "./pen.js";
+import { Mosaic } from "./mosaic.js";
+import { Drawing, POINTS_TALL, POINTS_WIDE } from "./drawing.js";
+import { PatternEditor } from "./pattern.js";
+import { ColourPanel, Whole } from "./whole.js";
+import { ScriptPane } from "./script.js";
+import { Keep } from "./keep.js";
 
-  const { part, say, word, COLUMNS, ROWS, PHASES } = tamligub;
-  const PHASE_TIME = 1000 / PHASES;
-  const PAUSE = 250;
-  // A script of so many lines is laid out after the pause alone.
-  const LONG_SCRIPT = 250;
-  const [LEAST_CELL, STILL_CELL] = [8, 24];
-  // Pixels of the page for what stands above and below the screen.
-  const ROOM_BELOW = 262;
-  const WRITES_ON = "#pen button, #mosaic button, #draw button, #undo, #redo";
-  const NAMES = {
-    "000": "black", F00: "red", "0F0": "green", FF0: "yellow", "00F": "blue", F0F: "magenta", "0FF": "cyan", FFF: "white", "---": "picture",
-  };
-  const ENTRIES = Array.from({ length: 32 }, (_, entry) => entry);
-  // On a cleared screen in a break of the service: a sign on a ground of an entry, in normal polarity.
-  const [CLEARED, AT_FIRST] = ["raw 1F2F40580C", [0x1b, 0x22, 0x41, 0x1f, 0x41, 0x41, 0x9c, 0x9b]];
-  const groundLine = (entry) => tamligub.raw(...AT_FIRST, 0x30 + (entry >> 3), 0x40, 0x90 + (entry & 7), 0x41 + entry);
+const PHASE_TIME = 1000 / PHASES;
+const PAUSE = 250;
+// A script of so many lines is laid out after the pause alone.
+const LONG_SCRIPT = 250;
+const [LEAST_CELL, STILL_CELL] = [8, 24];
+// Pixels of the page for what stands above and below the screen.
+const ROOM_BELOW = 262;
+const WRITES_ON = "#pen button, #mosaic button, #draw button, #undo, #redo";
+/** @type {Record<string, string>} */
+const NAMES = {
+  "000": "black", F00: "red", "0F0": "green", FF0: "yellow", "00F": "blue", F0F: "magenta", "0FF": "cyan", FFF: "white", "---": "picture",
+};
+const ENTRIES = Array.from({ length: 32 }, (_, entry) => entry);
+// On a cleared screen in a break of the service: a sign on a ground of an entry, in normal polarity.
+const [CLEARED, AT_FIRST] = ["raw 1F2F40580C", [0x1b, 0x22, 0x41, 0x1f, 0x41, 0x41, 0x9c, 0x9b]];
+/** @param {number} entry */
+const groundLine = (entry) => raw(...AT_FIRST, 0x30 + (entry >> 3), 0x40, 0x90 + (entry & 7), 0x41 + entry);
 
-  class Editor {
-    constructor(module) {
-      this.asker = new tamligub.Asker(module);
-      this.sheet = new tamligub.Sheet(this.asker);
-      this.screen = new tamligub.Screen(part("page"), part("outlines"));
-      this.pointed = -1;
-      this.phases = null;
-      this.flashing = this.waiting = 0;
-      this.asked = { script: null };
-      this.pen = new tamligub.Pen(this);
-      this.typing = new tamligub.Typing(this);
-      this.script = new tamligub.ScriptPane(this);
-      this.mosaic = new tamligub.Mosaic(this);
-      this.drawing = new tamligub.Drawing(this);
-      this.pattern = new tamligub.PatternEditor(this);
-      this.panel = new tamligub.Whole(this);
-      this.colours = new tamligub.ColourPanel(this);
-      this.keep = new tamligub.Keep(this);
-      this.screen.looks = this.seen = [];
-      this.lay();
-    }
+class Editor {
+  /**
+   * The module, and what calls it.
+   * @param {WebAssembly.Module} module
+   * @param {import("./types.js").Run} program
+   */
+  constructor(module, program) {
+    const asker = new Asker(module, program);
+    const sheet = new Sheet(asker);
+    this.asker = asker;
+    this.sheet = sheet;
+    this.screen = new Screen(part("page"), part("outlines"));
+    // The cell that is pointed at, or -1.
+    this.pointed = -1;
+    /** @type {Uint32Array[]} */
+    this.phases = [];
+    // Clocks: of the flash, and of the pause after a change.
+    this.flashing = this.waiting = 0;
+    this.ratio = 0;
+    /** @type {{ script: string | null, page: Uint8Array | null, paints: string[] }} */
+    this.asked = { script: null, page: null, paints: [] };
+    /** @type {import("./types.js").Tell} */
+    const tell = (happening) => this.happened(happening);
+    const ready = () => this.ready();
+    const named = { paints: () => this.paints(), entryName: (/** @type {number} */ entry) => this.entryName(entry) };
+    const pen = new Pen({ sheet, ...named }, tell);
+    const typing = new Typing({ sheet, pen, ready, drawingKey: (event) => this.drawingKey(event) }, tell);
+    this.pen = pen;
+    this.typing = typing;
+    this.script = new ScriptPane(sheet, tell);
+    this.mosaic = new Mosaic(tell);
+    this.drawing = new Drawing({ sheet, asker, pen, ready, caret: () => typing }, tell);
+    this.pattern = new PatternEditor({ sheet, asker }, tell);
+    this.panel = new Whole({ sheet, at: () => typing.at(), ...named }, tell);
+    this.colours = new ColourPanel(named, tell);
+    this.keep = new Keep({ sheet, asker, ready, whole: () => this.whole(), still: () => this.still() }, tell);
+    /** @type {import("./types.js").Look[]} */
+    this.seen = [];
+    this.screen.looks = this.seen;
+    typing.join(part("typing"));
+    this.lay();
+  }
 
-    // Tells something in passing, or a fault that stays until the next change.
-    tell(text, isFault = false) {
-      say("fault", isFault ? text : "");
-      say("state", text);
-      say("note", isFault ? "" : text);
-    }
-
-    // Whether lines can be added: not while one of the script is wrong.
-    ready() {
-      if (this.sheet.fault) this.tell(word("mendFirst", this.sheet.fault), true);
-      return this.sheet.fault === null;
-    }
-
-    open(page, script) {
-      this.sheet.open(page, script);
-      this.asked.script = null;
-      this.screen.looks = this.seen = [];
-      this.screen.forget();
-      this.typing.reset();
-      this.drawing.forget();
-      this.script.step = this.script.pointed = null;
-      this.showRefusals();
-    }
-
-    // Adds an action of lines.
-    act(lines) {
-      if (!this.ready()) return;
-      this.typing.stretch = this.typing.said = null;
-      this.sheet.add(lines);
-      this.changed();
-    }
-
-    setScript(text) {
-      this.typing.stretch = this.typing.said = null;
-      this.sheet.setScript(text);
-      this.changed(true);
-    }
-
-    turn(by) {
-      if (!this.ready()) return;
-      this.typing.stretch = null;
-      const done = this.sheet.turn(by);
-      if (done) this.typing.arrive(null);
-      this.changed();
-      if (!done) this.tell(word(by === "undo" ? "noUndo" : "noRedo"));
-    }
-
-    tidy() {
-      this.typing.stretch = this.typing.said = null;
-      const done = this.sheet.tidy();
-      this.changed();
-      this.tell(word(done ? "tidied" : "tidyKept"));
-    }
-
-    // After each change of the script.
-    changed(typed = false) {
-      this.script.step = null;
-      this.tell("");
-      this.keep.store(false);
-      this.drawing.again();
-      this.show(typed);
-    }
-
-    show(typed = false) {
-      if (typed || this.sheet.lines.length < LONG_SCRIPT) this.script.show(typed);
-      say("name", this.keep.isUnsaved() ? word("changed", { name: this.keep.shownName() }) : this.keep.shownName());
-      part("name").title = this.keep.isUnsaved() ? word("isChanged") : "";
-      document.title = `${part("name").textContent} – Tamligub, ${word("editor")}`;
-      this.paint();
-      this.tellPlace();
-    }
-
-    // After each motion of the caret.
-    moved() {
-      this.placeCaret();
-      this.tellPlace();
-    }
-
-    // The grid that is to be seen: of a drawing that is tried, of a line that was stepped to, or of the end.
-    grid() {
-      if (this.drawing.drawn) return this.drawing.drawn.grid;
-      return this.script.step === null ? this.sheet.making.end() : this.sheet.making.after(this.script.step);
-    }
-
-    paint() {
-      this.stopFlash();
-      this.seeGrid(this.grid());
-      this.outline();
-      this.placeCaret();
-      clearTimeout(this.waiting);
-      this.waiting = setTimeout(() => this.rest(), PAUSE);
-    }
-
-    // Shows a grid. What flashes is seen: its phases are grids of their own, of steady looks.
-    seeGrid(grid) {
-      const { list } = this.sheet.known;
-      for (let number = this.seen.length; number < list.length; number++) this.seen.push({ ...list[number], flash: "S" });
-      this.screen.show(grid);
-    }
-
-    outline() {
-      this.screen.outline(this.script.outlined(), this.pointed);
-    }
-
-    placeCaret() {
-      const caret = part("caret");
-      const ratio = this.ratio || 1;
-      const [width, height] = [this.screen.cellWidth, this.screen.cellHeight].map((side) => (side * this.screen.shrink) / ratio);
-      const draws = this.drawing.drawing();
-      const { x, y } = draws ? this.drawing.cursor : {};
-      const cell = [(this.typing.column - 1) * width, (this.typing.row - 1) * height, width, height];
-      const box = draws ? [(x * width) / 2, (y * height) / 3, width / 2, height / 3] : cell;
-      ["left", "top", "width", "height"].forEach((side, at) => {
-        caret.style[side] = `${box[at]}px`;
-        if (at < 2 && !draws) part("typing").style[side] = `${box[at]}px`;
-      });
-      caret.hidden = this.script.step !== null;
-    }
-
-    // The place of the caret, or the look of the cell that is pointed at.
-    tellPlace() {
-      const { row, column } = this.typing;
-      if (this.pointed < 0) {
-        say("where", word("whereTyping", { row, column }));
-        return;
-      }
-      const look = this.lookOf(this.pointed);
-      const place = word("where", { row: Math.floor(this.pointed / COLUMNS) + 1, column: (this.pointed % COLUMNS) + 1 });
-      const line = this.sheet.making.lineOf(this.pointed, this.script.step === null ? Infinity : this.script.step);
-      say("where", `${place}: ${look.text}${line ? ` (${word("madeBy", { line })})` : ""}`);
-    }
-
-    lookOf(cell) {
-      return this.sheet.known.list[this.grid()[cell]];
-    }
-
-    // Tells a reader of the screen where the caret is, and what stands there.
-    announce() {
-      const look = this.lookOf(this.typing.cell());
-      say("state", `${part("where").textContent}: ${look.kind === "space" ? word("space") : tamligub.unicodeOf(look)}`);
-    }
-
-    point(cell) {
-      if (cell === this.pointed) return;
-      this.pointed = cell;
-      this.tellPlace();
-      this.outline();
-    }
-
-    // After a pause: what `edit` puts, whether it shows the same, and the phases of the flash.
-    rest() {
-      clearTimeout(this.waiting);
-      this.waiting = 0;
-      if (this.sheet.lines.length >= LONG_SCRIPT && document.activeElement !== part("script")) this.script.show();
-      const page = this.sheet.isUnsure() ? this.whole() : this.sheet.edited();
-      const { items, refused } = this.asker.check(page);
-      const same = this.showsSame(page);
-      const said = word("report", { bytes: page.length, items, refused });
-      say("report-page", `${said} ${word(this.sheet.fault ? "reportBad" : same ? "reportSame" : "reportOther")}`);
-      part("report-page").dataset.same = same && !this.sheet.fault;
-      const before = String(this.asked.paints);
-      if (String(this.paints()) !== before) this.speakPanels();
-      else this.pattern.mark();
-      this.flash();
-    }
-
-    // Whether bytes show what the screen shows at the end of the script, cell by cell.
-    showsSame(page) {
-      const shown = this.sheet.making.end();
-      const grid = tamligub.lastGrid(tamligub.readTrace(this.asker.changes(page), this.sheet.known));
-      return grid.every((number, cell) => number === shown[cell]);
-    }
-
-    // What `edit` puts for the stored page and the whole script, which is kept. Should it show something else, that is shown.
-    whole() {
-      const page = this.sheet.editedWhole();
-      if (!this.showsSame(page)) {
-        this.sheet.runWhole();
-        this.show();
-        this.tell(word("otherBytes"), true);
-      }
-      return page;
-    }
-
-    // The paints of the 32 entries, as the program says them.
-    paints() {
-      if (this.asked.script !== this.sheet.script() || this.asked.page !== this.sheet.page) {
-        const [page, script] = this.sheet.standing(this.sheet.good);
-        const looks = this.asker.lastLooks(page, script, [CLEARED, ...ENTRIES.map(groundLine)]).slice(1);
-        this.asked = { script: this.sheet.script(), page: this.sheet.page, paints: looks.map((look) => (look ? look.back : "---")) };
-      }
-      return this.asked.paints;
-    }
-
-    // The name of an entry by the paint that it has.
-    entryName(entry) {
-      const paint = this.paints()[entry];
-      return word("entryNamed", { name: NAMES[paint] ? word(NAMES[paint]) : paint, number: entry });
-    }
-
-    // A picture of the end, as `btx png` makes it.
-    still() {
-      const canvas = document.createElement("canvas");
-      tamligub.paintStill(canvas, { looks: this.sheet.known.list, grid: this.sheet.making.end() }, STILL_CELL, 1, part("reveal").checked);
-      return canvas;
-    }
-
-    // The phases of the flash are the lines of `flash` for what `edit` puts.
-    flash() {
-      this.stopFlash();
-      const flashes = this.grid().some((number) => this.sheet.known.list[number].flash !== "S");
-      if (!part("flash").checked || !flashes || this.script.step !== null || this.drawing.drawn) return;
-      this.phases = tamligub.readFlash(this.asker.flash(this.sheet.edited()), this.sheet.known);
-      let phase = 0;
-      const turn = () => {
-        this.seeGrid(this.phases[phase]);
-        phase = (phase + 1) % PHASES;
-      };
-      turn();
-      this.flashing = setInterval(turn, PHASE_TIME);
-    }
-
-    stopFlash() {
-      clearInterval(this.flashing);
-      this.flashing = 0;
-    }
-
-    showRefusals() {
-      const { check } = this.sheet;
-      say("refusals-count", word(check.refused ? "refusals" : "refusalsNone", check));
-      part("refusals-part").open = check.refused > 0;
-      part("refusals-part").hidden = !check.refused;
-      part("refusals").replaceChildren(...check.refusals.slice(0, 1000).map((refusal) => tamligub.make("li", {}, word("refusal", refusal))));
-    }
-
-    speakPanels() {
-      this.pen.show();
-      this.mosaic.speak();
-      this.drawing.speak();
-      this.pattern.speak();
-      this.panel.speak();
-      this.colours.speak();
-    }
-
-    speak(language) {
-      tamligub.setLanguage(language);
-      part("script").placeholder = word("scriptHint");
-      this.speakPanels();
-      this.showRefusals();
-      this.show();
-    }
-
-    // Keys on the screen while something is drawn.
-    drawingKey(event) {
-      return this.drawing.drawing() && this.drawing.key(event);
-    }
-
-    // Lays the screen out for the room that there is, in whole pixels of the display.
-    lay() {
-      const ratio = window.devicePixelRatio || 1;
-      const wide = part("stage").clientWidth - 2;
-      const high = (Math.max(window.innerHeight - ROOM_BELOW, window.innerHeight / 2) / ROWS / tamligub.TALL) * COLUMNS;
-      const cell = Math.max(LEAST_CELL, Math.floor((Math.min(wide, high) * ratio) / COLUMNS));
-      if (cell === this.screen.asked && ratio === this.ratio) return;
-      this.ratio = ratio;
-      this.layAnew(cell);
-    }
-
-    layAnew(cell) {
-      this.screen.lay(cell, this.ratio);
-      this.paint();
-    }
-
-    // Whether letters are those of the browser's font.
-    letters(font) {
-      this.screen.font = font;
-      this.layAnew(this.screen.asked);
+  /**
+   * What the parts tell.
+   * @param {import("./types.js").Happening} happening
+   */
+  happened(happening) {
+    switch (happening.kind) {
+      case "act": return this.act(happening.lines);
+      case "mark": return this.typing.act(happening.lines);
+      case "write": return this.typing.write(happening.signs);
+      case "typed": return this.setScript(happening.text);
+      case "changed": return this.changed();
+      case "tidy": return this.tidy();
+      case "moved": return this.moved();
+      case "arrived": return this.announce();
+      case "chosen":
+        this.typing.end();
+        return this.moved();
+      case "seen": return this.paint();
+      case "pointed": return this.outline();
+      case "taken": return this.open(happening.page, happening.script);
+      case "named": return this.show();
+      default: return this.tell(happening.text, happening.isFault);
     }
   }
 
-  // What the mouse, a pen or a finger does on the screen.
-  function joinScreen(editor) {
-    const { screen, drawing, typing } = editor;
-    const box = part("screen");
-    const pointAt = (event) => {
-      const bounds = part("page").getBoundingClientRect();
-      const place = (value, size, count) => Math.min(count - 1, Math.max(0, Math.floor((value / size) * count)));
-      return {
-        x: place(event.clientX - bounds.left, bounds.width, tamligub.POINTS_WIDE),
-        y: place(event.clientY - bounds.top, bounds.height, tamligub.POINTS_TALL),
-      };
-    };
-    box.addEventListener("pointerdown", (event) => {
-      event.preventDefault();
-      part("typing").focus({ preventScroll: true });
-      if (editor.script.step !== null) editor.script.go(Infinity);
-      if (drawing.drawing()) {
-        box.setPointerCapture(event.pointerId);
-        drawing.down(pointAt(event));
-        return;
-      }
-      const cell = screen.cellAt(event.clientX, event.clientY);
-      if (cell < 0) return;
-      typing.place(Math.floor(cell / COLUMNS) + 1, (cell % COLUMNS) + 1);
-      editor.moved();
-    });
-    box.addEventListener("pointermove", (event) => {
-      if (drawing.drawing()) drawing.moveTo(pointAt(event));
-      editor.point(screen.cellAt(event.clientX, event.clientY));
-    });
-    for (const end of ["pointerup", "pointercancel"]) box.addEventListener(end, () => drawing.up());
-    box.addEventListener("pointerleave", () => editor.point(-1));
+  /**
+   * Tells something in passing, or a fault that stays until the next change.
+   * @param {string} text
+   * @param {boolean} [isFault]
+   */
+  tell(text, isFault = false) {
+    say("fault", isFault ? text : "");
+    say("state", text);
+    say("note", isFault ? "" : text);
   }
 
-  // Keys that go everywhere; in the script and in fields undo is the browser's own.
-  function onKey(editor, event) {
-    const isText = event.target.matches("#script, #drawing");
-    const letter = event.key.toLowerCase();
-    if (part("unsaved").open || part("help-part").open) return;
-    if (event.key === "Escape") {
-      if (event.target.id !== "typing") part("typing").focus();
+  // Whether lines can be added: not while one of the script is wrong.
+  ready() {
+    if (this.sheet.fault) this.tell(word("mendFirst", { line: this.sheet.fault.line }), true);
+    return this.sheet.fault === null;
+  }
+
+  /**
+   * @param {Uint8Array} page
+   * @param {string} script
+   */
+  open(page, script) {
+    this.sheet.open(page, script);
+    this.asked.script = null;
+    this.screen.looks = this.seen = [];
+    this.screen.forget();
+    this.typing.reset();
+    this.drawing.forget();
+    this.script.forget();
+    this.showRefusals();
+  }
+
+  /**
+   * Adds an action of lines.
+   * @param {string[]} lines
+   */
+  act(lines) {
+    if (!this.ready()) return;
+    this.typing.leave();
+    this.sheet.add(lines);
+    this.changed();
+  }
+
+  /** @param {string} text */
+  setScript(text) {
+    this.typing.leave();
+    this.sheet.setScript(text);
+    this.changed(true);
+  }
+
+  /** @param {"undo" | "redo"} by */
+  turn(by) {
+    if (!this.ready()) return;
+    this.typing.end();
+    const done = this.sheet.turn(by);
+    if (done) this.typing.arrive(null);
+    this.changed();
+    if (!done) this.tell(word(by === "undo" ? "noUndo" : "noRedo"));
+  }
+
+  tidy() {
+    if (!this.ready()) return;
+    this.typing.leave();
+    const done = this.sheet.tidy();
+    this.changed();
+    this.tell(word(done ? "tidied" : "tidyKept"));
+  }
+
+  /**
+   * After each change of the script.
+   * @param {boolean} [typed]
+   */
+  changed(typed = false) {
+    this.script.toEnd();
+    this.tell("");
+    this.keep.store(false);
+    this.drawing.again();
+    this.show(typed);
+  }
+
+  /** @param {boolean} [typed] */
+  show(typed = false) {
+    if (typed || this.sheet.lines.length < LONG_SCRIPT) this.script.show(typed);
+    say("name", this.keep.isUnsaved() ? word("changed", { name: this.keep.shownName() }) : this.keep.shownName());
+    part("name").title = this.keep.isUnsaved() ? word("isChanged") : "";
+    document.title = `${part("name").textContent} – Tamligub, ${word("editor")}`;
+    this.paint();
+    this.tellPlace();
+  }
+
+  // After each motion of the caret.
+  moved() {
+    this.placeCaret();
+    this.tellPlace();
+  }
+
+  // The grid that is to be seen: of a drawing that is tried, of a line that was stepped to, or of the end.
+  grid() {
+    if (this.drawing.drawn) return this.drawing.drawn.grid;
+    return this.script.step === null ? this.sheet.making.end() : this.sheet.making.after(this.script.step);
+  }
+
+  paint() {
+    this.stopFlash();
+    this.seeGrid(this.grid());
+    this.outline();
+    this.placeCaret();
+    clearTimeout(this.waiting);
+    this.waiting = window.setTimeout(() => this.rest(), PAUSE);
+  }
+
+  /**
+   * Shows a grid. What flashes is seen: its phases are grids of their own, of steady looks.
+   * @param {Uint32Array} grid
+   */
+  seeGrid(grid) {
+    const { list } = this.sheet.known;
+    for (let number = this.seen.length; number < list.length; number++) this.seen.push({ ...list[number], flash: "S" });
+    this.screen.show(grid);
+  }
+
+  outline() {
+    this.screen.outline(this.script.outlined(), this.pointed);
+  }
+
+  placeCaret() {
+    const caret = part("caret");
+    const typing = part("typing");
+    const ratio = this.ratio || 1;
+    const [width, height] = [this.screen.cellWidth, this.screen.cellHeight].map((side) => (side * this.screen.shrink) / ratio);
+    const draws = this.drawing.drawing();
+    const { x, y } = this.drawing.cursor;
+    const cell = [(this.typing.column - 1) * width, (this.typing.row - 1) * height, width, height];
+    const box = draws ? [(x * width) / 2, (y * height) / 3, width / 2, height / 3] : cell;
+    ["left", "top", "width", "height"].forEach((side, at) => {
+      caret.style[side] = `${box[at]}px`;
+      if (at < 2 && !draws) typing.style[side] = `${box[at]}px`;
+    });
+    caret.hidden = this.script.step !== null;
+  }
+
+  // The place of the caret, or the look of the cell that is pointed at.
+  tellPlace() {
+    const { row, column } = this.typing;
+    if (this.pointed < 0) {
+      say("where", word("whereTyping", { row, column }));
       return;
     }
-    if (!(event.ctrlKey || event.metaKey) || event.altKey) return;
-    if (letter === "s") editor.keep.keepPage();
-    else if (isText) return;
-    else if (letter === "z" && !event.shiftKey) editor.turn("undo");
-    else if (letter === "y" || letter === "z") editor.turn("redo");
-    else return;
+    const look = this.lookOf(this.pointed);
+    const place = word("where", { row: Math.floor(this.pointed / COLUMNS) + 1, column: (this.pointed % COLUMNS) + 1 });
+    const line = this.sheet.making.lineOf(this.pointed, this.script.step === null ? Infinity : this.script.step);
+    say("where", `${place}: ${look.text}${line ? ` (${word("madeBy", { line })})` : ""}`);
+  }
+
+  /** @param {number} cell */
+  lookOf(cell) {
+    return this.sheet.known.list[this.grid()[cell]];
+  }
+
+  // Tells a reader of the screen where the caret is, and what stands there.
+  announce() {
+    const look = this.lookOf(this.typing.cell());
+    say("state", `${part("where").textContent}: ${look.kind === "space" ? word("space") : unicodeOf(look)}`);
+  }
+
+  /** @param {number} cell */
+  point(cell) {
+    if (cell === this.pointed) return;
+    this.pointed = cell;
+    this.tellPlace();
+    this.outline();
+  }
+
+  // After a pause: what `edit` puts, whether it shows the same, and the phases of the flash.
+  rest() {
+    clearTimeout(this.waiting);
+    this.waiting = 0;
+    if (this.sheet.lines.length >= LONG_SCRIPT && document.activeElement !== part("script")) this.script.show();
+    const page = this.sheet.isUnsure() ? this.whole() : this.sheet.edited();
+    const { items, refused } = this.asker.check(page);
+    const same = this.showsSame(page);
+    const said = word("report", { bytes: page.length, items, refused });
+    say("report-page", `${said} ${word(this.sheet.fault ? "reportBad" : same ? "reportSame" : "reportOther")}`);
+    part("report-page").dataset.same = String(same && !this.sheet.fault);
+    const before = String(this.asked.paints);
+    if (String(this.paints()) !== before) this.speakPanels();
+    else this.pattern.mark();
+    this.flash();
+  }
+
+  /**
+   * Whether bytes show what the screen shows at the end of the script, cell by cell.
+   * @param {Uint8Array} page
+   */
+  showsSame(page) {
+    const shown = this.sheet.making.end();
+    const grid = lastGrid(readTrace(this.asker.changes(page), this.sheet.known));
+    return grid.every((number, cell) => number === shown[cell]);
+  }
+
+  // What `edit` puts for the stored page and the whole script, which is kept. Should it show something else, that is shown.
+  whole() {
+    const page = this.sheet.editedWhole();
+    if (!this.showsSame(page)) {
+      this.sheet.runWhole();
+      this.show();
+      this.tell(word("otherBytes"), true);
+    }
+    return page;
+  }
+
+  /**
+   * The paints of the 32 entries, as the program says them.
+   * @returns {string[]}
+   */
+  paints() {
+    if (this.asked.script !== this.sheet.script() || this.asked.page !== this.sheet.page) {
+      const [page, script] = this.sheet.standing(this.sheet.good);
+      const looks = this.asker.lastLooks(page, script, [CLEARED, ...ENTRIES.map(groundLine)]).slice(1);
+      this.asked = { script: this.sheet.script(), page: this.sheet.page, paints: looks.map((look) => (look ? look.back : "---")) };
+    }
+    return this.asked.paints;
+  }
+
+  /**
+   * The name of an entry by the paint that it has.
+   * @param {number} entry
+   */
+  entryName(entry) {
+    const paint = this.paints()[entry];
+    return word("entryNamed", { name: NAMES[paint] ? word(NAMES[paint]) : paint, number: entry });
+  }
+
+  // A picture of the end, as `btx png` makes it.
+  still() {
+    const canvas = document.createElement("canvas");
+    paintStill(canvas, { looks: this.sheet.known.list, grid: this.sheet.making.end() }, STILL_CELL, 1, part("reveal").checked);
+    return canvas;
+  }
+
+  // The phases of the flash are the lines of `flash` for what `edit` puts.
+  flash() {
+    this.stopFlash();
+    const flashes = this.grid().some((number) => this.sheet.known.list[number].flash !== "S");
+    if (!part("flash").checked || !flashes || this.script.step !== null || this.drawing.drawn) return;
+    this.phases = readFlash(this.asker.flash(this.sheet.edited()), this.sheet.known);
+    let phase = 0;
+    const turn = () => {
+      this.seeGrid(this.phases[phase]);
+      phase = (phase + 1) % PHASES;
+    };
+    turn();
+    this.flashing = window.setInterval(turn, PHASE_TIME);
+  }
+
+  stopFlash() {
+    clearInterval(this.flashing);
+    this.flashing = 0;
+  }
+
+  showRefusals() {
+    const { check } = this.sheet;
+    say("refusals-count", word(check.refused ? "refusals" : "refusalsNone", check));
+    part("refusals-part").open = check.refused > 0;
+    part("refusals-part").hidden = !check.refused;
+    part("refusals").replaceChildren(...check.refusals.slice(0, 1000).map((refusal) => make("li", {}, word("refusal", refusal))));
+  }
+
+  speakPanels() {
+    this.pen.show();
+    this.mosaic.speak();
+    this.drawing.speak();
+    this.pattern.speak();
+    this.panel.speak();
+    this.colours.speak();
+  }
+
+  /** @param {string} language */
+  speak(language) {
+    setLanguage(language);
+    part("script").placeholder = word("scriptHint");
+    this.speakPanels();
+    this.showRefusals();
+    this.show();
+  }
+
+  /**
+   * Keys on the screen while something is drawn.
+   * @param {KeyboardEvent} event
+   * @returns {boolean}
+   */
+  drawingKey(event) {
+    return this.drawing.drawing() && this.drawing.key(event);
+  }
+
+  // Lays the screen out for the room that there is, in whole pixels of the display.
+  lay() {
+    const ratio = window.devicePixelRatio || 1;
+    const wide = part("stage").clientWidth - 2;
+    const high = (Math.max(window.innerHeight - ROOM_BELOW, window.innerHeight / 2) / ROWS / TALL) * COLUMNS;
+    const cell = Math.max(LEAST_CELL, Math.floor((Math.min(wide, high) * ratio) / COLUMNS));
+    if (cell === this.screen.asked && ratio === this.ratio) return;
+    this.ratio = ratio;
+    this.layAnew(cell);
+  }
+
+  /** @param {number} cell */
+  layAnew(cell) {
+    this.screen.lay(cell, this.ratio);
+    this.paint();
+  }
+
+  /**
+   * Whether letters are those of the browser's font.
+   * @param {boolean} font
+   */
+  letters(font) {
+    this.screen.font = font;
+    this.layAnew(this.screen.asked);
+  }
+}
+
+/**
+ * What the mouse, a pen or a finger does on the screen.
+ * @param {Editor} editor
+ */
+function joinScreen(editor) {
+  const { screen, drawing, typing } = editor;
+  const box = part("screen");
+  /** @type {(event: PointerEvent) => { x: number, y: number }} */
+  const pointAt = (event) => {
+    const bounds = part("page").getBoundingClientRect();
+    /** @type {(value: number, size: number, count: number) => number} */
+    const place = (value, size, count) => Math.min(count - 1, Math.max(0, Math.floor((value / size) * count)));
+    return {
+      x: place(event.clientX - bounds.left, bounds.width, POINTS_WIDE),
+      y: place(event.clientY - bounds.top, bounds.height, POINTS_TALL),
+    };
+  };
+  box.addEventListener("pointerdown", (/** @type {PointerEvent} */ event) => {
     event.preventDefault();
-  }
+    part("typing").focus({ preventScroll: true });
+    if (editor.script.step !== null) editor.script.go(Infinity);
+    if (drawing.drawing()) {
+      box.setPointerCapture(event.pointerId);
+      drawing.down(pointAt(event));
+      return;
+    }
+    const cell = screen.cellAt(event.clientX, event.clientY);
+    if (cell < 0) return;
+    typing.place(Math.floor(cell / COLUMNS) + 1, (cell % COLUMNS) + 1);
+    editor.moved();
+  });
+  box.addEventListener("pointermove", (/** @type {PointerEvent} */ event) => {
+    if (drawing.drawing()) drawing.moveTo(pointAt(event));
+    editor.point(screen.cellAt(event.clientX, event.clientY));
+  });
+  for (const end of ["pointerup", "pointercancel"]) box.addEventListener(end, () => drawing.up());
+  box.addEventListener("pointerleave", () => editor.point(-1));
+}
 
-  function joinControls(editor) {
-    const on = (id, kind, act) => part(id).addEventListener(kind, act);
-    on("undo", "click", () => editor.turn("undo"));
-    on("redo", "click", () => editor.turn("redo"));
-    on("help", "click", () => part("help-part").showModal());
-    on("help-close", "click", () => part("help-part").close());
-    on("language", "change", () => editor.speak(part("language").value));
-    on("flash", "change", () => {
-      editor.paint();
-      editor.rest();
-    });
-    on("font", "change", () => editor.letters(part("font").checked));
-    on("reveal", "change", () => editor.screen.turn(0, part("reveal").checked));
-    document.addEventListener("keydown", (event) => onKey(editor, event));
-    // After a click of the mouse on a tool the keys go on writing.
-    document.addEventListener("click", (event) => {
-      if (event.detail > 0 && event.target.closest(WRITES_ON)) part("typing").focus({ preventScroll: true });
-    });
-    // Where the program ends without an answer, as for a script that is too long, its status is said.
-    window.addEventListener("error", (event) => {
-      if (!(event.error instanceof tamligub.AskFault)) return;
-      editor.tell(editor.keep.endOf(event.error, editor.keep.shownName()), true);
-      event.preventDefault();
-    });
-    tamligub.joinTabs(part("tabs"), (panel) => {
-      if (panel === "pattern") {
-        editor.pattern.mark();
-        editor.pattern.show();
-      }
-      editor.drawing.begin(panel === "draw");
-    });
+/**
+ * Keys that go everywhere; in the script and in fields undo is the browser's own.
+ * @param {Editor} editor
+ * @param {KeyboardEvent} event
+ */
+function onKey(editor, event) {
+  const target = /** @type {HTMLElement} */ (event.target);
+  const isText = target.matches("#script, #drawing");
+  const letter = event.key.toLowerCase();
+  if (part("unsaved").open || part("help-part").open) return;
+  if (event.key === "Escape") {
+    if (target.id !== "typing") part("typing").focus();
+    return;
   }
+  if (!(event.ctrlKey || event.metaKey) || event.altKey) return;
+  if (letter === "s") editor.keep.keepPage();
+  else if (isText) return;
+  else if (letter === "z" && !event.shiftKey) editor.turn("undo");
+  else if (letter === "y" || letter === "z") editor.turn("redo");
+  else return;
+  event.preventDefault();
+}
 
-  async function begin() {
-    const letters = part("module").textContent;
-    const module = await WebAssembly.compile(Uint8Array.from(atob(letters), (sign) => sign.charCodeAt(0)));
-    const language = (navigator.language || "de").startsWith("de") ? "de" : "en";
-    tamligub.setLanguage(language);
-    const editor = new Editor(module);
-    part("language").value = language;
-    part("flash").checked = !window.matchMedia("(prefers-reduced-motion: reduce)").matches;
-    joinScreen(editor);
-    joinControls(editor);
-    const kept = await editor.keep.stored();
-    if (kept) editor.keep.take(kept.name, kept.page, kept.script, kept.saved);
-    else editor.keep.take("", new Uint8Array(), "", "");
-    editor.speak(language);
-    window.addEventListener("resize", () => editor.lay());
-    part("typing").focus();
-    if (kept) editor.tell(word("restored", { name: editor.keep.shownName() }));
-    tamligub.editor = editor;
-  }
+/** @param {Editor} editor */
+function joinControls(editor) {
+  /** @type {(id: string, kind: string, act: () => void) => void} */
+  const on = (id, kind, act) => part(id).addEventListener(kind, act);
+  on("undo", "click", () => editor.turn("undo"));
+  on("redo", "click", () => editor.turn("redo"));
+  on("help", "click", () => part("help-part").showModal());
+  on("help-close", "click", () => part("help-part").close());
+  on("language", "change", () => editor.speak(part("language").value));
+  on("flash", "change", () => {
+    editor.paint();
+    editor.rest();
+  });
+  on("font", "change", () => editor.letters(part("font").checked));
+  on("reveal", "change", () => editor.screen.turn(0, part("reveal").checked));
+  document.addEventListener("keydown", (event) => onKey(editor, event));
+  // After a click of the mouse on a tool the keys go on writing.
+  document.addEventListener("click", (event) => {
+    const writesOn = event.target instanceof Element && event.target.closest(WRITES_ON);
+    if (event.detail > 0 && writesOn) part("typing").focus({ preventScroll: true });
+  });
+  // Where the program ends without an answer, as for a script that is too long, its status is said.
+  window.addEventListener("error", (event) => {
+    if (!(event.error instanceof AskFault)) return;
+    editor.tell(editor.keep.endOf(event.error, editor.keep.shownName()), true);
+    event.preventDefault();
+  });
+  joinTabs(part("tabs"), (panel) => {
+    if (panel === "pattern") {
+      editor.pattern.mark();
+      editor.pattern.show();
+    }
+    editor.drawing.begin(panel === "draw");
+  });
+}
 
-  begin();
-})((window.Tamligub = window.Tamligub || {}));
+async function begin() {
+  const letters = part("module").textContent;
+  const module = await WebAssembly.compile(Uint8Array.from(atob(letters), (sign) => sign.charCodeAt(0)));
+  const language = (navigator.language || "de").startsWith("de") ? "de" : "en";
+  setLanguage(language);
+  const editor = new Editor(module, run);
+  part("language").value = language;
+  part("flash").checked = !window.matchMedia("(prefers-reduced-motion: reduce)").matches;
+  joinScreen(editor);
+  joinControls(editor);
+  const kept = await editor.keep.stored();
+  if (kept) editor.keep.take(kept.name, kept.page, kept.script, kept.saved);
+  else editor.keep.take("", new Uint8Array(), "", "");
+  editor.speak(language);
+  window.addEventListener("resize", () => editor.lay());
+  part("typing").focus();
+  if (kept) editor.tell(word("restored", { name: editor.keep.shownName() }));
+  // For tests, which look into it.
+  Object.assign(/** @type {any} */ (window).Tamligub, { editor });
+}
+
+begin();

@@ -1,212 +1,289 @@
 // Writing at the caret. The caret is the place of the next line `at`; after writing it is where the program says that it would go on.
-(function (tamligub) {
-  "use strict";
+import { COLUMNS, ROWS } from "./shared.js";
+import { word } from "./words.js";
+import { knownSigns, linesOfSigns, signOf, signsIn } from "./lines.js";
 
-  const { part, COLUMNS, ROWS, linesOfSigns, signOf, signsIn, word } = tamligub;
-  const SPACE = "text  ";
-  const isLetter = ({ set }) => set === "P" || set === "S";
+/** @typedef {import("./types.js").Sign} Sign */
+/** @typedef {import("./types.js").Tell} Tell */
 
-  class Typing {
-    constructor(editor) {
-      this.editor = editor;
-      this.reset();
-      this.join();
-    }
+/**
+ * The script, the pen, whether lines can be added, and a key that something else takes before.
+ * @typedef {{
+ *   sheet: import("./sheet.js").Sheet, pen: { key: () => string, lines: () => { set: string[], lines: string[] } },
+ *   ready: () => boolean, drawingKey: (event: KeyboardEvent) => boolean,
+ * }} Needs
+ */
 
-    reset() {
-      this.place(1, 1);
-      this.said = null;
-    }
+/**
+ * Signs that were typed one after the other: the lines before them, the caret and the pen where they begin, the number of lines of the
+ * script before their action, and before their own lines.
+ * @typedef {{ signs: Sign[], lead: string[], begun: [number, number, string | null], before: number, from: number }} Stretch
+ */
 
-    // Puts the caret at a cell, and ends the stretch of typing.
-    place(row, column) {
-      this.composing = 0;
-      this.row = Math.min(ROWS, Math.max(1, row));
-      this.column = Math.min(COLUMNS, Math.max(1, column));
-      this.stretch = null;
-      this.said = null;
-    }
+const SPACE = "text  ";
+/** @param {Sign} sign */
+const isLetter = ({ set }) => set === "P" || set === "S";
 
-    cell() {
-      return (this.row - 1) * COLUMNS + this.column - 1;
-    }
-
-    at() {
-      return `at ${this.row} ${this.column}`;
-    }
-
-    // The lines that lead to the caret with the chosen pen: none where the program is there with it.
-    lead() {
-      const { set, lines } = this.editor.pen.lines();
-      return this.said === this.editor.pen.key() ? set : [...set, this.at(), ...lines];
-    }
-
-    // Goes to where the program would write next. `said` is the pen that is in force there, or null where that isn't known.
-    arrive(said) {
-      const { at } = this.editor.sheet;
-      if (at >= 0) [this.row, this.column] = [Math.floor(at / COLUMNS) + 1, (at % COLUMNS) + 1];
-      this.said = at >= 0 ? said : null;
-    }
-
-    // Types a text, of which each further line begins a new row.
-    type(text) {
-      text.split(/\r\n?|\n/).forEach((line, at) => {
-        if (at) this.newLine();
-        this.typeLine(line);
-      });
-    }
-
-    typeLine(line) {
-      const signs = signsIn(line);
-      const known = signs.map(signOf).filter(Boolean);
-      if (known.length) this.write(known);
-      const other = signs.find((sign) => !signOf(sign));
-      if (other) this.editor.tell(word("noSign", { sign: other }));
-    }
-
-    // Writes signs: into the line of the stretch where there is one of such signs.
-    write(signs) {
-      if (!this.editor.ready()) return;
-      const { sheet } = this.editor;
-      if (this.stretch && this.stretch.signs.every((sign) => isLetter(sign) === isLetter(signs[0]))) {
-        this.stretch.signs.push(...signs);
-        this.restate();
-        return;
-      }
-      const [lead, begun, before] = [this.lead(), [this.row, this.column, this.said], sheet.lines.length];
-      const from = sheet.add([...lead, ...linesOfSigns(signs)]);
-      this.stretch = { signs: [...signs], lead, begun, before, from };
-      this.arrive(this.editor.pen.key());
-      this.editor.changed();
-    }
-
-    // What is being composed, as by a dead key or on a screen's keyboard, stands in the stretch from the first key on, and is replaced
-    // until it is done.
-    compose(text) {
-      const signs = signsIn(text).map(signOf).filter(Boolean);
-      if (this.composing && this.stretch) this.stretch.signs.splice(-this.composing);
-      const before = this.composing;
-      this.composing = signs.length;
-      if (signs.length) this.write(signs);
-      else if (before && this.stretch) this.restate();
-    }
-
-    // Puts the line of the stretch anew; where nothing is left of it, its action goes.
-    restate() {
-      const { signs, lead, begun, before, from } = this.stretch;
-      const { sheet } = this.editor;
-      sheet.change(signs.length ? from : before, signs.length ? [...lead, ...linesOfSigns(signs)] : []);
-      if (signs.length) this.arrive(this.editor.pen.key());
-      else {
-        this.stretch = null;
-        [this.row, this.column, this.said] = begun;
-      }
-      this.editor.changed();
-    }
-
-    // Takes back the sign that was typed last; where none was, a space is written one place before.
-    backspace() {
-      if (this.stretch) {
-        this.stretch.signs.pop();
-        if (this.editor.ready()) this.restate();
-        return;
-      }
-      if (this.row === 1 && this.column === 1) return;
-      const cell = this.cell() - 1;
-      this.wipe(Math.floor(cell / COLUMNS) + 1, (cell % COLUMNS) + 1);
-    }
-
-    // Writes a space at a place, and stays there.
-    wipe(row, column) {
-      if (!this.editor.ready()) return;
-      this.place(row, column);
-      this.editor.sheet.add([this.at(), SPACE]);
-      this.editor.changed();
-    }
-
-    // To the first column of the next row in which no sign from above reaches.
-    newLine() {
-      if (!this.editor.ready()) return;
-      const { said, editor: { sheet } } = this;
-      const lines = [...(said === null ? [this.at()] : []), "return", "down"];
-      this.stretch = null;
-      const from = sheet.add(lines);
-      this.arrive(said);
-      if (this.isCovered()) {
-        sheet.change(from, [...lines, "down"]);
-        this.arrive(said);
-      }
-      this.editor.changed();
-    }
-
-    isCovered() {
-      const { making, known } = this.editor.sheet;
-      const first = (this.row - 1) * COLUMNS;
-      return making.end().subarray(first, first + COLUMNS).some((number) => known.list[number].down > 0);
-    }
-
-    // Adds lines at the caret, as the markers of the serial set.
-    act(lines) {
-      if (!this.editor.ready()) return;
-      const lead = this.lead();
-      this.stretch = null;
-      this.editor.sheet.add([...lead, ...lines]);
-      this.arrive(this.editor.pen.key());
-      this.editor.changed();
-    }
-
-    move(rows, columns) {
-      this.place(this.row + rows, this.column + columns);
-      this.editor.moved();
-      this.editor.announce();
-    }
-
-    // What a key does; false where it does nothing here.
-    key(event) {
-      const moves = {
-        ArrowUp: [-1, 0], ArrowDown: [1, 0], ArrowLeft: [0, -1], ArrowRight: [0, 1], Home: [0, -COLUMNS], End: [0, COLUMNS],
-        PageUp: [-ROWS, 0], PageDown: [ROWS, 0],
-      };
-      if (event.key === "Home" && event.ctrlKey) this.move(-ROWS, -COLUMNS);
-      else if (moves[event.key]) this.move(...moves[event.key]);
-      else if (event.key === "Enter") this.newLine();
-      else if (event.key === "Backspace") this.backspace();
-      else if (event.key === "Delete") this.wipe(this.row, this.column);
-      else return false;
-      return true;
-    }
-
-    join() {
-      const field = part("typing");
-      const take = () => {
-        const text = field.value;
-        field.value = "";
-        if (text) this.type(text);
-      };
-      field.addEventListener("keydown", (event) => {
-        if (event.isComposing || event.altKey || event.metaKey) return;
-        if (!this.editor.drawingKey(event) && !this.key(event)) return;
-        event.preventDefault();
-      });
-      field.addEventListener("beforeinput", (event) => {
-        // What a keyboard on a screen says in place of keys.
-        if (event.inputType === "deleteContentBackward" && !field.value) this.backspace();
-        else if (event.inputType === "insertLineBreak") this.newLine();
-        else return;
-        event.preventDefault();
-      });
-      field.addEventListener("input", (event) => {
-        if (event.isComposing) this.compose(field.value);
-        else take();
-      });
-      field.addEventListener("compositionend", () => {
-        const text = field.value;
-        field.value = "";
-        this.compose("");
-        if (text) this.type(text);
-      });
-    }
+export class Typing {
+  /**
+   * @param {Needs} needs
+   * @param {Tell} tell
+   */
+  constructor(needs, tell) {
+    this.needs = needs;
+    this.tell = tell;
+    this.row = 1;
+    this.column = 1;
+    // How many signs of the stretch are being composed.
+    this.composing = 0;
+    /** @type {Stretch | null} */
+    this.stretch = null;
+    /** @type {string | null} */
+    this.said = null;
   }
 
-  Object.assign(tamligub, { Typing });
-})((window.Tamligub = window.Tamligub || {}));
+  reset() {
+    this.place(1, 1);
+    this.said = null;
+  }
+
+  /**
+   * Puts the caret at a cell, and ends the stretch of typing.
+   * @param {number} row
+   * @param {number} column
+   */
+  place(row, column) {
+    this.composing = 0;
+    this.row = Math.min(ROWS, Math.max(1, row));
+    this.column = Math.min(COLUMNS, Math.max(1, column));
+    this.stretch = null;
+    this.said = null;
+  }
+
+  // Ends the stretch of typing.
+  end() {
+    this.stretch = null;
+  }
+
+  // Ends it, where lines were added that aren't of the caret: which pen is in force there isn't known.
+  leave() {
+    this.stretch = this.said = null;
+  }
+
+  cell() {
+    return (this.row - 1) * COLUMNS + this.column - 1;
+  }
+
+  at() {
+    return `at ${this.row} ${this.column}`;
+  }
+
+  /**
+   * The lines that lead to the caret with the chosen pen: none where the program is there with it.
+   * @returns {string[]}
+   */
+  lead() {
+    const { set, lines } = this.needs.pen.lines();
+    return this.said === this.needs.pen.key() ? set : [...set, this.at(), ...lines];
+  }
+
+  /**
+   * Goes to where the program would write next. `said` is the pen that is in force there, or null where that isn't known.
+   * @param {string | null} said
+   */
+  arrive(said) {
+    const { at } = this.needs.sheet;
+    if (at >= 0) [this.row, this.column] = [Math.floor(at / COLUMNS) + 1, (at % COLUMNS) + 1];
+    this.said = at >= 0 ? said : null;
+  }
+
+  /**
+   * Types a text, of which each further line begins a new row.
+   * @param {string} text
+   */
+  type(text) {
+    text.split(/\r\n?|\n/).forEach((line, at) => {
+      if (at) this.newLine();
+      this.typeLine(line);
+    });
+  }
+
+  /** @param {string} line */
+  typeLine(line) {
+    const signs = signsIn(line);
+    const known = knownSigns(line);
+    if (known.length) this.write(known);
+    const other = signs.find((sign) => !signOf(sign));
+    if (other) this.tell({ kind: "said", text: word("noSign", { sign: other }) });
+  }
+
+  /**
+   * Writes signs: into the line of the stretch where there is one of such signs.
+   * @param {Sign[]} signs
+   */
+  write(signs) {
+    if (!this.needs.ready()) return;
+    const { sheet } = this.needs;
+    if (this.stretch && this.stretch.signs.every((sign) => isLetter(sign) === isLetter(signs[0]))) {
+      this.stretch.signs.push(...signs);
+      this.restate();
+      return;
+    }
+    const [lead, before] = [this.lead(), sheet.lines.length];
+    /** @type {Stretch["begun"]} */
+    const begun = [this.row, this.column, this.said];
+    const from = sheet.add([...lead, ...linesOfSigns(signs)]);
+    this.stretch = { signs: [...signs], lead, begun, before, from };
+    this.arrive(this.needs.pen.key());
+    this.tell({ kind: "changed" });
+  }
+
+  /**
+   * What is being composed, as by a dead key or on a screen's keyboard, stands in the stretch from the first key on, and is replaced
+   * until it is done.
+   * @param {string} text
+   */
+  compose(text) {
+    const signs = knownSigns(text);
+    if (this.composing && this.stretch) this.stretch.signs.splice(-this.composing);
+    const before = this.composing;
+    this.composing = signs.length;
+    if (signs.length) this.write(signs);
+    else if (before && this.stretch) this.restate();
+  }
+
+  // Puts the line of the stretch anew; where nothing is left of it, its action goes.
+  restate() {
+    if (!this.stretch) return;
+    const { signs, lead, begun, before, from } = this.stretch;
+    const { sheet } = this.needs;
+    sheet.change(signs.length ? from : before, signs.length ? [...lead, ...linesOfSigns(signs)] : []);
+    if (signs.length) this.arrive(this.needs.pen.key());
+    else {
+      this.stretch = null;
+      [this.row, this.column, this.said] = begun;
+    }
+    this.tell({ kind: "changed" });
+  }
+
+  // Takes back the sign that was typed last; where none was, a space is written one place before.
+  backspace() {
+    if (this.stretch) {
+      this.stretch.signs.pop();
+      if (this.needs.ready()) this.restate();
+      return;
+    }
+    if (this.row === 1 && this.column === 1) return;
+    const cell = this.cell() - 1;
+    this.wipe(Math.floor(cell / COLUMNS) + 1, (cell % COLUMNS) + 1);
+  }
+
+  /**
+   * Writes a space at a place, and stays there.
+   * @param {number} row
+   * @param {number} column
+   */
+  wipe(row, column) {
+    if (!this.needs.ready()) return;
+    this.place(row, column);
+    this.needs.sheet.add([this.at(), SPACE]);
+    this.tell({ kind: "changed" });
+  }
+
+  // To the first column of the next row in which no sign from above reaches.
+  newLine() {
+    if (!this.needs.ready()) return;
+    const { said, needs: { sheet } } = this;
+    const lines = [...(said === null ? [this.at()] : []), "return", "down"];
+    this.stretch = null;
+    const from = sheet.add(lines);
+    this.arrive(said);
+    if (this.isCovered()) {
+      sheet.change(from, [...lines, "down"]);
+      this.arrive(said);
+    }
+    this.tell({ kind: "changed" });
+  }
+
+  isCovered() {
+    const { making, known } = this.needs.sheet;
+    const first = (this.row - 1) * COLUMNS;
+    return making.end().subarray(first, first + COLUMNS).some((number) => known.list[number].down > 0);
+  }
+
+  /**
+   * Adds lines at the caret, as the markers of the serial set.
+   * @param {string[]} lines
+   */
+  act(lines) {
+    if (!this.needs.ready()) return;
+    const lead = this.lead();
+    this.stretch = null;
+    this.needs.sheet.add([...lead, ...lines]);
+    this.arrive(this.needs.pen.key());
+    this.tell({ kind: "changed" });
+  }
+
+  /**
+   * @param {number} rows
+   * @param {number} columns
+   */
+  move(rows, columns) {
+    this.place(this.row + rows, this.column + columns);
+    this.tell({ kind: "moved" });
+    this.tell({ kind: "arrived" });
+  }
+
+  /**
+   * What a key does; false where it does nothing here.
+   * @param {{ key: string, ctrlKey: boolean }} event
+   */
+  key(event) {
+    /** @type {Record<string, [number, number]>} */
+    const moves = {
+      ArrowUp: [-1, 0], ArrowDown: [1, 0], ArrowLeft: [0, -1], ArrowRight: [0, 1], Home: [0, -COLUMNS], End: [0, COLUMNS],
+      PageUp: [-ROWS, 0], PageDown: [ROWS, 0],
+    };
+    if (event.key === "Home" && event.ctrlKey) this.move(-ROWS, -COLUMNS);
+    else if (moves[event.key]) this.move(...moves[event.key]);
+    else if (event.key === "Enter") this.newLine();
+    else if (event.key === "Backspace") this.backspace();
+    else if (event.key === "Delete") this.wipe(this.row, this.column);
+    else return false;
+    return true;
+  }
+
+  /**
+   * Joins the field in which a person types.
+   * @param {HTMLTextAreaElement} field
+   */
+  join(field) {
+    const take = () => {
+      const text = field.value;
+      field.value = "";
+      if (text) this.type(text);
+    };
+    field.addEventListener("keydown", (event) => {
+      if (event.isComposing || event.altKey || event.metaKey) return;
+      if (!this.needs.drawingKey(event) && !this.key(event)) return;
+      event.preventDefault();
+    });
+    field.addEventListener("beforeinput", (event) => {
+      // What a keyboard on a screen says in place of keys.
+      if (event.inputType === "deleteContentBackward" && !field.value) this.backspace();
+      else if (event.inputType === "insertLineBreak") this.newLine();
+      else return;
+      event.preventDefault();
+    });
+    field.addEventListener("input", (event) => {
+      if (event instanceof InputEvent && event.isComposing) this.compose(field.value);
+      else take();
+    });
+    field.addEventListener("compositionend", () => {
+      const text = field.value;
+      field.value = "";
+      this.compose("");
+      if (text) this.type(text);
+    });
+  }
+}

@@ -1,0 +1,105 @@
+// What the browser's storage has of the editors that were open: an unsaved page outlasts a crash.
+
+// The names in the storage: of each editor that is open its page and its script.
+const STORE = /^tamligub\.editor\.(\w+)\.script$/;
+/** @type {(editor: string) => string} */
+const pageName = (editor) => `tamligub.editor.${editor}.page`;
+/** @type {(editor: string) => string} */
+const scriptName = (editor) => `tamligub.editor.${editor}.script`;
+
+/**
+ * What an editor has: the name of a page with its bytes, a script, and the script that was saved last.
+ * @typedef {{ name: string, page: Uint8Array, script: string, saved: string }} Kept
+ */
+
+/**
+ * Bytes as letters of base 64.
+ * @param {Uint8Array} bytes
+ * @returns {string}
+ */
+export function toLetters(bytes) {
+  let letters = "";
+  for (let at = 0; at < bytes.length; at += 4096) letters += String.fromCharCode(...bytes.subarray(at, at + 4096));
+  return btoa(letters);
+}
+
+/**
+ * @param {string} letters
+ * @returns {Uint8Array}
+ */
+export const fromLetters = (letters) => Uint8Array.from(atob(letters), (sign) => sign.charCodeAt(0));
+
+export class Store {
+  /**
+   * What gives the storage, which a browser may refuse; and the locks that editors hold as long as they are open, where it has them.
+   * @param {() => Storage} storage
+   * @param {Pick<LockManager, "query" | "request"> | undefined} locks
+   */
+  constructor(storage, locks) {
+    this.storage = storage;
+    this.locks = locks;
+    this.id = "one";
+  }
+
+  /**
+   * Keeps a script, and the page where it is another. Answers whether that is kept.
+   * @param {Kept} kept
+   * @param {boolean} pageToo
+   */
+  put({ name, page, script, saved }, pageToo) {
+    try {
+      if (pageToo) this.storage().setItem(pageName(this.id), JSON.stringify({ name, page: toLetters(page) }));
+      this.storage().setItem(scriptName(this.id), JSON.stringify({ script, saved, time: Date.now() }));
+      return true;
+    } catch (fault) {
+      return false;
+    }
+  }
+
+  /**
+   * What the storage has of an editor, or null where it is nothing that was left unsaved.
+   * @param {string} id
+   * @returns {(Kept & { id: string, time: number }) | null}
+   */
+  of(id) {
+    try {
+      const { name, page } = JSON.parse(this.storage().getItem(pageName(id)) || "");
+      const { script, saved, time } = JSON.parse(this.storage().getItem(scriptName(id)) || "");
+      return script === saved ? null : { id, name, page: fromLetters(page), script, saved, time };
+    } catch (fault) {
+      return null;
+    }
+  }
+
+  /**
+   * The editors of which the storage has something.
+   * @returns {string[]}
+   */
+  ids() {
+    try {
+      return Object.keys(this.storage()).flatMap((key) => (STORE.exec(key) || []).slice(1));
+    } catch (fault) {
+      return [];
+    }
+  }
+
+  /**
+   * The page that an editor left unsaved last which isn't open any more, or null; this editor goes on in its place. What such editors
+   * left that was saved goes.
+   * @returns {Promise<Kept | null>}
+   */
+  async taken() {
+    const held = this.locks ? (await this.locks.query()).held || [] : [];
+    const open = held.map(({ name }) => name);
+    const left = this.ids().filter((id) => !open.includes(scriptName(id)));
+    const unsaved = left.flatMap((id) => this.of(id) || []).sort((one, other) => other.time - one.time);
+    for (const id of left.filter((one) => !unsaved.some((other) => other.id === one))) {
+      this.storage().removeItem(pageName(id));
+      this.storage().removeItem(scriptName(id));
+    }
+    this.id = unsaved.length ? unsaved[0].id : Math.random().toString(36).slice(2);
+    // As long as this editor is open its lock is held.
+    if (this.locks) this.locks.request(scriptName(this.id), () => new Promise(() => {}));
+    return unsaved[0] || null;
+  }
+}

@@ -1,0 +1,103 @@
+// What outlasts a crash, over a storage and locks that stand in for a browser's.
+import assert from "node:assert";
+import { test } from "node:test";
+import { Store, fromLetters, toLetters } from "../store.js";
+
+class Memory {
+  getItem(key) {
+    return Object.hasOwn(this, key) ? this[key] : null;
+  }
+
+  setItem(key, value) {
+    this[key] = String(value);
+  }
+
+  removeItem(key) {
+    delete this[key];
+  }
+}
+
+class Locks {
+  constructor() {
+    this.held = [];
+  }
+
+  async query() {
+    return { held: this.held.map((name) => ({ name })), pending: [] };
+  }
+
+  request(name) {
+    this.held.push(name);
+    return new Promise(() => {});
+  }
+}
+
+const KEPT = { name: "boat.btx", page: Uint8Array.of(0, 0x41, 0xff), script: "at 1 1\ntext A\n", saved: "" };
+
+// An editor that begins over a storage; of one that ended only what the storage has is left.
+async function begun(storage) {
+  const locks = new Locks();
+  const store = new Store(() => storage, locks);
+  return { store, locks, taken: await store.taken() };
+}
+
+test("bytes are letters and back", () => {
+  const bytes = Uint8Array.from({ length: 10000 }, (_, at) => at % 256);
+  assert.deepStrictEqual(fromLetters(toLetters(bytes)), bytes);
+  assert.strictEqual(toLetters(Uint8Array.of(0x4d, 0x61, 0x6e)), "TWFu");
+});
+
+test("what was left unsaved is taken by the next editor, which goes on in its place", async () => {
+  const storage = new Memory();
+  const first = await begun(storage);
+  assert.strictEqual(first.taken, null);
+  assert.ok(first.store.put(KEPT, true));
+  const second = await begun(storage);
+  const { name, page, script, saved } = second.taken;
+  assert.deepStrictEqual({ name, page, script, saved }, KEPT);
+  assert.strictEqual(second.store.id, first.store.id);
+});
+
+test("a script is kept without its page anew", async () => {
+  const storage = new Memory();
+  const { store } = await begun(storage);
+  store.put(KEPT, true);
+  store.put({ ...KEPT, page: Uint8Array.of(1), script: "at 2 2\n" }, false);
+  const { page, script } = (await begun(storage)).taken;
+  assert.deepStrictEqual([page, script], [KEPT.page, "at 2 2\n"]);
+});
+
+test("what was saved isn't taken, and goes", async () => {
+  const storage = new Memory();
+  (await begun(storage)).store.put({ ...KEPT, saved: KEPT.script }, true);
+  assert.strictEqual((await begun(storage)).taken, null);
+  assert.deepStrictEqual(Object.keys(storage), []);
+});
+
+test("what an editor has that is open is left to it", async () => {
+  const storage = new Memory();
+  const first = await begun(storage);
+  first.store.put(KEPT, true);
+  const second = new Store(() => storage, first.locks);
+  assert.strictEqual(await second.taken(), null);
+  assert.notStrictEqual(second.id, first.store.id);
+  assert.notStrictEqual(first.store.of(first.store.id), null);
+});
+
+test("of several the one is taken that was changed last", async () => {
+  const storage = new Memory();
+  for (const [id, time, script] of [["a", 5, "at 1 1\n"], ["b", 9, "at 2 2\n"], ["c", 7, "at 3 3\n"]]) {
+    storage.setItem(`tamligub.editor.${id}.page`, JSON.stringify({ name: id, page: "" }));
+    storage.setItem(`tamligub.editor.${id}.script`, JSON.stringify({ script, saved: "", time }));
+  }
+  storage.setItem("another", "thing");
+  const { store, taken } = await begun(storage);
+  assert.deepStrictEqual([store.id, taken.name, taken.script], ["b", "b", "at 2 2\n"]);
+  assert.deepStrictEqual(store.ids().sort(), ["a", "b", "c"]);
+});
+
+test("a browser that refuses a storage, or has no locks, keeps nothing and hinders nothing", async () => {
+  const refused = new Store(() => { throw new Error("refused"); }, undefined);
+  assert.strictEqual(await refused.taken(), null);
+  assert.strictEqual(refused.put(KEPT, true), false);
+});

@@ -1,0 +1,117 @@
+// Writing at the caret, over the program: the lines are reckoned from the keys.
+import assert from "node:assert";
+import { asked, rowOf, sheetOf } from "./program.js";
+import { Typing } from "../typing.js";
+
+// The caret over a sheet, with a pen of some lines, and the kinds of what it tells.
+function caretOf(lines = [], ready = () => true) {
+  const [sheet, told, pen] = [sheetOf(), [], { chosen: lines }];
+  const needs = { sheet, ready, drawingKey: () => false, pen: { key: () => JSON.stringify(pen.chosen), lines: () => ({ set: [], lines: pen.chosen }) } };
+  const typing = new Typing(needs, ({ kind }) => told.push(kind));
+  const press = (...keys) => keys.forEach((key) => typing.key({ key, ctrlKey: false }));
+  return { typing, sheet, told, pen, press, place: () => [typing.row, typing.column] };
+}
+
+asked("letters that are typed one by one are one line", () => {
+  const { typing, sheet, told, place } = caretOf();
+  for (const letter of "Hallo") typing.type(letter);
+  assert.strictEqual(sheet.script(), "at 1 1\ntext Hallo\n");
+  assert.deepStrictEqual(place(), [1, 6]);
+  assert.deepStrictEqual(told, new Array(5).fill("changed"));
+});
+
+asked("a letter that text can't say makes the line raw, with a note", () => {
+  const { typing, sheet } = caretOf();
+  typing.type("f");
+  typing.type("ü");
+  assert.strictEqual(sheet.script(), "at 1 1\n# fü\nraw 0F66194875\n");
+});
+
+asked("the pen stands before the first sign, and again where another was chosen", () => {
+  const { typing, sheet, pen } = caretOf(["c1 1"]);
+  typing.type("A");
+  typing.end();
+  typing.type("B");
+  pen.chosen = ["c1 2"];
+  typing.end();
+  typing.type("C");
+  assert.strictEqual(sheet.script(), "at 1 1\nc1 1\ntext A\n\ntext B\n\nat 1 3\nc1 2\ntext C\n");
+  assert.strictEqual(rowOf(sheet, 1), "ABC");
+});
+
+asked("the last sign is taken back from its line, and with the first goes the action", () => {
+  const { typing, sheet, press, place } = caretOf();
+  typing.place(4, 7);
+  typing.type("AB");
+  press("Backspace");
+  assert.deepStrictEqual([sheet.script(), place()], ["at 4 7\ntext A\n", [4, 8]]);
+  press("Backspace");
+  assert.deepStrictEqual([sheet.script(), place()], ["", [4, 7]]);
+  // Where nothing was typed a blank is written before the caret.
+  press("Backspace");
+  assert.deepStrictEqual([sheet.script(), place()], ["at 4 6\ntext  \n", [4, 6]]);
+});
+
+asked("a new line goes to the start of the next row, below what reaches into it", () => {
+  const { typing, sheet, place } = caretOf();
+  typing.type("A\nB");
+  assert.deepStrictEqual([sheet.script(), place()], ["at 1 1\ntext A\n\nreturn\ndown\n\ntext B\n", [2, 2]]);
+  const high = caretOf(["c1 13"]);
+  high.typing.place(5, 1);
+  high.typing.type("H");
+  const [row] = high.place();
+  high.typing.newLine();
+  assert.ok(high.place()[0] > row && !high.typing.isCovered());
+  assert.strictEqual(high.place()[1], 1);
+});
+
+asked("arrow keys move the caret within the screen", () => {
+  const { press, place, told } = caretOf();
+  press("ArrowUp", "ArrowLeft");
+  assert.deepStrictEqual(place(), [1, 1]);
+  press("ArrowDown", "ArrowRight", "End", "PageDown", "ArrowRight", "ArrowDown");
+  assert.deepStrictEqual(place(), [24, 40]);
+  press("Home", "PageUp");
+  assert.deepStrictEqual(place(), [1, 1]);
+  assert.deepStrictEqual([...new Set(told)], ["moved", "arrived"]);
+});
+
+asked("what is being composed is replaced until it is done", () => {
+  const { typing, sheet } = caretOf();
+  typing.type("a");
+  for (const text of ["n", "ni", "nî"]) typing.compose(text);
+  assert.strictEqual(sheet.lines[1], "# anî");
+  typing.compose("");
+  typing.type("no");
+  assert.strictEqual(sheet.script(), "at 1 1\ntext ano\n");
+});
+
+asked("signs that no set has are told, and others of the same text are written", () => {
+  const { typing, sheet, told } = caretOf();
+  typing.type("a€b");
+  assert.deepStrictEqual([sheet.script(), told], ["at 1 1\ntext ab\n", ["changed", "said"]]);
+});
+
+asked("mosaics and letters stand in lines of their own", () => {
+  const { typing, sheet } = caretOf();
+  const mosaic = { set: "M", code: 0x35, accent: 0 };
+  typing.type("A");
+  typing.write([mosaic]);
+  typing.write([mosaic]);
+  assert.strictEqual(sheet.script(), "at 1 1\ntext A\n\nraw 0E35350F\n");
+});
+
+asked("nothing is written while a line of the script is wrong", () => {
+  const { typing, sheet, told } = caretOf([], () => false);
+  typing.type("A");
+  typing.newLine();
+  typing.wipe(1, 1);
+  typing.act(["protect"]);
+  assert.deepStrictEqual([sheet.script(), told], ["", []]);
+});
+
+asked("a marker stands at the caret, which goes on behind it", () => {
+  const { typing, sheet, place } = caretOf();
+  typing.act(["serial", "c1 1"]);
+  assert.deepStrictEqual([sheet.script(), place()], ["at 1 1\nserial\nc1 1\n", [1, 2]]);
+});
