@@ -1,6 +1,6 @@
 ghost use Rattle.std.specs.Prelude.{◌≡◌, ◌/◌, ◌<◌};
 ghost use Rattle.cept_charsets.specs.Rendition.{column_2, column_3, column_5, column_6, column_7};
-ghost use Rattle.cept_charsets.specs.Rendition.{point_in, supplementary_point};
+ghost use Rattle.cept_charsets.specs.Rendition.{IsPointIn, supplementary_point};
 
 /// A code of set `S` in Unicode: U+FFFD where the set leaves it unassigned.
 #[tactic(auto, unfolding(crate::specs::Rendition::supplementary_rows))]
@@ -20,8 +20,7 @@ pub fn supplementary(code: u8) -> char
 
 fn column_2(code: u8) -> char
     requires { code / 16 ≡ 2 }
-    ensures point { result ≡ point_in column_2 code }
-    ensures small { result < 0x1_0000 }
+    ensures { IsPointIn column_2 code result }
 {
     match code {
         0x21 => '¡',
@@ -45,8 +44,7 @@ fn column_2(code: u8) -> char
 
 fn column_3(code: u8) -> char
     requires { code / 16 ≡ 3 }
-    ensures point { result ≡ point_in column_3 code }
-    ensures small { result < 0x1_0000 }
+    ensures { IsPointIn column_3 code result }
 {
     match code {
         0x30 => '°',
@@ -71,8 +69,7 @@ fn column_3(code: u8) -> char
 
 fn column_5(code: u8) -> char
     requires { code / 16 ≡ 5 }
-    ensures point { result ≡ point_in column_5 code }
-    ensures small { result < 0x1_0000 }
+    ensures { IsPointIn column_5 code result }
 {
     match code {
         0x50 => '―',
@@ -87,8 +84,7 @@ fn column_5(code: u8) -> char
 
 fn column_6(code: u8) -> char
     requires { code / 16 ≡ 6 }
-    ensures point { result ≡ point_in column_6 code }
-    ensures small { result < 0x1_0000 }
+    ensures { IsPointIn column_6 code result }
 {
     match code {
         0x60 => 'Ω',
@@ -112,8 +108,7 @@ fn column_6(code: u8) -> char
 
 fn column_7(code: u8) -> char
     requires { code / 16 ≡ 7 }
-    ensures point { result ≡ point_in column_7 code }
-    ensures small { result < 0x1_0000 }
+    ensures { IsPointIn column_7 code result }
 {
     match code {
         0x70 => 'ĸ',

@@ -33,15 +33,6 @@ impl Control {
         self.area = area_without(first, last, self.area);
     }
 
-    /// The rows of the area in force go one row up or down.
-    pub(crate) fn scroll(&self, way: Up, strokes: &mut ArrayVec<Stroke, 128>)
-        requires { length strokes.old.items < 128 }
-        ensures { strokes.new.items
-            ≡ strokes.old.items ++ strokes_of_scroll self.now way (area_in_force self.now) }
-    {
-        self.scroll_area(way, self.area_in_force(), strokes);
-    }
-
     /// The rows of the area, if there is one, go one row up or down.
     pub(crate) fn scroll_area(
         &self,

@@ -1,6 +1,5 @@
 ghost use Rattle.std.specs.Prelude.{◌≡◌, ◌≤◌, [], ◌∷◌, if◌then◌else◌};
-ghost use Rattle.cept_codes.specs.Command.{IsC1, IsScreenC1};
-ghost use Rattle.cept_codes.specs.Look.{IsValidPattern, IsValidRgb};
+ghost use Rattle.cept_control.specs.Taking.{CanTake};
 ghost use Rattle.cept_profile.specs.Control.{control_effect};
 ghost use Rattle.cept_profile.specs.Strokes.{strokes_when};
 
@@ -20,8 +19,7 @@ impl Control {
 
     /// An attribute of the whole screen, by the parallel meaning of its code.
     pub(crate) fn full_screen(&self, n: u8, strokes: &mut ArrayVec<Stroke, 128>)
-        requires code { IsScreenC1 n }
-        requires empty { strokes.old.items ≡ [] }
+        requires { CanTake (Command.FullScreen n) strokes.old.items }
         ensures { strokes.new.items ≡ strokes_when self.now (Command.FullScreen n) }
     {
         if let Some(attribute) = attribute_of(self.working.table, n) {
@@ -31,8 +29,7 @@ impl Control {
 
     /// An attribute of the active row, by the parallel meaning of its code.
     pub(crate) fn full_row(&self, n: u8, strokes: &mut ArrayVec<Stroke, 128>)
-        requires code { IsC1 n }
-        requires empty { strokes.old.items ≡ [] }
+        requires { CanTake (Command.FullRow n) strokes.old.items }
         ensures { strokes.new.items ≡ strokes_when self.now (Command.FullRow n) }
     {
         if let Some(attribute) = attribute_of(self.working.table, n) {
@@ -41,25 +38,21 @@ impl Control {
     }
 
     pub(crate) fn colour_defaults(&self, strokes: &mut ArrayVec<Stroke, 128>)
-        requires { strokes.old.items ≡ [] }
+        requires { CanTake Command.ColourDefaults strokes.old.items }
         ensures { strokes.new.items ≡ strokes_when self.now Command.ColourDefaults }
     {
         strokes.push(Stroke::ColourDefaults);
     }
 
     pub(crate) fn colour_entry(&self, i: u8, colour: Rgb, strokes: &mut ArrayVec<Stroke, 128>)
-        requires entry { i ≤ 31 }
-        requires colour { IsValidRgb colour }
-        requires empty { strokes.old.items ≡ [] }
+        requires { CanTake (Command.Entry i colour) strokes.old.items }
         ensures { strokes.new.items ≡ strokes_when self.now (Command.Entry i colour) }
     {
         strokes.push(Stroke::Colour(i, Paint::Ink(colour)));
     }
 
     pub(crate) fn dclut_entry(&self, i: u8, entry: u8, strokes: &mut ArrayVec<Stroke, 128>)
-        requires named { i ≤ 3 }
-        requires entry { entry ≤ 31 }
-        requires empty { strokes.old.items ≡ [] }
+        requires { CanTake (Command.Dclut i entry) strokes.old.items }
         ensures { strokes.new.items ≡ strokes_when self.now (Command.Dclut i entry) }
     {
         strokes.push(Stroke::Dclut(i, entry));
@@ -80,9 +73,7 @@ impl Control {
         pattern: &Pattern,
         strokes: &mut ArrayVec<Stroke, 128>,
     )
-        requires code { (0x21 ≤ code) × (code ≤ 0x7E) }
-        requires pattern { IsValidPattern pattern.now }
-        requires empty { strokes.old.items ≡ [] }
+        requires { CanTake (Command.DrcsPattern code pattern.now) strokes.old.items }
         ensures { strokes.new.items ≡ strokes_when self.now (Command.DrcsPattern code pattern.now) }
     {
         strokes.push(Stroke::Drcs(code, *pattern));

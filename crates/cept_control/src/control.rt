@@ -1,7 +1,8 @@
-ghost use Rattle.std.specs.Prelude.{◌≡◌, ◌≤◌, [], length};
+ghost use Rattle.std.specs.Prelude.{◌≡◌, ◌≤◌, length};
 ghost use Rattle.std.specs.List.{AllByRecursion};
 ghost use Rattle.cept_codes.specs.Command.{IsValidCommand};
 ghost use Rattle.cept_codes.specs.Stroke.{IsValidStroke};
+ghost use Rattle.cept_control.specs.Taking.{CanTake};
 ghost use Rattle.cept_profile.specs.Control.{control_after, initial_control, control_effect};
 ghost use Rattle.cept_profile.specs.Control.{state_for_effect};
 ghost use Rattle.cept_profile.specs.Strokes.{strokes_of, strokes_when};
@@ -206,8 +207,7 @@ impl Control {
     /// What the command does, one call for each.
     #[inline(always)]
     fn take_effect(&mut self, command: &Command, strokes: &mut ArrayVec<Stroke, 128>)
-        requires valid { IsValidCommand command.now }
-        requires empty { strokes.old.items ≡ [] }
+        requires { CanTake command.now strokes.old.items }
         ensures state { self.new ≡ control_effect self.old command.now }
         ensures strokes { strokes.new.items ≡ strokes_when self.old command.now }
     {
@@ -239,8 +239,8 @@ impl Control {
             Command::Dclut(i, entry) => self.dclut_entry(*i, *entry, strokes),
             Command::DrcsHeader(delete, _) => self.drcs_header(*delete, strokes),
             Command::DrcsPattern(code, pattern) => self.drcs_pattern(*code, pattern, strokes),
-            Command::ScrollUp => self.scroll(Up::Up, strokes),
-            Command::ScrollDown => self.scroll(Up::Down, strokes),
+            Command::ScrollUp => self.scroll_area(Up::Up, self.area_in_force(), strokes),
+            Command::ScrollDown => self.scroll_area(Up::Down, self.area_in_force(), strokes),
             Command::Implicit(on) => self.implicit_scrolling(*on),
             Command::Protect(on) => self.protection(*on),
             Command::AreaCreate(first, last) => self.create_area(*first, *last),

@@ -1,4 +1,4 @@
-ghost use Rattle.std.specs.Prelude.{◌≡◌, ◌≢◌, ℕ, true, false, Option};
+ghost use Rattle.std.specs.Prelude.{◌≡◌, ◌≢◌, true, false, Option};
 ghost use Rattle.cept_profile.specs.Edges.{edges_of, is_at_edge, is_last};
 
 use crate::control::Control;

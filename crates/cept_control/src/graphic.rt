@@ -1,7 +1,7 @@
-ghost use Rattle.std.specs.Prelude.{◌≡◌, ◌+◌, ◌≤◌, ◌⊎◌, [], ◌++◌, length, IfSome};
-ghost use Rattle.cept_codes.specs.Cell.{IsValidCell};
+ghost use Rattle.std.specs.Prelude.{◌≡◌, ◌+◌, ◌≤◌, ◌⊎◌, ◌++◌, length, IfSome};
 ghost use Rattle.cept_codes.specs.Command.{IsGraphic};
 ghost use Rattle.cept_codes.specs.Glyph.{IsValidGlyph};
+ghost use Rattle.cept_control.specs.Taking.{CanTake};
 ghost use Rattle.cept_profile.specs.Control.{control_effect, control_with};
 ghost use Rattle.cept_profile.specs.Sets.{IsAccent, IsValidRead};
 ghost use Rattle.cept_profile.specs.Strokes.{strokes_when};
@@ -25,8 +25,7 @@ impl Control {
     }
 
     pub(crate) fn graphic(&mut self, byte: u8, strokes: &mut ArrayVec<Stroke, 128>)
-        requires graphic { IsGraphic byte }
-        requires empty { strokes.old.items ≡ [] }
+        requires { CanTake (Command.Graphic byte) strokes.old.items }
         ensures state { self.new ≡ control_effect self.old (Command.Graphic byte) }
         ensures strokes { strokes.new.items ≡ strokes_when self.old (Command.Graphic byte) }
     {
@@ -40,8 +39,7 @@ impl Control {
     }
 
     pub(crate) fn repeat_last(&mut self, count: u8, strokes: &mut ArrayVec<Stroke, 128>)
-        requires count { count ≤ 63 }
-        requires empty { strokes.old.items ≡ [] }
+        requires { CanTake (Command.Repeat count) strokes.old.items }
         ensures state { self.new ≡ control_effect self.old (Command.Repeat count) }
         ensures strokes { strokes.new.items ≡ strokes_when self.old (Command.Repeat count) }
     {
@@ -51,9 +49,8 @@ impl Control {
     }
 
     fn write_copies(&mut self, sign: Glyph, count: u8, strokes: &mut ArrayVec<Stroke, 128>)
-        requires count { count ≤ 63 }
+        requires copies { CanTake (Command.Repeat count) strokes.old.items }
         requires valid { IsValidGlyph sign }
-        requires empty { strokes.old.items ≡ [] }
         ensures state { self.new ≡ control_after_copies count self.old sign }
         ensures strokes { strokes.new.items ≡ strokes_of_copies count self.old sign }
     {

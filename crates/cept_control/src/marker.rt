@@ -1,6 +1,7 @@
-ghost use Rattle.std.specs.Prelude.{◌≡◌, ◌+◌, ◌≤◌, ◌⊎◌, [], ◌++◌, length, IfSome};
+ghost use Rattle.std.specs.Prelude.{◌≡◌, ◌+◌, ◌≤◌, ◌⊎◌, ◌++◌, length, IfSome};
 ghost use Rattle.cept_codes.specs.Cell.{IsValidMarker};
 ghost use Rattle.cept_codes.specs.Command.{IsC1};
+ghost use Rattle.cept_control.specs.Taking.{CanTake};
 ghost use Rattle.cept_profile.specs.Control.{control_effect, control_with};
 ghost use Rattle.cept_profile.specs.Markers.{marker_of, run_after, step_after};
 ghost use Rattle.cept_profile.specs.Markers.{strokes_of_marker};
@@ -22,7 +23,7 @@ impl Control {
     }
 
     pub(crate) fn cancel(&mut self, strokes: &mut ArrayVec<Stroke, 128>)
-        requires { strokes.old.items ≡ [] }
+        requires { CanTake Command.Cancel strokes.old.items }
         ensures state { self.new ≡ control_effect self.old Command.Cancel }
         ensures strokes { strokes.new.items ≡ strokes_when self.old Command.Cancel }
     {

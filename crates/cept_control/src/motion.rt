@@ -1,9 +1,10 @@
-ghost use Rattle.std.specs.Prelude.{◌≡◌, ◌≤◌, ◌<◌, [], ◌++◌, length};
+ghost use Rattle.std.specs.Prelude.{◌≡◌, ◌≤◌, ◌<◌, ◌++◌, length};
 ghost use Rattle.cept_codes.specs.Place.{OnScreen};
+ghost use Rattle.cept_control.specs.Taking.{CanTake};
 ghost use Rattle.cept_profile.specs.Control.{working_at, control_effect, working_without_pen};
 ghost use Rattle.cept_profile.specs.Control.{working_without_run, control_with};
-ghost use Rattle.cept_profile.specs.Motions.{working_back, working_ahead, row_above, row_below};
-ghost use Rattle.cept_profile.specs.Motions.{above_strokes, back_strokes, below_strokes, on_strokes};
+ghost use Rattle.cept_profile.specs.Motions.{working_ahead, row_above, row_below};
+ghost use Rattle.cept_profile.specs.Motions.{above_strokes, below_strokes, on_strokes};
 ghost use Rattle.cept_profile.specs.Strokes.{strokes_when};
 
 use crate::area::{is_first_of, is_last_of};
@@ -13,17 +14,22 @@ use cept_codes::{Command, Pen, Stroke, Up};
 
 /// Motions.
 impl Control {
+    /// One column back, before the first one into the row above.
     pub(crate) fn back(&mut self, strokes: &mut ArrayVec<Stroke, 128>)
-        requires { strokes.old.items ≡ [] }
+        requires { CanTake Command.Back strokes.old.items }
         ensures state { self.new ≡ control_effect self.old Command.Back }
         ensures strokes { strokes.new.items ≡ strokes_when self.old Command.Back }
     {
-        self.move_back(strokes);
+        if self.working.column > 1 {
+            self.move_to(self.working.row, self.working.column - 1);
+        } else if self.wrap {
+            self.go_above(40, strokes);
+        }
         self.end_run();
     }
 
     pub(crate) fn forward(&mut self, strokes: &mut ArrayVec<Stroke, 128>)
-        requires { strokes.old.items ≡ [] }
+        requires { CanTake Command.Forward strokes.old.items }
         ensures state { self.new ≡ control_effect self.old Command.Forward }
         ensures strokes { strokes.new.items ≡ strokes_when self.old Command.Forward }
     {
@@ -32,7 +38,7 @@ impl Control {
     }
 
     pub(crate) fn down(&mut self, strokes: &mut ArrayVec<Stroke, 128>)
-        requires { strokes.old.items ≡ [] }
+        requires { CanTake Command.Down strokes.old.items }
         ensures state { self.new ≡ control_effect self.old Command.Down }
         ensures strokes { strokes.new.items ≡ strokes_when self.old Command.Down }
     {
@@ -41,7 +47,7 @@ impl Control {
     }
 
     pub(crate) fn up(&mut self, strokes: &mut ArrayVec<Stroke, 128>)
-        requires { strokes.old.items ≡ [] }
+        requires { CanTake Command.Up strokes.old.items }
         ensures state { self.new ≡ control_effect self.old Command.Up }
         ensures strokes { strokes.new.items ≡ strokes_when self.old Command.Up }
     {
@@ -65,7 +71,7 @@ impl Control {
     }
 
     pub(crate) fn clear(&mut self, strokes: &mut ArrayVec<Stroke, 128>)
-        requires { strokes.old.items ≡ [] }
+        requires { CanTake Command.Clear strokes.old.items }
         ensures state { self.new ≡ control_effect self.old Command.Clear }
         ensures strokes { strokes.new.items ≡ strokes_when self.old Command.Clear }
     {
@@ -93,20 +99,6 @@ impl Control {
             self.go_below(1, strokes);
         } else {
             self.move_to(self.working.row, column.min(40));
-        }
-    }
-
-    /// One column back, before the first one into the row above.
-    fn move_back(&mut self, strokes: &mut ArrayVec<Stroke, 128>)
-        requires room { length strokes.old.items < 128 }
-        ensures state { self.new
-            ≡ control_with self.old (working_back self.old self.old.working) }
-        ensures strokes { strokes.new.items ≡ strokes.old.items ++ back_strokes self.old }
-    {
-        if self.working.column > 1 {
-            self.move_to(self.working.row, self.working.column - 1);
-        } else if self.wrap {
-            self.go_above(40, strokes);
         }
     }
 
@@ -154,7 +146,8 @@ impl Control {
     {
         self.move_to(row, column);
         self.end_run();
-        self.unset_pen();
+        self.working.pen = Pen::UNSET;
+        self.working.fast = 0;
     }
 
     pub(crate) fn move_to(&mut self, row: u8, column: u8)
@@ -171,13 +164,6 @@ impl Control {
     {
         self.working.run = false;
         self.working.step = 1;
-    }
-
-    fn unset_pen(&mut self)
-        ensures { self.new ≡ control_with self.old (working_without_pen self.old.working) }
-    {
-        self.working.pen = Pen::UNSET;
-        self.working.fast = 0;
     }
 
     /// The row below the active one. The last row of an area that scrolls isn't left.

@@ -2,12 +2,13 @@ ghost use Rattle.std.specs.Prelude.{◌≡◌, ◌≤◌, [], true, false, IfSom
 ghost use Rattle.cept_codes.specs.Attribute.{IsValidAttr, IsValidPen};
 ghost use Rattle.cept_codes.specs.Command.{IsC1, IsValidCommand};
 ghost use Rattle.cept_control.specs.AttributeCode.{is_attribute_code};
+ghost use Rattle.cept_control.specs.Taking.{CanTake};
 ghost use Rattle.cept_profile.specs.Control.{control_after, control_effect};
 ghost use Rattle.cept_profile.specs.Edges.{edges_of};
 ghost use Rattle.cept_profile.specs.Strokes.{strokes_of, strokes_when};
-ghost use Rattle.cept_profile.specs.Pens.{attribute_of, fast_after, fast_after_code, fast_before};
-ghost use Rattle.cept_profile.specs.Pens.{fast_flash, flash_of, is_flash, next_fast, pen_with_any};
-ghost use Rattle.cept_profile.specs.Pens.{pen_with};
+ghost use Rattle.cept_profile.specs.Pens.{attribute_of, fast_after, fast_after_code};
+ghost use Rattle.cept_profile.specs.Pens.{fast_flash, flash_of, is_flash};
+ghost use Rattle.cept_profile.specs.Pens.{pen_with, pen_with_any};
 
 use crate::control::Control;
 use crate::marker::marker_of;
@@ -38,8 +39,7 @@ impl Control {
     }
 
     pub(crate) fn c1_code(&mut self, n: u8, strokes: &mut ArrayVec<Stroke, 128>)
-        requires code { IsC1 n }
-        requires empty { strokes.old.items ≡ [] }
+        requires { CanTake (Command.C1 n) strokes.old.items }
         ensures state { self.new ≡ control_effect self.old (Command.C1 n) }
         ensures strokes { strokes.new.items ≡ strokes_when self.old (Command.C1 n) }
     {
@@ -70,8 +70,7 @@ impl Control {
     }
 
     pub(crate) fn flash_mode(&mut self, mode: u8, strokes: &mut ArrayVec<Stroke, 128>)
-        requires mode { mode ≤ 6 }
-        requires empty { strokes.old.items ≡ [] }
+        requires { CanTake (Command.FlashMode mode) strokes.old.items }
         ensures state { self.new ≡ control_effect self.old (Command.FlashMode mode) }
         ensures strokes { strokes.new.items ≡ strokes_when self.old (Command.FlashMode mode) }
     {
@@ -90,7 +89,7 @@ impl Control {
     }
 
     pub(crate) fn stop_conceal(&mut self, strokes: &mut ArrayVec<Stroke, 128>)
-        requires { strokes.old.items ≡ [] }
+        requires { CanTake Command.StopConceal strokes.old.items }
         ensures state { self.new ≡ control_effect self.old Command.StopConceal }
         ensures strokes { strokes.new.items ≡ strokes_when self.old Command.StopConceal }
     {
@@ -178,8 +177,7 @@ fn set(attribute: Attr, pen: &mut Pen)
 
 /// The flash of a flash mode.
 fn flash_of(mode: u8, fast: u8) -> Flash
-    requires mode { mode ≤ 6 }
-    requires fast { fast ≤ 3 }
+    requires { fast ≤ 3 }
     ensures { result ≡ flash_of mode fast }
 {
     match mode {
@@ -202,8 +200,7 @@ fn fast_flash(number: u8) -> Flash
 
 /// The number of the fast flash that a flash mode leaves in force, 0 for none.
 fn fast_after(mode: u8, fast: u8) -> u8
-    requires mode { mode ≤ 6 }
-    requires fast { fast ≤ 3 }
+    requires { fast ≤ 3 }
     ensures fast { result ≡ fast_after mode fast }
     ensures in_range { result ≤ 3 }
 {
@@ -211,26 +208,9 @@ fn fast_after(mode: u8, fast: u8) -> u8
         2 => 1,
         3 => 2,
         4 => 3,
-        5 => next_fast(fast),
-        6 => fast_before(fast),
+        // the next and the one before in the circle 1, 2, 3
+        5 => if fast == 3 { 1 } else { fast + 1 },
+        6 => if fast <= 1 { 3 } else { fast - 1 },
         _ => 0,
     }
-}
-
-/// The next number in the circle 1, 2, 3.
-fn next_fast(fast: u8) -> u8
-    requires { fast ≤ 3 }
-    ensures next { result ≡ next_fast fast }
-    ensures in_range { result ≤ 3 }
-{
-    if fast == 3 { 1 } else { fast + 1 }
-}
-
-/// The number before in the circle 1, 2, 3.
-fn fast_before(fast: u8) -> u8
-    requires { fast ≤ 3 }
-    ensures before { result ≡ fast_before fast }
-    ensures in_range { result ≤ 3 }
-{
-    if fast <= 1 { 3 } else { fast - 1 }
 }

@@ -1,4 +1,5 @@
-ghost use Rattle.std.specs.Prelude.{◌≡◌, ◌≤◌, ◌⊎◌, []};
+ghost use Rattle.std.specs.Prelude.{◌≡◌, ◌≤◌, ◌⊎◌};
+ghost use Rattle.cept_control.specs.Taking.{CanTake};
 ghost use Rattle.cept_profile.specs.Control.{control_effect};
 ghost use Rattle.cept_profile.specs.Control.{control_with, working_by_default};
 ghost use Rattle.cept_profile.specs.Strokes.{strokes_when};
@@ -11,8 +12,7 @@ use cept_codes::{C1Set, Command, Stroke};
 /// The format, the revision of the rules, the defaults, and the break of a service.
 impl Control {
     pub(crate) fn format(&mut self, rows: u8, wrap: bool, strokes: &mut ArrayVec<Stroke, 128>)
-        requires rows { (rows ≡ 24) ⊎ (rows ≡ 20) }
-        requires empty { strokes.old.items ≡ [] }
+        requires { CanTake (Command.Format rows wrap) strokes.old.items }
         ensures state { self.new ≡ control_effect self.old (Command.Format rows wrap) }
         ensures strokes { strokes.new.items ≡ strokes_when self.old (Command.Format rows wrap) }
     {
@@ -46,7 +46,7 @@ impl Control {
 
     /// Defaults of all: control and page are as at the start, under a C1 set.
     pub(crate) fn full_defaults(&mut self, set: C1Set, strokes: &mut ArrayVec<Stroke, 128>)
-        requires { strokes.old.items ≡ [] }
+        requires { CanTake (Command.FullDefaults set) strokes.old.items }
         ensures state { self.new ≡ control_effect self.old (Command.FullDefaults set) }
         ensures strokes { strokes.new.items ≡ strokes_when self.old (Command.FullDefaults set) }
     {

@@ -1,4 +1,5 @@
-ghost use Rattle.std.specs.Prelude.{◌≡◌, ◌≤◌};
+ghost use Rattle.std.specs.Prelude.{◌≡◌};
+ghost use Rattle.cept_codes.specs.Command.{IsValidCommand};
 ghost use Rattle.cept_profile.specs.Control.{control_effect};
 
 use crate::control::Control;
@@ -7,28 +8,28 @@ use cept_codes::{Command, SetId};
 /// Shifts and designations.
 impl Control {
     pub(crate) fn lock_left(&mut self, g: u8)
-        requires { g ≤ 3 }
+        requires { IsValidCommand (Command.LockLeft g) }
         ensures { self.new ≡ control_effect self.old (Command.LockLeft g) }
     {
         self.working.sets.lock_left(g);
     }
 
     pub(crate) fn lock_right(&mut self, g: u8)
-        requires { (1 ≤ g) × (g ≤ 3) }
+        requires { IsValidCommand (Command.LockRight g) }
         ensures { self.new ≡ control_effect self.old (Command.LockRight g) }
     {
         self.working.sets.lock_right(g);
     }
 
     pub(crate) fn single(&mut self, g: u8)
-        requires { (2 ≤ g) × (g ≤ 3) }
+        requires { IsValidCommand (Command.Single g) }
         ensures { self.new ≡ control_effect self.old (Command.Single g) }
     {
         self.working.sets.single(g);
     }
 
     pub(crate) fn designate(&mut self, g: u8, set: SetId)
-        requires { g ≤ 3 }
+        requires { IsValidCommand (Command.Designate g set) }
         ensures { self.new ≡ control_effect self.old (Command.Designate g set) }
     {
         self.working.sets.designate(g, set);

@@ -498,7 +498,9 @@ fn first_noted<X: Copy>(noted: Option<X>, value: X) -> Option<X>
 
 impl Delta {
     /// Whether a cell of a row is noted, or its attributes are.
+    // In the caller, since each undo asks it of all rows.
     #[tactic(auto, unfolding(crate::specs::Noted::notes_row))]
+    #[inline(always)]
     pub fn notes_row(&self, row: u8) -> bool
         requires from_top { 1 ≤ row }
         requires to_bottom { row ≤ 24 }
@@ -509,6 +511,7 @@ impl Delta {
     }
 
     /// Whether a cell of a row is noted.
+    #[inline(always)]
     fn notes_cells(&self, row: Row) -> bool
         ensures { result ≡ notes_cells self.now row }
     {

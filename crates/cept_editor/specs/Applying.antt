@@ -1,7 +1,10 @@
 -- Commands that are applied to a screen one after the other, what they cost, and which marks they leave (this project's
 -- own).
-use Rattle.std.specs.Prelude.{◌≡◌, ◌≢◌, ℕ, ◌+◌, ◌≤◌, Bool, List, [], ◌∷◌, ◌++◌, length, take, drop, Result, OnOk, OnErr}
+use Rattle.std.specs.Prelude.{◌≡◌, ◌≢◌, ℕ, ◌+◌, ◌≤◌, Bool, false, List, [], ◌∷◌, ◌++◌, length, take, drop}
+use Rattle.std.specs.Prelude.{Result, IsOk, OnOk, OnErr}
 use Rattle.cept_codes.specs.declared.command.Command.{Command}
+use Rattle.cept_outside.specs.Causes.{HasCause}
+use Rattle.cept_outside.specs.SinkState.{SinkState}
 use Rattle.cept_profile.specs.Changes.{changes_between, differences}
 use Rattle.cept_profile.specs.Look.{looks_of}
 use Rattle.cept_profile.specs.State.{State, state, core_of}
@@ -70,6 +73,16 @@ pub record AppliesOne {X E : Type 0} (listed : Bool) (line : ℕ) (command : Com
   pub applied : IsApplied old command new marks before.glass after.glass from to
   pub made : (history : List Command) → AllValid history → old ≡ state history
       → IsMade (event_from listed line history (history ++ command ∷ [])) before result after
+
+-- where lines are listed, a fault of the sink is answered where it rose; where they aren't, nothing is put
+pub record PutsListed {X E : Type 0} (listed : Bool) (before : SinkState) (result : Result X E) (after : SinkState) : Type 0 where
+  pub cause : HasCause before.faults after.faults result
+  pub quiet : listed ≡ false → IsOk result × (after ≡ before)
+
+-- what is listed still goes to the same sink, and the marks are still kept in the same place
+pub record HoldsSame {S M : Type 0} (old_sink : S) (old_marks : M) (new_sink : S) (new_marks : M) : Type 0 where
+  pub sink : new_sink ≡ old_sink
+  pub marks : new_marks ≡ old_marks
 
 -- ---- several commands
 

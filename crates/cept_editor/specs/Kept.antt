@@ -6,7 +6,7 @@ use Rattle.std.specs.List.{flat_map, range_with_len, AllByRecursion}
 use Rattle.cept_codes.specs.declared.command.Command.{Command}
 use Rattle.cept_profile.specs.State.{State, state}
 use Rattle.cept_profile.specs.Valid.{AllValid}
-use Rattle.cept_undo.specs.Past.{Edits, FitsTogether, IsNotBegun, most_kept}
+use Rattle.cept_undo.specs.Past.{most_kept}
 use Rattle.cept_editor.specs.Meaning.{Step, TurnKind, Turn, TakeBack, MakeAgain, Edit}
 
 -- the commands of each kept edit, in order, how many of the last edits can be taken back, and the commands of each undone
@@ -106,8 +106,3 @@ pub record StandsAfter (editor : EditorState) (page : List Command) (k : KeptEdi
   pub some : AllByRecursion (λ commands. 0 < length commands) (k.edits ++ k.undone)
   pub within : k.count ≤ length k.edits
   pub is : editor ≡ editor_after page k
-
--- an editor's edits and the state of its screen between two calls: no edit is begun, and they fit together
-pub record IsBetweenEdits (edits : Edits) (screen : State) : Type 0 where
-  pub none_begun : IsNotBegun edits
-  pub fits : FitsTogether edits screen

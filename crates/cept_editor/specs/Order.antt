@@ -1,6 +1,6 @@
 -- Commands in brief, orders, and what a parser goes on to say (this project's own). Private clauses alone cite this file.
-use Rattle.std.specs.Prelude.{ℕ, ◌≡◌, ◌-◌, ◌<◌, ◌^◌, true, List, [], ◌∷◌, ◌++◌, length, Result, Ok, Err}
-use Rattle.std.specs.Prelude.{false, IsSome}
+use Rattle.std.specs.Prelude.{ℕ, ◌≡◌, ◌-◌, ◌<◌, ◌≤◌, ◌^◌, true, List, [], ◌∷◌, ◌++◌, length, Result, Ok, Err}
+use Rattle.std.specs.Prelude.{false, IsSome, IfOk}
 use Rattle.std.specs.Option.{unwrap_or}
 use Rattle.std.specs.List.{AllByRecursion, list_all}
 use Rattle.cept_codes.specs.Command.{IsValidCommand}
@@ -91,6 +91,11 @@ IsPlainOrder (orders.One brief) = IsValidCommand (command_of brief)
 IsPlainOrder (orders.Text span) = ⊥
 IsPlainOrder (orders.Raw span) = ⊥
 
+-- few bytes, which end there in a script
+pub record StandsBefore (end : ℕ) (bytes : List ℕ) : Type 0 where
+  pub few : length bytes < 2 ^ 31
+  pub within : length bytes ≤ end
+
 -- what a value decides, or the reason for which there is none
 abbrev pub decided : {A : Type 0} → Result A LineReason → (A → Result Step LineReason) → Result Step LineReason
 decided (Ok a) decide = decide a
@@ -100,3 +105,12 @@ decided (Err reason) decide = Err reason
 abbrev pub step_meant : List ℕ → Result Order LineReason → Result Step LineReason
 step_meant bytes (Ok order) = Ok (order_step bytes order)
 step_meant bytes (Err reason) = Err reason
+
+-- what was read is an order without bytes, or a reason, and means this
+abbrev pub ReadsPlain : List ℕ → Result Order LineReason → Result Step LineReason → Type 0
+ReadsPlain bytes result meaning = (step_meant bytes result ≡ meaning) × IfOk result IsPlainOrder
+
+-- what was read is an order whose bytes are these and end there in a script, if it has any, or a reason, and means this
+abbrev pub ReadsPlaced : ℕ → List ℕ → Result Order LineReason → Result Step LineReason → Type 0
+ReadsPlaced end bytes result meaning =
+    (step_meant bytes result ≡ meaning) × IfOk result (IsSoundOrder bytes (place_before end bytes))

@@ -1,19 +1,18 @@
 //! A screen whose edits are made line by line, and can be taken back.
 
 ghost use Rattle.std.specs.Prelude.{◌≡◌, ◌≢◌, ◌+◌, ◌*◌, ◌<◌, ◌≤◌, ◌↔◌, [], false, length};
-ghost use Rattle.std.specs.Prelude.{Ok, OnErr, IfOk, IsOk, slice_index_or};
+ghost use Rattle.std.specs.Prelude.{Ok, OnErr, IfOk, slice_index_or};
 ghost use Rattle.std.specs.List.{AllByRecursion};
 ghost use Rattle.cept_codes.specs.Command.{IsValidCommand};
-ghost use Rattle.cept_outside.specs.Causes.{HasCause};
 ghost use Rattle.cept_profile.specs.Changes.{changes_between, differences};
 ghost use Rattle.cept_profile.specs.Look.{looks_of};
 ghost use Rattle.cept_profile.specs.State.{core_of, state};
 ghost use Rattle.cept_redraw.specs.Renewed.{rows_renewed};
 ghost use Rattle.cept_repaint.specs.Applied.{IsApplied};
-ghost use Rattle.cept_undo.specs.Past.{FitsTogether, IsBegun, StaysBegun, future};
+ghost use Rattle.cept_undo.specs.Past.{IsWithinEdit, StaysBegun, future};
 ghost use Rattle.cept_undo.specs.Turned.{PaintsTurn};
 ghost use Rattle.cept_editor.specs.Applying.{AppliesOne, AppliesAll, HasMade, MarksLast, MarksStep};
-ghost use Rattle.cept_editor.specs.Applying.{ResolvesRenewed, ResolvesStep};
+ghost use Rattle.cept_editor.specs.Applying.{HoldsSame, PutsListed, ResolvesRenewed, ResolvesStep};
 ghost use Rattle.cept_editor.specs.Applying.{editor_after_turn, rows_of_step};
 ghost use Rattle.cept_repaint.specs.InTurn.{rows_in_reach_of_all};
 ghost use Rattle.cept_editor.specs.Kept.{none_kept, StandsAfter};
@@ -63,24 +62,21 @@ fn apply_command<G: Glass, T: Sink, L: Ledger>(
     steps: &mut Steps<L>,
     listing: &mut Listing<'_, T>,
 ) -> Result<(), WriteFault>
-    requires begun { IsBegun undo.old }
-    requires fits { FitsTogether undo.old screen.old }
+    requires within { IsWithinEdit undo.old screen.old }
     requires valid { IsValidCommand command }
     ensures edit { StaysBegun undo.old screen.old undo.new screen.new }
     ensures applies { AppliesOne listing.old.listed listing.old.line command screen.old
         (output_of (T.state listing.old.sink.now) (G.state glass.old)) result screen.new
         (output_of (T.state listing.new.sink.now) (G.state glass.new)) listing.new.marks.now
         steps.old steps.new }
-    ensures cause { HasCause (T.state listing.old.sink.now).faults
-        (T.state listing.new.sink.now).faults result }
-    ensures quiet { listing.old.listed ≡ false
-        → IsOk result × (T.state listing.new.sink.now ≡ T.state listing.old.sink.now) }
+    ensures puts { PutsListed listing.old.listed (T.state listing.old.sink.now) result
+        (T.state listing.new.sink.now) }
     ensures shown { OnErr result
         (changes_between (looks_of (core_of screen.old)) (looks_of (core_of screen.new)) ≢ []) }
     ensures line { listing.new.line ≡ listing.old.line }
     ensures listed { listing.new.listed ≡ listing.old.listed }
-    ensures sink { listing.new.sink.ghost_name ≡ listing.old.sink.ghost_name }
-    ensures marks_kept { listing.new.marks.ghost_name ≡ listing.old.marks.ghost_name }
+    ensures borrows { HoldsSame listing.old.sink.ghost_name listing.old.marks.ghost_name
+        listing.new.sink.ghost_name listing.new.marks.ghost_name }
 {
     undo.apply(screen, command, glass, listing.marks, steps);
     let label = u64::from(listing.line);
@@ -97,24 +93,21 @@ fn apply_commands<G: Glass, T: Sink, L: Ledger>(
     steps: &mut Steps<L>,
     listing: &mut Listing<'_, T>,
 ) -> Result<(), WriteFault>
-    requires begun { IsBegun undo.old }
+    requires within { IsWithinEdit undo.old screen.old }
     requires none_undone { future undo.old screen.old ≡ [] }
-    requires fits { FitsTogether undo.old screen.old }
     ensures edit { StaysBegun undo.old screen.old undo.new screen.new }
     ensures applies { AppliesAll listing.old.listed listing.old.line commands.entry screen.old
         (output_of (T.state listing.old.sink.now) (G.state glass.old)) result screen.new
         (output_of (T.state listing.new.sink.now) (G.state glass.new)) }
-    ensures cause { HasCause (T.state listing.old.sink.now).faults
-        (T.state listing.new.sink.now).faults result }
-    ensures quiet { listing.old.listed ≡ false
-        → IsOk result × (T.state listing.new.sink.now ≡ T.state listing.old.sink.now) }
+    ensures puts { PutsListed listing.old.listed (T.state listing.old.sink.now) result
+        (T.state listing.new.sink.now) }
     ensures marks { 0 < length commands.entry
         → MarksLast commands.entry screen.old result screen.new listing.new.marks.now }
     ensures cost { steps.new ≤ steps.old + rows_in_reach_of_all screen.old commands.entry }
     ensures least { ResolvesRenewed commands.entry screen.old result screen.new steps.old steps.new }
     ensures at_most_24 { steps.new ≤ steps.old + 24 * length commands.entry }
-    ensures sink { listing.new.sink.ghost_name ≡ listing.old.sink.ghost_name }
-    ensures marks_kept { listing.new.marks.ghost_name ≡ listing.old.marks.ghost_name }
+    ensures borrows { HoldsSame listing.old.sink.ghost_name listing.old.marks.ghost_name
+        listing.new.sink.ghost_name listing.new.marks.ghost_name }
 {
     while let Some(command) = commands.next() {
         apply_command(undo, screen, command, glass, steps, listing)?;
@@ -131,8 +124,8 @@ pub struct Editor {
 }
 
 impl Model for Editor {
-    ghost use Rattle.cept_undo.specs.Past.{past, future};
-    ghost use Rattle.cept_editor.specs.Kept.{EditorState, IsBetweenEdits};
+    ghost use Rattle.cept_undo.specs.Past.{IsBetweenEdits, past, future};
+    ghost use Rattle.cept_editor.specs.Kept.{EditorState};
 
     ghost Value = { EditorState };
 
@@ -208,8 +201,7 @@ impl Editor {
             (output_of (T.state sink.new) (G.state glass.new)) }
         ensures made { (default : EditLine) → let edit = slice_index_or script.now k default in
             HasMade edit.step self.old result self.new }
-        ensures cause { HasCause (T.state sink.old).faults (T.state sink.new).faults result }
-        ensures quiet { listed ≡ false → IsOk result × (T.state sink.new ≡ T.state sink.old) }
+        ensures puts { PutsListed listed (T.state sink.old) result (T.state sink.new) }
         ensures marks { (default : EditLine) → let edit = slice_index_or script.now k default in
             MarksStep edit.step self.old.screen result self.new.screen marks.new }
         ensures cost { (default : EditLine) → let edit = slice_index_or script.now k default in
@@ -247,10 +239,8 @@ impl Editor {
             (output_of (T.state listing.old.sink.now) (G.state glass.old)) result self.new
             (output_of (T.state listing.new.sink.now) (G.state glass.new)) }
         ensures made { HasMade (EditOf commands.entry) self.old result self.new }
-        ensures cause { HasCause (T.state listing.old.sink.now).faults
-            (T.state listing.new.sink.now).faults result }
-        ensures quiet { listing.old.listed ≡ false
-            → IsOk result × (T.state listing.new.sink.now ≡ T.state listing.old.sink.now) }
+        ensures puts { PutsListed listing.old.listed (T.state listing.old.sink.now) result
+            (T.state listing.new.sink.now) }
         ensures marks { MarksLast commands.entry self.old.screen result self.new.screen
             listing.new.marks.now }
         ensures cost { steps.new
@@ -259,8 +249,8 @@ impl Editor {
             steps.old steps.new }
         ensures at_most_24 { steps.new ≤ steps.old + 24 * length commands.entry }
         ensures done { result ≢ Ok Done.Nothing }
-        ensures sink { listing.new.sink.ghost_name ≡ listing.old.sink.ghost_name }
-        ensures marks_kept { listing.new.marks.ghost_name ≡ listing.old.marks.ghost_name }
+        ensures borrows { HoldsSame listing.old.sink.ghost_name listing.old.marks.ghost_name
+            listing.new.sink.ghost_name listing.new.marks.ghost_name }
     {
         self.undo.begin(&self.screen);
         let applied = apply_commands(
@@ -317,18 +307,16 @@ impl Editor {
             (output_of (T.state listing.old.sink.now) (G.state glass.old)) result self.new
             (output_of (T.state listing.new.sink.now) (G.state glass.new)) }
         ensures made { HasMade (TurnOf turn) self.old result self.new }
-        ensures cause { HasCause (T.state listing.old.sink.now).faults
-            (T.state listing.new.sink.now).faults result }
-        ensures quiet { listing.old.listed ≡ false
-            → IsOk result × (T.state listing.new.sink.now ≡ T.state listing.old.sink.now) }
+        ensures puts { PutsListed listing.old.listed (T.state listing.old.sink.now) result
+            (T.state listing.new.sink.now) }
         ensures marks { listing.new.marks.now ≡ differences (looks_of (core_of self.old.screen))
             (looks_of (core_of self.new.screen)) }
         ensures least { steps.old + rows_renewed [] (looks_of (core_of self.old.screen))
             (looks_of (core_of self.new.screen)) ≤ steps.new }
         ensures at_most_24 { steps.new ≤ steps.old + 24 }
         ensures unticked { result ≡ Ok Done.Nothing → steps.new ≡ steps.old }
-        ensures sink { listing.new.sink.ghost_name ≡ listing.old.sink.ghost_name }
-        ensures marks_kept { listing.new.marks.ghost_name ≡ listing.old.marks.ghost_name }
+        ensures borrows { HoldsSame listing.old.sink.ghost_name listing.old.marks.ghost_name
+            listing.new.sink.ghost_name listing.new.marks.ghost_name }
     {
         if !self.turn_screen(turn, glass, listing.marks, steps) {
             return Ok(Done::Nothing);

@@ -1,6 +1,7 @@
-ghost use Rattle.std.specs.Prelude.{◌≡◌, ◌≤◌, ◌<◌, ◌^◌, ℕ, List, length, IfOk, IfSome};
+ghost use Rattle.std.specs.Prelude.{◌≡◌, ℕ, List, IfOk, IfSome};
 ghost use Rattle.cept_words.specs.Lines.{words};
 ghost use Rattle.cept_editor.specs.Meaning.{line_meaning, step_of_words};
+ghost use Rattle.cept_editor.specs.Order.{StandsBefore};
 ghost use Rattle.cept_editor.specs.Places.{EndsAt, placed_step, placed_line, IsPlacedOrder};
 
 use crate::order::Order;
@@ -10,8 +11,7 @@ use cept_words::first_word;
 
 /// What the words of a line ask for, which ends there in a script.
 fn words_order(line: &[u8], end: u32) -> Result<Order, LineReason>
-    requires few { length line.now < 2 ^ 31 }
-    requires within { length line.now ≤ end }
+    requires { StandsBefore end line.now }
     ensures meant { (script : List ℕ) → EndsAt script end line.now
         → placed_step script result ≡ step_of_words (words line.now) line.now }
     ensures sound { (script : List ℕ) → EndsAt script end line.now
@@ -25,8 +25,7 @@ fn words_order(line: &[u8], end: u32) -> Result<Order, LineReason>
 /// 2/3.
 #[tactic(auto, unfolding(crate::specs::Meaning::line_meaning))]
 pub(crate) fn line_order(line: &[u8], end: u32) -> Result<Option<Order>, LineReason>
-    requires few { length line.now < 2 ^ 31 }
-    requires within { length line.now ≤ end }
+    requires { StandsBefore end line.now }
     ensures meant { (script : List ℕ) → EndsAt script end line.now
         → placed_line script result ≡ line_meaning line.now }
     ensures sound { (script : List ℕ) → EndsAt script end line.now

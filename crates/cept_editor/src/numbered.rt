@@ -1,4 +1,4 @@
-ghost use Rattle.std.specs.Prelude.{◌≡◌, ◌≤◌, ◌⊎◌, true, IfOk};
+ghost use Rattle.std.specs.Prelude.{◌≡◌, ◌≤◌, ◌⊎◌, true};
 ghost use Rattle.cept_codes.specs.Command.{IsC1, IsScreenC1, IsArea};
 ghost use Rattle.cept_codes.specs.Look.{IsValidRgb};
 ghost use Rattle.cept_codes.specs.Place.{OnScreen};
@@ -6,7 +6,7 @@ ghost use Rattle.cept_codes.specs.declared.command.Command.TheVariants as comman
 ghost use Rattle.cept_parser.specs.Bytes.{is_between};
 ghost use Rattle.cept_words.specs.Words.{words_after, bytes_after};
 ghost use Rattle.cept_editor.specs.Meaning.{one, two, four};
-ghost use Rattle.cept_editor.specs.Order.{step_meant, IsPlainOrder};
+ghost use Rattle.cept_editor.specs.Order.{ReadsPlain};
 ghost use Rattle.cept_editor.specs.Table.{is_place, is_c1, is_screen_c1, is_colour, is_area};
 ghost use Rattle.cept_editor.specs.Table.{entry_command};
 
@@ -73,9 +73,8 @@ fn is_revision(number: u8) -> bool
 
 /// `at R C`: the position.
 pub(crate) fn place(rest: Option<&[u8]>) -> Result<Order, LineReason>
-    ensures meant { step_meant (bytes_after rest.entry) result
-        ≡ two is_place commands.Position (words_after rest.entry) }
-    ensures plain { IfOk result IsPlainOrder }
+    ensures { ReadsPlain (bytes_after rest.entry) result
+        (two is_place commands.Position (words_after rest.entry)) }
 {
     let (row, column) = two_numbers(rest)?;
     ranged(is_place(row, column), Brief::Position(row, column))
@@ -83,9 +82,8 @@ pub(crate) fn place(rest: Option<&[u8]>) -> Result<Order, LineReason>
 
 /// `c1 N`: a C1 code.
 pub(crate) fn c1(rest: Option<&[u8]>) -> Result<Order, LineReason>
-    ensures meant { step_meant (bytes_after rest.entry) result
-        ≡ one is_c1 commands.C1 (words_after rest.entry) }
-    ensures plain { IfOk result IsPlainOrder }
+    ensures { ReadsPlain (bytes_after rest.entry) result
+        (one is_c1 commands.C1 (words_after rest.entry)) }
 {
     let code = one_number(rest)?;
     ranged(is_c1(code), Brief::C1(code))
@@ -93,9 +91,8 @@ pub(crate) fn c1(rest: Option<&[u8]>) -> Result<Order, LineReason>
 
 /// `row N`: an attribute of the row.
 pub(crate) fn full_row(rest: Option<&[u8]>) -> Result<Order, LineReason>
-    ensures meant { step_meant (bytes_after rest.entry) result
-        ≡ one is_c1 commands.FullRow (words_after rest.entry) }
-    ensures plain { IfOk result IsPlainOrder }
+    ensures { ReadsPlain (bytes_after rest.entry) result
+        (one is_c1 commands.FullRow (words_after rest.entry)) }
 {
     let code = one_number(rest)?;
     ranged(is_c1(code), Brief::FullRow(code))
@@ -103,9 +100,8 @@ pub(crate) fn full_row(rest: Option<&[u8]>) -> Result<Order, LineReason>
 
 /// `screen N`: an attribute of the screen.
 pub(crate) fn full_screen(rest: Option<&[u8]>) -> Result<Order, LineReason>
-    ensures meant { step_meant (bytes_after rest.entry) result
-        ≡ one is_screen_c1 commands.FullScreen (words_after rest.entry) }
-    ensures plain { IfOk result IsPlainOrder }
+    ensures { ReadsPlain (bytes_after rest.entry) result
+        (one is_screen_c1 commands.FullScreen (words_after rest.entry)) }
 {
     let code = one_number(rest)?;
     ranged(is_screen_c1(code), Brief::FullScreen(code))
@@ -113,9 +109,8 @@ pub(crate) fn full_screen(rest: Option<&[u8]>) -> Result<Order, LineReason>
 
 /// `table N`: a colour table.
 pub(crate) fn table(rest: Option<&[u8]>) -> Result<Order, LineReason>
-    ensures meant { step_meant (bytes_after rest.entry) result
-        ≡ one (is_between 0 3) commands.Table (words_after rest.entry) }
-    ensures plain { IfOk result IsPlainOrder }
+    ensures { ReadsPlain (bytes_after rest.entry) result
+        (one (is_between 0 3) commands.Table (words_after rest.entry)) }
 {
     let number = one_number(rest)?;
     ranged(is_between(0, 3, number), Brief::Table(number))
@@ -123,9 +118,8 @@ pub(crate) fn table(rest: Option<&[u8]>) -> Result<Order, LineReason>
 
 /// `colour N R G B`: the colour of an entry.
 pub(crate) fn colour(rest: Option<&[u8]>) -> Result<Order, LineReason>
-    ensures meant { step_meant (bytes_after rest.entry) result
-        ≡ four is_colour entry_command (words_after rest.entry) }
-    ensures plain { IfOk result IsPlainOrder }
+    ensures { ReadsPlain (bytes_after rest.entry) result
+        (four is_colour entry_command (words_after rest.entry)) }
 {
     let (entry, r, g, b) = four_numbers(rest)?;
     let rgb = Rgb { r, g, b };
@@ -134,9 +128,8 @@ pub(crate) fn colour(rest: Option<&[u8]>) -> Result<Order, LineReason>
 
 /// `repeat N`: the last sign so many times more.
 pub(crate) fn repeat(rest: Option<&[u8]>) -> Result<Order, LineReason>
-    ensures meant { step_meant (bytes_after rest.entry) result
-        ≡ one (is_between 0 63) commands.Repeat (words_after rest.entry) }
-    ensures plain { IfOk result IsPlainOrder }
+    ensures { ReadsPlain (bytes_after rest.entry) result
+        (one (is_between 0 63) commands.Repeat (words_after rest.entry)) }
 {
     let times = one_number(rest)?;
     ranged(is_between(0, 63, times), Brief::Repeat(times))
@@ -144,9 +137,8 @@ pub(crate) fn repeat(rest: Option<&[u8]>) -> Result<Order, LineReason>
 
 /// `area A B`: a scrolling area.
 pub(crate) fn area(rest: Option<&[u8]>) -> Result<Order, LineReason>
-    ensures meant { step_meant (bytes_after rest.entry) result
-        ≡ two is_area commands.AreaCreate (words_after rest.entry) }
-    ensures plain { IfOk result IsPlainOrder }
+    ensures { ReadsPlain (bytes_after rest.entry) result
+        (two is_area commands.AreaCreate (words_after rest.entry)) }
 {
     let (first, last) = two_numbers(rest)?;
     ranged(is_area(first, last), Brief::AreaCreate(first, last))
@@ -154,9 +146,8 @@ pub(crate) fn area(rest: Option<&[u8]>) -> Result<Order, LineReason>
 
 /// `noarea A B`: the end of a scrolling area.
 pub(crate) fn no_area(rest: Option<&[u8]>) -> Result<Order, LineReason>
-    ensures meant { step_meant (bytes_after rest.entry) result
-        ≡ two is_area commands.AreaDelete (words_after rest.entry) }
-    ensures plain { IfOk result IsPlainOrder }
+    ensures { ReadsPlain (bytes_after rest.entry) result
+        (two is_area commands.AreaDelete (words_after rest.entry)) }
 {
     let (first, last) = two_numbers(rest)?;
     ranged(is_area(first, last), Brief::AreaDelete(first, last))
@@ -164,9 +155,8 @@ pub(crate) fn no_area(rest: Option<&[u8]>) -> Result<Order, LineReason>
 
 /// `revision N`: the revision of the rules.
 pub(crate) fn revision(rest: Option<&[u8]>) -> Result<Order, LineReason>
-    ensures meant { step_meant (bytes_after rest.entry) result
-        ≡ one (is_between 1 2) commands.Revision (words_after rest.entry) }
-    ensures plain { IfOk result IsPlainOrder }
+    ensures { ReadsPlain (bytes_after rest.entry) result
+        (one (is_between 1 2) commands.Revision (words_after rest.entry)) }
 {
     let number = one_number(rest)?;
     ranged(is_revision(number), Brief::Revision(number))

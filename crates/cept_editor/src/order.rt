@@ -1,11 +1,11 @@
-ghost use Rattle.std.specs.Prelude.{◌≡◌, ◌≤◌, ◌<◌, ◌^◌, ◌∷◌, ℕ, List, [], length, true, IfOk};
+ghost use Rattle.std.specs.Prelude.{◌≡◌, ◌∷◌, ℕ, List, [], true, IfOk};
 ghost use Rattle.std.specs.List.{list_all};
 ghost use Rattle.cept_codes.specs.Command.{IsValidCommand};
 ghost use Rattle.cept_words.specs.Words.{words_after, bytes_after};
 ghost use Rattle.cept_editor.specs.Meaning.{Turn as TurnOf, Edit, ranged, alone, is_sign};
 ghost use Rattle.cept_editor.specs.Meaning.{text, raw, bytes_step, hex_bytes};
-ghost use Rattle.cept_editor.specs.Order.{order_step, step_meant};
-ghost use Rattle.cept_editor.specs.Order.{command_of, place_before, IsSoundOrder, IsPlainOrder};
+ghost use Rattle.cept_editor.specs.Order.{command_of, order_step, step_meant, IsPlainOrder};
+ghost use Rattle.cept_editor.specs.Order.{ReadsPlaced, ReadsPlain, StandsBefore};
 
 use crate::brief::Brief;
 use crate::digits::{are_digits, has_refusal};
@@ -44,9 +44,8 @@ pub(crate) fn ranged(fits: bool, brief: Brief) -> Result<Order, LineReason>
 /// An order without a word after it.
 fn alone(order: Order, rest: Option<&[u8]>) -> Result<Order, LineReason>
     requires { IsPlainOrder order }
-    ensures meant { step_meant (bytes_after rest.entry) result
-        ≡ alone (order_step (bytes_after rest.entry) order) (words_after rest.entry) }
-    ensures plain { IfOk result IsPlainOrder }
+    ensures { ReadsPlain (bytes_after rest.entry) result
+        (alone (order_step (bytes_after rest.entry) order) (words_after rest.entry)) }
 {
     match next_word(rest) {
         None => Ok(order),
@@ -57,18 +56,16 @@ fn alone(order: Order, rest: Option<&[u8]>) -> Result<Order, LineReason>
 /// A command without a word after it.
 pub(crate) fn one(brief: Brief, rest: Option<&[u8]>) -> Result<Order, LineReason>
     requires { IsValidCommand (command_of brief) }
-    ensures meant { step_meant (bytes_after rest.entry) result
-        ≡ alone (Edit (command_of brief ∷ [])) (words_after rest.entry) }
-    ensures plain { IfOk result IsPlainOrder }
+    ensures { ReadsPlain (bytes_after rest.entry) result
+        (alone (Edit (command_of brief ∷ [])) (words_after rest.entry)) }
 {
     alone(Order::One(brief), rest)
 }
 
 /// A turn, without a word after it.
 pub(crate) fn turn(turn: Turn, rest: Option<&[u8]>) -> Result<Order, LineReason>
-    ensures meant { step_meant (bytes_after rest.entry) result
-        ≡ alone (TurnOf turn) (words_after rest.entry) }
-    ensures plain { IfOk result IsPlainOrder }
+    ensures { ReadsPlain (bytes_after rest.entry) result
+        (alone (TurnOf turn) (words_after rest.entry)) }
 {
     alone(Order::Turn(turn), rest)
 }
@@ -89,10 +86,8 @@ fn are_signs(text: &[u8]) -> bool
 
 /// The text after a word and one space, which ends there in a script.
 pub(crate) fn text(rest: Option<&[u8]>, end: u32) -> Result<Order, LineReason>
-    requires { length (bytes_after rest) ≤ end }
-    ensures meant { step_meant (bytes_after rest.entry) result ≡ text (bytes_after rest.entry) }
-    ensures sound { IfOk result (IsSoundOrder (bytes_after rest.entry)
-        (place_before end (bytes_after rest.entry))) }
+    requires { StandsBefore end (bytes_after rest) }
+    ensures { ReadsPlaced end (bytes_after rest.entry) result (text (bytes_after rest.entry)) }
 {
     let Some(text) = rest else {
         return Err(LineReason::WrongCount);
@@ -108,10 +103,8 @@ pub(crate) fn text(rest: Option<&[u8]>, end: u32) -> Result<Order, LineReason>
 
 /// The bytes of these hexadecimal digits, which end there in a script.
 fn bytes_of(digits: &[u8], end: u32) -> Result<Order, LineReason>
-    requires few { length digits.now < 2 ^ 31 }
-    requires within { length digits.now ≤ end }
-    ensures meant { step_meant digits.now result ≡ bytes_step (hex_bytes digits.now) }
-    ensures sound { IfOk result (IsSoundOrder digits.now (place_before end digits.now)) }
+    requires { StandsBefore end digits.now }
+    ensures { ReadsPlaced end digits.now result (bytes_step (hex_bytes digits.now)) }
 {
     if !are_digits(digits) {
         return Err(LineReason::BadHex);
@@ -127,11 +120,8 @@ fn bytes_of(digits: &[u8], end: u32) -> Result<Order, LineReason>
 
 /// The bytes of the one word of hexadecimal digits, which ends there in a script.
 pub(crate) fn raw(rest: Option<&[u8]>, end: u32) -> Result<Order, LineReason>
-    requires few { length (bytes_after rest) < 2 ^ 31 }
-    requires within { length (bytes_after rest) ≤ end }
-    ensures meant { step_meant (bytes_after rest.entry) result ≡ raw (words_after rest.entry) }
-    ensures sound { IfOk result (IsSoundOrder (bytes_after rest.entry)
-        (place_before end (bytes_after rest.entry))) }
+    requires { StandsBefore end (bytes_after rest) }
+    ensures { ReadsPlaced end (bytes_after rest.entry) result (raw (words_after rest.entry)) }
 {
     let Some(digits) = one_word(rest) else {
         return Err(LineReason::WrongCount);

@@ -1,8 +1,7 @@
 //! The words with which lines begin: what each asks for.
-ghost use Rattle.std.specs.Prelude.{◌≡◌, ◌<◌, ◌≤◌, ◌^◌, length, IfOk};
 ghost use Rattle.cept_words.specs.Words.{words_after, bytes_after};
 ghost use Rattle.cept_editor.specs.Meaning.{step_by};
-ghost use Rattle.cept_editor.specs.Order.{place_before, step_meant, IsSoundOrder};
+ghost use Rattle.cept_editor.specs.Order.{ReadsPlaced, StandsBefore};
 ghost use Rattle.cept_editor.specs.Table.{row_of};
 
 use crate::brief::Brief;
@@ -16,12 +15,9 @@ use cept_codes::{C1Set, LineReason};
 /// What a word asks for, with what stands after it, which ends there in a script.
 #[tactic(auto, using(crate::proofs::PlacedOrders::plain_sound), unfolding(crate::specs::Table::row_of))]
 pub(crate) fn order_of(word: &[u8], rest: Option<&[u8]>, end: u32) -> Result<Order, LineReason>
-    requires few { length (bytes_after rest) < 2 ^ 31 }
-    requires within { length (bytes_after rest) ≤ end }
-    ensures meant { step_meant (bytes_after rest.entry) result
-        ≡ step_by (row_of word.now) (words_after rest.entry) (bytes_after rest.entry) }
-    ensures sound { IfOk result (IsSoundOrder (bytes_after rest.entry)
-        (place_before end (bytes_after rest.entry))) }
+    requires { StandsBefore end (bytes_after rest) }
+    ensures { ReadsPlaced end (bytes_after rest.entry) result
+        (step_by (row_of word.now) (words_after rest.entry) (bytes_after rest.entry)) }
 {
     if word == b"at".as_slice() {
         place(rest)

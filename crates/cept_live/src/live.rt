@@ -3,6 +3,7 @@ ghost use Rattle.std.specs.Prelude.{◌≡◌, ℕ, ◌+◌, ◌*◌, ◌^◌, �
 ghost use Rattle.std.specs.Prelude.{true, false, List, IfOk, IfSome, IsNone, Some};
 ghost use Rattle.cept_codes.specs.Look.{blank_look};
 ghost use Rattle.cept_codes.specs.Table.{table};
+ghost use Rattle.cept_outside.specs.Ledger.{IsBlankOf};
 ghost use Rattle.cept_profile.specs.Changes.{look_at};
 ghost use Rattle.cept_profile.specs.Look.{looks_of};
 ghost use Rattle.cept_profile.specs.State.{core_of};
@@ -145,9 +146,7 @@ impl Live {
 
     /// Feeds with a ledger that nobody reads.
     fn feed_by<L: Ledger>(&mut self, bytes: &[u8], list: &mut [Notice], blank: Blank) -> Fed
-        requires name { blank.name ≡ L.name }
-        requires parts { blank.parts ≡ L.parts }
-        requires some { 0 < blank.parts }
+        requires blank { IsBlankOf L.name L.parts blank.name blank.parts }
         ensures { FeedsAll self.old bytes.now list.old self.new result.taken result.notices list.new }
     {
         let mut steps = Steps::<L>::new(blank);
@@ -167,9 +166,7 @@ impl Live {
     fn end_by<L: Ledger>(&mut self, list: &mut [Notice], blank: Blank) -> usize
         requires running { self.old.parser.finished ≡ false }
         requires room { 1920 ≤ length list.old }
-        requires name { blank.name ≡ L.name }
-        requires parts { blank.parts ≡ L.parts }
-        requires some { 0 < blank.parts }
+        requires blank { IsBlankOf L.name L.parts blank.name blank.parts }
         ensures { Ends self.old list.old 0 self.new result list.new }
     {
         let mut steps = Steps::<L>::new(blank);

@@ -4,6 +4,7 @@ ghost use Rattle.std.specs.List.{AllByRecursion};
 ghost use Rattle.cept_codes.specs.declared.command.Command.{Command};
 ghost use Rattle.cept_codes.specs.declared.item.Item.{Item};
 ghost use Rattle.cept_codes.specs.Command.{IsValidSaid};
+ghost use Rattle.cept_outside.specs.Ledger.{IsBlankOf};
 ghost use Rattle.cept_parser.specs.Items.{closed_items};
 ghost use Rattle.cept_profile.specs.State.{core, state};
 ghost use Rattle.cept_profile.specs.Valid.{AllValid};
@@ -52,9 +53,7 @@ fn apply_items<L: Ledger>(
 fn read_into<L: Ledger>(page: &[u8], screen: &mut Screen, blank: Blank)
     requires few { length page.now < 2 ^ 32 }
     requires start { screen.old ≡ state [] }
-    requires name { blank.name ≡ L.name }
-    requires parts { blank.parts ≡ L.parts }
-    requires some { 0 < blank.parts }
+    requires blank { IsBlankOf L.name L.parts blank.name blank.parts }
     ensures { Stands screen.new (closed_items page.now) }
 {
     let mut steps = Steps::<L>::new(blank);

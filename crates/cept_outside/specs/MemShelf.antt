@@ -1,5 +1,5 @@
 -- A shelf in memory, whose calls fail where they are told to and at unknown names. This project's own.
-use Rattle.std.specs.Prelude.{ℕ, List}
+use Rattle.std.specs.Prelude.{◌≡◌, ℕ, ◌+◌, ◌-◌, ◌^◌, min, List}
 use Rattle.cept_outside.specs.declared.mem_shelf.MemShelf.{MemShelf}
 use Rattle.cept_outside.specs.Calls.{faults_of}
 use Rattle.cept_outside.specs.PlainShelf.{plain_shelf_state}
@@ -18,3 +18,8 @@ abbrev pub mem_shelf_state : MemShelf → ShelfState
 mem_shelf_state shelf = record (plain_shelf_state shelf.files) {
   faults = faults_of shelf.calls.numbers.items shelf.calls.count shelf.files.missed;
 }
+
+-- a select or a take: it is counted, and what the shelf was told stays
+pub record IsCountedTake (before after : MemShelf) : Type 0 where
+  pub count : mem_shelf_count after ≡ min (mem_shelf_count before + 1) (2 ^ 64 - 1)
+  pub numbers : mem_shelf_numbers after ≡ mem_shelf_numbers before

@@ -1,6 +1,6 @@
 -- A sink in memory, of a fixed room, whose calls fail where they are told to and at puts into a full list. This
 -- project's own.
-use Rattle.std.specs.Prelude.{ℕ, false, List}
+use Rattle.std.specs.Prelude.{◌≡◌, ℕ, ◌+◌, ◌-◌, ◌^◌, min, false, List}
 use Rattle.cept_outside.specs.declared.mem_sink.MemSink.{MemSink}
 use Rattle.cept_outside.specs.Calls.{faults_of}
 use Rattle.cept_outside.specs.PlainSink.{plain_sink_room, plain_sink_state}
@@ -29,3 +29,9 @@ mem_sink_state sink = record (plain_sink_state sink.list) {
   always_flushes = false;
   faults = faults_of sink.calls.numbers.items sink.calls.count sink.list.refused;
 }
+
+-- a put or a flush: it is counted, and what the sink was told stays
+pub record IsCountedPut (before after : MemSink) : Type 0 where
+  pub room : mem_sink_room after ≡ mem_sink_room before
+  pub count : mem_sink_count after ≡ min (mem_sink_count before + 1) (2 ^ 64 - 1)
+  pub numbers : mem_sink_numbers after ≡ mem_sink_numbers before

@@ -1,5 +1,5 @@
 -- What a rack of files tells as a shelf. This project's own.
-use Rattle.std.specs.Prelude.{ℕ, List, drop, Option, Some}
+use Rattle.std.specs.Prelude.{◌≡◌, ℕ, List, drop, Option, Some, false}
 use Rattle.cept_outside.specs.declared.rack.Rack.{Rack}
 use Rattle.cept_outside.specs.Files.{bytes_of, chosen_bytes, chosen_name}
 use Rattle.cept_outside.specs.ShelfState.{ShelfState}
@@ -23,3 +23,9 @@ rack_state rack missed faults = record {
   missed = missed;
   faults = faults;
 }
+
+-- the files stay, and of none of them anything is taken
+pub record BeginsAnew (before after : Rack) : Type 0 where
+  pub files : after.files.items ≡ before.files.items
+  pub start : after.at ≡ 0
+  pub ended : after.ended ≡ false

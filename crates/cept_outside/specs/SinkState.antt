@@ -1,5 +1,5 @@
 -- A sink: bytes are put at its end, and flushed. This project's own.
-use Rattle.std.specs.Prelude.{◌≡◌, ℕ, ◌+◌, ◌-◌, ◌^◌, ◌<◌, ◌≤◌, min, Bool, true, false, List, [], take, length, Option}
+use Rattle.std.specs.Prelude.{◌≡◌, ℕ, ◌+◌, ◌-◌, ◌^◌, ◌<◌, ◌≤◌, min, Bool, true, false, List, [], take, length, Option, Some}
 use Rattle.std.specs.Prelude.{Result, OnOk, OnErr, IfOk, IsOk}
 use Rattle.std.specs.Io.KnownBytes.{append_known}
 use Rattle.std.specs.Option.{option_map}
@@ -21,6 +21,18 @@ pub record SinkState : Type 0 where
   pub always_flushes : Bool
   -- the count of faults, which never falls: no call fails where it doesn't rise
   pub faults : ℕ
+
+-- a sink with so much room into which nothing was put, and of which no flush fails
+abbrev pub empty_sink : ℕ → SinkState
+empty_sink room = record {
+  bytes = Some [];
+  count = Some 0;
+  room = Some room;
+  unflushed = false;
+  flushes = 0;
+  always_flushes = true;
+  faults = 0;
+}
 
 -- a count after so many more bytes, where it is told: it stands still at the greatest u64
 abbrev pub count_after : Option ℕ → ℕ → Option ℕ

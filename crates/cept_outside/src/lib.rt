@@ -17,6 +17,8 @@ mod quiet_sink;
 mod rack;
 mod shelf;
 mod sink;
+mod slice_shelf;
+mod slice_sink;
 mod std_sink;
 mod steps;
 
@@ -32,5 +34,7 @@ pub use quiet_shelf::QuietShelf;
 pub use quiet_sink::QuietSink;
 pub use shelf::Shelf;
 pub use sink::Sink;
+pub use slice_shelf::{SliceFile, SliceShelf};
+pub use slice_sink::{Filled, Lent, SliceSink};
 pub use std_sink::StdSink;
 pub use steps::Steps;

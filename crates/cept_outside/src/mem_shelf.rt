@@ -78,6 +78,7 @@ impl MemShelf {
 impl Shelf for MemShelf {
     ghost use Rattle.cept_outside.specs.MemShelf.{mem_shelf_state, mem_shelf_count};
     ghost use Rattle.cept_outside.specs.MemShelf.{mem_shelf_numbers};
+    ghost use Rattle.cept_outside.specs.MemShelf.{IsCountedTake};
     ghost use Rattle.cept_outside.specs.Counted.{faults_counted};
     ghost use Rattle.cept_outside.specs.Sound.{rack_state_is_sound};
 
@@ -101,8 +102,7 @@ impl Shelf for MemShelf {
             ≡ (if is_some (bytes_under (mem_shelf_state self.old) name.now)
             then (mem_shelf_state self.old).missed
             else min ((mem_shelf_state self.old).missed + 1) (2 ^ 64 - 1)) }
-        ensures count { mem_shelf_count self.new ≡ min (mem_shelf_count self.old + 1) (2 ^ 64 - 1) }
-        ensures numbers { mem_shelf_numbers self.new ≡ mem_shelf_numbers self.old }
+        ensures counted { IsCountedTake self.old self.new }
     {
         let fails = self.calls.next();
         self.files.select(name)?;
@@ -126,8 +126,7 @@ impl Shelf for MemShelf {
             → IfOk result (λ n. (n ≡ min (length left) (length into.old))
             × (into.new ≡ take n left ++ drop n into.old)) }
         ensures untouched { OnErr result (into.new ≡ into.old) }
-        ensures count { mem_shelf_count self.new ≡ min (mem_shelf_count self.old + 1) (2 ^ 64 - 1) }
-        ensures numbers { mem_shelf_numbers self.new ≡ mem_shelf_numbers self.old }
+        ensures counted { IsCountedTake self.old self.new }
     {
         if self.calls.next() {
             return Err(Failed);

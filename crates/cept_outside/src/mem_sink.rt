@@ -78,6 +78,7 @@ impl Sink for MemSink {
     ghost use Rattle.cept_outside.specs.MemSink.{mem_sink_state, mem_sink_room, mem_sink_count};
     ghost use Rattle.cept_outside.specs.MemSink.{mem_sink_numbers};
     ghost use Rattle.cept_outside.specs.MemSink.{mem_sink_refused};
+    ghost use Rattle.cept_outside.specs.MemSink.{IsCountedPut};
     ghost use Rattle.cept_outside.specs.Counted.{faults_counted};
 
     ghost state = { mem_sink_state };
@@ -101,9 +102,7 @@ impl Sink for MemSink {
         ensures refused { (bytes : List ℕ) → (mem_sink_state self.old).bytes ≡ Some bytes
             → mem_sink_refused self.new ≡ (if nat_lt (length bytes) (mem_sink_room self.old)
             then mem_sink_refused self.old else min (mem_sink_refused self.old + 1) (2 ^ 64 - 1)) }
-        ensures room { mem_sink_room self.new ≡ mem_sink_room self.old }
-        ensures count { mem_sink_count self.new ≡ min (mem_sink_count self.old + 1) (2 ^ 64 - 1) }
-        ensures numbers { mem_sink_numbers self.new ≡ mem_sink_numbers self.old }
+        ensures counted { IsCountedPut self.old self.new }
     {
         let fails = self.calls.next();
         if fails && !self.list.is_full() {
@@ -121,9 +120,7 @@ impl Sink for MemSink {
         ensures fails { IsErr result
             ↔ Contains (mem_sink_numbers self.old) (mem_sink_count self.old + 1) }
         ensures refused { mem_sink_refused self.new ≡ mem_sink_refused self.old }
-        ensures room { mem_sink_room self.new ≡ mem_sink_room self.old }
-        ensures count { mem_sink_count self.new ≡ min (mem_sink_count self.old + 1) (2 ^ 64 - 1) }
-        ensures numbers { mem_sink_numbers self.new ≡ mem_sink_numbers self.old }
+        ensures counted { IsCountedPut self.old self.new }
     {
         if self.calls.next() {
             return Err(Failed);

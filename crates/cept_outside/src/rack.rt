@@ -1,6 +1,6 @@
 ghost use Rattle.std.specs.Prelude.{◌≡◌, ℕ, ◌+◌, ◌-◌, ◌<◌, ◌≤◌, ◌↔◌, min, List, [], ◌++◌, length};
 ghost use Rattle.std.specs.Prelude.{take, drop, Some};
-ghost use Rattle.std.specs.Prelude.{None, IsTrue, IsSome, IfOk, OnOk, OnErr, vec_len, position};
+ghost use Rattle.std.specs.Prelude.{None, IsTrue, IsSome, IfOk, OnOk, OnErr, position};
 ghost use Rattle.std.specs.Prelude.{string_bytes};
 ghost use Rattle.std.specs.Prelude.{false, true, bytes_eq, if◌then◌else◌};
 ghost use Rattle.std.specs.Option.{ForSome};
@@ -71,7 +71,7 @@ fn put_file(files: &mut Vec<StoredFile>, name: &str, file: StoredFile) -> Result
 }
 
 /// Moves bytes from the front of a list to the front of a slice, as many as there are and fit.
-fn move_front(from: &[u8], into: &mut [u8]) -> usize
+pub(crate) fn move_front(from: &[u8], into: &mut [u8]) -> usize
     ensures count { result ≡ min (length from.now) (length into.old) }
     ensures moved { into.new ≡ take result from.now ++ drop result into.old }
 {
@@ -81,7 +81,7 @@ fn move_front(from: &[u8], into: &mut [u8]) -> usize
 }
 
 impl Rack {
-    ghost use Rattle.cept_outside.specs.Rack.{name_of, left_of};
+    ghost use Rattle.cept_outside.specs.Rack.{BeginsAnew, name_of, left_of};
 
     /// No file, and none selected.
     pub fn new(alloc: Global) -> Rack
@@ -120,9 +120,7 @@ impl Rack {
 
     /// Selects the file with this name, or none, and answers whether there is one.
     pub fn select(&mut self, name: &str) -> bool
-        ensures files { self.new.files.items ≡ self.old.files.items }
-        ensures start { self.new.at ≡ 0 }
-        ensures ended { self.new.ended ≡ false }
+        ensures anew { BeginsAnew self.old self.new }
         ensures found { IsTrue result ↔ IsSome (bytes_of self.old.files.items name.now) }
         ensures left { (bytes : List ℕ) → bytes_of self.old.files.items name.now ≡ Some bytes
             → (name_of self.new ≡ Some name.now) × (left_of self.new ≡ bytes) }
@@ -137,9 +135,7 @@ impl Rack {
 
     /// Ends the selection.
     pub fn deselect(&mut self)
-        ensures files { self.new.files.items ≡ self.old.files.items }
-        ensures start { self.new.at ≡ 0 }
-        ensures ended { self.new.ended ≡ false }
+        ensures anew { BeginsAnew self.old self.new }
         ensures none { (name_of self.new ≡ None) × (left_of self.new ≡ []) }
     {
         self.selected = None;

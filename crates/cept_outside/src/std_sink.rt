@@ -1,16 +1,18 @@
-ghost use Rattle.std.specs.Prelude.{◌≡◌, ℕ, ◌+◌, ◌-◌, ◌^◌, ◌<◌, ◌≤◌, min, [], length, None, false};
+ghost use Rattle.std.specs.Prelude.{◌≡◌, ◌+◌, ◌-◌, ◌<◌, ◌≤◌, min, [], length, None, false};
 ghost use Rattle.std.specs.Prelude.{nat_lt, IsOk};
 ghost use Rattle.std.specs.Prelude.{IfOk, OnOk, if◌then◌else◌};
 ghost use Rattle.std.specs.Io.KnownBytes.{Keeps, WriteAppends};
-ghost use Rattle.arrayvec.specs.ArrayVec.{array_vec_len};
 ghost use Rattle.cept_outside.specs.Causes.{HasCause};
 ghost use Rattle.cept_outside.specs.SinkState.{Puts, Flushes};
 
 use crate::fault::Failed;
 use crate::machine::Writer;
 use crate::sink::Sink;
-use arrayvec::ArrayVec;
+use crate::slice_sink::put_behind;
 use std::io::Write;
+
+/// How many bytes are held back at most.
+const ROOM: usize = 4096;
 
 /// A sink on a writer, as standard output. It tells nothing of bytes, and each error of the writer
 /// is a fault.
@@ -20,14 +22,17 @@ use std::io::Write;
 #[derive(Drop)]
 pub struct StdSink<W> {
     writer: Writer<W>,
-    held: ArrayVec<u8, 4096>,
+    // Room that is never emptied: what is held back stands in it from `sent` to `end`.
+    held: [u8; ROOM],
     sent: usize,
-    ghost within: { sent ≤ array_vec_len held },
+    end: usize,
+    ghost forward: { sent ≤ end },
+    ghost within: { end ≤ 4096 },
 }
 
 impl<W: Write> StdSink<W> {
     ghost use Rattle.cept_outside.specs.StdSink.{std_sink_state, held_bytes, free_room};
-    ghost use Rattle.cept_outside.specs.StdSink.{written_and_held};
+    ghost use Rattle.cept_outside.specs.StdSink.{IsHandedOn, written_and_held};
 
     /// Nothing is held back.
     pub fn new(out: W) -> StdSink<W>
@@ -47,8 +52,9 @@ impl<W: Write> StdSink<W> {
     {
         StdSink {
             writer: Writer::new(out),
-            held: ArrayVec::new(),
+            held: [0; ROOM],
             sent: 0,
+            end: 0,
         }
     }
 
@@ -59,24 +65,23 @@ impl<W: Write> StdSink<W> {
         ensures unflushed { (std_sink_state self.new).unflushed
             ≡ (std_sink_state self.old).unflushed }
         ensures flushes { (std_sink_state self.new).flushes ≡ (std_sink_state self.old).flushes }
-        ensures kept { Keeps (written_and_held W.contents self.old)
-            (written_and_held W.contents self.new) }
-        ensures all { OnOk result (held_bytes self.new ≡ []) }
+        ensures handed_on { IsHandedOn W.contents self.old self.new result }
         ensures free { OnOk result (free_room self.new ≡ 4096) }
     {
-        while self.sent < self.held.len() {
-            let count = self.writer.write(&self.held.as_slice()[self.sent..])?;
+        while self.sent < self.end {
+            let held: &[u8] = &self.held;
+            let count = self.writer.write(&held[self.sent..self.end])?;
             self.sent += count;
         }
-        self.held.clear();
         self.sent = 0;
+        self.end = 0;
         Ok(())
     }
 }
 
 impl<W: Write> Sink for StdSink<W> {
     ghost use Rattle.cept_outside.specs.StdSink.{std_sink_state, held_bytes, free_room};
-    ghost use Rattle.cept_outside.specs.StdSink.{written_and_held};
+    ghost use Rattle.cept_outside.specs.StdSink.{IsHandedOn, written_and_held};
 
     ghost state = { std_sink_state };
 
@@ -97,11 +102,11 @@ impl<W: Write> Sink for StdSink<W> {
             ≡ min (if nat_lt 0 (free_room self.old) then free_room self.old
             else 4096) (length piece.now)) }
     {
-        if self.held.is_full() {
+        if self.end == ROOM {
             self.hand_on()?;
         }
-        let count = piece.len().min(self.held.remaining_capacity());
-        self.held.try_extend_from_slice(&piece[..count]).unwrap();
+        let count = put_behind(piece, self.end, &mut self.held);
+        self.end += count;
         Ok(count)
     }
 
@@ -109,9 +114,7 @@ impl<W: Write> Sink for StdSink<W> {
         ensures flushes { Flushes (std_sink_state self.old) result (std_sink_state self.new) }
         ensures cause { HasCause (std_sink_state self.old).faults (std_sink_state self.new).faults
             result }
-        ensures kept { Keeps (written_and_held W.contents self.old)
-            (written_and_held W.contents self.new) }
-        ensures all { OnOk result (held_bytes self.new ≡ []) }
+        ensures handed_on { IsHandedOn W.contents self.old self.new result }
     {
         self.hand_on()?;
         self.writer.flush()

@@ -1,4 +1,5 @@
 ghost use Rattle.std.specs.Prelude.{◌≡◌, ℕ, ◌+◌, ◌<◌};
+ghost use Rattle.cept_outside.specs.Ledger.{IsBlankOf};
 
 use std::marker::Model;
 use std::sync::ledger::{Blank, Book, Ledger, Share};
@@ -23,9 +24,7 @@ impl<L: Ledger> Steps<L> {
     /// No tick was made. The blank ledger becomes the one that `L` stands for; a caller that counts
     /// nothing takes `Brand` for `L` and hands on `Blank::new(1)`.
     pub fn new(blank: Blank) -> Steps<L>
-        requires name { blank.name ≡ L.name }
-        requires parts { blank.parts ≡ L.parts }
-        requires some { 0 < blank.parts }
+        requires blank { IsBlankOf L.name L.parts blank.name blank.parts }
         ensures { result ≡ 0 }
     {
         let (book, share) = blank.open::<L>();

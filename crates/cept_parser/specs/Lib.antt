@@ -9,6 +9,7 @@ pub mod Grammar
 pub mod Items
 pub mod Valid
 pub mod State
+pub mod Pushing
 pub mod Beginning
 pub mod Fit
 pub mod Waits

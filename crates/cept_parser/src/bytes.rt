@@ -1,5 +1,5 @@
 ghost use Rattle.std.specs.Prelude.{◌≡◌, ◌≤◌, true};
-ghost use Rattle.cept_parser.specs.Bytes.{is_plain, is_digit, digit, two_digits, is_row, is_column};
+ghost use Rattle.cept_parser.specs.Bytes.{is_plain, is_digit, digit, two_digits, is_row};
 
 /// A plain byte: 2/0 to 7/15.
 pub fn is_plain(byte: u8) -> bool
@@ -37,11 +37,4 @@ pub fn is_row(byte: u8) -> bool
     ensures { result ≡ is_row byte }
 {
     0x41 <= byte && byte <= 0x58
-}
-
-/// A column: 4/1 to 6/8 for 1 to 40.
-pub fn is_column(byte: u8) -> bool
-    ensures { result ≡ is_column byte }
-{
-    0x41 <= byte && byte <= 0x68
 }

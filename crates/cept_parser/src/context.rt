@@ -1,25 +1,19 @@
-ghost use Rattle.std.specs.Prelude.{◌≡◌, ◌↔◌, ℕ, true};
+ghost use Rattle.std.specs.Prelude.{◌≡◌, ◌↔◌, ◌&&◌, ℕ, true};
 ghost use Rattle.cept_codes.specs.Look.{is_pattern_size, is_plane_count};
 ghost use Rattle.cept_parser.specs.Valid.{IsValidMode, IsValidContext};
 
 use cept_codes::{Form, Said};
 
-/// Patterns have this width and height.
-fn is_pattern_size(w: u8, h: u8) -> bool
-    ensures { result ≡ is_pattern_size w h }
+/// Patterns have this form.
+fn is_pattern_form(form: &Form) -> bool
+    ensures { result ≡ (is_pattern_size form.now.w form.now.h && is_plane_count form.now.planes) }
 {
-    match w {
-        12 => h == 12 || h == 10,
-        6 => h == 12 || h == 10 || h == 5 || h == 6,
+    let sized = match form.w {
+        12 => form.h == 12 || form.h == 10,
+        6 => form.h == 12 || form.h == 10 || form.h == 5 || form.h == 6,
         _ => false,
-    }
-}
-
-/// Patterns have so many planes.
-fn is_plane_count(planes: u8) -> bool
-    ensures { result ≡ is_plane_count planes }
-{
-    planes == 1 || planes == 2 || planes == 4
+    };
+    sized && (form.planes == 1 || form.planes == 2 || form.planes == 4)
 }
 
 /// What plain bytes, 2/0 to 7/15, are read as.
@@ -91,9 +85,7 @@ impl Context {
     pub(crate) fn is_valid(&self) -> bool
         ensures { (result ≡ true) ↔ IsValidContext self.now }
     {
-        self.mode.is_valid()
-            && is_pattern_size(self.form.w, self.form.h)
-            && is_plane_count(self.form.planes)
+        self.mode.is_valid() && is_pattern_form(&self.form)
     }
 
     /// The code that the next pattern is for, where patterns are read.

@@ -1,5 +1,5 @@
-ghost use Rattle.std.specs.Prelude.{◌≡◌, ◌≤◌};
-ghost use Rattle.cept_parser.specs.Csi.{csi_1, csi_2, area, is_area_final, area_to, area_from, csi};
+ghost use Rattle.std.specs.Prelude.{◌≡◌};
+ghost use Rattle.cept_parser.specs.Csi.{csi_1, csi_2, area, area_to, area_from, csi};
 
 use crate::bytes::{digit, is_digit, two_digits};
 use cept_codes::{Command, Reason, Said};
@@ -49,21 +49,14 @@ fn area(top: u8, bottom: u8, last: u8) -> Said
     }
 }
 
-/// The final byte of an area form.
-fn is_area_final(last: u8) -> bool
-    ensures { result ≡ is_area_final last }
-{
-    0x55 <= last && last <= 0x56
-}
-
 /// The second row of an area, of one digit or two, and the final byte.
 #[tactic(auto, unfolding(crate::specs::Csi::area_to))]
 fn area_to(top: u8, bytes: &[u8]) -> Said
     ensures { result ≡ area_to top bytes.now }
 {
     match bytes {
-        [m, last] if is_digit(*m) && is_area_final(*last) => area(top, digit(*m), *last),
-        [m, o, last] if is_digit(*m) && is_digit(*o) && is_area_final(*last) => {
+        [m, last @ 0x55..=0x56] if is_digit(*m) => area(top, digit(*m), *last),
+        [m, o, last @ 0x55..=0x56] if is_digit(*m) && is_digit(*o) => {
             area(top, two_digits(*m, *o), *last)
         }
         _ => Said::Refused(Reason::UnknownCsi),

@@ -1,4 +1,4 @@
-ghost use Rattle.std.specs.Prelude.{◌≡◌, ◌≤◌};
+ghost use Rattle.std.specs.Prelude.{◌≡◌};
 ghost use Rattle.cept_parser.specs.Escape.{is_c1_final, escape_1, designation, designation_of_c1};
 ghost use Rattle.cept_parser.specs.Escape.{escape_2, full_screen};
 ghost use Rattle.cept_parser.specs.Escape.{full_row, designation_of_drcs, escape_3, escape};

@@ -1,6 +1,6 @@
 //! Laws of the grammar and of reading. The functions do nothing: their contracts are the laws.
 
-ghost use Rattle.std.specs.Prelude.{◌≡◌, ◌≤◌, ◌+◌, ◌↔◌, ℕ, Option, Some, None, List, [], ◌∷◌, ◌++◌};
+ghost use Rattle.std.specs.Prelude.{◌≡◌, ◌≤◌, ◌+◌, ◌↔◌, ℕ, Some, None, List, [], ◌∷◌, ◌++◌};
 ghost use Rattle.std.specs.Prelude.{length, true};
 ghost use Rattle.std.specs.Prelude.{false};
 ghost use Rattle.cept_codes.specs.Command.{IsValidSaid};

@@ -1,4 +1,4 @@
-ghost use Rattle.std.specs.Prelude.{◌≡◌, ◌≤◌, ◌<◌, ◌+◌, ◌^◌, ◌-◌, ℕ, List, [], ◌∷◌, ◌++◌, length};
+ghost use Rattle.std.specs.Prelude.{◌≡◌, ◌≤◌, ◌<◌, ◌+◌, ◌^◌, ◌-◌, ℕ, List, [], ◌++◌, length};
 ghost use Rattle.std.specs.Prelude.{true, false, IfSome, IsSome};
 ghost use Rattle.cept_parser.specs.Items.{items, closed_items, closing_items};
 ghost use Rattle.cept_parser.specs.Valid.{AreValid, AreMeasured};
@@ -49,7 +49,8 @@ impl Model for Parser {
 }
 
 impl Parser {
-    ghost use Rattle.cept_parser.specs.State.{ParserState, Leads, reading_with, parser_after};
+    ghost use Rattle.cept_parser.specs.Pushing.{CanPush, IsPushed};
+    ghost use Rattle.cept_parser.specs.State.{Leads};
     ghost use Rattle.cept_parser.specs.State.{pending_reading};
     ghost use Rattle.cept_parser.specs.State.{finished_state, running_state};
 
@@ -124,24 +125,8 @@ impl Parser {
     /// Reads one byte more, and answers the items that it closes, in order. The caller pushes at
     /// most 2^32 bytes, and none after `finish`.
     pub fn push(&mut self, byte: u8) -> ArrayVec<Item, 2>
-        requires running { self.old.finished ≡ false }
-        requires few { self.old.place < 2 ^ 32 }
-
-        // Whatever bytes led here, the items of these and this byte are the items before and then
-        // those answered.
-        ensures items { (b : List ℕ) → Leads b self.old
-            → items (b ++ byte ∷ []) ≡ items b ++ result.items }
-        ensures leads { (b : List ℕ) → Leads b self.old → Leads (b ++ byte ∷ []) self.new }
-
-        // The same of what is pending, where nobody knows the bytes before.
-        ensures answer { result.items ≡ (reading_with self.old byte).items }
-        ensures state { self.new ≡ parser_after self.old byte }
-        ensures place { self.new.place ≡ self.old.place + 1 }
-        ensures still_running { self.new.finished ≡ false }
-
-        ensures few_pending { length self.new.pending ≤ 99 }
-        ensures valid { AreValid result.items }
-        ensures measured { AreMeasured result.items }
+        requires { CanPush self.old }
+        ensures { IsPushed byte self.old self.new result.items }
     {
         let mut closed = Closed::new();
         self.push_into(byte, &mut closed);
@@ -151,18 +136,8 @@ impl Parser {
     /// As `push`, onto a list of the caller's, which then has the items of this byte alone.
     #[inline(always)]
     pub fn push_into(&mut self, byte: u8, list: &mut Closed)
-        requires running { self.old.finished ≡ false }
-        requires few { self.old.place < 2 ^ 32 }
-        ensures items { (b : List ℕ) → Leads b self.old
-            → items (b ++ byte ∷ []) ≡ items b ++ list.new }
-        ensures leads { (b : List ℕ) → Leads b self.old → Leads (b ++ byte ∷ []) self.new }
-        ensures answer { list.new ≡ (reading_with self.old byte).items }
-        ensures state { self.new ≡ parser_after self.old byte }
-        ensures place { self.new.place ≡ self.old.place + 1 }
-        ensures still_running { self.new.finished ≡ false }
-        ensures few_pending { length self.new.pending ≤ 99 }
-        ensures valid { AreValid list.new }
-        ensures measured { AreMeasured list.new }
+        requires { CanPush self.old }
+        ensures { IsPushed byte self.old self.new list.new }
     {
         list.clear();
         self.reader.read(self.place, byte, list);

@@ -1,7 +1,6 @@
-ghost use Rattle.std.specs.Prelude.{◌≡◌, ◌≤◌, ◌<◌, ◌∷◌, [], Bool, true, false, if◌then◌else◌};
+ghost use Rattle.std.specs.Prelude.{◌≡◌, ◌<◌, ◌∷◌, [], Bool, true, if◌then◌else◌};
 ghost use Rattle.cept_parser.specs.Bytes.{is_digit, contains, outcome, complete, optional};
 ghost use Rattle.cept_parser.specs.Bytes.{with_options};
-ghost use Rattle.cept_parser.specs.Context.{start_context};
 ghost use Rattle.cept_parser.specs.Fit.{answer, bytes_after};
 ghost use Rattle.cept_parser.specs.Units.{us_position, drcs_parts, drcs_width, drcs_height};
 ghost use Rattle.cept_parser.specs.Units.{drcs_planes, drcs_form, drcs_header, drcs_unit};
@@ -10,7 +9,7 @@ ghost use Rattle.cept_parser.specs.Units.{colours_from, colour_start, colour_uni
 ghost use Rattle.cept_parser.specs.Units.{format_parts, format, service_break, service};
 ghost use Rattle.cept_parser.specs.Units.{service_unit, us_unit};
 
-use crate::bytes::{is_column, is_digit, is_row, two_digits};
+use crate::bytes::{is_digit, is_row, two_digits};
 use crate::context::{ColourKind, Context, Mode};
 use crate::fit::Fit;
 use cept_codes::{C1Set, Command, Form, Reason, Said};
@@ -369,7 +368,7 @@ fn service(context: &mut Context, bytes: &[u8], said: &mut Said) -> Fit
     }
 }
 
-/// APA: what stands after 1F and the byte of a row.
+/// APA: what stands after 1F and the byte of a row. Columns are 4/1 to 6/8 for 1 to 40.
 #[tactic(auto, unfolding(crate::specs::Units::us_position))]
 fn position(context: &mut Context, row: u8, bytes: &[u8], said: &mut Said) -> Fit
     ensures { (ended : Bool) → record { fit = result; said = said.new; context = context.new }
@@ -378,7 +377,7 @@ fn position(context: &mut Context, row: u8, bytes: &[u8], said: &mut Said) -> Fi
     match bytes {
         [] => Fit::Open,
         [column @ 0x20..=0x7F] => {
-            if is_row(row) && is_column(*column) {
+            if is_row(row) && 0x41 <= *column && *column <= 0x68 {
                 *said = Said::Command(Command::Position(row - 0x40, *column - 0x40));
             } else {
                 *said = Said::Refused(Reason::BadParameter);

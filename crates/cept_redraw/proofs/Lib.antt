@@ -22,7 +22,6 @@ mod RestingRows
 mod RowsDue
 mod RowsOfLooks
 mod RowsRenewed
-mod TurnedLooks
 mod Unmarked
 mod UnwoundRows
 mod ValidStrokes

@@ -2,6 +2,7 @@ pub mod Due
 pub mod Kept
 pub mod Marks
 pub mod Named
+pub mod Passed
 pub mod Picture
 pub mod Redefined
 pub mod Renewed

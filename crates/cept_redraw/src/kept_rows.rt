@@ -1,45 +1,40 @@
-ghost use Rattle.std.specs.Prelude.{◌≡◌, ℕ, ◌+◌, ◌-◌, ◌≤◌, false, not, length, slice_set, IfOk, if◌then◌else◌};
-ghost use Rattle.cept_codes.specs.Command.{IsArea};
+ghost use Rattle.std.specs.Prelude.{◌≡◌, ◌+◌, ◌-◌, ◌<◌, length, slice_set, IfOk};
 ghost use Rattle.cept_codes.specs.Look.{IsValidLook, blank_look};
 ghost use Rattle.cept_codes.specs.Place.{OnScreen};
-ghost use Rattle.cept_codes.specs.Table.{entry, list_by_index, row_of, table, value_at, IsTable};
-ghost use Rattle.cept_profile.specs.Cells.{shifted};
+ghost use Rattle.cept_codes.specs.Table.{list_by_index, row_of, table, IsTable};
 ghost use Rattle.cept_profile.specs.Changes.{look_at, grid_with_paint};
 ghost use Rattle.cept_profile.specs.RowsFromAbove.{looks_in};
 ghost use Rattle.cept_profile.specs.Tiling.{column_entry};
-ghost use Rattle.cept_scroll.specs.Order.{leaving_row};
 ghost use Rattle.cept_redraw.specs.Kept.{is_other_look};
 ghost use Rattle.cept_rows.specs.Flagged.{look_after, looks_differ};
 ghost use Rattle.cept_rows.specs.Source.{look_by_itself};
 
-use cept_codes::{Look, NoMemory, Pos, Row, Up};
+use cept_codes::{Look, NoMemory, Pos, Row};
 use cept_outside::Steps;
 use cept_rows::{RowLooks, RowSource};
-use cept_scroll::RowOrder;
 use std::alloc::Global;
 use std::marker::Model;
 use std::sync::ledger::Ledger;
 
-/// The looks of the screen, as they are kept: 24 rows of 40, each in its slot, and the blank ones
-/// above the first.
+/// The looks of the screen, as they are kept: 24 rows of 40 from the top, and the blank ones above the
+/// first.
 #[derive(Drop)]
 pub struct KeptRows {
     rows: Vec<RowLooks>,
-    order: RowOrder,
     flat: RowLooks,
 }
 
 impl Model for KeptRows {
     ghost use Rattle.std.specs.Prelude.{List, ◌≡◌};
+    ghost use Rattle.cept_codes.specs.Table.{IsTable};
     ghost use Rattle.cept_codes.specs.declared.look.Look.{Look};
     ghost use Rattle.cept_profile.specs.RowsFromAbove.{blank_looks};
-    ghost use Rattle.cept_scroll.specs.Order.{AreInSlots, rows_in_order};
 
     ghost Value = { List (List Look) };
 
-    ghost view = { λ l. rows_in_order l.order l.rows.items };
+    ghost view = { λ l. l.rows.items };
 
-    ghost invariant = { λ l. AreInSlots l.order l.rows.items × (l.flat ≡ blank_looks) };
+    ghost invariant = { λ l. IsTable l.rows.items × (l.flat ≡ blank_looks) };
 }
 
 impl KeptRows {
@@ -51,11 +46,8 @@ impl KeptRows {
         for _row in 0..24usize {
             rows.push(RowLooks::flat())?;
         }
-        let order = RowOrder::new();
-        order.ordered_by_type();
         Ok(KeptRows {
             rows,
-            order,
             flat: RowLooks::flat(),
         })
     }
@@ -64,7 +56,7 @@ impl KeptRows {
     pub fn row(&self, row: Row) -> &RowLooks
         ensures { result.now ≡ looks_in self.now row }
     {
-        &self.rows[self.order.index(row.number())]
+        &self.rows[row.index()]
     }
 
     /// The looks of the row above a row, where they stand.
@@ -83,7 +75,7 @@ impl KeptRows {
         ensures valid { IsValidLook result }
         ensures on_screen { OnScreen place.row place.column }
     {
-        self.rows[self.order.index(place.row())].at(place.col())
+        self.rows[place.in_row().index()].at(place.col())
     }
 
     /// Tells the prover that there are 24 rows of 40: reading a field opens the model.
@@ -99,32 +91,16 @@ impl KeptRows {
         ensures columns { length looks.now ≡ 40 }
     {
         looks.columns_by_type();
-        self.rows[self.order.index(row.number())].copy_from(looks);
+        self.rows[row.index()].copy_from(looks);
     }
 
-    /// Takes over all looks.
-    pub(crate) fn copy_from(&mut self, from: &KeptRows)
-        ensures { self.new ≡ from.now }
+    /// Takes over the looks of a row from a row below it.
+    pub(crate) fn copy_up(&mut self, row: Row, from: Row)
+        requires { row < from }
+        ensures { self.new ≡ slice_set self.old (row - 1) (looks_in self.old from) }
     {
-        self.whole_by_type();
-        from.whole_by_type();
-        for number in 1..25u8 {
-            let row = Row::numbered(number);
-            self.copy_row(row, from.row(row));
-        }
-    }
-
-    /// The looks of the rows of an area go one row up or down; those of the row that leaves it stand
-    /// in the row that comes free.
-    pub(crate) fn turn(&mut self, first: u8, last: u8, way: Up)
-        requires { IsArea first last }
-        ensures turned { self.new ≡ list_by_index 1 24 (shifted way first last
-            (looks_in self.old (leaving_row way first last)) (looks_in self.old)) }
-        ensures rows { (r : ℕ) → 1 ≤ r → r ≤ 24 → looks_in self.new r ≡ shifted way first last
-            (looks_in self.old (leaving_row way first last)) (looks_in self.old) r }
-        ensures whole { IsTable self.new }
-    {
-        self.order.turn(first, last, way);
+        let (above, below) = self.rows.split_at_mut(from.index());
+        above[row.index()].copy_from(&below[0]);
     }
 
     /// Takes over the look at a place from the looks of its row.
@@ -132,7 +108,7 @@ impl KeptRows {
         ensures { self.new
             ≡ grid_with_paint self.old place (column_entry blank_look from.now place.column) }
     {
-        self.rows[self.order.index(place.row())].copy_at(place.in_column(), from);
+        self.rows[place.in_row().index()].copy_at(place.in_column(), from);
     }
 
     /// Takes over the looks of the flagged columns of a row from another's.
@@ -142,7 +118,7 @@ impl KeptRows {
             (row_of (look_after flags.now (column_entry blank_look from.now) (looks_in self.old row))) }
     {
         self.whole_by_type();
-        self.rows[self.order.index(row.number())].copy_flagged(flags, from);
+        self.rows[row.index()].copy_flagged(flags, from);
     }
 
     /// Resolves the cell at a place by itself, by what its row is made of, and keeps its look. Answers
@@ -160,7 +136,7 @@ impl KeptRows {
         ensures on_screen { OnScreen place.row place.column }
         ensures tick { steps.new ≡ steps.old + 1 }
     {
-        let kept = &mut self.rows[self.order.index(place.row())];
+        let kept = &mut self.rows[place.in_row().index()];
         kept.resolve_alone(place.in_column(), source, steps)
     }
 
@@ -180,7 +156,7 @@ impl KeptRows {
         ensures tick { steps.new ≡ steps.old + 1 }
     {
         self.whole_by_type();
-        let kept = &mut self.rows[self.order.index(row.number())];
+        let kept = &mut self.rows[row.index()];
         kept.resolve_columns(flags, source, steps)
     }
 }

@@ -13,7 +13,7 @@
 //!   - every cell of the row stands alone: the places that name it (`refresh_places`)
 //!   - else: the whole row, and the rows below
 //! - any others: all rows in reach (`redraw_rows`)
-//!   - one moved rows: first their looks move along (`move_rows`)
+//!   - one moved rows: their looks move along (`move_rows`)
 //!   - none did: the looks stay in their rows (`refresh_rows`)
 //!
 //! A cell *stands alone* where its look depends on no other. *The rows below* are resolved only as long as each is
@@ -28,6 +28,7 @@ mod kept_rows;
 mod law;
 mod marks;
 mod moved_rows;
+mod passed_rows;
 mod picture;
 mod redefined_places;
 mod redefined_rows;

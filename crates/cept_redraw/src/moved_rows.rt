@@ -1,45 +1,29 @@
-ghost use Rattle.std.specs.Prelude.{◌≡◌, ◌≤◌, ◌-◌, ℕ, false, true, length, Some, None, IfSome};
-ghost use Rattle.std.specs.List.{AllByRecursion};
-ghost use Rattle.cept_codes.specs.Stroke.{IsRow, IsValidStroke};
+ghost use Rattle.std.specs.Prelude.{◌≡◌, ◌≤◌, ◌+◌, ◌-◌, ◌==◌, ℕ, false, true, length, None, IfSome};
+ghost use Rattle.std.specs.Prelude.{if◌then◌else◌};
+ghost use Rattle.cept_codes.specs.Stroke.{IsRow};
 ghost use Rattle.cept_codes.specs.Table.{entry};
-ghost use Rattle.cept_profile.specs.MovedRows.{row_before};
 ghost use Rattle.cept_profile.specs.RowsFromAbove.{looks_in};
 ghost use Rattle.cept_redraw.specs.Due.{came_from, row_from};
 ghost use Rattle.cept_redraw.specs.Kept.{is_other_above};
-ghost use Rattle.cept_redraw.specs.Marks.{no_marks};
-ghost use Rattle.cept_redraw.specs.Picture.{AreOthersKept, HasSameRest, IsRefreshedOn};
+ghost use Rattle.cept_redraw.specs.Passed.{looks_back, stood_in, GoDownByOne, HasTaken, NoneLooksBack};
+ghost use Rattle.cept_redraw.specs.Picture.{AreLooksRefreshed, MayBeRefreshed};
 
 use crate::compared_rows::{covers_otherwise, mark_differences};
 use crate::followed_rows::Followed;
 use crate::kept_rows::KeptRows;
 use crate::marks::Marks;
+use crate::passed_rows::Passed;
 use crate::picture::Picture;
 use crate::resolved_rows::resolve_row;
-use cept_codes::{Row, Stroke};
+use cept_codes::Row;
 use cept_control::Edges;
 use cept_outside::Steps;
+use cept_rows::RowLooks;
 use std::sync::ledger::Ledger;
-
-/// The looks of rows that strokes move go with their rows.
-pub(crate) fn turn_rows(strokes: &[Stroke], kept: &mut KeptRows)
-    requires { AllByRecursion IsValidStroke strokes.now }
-    ensures { (r q : ℕ) → 1 ≤ r → r ≤ 24 → row_before strokes.now r ≡ Some q
-        → looks_in kept.new r ≡ looks_in kept.old q }
-{
-    for stroke in strokes {
-        match stroke {
-            Stroke::Shift(first, last, way) | Stroke::Carry(first, last, way) => {
-                kept.turn(*first, *last, *way);
-            }
-            _ => {}
-        }
-    }
-}
 
 impl Picture {
     /// Resolves the flagged rows and those that are covered otherwise than before, from the top, where
-    /// rows moved: the looks that stood before are kept apart, and those of rows that came of others
-    /// have moved with them.
+    /// rows moved: the looks of the others go with their rows.
     pub(crate) fn move_rows<L: Ledger>(
         &mut self,
         rows: &[Followed; 24],
@@ -50,31 +34,27 @@ impl Picture {
     )
         requires rows { length rows.now ≡ 24 }
         requires flags { length flags.now ≡ 24 }
-        requires none { marks.old ≡ no_marks }
+        requires may { MayBeRefreshed flags.now rows.now self.old edges.now marks.old }
         requires came { (r : ℕ) → 1 ≤ r → r ≤ 24 → IfSome (row_from rows.now r) IsRow }
+        requires low { GoDownByOne rows.now }
         requires freed { (r : ℕ) → 1 ≤ r → r ≤ 24 → row_from rows.now r ≡ None
             → entry false 1 flags.now r ≡ true }
-        requires moved { (r q : ℕ) → 1 ≤ r → r ≤ 24 → row_from rows.now r ≡ Some q
-            → looks_in self.old.looks r ≡ looks_in self.old.stood q }
-        requires others { AreOthersKept flags.now rows.now self.old.stood self.old.page edges.now }
-        ensures rest { HasSameRest self.old self.new }
-        ensures refreshed { IsRefreshedOn flags.now rows.now self.old.stood edges.now self.new marks.new
-            steps.old steps.new }
+        ensures { AreLooksRefreshed flags.now rows.now edges.now self.old self.new marks.new steps.old steps.new }
     {
         let page = &self.page;
-        let stood = &self.stood;
         let looks = &mut self.looks;
         let fresh = &mut self.fresh;
+        let passed = &mut self.passed;
         looks.whole_by_type();
-        stood.whole_by_type();
+        let back = one_looks_back(rows);
+        passed.begin(looks);
         let mut above = 0;
         let mut covered = false;
         for row in 1..25u8 {
             let here = Row::numbered(row);
             let at = usize::from(row) - 1;
             let from = came_from(rows[at].from, row);
-            covered = is_covered(from, above, covered, stood, looks, row);
-            if flags[at] | covered {
+            if flags[at] || is_covered(from, above, covered, passed, looks, row) {
                 resolve_row(
                     page,
                     here,
@@ -83,12 +63,41 @@ impl Picture {
                     fresh,
                     steps,
                 );
-                looks.copy_row(here, fresh);
-                covered = covers_otherwise(stood.row(Row::numbered(from)), looks.row(here));
+                covered = covers_otherwise(passed.stood(looks, row, from), fresh);
+                take_anew(here, fresh, back, looks, passed, marks);
+            } else {
+                covered = false;
+                bring_row(here, from, back, fresh, looks, passed, marks);
             }
-            mark_differences(here, stood.row(here), looks.row(here), marks);
             above = from;
         }
+    }
+}
+
+/// Whether a row came of one above it, or of itself beneath one that came of another: what stood above
+/// it is then asked for when it is passed.
+fn one_looks_back(rows: &[Followed; 24]) -> bool
+    requires { length rows.now ≡ 24 }
+    ensures { result ≡ false → NoneLooksBack rows.now }
+{
+    let mut above = 0;
+    for row in 1..25u8 {
+        let at = usize::from(row) - 1;
+        if looks_back(rows[at].from, row, above) {
+            return true;
+        }
+        above = came_from(rows[at].from, row);
+    }
+    false
+}
+
+/// Whether this one does, beneath a row that came of that one.
+fn looks_back(from: Option<Row>, row: u8, above: u8) -> bool
+    ensures { result ≡ looks_back from row above }
+{
+    match from {
+        Some(from) => from.number() < row || (from.number() == row && above != row - 1),
+        None => false,
     }
 }
 
@@ -108,26 +117,68 @@ fn came_from(from: Option<Row>, row: u8) -> u8
 /// Whether a row is covered otherwise than the row before was of which it came: as is known, where
 /// the row above came of the row above that one, else by the looks that stood above that one and are
 /// above it.
-fn is_covered(
-    from: u8,
-    above: u8,
-    covered: bool,
-    stood: &KeptRows,
-    kept: &KeptRows,
-    row: u8,
-) -> bool
+fn is_covered(from: u8, above: u8, covered: bool, passed: &Passed, kept: &KeptRows, row: u8) -> bool
     requires came { IsRow from }
+    requires low { row ≤ from + 1 }
     requires from_top { 1 ≤ row }
     requires to_bottom { row ≤ 24 }
-    requires known { covered ≡ is_other_above (looks_in stood.now above) (looks_in kept.now (row - 1)) }
-    ensures { result ≡ is_other_above (looks_in stood.now (from - 1)) (looks_in kept.now (row - 1)) }
+    ensures { result ≡ (if from - 1 == above then covered else
+        is_other_above (stood_in passed.now kept.now row (from - 1)) (looks_in kept.now (row - 1))) }
 {
     if from - 1 == above {
         covered
     } else {
         covers_otherwise(
-            stood.above(Row::numbered(from)),
+            passed.stood(kept, row, from - 1),
             kept.above(Row::numbered(row)),
         )
+    }
+}
+
+/// A row takes these looks, and the places at which they differ from those before are marked. What stood
+/// in it is passed, where it may be asked for.
+fn take_anew(
+    row: Row,
+    looks: &RowLooks,
+    back: bool,
+    kept: &mut KeptRows,
+    passed: &mut Passed,
+    marks: &mut Marks,
+)
+    ensures { HasTaken looks.now row back kept.old kept.new passed.old passed.new marks.old marks.new }
+{
+    mark_differences(row, kept.row(row), looks, marks);
+    if back {
+        passed.pass(kept.row(row));
+    }
+    kept.copy_row(row, looks);
+}
+
+/// A row takes the looks that stood in the row of which it came, which is no further than one above it.
+fn bring_row(
+    row: Row,
+    from: u8,
+    back: bool,
+    fresh: &mut RowLooks,
+    kept: &mut KeptRows,
+    passed: &mut Passed,
+    marks: &mut Marks,
+)
+    requires came { IsRow from }
+    requires low { row ≤ from + 1 }
+    ensures { HasTaken (stood_in passed.old kept.old row from) row back kept.old kept.new passed.old passed.new
+        marks.old marks.new }
+{
+    let number = row.number();
+    if from > number {
+        let source = Row::numbered(from);
+        mark_differences(row, kept.row(row), kept.row(source), marks);
+        if back {
+            passed.pass(kept.row(row));
+        }
+        kept.copy_up(row, source);
+    } else {
+        fresh.copy_from(passed.stood(kept, number, from));
+        take_anew(row, fresh, back, kept, passed, marks);
     }
 }

@@ -6,20 +6,21 @@ ghost use Rattle.cept_redraw.specs.Named.{AreNamed};
 
 use crate::kept_names::KeptNames;
 use crate::kept_rows::KeptRows;
+use crate::passed_rows::Passed;
 use cept_codes::NoMemory;
 use cept_page::Page;
 use cept_rows::RowLooks;
 use std::alloc::Global;
 
-/// A page, the looks that are kept of it, and what its rows name. Beside these there is room for the
-/// looks that stood before rows moved, and for a row while it is resolved.
+/// A page, the looks that are kept of it, and what its rows name. Beside these there is room for a row
+/// while it is resolved, and for two rows as they stood before rows moved.
 #[derive(Drop)]
 pub struct Picture {
     pub page: Page,
     pub looks: KeptRows,
-    pub(crate) stood: KeptRows,
     pub names: KeptNames,
     pub(crate) fresh: RowLooks,
+    pub(crate) passed: Passed,
 }
 
 impl Picture {
@@ -31,13 +32,12 @@ impl Picture {
     {
         let page = Page::new(alloc)?;
         let looks = KeptRows::new(alloc)?;
-        let stood = KeptRows::new(alloc)?;
         Ok(Picture {
             page,
             looks,
-            stood,
             names: KeptNames::new(),
             fresh: RowLooks::flat(),
+            passed: Passed::new(),
         })
     }
 }

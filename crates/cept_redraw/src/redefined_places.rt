@@ -10,9 +10,8 @@ ghost use Rattle.cept_profile.specs.Tiling.{column_entry};
 ghost use Rattle.cept_profile.specs.Valid.{IsValidPage};
 ghost use Rattle.cept_redraw.specs.Due.{at_rest};
 ghost use Rattle.cept_redraw.specs.Kept.{IsRefreshedRow, look_alone};
-ghost use Rattle.cept_redraw.specs.Marks.{no_marks};
 ghost use Rattle.cept_redraw.specs.Named.{row_named};
-ghost use Rattle.cept_redraw.specs.Picture.{AreOthersKept, HasSameRest, IsRefreshedOn};
+ghost use Rattle.cept_redraw.specs.Picture.{AreLooksRefreshed, HasSameRest, MayBeRefreshed};
 ghost use Rattle.cept_redraw.specs.Redefined.{OtherPlacesStay, is_place_redefined, places_resolved, redefines_place};
 ghost use Rattle.cept_rows.specs.KeptNames.{names_kept};
 
@@ -40,12 +39,9 @@ impl Picture {
     )
         requires each { AllByRecursion IsValidStroke strokes.now }
         requires flags { length flags.now ≡ 24 }
-        requires none { marks.old ≡ no_marks }
-        requires others { AreOthersKept flags.now at_rest self.old.looks self.old.page edges.now }
+        requires may { MayBeRefreshed flags.now at_rest self.old edges.now marks.old }
         requires places { OtherPlacesStay strokes.now self.old.names self.old.looks self.old.page }
-        ensures rest { HasSameRest self.old self.new }
-        ensures refreshed { IsRefreshedOn flags.now at_rest self.old.looks edges.now self.new marks.new
-            steps.old steps.new }
+        ensures { AreLooksRefreshed flags.now at_rest edges.now self.old self.new marks.new steps.old steps.new }
     {
         self.looks.whole_by_type();
         let mut covered = false;
@@ -54,7 +50,7 @@ impl Picture {
             let flag = flags[usize::from(row) - 1];
             let alone = flag & !covered & self.page.stands_alone(here);
             if alone {
-                self.refresh_places(row, strokes, marks, steps);
+                self.refresh_places(here, strokes, marks, steps);
             } else if flag | covered {
                 covered = self.refresh_row(row, edges.is_last(row), marks, steps);
             }
@@ -65,13 +61,11 @@ impl Picture {
     /// marks those that differ from the ones before. One tick.
     fn refresh_places<L: Ledger>(
         &mut self,
-        row: u8,
+        row: Row,
         strokes: &[Stroke],
         marks: &mut Marks,
         steps: &mut Steps<L>,
     )
-        requires from_top { 1 ≤ row }
-        requires to_bottom { row ≤ 24 }
         requires valid { IsValidPage self.old.page }
         requires each { AllByRecursion IsValidStroke strokes.now }
         ensures rest { HasSameRest self.old self.new }
@@ -80,10 +74,11 @@ impl Picture {
         ensures tick { steps.new ≡ steps.old + 1 }
     {
         self.looks.whole_by_type();
-        let at = Row::numbered(row);
-        let flags = places_redefined(strokes, self.names.row(at), self.looks.row(at));
+        // Tells the prover that the row is one.
+        let _number = row.number();
+        let flags = places_redefined(strokes, self.names.row(row), self.looks.row(row));
         let differ = resolve_columns(&self.page, row, &flags, &mut self.looks, steps);
-        marks.mark_row(at, &differ);
+        marks.mark_row(row, &differ);
     }
 }
 
@@ -91,14 +86,12 @@ impl Picture {
 /// whether its look differs from the one before. One tick.
 fn resolve_columns<L: Ledger>(
     page: &Page,
-    row: u8,
+    row: Row,
     flags: &[bool; 40],
     kept: &mut KeptRows,
     steps: &mut Steps<L>,
 ) -> [bool; 40]
-    requires from_top { 1 ≤ row }
-    requires to_bottom { row ≤ 24 }
-    requires valid { IsValidPage page.now }
+    requires { IsValidPage page.now }
     ensures looks { kept.new ≡ slice_set kept.old (row - 1) (row_of (λ c. if entry false 1 flags.now c
         then look_alone page.now (record { row = row; column = c })
         else column_entry blank_look (looks_in kept.old row) c)) }
@@ -107,8 +100,7 @@ fn resolve_columns<L: Ledger>(
         (column_entry blank_look (looks_in kept.new row) c))) }
     ensures tick { steps.new ≡ steps.old + 1 }
 {
-    let at = Row::numbered(row);
-    kept.resolve_columns(at, flags, &row_source(page, at), steps)
+    kept.resolve_columns(row, flags, &row_source(page, row), steps)
 }
 
 /// For each column of a row with these names and looks, whether one of the strokes may define anew what

@@ -13,18 +13,18 @@ ghost use Rattle.cept_profile.specs.Valid.{IsValidPage};
 ghost use Rattle.cept_page.specs.Parts.{pens_of};
 ghost use Rattle.cept_page.specs.MarkedRows.{StandsAlone};
 ghost use Rattle.cept_redraw.specs.Due.{at_rest, followed, is_altered, rows_due};
-ghost use Rattle.cept_redraw.specs.Kept.{AreEdges, OthersStay, core_on, look_alone, is_other_look};
+ghost use Rattle.cept_redraw.specs.Kept.{OthersStay, core_on, look_alone, is_other_look};
 ghost use Rattle.cept_redraw.specs.Marks.{no_marks};
 ghost use Rattle.cept_redraw.specs.Named.{AreAllKnown, AreJustRemembered, IsStill, IsUnmarkedBelow};
-ghost use Rattle.cept_redraw.specs.Picture.{AreDrawable, AreOthersKept, AreTicksOf, IsKeptOn, IsNotedAlong};
-ghost use Rattle.cept_redraw.specs.Picture.{IsRedrawn, IsRefreshedOn, StaysAround};
+ghost use Rattle.cept_redraw.specs.Picture.{AreDrawable, AreTicksOf, IsKeptOn, IsNotedAlong, IsRedrawn};
+ghost use Rattle.cept_redraw.specs.Picture.{IsRedrawnAlong, IsRefreshedOn, MayBeRedrawn, MayBeRefreshedDown};
+ghost use Rattle.cept_redraw.specs.Picture.{just_row};
 ghost use Rattle.cept_redraw.specs.Resolved.{one_else};
 
 use crate::altered_rows::{only_put, rows_altered};
 use crate::followed_rows::{follow_rows, one_else, one_moved};
 use crate::kept_rows::KeptRows;
 use crate::marks::Marks;
-use crate::moved_rows::turn_rows;
 use crate::picture::Picture;
 use crate::redefined_rows::rows_redefined;
 use crate::resolved_rows::row_source;
@@ -50,13 +50,9 @@ impl Picture {
         noter: &mut N,
         steps: &mut Steps<L>,
     )
-        requires kept { IsKeptOn self.old before.now }
-        requires to { AreEdges after.now }
-        requires strokes { AreDrawable strokes.now self.old.page }
-        ensures redrawn { IsRedrawn strokes.now after.now self.old self.new marks.new }
-        ensures ticks { AreTicksOf strokes.now before.now after.now self.old self.new steps.old steps.new }
-        ensures noted { IsNotedAlong strokes.now (N.noted noter.old) self.old.page (N.noted noter.new)
-            self.new.page }
+        requires { MayBeRedrawn strokes.now before.now after.now self.old }
+        ensures { IsRedrawnAlong strokes.now before.now after.now self.old self.new marks.new steps.old
+            steps.new (N.noted noter.old) (N.noted noter.new) }
     {
         marks.clear();
         if !before.is_same(after) {
@@ -125,12 +121,9 @@ impl Picture {
         steps: &mut Steps<L>,
     )
         requires none { marks.old ≡ no_marks }
-        requires kept { IsKeptOn self.old edges.now }
-        requires strokes { AreDrawable strokes.now self.old.page }
-        ensures redrawn { IsRedrawn strokes.now edges.now self.old self.new marks.new }
-        ensures ticks { AreTicksOf strokes.now edges.now edges.now self.old self.new steps.old steps.new }
-        ensures noted { IsNotedAlong strokes.now (N.noted noter.old) self.old.page (N.noted noter.new)
-            self.new.page }
+        requires may { MayBeRedrawn strokes.now edges.now edges.now self.old }
+        ensures { IsRedrawnAlong strokes.now edges.now edges.now self.old self.new marks.new steps.old
+            steps.new (N.noted noter.old) (N.noted noter.new) }
     {
         if one_else(strokes) {
             self.redraw_rows(strokes, edges, edges, marks, noter, steps);
@@ -153,9 +146,7 @@ impl Picture {
         steps: &mut Steps<L>,
     )
         requires none { marks.old ≡ no_marks }
-        requires kept { IsKeptOn self.old before.now }
-        requires to { AreEdges after.now }
-        requires strokes { AreDrawable strokes.now self.old.page }
+        requires may { MayBeRedrawn strokes.now before.now after.now self.old }
         ensures redrawn { IsRedrawn strokes.now after.now self.old self.new marks.new }
         ensures noted { IsNotedAlong strokes.now (N.noted noter.old) self.old.page (N.noted noter.new)
             self.new.page }
@@ -171,8 +162,6 @@ impl Picture {
         let rows = follow_rows(strokes);
         let altered = rows_altered(strokes, &rows, &was, before, &self.page, after);
         if one_moved(&rows) {
-            self.stood.copy_from(&self.looks);
-            turn_rows(strokes, &mut self.looks);
             self.move_rows(&rows, &altered, after, marks, steps);
         } else {
             self.refresh_rows(&altered, after, marks, steps);
@@ -192,13 +181,10 @@ impl Picture {
         steps: &mut Steps<L>,
     )
         requires none { marks.old ≡ no_marks }
-        requires kept { IsKeptOn self.old edges.now }
-        requires strokes { AreDrawable strokes.now self.old.page }
+        requires may { MayBeRedrawn strokes.now edges.now edges.now self.old }
         requires define { one_else strokes.now ≡ false }
-        ensures redrawn { IsRedrawn strokes.now edges.now self.old self.new marks.new }
-        ensures ticks { AreTicksOf strokes.now edges.now edges.now self.old self.new steps.old steps.new }
-        ensures noted { IsNotedAlong strokes.now (N.noted noter.old) self.old.page (N.noted noter.new)
-            self.new.page }
+        ensures done { IsRedrawnAlong strokes.now edges.now edges.now self.old self.new marks.new steps.old
+            steps.new (N.noted noter.old) (N.noted noter.new) }
         ensures known { AreAllKnown self.new.names }
     {
         self.names.find(&self.page, &self.looks);
@@ -220,17 +206,10 @@ impl Picture {
         marks: &mut Marks,
         steps: &mut Steps<L>,
     )
-        requires from_top { 1 ≤ row }
-        requires to_bottom { row ≤ 24 }
-        requires from_left { 1 ≤ from }
-        requires to_right { from ≤ 40 }
-        requires none { marks.old ≡ no_marks }
-        requires around { StaysAround row from until self.old edges.now }
-        requires others { AreOthersKept (list_by_index 1 24 (λ q. row == q)) at_rest self.old.looks
-            self.old.page edges.now }
+        requires { MayBeRefreshedDown row from until self.old edges.now marks.old }
         ensures page { self.new.page ≡ self.old.page }
-        ensures refreshed { IsRefreshedOn (list_by_index 1 24 (λ q. row == q)) at_rest self.old.looks edges.now
-            self.new marks.new steps.old steps.new }
+        ensures refreshed { IsRefreshedOn (just_row row) at_rest self.old.looks edges.now self.new marks.new
+            steps.old steps.new }
         ensures remembered { AreJustRemembered self.old.names self.new.names
             (λ r. (r ≢ row) × IsUnmarkedBelow marks.new 960 r) }
     {
@@ -254,7 +233,8 @@ impl Picture {
         self.looks.whole_by_type();
         marks.places_by_type();
         self.names.forget(place.in_row());
-        if resolve_alone(&self.page, place, &mut self.looks, steps) {
+        let source = row_source(&self.page, place.in_row());
+        if self.looks.resolve_alone(place, &source, steps) {
             marks.mark(place);
         }
     }
@@ -266,21 +246,4 @@ fn last_otherwise(column: u8, among: bool) -> u8
     ensures { result ≡ (if among then column else 41) }
 {
     if among { column } else { 41 }
-}
-
-/// Resolves one cell by itself, and keeps its look. Answers whether it differs from the one before.
-/// One tick.
-fn resolve_alone<L: Ledger>(
-    page: &Page,
-    place: Pos,
-    kept: &mut KeptRows,
-    steps: &mut Steps<L>,
-) -> bool
-    requires { IsValidPage page.now }
-    ensures looks { kept.new ≡ grid_with_paint kept.old place (look_alone page.now place) }
-    ensures differs { result ≡ is_other_look (look_at kept.old place) (look_alone page.now place) }
-    ensures on_screen { OnScreen place.row place.column }
-    ensures tick { steps.new ≡ steps.old + 1 }
-{
-    kept.resolve_alone(place, &row_source(page, place.in_row()), steps)
 }

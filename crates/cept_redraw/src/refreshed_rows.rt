@@ -1,16 +1,15 @@
 //! Rows of a picture resolved anew: from the top, or from one row down as long as the next is covered
 //! otherwise than before.
 
-ghost use Rattle.std.specs.Prelude.{◌≡◌, ◌≤◌, ◌<◌, ◌+◌, ◌-◌, ◌==◌, ℕ, false, length, slice_set};
+ghost use Rattle.std.specs.Prelude.{◌≡◌, ◌≤◌, ◌<◌, ◌+◌, ◌-◌, ℕ, false, length, slice_set};
 ghost use Rattle.cept_codes.specs.Look.{blank_look};
-ghost use Rattle.cept_codes.specs.Table.{list_by_index};
 ghost use Rattle.cept_profile.specs.RowsFromAbove.{looks_in};
 ghost use Rattle.cept_profile.specs.Tiling.{column_entry};
 ghost use Rattle.cept_profile.specs.Valid.{IsValidPage};
 ghost use Rattle.cept_redraw.specs.Due.{at_rest};
 ghost use Rattle.cept_redraw.specs.Kept.{is_other_above, row_beneath, IsLeftOf, IsRefreshedRow, IsRightOf};
-ghost use Rattle.cept_redraw.specs.Marks.{no_marks};
-ghost use Rattle.cept_redraw.specs.Picture.{AreOthersKept, HasSameRest, IsRefreshedOn, StaysAround};
+ghost use Rattle.cept_redraw.specs.Picture.{AreLooksRefreshed, IsRowRenewed, MayBeRefreshed, MayBeRefreshedDown};
+ghost use Rattle.cept_redraw.specs.Picture.{just_row};
 ghost use Rattle.cept_rows.specs.RowsByCell.{FollowsToTheRight};
 
 use crate::compared_rows::mark_differences_between;
@@ -43,11 +42,8 @@ impl Picture {
         steps: &mut Steps<L>,
     )
         requires flags { length flags.now ≡ 24 }
-        requires none { marks.old ≡ no_marks }
-        requires others { AreOthersKept flags.now at_rest self.old.looks self.old.page edges.now }
-        ensures rest { HasSameRest self.old self.new }
-        ensures refreshed { IsRefreshedOn flags.now at_rest self.old.looks edges.now self.new marks.new
-            steps.old steps.new }
+        requires may { MayBeRefreshed flags.now at_rest self.old edges.now marks.old }
+        ensures { AreLooksRefreshed flags.now at_rest edges.now self.old self.new marks.new steps.old steps.new }
     {
         self.looks.whole_by_type();
         let mut covered = false;
@@ -72,17 +68,9 @@ impl Picture {
         marks: &mut Marks,
         steps: &mut Steps<L>,
     )
-        requires from_top { 1 ≤ row }
-        requires to_bottom { row ≤ 24 }
-        requires from_left { 1 ≤ from }
-        requires to_right { from ≤ 40 }
-        requires none { marks.old ≡ no_marks }
-        requires around { StaysAround row from until self.old edges.now }
-        requires others { AreOthersKept (list_by_index 1 24 (λ q. row == q)) at_rest self.old.looks
-            self.old.page edges.now }
-        ensures rest { HasSameRest self.old self.new }
-        ensures refreshed { IsRefreshedOn (list_by_index 1 24 (λ q. row == q)) at_rest self.old.looks edges.now
-            self.new marks.new steps.old steps.new }
+        requires { MayBeRefreshedDown row from until self.old edges.now marks.old }
+        ensures { AreLooksRefreshed (just_row row) at_rest edges.now self.old self.new marks.new steps.old
+            steps.new }
     {
         self.looks.whole_by_type();
         let mut first = from;
@@ -110,11 +98,7 @@ impl Picture {
         requires from_top { 1 ≤ row }
         requires to_bottom { row ≤ 24 }
         requires valid { IsValidPage self.old.page }
-        ensures rest { HasSameRest self.old self.new }
-        ensures refreshed { IsRefreshedRow (row_beneath (looks_in self.old.looks (row - 1)) self.old.page row last)
-            row self.old.looks self.new.looks marks.old marks.new }
-        ensures covering { result ≡ is_other_above (looks_in self.old.looks row) (looks_in self.new.looks row) }
-        ensures tick { steps.new ≡ steps.old + 1 }
+        ensures { IsRowRenewed row last self.old self.new marks.old marks.new result steps.old steps.new }
     {
         let at = Row::numbered(row);
         resolve_row(
@@ -126,7 +110,7 @@ impl Picture {
             steps,
         );
         take_row(
-            row,
+            at,
             Column::numbered(1),
             40,
             &self.fresh,
@@ -155,13 +139,10 @@ impl Picture {
             (row_beneath (looks_in self.old.looks (row - 1)) self.old.page row last) }
         requires right { FollowsToTheRight until (column_entry blank_look (looks_in self.old.looks row))
             (column_entry blank_look (row_beneath (looks_in self.old.looks (row - 1)) self.old.page row last)) }
-        ensures rest { HasSameRest self.old self.new }
-        ensures refreshed { IsRefreshedRow (row_beneath (looks_in self.old.looks (row - 1)) self.old.page row last)
-            row self.old.looks self.new.looks marks.old marks.new }
-        ensures covering { result.covering ≡ is_other_above (looks_in self.old.looks row) (looks_in self.new.looks row) }
+        ensures row { IsRowRenewed row last self.old self.new marks.old marks.new result.covering steps.old
+            steps.new }
         ensures to_right { result.end ≤ 40 }
         ensures stays { IsRightOf result.end (looks_in self.old.looks row) (looks_in self.new.looks row) }
-        ensures tick { steps.new ≡ steps.old + 1 }
     {
         let at = Row::numbered(row);
         let first = Column::numbered(from);
@@ -175,7 +156,7 @@ impl Picture {
             &mut self.fresh,
             steps,
         );
-        let covering = take_row(row, first, end, &self.fresh, &mut self.looks, marks);
+        let covering = take_row(at, first, end, &self.fresh, &mut self.looks, marks);
         Refreshed { covering, end }
     }
 }
@@ -195,15 +176,13 @@ fn to_the_left(column: u8) -> u8
 /// the same to the left of a column and to the right of another. Answers whether what covers the row below
 /// differs.
 fn take_row(
-    row: u8,
+    row: Row,
     from: Column,
     until: u8,
     looks: &RowLooks,
     kept: &mut KeptRows,
     marks: &mut Marks,
 ) -> bool
-    requires from_top { 1 ≤ row }
-    requires to_bottom { row ≤ 24 }
     requires order { from ≤ until + 1 }
     requires to_right { until ≤ 40 }
     requires left { IsLeftOf from (looks_in kept.old row) looks.now }
@@ -213,20 +192,21 @@ fn take_row(
 {
     kept.whole_by_type();
     looks.columns_by_type();
-    let at = Row::numbered(row);
-    let found = mark_differences_between(at, from, until, kept.row(at), looks, marks);
+    // Tells the prover that the row is one.
+    let _number = row.number();
+    let found = mark_differences_between(row, from, until, kept.row(row), looks, marks);
     keep_row(row, looks, found.any, kept);
     found.covering
 }
 
 /// Keeps these looks of a row, where they aren't known to be those that it has.
-fn keep_row(row: u8, looks: &RowLooks, differ: bool, kept: &mut KeptRows)
-    requires from_top { 1 ≤ row }
-    requires to_bottom { row ≤ 24 }
-    requires same { differ ≡ false → looks_in kept.old row ≡ looks.now }
+fn keep_row(row: Row, looks: &RowLooks, differ: bool, kept: &mut KeptRows)
+    requires { differ ≡ false → looks_in kept.old row ≡ looks.now }
     ensures { kept.new ≡ slice_set kept.old (row - 1) looks.now }
 {
+    // Tells the prover that the row is one.
+    let _number = row.number();
     if differ {
-        kept.copy_row(Row::numbered(row), looks);
+        kept.copy_row(row, looks);
     }
 }

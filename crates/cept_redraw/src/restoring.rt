@@ -1,13 +1,10 @@
 ghost use Rattle.std.specs.Prelude.{◌≡◌, ◌≤◌, ◌+◌, [], length};
 ghost use Rattle.cept_codes.specs.Table.{list_by_index};
-ghost use Rattle.cept_profile.specs.OldValues.{page_unwound};
-ghost use Rattle.cept_profile.specs.Valid.{IsValidPage};
 ghost use Rattle.cept_delta.specs.Exchanged.{page_exchanged};
 ghost use Rattle.cept_delta.specs.Noted.{notes_screen};
 ghost use Rattle.cept_redraw.specs.Due.{at_rest};
-ghost use Rattle.cept_redraw.specs.Kept.{AreEdges};
 ghost use Rattle.cept_redraw.specs.Named.{AreNamedOn};
-ghost use Rattle.cept_redraw.specs.Picture.{AreOthersKept, IsKeptOn, IsRefreshedOn, IsRestored};
+ghost use Rattle.cept_redraw.specs.Picture.{AreOthersKept, IsRefreshedOn, IsRestored, MayBeRestored};
 ghost use Rattle.cept_redraw.specs.Renewed.{rows_renewed};
 ghost use Rattle.cept_redraw.specs.Restored.{is_unwound};
 
@@ -31,9 +28,7 @@ impl Picture {
         marks: &mut Marks,
         steps: &mut Steps<L>,
     )
-        requires kept { IsKeptOn self.old before.now }
-        requires to { AreEdges after.now }
-        requires valid { IsValidPage (page_unwound self.old.page delta.now) }
+        requires { MayBeRestored delta.now before.now after.now self.old }
         ensures { IsRestored delta.now before.now after.now self.old self.new marks.new
             steps.old steps.new }
     {
@@ -51,9 +46,7 @@ impl Picture {
         marks: &mut Marks,
         steps: &mut Steps<L>,
     )
-        requires kept { IsKeptOn self.old before.now }
-        requires to { AreEdges after.now }
-        requires valid { IsValidPage (page_unwound self.old.page delta.old) }
+        requires { MayBeRestored delta.old before.now after.now self.old }
         ensures restored { IsRestored delta.old before.now after.now self.old self.new marks.new
             steps.old steps.new }
         ensures noted { delta.new ≡ page_exchanged self.old.page delta.old }

@@ -8,6 +8,7 @@ use Rattle.cept_codes.specs.Stroke.{IsValidStroke}
 use Rattle.cept_profile.specs.Control.{ControlState, control_after}
 use Rattle.cept_profile.specs.Edges.{Edges, edges_of}
 use Rattle.cept_profile.specs.Look.{looks_of}
+use Rattle.cept_profile.specs.MovedRows.{row_before}
 use Rattle.cept_profile.specs.OldValues.{OldValues, page_unwound}
 use Rattle.cept_profile.specs.Reach.{rows_in_reach}
 use Rattle.cept_profile.specs.State.{Page, State, core_of, page_after, state_after}
@@ -23,6 +24,7 @@ use Rattle.cept_repaint.specs.Kept.{state_of_parts, IsKept}
 use Rattle.cept_repaint.proofs.KeptAfter.{AreEdges-state, AreLooksOn-state, AreNamed-drawn, AreNamedOn-state}
 use Rattle.cept_repaint.proofs.KeptAfter.{IsKept-state_after, looks_of-drawn, marks-kept, renewed-of, resolved-of}
 use Rattle.cept_repaint.proofs.KeptAfter.{state_after-drawn}
+use Rattle.cept_repaint.proofs.LowMoves.{low-strokes_of}
 use Rattle.cept_repaint.proofs.NotedCommands.{noted-strokes_of}
 use Rattle.cept_repaint.proofs.UnwoundStates.{rows_unwound-le, renewed-kept, rows_restored-of, state_unwound, valid_unwound}
 
@@ -48,6 +50,8 @@ AreDrawable-command p c state command valid strokes items same each es = record 
   each = subst (λ (xs : List Stroke). AllByRecursion IsValidStroke xs) (sym same) each;
   valid = subst (λ (xs : List Stroke). IsValidPage (page_after p xs)) (sym (same ∙ es))
       (IsValidState-state_after (state_of_parts p c) command state valid).page;
+  low = λ r q from_top to_bottom came.
+      low-strokes_of c command r q (ap (λ (xs : List Stroke). row_before xs r) (sym (same ∙ es)) ∙ came);
 }
 
 pub IsKept-redrawn : {was now : Picture} {c d : ControlState} {strokes : List Stroke} {edges : Edges} {marked : List Bool}

@@ -2,6 +2,7 @@ mod AppliedCommands
 mod KeptAfter
 mod KeptPictures
 mod LooksSeen
+mod LowMoves
 mod MixedCommands
 mod MovedEdges
 mod NotedCommands

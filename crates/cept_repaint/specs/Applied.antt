@@ -1,5 +1,5 @@
 -- A command applied to a screen, and a change of a screen repainted (this project's own).
-use Rattle.std.specs.Prelude.{ℕ, ◌≡◌, ◌≤◌, ◌+◌, Bool, List, [], ◌∷◌, ◌++◌}
+use Rattle.std.specs.Prelude.{ℕ, ◌≡◌, ◌≤◌, ◌+◌, Bool, List, [], ◌∷◌, ◌++◌, Option}
 use Rattle.cept_codes.specs.declared.command.Command.{Command}
 use Rattle.cept_codes.specs.declared.look.Look.{Look}
 use Rattle.cept_codes.specs.Place.{Place}
@@ -11,6 +11,7 @@ use Rattle.cept_profile.specs.Strokes.{strokes_of}
 use Rattle.cept_profile.specs.State.{Core, State, core_of, state, state_after}
 use Rattle.cept_profile.specs.Valid.{AllValid}
 use Rattle.cept_profile.specs.OldValues.{OldValues, unwound}
+use Rattle.cept_redraw.specs.Picture.{IsNotedAlong}
 use Rattle.cept_redraw.specs.Renewed.{rows_renewed}
 use Rattle.cept_redraw.specs.Restored.{rows_unwound}
 use Rattle.cept_repaint.specs.GlassState.{GlassState, Lists}
@@ -43,6 +44,12 @@ pub record IsWritten (old : State) (command : Command) (new : State) (marked : L
   pub cost : to ≤ from + rows_in_reach old command
   pub least : from + rows_renewed_by old command ≤ to
   pub at_most_24 : to ≤ from + 24
+
+-- a command was written, and what its strokes change noted besides, where anything may be noted
+pub record IsWrittenAlong (old : State) (command : Command) (new : State) (marked : List Bool) (from to : ℕ)
+    (before after : Option OldValues) : Type 0 where
+  pub written : IsWritten old command new marked from to
+  pub noted : IsNotedAlong (strokes_of old.control command) before old.page after new.page
 
 -- old values were put back: the state is that to which they unwind, exactly the places are marked whose look changes, and
 -- no more rows were resolved than may look otherwise and no fewer than do

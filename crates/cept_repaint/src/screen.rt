@@ -20,7 +20,8 @@ ghost use Rattle.cept_page.specs.Parts.{cell_at};
 ghost use Rattle.cept_redraw.specs.Marks.{no_marks};
 ghost use Rattle.cept_redraw.specs.Picture.{IsNotedAlong};
 ghost use Rattle.cept_redraw.specs.Renewed.{rows_renewed};
-ghost use Rattle.cept_repaint.specs.Applied.{GoesOn, IsApplied, IsPutBack, IsRepainted, IsWritten, rows_restored};
+ghost use Rattle.cept_repaint.specs.Applied.{GoesOn, IsApplied, IsPutBack, IsRepainted, IsWritten, IsWrittenAlong};
+ghost use Rattle.cept_repaint.specs.Applied.{rows_restored};
 ghost use Rattle.cept_repaint.specs.Kept.{state_of_parts};
 ghost use Rattle.cept_repaint.specs.MovedEdges.{may_move_edges};
 ghost use Rattle.cept_repaint.specs.StateBehind.{state_behind};
@@ -230,15 +231,17 @@ impl Screen {
         steps: &mut Steps<L>,
     )
         requires { IsValidCommand command.now }
-        ensures written { IsWritten self.old command.now self.new marks.new steps.old steps.new }
-        ensures noted { IsNotedAlong (strokes_of self.old.control command.now) (N.noted noter.old) self.old.page
-            (N.noted noter.new) self.new.page }
+        ensures { IsWrittenAlong self.old command.now self.new marks.new steps.old steps.new (N.noted noter.old)
+            (N.noted noter.new) }
     {
         if may_move_edges(command) {
             self.write_edges(command, marks, noter, steps);
-        } else {
-            self.write_within(command, marks, noter, steps);
+            return;
         }
+        self.control.step_into(command, &mut self.strokes);
+        let strokes = self.strokes.as_slice();
+        self.picture
+            .redraw_within(strokes, &self.control, marks, noter, steps);
     }
 
     /// The same of any command.
@@ -252,9 +255,8 @@ impl Screen {
         steps: &mut Steps<L>,
     )
         requires { IsValidCommand command.now }
-        ensures written { IsWritten self.old command.now self.new marks.new steps.old steps.new }
-        ensures noted { IsNotedAlong (strokes_of self.old.control command.now) (N.noted noter.old) self.old.page
-            (N.noted noter.new) self.new.page }
+        ensures { IsWrittenAlong self.old command.now self.new marks.new steps.old steps.new (N.noted noter.old)
+            (N.noted noter.new) }
     {
         let before = self.control.edges();
         self.control.step_into(command, &mut self.strokes);
@@ -262,26 +264,6 @@ impl Screen {
         let strokes = self.strokes.as_slice();
         self.picture
             .redraw(strokes, &before, &after, marks, noter, steps);
-    }
-
-    /// The same of a command after which the same rows are last as before.
-    fn write_within<N: Noter, L: Ledger>(
-        &mut self,
-        command: &Command,
-        marks: &mut Marks,
-        noter: &mut N,
-        steps: &mut Steps<L>,
-    )
-        requires valid { IsValidCommand command.now }
-        requires edges { may_move_edges command.now ≡ false }
-        ensures written { IsWritten self.old command.now self.new marks.new steps.old steps.new }
-        ensures noted { IsNotedAlong (strokes_of self.old.control command.now) (N.noted noter.old) self.old.page
-            (N.noted noter.new) self.new.page }
-    {
-        self.control.step_into(command, &mut self.strokes);
-        let strokes = self.strokes.as_slice();
-        self.picture
-            .redraw_within(strokes, &self.control, marks, noter, steps);
     }
 
     /// The look at a place. It shows the part that the tiling by sizes has there.

@@ -1,5 +1,4 @@
--- Room in a line, or in several that are gathered, and what a call adds (this project's own). Private clauses alone cite
--- this file.
+-- Room in a line, or in several that are gathered, and what a call adds (this project's own).
 use Rattle.std.specs.Prelude.{ℕ, ◌≡◌, ◌≤◌, ◌+◌, List, ◌++◌, Result, OnOk}
 use Rattle.arrayvec.specs.ArrayVec.{ArrayVec, array_vec_len}
 use Rattle.cept_codes.specs.declared.look.Shape.{Shape}

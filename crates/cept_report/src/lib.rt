@@ -13,6 +13,9 @@ mod phases;
 mod put;
 mod signs;
 
+pub use line::{Line, add_byte, add_number, add_small, add_text, hex_digit};
+pub use lines::add_reason_name;
+pub use look::letter_of_set;
 pub use phases::put_phases;
 pub use put::{
     put_cells, put_changes, put_changes_if, put_check, put_line, put_load, put_nothing,

@@ -121,8 +121,9 @@ fn number_of(reason: Reason) -> u8
     }
 }
 
+/// Adds the name of a reason.
 #[tactic(auto, unfolding(crate::specs::Text::reason_name))]
-fn add_name(line: &mut Line, reason: Reason)
+pub fn add_reason_name(line: &mut Line, reason: Reason)
     requires { HasRoomFor 17 line.old }
     ensures { Adds line.old 17 (reason_name reason) line.new }
 {
@@ -144,7 +145,7 @@ fn add_reason(line: &mut Line, reason: Reason)
 {
     add_number(line, u64::from(number_of(reason)));
     add_byte(line, b' ');
-    add_name(line, reason);
+    add_reason_name(line, reason);
 }
 
 /// The line of refused bytes.

@@ -13,7 +13,8 @@ use crate::paint::paint_signs;
 use crate::pattern::{add_inks, add_pattern};
 use cept_codes::{Flash, Glyph, Inks, Look, Pattern, SetId, Shape};
 
-fn letter_of_set(set: SetId) -> u8
+/// The letter of a set.
+pub fn letter_of_set(set: SetId) -> u8
     ensures { result ≡ set_letter set }
 {
     match set {

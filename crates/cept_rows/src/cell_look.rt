@@ -1,12 +1,10 @@
 ghost use Rattle.std.specs.Prelude.{◌≡◌, true, false, None, IfSome, Option, is_some};
-ghost use Rattle.cept_codes.specs.declared.look.Shape.{Shape};
 ghost use Rattle.cept_codes.specs.Attribute.{IsValidFull, IsValidPen, unset_pen};
 ghost use Rattle.cept_codes.specs.Cell.{IsValidWhat};
 ghost use Rattle.cept_codes.specs.Glyph.{IsValidGlyph};
 ghost use Rattle.cept_profile.specs.Definitions.{Definitions};
-ghost use Rattle.cept_profile.specs.Look.{attributes_of, look_with, sets_double_size};
+ghost use Rattle.cept_profile.specs.Look.{attributes_of, sets_double_size};
 ghost use Rattle.cept_profile.specs.Look.{shape_in, shape_of, shape_of_sign};
-ghost use Rattle.cept_profile.specs.PageParts.{paint_in};
 ghost use Rattle.cept_profile.specs.Serial.{is_marker, own_attributes_of, row_in};
 ghost use Rattle.cept_codes.specs.declared.cell.Marker.{Marker};
 ghost use Rattle.cept_codes.specs.declared.cell.What.TheVariants.{Marker as stands};
@@ -16,8 +14,7 @@ ghost use Rattle.cept_rows.specs.SmallLooks.{sign_of, small_of};
 ghost use Rattle.cept_rows.specs.RowsByCell.{is_downloaded, is_set_d, pattern_of_sign};
 ghost use Rattle.cept_rows.specs.Source.{look_by_itself};
 
-use crate::colours::{back_of, fore_of};
-use crate::small_look::{Kind, Sign, SmallLook, Style};
+use crate::small_look::{Kind, Sign, SmallLook};
 use crate::source::RowSource;
 use cept_attrs::cascade;
 use cept_codes::{Column, Full, Glyph, Pen, SetId, Size, What, pens_compare_by_their_fields};
@@ -30,17 +27,17 @@ pub(crate) fn small_alone(column: Column, sign: Sign, source: &RowSource) -> Sma
     requires { sign ≡ sign_of (shape_of source.now.defined (row_in source.now.cells column)) }
     ensures { result ≡ small_of (look_by_itself source.now column) }
 {
-    source.small_with(sign, &attributes_alone(source.what(column), source))
+    source.small_with(sign, &attributes_alone(column, source))
 }
 
-/// The attributes of what stands in a cell, in a row without markers.
+/// The attributes of what stands in a column, in a row without markers.
 #[inline(always)]
-fn attributes_alone(what: &What, source: &RowSource) -> Full
-    requires { IsValidWhat what.now }
-    ensures attributes { result ≡ attributes_of source.now.row_pen source.now.screen_pen what.now }
+fn attributes_alone(column: Column, source: &RowSource) -> Full
+    ensures attributes { result
+        ≡ attributes_of source.now.row_pen source.now.screen_pen (row_in source.now.cells column) }
     ensures valid { IsValidFull result }
 {
-    match what {
+    match source.what(column) {
         What::Parallel(_, pen) => source.attributes(pen),
         What::Blank | What::Serial(_) | What::Marker(_) => source.attributes(&Pen::UNSET),
     }
@@ -272,13 +269,12 @@ pub(crate) fn own_attributes(what: &What, full: &Full, row: &Pen, screen: &Pen) 
     }
 }
 
-/// The sign of what stands in a cell by itself.
+/// The sign of what stands in a column by itself.
 #[inline(always)]
-pub(crate) fn sign_in(what: &What, source: &RowSource) -> Sign
-    requires { IsValidWhat what.now }
-    ensures { result ≡ sign_of (shape_of source.now.defined what.now) }
+pub(crate) fn sign_in(column: Column, source: &RowSource) -> Sign
+    ensures { result ≡ sign_of (shape_of source.now.defined (row_in source.now.cells column)) }
 {
-    match what {
+    match source.what(column) {
         What::Blank | What::Marker(_) => Sign::NOTHING,
         What::Serial(glyph) | What::Parallel(glyph, _) => sign_of_glyph(glyph, source),
     }
@@ -297,27 +293,6 @@ pub(crate) fn sign_held(held: Option<Glyph>) -> Sign
     }
 }
 
-/// The look of a sign of single size with its attributes.
-#[inline(always)]
-pub(crate) fn small_with(sign: Sign, full: &Full, colours: &Colours) -> SmallLook
-    requires { IsValidFull full.now }
-    ensures { (shape : Shape) → sign ≡ sign_of shape
-        → result ≡ small_of (look_with (paint_in colours.now.paints) shape full.now) }
-{
-    SmallLook {
-        sign,
-        fore: fore_of(full, colours),
-        back: back_of(full, colours),
-        style: Style {
-            flash: full.flash,
-            conceal: full.conceal,
-            lined: full.lined,
-            boxed: full.boxed,
-        },
-        ..SmallLook::BLANK
-    }
-}
-
 /// A sign of the downloaded set is drawn as the pattern of its code, where it has one, and any
 /// other as itself.
 #[inline(always)]
@@ -325,7 +300,7 @@ pub(crate) fn sign_of_glyph(glyph: &Glyph, source: &RowSource) -> Sign
     requires { IsValidGlyph glyph.now }
     ensures { result ≡ sign_of (shape_of_sign source.now.defined glyph.now) }
 {
-    if is_set_d(glyph.set) && has_pattern(glyph, source) {
+    if is_set_d(glyph.set) && source.has_pattern(glyph) {
         Sign::PATTERN
     } else {
         sign_of_set(glyph)
@@ -338,16 +313,6 @@ fn is_set_d(set: SetId) -> bool
     ensures { result ≡ is_set_d set }
 {
     matches!(set, SetId::D)
-}
-
-/// Whether a sign has a pattern.
-// A call of its own: signs of other sets need less.
-#[inline(never)]
-fn has_pattern(glyph: &Glyph, source: &RowSource) -> bool
-    requires { IsValidGlyph glyph.now }
-    ensures { result ≡ is_some (pattern_of_sign source.now.defined.patterns glyph.now) }
-{
-    source.pattern_of(glyph).is_some()
 }
 
 /// A sign without a pattern is drawn as itself, the space without accent as nothing.

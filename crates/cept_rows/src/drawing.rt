@@ -2,14 +2,13 @@ ghost use Rattle.std.specs.Prelude.{◌≡◌, ◌↔◌, IsTrue, List, Option};
 ghost use Rattle.std.specs.Prelude.{option_copied};
 ghost use Rattle.cept_codes.specs.declared.look.Pattern.{Pattern};
 ghost use Rattle.cept_profile.specs.Definitions.{inks_of};
-ghost use Rattle.cept_profile.specs.Look.{shape_of, shape_of_sign};
+ghost use Rattle.cept_profile.specs.Look.{shape_of_sign};
 ghost use Rattle.cept_rows.specs.RowsByCell.{pattern_of_sign};
-ghost use Rattle.cept_codes.specs.Cell.{IsValidWhat};
 ghost use Rattle.cept_codes.specs.Glyph.{IsValidGlyph};
 ghost use Rattle.cept_rows.specs.DrawnWith.{drawn_with};
 ghost use Rattle.cept_rows.specs.SmallLooks.{drawing_of};
 
-use cept_codes::{Glyph, Inks, Paint, Pattern, SetId, What};
+use cept_codes::{Glyph, Inks, Paint, Pattern, SetId};
 use cept_colours::Colours;
 use cept_drcs::Patterns;
 
@@ -43,21 +42,8 @@ pub(crate) fn same_drawing(a: &Drawing, b: &Drawing) -> bool
     a.pattern == b.pattern && a.inks == b.inks
 }
 
-/// The drawing of what stands in a cell. A marker holds no sign of the downloaded set.
-pub(crate) fn drawing_of(what: &What, colours: &Colours, patterns: &Patterns) -> Drawing
-    requires { IsValidWhat what.now }
-    ensures { result ≡ drawing_of (shape_of (drawn_with colours.now patterns.now) what.now) }
-{
-    match what {
-        What::Blank | What::Marker(_) => Drawing::NONE,
-        What::Serial(glyph) | What::Parallel(glyph, _) => drawing_of_glyph(
-            glyph, colours, patterns,
-        ),
-    }
-}
-
 /// The drawing of a sign: its pattern with the inks, where it has one.
-fn drawing_of_glyph(glyph: &Glyph, colours: &Colours, patterns: &Patterns) -> Drawing
+pub(crate) fn drawing_of_glyph(glyph: &Glyph, colours: &Colours, patterns: &Patterns) -> Drawing
     requires { IsValidGlyph glyph.now }
     ensures { result
         ≡ drawing_of (shape_of_sign (drawn_with colours.now patterns.now) glyph.now) }

@@ -1,11 +1,10 @@
 ghost use Rattle.std.specs.Prelude.{◌≡◌, ◌≢◌, ℕ, ◌-◌, ◌≤◌, ◌==◌, ◌||◌, [], false, is_some};
 ghost use Rattle.std.specs.Prelude.{slice_index_or};
 ghost use Rattle.cept_codes.specs.Cell.{IsValidWhat};
-ghost use Rattle.cept_codes.specs.Glyph.{IsValidGlyph};
 ghost use Rattle.cept_codes.specs.Place.{OnScreen};
 ghost use Rattle.cept_codes.specs.Table.{entry, list_by_index};
 ghost use Rattle.cept_profile.specs.Look.{looks_of};
-ghost use Rattle.cept_profile.specs.Names.{code_in_set, code_named, is_code, names_at};
+ghost use Rattle.cept_profile.specs.Names.{code_named, is_code, names_at};
 ghost use Rattle.cept_profile.specs.Names.{names_with, some_place};
 ghost use Rattle.cept_profile.specs.NamesFromAbove.{default_names, names_by};
 ghost use Rattle.cept_profile.specs.NamesFromAbove.{names_in_row};
@@ -21,7 +20,7 @@ use crate::cell_look::own_attributes;
 use crate::row_looks::RowLooks;
 use crate::source::RowSource;
 use cept_attrs::{RowSerial, serial_cells};
-use cept_codes::{Cell, Column, Full, Glyph, Part, Pen, RowCells, SetId, What};
+use cept_codes::{Cell, Column, Full, Part, Pen, RowCells, SetId, What};
 
 /// What the places of a row name, from the left: the colour entries of foreground and background,
 /// 0 to 31, and the code of a sign of the downloaded set, or 0 where there is none.
@@ -263,19 +262,10 @@ fn code_named(what: &What) -> u8
     ensures { code_kept result ≡ code_named what.now }
 {
     match what {
-        What::Serial(glyph) | What::Parallel(glyph, _) => code_in_set(glyph),
+        What::Serial(glyph) | What::Parallel(glyph, _) => match glyph.set {
+            SetId::D => glyph.code,
+            SetId::P | SetId::S | SetId::M | SetId::N => 0,
+        },
         What::Blank | What::Marker(_) => 0,
-    }
-}
-
-/// The code of a sign, if it is of the downloaded set, or 0.
-#[inline(always)]
-fn code_in_set(glyph: &Glyph) -> u8
-    requires { IsValidGlyph glyph.now }
-    ensures { code_kept result ≡ code_in_set glyph.now.set glyph.now.code }
-{
-    match glyph.set {
-        SetId::D => glyph.code,
-        SetId::P | SetId::S | SetId::M | SetId::N => 0,
     }
 }

@@ -5,7 +5,7 @@ ghost use Rattle.cept_profile.specs.Tiling.{covers_below, is_covered_from_left};
 ghost use Rattle.cept_rows.specs.Flagged.{look_at, with_look};
 ghost use Rattle.cept_rows.specs.Places.{covers_next, look_below, look_beside, own_drawing};
 ghost use Rattle.cept_rows.specs.Places.{with_drawn};
-ghost use Rattle.cept_rows.specs.SmallLooks.{IsSmallLook, has_pattern, small_of};
+ghost use Rattle.cept_rows.specs.SmallLooks.{IsSmallLook, drawing_of, has_pattern, small_of};
 ghost use Rattle.cept_rows.specs.Source.{place_made};
 ghost use Rattle.cept_rows.specs.Walk.{IsWalk};
 
@@ -50,13 +50,13 @@ pub(crate) fn put_place(
     }
     let own = walk.look(column, source);
     if is_single(own.size) {
-        keep(looks, column, own.look, source);
+        keep(looks, column, own.look, true, source);
         return false;
     }
     let beside = is_covered_beside(above, column);
     let part = origin_there(own.size, number, beside, source.is_last());
     let look = SmallLook { part, ..own.look };
-    keep_double(looks, column, look, source);
+    keep(looks, column, look, false, source);
     part.w == 2
 }
 
@@ -103,13 +103,14 @@ fn put_below(looks: &mut RowLooks, column: Column, above: &RowLooks)
     }
 }
 
-/// The same of a pattern.
+/// Keeps a look in a column with the drawing of the place above.
+// A call of its own: looks without a pattern need less.
 #[inline(never)]
 fn put_drawn_below(looks: &mut RowLooks, column: Column, look: SmallLook, above: &RowLooks)
     requires pattern { has_pattern (small_of (look_at above.now column)) ≡ true }
-    requires look { look ≡ small_of (look_below (look_at above.now column)) }
-    requires valid { IsValidLook (look_below (look_at above.now column)) }
-    ensures { looks.new ≡ with_look looks.old column (look_below (look_at above.now column)) }
+    requires look { IsSmallLook look (drawing_of (look_at above.now column).shape) }
+    ensures { looks.new
+        ≡ with_drawn looks.old column look (drawing_of (look_at above.now column).shape) }
 {
     looks.put_drawn(column, look, above.drawing(column));
 }
@@ -122,56 +123,45 @@ fn put_to_the_right(looks: &mut RowLooks, column: Column)
     ensures { looks.new
         ≡ with_look looks.old column (look_beside (look_at looks.old (column - 1))) }
 {
-    let left = looks.small(Column::numbered(column.number() - 1));
+    let beside = Column::numbered(column.number() - 1);
+    let left = looks.small(beside);
     let look = SmallLook {
         part: to_the_right(left.part),
         ..left
     };
     if look.has_pattern() {
-        put_drawn_to_the_right(looks, column, look);
+        put_drawn_from(looks, column, look, beside);
     } else {
         looks.put(column, look);
     }
 }
 
-/// The same of a pattern.
+/// Keeps a look in a column with the drawing of another column.
+// A call of its own: a drawing has no room beside looks without one.
 #[inline(never)]
-fn put_drawn_to_the_right(looks: &mut RowLooks, column: Column, look: SmallLook)
-    requires from_left { 2 ≤ column }
-    requires pattern { has_pattern (small_of (look_at looks.old (column - 1))) ≡ true }
-    requires look { look ≡ small_of (look_beside (look_at looks.old (column - 1))) }
-    requires valid { IsValidLook (look_beside (look_at looks.old (column - 1))) }
+fn put_drawn_from(looks: &mut RowLooks, column: Column, look: SmallLook, from: Column)
+    requires pattern { has_pattern (small_of (look_at looks.old from)) ≡ true }
+    requires look { IsSmallLook look (drawing_of (look_at looks.old from).shape) }
     ensures { looks.new
-        ≡ with_look looks.old column (look_beside (look_at looks.old (column - 1))) }
+        ≡ with_drawn looks.old column look (drawing_of (look_at looks.old from).shape) }
 {
-    let drawing = *looks.drawing(Column::numbered(column.number() - 1));
+    let drawing = *looks.drawing(from);
     looks.put_drawn(column, look, &drawing);
 }
 
-/// Keeps the look of what stands in a column, with the drawing of a pattern.
+/// Keeps the look of what stands in a column, with the drawing of a pattern. One that is single is known
+/// not to cover the place below it.
 #[inline(always)]
-fn keep(looks: &mut RowLooks, column: Column, look: SmallLook, source: &RowSource)
-    requires low { covers_below look.part ≡ false }
+fn keep(looks: &mut RowLooks, column: Column, look: SmallLook, single: bool, source: &RowSource)
+    requires low { single ≡ true → covers_below look.part ≡ false }
     requires small { IsSmallLook look (own_drawing source.now column) }
     ensures { looks.new
         ≡ with_drawn looks.old column look (own_drawing source.now column) }
 {
     if look.has_pattern() {
         keep_pattern(looks, column, look, source);
-    } else {
+    } else if single {
         looks.put_single(column, look);
-    }
-}
-
-/// The same where it may cover the place below it.
-#[inline(always)]
-fn keep_double(looks: &mut RowLooks, column: Column, look: SmallLook, source: &RowSource)
-    requires { IsSmallLook look (own_drawing source.now column) }
-    ensures { looks.new
-        ≡ with_drawn looks.old column look (own_drawing source.now column) }
-{
-    if look.has_pattern() {
-        keep_pattern(looks, column, look, source);
     } else {
         looks.put(column, look);
     }

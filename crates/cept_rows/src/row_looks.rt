@@ -425,7 +425,7 @@ impl RowLooks {
         ensures { IsReplaced self.old column (look_by_itself source.now column) self.new result }
     {
         source.valid_by_type();
-        let fresh = small_alone(column, sign_in(source.what(column), source), source);
+        let fresh = small_alone(column, sign_in(column, source), source);
         let drawing = source.drawing(column);
         let k = column.index();
         let differs = !same_with(&self.looks[k], &self.drawn[k], &fresh, &drawing);

@@ -1,4 +1,4 @@
-ghost use Rattle.std.specs.Prelude.{◌≡◌, ◌-◌, false, true, option_copied};
+ghost use Rattle.std.specs.Prelude.{◌≡◌, ◌-◌, false, true, is_some};
 ghost use Rattle.cept_codes.specs.declared.look.Shape.{Shape};
 ghost use Rattle.cept_codes.specs.Attribute.{IsValidFull, IsValidPen};
 ghost use Rattle.cept_codes.specs.Cell.{IsValidWhat};
@@ -13,11 +13,11 @@ ghost use Rattle.cept_rows.specs.SmallLooks.{sign_of};
 ghost use Rattle.cept_rows.specs.Source.{AreValidCells, IsValidSource};
 ghost use Rattle.cept_rows.specs.Walk.{IsCarried, serial_in};
 
-use crate::cell_look::small_with;
-use crate::drawing::{Drawing, drawing_of, pattern_of};
-use crate::small_look::{Sign, SmallLook};
+use crate::colours::{back_of, fore_of};
+use crate::drawing::{Drawing, drawing_of_glyph, pattern_of};
+use crate::small_look::{Sign, SmallLook, Style};
 use cept_attrs::{Influence, Marked, cascade};
-use cept_codes::{Cell, Column, Full, Glyph, Marker, Pattern, Pen, What};
+use cept_codes::{Cell, Column, Full, Glyph, Marker, Pen, What};
 use cept_colours::Colours;
 use cept_drcs::Patterns;
 use std::marker::Model;
@@ -181,23 +181,40 @@ impl<'p> RowSource<'p> {
         ensures { (shape : Shape) → sign ≡ sign_of shape
             → result ≡ small_shape self.now shape full.now }
     {
-        small_with(sign, full, self.colours)
+        SmallLook {
+            sign,
+            fore: fore_of(full, self.colours),
+            back: back_of(full, self.colours),
+            style: Style {
+                flash: full.flash,
+                conceal: full.conceal,
+                lined: full.lined,
+                boxed: full.boxed,
+            },
+            ..SmallLook::BLANK
+        }
     }
 
-    /// The pattern of a sign, where it is of the downloaded set and its code has one.
-    #[inline(always)]
-    pub(crate) fn pattern_of(&self, glyph: &Glyph) -> Option<&'p Pattern>
+    /// Whether a sign has a pattern.
+    // A call of its own: signs of other sets need less.
+    #[inline(never)]
+    pub(crate) fn has_pattern(&self, glyph: &Glyph) -> bool
         requires { IsValidGlyph glyph.now }
-        ensures { option_copied result ≡ pattern_of_sign self.now.defined.patterns glyph.now }
+        ensures { result ≡ is_some (pattern_of_sign self.now.defined.patterns glyph.now) }
     {
-        pattern_of(glyph, self.patterns)
+        pattern_of(glyph, self.patterns).is_some()
     }
 
-    /// The drawing of what stands in a column.
+    /// The drawing of what stands in a column. A marker holds no sign of the downloaded set.
     pub(crate) fn drawing(&self, column: Column) -> Drawing
         ensures { result ≡ own_drawing self.now column }
     {
-        drawing_of(self.what(column), self.colours, self.patterns)
+        match self.what(column) {
+            What::Blank | What::Marker(_) => Drawing::NONE,
+            What::Serial(glyph) | What::Parallel(glyph, _) => {
+                drawing_of_glyph(glyph, self.colours, self.patterns)
+            }
+        }
     }
 
     /// Tells the prover that a cell without a marker leaves what the cells before it left.

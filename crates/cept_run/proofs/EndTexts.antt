@@ -7,10 +7,9 @@ use Rattle.cept_codes.specs.declared.look.Look.{Look}
 use Rattle.cept_outside.specs.SinkState.{SinkState, PutsText}
 use Rattle.cept_parser.specs.Items.{closed_items}
 use Rattle.cept_profile.specs.State.{State, state}
-use Rattle.cept_report.specs.Text.{check_line}
 use Rattle.cept_run.specs.declared.words.Asked.{Asked}
 use Rattle.cept_run.specs.declared.words.End.{End}
-use Rattle.cept_run.specs.Events.{painted_end, text_at_end, refused_count}
+use Rattle.cept_run.specs.Events.{counts_text, painted_end, text_at_end, refused_count}
 use Rattle.cept_run.specs.Reporting.{Plan, ReporterState, StandsAtEnd, remaining_at_end, screen_of}
 
 -- the end that is asked for is this one
@@ -49,13 +48,16 @@ module _ (plan : Plan) (reporter : ReporterState) (page : List ℕ)
       → PutsText s (text_at_end plan.asked shown page all) result t
   painted_text shown s t result is puts =
       subst (λ b. PutsText s (cond b (painted_end plan.asked.end plan.asked shown page all)
-      (check_line (length (closed_items page)) (refused_count (closed_items page)))) result t) (sym is) puts
+      (counts_text plan.asked (length (closed_items page)) (refused_count (closed_items page)))) result t) (sym is) puts
 
   pub counted_text : {X E : Type 0} (shown : List (List Look)) (s t : SinkState) (result : Result X E)
-      → plan.asked.painting ≡ false → PutsText s (check_line reporter.items reporter.refused) result t
+      → plan.asked.painting ≡ false
+      → PutsText s (counts_text reporter.asked reporter.items reporter.refused) result t
       → PutsText s (text_at_end plan.asked shown page all) result t
   counted_text shown s t result is puts =
       subst (λ b. PutsText s (cond b (painted_end plan.asked.end plan.asked shown page all)
-      (check_line (length (closed_items page)) (refused_count (closed_items page)))) result t) (sym is)
-      (subst (λ n. PutsText s (check_line n (refused_count (closed_items page))) result t) stands.items
-      (subst (λ n. PutsText s (check_line reporter.items n) result t) stands.refused puts))
+      (counts_text plan.asked (length (closed_items page)) (refused_count (closed_items page)))) result t) (sym is)
+      (subst (λ (a : Asked). PutsText s (counts_text a (length (closed_items page)) (refused_count (closed_items page)))
+      result t) stands.asked_is
+      (subst (λ n. PutsText s (counts_text reporter.asked n (refused_count (closed_items page))) result t) stands.items
+      (subst (λ n. PutsText s (counts_text reporter.asked reporter.items n) result t) stands.refused puts)))

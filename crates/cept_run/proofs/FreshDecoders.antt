@@ -51,6 +51,7 @@ nothing_alone asked = by_flag asked.painting
 pub page_blink : (action : PageAction) → HasBlink (asked_of_page action).end None
 page_blink pages.Changes = tt
 page_blink pages.Check = tt
+page_blink pages.List = tt
 page_blink pages.Show = tt
 page_blink pages.Cells = tt
 page_blink pages.Write = tt

@@ -1,7 +1,7 @@
 -- How a reporter stands after one item more.
 use Rattle.std.proofs.Common.{◌≡◌, ℕ, ◌+◌, ◌<◌, ◌≤◌, Bool, true, false, cond, Option, Some, None, Result, Ok, Err, List}
 use Rattle.std.proofs.Common.{[], ◌∷◌, ◌++◌, length, take, drop, get_or, refl, sym, ◌∙◌, ap, subst, arith, append_assoc}
-use Rattle.std.proofs.Common.{take-append-drop, length-append, add-zero, add-one, drop-cons, IsOk}
+use Rattle.std.proofs.Common.{take-append-drop, length-append, add-zero, add-one, drop-cons}
 use Rattle.std.proofs.lemmas.List.{take_more, take_all}
 use Rattle.std.specs.List.{AllByRecursion, count_by}
 use Rattle.cept_codes.specs.declared.command.Command.{Command}
@@ -13,7 +13,7 @@ use Rattle.cept_codes.specs.declared.item.Said.TheVariants as said
 use Rattle.cept_codes.specs.Command.{IsValidCommand}
 use Rattle.cept_codes.specs.declared.look.Look.{Look}
 use Rattle.cept_codes.specs.Place.{Place}
-use Rattle.cept_outside.specs.SinkState.{SinkState, Gains, PutsText}
+use Rattle.cept_outside.specs.SinkState.{SinkState, PutsText}
 use Rattle.cept_outside.proofs.Laws.{Gains-nil}
 use Rattle.std.proofs.lemmas.Option.{same_Some, none-some}
 use Rattle.cept_profile.specs.Changes.{changes_between, changes, differences, marked_looks, grid_with_paints}
@@ -22,6 +22,7 @@ use Rattle.cept_profile.specs.State.{State, state, core_of}
 use Rattle.cept_profile.specs.Valid.{AllValid}
 use Rattle.cept_repaint.specs.Applied.{IsApplied}
 use Rattle.cept_repaint.specs.GlassState.{GlassState, Lists}
+use Rattle.cept_listing.specs.Listing.{item_line}
 use Rattle.cept_report.specs.Text.{change_lines}
 use Rattle.cept_editor.specs.Events.{Event, paints}
 use Rattle.cept_editor.specs.Kept.{EditorState}
@@ -40,11 +41,10 @@ use Rattle.cept_parser.specs.State.{Leads}
 use Rattle.cept_run.specs.Reporting.{DecoderState, HasRead, ReadsOn, ReadsToEnd}
 use Rattle.cept_run.specs.Reporting.{Plan, ReporterState, painted_easel, easel_at, screen_of, sequel_at, Stands, HasReported, Applies}
 use Rattle.cept_run.specs.Reporting.{AppliesOn, IsAppliedAfter}
-use Rattle.cept_run.specs.Reporting.{ReportsOn, command_event, refusal_text, counted_of}
+use Rattle.cept_run.specs.Reporting.{ReportsOn, command_event, item_text, refusal_text, counted_of}
 use Rattle.cept_run.proofs.EventsOfItems.{history-none, history-command, history-refused, history-idle, item_events-more}
 use Rattle.cept_run.specs.Words.{is_counted}
 use Rattle.cept_run.proofs.MarkedCount.{changes_counted}
-use Rattle.cept_run.proofs.PaintedItems.{checked_changes}
 use Rattle.cept_run.proofs.CountedPlaces.{counted-none, counted-command, counted-refused, counted-idle}
 use Rattle.cept_run.proofs.EventsOfItems.{item_events-none, item_events-append, events_after, refused_count-more}
 
@@ -113,30 +113,7 @@ reports_on old new i before after (Err f) counted stands made = record {
       (made plan earlier has.stands);
 }
 
--- ---- an event that changes nothing
-
-still_made : {X E : Type 0} (e : Event) (o : Output) (result : Result X E) → IsOk result → e.after ≡ e.before
-    → e.text ≡ [] → IsMade e o result o
-still_made e o (Ok x) ok still none = record {
-  puts = record {
-    whole = subst (λ (t : List ℕ). Gains o.sink t o.sink) (sym none) (Gains-nil o.sink);
-    part = tt;
-    cause = record { later = omega arith; failed = tt; stays = refl };
-  };
-  painted = ArePainted-still e o.glass still;
-}
-still_made e o (Err f) ok still none = cc
-
--- no change has no line
-idle_text : (asked : Asked) (i : Item) (command : Command) (xs : List (Place × Look)) → xs ≡ []
-    → text_of_said asked i (said.Command command) xs ≡ []
-unfolding change_lines
-idle_text asked i command xs none =
-    ap (λ ys. cond asked.listed (change_lines i.at ys) []) none ∙ by_flag asked.listed
-  where
-    by_flag : (b : Bool) → cond b (change_lines i.at []) [] ≡ []
-    by_flag true = refl
-    by_flag false = refl
+-- ---- where commands are painted, and where they aren't
 
 -- without painting nothing is applied
 idle_easel : (plan : Plan) (h : List Command) → plan.asked.painting ≡ false → easel_at plan h ≡ easels.Nothing
@@ -168,43 +145,42 @@ refused_as items i what is =
 
 module _ {X E : Type 0} (old new : ReporterState) (i : Item) (command : Command) (before after : Output)
     (result : Result X E) (is : i.what ≡ said.Command command) (valid : IsValidCommand command)
+    (paints : old.asked.painting ≡ true)
     (applies : Applies (counted_one old) i.at command before result new after) where
-  command_stands : (plan : Plan) (earlier : List Item) (painting : Bool) → plan.asked.painting ≡ painting
-      → Stands plan old earlier → Stands plan new (earlier ++ i ∷ [])
-  command_stands plan earlier true p stands =
+  plan_paints : (plan : Plan) (earlier : List Item) → Stands plan old earlier → plan.asked.painting ≡ true
+  plan_paints plan earlier stands = ap (λ (a : Asked). a.painting) (sym stands.asked_is) ∙ paints
+
+  painted_before : (plan : Plan) (earlier : List Item) (stands : Stands plan old earlier)
+      → old.easel ≡ painted_easel plan.sequel (history plan.asked earlier)
+  painted_before plan earlier stands =
+      stands.easel ∙ painted_at_plan plan (history plan.asked earlier) (plan_paints plan earlier stands)
+
+  command_stands : (plan : Plan) (earlier : List Item) → Stands plan old earlier
+      → Stands plan new (earlier ++ i ∷ [])
+  command_stands plan earlier stands =
+      let p = plan_paints plan earlier stands in
       let more = history-command plan.asked earlier i command p is in
       let h = history plan.asked earlier in
-      let painting = ap (λ (a : Asked). a.painting) stands.asked_is ∙ p in
-      let at : old.easel ≡ painted_easel plan.sequel h = stands.easel ∙ painted_at_plan plan h p in
+      let at = painted_before plan earlier stands in
       record {
         asked_is = applies.asked ∙ stands.asked_is;
         valid = subst AllValid (sym more) (AllValid-more h command stands.valid valid);
-        easel = applies.easel plan.sequel h stands.valid painting at
+        easel = applies.easel plan.sequel h stands.valid paints at
             ∙ sym (painted_at_plan plan (h ++ command ∷ []) p) ∙ ap (easel_at plan) (sym more);
         items = applies.items ∙ ap (λ n. n + 1) stands.items ∙ sym (length-more earlier i);
         refused = applies.refused ∙ stands.refused
             ∙ sym (refused_as earlier i (said.Command command) is ∙ add-zero (refused_count earlier));
-        painted = applies.painted plan.sequel h stands.valid painting at
+        painted = applies.painted plan.sequel h stands.valid paints at
             ∙ ap (λ n. n + counted_of old.asked (length (changes h command))) stands.painted
             ∙ ap (λ (a : Asked). counted_of plan.asked (painted_at plan.asked earlier)
             + counted_of a (length (changes h command))) stands.asked_is
             ∙ sym (counted-command plan.asked earlier i command p is);
       }
-  command_stands plan earlier false p stands =
-      let none : old.easel ≡ easels.Nothing = stands.easel ∙ idle_easel plan (history plan.asked earlier) p in
-      record {
-        asked_is = applies.asked ∙ stands.asked_is;
-        valid = subst AllValid (sym (history-idle plan.asked (earlier ++ i ∷ []) p)) tt;
-        easel = (applies.idle none).0 ∙ sym (idle_easel plan (history plan.asked (earlier ++ i ∷ [])) p);
-        items = applies.items ∙ ap (λ n. n + 1) stands.items ∙ sym (length-more earlier i);
-        refused = applies.refused ∙ stands.refused
-            ∙ sym (refused_as earlier i (said.Command command) is ∙ add-zero (refused_count earlier));
-        painted = (applies.idle none).3 ∙ stands.painted ∙ sym (counted-idle plan.asked earlier i p);
-      }
 
-  command_made : (plan : Plan) (earlier : List Item) (painting : Bool) → plan.asked.painting ≡ painting
-      → Stands plan old earlier → IsMade (item_event plan.asked earlier i) before result after
-  command_made plan earlier true p stands =
+  command_made : (plan : Plan) (earlier : List Item) → Stands plan old earlier
+      → IsMade (item_event plan.asked earlier i) before result after
+  command_made plan earlier stands =
+      let p = plan_paints plan earlier stands in
       let h = history plan.asked earlier in
       let event : item_event plan.asked earlier i ≡ command_event plan.asked i.at h command =
       ap (λ hs. event_between plan.asked i h hs) (history-command plan.asked earlier i command p is)
@@ -212,25 +188,62 @@ module _ {X E : Type 0} (old new : ReporterState) (i : Item) (command : Command)
         before = h;
         after = h ++ command ∷ [];
         text = text_of_said plan.asked i s (changes_between (grid h) (grid (h ++ command ∷ [])));
-      }) is in
+      }) is
+      ∙ ap (λ b. record {
+        before = h;
+        after = h ++ command ∷ [];
+        text = cond plan.asked.listed (cond b (change_lines i.at (changes h command)) (item_line i)) [];
+      }) p in
       subst (λ (e : Event). IsMade e before result after) (sym event)
       (subst (λ (a : Asked). IsMade (command_event a i.at h command) before result after) stands.asked_is
-      (applies.made plan.sequel h stands.valid (ap (λ (a : Asked). a.painting) stands.asked_is ∙ p)
-      (stands.easel ∙ painted_at_plan plan h p)))
-  command_made plan earlier false p stands =
-      let none : old.easel ≡ easels.Nothing = stands.easel ∙ idle_easel plan (history plan.asked earlier) p in
-      let h = history-idle plan.asked earlier p in
-      let k = history-idle plan.asked (earlier ++ i ∷ []) p in
-      subst (λ (o : Output). IsMade (item_event plan.asked earlier i) before result o) (sym (applies.idle none).2)
-      (still_made (item_event plan.asked earlier i) before result (applies.idle none).1 (k ∙ sym h)
-      (ap (λ w. text_of_said plan.asked i w (changes_between (grid (history plan.asked earlier))
-      (grid (history plan.asked (earlier ++ i ∷ []))))) is
-      ∙ idle_text plan.asked i command _ (checked_changes plan.asked earlier i p)))
+      (applies.made plan.sequel h stands.valid paints (painted_before plan earlier stands)))
 
   pub command_more : ReportsOn old (i ∷ []) before result new after
-  command_more = reports_on old new i before after result (omega (arith, applies.items))
-      (λ plan earlier stands. command_stands plan earlier _ refl stands)
-      (λ plan earlier stands. command_made plan earlier _ refl stands)
+  command_more = reports_on old new i before after result (omega (arith, applies.items)) command_stands command_made
+
+-- ---- a command more that isn't applied
+
+module _ {X E : Type 0} (old : ReporterState) (i : Item) (command : Command) (sink now : SinkState) (glass : GlassState)
+    (result : Result X E) (is : i.what ≡ said.Command command) (idle : old.asked.painting ≡ false)
+    (puts : PutsText sink (item_text old.asked i) result now) where
+  plan_idle : (plan : Plan) (earlier : List Item) → Stands plan old earlier → plan.asked.painting ≡ false
+  plan_idle plan earlier stands = ap (λ (a : Asked). a.painting) (sym stands.asked_is) ∙ idle
+
+  listed_stands : (plan : Plan) (earlier : List Item) → Stands plan old earlier
+      → Stands plan (counted_one old) (earlier ++ i ∷ [])
+  listed_stands plan earlier stands =
+      let p = plan_idle plan earlier stands in
+      let none = stands.easel ∙ idle_easel plan (history plan.asked earlier) p in
+      record {
+        asked_is = stands.asked_is;
+        valid = subst AllValid (sym (history-idle plan.asked (earlier ++ i ∷ []) p)) tt;
+        easel = none ∙ sym (idle_easel plan (history plan.asked (earlier ++ i ∷ [])) p);
+        items = ap (λ n. n + 1) stands.items ∙ sym (length-more earlier i);
+        refused = stands.refused
+            ∙ sym (refused_as earlier i (said.Command command) is ∙ add-zero (refused_count earlier));
+        painted = stands.painted ∙ sym (counted-idle plan.asked earlier i p);
+      }
+
+  listed_made : (plan : Plan) (earlier : List Item) → Stands plan old earlier
+      → IsMade (item_event plan.asked earlier i) (output_of sink glass) result (output_of now glass)
+  listed_made plan earlier stands =
+      let p = plan_idle plan earlier stands in
+      let before = history plan.asked earlier in
+      let after = history plan.asked (earlier ++ i ∷ []) in
+      let text : item_text old.asked i ≡ (item_event plan.asked earlier i).text =
+      ap (λ (a : Asked). item_text a i) stands.asked_is
+      ∙ ap (λ b. cond plan.asked.listed (cond b (change_lines i.at (changes_between (grid before) (grid after)))
+      (item_line i)) []) (sym p)
+      ∙ ap (λ w. text_of_said plan.asked i w (changes_between (grid before) (grid after))) (sym is) in
+      record {
+        puts = subst (λ (t : List ℕ). PutsText sink t result now) text puts;
+        painted = ArePainted-still (item_event plan.asked earlier i) glass
+            (history-idle plan.asked (earlier ++ i ∷ []) p ∙ sym (history-idle plan.asked earlier p));
+      }
+
+  pub listed_more : ReportsOn old (i ∷ []) (output_of sink glass) result (counted_one old) (output_of now glass)
+  listed_more = reports_on old (counted_one old) i (output_of sink glass) (output_of now glass) result (omega arith)
+      listed_stands listed_made
 
 -- ---- a refusal more
 
@@ -446,11 +459,7 @@ module _ (old : ReporterState) (easel : Easel) (place : ℕ) (command : Command)
       made = λ sequel h valid painting e. event_made sequel h (applies.painted sequel h valid e);
       painted = λ sequel h valid painting e. counted sequel h (applies.painted sequel h valid e);
       few = omega (arith, few);
-      idle = λ none. absurd (no_screen (sym (ap screen_of (applies.idle none).0) ∙ at));
     }
-      where
-        no_screen : None ≡ Some screen → ⊥
-        no_screen e = none-some screen e
 
   -- there is none
   pub applied_idle : {X E : Type 0} (x : X) → screen_of easel ≡ None
@@ -464,7 +473,6 @@ module _ (old : ReporterState) (easel : Easel) (place : ℕ) (command : Command)
     made = λ sequel h valid painting e. absurd (with_screen sequel h (applies.painted sequel h valid e));
     painted = λ sequel h valid painting e. absurd (with_screen sequel h (applies.painted sequel h valid e));
     few = omega arith;
-    idle = λ is. ((applies.idle is).0, refl, ap (output_of sink) (applies.idle is).1, refl);
   }
     where
       with_screen : (sequel : Option Sequel) (h : List Command)

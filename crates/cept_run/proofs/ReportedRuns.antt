@@ -17,13 +17,12 @@ use Rattle.cept_profile.specs.State.{core}
 use Rattle.cept_writer.specs.CompactCommands.{page_text}
 use Rattle.cept_run.specs.declared.words.Asked.{Asked}
 use Rattle.cept_run.specs.Events.{text_at_end, painted_end, end_event, edited_events, run_events, remaining_of, refused_count}
-use Rattle.cept_run.specs.Events.{Sequel}
+use Rattle.cept_run.specs.Events.{Sequel, counts_text}
 use Rattle.cept_run.specs.Outside.{Outside, output, PutsWhole, PutsUnflushed, PutsFront}
 use Rattle.cept_run.specs.Course.{Source, Grammar, sequel_in, is_page, puts_page, reporting}
 use Rattle.cept_run.specs.declared.words.End.{End}
 use Rattle.cept_run.specs.declared.words.End.TheVariants as ends
 use Rattle.cept_run.specs.Run.{Restores, ReportsWhole}
-use Rattle.cept_report.specs.Text.{check_line}
 use Rattle.std.proofs.lemmas.Bool.{and_parts}
 use Rattle.cept_run.proofs.EditedLines.{edited_events-chained}
 use Rattle.cept_run.proofs.FrontsPut.{either_front}
@@ -79,7 +78,7 @@ written_text : (asked : Asked) (shown : List (List Look)) (page : List ℕ) (com
     → PutsPage asked → text_at_end asked shown page commands ≡ page_text (core commands)
 written_text asked shown page commands puts =
     ap (λ b. cond b (painted_end asked.end asked shown page commands)
-    (check_line (length (closed_items page)) (refused_count (closed_items page)))) puts.painting
+    (counts_text asked (length (closed_items page)) (refused_count (closed_items page)))) puts.painting
     ∙ page_end asked.end asked shown page commands puts.end
 
 -- ---- a page, and what a script or a drawing says is done after it

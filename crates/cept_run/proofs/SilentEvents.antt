@@ -13,9 +13,9 @@ use Rattle.cept_editor.specs.Meaning.{Step, Turn, Edit}
 use Rattle.cept_editor.specs.Script.{EditLine}
 use Rattle.cept_editor.specs.Stepping.{event_from, nothing_event, edit_events, line_events}
 use Rattle.cept_plot.specs.declared.figure.Figure.{Figure}
-use Rattle.cept_report.specs.Text.{change_lines, refusal_line}
 use Rattle.cept_editor.proofs.Laws.{report-append, report-one, report-none}
 use Rattle.cept_run.specs.declared.words.Asked.{Asked}
+use Rattle.cept_run.specs.Events.{listed_text, named_text}
 use Rattle.cept_run.specs.Events.{history, text_of_said, item_event, item_events, events_of_line}
 use Rattle.cept_run.specs.Events.{edited_events, kept_of, Sequel, Edits, Figures, drawing_commands, sequel_events}
 use Rattle.cept_run.proofs.EventsOfItems.{events_after, item_events-after}
@@ -32,8 +32,8 @@ silent_more xs ys first second = report-append xs ys ∙ ap (λ t. t ++ report y
 -- neither changes nor refusals are listed
 silent_said : (asked : Asked) (item : Item) (what : Said) (xs : List (Place × Look)) → asked.listed ≡ false
     → asked.refusals ≡ false → text_of_said asked item what xs ≡ []
-silent_said asked item (said.Command command) xs c r = ap (λ b. cond b (change_lines item.at xs) []) c
-silent_said asked item (said.Refused reason) xs c r = ap (λ b. cond b (refusal_line item.at item.len reason) []) r
+silent_said asked item (said.Command command) xs c r = ap (λ b. cond b (listed_text asked item xs) []) c
+silent_said asked item (said.Refused reason) xs c r = ap (λ b. cond b (named_text asked item reason) []) r
 
 silent_items_after : (asked : Asked) (earlier items : List Item) → asked.listed ≡ false
     → asked.refusals ≡ false → report (events_after asked earlier items) ≡ []

@@ -2,7 +2,7 @@
 use Rattle.std.proofs.Common.{◌≡◌, ℕ, List, [], ◌∷◌, codes, map, true, false, refl}
 use Rattle.cept_run.specs.declared.words.BytesAction.TheVariants.{Eight, Seven}
 use Rattle.cept_run.specs.declared.words.NumberAction.TheVariants.{Generate, Load}
-use Rattle.cept_run.specs.declared.words.PageAction.TheVariants.{Cells, Changes, Check, Show, Write}
+use Rattle.cept_run.specs.declared.words.PageAction.TheVariants.{Cells, Changes, Check, List as ListItems, Show, Write}
 use Rattle.cept_run.specs.declared.words.ScriptAction.TheVariants.{Edit, Trace}
 use Rattle.cept_run.specs.Course.{File, Given, Source, course_of}
 use Rattle.cept_run.specs.Words.{Bytes, Drawing, Flash, Number, Page, Request, Script}
@@ -26,6 +26,7 @@ read rows =
 sources : read (
     (Page Changes page, File page, Given [])
     ∷ (Page Check page, File page, Given [])
+    ∷ (Page ListItems page, File page, Given [])
     ∷ (Page Show page, File page, Given [])
     ∷ (Page Cells page, File page, Given [])
     ∷ (Page Write page, File page, Given [])
@@ -41,21 +42,21 @@ sources = (refl, refl)
 
 -- all requests
 abbrev requests : List Request
-requests = Page Changes page ∷ Page Check page ∷ Page Show page ∷ Page Cells page ∷ Page Write page
-    ∷ Script Trace page script ∷ Script Edit page script ∷ Number Generate 0 ∷ Number Load 0
+requests = Page Changes page ∷ Page Check page ∷ Page ListItems page ∷ Page Show page ∷ Page Cells page
+    ∷ Page Write page ∷ Script Trace page script ∷ Script Edit page script ∷ Number Generate 0 ∷ Number Load 0
     ∷ Bytes Seven page ∷ Bytes Eight page ∷ Flash page 6 ∷ Drawing page script ∷ []
 
 -- refused items decide the status of all but `gen`, `seven` and `eight`
 judged : map (λ request. (course_of request).judged) requests ≡
-    true ∷ true ∷ true ∷ true ∷ true ∷ true ∷ true ∷ false ∷ true ∷ false ∷ false ∷ true ∷ true ∷ []
+    true ∷ true ∷ true ∷ true ∷ true ∷ true ∷ true ∷ true ∷ false ∷ true ∷ false ∷ false ∷ true ∷ true ∷ []
 judged = refl
 
--- all but `check`, `gen`, `seven` and `eight` paint, and take memory
+-- all but `check`, `list`, `gen`, `seven` and `eight` paint, and take memory
 painting : map (λ request. (course_of request).painting) requests ≡
-    true ∷ false ∷ true ∷ true ∷ true ∷ true ∷ true ∷ false ∷ true ∷ false ∷ false ∷ true ∷ true ∷ []
+    true ∷ false ∷ false ∷ true ∷ true ∷ true ∷ true ∷ true ∷ false ∷ true ∷ false ∷ false ∷ true ∷ true ∷ []
 painting = refl
 
 -- `write`, `edit` and `plot` put a page, and nothing else
 written : map (λ request. (course_of request).written) requests ≡
-    false ∷ false ∷ false ∷ false ∷ true ∷ false ∷ true ∷ false ∷ false ∷ false ∷ false ∷ false ∷ true ∷ []
+    false ∷ false ∷ false ∷ false ∷ false ∷ true ∷ false ∷ true ∷ false ∷ false ∷ false ∷ false ∷ false ∷ true ∷ []
 written = refl

@@ -19,11 +19,12 @@ use Rattle.cept_editor.specs.Script.{edits_from}
 use Rattle.cept_editor.specs.Table.{row_of}
 use Rattle.cept_plot.specs.Drawings.{figure_of, line_meaning as figure_meaning}
 use Rattle.cept_report.specs.Text.{line_reason_name, line_reason_number, reason_name, reason_number}
+use Rattle.cept_listing.specs.Listing.{command_text, said_text}
 use Rattle.cept_words.specs.Faults.{fault_from}
 use Rattle.cept_seven.specs.Eight.{accepted_after, eight_after, is_shifted}
 use Rattle.cept_seven.specs.Seven.{texts}
 use Rattle.cept_run.specs.declared.words.BytesAction.TheVariants.{Eight, Seven}
-use Rattle.cept_run.specs.declared.words.PageAction.TheVariants.{Check}
+use Rattle.cept_run.specs.declared.words.PageAction.TheVariants.{Check, List as ListItems}
 use Rattle.cept_run.specs.declared.words.ScriptAction.TheVariants.{Edit, Trace}
 use Rattle.cept_run.specs.Course.{course_of}
 use Rattle.cept_run.specs.Events.{item_events, script_events}
@@ -72,6 +73,21 @@ with_refusals : are_told (Page Check page) (
     ∷ (0x1B ∷ [], codes "! 0 1 7 Truncated\nitems 1 refused 1\n") ∷ [])
 unfolding reading_computes report item_events script_events edits_from digits reason_number reason_name
 with_refusals = refl
+
+-- ---- `list`: a line for each item, also of bytes that are passed over and of refused ones
+
+-- nothing; a format and a sign; default colours, after which a byte is passed over; a unit that is broken off and one
+-- that is cut off
+items_listed : are_told (Page ListItems page) (
+    ([], [])
+    ∷ (0x1F ∷ 0x2D ∷ 0x42 ∷ 0x61 ∷ [], codes "0 3 FORMAT 20 wrap\n3 1 GRAPHIC 6/1\n")
+    ∷ (0x1F ∷ 0x26 ∷ 0x21 ∷ 0x41 ∷ 0x0D ∷ [], codes "0 3 COLOUR-DEFAULTS\n3 1 SKIPPED\n4 1 APR\n")
+    ∷ (
+      0x91 ∷ 0x9B ∷ 0x31 ∷ 0x0D ∷ 0x1F ∷ 0x45 ∷ 0x47 ∷ 0x1B ∷ [],
+      codes "0 1 C1 9/1 MSR RDB\n1 2 REFUSED Interrupted\n3 1 APR\n4 3 APA 5 7\n7 1 REFUSED Truncated\n",
+    ) ∷ [])
+unfolding reading_computes report item_events script_events edits_from digits said_text command_text reason_name
+items_listed = refl
 
 -- ---- `seven` and `eight`: a right byte between SO and SI, a C1 code as two bytes, and a quoted SO; and back
 

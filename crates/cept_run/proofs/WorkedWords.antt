@@ -3,11 +3,11 @@ use Rattle.std.proofs.Common.{◌≡◌, ℕ, List, [], ◌∷◌, codes, map, r
 use Rattle.cept_run.specs.declared.words.BytesAction.TheVariants.{Eight, Seven}
 use Rattle.cept_run.specs.declared.words.End.TheVariants as ends
 use Rattle.cept_run.specs.declared.words.NumberAction.TheVariants.{Generate, Load}
-use Rattle.cept_run.specs.declared.words.PageAction.TheVariants.{Cells, Changes, Check, Show, Write}
+use Rattle.cept_run.specs.declared.words.PageAction.TheVariants.{Cells, Changes, Check, List as ListItems, Show, Write}
 use Rattle.cept_run.specs.declared.words.ScriptAction.TheVariants.{Edit, Trace}
 use Rattle.cept_run.specs.Words.{Bytes, Drawing, Flash, Number, Page, Request, Script, request_of}
 use Rattle.cept_run.specs.Words.{asked_of_page, asked_of_phases, asked_of_script, asked_to_draw, asked_to_load}
-use Rattle.cept_run.specs.Words.{is_counted, number_of}
+use Rattle.cept_run.specs.Words.{is_counted, lists_items, number_of}
 
 -- ---- words
 
@@ -17,10 +17,11 @@ ask cases =
     map (λ (c : List (List ℕ) × Option Request). request_of c.0) cases
     ≡ map (λ (c : List (List ℕ) × Option Request). c.1) cases
 
--- each of the thirteen words, with what it takes
+-- each of the fourteen words, with what it takes
 each_word : ask (
     (codes "changes" ∷ codes "p" ∷ [], Some (Page Changes (codes "p")))
     ∷ (codes "check" ∷ codes "p" ∷ [], Some (Page Check (codes "p")))
+    ∷ (codes "list" ∷ codes "p" ∷ [], Some (Page ListItems (codes "p")))
     ∷ (codes "show" ∷ codes "p" ∷ [], Some (Page Show (codes "p")))
     ∷ (codes "cells" ∷ codes "p" ∷ [], Some (Page Cells (codes "p")))
     ∷ (codes "write" ∷ codes "p" ∷ [], Some (Page Write (codes "p")))
@@ -45,6 +46,9 @@ no_requests : map request_of (
     ∷ (codes "show" ∷ [])
     ∷ (codes "show" ∷ codes "p" ∷ codes "q" ∷ [])
     ∷ (codes "show" ∷ [] ∷ [])
+    ∷ (codes "list" ∷ [])
+    ∷ (codes "list" ∷ codes "p" ∷ codes "q" ∷ [])
+    ∷ (codes "list" ∷ [] ∷ [])
     ∷ (codes "seven" ∷ [])
     ∷ (codes "eight" ∷ codes "p" ∷ codes "q" ∷ [])
     ∷ (codes "seven" ∷ [] ∷ [])
@@ -63,7 +67,7 @@ no_requests : map request_of (
     ∷ (codes "load" ∷ codes "1" ∷ codes "1" ∷ [])
     ∷ (codes "flash" ∷ codes "p" ∷ [])
     ∷ (codes "flash" ∷ [] ∷ codes "1" ∷ []) ∷ [])
-    ≡ replicate 26 None
+    ≡ replicate 29 None
 unfolding request_of
 no_requests = refl
 
@@ -94,11 +98,12 @@ turns = refl
 
 -- ---- what is put and painted
 
--- of a page: the changed cells and the refused items; the refused items and counts, and nothing is painted; the screen;
--- its cells; the page
-of_pages : map asked_of_page (Changes ∷ Check ∷ Show ∷ Cells ∷ Write ∷ []) ≡
+-- of a page: the changed cells and the refused items; the refused items and counts, or all items, and nothing is
+-- painted; the screen; its cells; the page
+of_pages : map asked_of_page (Changes ∷ Check ∷ ListItems ∷ Show ∷ Cells ∷ Write ∷ []) ≡
     record { painting = true; listed = true; refusals = true; edits_listed = false; end = ends.Nothing }
     ∷ record { painting = false; listed = false; refusals = true; edits_listed = false; end = ends.Nothing }
+    ∷ record { painting = false; listed = true; refusals = true; edits_listed = false; end = ends.Nothing }
     ∷ record { painting = true; listed = false; refusals = false; edits_listed = false; end = ends.Screen }
     ∷ record { painting = true; listed = false; refusals = false; edits_listed = false; end = ends.Cells }
     ∷ record { painting = true; listed = false; refusals = false; edits_listed = false; end = ends.Page } ∷ []
@@ -117,6 +122,11 @@ of_others : asked_to_load ∷ asked_of_phases 0 ∷ asked_of_phases 600 ∷ aske
     ∷ record { painting = true; listed = false; refusals = false; edits_listed = false; end = ends.Phases 600 }
     ∷ record { painting = true; listed = false; refusals = false; edits_listed = false; end = ends.Page } ∷ []
 of_others = refl
+
+-- items are listed of a page that isn't painted, where something is listed at all
+items_listed : map (λ action. lists_items (asked_of_page action)) (Changes ∷ Check ∷ ListItems ∷ Show ∷ Write ∷ [])
+    ≡ false ∷ false ∷ true ∷ false ∷ false ∷ []
+items_listed = refl
 
 -- painted cells are counted for the counts alone
 counted : map is_counted (ends.Nothing ∷ ends.Screen ∷ ends.Cells ∷ ends.Page ∷ ends.Counts ∷ ends.Phases 1 ∷ [])

@@ -1,7 +1,7 @@
 -- What stands while a page is reported, and from which items to which it goes on. This project's own. Private clauses
 -- alone cite this file.
 use Rattle.std.specs.Prelude.{◌≡◌, ℕ, ◌+◌, ◌≤◌, Bool, true, false, List, [], ◌∷◌, ◌++◌, length, Option, Some, None}
-use Rattle.std.specs.Prelude.{if◌then◌else◌, Result, OnOk, OnErr, IsOk, IsSome}
+use Rattle.std.specs.Prelude.{if◌then◌else◌, Result, OnOk, OnErr, IsSome}
 use Rattle.cept_codes.specs.declared.command.Command.{Command}
 use Rattle.cept_codes.specs.declared.item.Item.{Item}
 use Rattle.cept_codes.specs.declared.item.Reason.{Reason}
@@ -13,7 +13,8 @@ use Rattle.cept_profile.specs.Look.{grid}
 use Rattle.cept_profile.specs.State.{State, state}
 use Rattle.cept_profile.specs.Valid.{AllValid}
 use Rattle.cept_repaint.specs.GlassState.{GlassState, Lists}
-use Rattle.cept_report.specs.Text.{change_lines, refusal_line}
+use Rattle.cept_listing.specs.Listing.{item_line}
+use Rattle.cept_report.specs.Text.{change_lines}
 use Rattle.cept_editor.specs.Events.{Event}
 use Rattle.cept_editor.specs.Kept.{KeptEdits, none_kept, kept_after, EditorState, StandsAfter}
 use Rattle.cept_editor.specs.Made.{Output, ArePainted, IsMade, AreMade, AreCutOff}
@@ -27,6 +28,7 @@ use Rattle.cept_run.specs.declared.words.End.{End}
 use Rattle.cept_run.specs.declared.words.End.TheVariants as ends
 use Rattle.cept_run.specs.Words.{is_counted}
 use Rattle.cept_run.specs.Events.{history, item_events, refused_count, painted_at, kept_of, script_events, edited_events}
+use Rattle.cept_run.specs.Events.{named_text}
 use Rattle.cept_run.specs.Events.{Sequel, Edits, Figures, nothing_more, drawing_commands, sequel_events, remaining_after}
 
 -- ---- the reporter of items
@@ -112,7 +114,11 @@ pub record HasReported (plan : Plan) (reporter : ReporterState) (reported : List
 -- what is put of refused bytes
 abbrev pub refusal_text : Asked → Item → Reason → List ℕ
 refusal_text asked item reason =
-    if asked.refusals then refusal_line item.at item.len reason else []
+    if asked.refusals then named_text asked item reason else []
+
+-- what is put of an item whose command isn't applied
+abbrev pub item_text : Asked → Item → List ℕ
+item_text asked item = if asked.listed then item_line item else []
 
 -- a command at this place, after these
 abbrev pub command_event : Asked → ℕ → List Command → Command → Event
@@ -153,8 +159,6 @@ pub record Applies {X E : Type 0} (old : ReporterState) (place : ℕ) (command :
       → old.asked.painting ≡ true → old.easel ≡ painted_easel sequel earlier
       → new.painted ≡ old.painted + counted_of old.asked (length (changes earlier command))
   pub few : new.painted ≤ old.painted + 960
-  pub idle : old.easel ≡ easels.Nothing
-      → (new.easel ≡ easels.Nothing) × IsOk result × (after ≡ before) × (new.painted ≡ old.painted)
 
 -- it goes on by these items: all are reported, or the sink failed at one
 pub record ReportsOn {X E : Type 0} (old : ReporterState) (more : List Item) (before : Output) (result : Result X E)

@@ -1,5 +1,5 @@
 -- The words of the program: which of them are a request, and what a request asks for. This project's own.
-use Rattle.std.specs.Prelude.{◌≢◌, ℕ, ◌^◌, Bool, true, false, ◌&&◌, List, [], ◌∷◌, Option, Some, None, codes}
+use Rattle.std.specs.Prelude.{◌≢◌, ℕ, ◌^◌, Bool, true, false, not, ◌&&◌, List, [], ◌∷◌, Option, Some, None, codes}
 use Rattle.std.specs.Prelude.{if◌then◌else◌, length, nat_lt, nat_le}
 use Rattle.std.specs.Char.{is_ascii_digit}
 use Rattle.std.specs.List.{list_all}
@@ -44,11 +44,18 @@ request_by (named.Number action number) = Number action number
 request_by (named.Flash page turns) = Flash page.now turns
 request_by (named.Drawing page drawing) = Drawing page.now drawing.now
 
+-- it reads items, and so takes a glass, which `check` leaves blank; the others put bytes alone
+abbrev pub takes_glass : Request → Bool
+takes_glass (Bytes action page) = false
+takes_glass (Number numbers.Generate number) = false
+takes_glass _ = true
+
 -- the table of the first words
 abbrev pub word_of : List ℕ → Option Word
 word_of word =
     if bytes_eq word (codes "changes") then Some (words.Page pages.Changes) else
     if bytes_eq word (codes "check") then Some (words.Page pages.Check) else
+    if bytes_eq word (codes "list") then Some (words.Page pages.List) else
     if bytes_eq word (codes "show") then Some (words.Page pages.Show) else
     if bytes_eq word (codes "cells") then Some (words.Page pages.Cells) else
     if bytes_eq word (codes "write") then Some (words.Page pages.Write) else
@@ -144,6 +151,7 @@ painted_alone = record {
 abbrev pub asked_of_page : PageAction → Asked
 asked_of_page pages.Changes = record painted_alone { listed = true; refusals = true }
 asked_of_page pages.Check = record painted_alone { painting = false; refusals = true }
+asked_of_page pages.List = record painted_alone { painting = false; listed = true; refusals = true }
 asked_of_page pages.Show = record painted_alone { end = ends.Screen }
 asked_of_page pages.Cells = record painted_alone { end = ends.Cells }
 asked_of_page pages.Write = record painted_alone { end = ends.Page }
@@ -164,6 +172,10 @@ asked_to_draw = record painted_alone { end = ends.Page }
 -- of a page that flashes through so many turns
 abbrev pub asked_of_phases : ℕ → Asked
 asked_of_phases turns = record painted_alone { end = ends.Phases turns }
+
+-- what is listed are the items themselves, where their changes aren't painted
+abbrev pub lists_items : Asked → Bool
+lists_items asked = asked.listed && not asked.painting
 
 -- painted cells are counted where the count is put at the end
 abbrev pub is_counted : End → Bool

@@ -4,11 +4,11 @@
 ghost use Rattle.std.specs.Prelude.{◌≡◌, ℕ, ◌+◌, ◌*◌, ◌^◌, ◌<◌, ◌≤◌, ◌∷◌, [], List, count_by};
 ghost use Rattle.std.specs.Prelude.{length, nat_lt, if◌then◌else◌};
 ghost use Rattle.std.specs.List.{AllByRecursion};
-ghost use Rattle.cept_codes.specs.Command.{IsValidCommand, IsValidSaid};
+ghost use Rattle.cept_codes.specs.Command.{IsValidCommand, IsValidItem, IsValidSaid};
 ghost use Rattle.cept_parser.specs.Items.{closed_items};
 ghost use Rattle.cept_outside.specs.SinkState.{PutsText};
 ghost use Rattle.cept_profile.specs.State.{state};
-ghost use Rattle.cept_run.specs.Events.{painted_end, text_at_end};
+ghost use Rattle.cept_run.specs.Events.{counts_text, painted_end, text_at_end};
 ghost use Rattle.cept_editor.specs.Made.{output_of};
 
 use crate::easel::Easel;
@@ -16,6 +16,7 @@ use crate::edits::{draw, make_lines};
 use crate::words::{Asked, End};
 use cept_codes::{Command, Item, Reason, Said};
 use cept_flash::Blink;
+use cept_listing::put_item;
 use cept_outside::{Sink, Steps, WriteFault};
 use cept_repaint::{Glass, Marks, Screen};
 use cept_report::{
@@ -67,7 +68,7 @@ fn count_marked(counting: bool, marks: &Marks) -> u64
 
 impl Reporter {
     ghost use Rattle.cept_run.specs.Reporting.{Plan, StandsAtEnd, Applies, ReportsOn, EditsOn};
-    ghost use Rattle.cept_run.specs.Reporting.{refusal_text, remaining_at_end, HasBlink};
+    ghost use Rattle.cept_run.specs.Reporting.{item_text, refusal_text, remaining_at_end, HasBlink};
 
     /// A reporter before the first item, of what is asked for, with what commands are applied to.
     pub fn new(asked: Asked, easel: Easel) -> Reporter
@@ -90,7 +91,7 @@ impl Reporter {
     }
 
     /// Applies a command of the page, paints what it changes, counts the painted places and puts
-    /// their lines, where that is asked for. Where commands aren't applied nothing happens.
+    /// their lines, where that is asked for.
     // In place, since most commands are attributes, which need little.
     #[inline(always)]
     fn apply<T: Sink, G: Glass, L: Ledger>(
@@ -108,9 +109,6 @@ impl Reporter {
             (output_of (T.state sink.old) (G.state glass.old)) result self.new
             (output_of (T.state sink.new) (G.state glass.new)) }
     {
-        if !self.asked.painting {
-            return Ok(());
-        }
         self.easel.apply(command, glass, &mut self.marks, steps);
         let Some(screen) = self.easel.screen() else {
             return Ok(());
@@ -127,11 +125,29 @@ impl Reporter {
         reason: Reason,
         sink: &mut T,
     ) -> Result<(), WriteFault>
+        requires valid { IsValidItem item.now }
         ensures { PutsText (T.state sink.old) (refusal_text self.now.asked item.now reason) result
             (T.state sink.new) }
     {
-        if self.asked.refusals {
+        if !self.asked.refusals {
+            Ok(())
+        } else if self.asked.lists_items() {
+            put_item(sink, item)
+        } else {
             put_refusal(sink, item.at, item.len, reason)
+        }
+    }
+
+    /// Puts the line of an item whose command isn't applied, where that is asked for.
+    // In place, since `check` asks for none.
+    #[inline(always)]
+    fn list_item<T: Sink>(&self, item: &Item, sink: &mut T) -> Result<(), WriteFault>
+        requires valid { IsValidItem item.now }
+        ensures { PutsText (T.state sink.old) (item_text self.now.asked item.now) result
+            (T.state sink.new) }
+    {
+        if self.asked.listed {
+            put_item(sink, item)
         } else {
             Ok(())
         }
@@ -154,7 +170,13 @@ impl Reporter {
     {
         self.items += 1;
         match &item.what {
-            Said::Command(command) => self.apply(item.at, command, sink, glass, steps),
+            Said::Command(command) => {
+                if self.asked.painting {
+                    self.apply(item.at, command, sink, glass, steps)
+                } else {
+                    self.list_item(item, sink)
+                }
+            }
             Said::Refused(reason) => {
                 self.refused += 1;
                 self.name_refusal(item, *reason, sink)
@@ -240,6 +262,19 @@ impl Reporter {
         }
     }
 
+    /// Puts how many items there were and were refused, where they weren't listed.
+    fn put_counts<T: Sink>(&self, sink: &mut T) -> Result<(), WriteFault>
+        ensures { PutsText (T.state sink.old)
+            (counts_text self.now.asked self.now.items self.now.refused) result
+            (T.state sink.new) }
+    {
+        if self.asked.listed {
+            Ok(())
+        } else {
+            put_check(sink, self.items, self.refused)
+        }
+    }
+
     /// Puts the text at the end of a page of so many bytes.
     pub fn put_end<T: Sink, G: Glass>(
         &self,
@@ -255,7 +290,7 @@ impl Reporter {
             (remaining_at_end plan (closed_items page))) result (T.state sink.new) }
     {
         match self.easel.screen() {
-            None => put_check(sink, self.items, self.refused),
+            None => self.put_counts(sink),
             Some(screen) => self.put_painted(screen, bytes, blink, sink, glass),
         }
     }

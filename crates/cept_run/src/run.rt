@@ -1,11 +1,13 @@
-ghost use Rattle.std.specs.Prelude.{◌≡◌, ◌≢◌, ◌^◌, ◌<◌, ◌≤◌, [], List, None, Some, ℕ};
+ghost use Rattle.std.specs.Prelude.{◌≡◌, ◌≢◌, ◌^◌, ◌<◌, ◌≤◌, [], List, None, Some, IfSome, true, ℕ};
 ghost use Rattle.std.specs.Prelude.{map, string_bytes, length};
 ghost use Rattle.cept_editor.specs.Made.{Output};
 ghost use Rattle.cept_generator.specs.Generated.{generated};
+ghost use Rattle.cept_outside.specs.Ledger.{IsBlankOf};
 ghost use Rattle.cept_outside.specs.QuietShelf.{quiet_shelf_state};
 ghost use Rattle.cept_outside.specs.QuietSink.{quiet_sink_state};
 ghost use Rattle.cept_outside.specs.ShelfState.{ShelfState};
 ghost use Rattle.cept_parser.specs.Items.{closed_items};
+ghost use Rattle.cept_repaint.specs.GlassState.{GlassState};
 ghost use Rattle.cept_run.specs.Course.{Source, File, Given, Grammar, Scripts, reporting};
 ghost use Rattle.cept_run.specs.Course.{course_of, sequel_in};
 ghost use Rattle.cept_run.specs.Events.{text_at_end, has_refusal, nothing_more};
@@ -16,7 +18,7 @@ ghost use Rattle.cept_run.specs.Reporting.{HasBlink, remaining_at_end};
 ghost use Rattle.cept_run.specs.Run.{Runs, RunsCourse, Asks, IsShortScript};
 ghost use Rattle.cept_run.specs.Run.{status_number, status_of, status_at_end};
 ghost use Rattle.cept_run.specs.ScriptReading.{ScriptKnown};
-ghost use Rattle.cept_run.specs.Words.{Request as Asked, HasTwoNames, Page, Script as OfScript};
+ghost use Rattle.cept_run.specs.Words.{Request as Asked, HasTwoNames, Page, Script as OfScript, takes_glass};
 ghost use Rattle.cept_run.specs.Words.{Flash, Number, Drawing as OfDrawing, request_by, request_of};
 
 use crate::decoder::Decoder;
@@ -163,9 +165,7 @@ fn report_stored<F: Shelf, T: Sink, G: Glass, L: Ledger>(
     requires fresh { (start : Output)
         → HasRead (plan_in decoder.old.reporter) decoder.old [] start start }
     requires blink { HasBlink decoder.old.reporter.asked.end blink.old }
-    requires name { blank.name ≡ L.name }
-    requires parts { blank.parts ≡ L.parts }
-    requires some { 0 < blank.parts }
+    requires blank { IsBlankOf L.name L.parts blank.name blank.parts }
     ensures { (grammar : Grammar) (script : Source) (bytes : List ℕ) (start : ShelfState)
         → ScriptKnown grammar page.now.text.now script bytes start (F.state shelf.old)
         → sequel_of (plan_in decoder.old.reporter) ≡ sequel_in grammar bytes
@@ -327,9 +327,7 @@ fn report_generated<T: Sink, G: Glass, L: Ledger>(
         → HasRead (plan_in decoder.old.reporter) decoder.old [] start start }
     requires alone { sequel_of (plan_in decoder.old.reporter) ≡ nothing_more }
     requires blink { HasBlink decoder.old.reporter.asked.end None }
-    requires name { blank.name ≡ L.name }
-    requires parts { blank.parts ≡ L.parts }
-    requires some { 0 < blank.parts }
+    requires blank { IsBlankOf L.name L.parts blank.name blank.parts }
     ensures { (shelf : ShelfState)
         → RunsCourse
         (reporting decoder.old.reporter.asked Scripts (Given (generated number)) (Given []))
@@ -431,6 +429,34 @@ pub fn run_request<F: Shelf, T: Sink, G: Glass>(
     Status::at_end(report_request(alloc, request, shelf, sink, glass))
 }
 
+/// Runs the program on a request that reads no items, which takes no glass: it does all that `run` does
+/// over whatever glass. Any other request it leaves, and answers nothing.
+pub fn run_without_glass<F: Shelf, T: Sink>(
+    request: Request<'_>,
+    shelf: &mut F,
+    sink: &mut T,
+) -> Option<Status>
+    ensures runs { IfSome result (λ status. (words : List (List ℕ)) (glass : GlassState)
+        → request_of words ≡ Some (request_by request.entry)
+        → Runs words (outside_of (F.state shelf.old) (T.state sink.old) glass)
+        (outside_of (F.state shelf.new) (T.state sink.new) glass) status) }
+    ensures left { result ≡ None → (takes_glass (request_by request.entry) ≡ true)
+        × (F.state shelf.new ≡ F.state shelf.old) × (T.state sink.new ≡ T.state sink.old) }
+{
+    // A law: a generated page is short.
+    generated_pages_are_short();
+    match request {
+        Request::Bytes(action, page) => {
+            Some(Status::at_end(put_bytes(action, page, shelf, sink)))
+        }
+        Request::Number(action, number) => match action {
+            NumberAction::Generate => Some(Status::at_end(put_generated(number, sink))),
+            NumberAction::Load => None,
+        },
+        _ => None,
+    }
+}
+
 /// Runs the program on its words, those after the program's name, over a shelf, a sink and a glass.
 ///
 /// `changes PAGE`, `show PAGE`, `cells PAGE` and `write PAGE` apply the commands of the page one
@@ -438,7 +464,7 @@ pub fn run_request<F: Shelf, T: Sink, G: Glass>(
 /// their lines; `show` and `cells` put after the last item what the glass shows, and `write` the
 /// bytes that bring the page back. `check PAGE` applies and paints nothing: it puts how many items
 /// there are and how many are refused. `changes` and `check` put the line of a refused item, which
-/// changes nothing.
+/// changes nothing. `list PAGE` paints nothing either, and puts the line of each item.
 ///
 /// `trace PAGE SCRIPT` and `edit PAGE SCRIPT` read the script first. They apply and paint the page
 /// likewise, and then the edits of the script, an undo by bringing back the state before the last

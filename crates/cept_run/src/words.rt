@@ -8,7 +8,7 @@ ghost use Rattle.cept_run.specs.Words.{asked_of_page, asked_of_phases, asked_of_
 ghost use Rattle.cept_run.specs.Words.{asked_to_draw, asked_to_load, flash_request, number_of};
 ghost use Rattle.cept_run.specs.Words.{drawing_request, turns_of};
 ghost use Rattle.cept_run.specs.Words.{bytes_request, is_counted, request_by, request_of, page_request};
-ghost use Rattle.cept_run.specs.Words.{script_request};
+ghost use Rattle.cept_run.specs.Words.{lists_items, script_request};
 ghost use Rattle.cept_run.specs.Words.{number_request, word_of, HasTwoNames};
 
 /// What is asked for of a page.
@@ -18,6 +18,8 @@ pub enum PageAction {
     Changes,
     /// `check PAGE`: the refused items, and how many items there are.
     Check,
+    /// `list PAGE`: the items.
+    List,
     /// `show PAGE`: the screen at the end, as text.
     Show,
     /// `cells PAGE`: the cells of the screen at the end that aren't blank.
@@ -85,10 +87,10 @@ impl End {
 /// What is done with a page on the way.
 #[derive(Clone, Copy, Debug, PartialEq, Eq)]
 pub struct Asked {
-    /// Its commands are applied and painted. Else its items are counted, and the counts put at the
-    /// end.
+    /// Its commands are applied and painted. Else its items are listed, or they are counted and the
+    /// counts put at the end.
     pub painting: bool,
-    /// The changes of each of its commands are listed.
+    /// What its commands change is listed, or where they aren't painted its items.
     pub listed: bool,
     /// Its refused items are named.
     pub refusals: bool,
@@ -107,6 +109,16 @@ const PAINTED: Asked = Asked {
     end: End::Nothing,
 };
 
+impl Asked {
+    /// Whether its items are listed.
+    #[inline(always)]
+    pub fn lists_items(self) -> bool
+        ensures { result ≡ lists_items self }
+    {
+        self.listed && !self.painting
+    }
+}
+
 impl PageAction {
     /// What it asks for.
     pub fn asked(self) -> Asked
@@ -120,6 +132,12 @@ impl PageAction {
             },
             PageAction::Check => Asked {
                 painting: false,
+                refusals: true,
+                ..PAINTED
+            },
+            PageAction::List => Asked {
+                painting: false,
+                listed: true,
                 refusals: true,
                 ..PAINTED
             },
@@ -211,6 +229,8 @@ fn word_of(word: &str) -> Option<Word>
         Some(Word::Page(PageAction::Changes))
     } else if word == "check" {
         Some(Word::Page(PageAction::Check))
+    } else if word == "list" {
+        Some(Word::Page(PageAction::List))
     } else if word == "show" {
         Some(Word::Page(PageAction::Show))
     } else if word == "cells" {

@@ -20,10 +20,12 @@ fn tried_quietly(alloc: Global, request: &[&str]) -> Result<(Status, u64), Fail>
 }
 
 /// Words, the status, and how many bytes are put. A file that was never added is an empty page.
-const RUNS: [(&[&str], Status, u64); 6] = [
+const RUNS: [(&[&str], Status, u64); 8] = [
     (&["changes", "page"], Status::Refusals, 55),
     (&["check", "page"], Status::Refusals, 44),
     (&["check", "other"], Status::Done, 18),
+    (&["list", "page"], Status::Refusals, 46),
+    (&["list", "other"], Status::Done, 0),
     (&["changes", "other"], Status::Done, 0),
     (&["gen", "1"], Status::Done, 49_903),
     (&["changes"], Status::Usage, 0),

@@ -51,6 +51,16 @@ pub record FitsTogether (edits : Edits) (screen : State) : Type 0 where
   pub at_begin : IfSome (at_begin edits screen) IsValidState
   pub future : AllByRecursion IsValidState (future edits screen)
 
+-- edits and the state of their screen between two edits: none is begun, and they fit together
+pub record IsBetweenEdits (edits : Edits) (screen : State) : Type 0 where
+  pub none_begun : IsNotBegun edits
+  pub fits : FitsTogether edits screen
+
+-- the same within an edit: it is begun
+pub record IsWithinEdit (edits : Edits) (screen : State) : Type 0 where
+  pub begun : IsBegun edits
+  pub fits : FitsTogether edits screen
+
 -- while an edit is begun and the state of the screen changes, the past stays, and so does the state at its begin; there is
 -- no future
 pub record StaysBegun (old : Edits) (before : State) (new : Edits) (after : State) : Type 0 where

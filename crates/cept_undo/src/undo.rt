@@ -3,8 +3,8 @@ ghost use Rattle.cept_codes.specs.Command.{IsValidCommand};
 ghost use Rattle.cept_profile.specs.State.{State};
 ghost use Rattle.cept_profile.specs.Valid.{IsValidState};
 ghost use Rattle.cept_repaint.specs.Applied.{IsApplied};
-ghost use Rattle.cept_undo.specs.Past.{FitsTogether, IsBegun, IsNotBegun, StaysBegun, at_begin};
-ghost use Rattle.cept_undo.specs.Past.{StaysUnbegun, future, most_kept, past};
+ghost use Rattle.cept_undo.specs.Past.{FitsTogether, IsBegun, IsBetweenEdits, IsNotBegun, IsWithinEdit};
+ghost use Rattle.cept_undo.specs.Past.{StaysBegun, StaysUnbegun, at_begin, future, most_kept, past};
 ghost use Rattle.cept_undo.specs.Turned.{PaintsTurn, TouchesNothing, TurnsTo};
 
 use crate::turn::{give_back, take_free, turn};
@@ -84,13 +84,11 @@ impl Undo {
 
     /// Begins an edit at the screen's state. What was undone can't be made again.
     pub fn begin(&mut self, screen: &Screen)
-        requires none_begun { IsNotBegun self.old }
-        requires fits { FitsTogether self.old screen.now }
+        requires between { IsBetweenEdits self.old screen.now }
         ensures past { past self.new screen.now ≡ past self.old screen.now }
         ensures future { future self.new screen.now ≡ [] }
-        ensures begun { IsBegun self.new }
         ensures at_begin { at_begin self.new screen.now ≡ Some screen.now }
-        ensures fits { FitsTogether self.new screen.now }
+        ensures within { IsWithinEdit self.new screen.now }
     {
         let mut delta = take_free(&mut self.undone, &mut self.spare);
         give_back(&mut self.undone, &mut self.spare);
@@ -107,8 +105,7 @@ impl Undo {
         marks: &mut Marks,
         steps: &mut Steps<L>,
     )
-        requires begun { IsBegun self.old }
-        requires fits { FitsTogether self.old screen.old }
+        requires within { IsWithinEdit self.old screen.old }
         requires valid { IsValidCommand command }
         ensures edit { StaysBegun self.old screen.old self.new screen.new }
         ensures applied { IsApplied screen.old command screen.new marks.new
@@ -133,8 +130,7 @@ impl Undo {
         marks: &mut Marks,
         steps: &mut Steps<L>,
     )
-        requires none_begun { IsNotBegun self.old }
-        requires fits { FitsTogether self.old screen.old }
+        requires between { IsBetweenEdits self.old screen.old }
         requires valid { IsValidCommand command.now }
         ensures edits { StaysUnbegun self.old screen.old self.new screen.new }
         ensures applied { IsApplied screen.old command.now screen.new marks.new
@@ -167,8 +163,7 @@ impl Undo {
         marks: &mut Marks,
         steps: &mut Steps<L>,
     )
-        requires none_begun { IsNotBegun self.old }
-        requires fits { FitsTogether self.old screen.old }
+        requires between { IsBetweenEdits self.old screen.old }
         requires valid { IsValidCommand command.now }
         ensures edits { StaysUnbegun self.old screen.old self.new screen.new }
         ensures applied { IsApplied screen.old command.now screen.new marks.new
@@ -210,12 +205,10 @@ impl Undo {
         marks: &mut Marks,
         steps: &mut Steps<L>,
     ) -> Undone
-        requires none_begun { IsNotBegun self.old }
-        requires fits { FitsTogether self.old screen.old }
+        requires between { IsBetweenEdits self.old screen.old }
         ensures turns { TurnsTo (past self.old screen.old) (future self.old screen.old)
             screen.old (past self.new screen.new) (future self.new screen.new) screen.new }
-        ensures none_begun { IsNotBegun self.new }
-        ensures fits { FitsTogether self.new screen.new }
+        ensures between { IsBetweenEdits self.new screen.new }
         ensures paints { PaintsTurn screen.old screen.new marks.new (G.state glass.old)
             (G.state glass.new) steps.old steps.new }
 
@@ -249,12 +242,10 @@ impl Undo {
         marks: &mut Marks,
         steps: &mut Steps<L>,
     ) -> Redone
-        requires none_begun { IsNotBegun self.old }
-        requires fits { FitsTogether self.old screen.old }
+        requires between { IsBetweenEdits self.old screen.old }
         ensures turns { TurnsTo (future self.old screen.old) (past self.old screen.old)
             screen.old (future self.new screen.new) (past self.new screen.new) screen.new }
-        ensures none_begun { IsNotBegun self.new }
-        ensures fits { FitsTogether self.new screen.new }
+        ensures between { IsBetweenEdits self.new screen.new }
         ensures paints { PaintsTurn screen.old screen.new marks.new (G.state glass.old)
             (G.state glass.new) steps.old steps.new }
 

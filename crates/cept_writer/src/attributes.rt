@@ -1,5 +1,4 @@
 ghost use Rattle.std.specs.Prelude.{◌≡◌, ◌+◌, ◌≤◌, ◌++◌, length};
-ghost use Rattle.cept_codes.specs.declared.attribute.Attr.TheVariants as attrs;
 ghost use Rattle.cept_writer.specs.AttributeCommands.{attribute_commands, attributes_commands};
 ghost use Rattle.cept_writer.specs.AttributeCommands.{attributes_of, class_attributes};
 ghost use Rattle.cept_writer.specs.AttributeCommands.{colour_commands, flash_commands};
@@ -70,93 +69,14 @@ pub fn add_attribute(list: &mut Commands, reach: Reach, attribute: Attr)
     }
 }
 
-/// Adds the foreground where it is set.
-fn add_fore(list: &mut Commands, reach: Reach, class: Option<u8>)
+/// Adds an attribute where there is one.
+fn add_set(list: &mut Commands, reach: Reach, attribute: Option<Attr>)
     requires { HasRoomFor 2 list.old }
     ensures { Adds list.old 2
-        (attributes_commands (code_of reach) (class_attributes (λ e. attrs.Fore e) class)) list.new }
+        (attributes_commands (code_of reach) (class_attributes (λ a. a) attribute)) list.new }
 {
-    if let Some(value) = class {
-        add_attribute(list, reach, Attr::Fore(value));
-    }
-}
-
-/// Adds the background where it is set.
-fn add_back(list: &mut Commands, reach: Reach, class: Option<u8>)
-    requires { HasRoomFor 2 list.old }
-    ensures { Adds list.old 2
-        (attributes_commands (code_of reach) (class_attributes (λ e. attrs.Back e) class)) list.new }
-{
-    if let Some(value) = class {
-        add_attribute(list, reach, Attr::Back(value));
-    }
-}
-
-/// Adds the flash where it is set.
-fn add_flash_class(list: &mut Commands, reach: Reach, class: Option<Flash>)
-    requires { HasRoomFor 2 list.old }
-    ensures { Adds list.old 2
-        (attributes_commands (code_of reach) (class_attributes (λ f. attrs.Flash f) class)) list.new }
-{
-    if let Some(value) = class {
-        add_attribute(list, reach, Attr::Flash(value));
-    }
-}
-
-/// Adds the concealing where it is set.
-fn add_conceal(list: &mut Commands, reach: Reach, class: Option<bool>)
-    requires { HasRoomFor 2 list.old }
-    ensures { Adds list.old 2
-        (attributes_commands (code_of reach) (class_attributes (λ b. attrs.Conceal b) class))
-        list.new }
-{
-    if let Some(value) = class {
-        add_attribute(list, reach, Attr::Conceal(value));
-    }
-}
-
-/// Adds the lining where it is set.
-fn add_lined(list: &mut Commands, reach: Reach, class: Option<bool>)
-    requires { HasRoomFor 2 list.old }
-    ensures { Adds list.old 2
-        (attributes_commands (code_of reach) (class_attributes (λ b. attrs.Lined b) class)) list.new }
-{
-    if let Some(value) = class {
-        add_attribute(list, reach, Attr::Lined(value));
-    }
-}
-
-/// Adds the boxing where it is set.
-fn add_boxed(list: &mut Commands, reach: Reach, class: Option<bool>)
-    requires { HasRoomFor 2 list.old }
-    ensures { Adds list.old 2
-        (attributes_commands (code_of reach) (class_attributes (λ b. attrs.Boxed b) class)) list.new }
-{
-    if let Some(value) = class {
-        add_attribute(list, reach, Attr::Boxed(value));
-    }
-}
-
-/// Adds the size where it is set.
-fn add_size(list: &mut Commands, reach: Reach, class: Option<Size>)
-    requires { HasRoomFor 2 list.old }
-    ensures { Adds list.old 2
-        (attributes_commands (code_of reach) (class_attributes (λ s. attrs.Size s) class)) list.new }
-{
-    if let Some(value) = class {
-        add_attribute(list, reach, Attr::Size(value));
-    }
-}
-
-/// Adds the inverting where it is set.
-fn add_invert(list: &mut Commands, reach: Reach, class: Option<bool>)
-    requires { HasRoomFor 2 list.old }
-    ensures { Adds list.old 2
-        (attributes_commands (code_of reach) (class_attributes (λ b. attrs.Invert b) class))
-        list.new }
-{
-    if let Some(value) = class {
-        add_attribute(list, reach, Attr::Invert(value));
+    if let Some(attribute) = attribute {
+        add_attribute(list, reach, attribute);
     }
 }
 
@@ -165,12 +85,12 @@ pub fn add_pen(list: &mut Commands, reach: Reach, pen: &Pen)
     requires { HasRoomFor 16 list.old }
     ensures { Adds list.old 16 (pen_commands (code_of reach) pen.now) list.new }
 {
-    add_fore(list, reach, pen.fore);
-    add_back(list, reach, pen.back);
-    add_flash_class(list, reach, pen.flash);
-    add_conceal(list, reach, pen.conceal);
-    add_lined(list, reach, pen.lined);
-    add_boxed(list, reach, pen.boxed);
-    add_size(list, reach, pen.size);
-    add_invert(list, reach, pen.invert);
+    add_set(list, reach, pen.fore.map(|entry| Attr::Fore(entry)));
+    add_set(list, reach, pen.back.map(|entry| Attr::Back(entry)));
+    add_set(list, reach, pen.flash.map(|flash| Attr::Flash(flash)));
+    add_set(list, reach, pen.conceal.map(|on| Attr::Conceal(on)));
+    add_set(list, reach, pen.lined.map(|on| Attr::Lined(on)));
+    add_set(list, reach, pen.boxed.map(|on| Attr::Boxed(on)));
+    add_set(list, reach, pen.size.map(|size| Attr::Size(size)));
+    add_set(list, reach, pen.invert.map(|on| Attr::Invert(on)));
 }

@@ -6,3 +6,4 @@ mod Texts
 mod Reports
 mod ReportsTold
 mod WorkedCalls
+mod Filled

@@ -1,26 +1,21 @@
 -- What stands in the slice after a run, and what its status says.
 use Rattle.std.proofs.Common.{◌≡◌, ◌⊎◌, inl, inr, ℕ, ◌<◌, Bool, true, false, ◌&&◌, List, ◌++◌, Some, codes, cond}
-use Rattle.std.proofs.Common.{refl, sym, ap, subst, ◌∙◌, ◌≤◌, Option, None, arith, length, is_some, IsSome}
+use Rattle.std.proofs.Common.{sym, ap, subst, ◌∙◌, ◌≤◌, arith, length, is_some, IsSome}
 use Rattle.std.proofs.Common.{take, drop, take-append-drop, length-append, length-take}
 use Rattle.std.proofs.lemmas.Option.{same_Some}
 use Rattle.std.specs.Io.KnownBytes.{append_known}
 use Rattle.cept_editor.specs.Events.{report}
-use Rattle.cept_outside.specs.ShelfState.{ShelfState, Holds, bytes_under, empty_shelf}
-use Rattle.std.specs.Prelude.{bytes_eq}
+use Rattle.cept_outside.specs.ShelfState.{ShelfState, Holds, bytes_under}
 use Rattle.cept_outside.specs.SinkState.{SinkState, Gains, GainsPart}
 use Rattle.cept_parser.specs.Items.{closed_items}
 use Rattle.cept_run.specs.Course.{Course, Source, File, Given, HasBytes, course_of}
 use Rattle.cept_run.specs.Events.{has_refusal}
 use Rattle.cept_run.specs.Run.{EndsWhole, EndsAtWriteFault, IsReportCut, IsFaultCut, Ends, RunsCourse, ReadsFiles}
-use Rattle.cept_run.specs.Run.{TouchesShelf, Runs, fault_text, report_of, status_number}
-use Rattle.cept_run.specs.Outside.{Outside}
-use Rattle.cept_run.specs.Words.{Request, request_of}
+use Rattle.cept_run.specs.Run.{TouchesShelf, fault_text, report_of, status_number}
 use Rattle.cept_run.specs.declared.run.Status.{Status}
 use Rattle.cept_run.specs.declared.run.Status.TheVariants as statuses
 use Rattle.tamligub.specs.Called.{Holding, HasRun, Calls, Supplies, IsSupplied, IsReported, Reported, IsMissed}
 use Rattle.tamligub.specs.Called.{IsFront, IsCutOff, IsFrontReported, FrontReported, IsFaultReported, FaultReported}
-use Rattle.tamligub.specs.Called.{RunsOn, empty_sink, file_in, room_in}
-use Rattle.tamligub.specs.Words.{words_for}
 
 -- a source has the bytes that the call supplies
 supplied : (page script : List ℕ) (shelf : ShelfState) → Holds shelf (codes "page") page
@@ -49,7 +44,7 @@ module _ (word : List ℕ) (given number : ℕ) (page script old new : List ℕ)
       let shown = e.reports.meaning on.blank in
       let told : Some run.text ≡ Some (report (course.events e.page e.script on.after.glass.grid)) =
       sym run.is ∙ ap (λ s. s.bytes) (sym on.after_sink) ∙ e.reports.put
-      ∙ ap (λ s. append_known s.bytes (report (course.events e.page e.script on.after.glass.grid))) (on.before_sink ∙ run.empty) in
+      ∙ ap (λ s. append_known s.bytes (report (course.events e.page e.script on.after.glass.grid))) on.before_sink in
       same_Some run.text _ told ∙ ap (λ g. report (course.events e.page e.script g)) shown
       ∙ ap (λ p. report_of course p e.script) same_page ∙ ap (λ l. report_of course read l) same_lines
 
@@ -82,7 +77,7 @@ module _ (word : List ℕ) (given number : ℕ) (page script old new : List ℕ)
   put_is text gains =
       let on = run.runs in
       same_Some run.text text (sym run.is ∙ ap (λ s. s.bytes) (sym on.after_sink) ∙ gains.bytes
-      ∙ ap (λ s. append_known s.bytes text) (on.before_sink ∙ run.empty))
+      ∙ ap (λ s. append_known s.bytes text) on.before_sink)
 
   -- a part of a text is its front
   part_is : (whole : List ℕ) → GainsPart run.runs.before.sink whole run.runs.after.sink → IsFront run.text whole
@@ -95,25 +90,19 @@ module _ (word : List ℕ) (given number : ℕ) (page script old new : List ℕ)
 
   -- no flush of the sink fails
   flushes_always : run.runs.before.sink.always_flushes ≡ true
-  flushes_always = ap (λ (s : SinkState). s.always_flushes) (run.runs.before_sink ∙ run.empty)
+  flushes_always = ap (λ (s : SinkState). s.always_flushes) run.runs.before_sink
 
   -- the room of the sink is used up
-  full_by : EndsAtWriteFault course run.runs.before run.runs.after
-      → run.runs.after.sink.room ≡ run.runs.before.sink.room → put ≡ room_in old
-  full_by e room =
+  full_by : EndsAtWriteFault course run.runs.before run.runs.after → put ≡ length old
+  full_by e =
       let on = run.runs in
-      let faultless : on.before.sink.faults ≡ 0 = ap (λ (s : SinkState). s.faults) (on.before_sink ∙ run.empty) in
+      let faultless : on.before.sink.faults ≡ 0 = ap (λ (s : SinkState). s.faults) on.before_sink in
       let counted : on.after.sink.faults ≡ run.end.faults = ap (λ (s : SinkState). s.faults) on.after_sink in
-      let some : 0 < run.end.faults = omega (arith, e.write_fault, faultless, counted) in
-      let used : Some (length run.text) ≡ Some (room_in old) =
-      sym (run.full some) ∙ ap (λ (s : SinkState). s.room) (sym on.after_sink) ∙ room
-      ∙ ap (λ (s : SinkState). s.room) (on.before_sink ∙ run.empty) in
-      run.holding.count ∙ same_Some (length run.text) (room_in old) used
+      run.holding.count ∙ run.full (omega (arith, e.write_fault, faultless, counted))
 
   front_reported_by : EndsAtWriteFault course run.runs.before run.runs.after
-      → run.runs.after.sink.room ≡ run.runs.before.sink.room → IsFrontReported course read lines old new put
-  front_reported_by e room =
-      record { text = run.text; holding = run.holding; cut = by_cut e.cut; full = full_by e room }
+      → IsFrontReported course read lines old new put
+  front_reported_by e = record { text = run.text; holding = run.holding; cut = by_cut e.cut; full = full_by e }
     where
       same : (source : Source) (bytes other : List ℕ) → HasBytes run.runs.before.shelf source bytes
           → Supplies page script source other → bytes ≡ other
@@ -159,7 +148,7 @@ module _ (word : List ℕ) (given number : ℕ) (page script old new : List ℕ)
 
   front_by : (s : Status) → answer ≡ status_number s → RunsCourse course run.runs.before run.runs.after s
       → answer ≡ 5 → IsFrontReported course read lines old new put
-  front_by statuses.WriteFault is r five = front_reported_by r.ends r.room
+  front_by statuses.WriteFault is r five = front_reported_by r.ends
   front_by statuses.Done is r five = absurd (omega (arith, is, five))
   front_by statuses.Refusals is r five = absurd (omega (arith, is, five))
   front_by statuses.Usage is r five = absurd (omega (arith, is, five))
@@ -171,23 +160,8 @@ module _ (word : List ℕ) (given number : ℕ) (page script old new : List ℕ)
 
 -- ---- the room
 
-room_stays_by : (words : List (List ℕ)) (before after : Outside) (status : Status) (asked : Option Request)
-    → request_of words ≡ asked → Runs words before after status → after.sink.room ≡ before.sink.room
-room_stays_by words before after status (Some request) is runs = (runs.request request is).room
-room_stays_by words before after status None is runs = ap (λ (o : Outside). o.sink.room) (runs.untouched (runs.usage.1 is))
-
--- after a run over an empty sink its room is still that of the slice
-pub room_in_run : (word : List ℕ) (given number : ℕ) (page script old : List ℕ) (start end : SinkState) (status : Status)
-    → RunsOn word given number page script start end status → start ≡ empty_sink (room_in old)
-    → end.room ≡ Some (room_in old)
-room_in_run word given number page script old start end status on empty =
-    ap (λ (s : SinkState). s.room) (sym on.after_sink)
-    ∙ room_stays_by (words_for word given number) on.before on.after status (request_of (words_for word given number)) refl
-    on.runs
-    ∙ ap (λ (s : SinkState). s.room) (on.before_sink ∙ empty)
-
 pub put_within : (word : List ℕ) (given number : ℕ) (page script old new : List ℕ) (put : ℕ) (status : Status)
-    → Calls word given number page script old new put status → put ≤ room_in old
+    → Calls word given number page script old new put status → put ≤ length old
 put_within word given number page script old new put status (inl run) = omega (arith, run.holding.count, run.within)
 put_within word given number page script old new put status (inr (inl not)) = omega (arith, not.unput.none)
 put_within word given number page script old new put status (inr (inr nothing)) = omega (arith, nothing.unput.none)
@@ -206,7 +180,7 @@ module _ (word : List ℕ) (given number : ℕ) (page script old new : List ℕ)
       (subst (λ (s : Source). HasBytes on.before.shelf s bad.script) (sym bad.named) bad.script_is) lines_are in
       let told : Some run.text ≡ Some (fault_text bad.fault) =
       sym run.is ∙ ap (λ (s : SinkState). s.bytes) (sym on.after_sink) ∙ e.put
-      ∙ ap (λ (s : SinkState). append_known s.bytes (fault_text bad.fault)) (on.before_sink ∙ run.empty) in
+      ∙ ap (λ (s : SinkState). append_known s.bytes (fault_text bad.fault)) on.before_sink in
       record {
         fault = bad.fault;
         found = subst (λ l. course.fault l ≡ Some bad.fault) same bad.found;
@@ -291,16 +265,3 @@ is_missed word given number page script old new put answer status is (inr (inl n
     let six = is ∙ ap status_number not.memory in absurd (omega (arith, six, four))
 is_missed word given number page script old new put answer status is (inr (inr nothing)) request asks four page_there script_there =
     let two = is ∙ ap status_number nothing.usage in absurd (omega (arith, two, four))
-
--- ---- the files of the shelf
-
-pub files_added : (page script name : List ℕ) (none one both : ShelfState) → none ≡ empty_shelf
-    → ((other : List ℕ) → bytes_under one other
-    ≡ cond (bytes_eq (codes "page") other) (Some page) (bytes_under none other))
-    → ((other : List ℕ) → bytes_under both other
-    ≡ cond (bytes_eq (codes "script") other) (Some script) (bytes_under one other))
-    → bytes_under both name ≡ file_in page script name
-files_added page script name none one both is first second =
-    second name
-    ∙ ap (cond (bytes_eq (codes "script") name) (Some script))
-    (first name ∙ ap (λ (s : ShelfState). cond (bytes_eq (codes "page") name) (Some page) (bytes_under s name)) is)

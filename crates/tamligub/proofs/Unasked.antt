@@ -1,14 +1,16 @@
 -- Words that are no request, and a call that puts nothing.
-use Rattle.std.proofs.Common.{◌≡◌, inl, inr, ℕ, List, [], ◌++◌, Option, Some, None, is_some, length, take, drop}
+use Rattle.std.proofs.Common.{◌≡◌, inl, inr, ℕ, List, [], ◌++◌, Option, Some, None, true, length, drop}
 use Rattle.std.proofs.Common.{refl, sym, ap, subst, ◌∙◌, arith}
 use Rattle.std.proofs.lemmas.Option.{same_Some}
 use Rattle.cept_outside.specs.SinkState.{SinkState}
 use Rattle.cept_run.specs.Outside.{Outside}
-use Rattle.cept_run.specs.Run.{Runs, status_number}
-use Rattle.cept_run.specs.Words.{Request, request_of}
+use Rattle.cept_run.specs.Run.{Ends, Runs, status_number}
+use Rattle.cept_run.specs.Words.{Request, Page, Bytes, Script, Number, Flash, Drawing, request_of, takes_glass}
+use Rattle.cept_run.specs.Course.{course_of}
+use Rattle.cept_run.specs.declared.words.NumberAction.TheVariants as numbers
 use Rattle.cept_run.specs.declared.run.Status.{Status}
 use Rattle.cept_run.specs.declared.run.Status.TheVariants as statuses
-use Rattle.tamligub.specs.Called.{Calls, Holding, HasRun, NothingPut, PutsNone, UsageAnswered}
+use Rattle.tamligub.specs.Called.{Calls, Holding, HasRun, MemoryTaken, NothingPut, PutsNone, UsageAnswered}
 use Rattle.tamligub.specs.Words.{words_for}
 
 -- the status with a number
@@ -44,20 +46,45 @@ usage_answered word given number page script old new put answer status is (inl r
 usage_answered word given number page script old new put answer status is (inr (inl not)) =
     let six = is ∙ ap status_number not.memory in (
       (λ two. absurd (omega (arith, six, two))),
-      (λ none. let no = sym (ap is_some none) ∙ not.asked in cc),
+      (λ none. let no = sym none ∙ not.asked in cc),
     )
 usage_answered word given number page script old new put answer status is (inr (inr nothing)) =
     ((λ two. nothing.unasked), (λ none. is ∙ ap status_number nothing.usage))
 
+-- what paints takes a glass
+painting_takes : (request : Request) → (course_of request).painting ≡ true → takes_glass request ≡ true
+painting_takes (Page action page) e = refl
+painting_takes (Bytes action page) e = cc
+painting_takes (Script action page script) e = refl
+painting_takes (Number numbers.Generate number) e = cc
+painting_takes (Number numbers.Load number) e = refl
+painting_takes (Flash page turns) e = refl
+painting_takes (Drawing page drawing) e = refl
+
+without_memory : (words : List (List ℕ)) (before after : Outside) (status : Status) (request : Request)
+    → request_of words ≡ Some request → Runs words before after status → status ≡ statuses.NoMemory
+    → takes_glass request ≡ true
+without_memory words before after status request asks runs is =
+    painting_takes request
+    (subst (λ (s : Status). Ends (course_of request) before after s) is (runs.request request asks).ends).memory
+
+pub memory_taken : (word : List ℕ) (given number : ℕ) (page script old new : List ℕ) (put answer : ℕ) (status : Status)
+    → answer ≡ status_number status → Calls word given number page script old new put status
+    → MemoryTaken word given number answer
+memory_taken word given number page script old new put answer status is (inl run) request asks six =
+    without_memory (words_for word given number) run.runs.before run.runs.after status request asks run.runs.runs
+    (memory_by status (sym is ∙ six))
+memory_taken word given number page script old new put answer status is (inr (inl not)) request asks six =
+    subst (λ (r : Request). takes_glass r ≡ true) (same_Some not.request request (sym not.asked ∙ asks)) not.glass
+memory_taken word given number page script old new put answer status is (inr (inr nothing)) request asks six =
+    let two = is ∙ ap status_number nothing.usage in absurd (omega (arith, two, six))
+
 -- of no text nothing stands in the slice
 none_held : (text old new : List ℕ) (put : ℕ) → text ≡ [] → Holding text old new put → PutsNone old new put
 none_held text old new put none holding = record {
-  stays = holding.front ∙ ap (λ t. take (length old) t ++ drop (length t) old) none ∙ nothing_first (length old);
+  stays = holding.front ∙ ap (λ t. t ++ drop (length t) old) none;
   none = holding.count ∙ ap length none;
 }
-  where
-    nothing_first : (n : ℕ) → take n [] ++ old ≡ old
-    nothing_first n = grind arith
 
 -- a run that puts nothing
 unput_run : (word : List ℕ) (given number : ℕ) (page script old new : List ℕ) (put : ℕ) (status : Status)
@@ -66,7 +93,7 @@ unput_run : (word : List ℕ) (given number : ℕ) (page script old new : List �
 unput_run word given number page script old new put status run same =
     let none : run.text ≡ [] =
     same_Some run.text [] (sym run.is ∙ ap (λ (s : SinkState). s.bytes) (sym run.runs.after_sink ∙ same
-    ∙ run.runs.before_sink ∙ run.empty)) in
+    ∙ run.runs.before_sink)) in
     none_held run.text old new put none run.holding
 
 unput_by : (words : List (List ℕ)) (before after : Outside) (asked : Option Request) → request_of words ≡ asked

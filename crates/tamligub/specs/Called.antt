@@ -1,43 +1,27 @@
 -- What a call does: it is a run over a shelf, a sink and a glass in memory. This project's own.
-use Rattle.std.specs.Prelude.{◌≡◌, ◌⊎◌, ◌<◌, ◌≤◌, ◌-◌, ◌^◌, ℕ, false, ◌&&◌, min, List, [], ◌++◌, take, drop, length, codes}
-use Rattle.std.specs.Prelude.{◌↔◌, true, Option, Some, None, IsSome, bytes_eq}
+use Rattle.std.specs.Prelude.{◌≡◌, ◌⊎◌, ◌<◌, ◌≤◌, ℕ, ◌&&◌, List, [], ◌++◌, drop, length, codes}
+use Rattle.std.specs.Prelude.{◌↔◌, true, Option, Some, None, bytes_eq}
 use Rattle.std.specs.Prelude.{if◌then◌else◌}
 use Rattle.cept_words.specs.Faults.{Fault}
 use Rattle.cept_outside.specs.ShelfState.{Holds, bytes_under}
-use Rattle.cept_outside.specs.SinkState.{SinkState}
+use Rattle.cept_outside.specs.SinkState.{SinkState, empty_sink}
 use Rattle.cept_parser.specs.Items.{closed_items}
 use Rattle.cept_profile.specs.Look.{grid}
 use Rattle.cept_run.specs.Course.{Course, Source, File, Given, course_of}
 use Rattle.cept_run.specs.Events.{has_refusal}
 use Rattle.cept_run.specs.Outside.{Outside}
 use Rattle.cept_run.specs.Run.{Runs, fault_text, report_of, status_number}
-use Rattle.cept_run.specs.Words.{Request, request_of}
+use Rattle.cept_run.specs.Words.{Request, request_of, takes_glass}
 use Rattle.cept_run.specs.declared.run.Status.{Status}
 use Rattle.cept_run.specs.declared.run.Status.TheVariants as statuses
 use Rattle.tamligub.specs.Words.{words_for}
 
 -- ---- the run
 
--- a sink with so much room into which nothing was put, and of which no flush fails
-abbrev pub empty_sink : ℕ → SinkState
-empty_sink room = record {
-  bytes = Some [];
-  count = Some 0;
-  room = Some room;
-  unflushed = false;
-  flushes = 0;
-  always_flushes = true;
-  faults = 0;
-}
-
--- how many bytes of a slice are used: as many as it has, but 2^32 - 1 at most
-abbrev pub room_in : List ℕ → ℕ
-room_in out = min (length out) (2 ^ 32 - 1)
-
 -- the file of a name: of `page` the page, of `script` the script, and no other
 abbrev pub file_in : List ℕ → List ℕ → List ℕ → Option (List ℕ)
 file_in page script name =
-    if bytes_eq (codes "script") name then Some script else if bytes_eq (codes "page") name then Some page else None
+    if bytes_eq (codes "page") name then Some page else if bytes_eq (codes "script") name then Some script else None
 
 -- the program ran over a shelf with this page, this script and no other file, whose faults are the files that it missed, a
 -- sink, and a glass that was blank
@@ -56,23 +40,21 @@ pub record RunsOn (word : List ℕ) (given number : ℕ) (page script : List ℕ
   pub after_sink : after.sink ≡ end
   pub runs : Runs (words_for word given number) before after status
 
--- this text stands at the front of the slice, as far as there is room, and `put` is its length
+-- this text stands at the front of the slice, what stood after it stays, and `put` is its length
 pub record Holding (text old new : List ℕ) (put : ℕ) : Type 0 where
-  pub front : new ≡ take (length old) text ++ drop (length text) old
+  pub front : new ≡ text ++ drop (length text) old
   pub count : put ≡ length text
 
 -- the program ran over a sink with the room of the slice, and what it put stands in the slice
 pub record HasRun (word : List ℕ) (given number : ℕ) (page script old new : List ℕ) (put : ℕ) (status : Status) : Type 0
   where
-    pub start : SinkState
-    pub empty : start ≡ empty_sink (room_in old)
     pub end : SinkState
-    pub runs : RunsOn word given number page script start end status
+    pub runs : RunsOn word given number page script (empty_sink (length old)) end status
     pub text : List ℕ
     pub is : end.bytes ≡ Some text
     -- a fault of the sink was counted only where there is no room for more
-    pub full : 0 < end.faults → end.room ≡ Some (length text)
-    pub within : length text ≤ room_in old
+    pub full : 0 < end.faults → length text ≡ length old
+    pub within : length text ≤ length old
     pub holding : Holding text old new put
 
 -- nothing is put into the slice
@@ -80,10 +62,12 @@ pub record PutsNone (old new : List ℕ) (put : ℕ) : Type 0 where
   pub stays : new ≡ old
   pub none : put ≡ 0
 
--- the words are a request, and there was no memory to begin with it
+-- the words are a request that takes a glass, and there was no memory for one
 pub record HasNotRun (words : List (List ℕ)) (old new : List ℕ) (put : ℕ) (status : Status) : Type 0 where
   pub memory : status ≡ statuses.NoMemory
-  pub asked : IsSome (request_of words)
+  pub request : Request
+  pub asked : request_of words ≡ Some request
+  pub glass : takes_glass request ≡ true
   pub unput : PutsNone old new put
 
 -- the words are no request
@@ -138,7 +122,7 @@ pub record IsFrontReported (course : Course) (page script old new : List ℕ) (p
   pub text : List ℕ
   pub holding : Holding text old new put
   pub cut : IsCutOff course page script text
-  pub full : put ≡ room_in old
+  pub full : put ≡ length old
 
 -- the line of the script's first fault stands in the slice
 pub record IsFaultReported (course : Course) (script old new : List ℕ) (put : ℕ) : Type 0 where
@@ -174,6 +158,11 @@ UsageAnswered word given number answer = (answer ≡ 2) ↔ (request_of (words_f
 -- where the words are no request, or there is no memory, nothing is put
 abbrev pub NothingPut : List ℕ → List ℕ → ℕ → ℕ → Type 0
 NothingPut old new put answer = (answer ≡ 2) ⊎ (answer ≡ 6) → PutsNone old new put
+
+-- there was no memory only where the words take a glass
+abbrev pub MemoryTaken : List ℕ → ℕ → ℕ → ℕ → Type 0
+MemoryTaken word given number answer = (request : Request)
+    → request_of (words_for word given number) ≡ Some request → answer ≡ 6 → takes_glass request ≡ true
 
 -- a file that the words ask for isn't one that the call supplies
 abbrev pub IsMissed : List ℕ → ℕ → ℕ → ℕ → Type 0

@@ -1,35 +1,19 @@
-//! A call: the run over a shelf that has the page and the script, a sink, and a blank glass.
-ghost use Rattle.std.specs.Prelude.{◌≡◌, ◌++◌, ◌-◌, ◌^◌, length, take, drop, min, IfOk, Some};
-ghost use Rattle.cept_outside.specs.PlainSink.{plain_sink_state};
-ghost use Rattle.cept_run.specs.Words.{HasTwoNames, request_by, request_of};
-ghost use Rattle.tamligub.specs.Called.{Calls, RunsOn, room_in};
+//! A call: the run over a shelf that has the page and the script, a sink over the room for the text, and a
+//! blank glass where the words take one.
+ghost use Rattle.std.specs.Prelude.{◌≡◌, true, Some, IfOk, OnErr};
+ghost use Rattle.cept_run.specs.Words.{HasTwoNames, request_by, request_of, takes_glass};
+ghost use Rattle.tamligub.specs.Called.{Calls, RunsOn};
 ghost use Rattle.tamligub.specs.Words.{words_for};
 
 use crate::words::{PAGE, SCRIPT, request_for};
 use cept_codes::NoMemory;
-use cept_outside::{PlainShelf, PlainSink};
+use cept_outside::{Filled, Lent, Sink, SliceFile, SliceShelf, SliceSink};
 use cept_profile::the_first_grid;
 use cept_repaint::GridGlass;
-use cept_run::run::{Request, Status, run_request};
+use cept_run::run::{Request, Status, run_request, run_without_glass};
 use itoa::Buffer;
 use std::alloc::Global;
-
-/// Copies the bytes to the front of `out`, as far as there is room, and answers how many they are.
-fn copy_front(bytes: &[u8], out: &mut [u8]) -> u64
-    ensures front { out.new ≡ take (length out.old) bytes.now ++ drop (length bytes.now) out.old }
-    ensures count { result ≡ length bytes.now }
-{
-    let count = bytes.len().min(out.len());
-    out[..count].copy_from_slice(&bytes[..count]);
-    bytes.len() as u64
-}
-
-/// How many bytes a call makes room for: as many as `out` has, but 2^32 - 1 at most.
-fn room_of(out: &[u8]) -> u32
-    ensures { result ≡ room_in out.now }
-{
-    u32::try_from(out.len()).unwrap_or(u32::MAX)
-}
+use std::marker::Brand;
 
 /// What is asked of the program: a word and what is given after it, with the page and the script.
 #[derive(Clone, Copy)]
@@ -42,27 +26,60 @@ pub struct Call<'a> {
 }
 
 impl<'a> Call<'a> {
-    /// Runs the program on the request that the words are, with the page and the script.
-    fn run_on(
+    /// Runs the program on the request that the words are, with the page and the script. It takes memory
+    /// for a glass where the request takes one, and answers none before anything is put.
+    fn run_on<T: Sink>(
         &self,
         alloc: Global,
         request: Request<'_>,
-        sink: &mut PlainSink,
+        sink: &mut T,
     ) -> Result<Status, NoMemory>
         requires request { request_of (words_for self.now.word.now self.now.given self.now.number)
             ≡ Some (request_by request) }
         requires names { HasTwoNames (request_by request) }
-        ensures { IfOk result (λ status. RunsOn self.now.word.now self.now.given self.now.number
-            self.now.page.now self.now.script.now (plain_sink_state sink.old)
-            (plain_sink_state sink.new) status) }
+        ensures ran { IfOk result (λ status. RunsOn self.now.word.now self.now.given self.now.number
+            self.now.page.now self.now.script.now (T.state sink.old) (T.state sink.new) status) }
+        ensures left { OnErr result ((takes_glass (request_by request.entry) ≡ true)
+            × (T.state sink.new ≡ T.state sink.old)) }
     {
         // A law: before any command each place has the blank look.
         the_first_grid();
-        let mut shelf = PlainShelf::new(alloc);
-        shelf.add(PAGE, self.page)?;
-        shelf.add(SCRIPT, self.script)?;
+        let files = [
+            SliceFile {
+                name: PAGE,
+                bytes: self.page,
+            },
+            SliceFile {
+                name: SCRIPT,
+                bytes: self.script,
+            },
+        ];
+        let mut shelf = SliceShelf::new(&files);
+        if let Some(status) = run_without_glass(request, &mut shelf, sink) {
+            return Ok(status);
+        }
         let mut glass = GridGlass::new(alloc)?;
         Ok(run_request(alloc, request, &mut shelf, sink, &mut glass))
+    }
+
+    /// Runs the program, where the words are a request, and puts its text at the front of `out`.
+    fn fill<'o, B: Lent>(&self, alloc: Global, out: &'o mut [u8], status: &mut Status) -> Filled<'o>
+        requires named { out.ghost_name ≡ B.name }
+        requires before { out.now ≡ B.before }
+        ensures name { result.out.ghost_name ≡ out.entry.ghost_name }
+        ensures calls { Calls self.now.word.now self.now.given self.now.number self.now.page.now
+            self.now.script.now B.before result.out.now result.count status.new }
+    {
+        let mut digits = Buffer::new();
+        let mut sink: SliceSink<'o, B> = SliceSink::new(out);
+        *status = match request_for(self.word, self.given, self.number, &mut digits) {
+            Some(request) => match self.run_on(alloc, request, &mut sink) {
+                Ok(status) => status,
+                Err(NoMemory) => Status::NoMemory,
+            },
+            None => Status::Usage,
+        };
+        sink.into_filled()
     }
 
     /// Runs the program, where the words are a request, and puts its text at the front of `out`, and
@@ -71,18 +88,9 @@ impl<'a> Call<'a> {
         ensures { Calls self.now.word.now self.now.given self.now.number self.now.page.now
             self.now.script.now out.old out.new put.new result }
     {
-        *put = 0;
-        let mut digits = Buffer::new();
-        let Some(request) = request_for(self.word, self.given, self.number, &mut digits) else {
-            return Status::Usage;
-        };
-        let Ok(mut sink) = PlainSink::new(alloc, room_of(out)) else {
-            return Status::NoMemory;
-        };
-        let Ok(status) = self.run_on(alloc, request, &mut sink) else {
-            return Status::NoMemory;
-        };
-        *put = copy_front(sink.bytes(), out);
+        let mut status = Status::Usage;
+        let filled = self.fill::<Brand>(alloc, out, &mut status);
+        *put = filled.count as u64;
         status
     }
 }

@@ -16,9 +16,9 @@ mod snapshot;
 mod tests;
 mod words;
 
-ghost use Rattle.std.specs.Prelude.{◌≤◌};
+ghost use Rattle.std.specs.Prelude.{◌≤◌, length};
 ghost use Rattle.tamligub.specs.Called.{Called, FaultReported, FrontReported, IsMissed, Reported};
-ghost use Rattle.tamligub.specs.Called.{NothingPut, UsageAnswered, room_in};
+ghost use Rattle.tamligub.specs.Called.{MemoryTaken, NothingPut, UsageAnswered};
 
 use crate::calling::Call;
 pub use law::{notices_are_read_back, what_is_told_is_the_report};
@@ -49,7 +49,8 @@ pub extern "C" fn tamligub_run(
     ensures usage { UsageAnswered word.now given number result }
     ensures nothing { NothingPut out.old out.new put.new result }
     ensures missed { IsMissed word.now given number result }
-    ensures within { put.new ≤ room_in out.old }
+    ensures memory { MemoryTaken word.now given number result }
+    ensures within { put.new ≤ length out.old }
 {
     let call = Call {
         word,

@@ -55,6 +55,7 @@ fn puts_the_report_or_its_front(rt: HostRuntime) -> Result<(), Fail> {
 fn answers_for_what_is_given(rt: HostRuntime) -> Result<(), Fail> {
     let cases = [
         (b"check".as_slice(), 1, b"A\x1C".as_slice(), 1),
+        (b"list", 1, b"A\x1C", 1),
         (b"check", 0, b"A", 2),
         (b"check", 3, b"A", 4),
         (b"check", 5, b"A", 2),

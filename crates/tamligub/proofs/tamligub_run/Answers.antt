@@ -1,5 +1,5 @@
 use Rattle.tamligub.proofs.Reports.{reported, front_reported, fault_reported, is_missed, put_within}
-use Rattle.tamligub.proofs.Unasked.{usage_answered, nothing_put}
+use Rattle.tamligub.proofs.Unasked.{memory_taken, usage_answered, nothing_put}
 use Rattle.tamligub.proofs.tamligub_run.Goals as goal
 
 pub returns-clause-reported : goal.returns-clause-reported
@@ -30,6 +30,11 @@ returns-clause-usage c =
 pub returns-clause-nothing : goal.returns-clause-nothing
 returns-clause-nothing c =
     nothing_put c.args.word.now c.args.given c.args.number c.args.page.now c.args.script.now c.args.out.now
+    c.answer.new.out c.answer.new.put c.from.result c.answer.result (cc) c.answer.ensures
+
+pub returns-clause-memory : goal.returns-clause-memory
+returns-clause-memory c =
+    memory_taken c.args.word.now c.args.given c.args.number c.args.page.now c.args.script.now c.args.out.now
     c.answer.new.out c.answer.new.put c.from.result c.answer.result (cc) c.answer.ensures
 
 pub returns-clause-within : goal.returns-clause-within

@@ -12,8 +12,8 @@ loop-command-init g c = record {
     past = refl;
     future = c.requires.none_undone;
     at_begin = refl;
-    begun = c.requires.begun;
-    fits = c.requires.fits;
+    begun = c.requires.within.begun;
+    fits = c.requires.within.fits;
   };
   quiet = λ _. refl;
   line = refl;
@@ -27,13 +27,13 @@ loop-command-preserved g c = let so_far = c.loop-command.invariant in record {
   gone = gone_more c.args.listing.now.listed c.args.listing.now.line _ _ c.in-Some.command _ _ _ _ _ _ _ _ _ _ _
       (gone_left c.in-Some.ensures.next c.loop-command.invariant.gone) c.in-Some.ensures.valid
       (rw so_far.line at (rw so_far.listed at c.in_ok-apply_command.ensures.applies))
-      c.in_ok-apply_command.ensures.cause.stays;
+      c.in_ok-apply_command.ensures.puts.cause.stays;
   edit = StaysBegun-more c.loop-command.invariant.edit c.apply_command.ensures.edit;
-  quiet = λ none. (c.apply_command.ensures.quiet (so_far.listed ∙ none)).1 ∙ so_far.quiet none;
+  quiet = λ none. (c.apply_command.ensures.puts.quiet (so_far.listed ∙ none)).1 ∙ so_far.quiet none;
   line = c.apply_command.ensures.line ∙ so_far.line;
   listed = c.apply_command.ensures.listed ∙ so_far.listed;
-  sink = c.apply_command.ensures.sink ∙ so_far.sink;
-  marks = c.apply_command.ensures.marks_kept ∙ so_far.marks;
+  sink = c.apply_command.ensures.borrows.sink ∙ so_far.sink;
+  marks = c.apply_command.ensures.borrows.marks ∙ so_far.marks;
 }
 
 pub returns-in_err-apply_command-clause-applies : goal.returns-in_err-apply_command-clause-applies

@@ -15,7 +15,7 @@ use Rattle.cept_rows.proofs.RowsByPart.{covered-below, covered-elsewhere, look_f
 use Rattle.cept_rows.proofs.RowsByPart.{look_from-right, look_from-single}
 use Rattle.cept_rows.proofs.places.put_place.Goals as goal
 use Rattle.cept_rows.proofs.places.put_place.Goals.{After-put_below-arg-1, After-put_to_the_right-arg-1}
-use Rattle.cept_rows.proofs.places.put_place.Goals.{After-keep-arg-then-is_single-1, After-keep_double-arg-1}
+use Rattle.cept_rows.proofs.places.put_place.Goals.{After-keep-arg-then-is_single-1, After-keep-arg-2-1}
 
 -- ---- covered from above
 
@@ -75,7 +75,7 @@ single c =
     (single_look source.defined (row_in source.cells) source.row_pen source.screen_pen c.args.column)
 
 pub keep-requires-clause-low : goal.keep-requires-clause-low
-keep-requires-clause-low c =
+keep-requires-clause-low c _ =
     let source = c.args.source.now in
     ap (λ s. covers_below s.part) c.look-own.ensures.own.look
     ∙ ap covers_below (single_look source.defined (row_in source.cells) source.row_pen source.screen_pen c.args.column)
@@ -108,7 +108,7 @@ returns-then-is_single-clause-covered c =
 
 -- ---- of another size
 
-part : (c : After-keep_double-arg-1) → c.origin_there-part.result
+part : (c : After-keep-arg-2-1) → c.origin_there-part.result
     ≡ origin_part (is_wide (own_size c.args.source.now c.args.column)
     && ltb c.args.column 40 && not (covers_below (part_of (look_at c.args.above.now (c.args.column + 1)))))
     (is_high (own_size c.args.source.now c.args.column) && not c.args.source.now.last)
@@ -118,7 +118,7 @@ part c =
     && not (c.is_covered_beside-beside.ensures i))
     (is_high (c.look-own.ensures.own.size i) && not (c.is_last.ensures i)))
 
-origin : (c : After-keep_double-arg-1)
+origin : (c : After-keep-arg-2-1)
     → look_with_part c.origin_there-part.result (own_look c.args.source.now c.args.column)
     ≡ place_made c.args.source.now c.args.above.now c.args.column
 origin c =
@@ -126,8 +126,8 @@ origin c =
     c.args.source.now.last c.args.column c.origin_there-part.result c.number-number.ensures.in_range.0
     (sym c.covers_below.ensures ∙ c.if-covers_below.false) (sym c.requires.covered ∙ c.if-covered.false) (part c)
 
-pub keep_double-requires : goal.keep_double-requires
-keep_double-requires c =
+pub keep-requires-2-clause-small : goal.keep-requires-2-clause-small
+keep-requires-2-clause-small c =
     let source = c.args.source.now in
     small_is _ _ _
     (origin_is (own_look source c.args.column) _ c.look-own.result.look c.origin_there-part.result
@@ -139,7 +139,7 @@ pub returns-clause-looks : goal.returns-clause-looks
 returns-clause-looks c =
     let source = c.args.source.now in
     let there = c.before.before in
-    c.keep_double.ensures
+    c.keep-2.ensures
     ∙ ap (λ l. with_look c.args.looks.now c.args.column l)
     (kept_is _ _ _
     (origin_is (own_look source c.args.column) _ c.look-own.result.look c.origin_there-part.result

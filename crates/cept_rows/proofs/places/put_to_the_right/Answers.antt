@@ -9,7 +9,7 @@ pub put-requires : goal.put-requires
 put-requires c =
     let plain = sym c.has_pattern.ensures ∙ c.if-has_pattern.false in
     let left = c.small-left.ensures.look
-    ∙ ap (λ n. small_of (look_at c.args.looks.now n)) (c.numbered.ensures ∙ ap (λ n. n - 1) c.number.ensures.number) in
+    ∙ ap (λ n. small_of (look_at c.args.looks.now n)) (c.numbered-beside.ensures ∙ ap (λ n. n - 1) c.number.ensures.number) in
     record {
       plain = plain;
       small = plain_small _ _ (right_is _ c.small-left.result c.to_the_right.result left c.to_the_right.ensures)

@@ -15,7 +15,7 @@ loop-k-preserved g c = λ page stands. has_made_same _ page _ _ _ _ _
     (elim c.match-branch-2.branch [
       | in-Done w ↦ rw w.sink-is (HasMadeLines-more _ page _ _ _ _ _ _ _ _ (c.loop-k.invariant page stands)
           (line_done _ _ _ _ _ _ tt (rw w.in-Done.is at c.in_ok-line.ensures.goes_on spare_line)
-          (rw w.in-Done.is at c.in_ok-line.ensures.cause)))
+          (rw w.in-Done.is at c.in_ok-line.ensures.puts.cause)))
       | in-Nothing+in_ok-tell_nothing-in-Nothing w ↦ rw w.sink-is (HasMadeLines-more _ page _ _ _ _ _ _ _ _
           (c.loop-k.invariant page stands)
           (line_nothing _ _ _ _ _ _ _ (rw w.in-Nothing.is at c.in_ok-line.ensures.goes_on spare_line) _

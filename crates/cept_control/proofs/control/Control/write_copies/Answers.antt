@@ -16,7 +16,7 @@ write-requires-clause-room c =
 pub loop-copy-init : goal.loop-copy-init
 loop-copy-init c = record {
   state = sym (control_after_copies-none c.args.self.now c.args.sign);
-  strokes = c.requires.empty ∙ sym (strokes_of_copies-none c.args.self.now c.args.sign);
+  strokes = c.requires.copies.empty ∙ sym (strokes_of_copies-none c.args.self.now c.args.sign);
 }
 
 pub loop-copy-preserved : goal.loop-copy-preserved

@@ -4,8 +4,8 @@ use Rattle.cept_outside.proofs.std_sink.StdSink.hand_on.Goals as goal
 
 pub loop-self-preserved : goal.loop-self-preserved
 loop-self-preserved g c = record {
-  kept = handed_on _ _ _ c.loop-self.self.held.items c.as_slice.result.now c.loop-self.self.sent c.in_ok-count.count
-      c.as_slice.ensures.value c.loop-self.invariant.kept c.in_ok-count.ensures.appends;
+  kept = handed_on _ _ _ c.loop-self.self.held c.loop-self.self.sent c.loop-self.self.end c.in_ok-count.count
+      c.loop-self.invariant.kept c.in_ok-count.ensures.appends;
   unflushed = still_unflushed c.loop-self.self.sent _ _ c.loop-self.self.writer.unflushed _ _ (omega arith)
       c.in_ok-count.ensures.unflushed c.loop-self.invariant.unflushed;
   flushes = c.in_ok-count.ensures.flushes ∙ c.loop-self.invariant.flushes;

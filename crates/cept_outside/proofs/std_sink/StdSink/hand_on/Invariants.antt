@@ -1,4 +1,4 @@
-use Rattle.std.proofs.Common.{◌≡◌, ◌-◌, length}
+use Rattle.std.proofs.Common.{◌≡◌, ◌-◌}
 use Rattle.std.specs.Io.KnownBytes.{Keeps}
 use Rattle.cept_outside.specs.StdSink.{std_sink_state, written_and_held}
 use Rattle.cept_outside.proofs.std_sink.StdSink.hand_on.Given as goal
@@ -12,4 +12,4 @@ invariant-loop-self g l = record {
 }
 
 abbrev pub decreases-loop-self : goal.decreases-loop-self
-decreases-loop-self g l = length l.self.held.items - l.self.sent
+decreases-loop-self g l = l.self.end - l.self.sent

@@ -1,7 +1,7 @@
 use Rattle.std.proofs.Common.{◌≡◌, ◌+◌, List, [], ◌∷◌, ◌++◌, refl, ap, sym, subst, arith, ◌∙◌}
 use Rattle.cept_codes.specs.declared.item.Item.{Item}
 use Rattle.cept_parser.specs.Items.{items}
-use Rattle.cept_parser.specs.State.{Leads, reading_with, parser_after}
+use Rattle.cept_parser.specs.State.{Leads, ParserState, parser_after, reading_with}
 use Rattle.cept_parser.specs.Valid.{AreValid, AreMeasured}
 use Rattle.cept_parser.proofs.ValidItemLemmas.{read_sound, bytes_more}
 use Rattle.cept_parser.proofs.WaitingLemmas.{items_lead, leads_on, reading_waits, waits_small}
@@ -38,24 +38,19 @@ state c =
       c.read.ensures.left.pending,
     ) refl
 
-pub returns-clause-items : goal.returns-clause-items
-returns-clause-items c b l =
-    items_lead b _ c.args.byte l ∙ ap (λ (is : List Item). items b ++ is) (sym (answer c.before))
-
-pub returns-clause-leads : goal.returns-clause-leads
-returns-clause-leads c b l = subst (Leads (b ++ c.args.byte ∷ [])) (sym (state c.before)) (leads_on b _ c.args.byte l)
-
-pub returns-clause-few_pending : goal.returns-clause-few_pending
-returns-clause-few_pending c =
-    rw c.read.ensures.left.pending (waits_small _ _ _
-    (reading_waits _ c.self.inside.place _ _ c.args.byte c.self.invariant.waits (omega arith) c.ranges.byte.fits))
-
-pub returns-clause-valid : goal.returns-clause-valid
-returns-clause-valid c =
-    subst AreValid (sym c.read.ensures.items)
-    (read_sound _ _ _ c.self.invariant.waits.context (bytes_more _ _ c.self.invariant.waits.bytes c.ranges.byte.fits)).valid
-
-pub returns-clause-measured : goal.returns-clause-measured
-returns-clause-measured c =
-    subst AreMeasured (sym c.read.ensures.items)
-    (read_sound _ _ _ c.self.invariant.waits.context (bytes_more _ _ c.self.invariant.waits.bytes c.ranges.byte.fits)).measured
+pub returns : goal.returns
+returns c =
+    let sound = read_sound _ _ _ c.self.invariant.waits.context
+    (bytes_more _ _ c.self.invariant.waits.bytes c.ranges.byte.fits) in
+    record {
+      items = λ b l. items_lead b _ c.args.byte l ∙ ap (λ (is : List Item). items b ++ is) (sym (answer c.before));
+      leads = λ b l. subst (Leads (b ++ c.args.byte ∷ [])) (sym (state c.before)) (leads_on b _ c.args.byte l);
+      answer = answer c.before;
+      state = state c.before;
+      place = ap (λ (s : ParserState). s.place + 1) c.self.view_is;
+      still_running = ap (λ (s : ParserState). s.finished) c.self.view_is ∙ c.requires.running;
+      few_pending = rw c.read.ensures.left.pending (waits_small _ _ _
+          (reading_waits _ c.self.inside.place _ _ c.args.byte c.self.invariant.waits (omega arith) c.ranges.byte.fits));
+      valid = subst AreValid (sym c.read.ensures.items) sound.valid;
+      measured = subst AreMeasured (sym c.read.ensures.items) sound.measured;
+    }

@@ -3,8 +3,6 @@ use Rattle.cept_codes.specs.declared.look.Look.{Look}
 use Rattle.cept_codes.specs.Look.{blank_look}
 use Rattle.cept_codes.specs.Table.{IsTable, list_by_index, row_of, table}
 use Rattle.cept_codes.proofs.Laws.{IsTable-table, indexed_none, indexed_more, table-list_by_index}
-use Rattle.cept_scroll.specs.Order.{rows_in_order}
-use Rattle.cept_scroll.proofs.Laws.{rows_in_order-first}
 use Rattle.cept_redraw.proofs.kept_rows.KeptRows.new.Goals as goal
 
 pub loop-row-init : goal.loop-row-init
@@ -23,21 +21,12 @@ made rows n e whole =
     e ∙ ap (λ k. list_by_index 1 k (λ _. row_of (λ _. blank_look))) whole
     ∙ sym (table-list_by_index (λ _ _. blank_look))
 
-whole : (rows : List (List Look)) → rows ≡ table (λ _ _. blank_look) → IsTable rows
-whole rows e = subst (λ (t : List (List Look)). IsTable t) (sym e) (IsTable-table (λ _ _. blank_look))
-
 pub returns : goal.returns
-returns c =
-    let blank : c.loop-row.rows.items ≡ table (λ _ _. blank_look) =
-    made c.loop-row.rows.items c.loop-row._row c.loop-row.invariant (omega arith) in
-    ap (λ (order : List ℕ). rows_in_order order c.loop-row.rows.items) c.new-order.ensures
-    ∙ rows_in_order-first c.loop-row.rows.items (whole c.loop-row.rows.items blank) ∙ blank
+returns c = made c.loop-row.rows.items c.loop-row._row c.loop-row.invariant (omega arith)
 
 pub invariant_of-result : goal.invariant_of-result
 invariant_of-result c = (
-  record {
-    ordered = c.ordered_by_type.ensures.order;
-    table = whole c.loop-row.rows.items (made c.loop-row.rows.items c.loop-row._row c.loop-row.invariant (omega arith));
-  },
+  subst (λ (t : List (List Look)). IsTable t)
+      (sym (made c.loop-row.rows.items c.loop-row._row c.loop-row.invariant (omega arith))) (IsTable-table (λ _ _. blank_look)),
   c.flat-2.ensures,
 )

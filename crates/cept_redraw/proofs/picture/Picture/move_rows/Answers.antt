@@ -1,104 +1,152 @@
-use Rattle.std.proofs.Common.{◌≡◌, ◌-◌, ◌||◌, false, get_or, List, set, sym, ap, subst, ◌∙◌, arith}
-use Rattle.std.proofs.lemmas.Bool.{or_parts}
-use Rattle.std.proofs.lemmas.List.{get_or_default}
+use Rattle.std.proofs.Common.{◌≡◌, ◌≤◌, ◌<◌, ◌+◌, ◌-◌, ◌||◌, false, get_or, List, set, refl, sym, ap, subst, ◌∙◌, arith}
+use Rattle.std.proofs.lemmas.Bool.{or_left, true≢false}
 use Rattle.cept_codes.specs.declared.look.Look.{Look}
+use Rattle.cept_codes.specs.Table.{entry}
 use Rattle.cept_codes.proofs.Laws.{entry_from}
 use Rattle.cept_profile.specs.Edges.{Edges, edges_of_core, is_last}
 use Rattle.cept_profile.specs.Look.{looks_of}
 use Rattle.cept_profile.specs.RowsFromAbove.{looks_in}
 use Rattle.cept_profile.specs.State.{Core}
-use Rattle.cept_redraw.specs.declared.followed_rows.Followed.{Followed}
-use Rattle.cept_redraw.specs.Due.{came_from, freed, is_due, row_from}
+use Rattle.cept_redraw.specs.declared.passed_rows.Passed.{Passed}
+use Rattle.cept_redraw.specs.Due.{came_from, is_covered_from, is_due, row_from}
 use Rattle.cept_redraw.specs.Kept.{HasMarkedRow, core_on, is_other_above, row_beneath}
-use Rattle.cept_redraw.proofs.MovedRows.{MovedTo-cost, MovedTo-first, MovedTo-looks, MovedTo-marks, MovedTo-more}
-use Rattle.cept_redraw.proofs.MovedRows.{RowMade, RowMade-as, RowMade-due, RowMade-undue, moved_due}
-use Rattle.cept_redraw.proofs.picture.Picture.move_rows.Given as given
+use Rattle.cept_redraw.specs.Passed.{stood_in, HavePassed}
+use Rattle.cept_redraw.proofs.MovedRows.{HavePassed-more, MovedTo-as, MovedTo-cost, MovedTo-first, MovedTo-looks, MovedTo-marks}
+use Rattle.cept_redraw.proofs.MovedRows.{MovedTo-more, MovedTo-stood, RowMade-due, RowMade-undue, asked_covered, asked_stood}
+use Rattle.cept_redraw.proofs.MovedRows.{came_low, came_read, covered_is, moved_due, stood_is}
 use Rattle.cept_redraw.proofs.picture.Picture.move_rows.Goals as goal
-use Rattle.cept_redraw.proofs.picture.Picture.move_rows.Goals.{then-flags-at, else-flags-at}
+use Rattle.cept_redraw.proofs.picture.Picture.move_rows.Goals.{else-flags-at, else-is_covered, then-flags-at, then-is_covered}
 
 pub loop-row-init : goal.loop-row-init
-loop-row-init g c = λ k _.
-    MovedTo-first c.args.flags.now c.args.rows.now (core_on k c.args.self.now.page) c.args.self.now.stood c.args.self.now.looks
-    c.args.marks.now c.args.steps.now c.whole_by_type.ensures c.requires.none
+loop-row-init g c = record {
+  above = refl;
+  passed = λ _. record { near = c.begin.ensures; far = λ low. absurd (omega (arith, low)) };
+  walked = λ k _.
+      MovedTo-first c.args.flags.now c.args.rows.now (core_on k c.args.self.now.page) c.args.self.now.looks
+      c.args.marks.now c.args.steps.now c.whole_by_type.ensures c.requires.may.none;
+}
 
-pub is_covered-covered-requires-clause-known : goal.is_covered-covered-requires-clause-known
-is_covered-covered-requires-clause-known g c =
-    (c.loop-row.invariant c.requires.others.of_core.0 c.requires.others.of_core.1).covering
+pub is_covered-requires-clause-low : goal.is_covered-requires-clause-low
+is_covered-requires-clause-low g c =
+    came_low c.args.rows.now c.requires.low c.loop-row.row c.came_from-from.result c.loop-row.auto.row (omega arith)
+    (came_read c.args.rows.now c.loop-row.row c.from-at.result c.came_from-from.result c.index-rows-at.result
+    c.requires.rows c.loop-row.auto.row (omega arith) c.from-at.ensures c.came_from-from.ensures.row)
 
--- the row of which it came, as it is read
-came : (g : given.Over) (c : goal.After-mark_differences g)
-    → c.came_from-from.result ≡ came_from (row_from c.args.rows.now c.loop-row.row) c.loop-row.row
-came g c =
-    c.came_from-from.ensures.row
-    ∙ ap (λ (f : Followed). came_from f.from c.loop-row.row)
-    (get_or_default c.args.rows.now (c.from-at.result - 1) c.index-rows-at.result freed
-    (omega (arith, c.from-at.ensures, c.requires.rows)))
-    ∙ ap (λ n. came_from (get_or c.args.rows.now (n - 1) freed).from c.loop-row.row) c.from-at.ensures
-    ∙ ap (λ (f : Followed). came_from f.from c.loop-row.row)
-    (sym (entry_from freed 1 c.args.rows.now c.loop-row.row c.loop-row.auto.row))
+pub stood-requires-clause-passed : goal.stood-requires-clause-passed
+stood-requires-clause-passed g c =
+    let low = came_low c.args.rows.now c.requires.low c.loop-row.row c.came_from-from.result c.loop-row.auto.row (omega arith)
+    (came_read c.args.rows.now c.loop-row.row c.from-at.result c.came_from-from.result c.index-rows-at.result
+    c.requires.rows c.loop-row.auto.row (omega arith) c.from-at.ensures c.came_from-from.ensures.row) in
+    omega (arith, low)
 
--- whether the row is due, as it is asked
-due : (g : given.Over) (c : goal.After-mark_differences g) (k : Core) → edges_of_core k ≡ c.args.edges.now
-    → (get_or c.args.flags.now (c.from-at.result - 1) false || c.is_covered-covered.result)
-    ≡ is_due c.args.flags.now c.args.rows.now c.args.self.now.stood (looks_of (core_on k c.args.self.now.page)) c.loop-row.row
-due g c k same =
-    moved_due (c.loop-row.invariant k same) c.loop-row.auto.row (omega arith) c.came_from-from.result
-    (get_or c.args.flags.now (c.from-at.result - 1) false) c.is_covered-covered.result
-    (ap (λ n. get_or c.args.flags.now (n - 1) false) c.from-at.ensures
-    ∙ sym (entry_from false 1 c.args.flags.now c.loop-row.row c.loop-row.auto.row))
-    (came g c) c.is_covered-covered.ensures (c.requires.freed c.loop-row.row c.loop-row.auto.row (omega arith))
-
--- the row is made
-made : (g : given.Over) (c : goal.After-mark_differences g) (k : Core) → edges_of_core k ≡ c.args.edges.now
-    → RowMade c.args.flags.now c.args.rows.now (core_on k c.args.self.now.page) c.args.self.now.stood c.loop-row.looks
-    c.if-flags-at.looks c.if-flags-at.covered c.came_from-from.result c.args.steps.now c.if-flags-at.steps c.loop-row.row
-made g c k same =
-    let row = c.loop-row.row in
-    let walked = c.loop-row.invariant k same in
-    elim c.if-flags-at.branch [
-      | then-flags-at w ↦
-          RowMade-as w.looks-is w.covered-is w.steps-is
-          (RowMade-due walked c.loop-row.auto.row (omega arith) (sym (due g c k same) ∙ w.if-flags-at.true)
-          w.is_last.result (w.is_last.ensures ∙ ap (λ (e : Edges). is_last e row) (sym same)) w.resolve_row.new.looks
-          (w.resolve_row.ensures.looks
-          ∙ ap (λ (above : List Look). row_beneath above c.args.self.now.page c.numbered-here.result w.is_last.result)
-          w.above.ensures
-          ∙ ap (λ n. row_beneath (looks_in c.loop-row.looks (n - 1)) c.args.self.now.page n w.is_last.result)
-          c.numbered-here.ensures)
-          w.copy_row.ensures.columns w.copy_row.new.self (w.copy_row.ensures.rows
-          ∙ ap (λ n. set c.loop-row.looks (n - 1) w.resolve_row.new.looks) c.numbered-here.ensures)
-          c.came_from-from.result
-          w.covers_otherwise-covered.result
-          (w.covers_otherwise-covered.ensures ∙ (λ i. is_other_above (w.row.ensures i) (w.row-then-flags-at.ensures i))
-          ∙ (λ i. is_other_above (looks_in c.args.self.now.stood (w.numbered.ensures i))
-          (looks_in w.copy_row.new.self (c.numbered-here.ensures i))))
-          w.resolve_row.new.steps w.resolve_row.ensures.tick)
-      | else-flags-at w ↦
-          RowMade-as w.looks-is w.covered-is w.steps-is
-          (RowMade-undue walked c.whole_by_type-2.ensures c.whole_by_type.ensures c.loop-row.auto.row (omega arith)
-          (sym (due g c k same) ∙ w.if-flags-at.false) c.came_from-from.result c.came_from-from.ensures.on_screen
-          (came g c) (c.requires.others.stay k same)
-          (λ q is. c.requires.moved row q c.loop-row.auto.row (omega arith) is) c.is_covered-covered.result
-          (or_parts (get_or c.args.flags.now (c.from-at.result - 1) false) c.is_covered-covered.result
-          w.if-flags-at.false).1)
-    ]
+pub bring_row-requires-clause-low : goal.bring_row-requires-clause-low
+bring_row-requires-clause-low g c =
+    let low = came_low c.args.rows.now c.requires.low c.loop-row.row c.came_from-from.result c.loop-row.auto.row (omega arith)
+    (came_read c.args.rows.now c.loop-row.row c.from-at.result c.came_from-from.result c.index-rows-at.result
+    c.requires.rows c.loop-row.auto.row (omega arith) c.from-at.ensures c.came_from-from.ensures.row) in
+    omega (arith, low, c.numbered-here.ensures)
 
 pub loop-row-preserved : goal.loop-row-preserved
-loop-row-preserved g c = λ k same.
-    MovedTo-more (c.loop-row.invariant k same) c.whole_by_type-2.ensures c.loop-row.auto.row (omega arith) (made g c k same)
-    c.mark_differences.new.marks
-    (subst (λ n. HasMarkedRow (looks_in c.args.self.now.stood n) (looks_in c.if-flags-at.looks n) n 41 c.loop-row.marks
-    c.mark_differences.new.marks) c.numbered-here.ensures
-    (subst (λ (l : List Look). HasMarkedRow l (looks_in c.if-flags-at.looks c.numbered-here.result)
-    c.numbered-here.result 41 c.loop-row.marks c.mark_differences.new.marks) c.row-in-loop-row.ensures
-    (subst (λ (l : List Look). HasMarkedRow c.row-in-loop-row.result.now l c.numbered-here.result 41 c.loop-row.marks
-    c.mark_differences.new.marks) c.row-in-loop-row-2.ensures c.mark_differences.ensures)))
-
-pub returns-clause-refreshed : goal.returns-clause-refreshed
-returns-clause-refreshed g c =
-    let one = c.loop-row.invariant c.requires.others.of_core.0 c.requires.others.of_core.1 in
+loop-row-preserved g c =
+    let row = c.loop-row.row in
+    let rows = c.args.rows.now in
+    let flags = c.args.flags.now in
+    let was = c.args.self.now.looks in
+    let page = c.args.self.now.page in
+    let now = c.loop-row.looks in
+    let from = c.came_from-from.result in
+    let back = c.one_looks_back-back.result in
+    let tw = c.whole_by_type.ensures in
+    let m = c.loop-row.invariant in
+    let top : 1 ≤ row = c.loop-row.auto.row in
+    let bottom : row ≤ 24 = omega arith in
+    let came : from ≡ came_from (row_from rows row) row =
+    came_read rows row c.from-at.result from c.index-rows-at.result c.requires.rows top bottom c.from-at.ensures
+    c.came_from-from.ensures.row in
+    let low : row ≤ from + 1 = came_low rows c.requires.low row from top bottom came in
+    let flag : get_or flags (c.from-at.result - 1) false ≡ entry false 1 flags row =
+    ap (λ n. get_or flags (n - 1) false) c.from-at.ensures ∙ sym (entry_from false 1 flags row top) in
+    let stood_passed : from < row → HavePassed was c.loop-row.passed row = λ before.
+    m.passed (asked_stood rows back c.one_looks_back-back.ensures row from c.loop-row.above top bottom came m.above before) in
+    let stands : (k : Core) → edges_of_core k ≡ c.args.edges.now
+    → stood_in c.loop-row.passed now row from ≡ looks_in was from = λ k same. stood_is (m.walked k same) tw top c.loop-row.passed from (omega (arith, low))
+    (omega (arith, c.came_from-from.ensures.on_screen)) stood_passed in
+    let one = m.walked c.requires.may.others.of_core.0 c.requires.may.others.of_core.1 in
+    let due : (k : Core) → edges_of_core k ≡ c.args.edges.now
+    → c.if-flags-at.value ≡ is_due flags rows was (looks_of (core_on k page)) row = λ k same. elim c.if-flags-at.branch [
+      | then-flags-at w ↦
+          w.value-is ∙ w.if-flags-at.true
+          ∙ sym (or_left (entry false 1 flags row)
+          (is_covered_from was (row_from rows row) (looks_of (core_on k page)) row) (sym flag ∙ w.if-flags-at.true))
+      | else-flags-at w ↦
+          w.value-is
+          ∙ ap (λ b. b || w.is_covered.result) (sym w.if-flags-at.false)
+          ∙ moved_due (m.walked k same) top bottom from (get_or flags (c.from-at.result - 1) false) w.is_covered.result
+          flag came
+          (w.is_covered.ensures ∙ covered_is (m.walked k same) tw top bottom c.loop-row.passed from
+          c.came_from-from.ensures.on_screen low
+          (λ before apart. m.passed (asked_covered rows back c.one_looks_back-back.ensures row from c.loop-row.above top
+          bottom came m.above
+          (λ none. true≢false (sym (flag ∙ c.requires.freed row top bottom none) ∙ w.if-flags-at.false))
+          (omega (arith, c.came_from-from.ensures.on_screen)) before apart)))
+          (c.requires.freed row top bottom)
+    ] in
     record {
-      looks = λ k same. MovedTo-looks (c.loop-row.invariant k same) (omega arith);
-      marks = MovedTo-marks one (omega arith);
-      cost = MovedTo-cost one (omega arith);
+      above = came ∙ ap (λ n. came_from (row_from rows n) n) (let back : row ≡ row + 1 - 1 = omega arith in back);
+      passed = λ so. elim c.if-is_covered.branch [
+        | then-is_covered w ↦
+            subst (λ (p : Passed). HavePassed was p (row + 1)) (sym w.passed-is)
+            (HavePassed-more (m.passed so)
+            (w.take_anew.ensures.near so ∙ ap (looks_in now) c.numbered-here.ensures ∙ MovedTo-stood one tw top bottom)
+            (w.take_anew.ensures.far so))
+        | else-is_covered w ↦
+            subst (λ (p : Passed). HavePassed was p (row + 1)) (sym w.passed-is)
+            (HavePassed-more (m.passed so)
+            (w.bring_row.ensures.near so ∙ ap (looks_in now) c.numbered-here.ensures ∙ MovedTo-stood one tw top bottom)
+            (w.bring_row.ensures.far so))
+      ];
+      walked = λ k same. elim c.if-is_covered.branch [
+        | then-is_covered w ↦
+            let fresh = w.resolve_row.new.looks in
+            let kept = w.take_anew.ensures.kept ∙ ap (λ n. set now (n - 1) fresh) c.numbered-here.ensures in
+            MovedTo-as w.looks-is w.marks-is w.covered-is w.steps-is
+            (MovedTo-more (m.walked k same) tw top bottom
+            (RowMade-due (m.walked k same) top bottom (sym (due k same) ∙ w.if-is_covered.true)
+            w.is_last.result (w.is_last.ensures ∙ ap (λ (e : Edges). is_last e row) (sym same)) fresh
+            (w.resolve_row.ensures.looks
+            ∙ ap (λ (above : List Look). row_beneath above page c.numbered-here.result w.is_last.result) w.above.ensures
+            ∙ ap (λ n. row_beneath (looks_in now (n - 1)) page n w.is_last.result) c.numbered-here.ensures)
+            w.take_anew.new.kept kept from w.covers_otherwise-covered.result
+            (w.covers_otherwise-covered.ensures
+            ∙ ap (λ (l : List Look). is_other_above l fresh) (w.stood.ensures ∙ stands k same))
+            w.resolve_row.new.steps w.resolve_row.ensures.tick)
+            w.take_anew.new.marks fresh kept
+            (subst (λ n. HasMarkedRow (looks_in now n) fresh n 41 c.loop-row.marks w.take_anew.new.marks)
+            c.numbered-here.ensures w.take_anew.ensures.marked))
+        | else-is_covered w ↦
+            let fresh = stood_in c.loop-row.passed now row from in
+            let kept = w.bring_row.ensures.kept
+            ∙ ap (λ n. set now (n - 1) (stood_in c.loop-row.passed now n from)) c.numbered-here.ensures in
+            MovedTo-as w.looks-is w.marks-is w.covered-is w.steps-is
+            (MovedTo-more (m.walked k same) tw top bottom
+            (RowMade-undue (m.walked k same) tw top bottom (sym (due k same) ∙ w.if-is_covered.false) from
+            c.came_from-from.ensures.on_screen came (c.requires.may.others.stay k same) fresh (stands k same)
+            w.bring_row.new.kept kept)
+            w.bring_row.new.marks fresh kept
+            (subst (λ n. HasMarkedRow (looks_in now n) (stood_in c.loop-row.passed now n from) n 41 c.loop-row.marks
+            w.bring_row.new.marks) c.numbered-here.ensures w.bring_row.ensures.marked))
+      ];
     }
+
+pub returns : goal.returns
+returns g c = record {
+  rest = record { page = refl; names = refl };
+  refreshed =
+      let walked = c.loop-row.invariant.walked in
+      let one = walked c.requires.may.others.of_core.0 c.requires.may.others.of_core.1 in
+      record {
+        looks = λ k same. MovedTo-looks (walked k same) (omega arith);
+        marks = MovedTo-marks one (omega arith);
+        cost = MovedTo-cost one (omega arith);
+      };
+}

@@ -1,15 +1,13 @@
 use Rattle.std.proofs.Common.{◌≡◌, ◌+◌, Bool, List, ap, subst, sym, ◌∙◌}
-use Rattle.cept_codes.specs.declared.look.Look.{Look}
 use Rattle.cept_codes.specs.Table.{list_by_index}
 use Rattle.cept_profile.specs.Changes.{differences}
-use Rattle.cept_profile.specs.RowsFromAbove.{looks_in}
 use Rattle.cept_profile.specs.State.{Page}
 use Rattle.cept_profile.specs.Valid.{IsValidPage}
 use Rattle.cept_page.specs.Parts.{pens_of}
 use Rattle.cept_page.specs.Behind.{page_behind}
 use Rattle.cept_redraw.specs.declared.followed_rows.Followed.{Followed}
 use Rattle.cept_redraw.specs.declared.picture.Picture.{Picture}
-use Rattle.cept_redraw.specs.Due.{followed, is_altered, rows_due, OtherRowsStay}
+use Rattle.cept_redraw.specs.Due.{followed, is_altered, rows_due}
 use Rattle.cept_redraw.specs.Kept.{AreLooksOn, core_on}
 use Rattle.cept_redraw.specs.Named.{AreJustRemembered, AreNamedOn, IsStill, NamesOfRows}
 use Rattle.cept_redraw.proofs.AlteredRows.{altered-pens}
@@ -24,7 +22,7 @@ use Rattle.cept_redraw.proofs.picture.Picture.redraw_rows.Goals.{then-one_moved,
 
 pub move_rows-requires-clause-came : goal.move_rows-requires-clause-came
 move_rows-requires-clause-came g c =
-    came-followed c.follow_rows-rows.result c.args.strokes.now c.follow_rows-rows.ensures c.requires.strokes.each
+    came-followed c.follow_rows-rows.result c.args.strokes.now c.follow_rows-rows.ensures c.requires.may.strokes.each
 
 pub move_rows-requires-clause-freed : goal.move_rows-requires-clause-freed
 move_rows-requires-clause-freed g c =
@@ -32,50 +30,54 @@ move_rows-requires-clause-freed g c =
     c.args.before.now (pens_of c.draw_all.new.self) c.args.after.now c.rows_altered-altered.ensures
     c.follow_rows-rows.ensures
 
-pub move_rows-requires-clause-moved : goal.move_rows-requires-clause-moved
-move_rows-requires-clause-moved g c r q low high came =
-    c.turn_rows.ensures r q low high
+pub move_rows-requires-clause-low : goal.move_rows-requires-clause-low
+move_rows-requires-clause-low g c r q low high came =
+    c.requires.may.strokes.low r q low high
     (sym (row_from-followed c.follow_rows-rows.result c.args.strokes.now c.follow_rows-rows.ensures r low high) ∙ came)
-    ∙ ap (λ (l : List (List Look)). looks_in l q) (sym c.copy_from.ensures)
 
-pub move_rows-requires-clause-others : goal.move_rows-requires-clause-others
-move_rows-requires-clause-others g c = record {
-  valid = subst (λ (p : Page). IsValidPage p) (sym c.draw_all.ensures.drawn) c.requires.strokes.valid;
-  of_core = c.requires.to;
-  stay = λ k same.
-      subst (λ (l : List (List Look)). OtherRowsStay c.rows_altered-altered.result c.follow_rows-rows.result l
-      (core_on k c.draw_all.new.self)) (sym c.copy_from.ensures)
-      (OtherRowsStay-drawn c.args.self.now.page c.draw_all.new.self c.args.strokes.now c.args.before.now
-      c.args.after.now c.args.self.now.looks c.rows_altered-altered.result c.follow_rows-rows.result
-      c.requires.kept.valid c.requires.strokes.each c.requires.kept.of_core c.requires.kept.looks
-      c.draw_all.ensures.drawn
-      (altered-pens c.args.strokes.now c.pens-was.result c.args.self.now.page c.draw_all.new.self c.args.before.now
-      c.args.after.now c.rows_altered-altered.result c.rows_altered-altered.ensures c.pens-was.ensures.pens)
-      c.follow_rows-rows.ensures k same);
+pub move_rows-requires-clause-may : goal.move_rows-requires-clause-may
+move_rows-requires-clause-may g c = record {
+  none = c.requires.none;
+  others =
+      record {
+        valid = subst (λ (p : Page). IsValidPage p) (sym c.draw_all.ensures.drawn) c.requires.may.strokes.valid;
+        of_core = c.requires.may.to;
+        stay = λ k same.
+            OtherRowsStay-drawn c.args.self.now.page c.draw_all.new.self c.args.strokes.now c.args.before.now
+            c.args.after.now c.args.self.now.looks c.rows_altered-altered.result c.follow_rows-rows.result
+            c.requires.may.kept.valid c.requires.may.strokes.each c.requires.may.kept.of_core c.requires.may.kept.looks
+            c.draw_all.ensures.drawn
+            (altered-pens c.args.strokes.now c.pens-was.result c.args.self.now.page c.draw_all.new.self c.args.before.now
+            c.args.after.now c.rows_altered-altered.result c.rows_altered-altered.ensures c.pens-was.ensures.pens)
+            c.follow_rows-rows.ensures k same;
+      };
 }
 
-pub refresh_rows-requires-clause-others : goal.refresh_rows-requires-clause-others
-refresh_rows-requires-clause-others g c =
-    let are : AreStill c.rows_altered-altered.result c.follow_rows-rows.result = record {
-      freed = freed-altered c.rows_altered-altered.result c.follow_rows-rows.result c.args.strokes.now
-          c.pens-was.result c.args.before.now (pens_of c.draw_all.new.self) c.args.after.now
-          c.rows_altered-altered.ensures c.follow_rows-rows.ensures;
-      still = c.one_moved.ensures c.if-one_moved.false;
-    } in
-    record {
-      valid = subst (λ (p : Page). IsValidPage p) (sym c.draw_all.ensures.drawn) c.requires.strokes.valid;
-      of_core = c.requires.to;
-      stay = λ k same.
-          OtherRowsStay-still are c.args.self.now.looks (core_on k c.draw_all.new.self)
-          (OtherRowsStay-drawn c.args.self.now.page c.draw_all.new.self c.args.strokes.now c.args.before.now
-          c.args.after.now c.args.self.now.looks c.rows_altered-altered.result c.follow_rows-rows.result
-          c.requires.kept.valid c.requires.strokes.each c.requires.kept.of_core c.requires.kept.looks
-          c.draw_all.ensures.drawn
-          (altered-pens c.args.strokes.now c.pens-was.result c.args.self.now.page c.draw_all.new.self
-          c.args.before.now c.args.after.now c.rows_altered-altered.result c.rows_altered-altered.ensures
-          c.pens-was.ensures.pens)
-          c.follow_rows-rows.ensures k same);
-    }
+pub refresh_rows-requires-clause-may : goal.refresh_rows-requires-clause-may
+refresh_rows-requires-clause-may g c = record {
+  none = c.requires.none;
+  others =
+      let are : AreStill c.rows_altered-altered.result c.follow_rows-rows.result = record {
+        freed = freed-altered c.rows_altered-altered.result c.follow_rows-rows.result c.args.strokes.now
+            c.pens-was.result c.args.before.now (pens_of c.draw_all.new.self) c.args.after.now
+            c.rows_altered-altered.ensures c.follow_rows-rows.ensures;
+        still = c.one_moved.ensures c.if-one_moved.false;
+      } in
+      record {
+        valid = subst (λ (p : Page). IsValidPage p) (sym c.draw_all.ensures.drawn) c.requires.may.strokes.valid;
+        of_core = c.requires.may.to;
+        stay = λ k same.
+            OtherRowsStay-still are c.args.self.now.looks (core_on k c.draw_all.new.self)
+            (OtherRowsStay-drawn c.args.self.now.page c.draw_all.new.self c.args.strokes.now c.args.before.now
+            c.args.after.now c.args.self.now.looks c.rows_altered-altered.result c.follow_rows-rows.result
+            c.requires.may.kept.valid c.requires.may.strokes.each c.requires.may.kept.of_core c.requires.may.kept.looks
+            c.draw_all.ensures.drawn
+            (altered-pens c.args.strokes.now c.pens-was.result c.args.self.now.page c.draw_all.new.self
+            c.args.before.now c.args.after.now c.rows_altered-altered.result c.rows_altered-altered.ensures
+            c.pens-was.ensures.pens)
+            c.follow_rows-rows.ensures k same);
+      };
+}
 
 -- the page is the one on which the strokes were drawn
 page_is : (g : given.Over) (c : goal.After-forget_rows g) → c.if-one_moved.self.page ≡ c.draw_all.new.self
@@ -111,7 +113,7 @@ marks_are g c =
     elim c.if-one_moved.branch [
       | then-one_moved w ↦
           w.marks-is ∙ w.move_rows.ensures.refreshed.marks
-          ∙ (λ i. differences (w.copy_from.ensures i) (sym w.self-is i).looks)
+          ∙ ap (λ (p : Picture). differences c.args.self.now.looks p.looks) (sym w.self-is)
       | else-one_moved w ↦
           w.marks-is ∙ w.refresh_rows.ensures.refreshed.marks
           ∙ ap (λ (p : Picture). differences c.args.self.now.looks p.looks) (sym w.self-is)
@@ -120,7 +122,7 @@ marks_are g c =
 pub returns-clause-redrawn : goal.returns-clause-redrawn
 returns-clause-redrawn g c =
     let valid : IsValidPage c.draw_all.new.self =
-    subst (λ (p : Page). IsValidPage p) (sym c.draw_all.ensures.drawn) c.requires.strokes.valid in
+    subst (λ (p : Page). IsValidPage p) (sym c.draw_all.ensures.drawn) c.requires.may.strokes.valid in
     let looks : AreLooksOn c.if-one_moved.self.looks c.draw_all.new.self c.args.after.now =
     subst (λ (p : Page). AreLooksOn c.if-one_moved.self.looks p c.args.after.now) (page_is g c) (looks_are g c) in
     let altered = altered-pens c.args.strokes.now c.pens-was.result c.args.self.now.page c.draw_all.new.self
@@ -130,16 +132,16 @@ returns-clause-redrawn g c =
       page = page_is g c ∙ c.draw_all.ensures.drawn;
       kept = record {
         valid = subst (λ (p : Page). IsValidPage p) (sym (page_is g c)) valid;
-        of_core = c.requires.to;
+        of_core = c.requires.may.to;
         looks = looks_are g c;
         named = AreNamedOn-drawn c.args.self.now.page c.if-one_moved.self.page c.args.strokes.now c.args.before.now
             c.args.after.now c.args.self.now.looks c.if-one_moved.self.looks c.if-one_moved.self.names
             c.forget_rows.new.self c.rows_altered-altered.result c.follow_rows-rows.result c.if-one_moved.marks
-            c.requires.kept.valid (subst (λ (p : Page). IsValidPage p) (sym (page_is g c)) valid)
-            c.requires.strokes.each c.requires.kept.of_core
+            c.requires.may.kept.valid (subst (λ (p : Page). IsValidPage p) (sym (page_is g c)) valid)
+            c.requires.may.strokes.each c.requires.may.kept.of_core
             (subst (λ (n : NamesOfRows). AreNamedOn n c.args.self.now.page c.args.before.now) (sym (names_are g c))
-            c.requires.kept.named)
-            c.requires.kept.looks (looks_are g c) (page_is g c ∙ c.draw_all.ensures.drawn)
+            c.requires.may.kept.named)
+            c.requires.may.kept.looks (looks_are g c) (page_is g c ∙ c.draw_all.ensures.drawn)
             (altered ∙ ap (λ (p : Page). list_by_index 1 24 (is_altered c.args.strokes.now
             (pens_of c.args.self.now.page) c.args.before.now (pens_of p) c.args.after.now)) (sym (page_is g c)))
             c.follow_rows-rows.ensures (marks_are g c) c.forget_rows.ensures.remembered;
@@ -164,7 +166,7 @@ returns-clause-cost g c =
     elim c.if-one_moved.branch [
       | then-one_moved w ↦
           w.steps-is ∙ w.move_rows.ensures.refreshed.cost
-          ∙ (λ i. c.args.steps.now + rows_due (altered i) (c.follow_rows-rows.ensures i) (w.copy_from.ensures i)
+          ∙ (λ i. c.args.steps.now + rows_due (altered i) (c.follow_rows-rows.ensures i) c.args.self.now.looks
           (sym w.self-is i).looks)
       | else-one_moved w ↦
           let are : AreStill c.rows_altered-altered.result c.follow_rows-rows.result = record {

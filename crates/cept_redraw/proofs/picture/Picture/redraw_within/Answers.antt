@@ -121,38 +121,43 @@ until_is : {p : Page} {place : Place} {cell : Cell} (among : Bool) (column until
 until_is true column until e here signs = inl (e ∙ here, signs refl)
 until_is false column until e here signs = inr e
 
-pub refresh_put-requires-clause-around : goal.refresh_put-requires-clause-around
-refresh_put-requires-clause-around g c =
-    let put = c.in-Some.put in
-    let drawn = page_after-put_alone c.args.self.now.page c.put.new.self c.args.strokes.now put.place put.cell.now
-    c.in-Some.ensures c.put.ensures.drawn ∙ ap (page_after c.args.self.now.page) c.in-Some.ensures in
-    record {
-      left = λ k same.
-          subst (λ (q : Page). LeftStays c.row-row.result c.col-from.result c.args.self.now.looks (core_on k q))
-          (sym drawn)
-          (λ r column on left.
-          LeftStays-put c.rows_show_what_stands_to_the_left.ensures c.args.self.now.page c.requires.kept.valid k
-          put.place put.cell.now c.args.self.now.looks (c.requires.kept.looks k (same ∙ c.edges-edges.ensures)) r column
-          on (omega (arith, left, c.row-row.ensures.row, c.col-from.ensures.column)));
-      beside = λ k same.
-          subst (λ (q : Page). FollowsBeside c.row-row.result c.last_otherwise-until.result c.args.self.now.looks
-          (core_on k q)) (sym drawn)
-          (subst (λ n. FollowsBeside n c.last_otherwise-until.result c.args.self.now.looks
-          (core_on k (page_after c.args.self.now.page (strokes.Put put.place put.cell.now ∷ []))))
-          (sym c.row-row.ensures.row)
-          (FollowsBeside-put c.places_show_what_is_beside_them.ensures c.args.self.now.page c.requires.kept.valid k
-          put.place put.cell.now c.last_otherwise-until.result c.row-row.ensures.on_screen
-          (until_is c.puts_among_signs-among.result c.col-from.result c.last_otherwise-until.result
-          c.last_otherwise-until.ensures c.col-from.ensures.column c.puts_among_signs-among.ensures)
-          c.args.self.now.looks (c.requires.kept.looks k (same ∙ c.edges-edges.ensures))));
-    }
-
-pub refresh_put-requires-clause-others : goal.refresh_put-requires-clause-others
-refresh_put-requires-clause-others g c =
-    AreOthersKept-put (subst (λ (e : Edges). IsKeptOn c.args.self.now e) (sym c.edges-edges.ensures) c.requires.kept)
-    c.requires.strokes c.in-Some.put.place c.in-Some.put.cell.now c.in-Some.ensures c.put.new.self
-    (page_after-put_alone c.args.self.now.page c.put.new.self c.args.strokes.now c.in-Some.put.place
-    c.in-Some.put.cell.now c.in-Some.ensures c.put.ensures.drawn) c.row-row.result c.row-row.ensures.row
+pub refresh_put-requires : goal.refresh_put-requires
+refresh_put-requires g c = record {
+  from_top = omega (arith, c.row-row.ensures.row, c.row-row.ensures.on_screen.from_top);
+  to_bottom = omega (arith, c.row-row.ensures.row, c.row-row.ensures.on_screen.to_bottom);
+  from_left = omega (arith, c.col-from.ensures.column, c.col-from.ensures.on_screen.from_left);
+  to_right = omega (arith, c.col-from.ensures.column, c.col-from.ensures.on_screen.to_right);
+  none = c.clear.ensures;
+  around =
+      let put = c.in-Some.put in
+      let drawn = page_after-put_alone c.args.self.now.page c.put.new.self c.args.strokes.now put.place put.cell.now
+      c.in-Some.ensures c.put.ensures.drawn ∙ ap (page_after c.args.self.now.page) c.in-Some.ensures in
+      record {
+        left = λ k same.
+            subst (λ (q : Page). LeftStays c.row-row.result c.col-from.result c.args.self.now.looks (core_on k q))
+            (sym drawn)
+            (λ r column on left.
+            LeftStays-put c.rows_show_what_stands_to_the_left.ensures c.args.self.now.page c.requires.kept.valid k
+            put.place put.cell.now c.args.self.now.looks (c.requires.kept.looks k (same ∙ c.edges-edges.ensures)) r column
+            on (omega (arith, left, c.row-row.ensures.row, c.col-from.ensures.column)));
+        beside = λ k same.
+            subst (λ (q : Page). FollowsBeside c.row-row.result c.last_otherwise-until.result c.args.self.now.looks
+            (core_on k q)) (sym drawn)
+            (subst (λ n. FollowsBeside n c.last_otherwise-until.result c.args.self.now.looks
+            (core_on k (page_after c.args.self.now.page (strokes.Put put.place put.cell.now ∷ []))))
+            (sym c.row-row.ensures.row)
+            (FollowsBeside-put c.places_show_what_is_beside_them.ensures c.args.self.now.page c.requires.kept.valid k
+            put.place put.cell.now c.last_otherwise-until.result c.row-row.ensures.on_screen
+            (until_is c.puts_among_signs-among.result c.col-from.result c.last_otherwise-until.result
+            c.last_otherwise-until.ensures c.col-from.ensures.column c.puts_among_signs-among.ensures)
+            c.args.self.now.looks (c.requires.kept.looks k (same ∙ c.edges-edges.ensures))));
+      };
+  others =
+      AreOthersKept-put (subst (λ (e : Edges). IsKeptOn c.args.self.now e) (sym c.edges-edges.ensures) c.requires.kept)
+      c.requires.strokes c.in-Some.put.place c.in-Some.put.cell.now c.in-Some.ensures c.put.new.self
+      (page_after-put_alone c.args.self.now.page c.put.new.self c.args.strokes.now c.in-Some.put.place
+      c.in-Some.put.cell.now c.in-Some.ensures c.put.ensures.drawn) c.row-row.result c.row-row.ensures.row;
+}
 
 pub returns-else-put-clause-redrawn : goal.returns-else-put-clause-redrawn
 returns-else-put-clause-redrawn g c =
@@ -184,9 +189,10 @@ returns-else-put-clause-noted g c =
 
 -- ---- any other strokes
 
-pub redraw_drawn-requires-clause-kept : goal.redraw_drawn-requires-clause-kept
-redraw_drawn-requires-clause-kept g c =
-    subst (λ (e : Edges). IsKeptOn c.args.self.now e) (sym c.edges-within.ensures) c.requires.kept
+pub redraw_drawn-requires-clause-may : goal.redraw_drawn-requires-clause-may
+redraw_drawn-requires-clause-may g c =
+    let kept = subst (λ (e : Edges). IsKeptOn c.args.self.now e) (sym c.edges-within.ensures) c.requires.kept in
+    record { kept = kept; to = kept.of_core; strokes = c.requires.strokes }
 
 pub returns-in-None-clause-redrawn : goal.returns-in-None-clause-redrawn
 returns-in-None-clause-redrawn g c =

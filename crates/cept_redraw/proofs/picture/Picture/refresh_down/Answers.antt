@@ -85,23 +85,22 @@ ended g c k same =
     found.new.self.looks found.new.marks found.result.covering found.new.steps
     (IsRefreshedRow-on (looks_in c.loop-at.self.looks (c.loop-at.at - 1)) c.loop-at.at c.is_last-last.result
     c.loop-at.self.looks found.new.self.looks c.loop-at.marks found.new.marks c.args.self.now.page c.loop-at.self.page
-    c.loop-at.invariant.rest.page found.ensures.refreshed) found.ensures.covering found.ensures.tick (not-true
+    c.loop-at.invariant.rest.page found.ensures.row.refreshed) found.ensures.row.covering found.ensures.row.tick (not-true
     found.result.covering c.if-not-found.true)
 
-pub returns-then-not-found-clause-refreshed : goal.returns-then-not-found-clause-refreshed
-returns-then-not-found-clause-refreshed g c =
-    let rest = HasSameRest-more c.loop-at.invariant.rest c.refresh_row_between-found.ensures.rest in
-    let one = ended g c c.requires.others.of_core.0 c.requires.others.of_core.1 in
-    record {
-      looks = subst (λ (p : Page). AreLooksOn c.refresh_row_between-found.new.self.looks p c.args.edges.now)
-          (sym rest.page) (λ k same. WalkedTo-looks (ended g c k same) (omega arith));
-      marks = WalkedTo-marks one c.requires.none;
-      cost = WalkedTo-cost one (omega arith);
-    }
-
-pub returns-then-not-found-clause-rest : goal.returns-then-not-found-clause-rest
-returns-then-not-found-clause-rest g c =
-    HasSameRest-more c.loop-at.invariant.rest c.refresh_row_between-found.ensures.rest
+pub returns-then-not-found : goal.returns-then-not-found
+returns-then-not-found g c = record {
+  rest = HasSameRest-more c.loop-at.invariant.rest c.refresh_row_between-found.ensures.row.rest;
+  refreshed =
+      let rest = HasSameRest-more c.loop-at.invariant.rest c.refresh_row_between-found.ensures.row.rest in
+      let one = ended g c c.requires.others.of_core.0 c.requires.others.of_core.1 in
+      record {
+        looks = subst (λ (p : Page). AreLooksOn c.refresh_row_between-found.new.self.looks p c.args.edges.now)
+            (sym rest.page) (λ k same. WalkedTo-looks (ended g c k same) (omega arith));
+        marks = WalkedTo-marks one c.requires.none;
+        cost = WalkedTo-cost one (omega arith);
+      };
+}
 
 pub loop-at-preserved : goal.loop-at-preserved
 loop-at-preserved g c =
@@ -110,14 +109,14 @@ loop-at-preserved g c =
     let top : 1 ≤ c.loop-at.at = omega (arith, c.requires.from_top, c.loop-at.auto.at) in
     let bottom : c.loop-at.at ≤ 24 = omega arith in
     record {
-      rest = HasSameRest-more m.rest found.ensures.rest;
+      rest = HasSameRest-more m.rest found.ensures.row.rest;
       walked = λ k same.
           WalkedDown-more (m.walked k same) c.whole_by_type.ensures top bottom c.is_last-last.result
           (last_is c.args.edges.now c.loop-at.at c.is_last-last.result c.is_last-last.ensures k same)
           found.new.self.looks found.new.marks found.result.covering found.new.steps
           (IsRefreshedRow-on (looks_in c.loop-at.self.looks (c.loop-at.at - 1)) c.loop-at.at c.is_last-last.result
           c.loop-at.self.looks found.new.self.looks c.loop-at.marks found.new.marks c.args.self.now.page c.loop-at.self.page
-          c.loop-at.invariant.rest.page found.ensures.refreshed) found.ensures.covering found.ensures.tick (not-false
+          c.loop-at.invariant.rest.page found.ensures.row.refreshed) found.ensures.row.covering found.ensures.row.tick (not-false
           found.result.covering c.if-not-found.false);
       from_left = c.to_the_left-first.ensures.from_left;
       to_right = c.to_the_left-first.ensures.to_right;
@@ -128,19 +127,19 @@ loop-at-preserved g c =
           λ d past. subst (λ n. look_seen c.args.self.now.looks n d ≡ look_seen found.new.self.looks n d) back
           (seen_still (m.walked c.requires.others.of_core.0 c.requires.others.of_core.1) c.whole_by_type.ensures top
           bottom found.new.self.looks
-          found.ensures.refreshed.is found.result.end found.ensures.stays d past);
+          found.ensures.row.refreshed.is found.result.end found.ensures.stays d past);
     }
 
-pub returns-clause-refreshed : goal.returns-clause-refreshed
-returns-clause-refreshed g c =
-    let m = c.loop-at.invariant in
-    let one = (m.walked c.requires.others.of_core.0 c.requires.others.of_core.1).walked in
-    record {
-      looks = subst (λ (p : Page). AreLooksOn c.loop-at.self.looks p c.args.edges.now) (sym m.rest.page)
-          (λ k same. WalkedTo-looks (m.walked k same).walked (omega arith));
-      marks = WalkedTo-marks one c.requires.none;
-      cost = WalkedTo-cost one (omega arith);
-    }
-
-pub returns-clause-rest : goal.returns-clause-rest
-returns-clause-rest g c = c.loop-at.invariant.rest
+pub returns : goal.returns
+returns g c = record {
+  rest = c.loop-at.invariant.rest;
+  refreshed =
+      let m = c.loop-at.invariant in
+      let one = (m.walked c.requires.others.of_core.0 c.requires.others.of_core.1).walked in
+      record {
+        looks = subst (λ (p : Page). AreLooksOn c.loop-at.self.looks p c.args.edges.now) (sym m.rest.page)
+            (λ k same. WalkedTo-looks (m.walked k same).walked (omega arith));
+        marks = WalkedTo-marks one c.requires.none;
+        cost = WalkedTo-cost one (omega arith);
+      };
+}

@@ -27,16 +27,16 @@ loop-row-init g c = record {
   rest = record { page = refl; names = refl };
   walked = λ k _.
       WalkedTo-first c.args.flags.now at_rest (core_on k c.args.self.now.page) c.args.self.now.looks c.args.marks.now
-      c.args.steps.now c.whole_by_type.ensures c.requires.none;
+      c.args.steps.now c.whole_by_type.ensures c.requires.may.none;
 }
 
 pub refresh_places-requires-clause-valid : goal.refresh_places-requires-clause-valid
 refresh_places-requires-clause-valid g c =
-    subst (λ (p : Page). IsValidPage p) (sym c.loop-row.invariant.rest.page) c.requires.others.valid
+    subst (λ (p : Page). IsValidPage p) (sym c.loop-row.invariant.rest.page) c.requires.may.others.valid
 
 pub refresh_row-covered-requires-clause-valid : goal.refresh_row-covered-requires-clause-valid
 refresh_row-covered-requires-clause-valid g c =
-    subst (λ (p : Page). IsValidPage p) (sym c.loop-row.invariant.rest.page) c.requires.others.valid
+    subst (λ (p : Page). IsValidPage p) (sym c.loop-row.invariant.rest.page) c.requires.may.others.valid
 
 -- whether the row is due, as it is asked
 due : (g : given.Over) (c : goal.Joined-alone g) (k : Core) → edges_of_core k ≡ c.args.edges.now
@@ -74,7 +74,7 @@ loop-row-preserved g c =
             WalkedTo-as (ap (λ (p : Picture). p.looks) w.self-is) w.marks-is w.covered-is w.steps-is
             (WalkedTo-places k c.args.self.now.page (m.walked k same) c.whole_by_type.ensures c.loop-row.auto.row
             (omega arith) (sym (due g c k same) ∙ or_left flag c.loop-row.covered both.0)
-            (unset c.loop-row.covered both.1) c.requires.others.valid
+            (unset c.loop-row.covered both.1) c.requires.may.others.valid
             (subst (λ n. StandsAlone c.args.self.now.page n) c.numbered-here.ensures
             (subst (λ (p : Page). StandsAlone p c.numbered-here.result) m.rest.page (c.stands_alone.ensures parts.1)))
             c.args.strokes.now
@@ -84,7 +84,10 @@ loop-row-preserved g c =
             resolved.new.self.looks c.loop-row.marks resolved.new.marks) m.rest.names
             (subst (λ (p : Page). IsRefreshedRow (places_resolved c.args.strokes.now
             (row_named c.loop-row.self.names row) (looks_in c.loop-row.self.looks row) p row) row c.loop-row.self.looks
-            resolved.new.self.looks c.loop-row.marks resolved.new.marks) m.rest.page resolved.ensures.refreshed))
+            resolved.new.self.looks c.loop-row.marks resolved.new.marks) m.rest.page
+            (subst (λ n. IsRefreshedRow (places_resolved c.args.strokes.now (row_named c.loop-row.self.names n)
+            (looks_in c.loop-row.self.looks n) c.loop-row.self.page n) n c.loop-row.self.looks resolved.new.self.looks
+            c.loop-row.marks resolved.new.marks) c.numbered-here.ensures resolved.ensures.refreshed)))
             resolved.ensures.tick)
         | else-alone+then-flag-covered w ↦
             let refreshed = w.refresh_row-covered in
@@ -100,21 +103,21 @@ loop-row-preserved g c =
         | else-alone+else-flag-covered w ↦
             WalkedTo-as (ap (λ (p : Picture). p.looks) w.self-is) w.marks-is w.covered-is w.steps-is
             (WalkedTo-kept (m.walked k same) c.whole_by_type.ensures c.loop-row.auto.row (omega arith)
-            (c.requires.others.stay k same) (sym (due g c k same) ∙ w.if-flag-covered.false)
+            (c.requires.may.others.stay k same) (sym (due g c k same) ∙ w.if-flag-covered.false)
             (row_from-rest row c.loop-row.auto.row (omega arith)))
       ];
     }
 
-pub returns-clause-rest : goal.returns-clause-rest
-returns-clause-rest g c = c.loop-row.invariant.rest
-
-pub returns-clause-refreshed : goal.returns-clause-refreshed
-returns-clause-refreshed g c =
-    let m = c.loop-row.invariant in
-    let one = m.walked c.requires.others.of_core.0 c.requires.others.of_core.1 in
-    record {
-      looks = subst (λ (p : Page). AreLooksOn c.loop-row.self.looks p c.args.edges.now) (sym m.rest.page)
-          (λ k same. WalkedTo-looks (m.walked k same) (omega arith));
-      marks = WalkedTo-marks one c.requires.none;
-      cost = WalkedTo-cost one (omega arith);
-    }
+pub returns : goal.returns
+returns g c = record {
+  rest = c.loop-row.invariant.rest;
+  refreshed =
+      let m = c.loop-row.invariant in
+      let one = m.walked c.requires.may.others.of_core.0 c.requires.may.others.of_core.1 in
+      record {
+        looks = subst (λ (p : Page). AreLooksOn c.loop-row.self.looks p c.args.edges.now) (sym m.rest.page)
+            (λ k same. WalkedTo-looks (m.walked k same) (omega arith));
+        marks = WalkedTo-marks one c.requires.may.none;
+        cost = WalkedTo-cost one (omega arith);
+      };
+}

@@ -1,4 +1,4 @@
-use Rattle.std.proofs.Common.{◌-◌, false, List, ap, subst, sym, ◌∙◌, arith}
+use Rattle.std.proofs.Common.{◌-◌, false, List, ap, refl, subst, sym, ◌∙◌, arith}
 use Rattle.cept_codes.specs.declared.look.Look.{Look}
 use Rattle.cept_codes.specs.Look.{blank_look}
 use Rattle.cept_codes.specs.Place.{OnScreen}
@@ -6,7 +6,7 @@ use Rattle.cept_profile.specs.RowsFromAbove.{looks_in}
 use Rattle.cept_profile.specs.Tiling.{column_entry}
 use Rattle.cept_rows.specs.RowsByCell.{FollowsToTheRight}
 use Rattle.cept_rows.specs.Source.{Source, row_made}
-use Rattle.cept_redraw.specs.Kept.{row_beneath, source_of, IsLeftOf, IsRefreshedRow, IsRightOf}
+use Rattle.cept_redraw.specs.Kept.{row_beneath, source_of, IsLeftOf, IsRefreshedRow, IsRightOf, is_other_above}
 use Rattle.cept_redraw.proofs.RowsOfLooks.{look_seen-at}
 use Rattle.cept_redraw.proofs.picture.Picture.refresh_row_between.Goals as goal
 
@@ -43,31 +43,43 @@ take_row-covering-requires-clause-left g c =
     let made = (λ i. row_made (source i) (c.above.ensures i))
     ∙ ap (λ n. row_beneath (looks_in c.args.self.now.looks (n - 1)) c.args.self.now.page c.args.row c.args.last)
     c.numbered-at.ensures in
-    subst (λ n. IsLeftOf n (looks_in c.args.self.now.looks c.args.row) c.resolve_between-end.new.looks)
+    subst (λ n. IsLeftOf c.numbered-first.result (looks_in c.args.self.now.looks n) c.resolve_between-end.new.looks)
+    (sym c.numbered-at.ensures)
+    (subst (λ n. IsLeftOf n (looks_in c.args.self.now.looks c.args.row) c.resolve_between-end.new.looks)
     (sym c.numbered-first.ensures)
     (subst (λ (l : List Look). IsLeftOf c.args.from (looks_in c.args.self.now.looks c.args.row) l)
-    (sym (c.resolve_between-end.ensures.looks ∙ made)) c.requires.left)
+    (sym (c.resolve_between-end.ensures.looks ∙ made)) c.requires.left))
 
 pub take_row-covering-requires-clause-right : goal.take_row-covering-requires-clause-right
 take_row-covering-requires-clause-right g c =
     subst (λ (l : List Look). IsRightOf c.resolve_between-end.result l c.resolve_between-end.new.looks)
-    (c.copy_from.ensures ∙ c.row.ensures ∙ ap (looks_in c.args.self.now.looks) c.numbered-at.ensures) c.resolve_between-end.ensures.stays
+    (c.copy_from.ensures ∙ c.row.ensures) c.resolve_between-end.ensures.stays
 
-pub returns-clause-refreshed : goal.returns-clause-refreshed
-returns-clause-refreshed g c =
-    let source = c.ending-source.ensures ∙ ap (λ (s : Source). record s { last = c.args.last })
-    (c.row_source.ensures ∙ ap (λ n. source_of c.args.self.now.page n false) c.numbered-at.ensures) in
-    let made = (λ i. row_made (source i) (c.above.ensures i))
-    ∙ ap (λ n. row_beneath (looks_in c.args.self.now.looks (n - 1)) c.args.self.now.page c.args.row c.args.last)
-    c.numbered-at.ensures in
-    subst (λ (l : List Look). IsRefreshedRow l c.args.row c.args.self.now.looks c.take_row-covering.new.kept c.args.marks.now
-    c.take_row-covering.new.marks) (c.resolve_between-end.ensures.looks
-    ∙ made)
-    c.take_row-covering.ensures.refreshed
+pub returns-clause-row : goal.returns-clause-row
+returns-clause-row g c = record {
+  rest = record { page = refl; names = refl };
+  covering =
+      c.take_row-covering.ensures.covering ∙ ap (λ n. is_other_above (looks_in c.args.self.now.looks n)
+      (looks_in c.take_row-covering.new.kept n)) c.numbered-at.ensures;
+  tick = c.resolve_between-end.ensures.tick;
+  refreshed =
+      let source = c.ending-source.ensures ∙ ap (λ (s : Source). record s { last = c.args.last })
+      (c.row_source.ensures ∙ ap (λ n. source_of c.args.self.now.page n false) c.numbered-at.ensures) in
+      let made = (λ i. row_made (source i) (c.above.ensures i))
+      ∙ ap (λ n. row_beneath (looks_in c.args.self.now.looks (n - 1)) c.args.self.now.page c.args.row c.args.last)
+      c.numbered-at.ensures in
+      subst (λ (l : List Look). IsRefreshedRow l c.args.row c.args.self.now.looks c.take_row-covering.new.kept c.args.marks.now
+      c.take_row-covering.new.marks) (c.resolve_between-end.ensures.looks
+      ∙ made)
+      (subst (λ n. IsRefreshedRow c.resolve_between-end.new.looks n c.args.self.now.looks c.take_row-covering.new.kept
+      c.args.marks.now c.take_row-covering.new.marks) c.numbered-at.ensures c.take_row-covering.ensures.refreshed);
+}
 
 pub returns-clause-stays : goal.returns-clause-stays
 returns-clause-stays g c = λ column past right.
-    let refreshed = c.take_row-covering.ensures.refreshed in
+    let refreshed = subst (λ n. IsRefreshedRow c.resolve_between-end.new.looks n c.args.self.now.looks
+    c.take_row-covering.new.kept c.args.marks.now c.take_row-covering.new.marks) c.numbered-at.ensures
+    c.take_row-covering.ensures.refreshed in
     let on : OnScreen c.args.row column = record {
       from_top = c.requires.from_top;
       to_bottom = c.requires.to_bottom;

@@ -21,12 +21,12 @@ loop-row-init g c = record {
   rest = record { page = refl; names = refl };
   walked = λ k _.
       WalkedTo-first c.args.flags.now at_rest (core_on k c.args.self.now.page) c.args.self.now.looks c.args.marks.now
-      c.args.steps.now c.whole_by_type.ensures c.requires.none;
+      c.args.steps.now c.whole_by_type.ensures c.requires.may.none;
 }
 
 pub refresh_row-covered-requires-clause-valid : goal.refresh_row-covered-requires-clause-valid
 refresh_row-covered-requires-clause-valid g c =
-    subst (λ (p : Page). IsValidPage p) (sym c.loop-row.invariant.rest.page) c.requires.others.valid
+    subst (λ (p : Page). IsValidPage p) (sym c.loop-row.invariant.rest.page) c.requires.may.others.valid
 
 -- whether the row is due, as it is asked
 due : (g : given.Over) (c : goal.Joined-flag-covered g) (k : Core) → edges_of_core k ≡ c.args.edges.now
@@ -64,21 +64,21 @@ loop-row-preserved g c =
         | else-flag-covered w ↦
             WalkedTo-as (ap (λ (p : Picture). p.looks) w.self-is) w.marks-is w.covered-is w.steps-is
             (WalkedTo-kept (m.walked k same) c.whole_by_type.ensures c.loop-row.auto.row (omega arith)
-            (c.requires.others.stay k same) (sym (due g c k same) ∙ w.if-flag-covered.false)
+            (c.requires.may.others.stay k same) (sym (due g c k same) ∙ w.if-flag-covered.false)
             (row_from-rest row c.loop-row.auto.row (omega arith)))
       ];
     }
 
-pub returns-clause-rest : goal.returns-clause-rest
-returns-clause-rest g c = c.loop-row.invariant.rest
-
-pub returns-clause-refreshed : goal.returns-clause-refreshed
-returns-clause-refreshed g c =
-    let m = c.loop-row.invariant in
-    let one = m.walked c.requires.others.of_core.0 c.requires.others.of_core.1 in
-    record {
-      looks = subst (λ (p : Page). AreLooksOn c.loop-row.self.looks p c.args.edges.now) (sym m.rest.page)
-          (λ k same. WalkedTo-looks (m.walked k same) (omega arith));
-      marks = WalkedTo-marks one c.requires.none;
-      cost = WalkedTo-cost one (omega arith);
-    }
+pub returns : goal.returns
+returns g c = record {
+  rest = c.loop-row.invariant.rest;
+  refreshed =
+      let m = c.loop-row.invariant in
+      let one = m.walked c.requires.may.others.of_core.0 c.requires.may.others.of_core.1 in
+      record {
+        looks = subst (λ (p : Page). AreLooksOn c.loop-row.self.looks p c.args.edges.now) (sym m.rest.page)
+            (λ k same. WalkedTo-looks (m.walked k same) (omega arith));
+        marks = WalkedTo-marks one c.requires.may.none;
+        cost = WalkedTo-cost one (omega arith);
+      };
+}

@@ -1,4 +1,4 @@
-use Rattle.std.proofs.Common.{◌≡◌, sym, ap, subst, ◌∙◌}
+use Rattle.std.proofs.Common.{sym, subst}
 use Rattle.cept_profile.specs.State.{State}
 use Rattle.cept_repaint.specs.Applied.{IsWritten}
 use Rattle.cept_repaint.proofs.AppliedCommands.{IsWritten-unseen, goes_on_after}

@@ -9,21 +9,20 @@ use Rattle.cept_repaint.proofs.KeptPictures.{IsKept-restored, IsKeptOn-state, Is
 use Rattle.cept_repaint.proofs.UnwoundStates.{rows_unwound-control, valid_page_unwound}
 use Rattle.cept_repaint.proofs.screen.Screen.exchange_values.Goals as goal
 
-pub exchange-requires-clause-kept : goal.exchange-requires-clause-kept
-exchange-requires-clause-kept g c = IsKeptOn-state {picture = c.self.inside.picture} {c = c.self.inside.control}
-    c.self.invariant c.edges-before.result c.edges-before.ensures
-
-pub exchange-requires-clause-to : goal.exchange-requires-clause-to
-exchange-requires-clause-to g c =
-    AreEdges-state (state_of_parts c.self.inside.picture.page c.exchange_control.new.control) c.edges-after.result
-    c.edges-after.ensures
-
-pub exchange-requires-clause-valid : goal.exchange-requires-clause-valid
-exchange-requires-clause-valid g c =
-    subst (λ (v : OldValues). IsValidPage (page_unwound c.self.inside.picture.page v))
-    (sym c.exchange_control.ensures.noted)
-    (valid_page_unwound (state_of_parts c.self.inside.picture.page c.self.inside.control) c.args.self.now
-    c.args.delta.now c.self.view_is c.requires)
+pub exchange-requires : goal.exchange-requires
+exchange-requires g c = record {
+  kept =
+      IsKeptOn-state {picture = c.self.inside.picture} {c = c.self.inside.control}
+      c.self.invariant c.edges-before.result c.edges-before.ensures;
+  to =
+      AreEdges-state (state_of_parts c.self.inside.picture.page c.exchange_control.new.control) c.edges-after.result
+      c.edges-after.ensures;
+  valid =
+      subst (λ (v : OldValues). IsValidPage (page_unwound c.self.inside.picture.page v))
+      (sym c.exchange_control.ensures.noted)
+      (valid_page_unwound (state_of_parts c.self.inside.picture.page c.self.inside.control) c.args.self.now
+      c.args.delta.now c.self.view_is c.requires);
+}
 
 pub returns-clause-back : goal.returns-clause-back
 returns-clause-back g c =

@@ -7,19 +7,18 @@ use Rattle.cept_repaint.proofs.KeptPictures.{IsKept-restored, IsKeptOn-state, Is
 use Rattle.cept_repaint.proofs.UnwoundStates.{valid_page_unwound}
 use Rattle.cept_repaint.proofs.screen.Screen.unwind.Goals as goal
 
-pub unwind-requires-clause-kept : goal.unwind-requires-clause-kept
-unwind-requires-clause-kept g c = IsKeptOn-state {picture = c.self.inside.picture} {c = c.self.inside.control}
-    c.self.invariant c.edges-before.result c.edges-before.ensures
-
-pub unwind-requires-clause-to : goal.unwind-requires-clause-to
-unwind-requires-clause-to g c =
-    AreEdges-state (state_of_parts c.self.inside.picture.page c.unwrap_or-self-inside.result) c.edges-after.result
-    c.edges-after.ensures
-
-pub unwind-requires-clause-valid : goal.unwind-requires-clause-valid
-unwind-requires-clause-valid g c =
-    valid_page_unwound (state_of_parts c.self.inside.picture.page c.self.inside.control) c.args.self.now
-    c.args.delta.now c.self.view_is c.requires
+pub unwind-requires : goal.unwind-requires
+unwind-requires g c = record {
+  kept =
+      IsKeptOn-state {picture = c.self.inside.picture} {c = c.self.inside.control}
+      c.self.invariant c.edges-before.result c.edges-before.ensures;
+  to =
+      AreEdges-state (state_of_parts c.self.inside.picture.page c.unwrap_or-self-inside.result) c.edges-after.result
+      c.edges-after.ensures;
+  valid =
+      valid_page_unwound (state_of_parts c.self.inside.picture.page c.self.inside.control) c.args.self.now
+      c.args.delta.now c.self.view_is c.requires;
+}
 
 pub returns : goal.returns
 returns g c =

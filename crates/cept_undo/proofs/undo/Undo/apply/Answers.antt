@@ -9,4 +9,4 @@ returns-clause-edit g c =
     StaysBegun-noted c.args.self.now _ c.args.screen.now c.apply_noting.new.self c.in-Some.delta c.apply_noting.new.delta
     (sym (ap (λ (u : Edits). u.begun) c.self.view_is) ∙ c.in-Some.is) refl
     (ap (λ (u : Edits). u.kept) c.self.view_is) (c.self.invariant.alone (ap is_some c.in-Some.is))
-    c.apply_noting.ensures.unwound c.requires.fits
+    c.apply_noting.ensures.unwound c.requires.within.fits

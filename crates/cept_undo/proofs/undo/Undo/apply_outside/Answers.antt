@@ -9,6 +9,6 @@ returns-then-holds_none-clause-edits g c =
     record {
       past = past-none c.args.self.now c.apply_from.new.self kept ∙ sym (past-none c.args.self.now c.args.screen.now kept);
       future = future-none c.args.self.now c.apply_from.new.self undone;
-      none_begun = c.requires.none_begun;
-      fits = FitsTogether-none c.args.self.now c.apply_from.new.self c.requires.none_begun kept undone;
+      none_begun = c.requires.between.none_begun;
+      fits = FitsTogether-none c.args.self.now c.apply_from.new.self c.requires.between.none_begun kept undone;
     }

@@ -10,14 +10,14 @@ use Rattle.cept_undo.proofs.undo.Undo.apply_to_latest.Goals.{in-Some-1, in-None-
 
 pub invariant_of-self : goal.invariant_of-self
 invariant_of-self g c =
-    HasRoom-noted c.self.invariant (still_none _ c.args.self.now c.self.view_is c.requires.none_begun) c.in-Some.latest
+    HasRoom-noted c.self.invariant (still_none _ c.args.self.now c.self.view_is c.requires.between.none_begun) c.in-Some.latest
     c.in-Some.ensures.value c.apply_noting.new.delta c.pop_front.new.self c.push_front.new.self c.pop_front.ensures.items
     c.push_front.ensures.items c.give_back.ensures.none c.give_back.ensures.places c.give_back.ensures.all
     c.give_back.ensures.spare_places
 
 pub invariant_of-self-in-Some-2 : goal.invariant_of-self-in-Some-2
 invariant_of-self-in-Some-2 g c =
-    HasRoom-noted c.self.invariant (still_none _ c.args.self.now c.self.view_is c.requires.none_begun) c.in-Some.latest
+    HasRoom-noted c.self.invariant (still_none _ c.args.self.now c.self.view_is c.requires.between.none_begun) c.in-Some.latest
     c.in-Some.ensures.value c.apply_noting.new.delta c.pop_front.new.self c.push_front.new.self c.pop_front.ensures.items
     c.push_front.ensures.items c.give_back.ensures.none c.give_back.ensures.places c.give_back.ensures.all
     c.give_back.ensures.spare_places
@@ -29,12 +29,12 @@ edits_after kept undone begun = record { kept = kept; undone = undone; begun = b
 pub returns-in-Some-clause-edits : goal.returns-in-Some-clause-edits
 returns-in-Some-clause-edits g c =
     let edits = edits_after c.push_front.new.self.items c.give_back.new.undone.items c.self.inside.begun in
-    let still = still_none _ c.args.self.now c.self.view_is c.requires.none_begun in
+    let still = still_none _ c.args.self.now c.self.view_is c.requires.between.none_begun in
     let within : length c.self.inside.kept.items ≤ c.self.inside.kept.capacity =
     omega (arith, c.self.invariant.few, c.self.invariant.edits) in
     let same : past edits c.apply_noting.new.self ≡ past c.args.self.now c.args.screen.now =
     past-noted c.args.self.now edits c.args.screen.now c.apply_noting.new.self c.in-Some.latest
-    c.apply_noting.new.delta (drop 1 c.self.inside.kept.items) c.requires.none_begun still
+    c.apply_noting.new.delta (drop 1 c.self.inside.kept.items) c.requires.between.none_begun still
     (sym (ap (λ (u : Edits). u.kept) c.self.view_is)
     ∙ first_and_rest c.self.inside.kept.items c.in-Some.latest c.in-Some.ensures.value)
     (latest_noted c.self.inside.kept.items c.self.inside.kept.capacity c.in-Some.latest c.apply_noting.new.delta
@@ -47,7 +47,7 @@ returns-in-Some-clause-edits g c =
       past = same;
       future = none;
       none_begun = still;
-      fits = FitsTogether-same c.args.self.now edits c.args.screen.now c.apply_noting.new.self still same none c.requires.fits;
+      fits = FitsTogether-same c.args.self.now edits c.args.screen.now c.apply_noting.new.self still same none c.requires.between.fits;
     } in
     elim c.match-push_front.branch [
       | in-Some-1 w ↦ rw w.self-is stays
@@ -56,7 +56,7 @@ returns-in-Some-clause-edits g c =
 
 pub returns-in-None-clause-edits : goal.returns-in-None-clause-edits
 returns-in-None-clause-edits g c =
-    let still = still_none _ c.args.self.now c.self.view_is c.requires.none_begun in
+    let still = still_none _ c.args.self.now c.self.view_is c.requires.between.none_begun in
     let first = none_first c.self.inside.kept.items c.in-None.ensures.value in
     let none = ap (λ (b : Buffer OldValues). b.items) c.pop_front.ensures.items ∙ ap (drop 1) first in
     record {

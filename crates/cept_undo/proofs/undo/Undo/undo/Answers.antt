@@ -10,35 +10,35 @@ use Rattle.cept_undo.proofs.undo.Undo.undo.Goals.{then-turn, else-turn}
 
 pub turn-requires-clause-valid : goal.turn-requires-clause-valid
 turn-requires-clause-valid g c =
-    held_past_valid _ c.args.self.now c.args.screen.now c.self.view_is c.requires.none_begun c.requires.fits
+    held_past_valid _ c.args.self.now c.args.screen.now c.self.view_is c.requires.between.none_begun c.requires.between.fits
 
 pub turn-requires-clause-valid_back : goal.turn-requires-clause-valid_back
 turn-requires-clause-valid_back g c =
-    held_future_valid _ c.args.self.now c.args.screen.now c.self.view_is c.requires.fits
+    held_future_valid _ c.args.self.now c.args.screen.now c.self.view_is c.requires.between.fits
 
 pub returns-clause-turns : goal.returns-clause-turns
 returns-clause-turns g c = record {
   state = c.turn.ensures.turns.state
       ∙ ap (λ (l : List State). nearest l c.args.screen.now)
-      (held_past _ c.args.self.now c.args.screen.now c.self.view_is c.requires.none_begun);
+      (held_past _ c.args.self.now c.args.screen.now c.self.view_is c.requires.between.none_begun);
   rest = past-unbegun _ c.turn.new.screen
-      (still_none _ c.args.self.now c.self.view_is c.requires.none_begun)
+      (still_none _ c.args.self.now c.self.view_is c.requires.between.none_begun)
       ∙ c.turn.ensures.turns.rest
-      ∙ ap (λ (l : List State). drop 1 l) (held_past _ c.args.self.now c.args.screen.now c.self.view_is c.requires.none_begun);
+      ∙ ap (λ (l : List State). drop 1 l) (held_past _ c.args.self.now c.args.screen.now c.self.view_is c.requires.between.none_begun);
   others = future-of _ c.turn.new.screen
       ∙ c.turn.ensures.turns.others
-      ∙ (λ i. handed_on (held_past _ c.args.self.now c.args.screen.now c.self.view_is c.requires.none_begun i)
+      ∙ (λ i. handed_on (held_past _ c.args.self.now c.args.screen.now c.self.view_is c.requires.between.none_begun i)
       c.args.screen.now (held_future _ c.args.self.now c.args.screen.now c.self.view_is i));
 }
 
-pub returns-clause-fits : goal.returns-clause-fits
-returns-clause-fits g c =
-    FitsTogether-sides _ c.turn.new.screen (still_none _ c.args.self.now c.self.view_is c.requires.none_begun)
-    c.turn.ensures.valid c.turn.ensures.valid_back
+pub returns-clause-between : goal.returns-clause-between
+returns-clause-between g c =
+    let none = still_none _ c.args.self.now c.self.view_is c.requires.between.none_begun in
+    record { none_begun = none; fits = FitsTogether-sides _ c.turn.new.screen none c.turn.ensures.valid c.turn.ensures.valid_back }
 
 pub returns-clause-nothing : goal.returns-clause-nothing
 returns-clause-nothing g c =
-    let states = held_past _ c.args.self.now c.args.screen.now c.self.view_is c.requires.none_begun in
+    let states = held_past _ c.args.self.now c.args.screen.now c.self.view_is c.requires.between.none_begun in
     elim c.if-turn.branch [
       | then-turn w ↦ (
         λ same. absurd cc,

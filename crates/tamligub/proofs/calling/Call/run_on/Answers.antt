@@ -1,29 +1,29 @@
-use Rattle.std.proofs.Common.{None, refl, rules}
-use Rattle.cept_outside.specs.PlainShelf.{plain_shelf_state}
-use Rattle.cept_outside.specs.PlainSink.{plain_sink_state}
+use Rattle.std.proofs.Common.{[], None, refl, ◌∙◌, rules}
+use Rattle.cept_outside.specs.SliceShelf.{slice_shelf_state}
+use Rattle.cept_profile.specs.Look.{grid}
+use Rattle.cept_repaint.specs.GlassState.{GlassState}
 use Rattle.cept_run.specs.Outside.{Outside, outside_of}
-use Rattle.tamligub.proofs.Reports.{files_added}
+use Rattle.tamligub.proofs.Filled.{runs_on}
 use Rattle.tamligub.proofs.calling.Call.run_on.Goals as goal
 
-pub returns : goal.returns
-returns c =
-    let before : Outside = outside_of (plain_shelf_state c.add-2.new.self) (plain_sink_state c.args.sink.now)
-    (record { grid = c.in_ok-glass.glass.rows; paints = None }) in
-    let after : Outside = outside_of (plain_shelf_state c.run_request.new.shelf) (plain_sink_state c.run_request.new.sink)
+pub returns-in-Some-clause-ran : goal.returns-in-Some-clause-ran
+returns-in-Some-clause-ran g c =
+    let glass : GlassState = record { grid = grid []; paints = None } in
+    let before : Outside = outside_of (slice_shelf_state c.new-shelf.result) (g.T.Sink.state c.args.sink.now) glass in
+    let after : Outside = outside_of (slice_shelf_state c.run_without_glass.new.shelf)
+    (g.T.Sink.state c.run_without_glass.new.sink) glass in
+    runs_on _ _ refl refl c.args.self.now.word.now c.args.self.now.given c.args.self.now.number
+    (g.T.Sink.state c.args.sink.now) before after c.in-Some.status c.new-shelf.ensures refl refl refl
+    (c.in-Some.ensures.runs _ glass c.requires.request)
+
+pub returns-clause-ran : goal.returns-clause-ran
+returns-clause-ran g c =
+    let left = c.in_default.ensures.left refl in
+    let before : Outside = outside_of (slice_shelf_state c.run_without_glass.new.shelf)
+    (g.T.Sink.state c.run_without_glass.new.sink) (record { grid = c.in_ok-glass.glass.rows; paints = None }) in
+    let after : Outside = outside_of (slice_shelf_state c.run_request.new.shelf) (g.T.Sink.state c.run_request.new.sink)
     (record { grid = c.run_request.new.glass.rows; paints = None }) in
-    record {
-      before = before;
-      after = after;
-      has_page = search rules;
-      has_script = search rules;
-      files = λ name. files_added c.args.self.now.page.now c.args.self.now.script.now name (plain_shelf_state c.new-shelf.result)
-          (plain_shelf_state c.add.new.self) (plain_shelf_state c.add-2.new.self) c.new-shelf.ensures
-          c.in_ok-add.ensures.added c.in_ok-add-2.ensures.added;
-      faultless = search rules;
-      unmissed = search rules;
-      missed = search rules;
-      blank = search rules;
-      before_sink = refl;
-      after_sink = refl;
-      runs = c.run_request.ensures _ c.requires.request;
-    }
+    runs_on _ _ refl refl c.args.self.now.word.now c.args.self.now.given c.args.self.now.number
+    (g.T.Sink.state c.args.sink.now) before after c.run_request.result (left.1 ∙ c.new-shelf.ensures) refl
+    (search rules) left.2
+    (c.run_request.ensures _ c.requires.request)
