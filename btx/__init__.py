@@ -5,6 +5,6 @@ import sys
 VERSION = "0.1"
 
 
-def say(text):
+def say(text: object) -> None:
     """A line for who waits, apart from the output."""
     print(f"btx: {text}", file=sys.stderr, flush=True)

@@ -5,21 +5,25 @@ import dataclasses
 import os
 import shutil
 import sys
+from collections.abc import Iterable
+from types import ModuleType
 
-from btx import collection, debian, html, jobs, lists, making, pillow, program, progress, viewer, website
+from btx import collection, debian, files, html_file, jobs, lists, making, pillow, program, progress, viewer, website
+from btx.statuses import NOT_THERE, Status
 
 SUMMARY = "a website of a folder of pages, with an index and a report"
-WORDS, NO_PAGE, NOT_THERE = 2, 4, 127
+# A status, and the sentence that says why.
+Fault = tuple[int, str]
 
 
-def count(text):
+def count(text: str) -> int:
     value = int(text)
     if value < 1:
         raise argparse.ArgumentTypeError("at least one page is made at once")
     return value
 
 
-def arguments(parser):
+def arguments(parser: argparse.ArgumentParser) -> None:
     usual = " ".join(collection.PATTERNS)
     parser.add_argument("folder", metavar="FOLDER")
     parser.add_argument("-o", "--output", metavar="OUT", required=True, help="the folder of the website")
@@ -29,7 +33,8 @@ def arguments(parser):
     )
     parser.add_argument("--title", metavar="TEXT", default="", help="the title of the website")
     parser.add_argument("--keep", action="store_true", help="keep and list pages that are no longer in the collection")
-    parser.add_argument("--csv", choices=lists.SEPARATORS, default="english", help="german has semicolons in report.csv; without this english")
+    separator = "german has semicolons in report.csv; without this english"
+    parser.add_argument("--csv", choices=lists.SEPARATORS, default="english", help=separator)
     parser.add_argument("--jobs", metavar="N", type=count, help="how many pages are made at once; without this as many as processors")
     parser.add_argument("--again", action="store_true", help="make all pages again")
     parser.add_argument("--jobs-by", choices=("btx", "parallel"), default="btx", help="what runs the jobs; parallel is GNU parallel")
@@ -37,30 +42,30 @@ def arguments(parser):
     parser.add_argument("--remote", metavar="COMMAND", help="what btx is called on the machines of parallel")
 
 
-def say(text):
+def say(text: str) -> None:
     print(f"btx: archive: {text}", file=sys.stderr)
 
 
-def is_inside(path, folder):
+def is_inside(path: str, folder: str) -> bool:
     path, folder = os.path.realpath(path), os.path.realpath(folder)
     return os.path.commonpath([path, folder]) == folder
 
 
-def fault_of(options):
+def fault_of(options: argparse.Namespace) -> Fault | None:
     """Why an archive can't be begun with these words, and the status of that; None where it can."""
     out, folder = options.output, options.folder
     if options.jobs_by != "parallel" and (options.sshlogin or options.remote):
-        return WORDS, f"{'--sshlogin' if options.sshlogin else '--remote'} is for --jobs-by parallel"
+        return Status.USAGE, f"{'--sshlogin' if options.sshlogin else '--remote'} is for --jobs-by parallel"
     if is_inside(out, folder):
-        return WORDS, f"{html.shown_name(out)} is in the collection; the website needs a folder outside of it"
+        return Status.USAGE, f"{html_file.shown_name(out)} is in the collection; the website needs a folder outside of it"
     if any(is_inside(folder, os.path.join(out, kind)) for kind in website.FOLDERS):
-        return WORDS, f"{html.shown_name(folder)} is a folder that the website takes for itself"
+        return Status.USAGE, f"{html_file.shown_name(folder)} is a folder that the website takes for itself"
     if options.jobs_by == "parallel" and not shutil.which("parallel"):
         return NOT_THERE, "GNU parallel isn't on this machine (Debian: apt-get install parallel)"
     return None
 
 
-def known(site, here, name):
+def known(site: website.Website, here: collection.Collection, name: str) -> making.Facts | None:
     """The facts of a page that is made already of the very bytes that it has, or None."""
     facts = None if site.lacks_picture(name) else site.facts(name)
     try:
@@ -69,7 +74,7 @@ def known(site, here, name):
         return None
 
 
-def painter():
+def painter() -> ModuleType | None:
     """Pillow's module of images. Where there is none it says so, and no pictures are made."""
     try:
         return pillow.image()
@@ -78,14 +83,14 @@ def painter():
         return None
 
 
-def no_longer(facts, why):
+def no_longer(facts: making.Facts, why: str) -> making.Facts:
     return dataclasses.replace(facts, meaning=f"{facts.meaning}; {why}", screen=None)
 
 
 class Archive:
     """An archive that is being made: facts of its pages by their names."""
 
-    def __init__(self, options, here):
+    def __init__(self, options: argparse.Namespace, here: collection.Collection) -> None:
         self.options, self.here = options, here
         self.site = website.Website(options.output, painter(), viewer.module_script())
         unread = {folder: making.unreadable(why) for folder, why in here.unread.items()}
@@ -95,7 +100,7 @@ class Archive:
         self.there = len(here.names) - len(self.wanted)
         self.gone = 0
 
-    def sort_out(self):
+    def sort_out(self) -> None:
         """Removes what was made of pages that left the collection, or lists it. What is behind a folder that can't be read stays."""
         names = set(self.here.names)
         for name in [name for name in self.site.names() if name not in names]:
@@ -109,16 +114,16 @@ class Archive:
             else:
                 self.site.remove(name)
 
-    def results(self, path):
+    def results(self, path: program.Runner) -> Iterable[jobs.Result]:
         """The name and facts of each page as it is made."""
         if self.options.jobs_by == "parallel":
             return jobs.by_parallel(self.site, self.here, self.wanted, jobs.parallel_words(self.options)) if self.wanted else ()
         return jobs.by_threads(path, self.site, self.here, self.wanted, self.options.jobs or len(os.sched_getaffinity(0)))
 
-    def write_lists(self):
+    def write_lists(self) -> None:
         lists.write(self.options.output, self.facts, lists.SEPARATORS[self.options.csv])
 
-    def make(self, path):
+    def make(self, path: program.Runner) -> int:
         """Makes what isn't there; the lists are there from the first, and are written anew while it goes."""
         self.site.begin(self.options.title)
         self.sort_out()
@@ -129,16 +134,16 @@ class Archive:
             line.step(made)
             seldom.step()
         lacking = [name for name in self.wanted if name not in self.facts]
-        self.facts.update({name: making.Facts(None, making.FAULT, "not made") for name in lacking})
+        self.facts.update({name: making.Facts(None, Status.NO_ROOM, "not made") for name in lacking})
         self.write_lists()
         return len(lacking)
 
-    def told(self, lacking):
+    def told(self, lacking: int) -> None:
         """Says what was made, and what wasn't taken."""
         pages = [facts for name, facts in self.facts.items() if name not in self.here.unread]
-        refused = sum(facts.status == program.WITH_REFUSALS for facts in pages)
+        refused = sum(facts.status == Status.REFUSALS for facts in pages)
         unread = sum(not facts.is_read() for facts in pages) - lacking
-        index = html.shown_name(os.path.join(self.options.output, "index.html"))
+        index = html_file.shown_name(os.path.join(self.options.output, "index.html"))
         print(f"{len(pages):,} pages, {refused:,} with refused items, {unread:,} not read; {self.there:,} were there: {index}")
         folders, same = len(self.here.unread), len(lists.alike(self.facts))
         kept = "kept" if self.options.keep else "removed"
@@ -151,19 +156,19 @@ class Archive:
             print(note)
 
 
-def run(path, options):
+def run(path: program.Runner, options: argparse.Namespace) -> int:
     fault = fault_of(options)
-    here = None if fault else collection.found(options.folder, options.pattern)
-    if here and not here.names and not here.unread:
+    here = collection.Collection(options.folder) if fault else collection.found(options.folder, options.pattern)
+    if not fault and not here.names and not here.unread:
         aside = collection.left_aside(here)
-        fault = NO_PAGE, f"{html.shown_name(options.folder)}: there is no page in it" + (f"; {aside}" if aside else "")
+        fault = Status.UNREAD, f"{html_file.shown_name(options.folder)}: there is no page in it" + (f"; {aside}" if aside else "")
     if fault:
         say(fault[1])
         return fault[0]
-    sys.stdout.reconfigure(encoding="utf-8")
+    files.write_utf8()
     archive = Archive(options, here)
     lacking = archive.make(path)
     archive.told(lacking)
     if lacking:
         say(f"{lacking:,} pages were not made; the same command goes on with them")
-    return making.FAULT if lacking else 0
+    return Status.NO_ROOM if lacking else 0

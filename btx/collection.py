@@ -3,8 +3,9 @@ import collections
 import dataclasses
 import fnmatch
 import os
+from collections.abc import Sequence
 
-from btx import html, messages
+from btx import html_file, messages
 
 # Without a pattern of one's own: which files are pages, in either case.
 PATTERNS = ("*.btx", "*.cept", "*.vtx", "*.bin")
@@ -16,31 +17,31 @@ class Collection:
     """Names are paths from the folder, in the order of their bytes; of what is left aside it is told how many have which suffix."""
 
     folder: str
-    names: list = dataclasses.field(default_factory=list)
-    unread: dict = dataclasses.field(default_factory=dict)
-    aside: collections.Counter = dataclasses.field(default_factory=collections.Counter)
+    names: list[str] = dataclasses.field(default_factory=list)
+    unread: dict[str, str] = dataclasses.field(default_factory=dict)
+    aside: collections.Counter[str] = dataclasses.field(default_factory=collections.Counter)
     links: int = 0
 
-    def path(self, name):
+    def path(self, name: str) -> str:
         return os.path.join(self.folder, name)
 
-    def is_behind(self, name):
+    def is_behind(self, name: str) -> bool:
         """Whether a page is in a folder that can't be read, so that nobody knows whether it is there."""
         return any(name.startswith(folder) for folder in self.unread)
 
 
-def is_page(name, patterns):
+def is_page(name: str, patterns: Sequence[str]) -> bool:
     """Whether a file is taken as a page by its name."""
     if patterns:
         return any(fnmatch.fnmatchcase(name, pattern) for pattern in patterns)
     return any(fnmatch.fnmatchcase(name.lower(), pattern) for pattern in PATTERNS)
 
 
-def found(folder, patterns):
+def found(folder: str, patterns: Sequence[str]) -> Collection:
     """The collection in a folder and all folders in it. That the folder itself can't be read is raised."""
     here = Collection(folder)
 
-    def unread(fault):
+    def unread(fault: OSError) -> None:
         if fault.filename == folder:
             raise fault
         here.unread[os.path.join(os.path.relpath(fault.filename, folder), "")] = messages.why(fault)
@@ -56,14 +57,14 @@ def found(folder, patterns):
     return here
 
 
-def several(number, one, more=None):
+def several(number: int, one: str, more: str | None = None) -> str:
     return f"{number:,} {one if number == 1 else more or one + 's'}"
 
 
-def left_aside(here):
+def left_aside(here: Collection) -> str:
     """A sentence on the files that aren't taken and by which suffixes, and on links to folders; empty where all was taken."""
     often = here.aside.most_common()
-    parts = [f"{count:,} {html.shown_name(suffix) or 'without a suffix'}" for suffix, count in often[:MOST_SUFFIXES]]
+    parts = [f"{count:,} {html_file.shown_name(suffix) or 'without a suffix'}" for suffix, count in often[:MOST_SUFFIXES]]
     rest = sum(count for _, count in often[MOST_SUFFIXES:])
     parts += [f"{rest:,} with other suffixes"] if rest else []
     total = sum(here.aside.values())

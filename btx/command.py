@@ -3,25 +3,40 @@ import argparse
 import os
 import signal
 import sys
+from collections.abc import Callable, Sequence
+from typing import NoReturn, Protocol
 
-from btx import VERSION, archive, cast, check_script, completion, cut, diff, editor, files, film, host, html, jobs, library, line, messages
-from btx import near, passing, picture, program, say, svg, terminal, viewer
+from btx import VERSION, archive, cast, check_script, completion, cut, diff, editor, files, film, host, html_file, jobs, library, line
+from btx import messages, near, passing, picture, program, say, svg, terminal, viewer
+from btx.statuses import NOT_THERE, Status
 
-OWN = {
-    "terminal": terminal, "html": html, "viewer": viewer, "editor": editor, "png": picture, "gif": film, "svg": svg, "cast": cast,
+
+class Own(Protocol):
+    """The module of a word that btx alone has."""
+
+    SUMMARY: str
+
+    def arguments(self, parser: argparse.ArgumentParser, /) -> None:
+        """Says what the word takes."""
+
+    def run(self, path: program.Runner, options: argparse.Namespace, /) -> int:
+        """Does what it says, and answers the status."""
+
+
+OWN: dict[str, Own] = {
+    "terminal": terminal, "html": html_file, "viewer": viewer, "editor": editor, "png": picture, "gif": film, "svg": svg, "cast": cast,
     "archive": archive, "diff": diff, "check-script": check_script, "line": line, "cut": cut, "host": host,
     "completion": completion,
 }
 KNOWN = (*program.WORDS, *OWN, "help")
-# Words that do without the program.
+# Words that do without the program, and are given an empty path.
 BY_THEMSELVES = ("viewer", "editor", "line", "cut", "host", "completion")
-NOT_THERE = 127
 EPILOG = """The words of the program pass through with its output and its status; what a status means is said on standard error.
 btx PAGE shows a page as terminal does, btx help WORD describes a word, and a file that is named - is standard input.
 man btx and man cept_tool say more. BTX_PROGRAM can name another program, and TAMLIGUB_LIBRARY another library."""
 
 
-def parsers():
+def parsers() -> argparse.ArgumentParser:
     """The parser of all words; each word's own has its help."""
     parser = argparse.ArgumentParser(
         prog="btx", description="Shows, checks and edits stored Bildschirmtext pages.", epilog=EPILOG, allow_abbrev=False
@@ -39,14 +54,14 @@ def parsers():
     return parser
 
 
-def unknown(word):
+def unknown(word: str) -> int:
     nearest = near.nearest(word, KNOWN)
     hint = f"; the nearest is {nearest}" if nearest else ""
     say(f"{word} is none of its words{hint}\nbtx --help lists them")
     return 2
 
 
-def program_for(beside):
+def program_for(beside: str) -> program.Runner:
     """The library, or the path of the program; of an unproved one that nobody has named it says so."""
     path = library.found(beside)
     if path == program.QUICK and not os.environ.get("BTX_PROGRAM"):
@@ -54,14 +69,15 @@ def program_for(beside):
     return path
 
 
-def guarded(path, word, act, *things):
+def guarded(path: program.Runner, word: str, act: Callable[..., int], *things: object) -> int:
     """Runs a word; where files or the program fail, it says so."""
     try:
         return act(path, *things)
     except program.Ended as end:
         if end.status < 0:
             passing.end_by(-end.status)
-        say(messages.sentence(path, end.word if end.status == 2 else word, end.words, end.status))
+        asked = end.word if end.status == Status.USAGE else word
+        say(messages.sentence(messages.Run(path, asked, end.words), end.status))
         return end.status
     except BrokenPipeError:
         raise
@@ -70,19 +86,19 @@ def guarded(path, word, act, *things):
         return 4
 
 
-def is_page(word):
+def is_page(word: str) -> bool:
     """Whether a first word is rather a page than a word that there isn't."""
     return word == files.STANDARD or os.path.exists(word) or "/" in word or word.endswith(".btx")
 
 
-def spelled(words):
+def spelled(words: Sequence[str]) -> Sequence[str]:
     """The words in full: a page alone is shown, and help is asked of the word itself."""
     if words[0] == "help":
         return [*words[1:2], "--help"]
     return ["terminal", *words] if words[0] not in KNOWN and not words[0].startswith("--") and is_page(words[0]) else words
 
 
-def run(words, beside):
+def run(words: Sequence[str], beside: str) -> int:
     parser = parsers()
     if not words:
         parser.print_help(sys.stderr)
@@ -97,11 +113,11 @@ def run(words, beside):
         return jobs.work(library.found(beside))
     options = parser.parse_args(words)
     options.beside, options.parser = beside, parser
-    path = None if options.word in BY_THEMSELVES else program_for(beside)
+    path = "" if options.word in BY_THEMSELVES else program_for(beside)
     return guarded(path, options.word, OWN[options.word].run, options)
 
 
-def main(words, beside):
+def main(words: Sequence[str], beside: str) -> NoReturn:
     try:
         status = run(words, beside)
         if sys.stdout:

@@ -2,11 +2,13 @@
 . <(bin/btx completion bash) loads it, in zsh likewise after compinit; bin/btx completion fish | source does so in fish. An install keeps
 all three where the shells look for them."""
 import argparse
+from collections.abc import Iterator, Sequence
 
 SUMMARY = "the completion of a shell: bash, zsh or fish"
 FILES, FOLDERS, NOTHING = "files", "folders", "nothing"
 # What can stand for a value of a name: files, folders, or some that are usual. Of any other name nothing is known.
-VALUES = {
+Values = str | tuple[str, ...]
+VALUES: dict[str, Values] = {
     "FILE": FILES, "MODULE": FILES, "PAGE": FILES, "SCRIPT": FILES, "DRAWING": FILES, "FOLDER": FOLDERS, "OUT": FOLDERS, "RECORDING": FILES,
     "BITS": ("1200", "2400", "9600"), "TIMES": ("1", "2", "4"), "PHASE": ("0", "1", "2", "3", "4", "5"),
 }
@@ -15,10 +17,10 @@ VALUES = {
 class Option:
     """An option of a word: its names, what it does, the name of its value if it has one, and what can stand there."""
 
-    def __init__(self, action):
+    def __init__(self, action: argparse.Action) -> None:
         self.short = [name for name in action.option_strings if not name.startswith("--")]
         self.long = [name for name in action.option_strings if name.startswith("--")]
-        self.help = action.help
+        self.help = action.help or ""
         self.value = None if action.nargs == 0 else action.metavar or "VALUE"
         self.values = values_of(action)
 
@@ -26,46 +28,46 @@ class Option:
 class Word:
     """A word: what it does, its options, and the values of what stands after it."""
 
-    def __init__(self, name, summary, parser):
+    def __init__(self, name: str, summary: str, parser: argparse.ArgumentParser) -> None:
         actions = [action for action in parser._actions if not isinstance(action, argparse._HelpAction)]
         self.name, self.summary = name, summary
         self.options = [Option(action) for action in actions if action.option_strings]
         self.after = [(action.metavar or action.dest, values_of(action)) for action in actions if not action.option_strings]
 
-    def long(self):
+    def long(self) -> list[str]:
         return [name for option in self.options for name in option.long] + ["--help"]
 
-    def kind(self):
+    def kind(self) -> Values:
         """What can stand after it."""
         kinds = [values for _, values in self.after if values != NOTHING]
         return kinds[0] if kinds else NOTHING
 
 
-def values_of(action):
+def values_of(action: argparse.Action) -> Values:
     """What can stand for the value of an option or of a name."""
-    return tuple(action.choices) if action.choices else VALUES.get(action.metavar or action.dest, NOTHING)
+    return tuple(action.choices) if action.choices else VALUES.get(str(action.metavar or action.dest), NOTHING)
 
 
-def table(parser):
+def table(parser: argparse.ArgumentParser) -> list[Word]:
     """All words, of the parser that reads them."""
     words, = (action for action in parser._actions if isinstance(action, argparse._SubParsersAction))
-    summaries = {choice.dest: choice.help for choice in words._choices_actions}
+    summaries = {choice.dest: choice.help or "" for choice in words._choices_actions}
     return [Word(name, summaries[name], one) for name, one in words.choices.items()]
 
 
-def filled(text, **parts):
+def filled(text: str, **parts: str) -> str:
     """A text with parts in the places of their names."""
     for name, part in parts.items():
         text = text.replace(f"@{name}@", part)
     return text
 
 
-def bash_values(values):
+def bash_values(values: Values) -> str | None:
     """The words by which compgen makes values."""
     return {FILES: "-f", FOLDERS: "-d", NOTHING: None}[values] if isinstance(values, str) else f'-W "{" ".join(values)}"'
 
 
-def bash_reply(values):
+def bash_reply(values: Values) -> str:
     made = bash_values(values)
     return f'_btx_reply {made} -- "$word"' if made else ":"
 
@@ -91,7 +93,7 @@ complete -F _btx btx
 """
 
 
-def bash(words):
+def bash(words: Sequence[Word]) -> str:
     """The completion of bash."""
     options, after = [], []
     for word in words:
@@ -103,26 +105,26 @@ def bash(words):
     return filled(BASH, words=" ".join(word.name for word in words), options="\n".join(options), after="\n".join(after))
 
 
-def quoted(text, signs=""):
+def quoted(text: str, signs: str = "") -> str:
     """A text in single quotes, in which some signs have a backslash before them."""
     for sign in "\\" + signs:
         text = text.replace(sign, "\\" + sign)
     return "'" + text.replace("'", "'\\''") + "'"
 
 
-def zsh_values(values):
+def zsh_values(values: Values) -> str:
     """The action of _arguments for values."""
     return {FILES: "_files", FOLDERS: "_files -/", NOTHING: " "}[values] if isinstance(values, str) else f"({' '.join(values)})"
 
 
-def zsh_option(option):
+def zsh_option(option: Option) -> str:
     """The specification of an option, for each of its names."""
     value = f":{option.value}:{zsh_values(option.values)}" if option.value else ""
     described = f"{quoted('[' + option.help.replace('[', '(').replace(']', ')') + ']', ':')[1:-1]}"
     return " ".join(f"'{name}{described}{value}'" for name in option.short + option.long)
 
 
-def zsh_word(word):
+def zsh_word(word: Word) -> str:
     after = " ".join(f"'*:{name}:{zsh_values(values)}'" for name, values in word.after[:1])
     options = " ".join([*map(zsh_option, word.options), "'--help[what the word takes]'"])
     return f"        {word.name}) _arguments {options} {after} ;;"
@@ -151,20 +153,20 @@ if [ "$funcstack[1]" = _btx ]; then _btx "$@"; else compdef _btx btx; fi
 """
 
 
-def zsh(words):
+def zsh(words: Sequence[Word]) -> str:
     """The completion of zsh."""
     known = "\n".join(f"    {quoted(word.name + ':' + word.summary.replace(':', ','))}" for word in words)
     return filled(ZSH, known=known, after="\n".join(map(zsh_word, words)))
 
 
-def fish_values(values):
+def fish_values(values: Values) -> str:
     """The words by which complete takes values."""
     return {FILES: "-r -F", FOLDERS: "-x -a '(__fish_complete_directories)'", NOTHING: "-x"}[values] if isinstance(values, str) else (
         f"-x -a {quoted(' '.join(values))}"
     )
 
 
-def fish_word(word):
+def fish_word(word: Word) -> Iterator[str]:
     """The lines of a word: itself, each option, and what stands after it."""
     seen = f"complete -c btx -n '__fish_seen_subcommand_from {word.name}'"
     yield f"complete -c btx -n __fish_use_subcommand -a {word.name} -d {quoted(word.summary)}"
@@ -177,7 +179,7 @@ def fish_word(word):
         yield f"{seen} {fish_values(word.kind())}"
 
 
-def fish(words):
+def fish(words: Sequence[Word]) -> str:
     """The completion of fish."""
     names = " ".join(word.name for word in words)
     lines = ["# The completion of fish for btx: its words, the options of each with their values, and files.", "complete -c btx -f"]
@@ -192,14 +194,14 @@ def fish(words):
 SHELLS = {"bash": bash, "zsh": zsh, "fish": fish}
 
 
-def text_of(shell, parser):
+def text_of(shell: str, parser: argparse.ArgumentParser) -> str:
     return SHELLS[shell](table(parser))
 
 
-def arguments(parser):
+def arguments(parser: argparse.ArgumentParser) -> None:
     parser.add_argument("shell", metavar="SHELL", choices=tuple(SHELLS))
 
 
-def run(_, options):
+def run(_: object, options: argparse.Namespace) -> int:
     print(text_of(options.shell, options.parser), end="")
     return 0

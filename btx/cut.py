@@ -1,9 +1,11 @@
 """Makes pages of a recording of a line, one for each clear of the screen that comes after a pause or a key. Each has before it what the
 decoder writes of the state in which it begins, as far as that isn't the one of a decoder that was just opened, so that it stands alone.
 btx archive takes the folder."""
+import argparse
 import os
+from collections.abc import Iterator
 
-from btx import collection, files, live, recording, say
+from btx import collection, files, live, looks, recording, say
 
 SUMMARY = "the pages of a recording of a line"
 PAUSE = 1
@@ -13,10 +15,12 @@ SETS, LEFT, RIGHT = (0, 2, 1, 3), 0, 2
 DESIGNATED = (b"\x40", b"\x62", b"\x63", b"\x64", b"\x20\x40")
 LEFT_TAKES = (b"\x0f", b"\x0e", b"\x1b\x6e", b"\x1b\x6f")
 RIGHT_TAKES = (b"", b"\x1b\x7e", b"\x1b\x7d", b"\x1b\x7c")
+# What is known of where a decoder stands.
+Kept = tuple[bytes, live.State]
 SINGLE = {0: b"", 2: b"\x19", 3: b"\x1d"}
 
 
-def arguments(parser):
+def arguments(parser: argparse.ArgumentParser) -> None:
     parser.add_argument("recording", metavar="RECORDING")
     parser.add_argument("-o", "--output", metavar="FOLDER", required=True, help="where the pages go; it is made where it isn't there")
     parser.add_argument("--pause", type=recording.seconds, default=PAUSE, metavar="SECONDS",
@@ -28,15 +32,16 @@ def arguments(parser):
 class Arms:
     """The places after which the next clear begins a page: where a pause ended or a key was sent. None says that each clear does."""
 
-    def __init__(self, options):
-        self.places, self.number = None, 0
+    def __init__(self, options: argparse.Namespace) -> None:
+        self.number = 0
+        self.places: list[int] | None = None
         if not options.all:
             times = recording.times_of(options.recording)
             pairs = zip(times.milliseconds, times.milliseconds[1:], times.ends)
             pauses = [end for before, after, end in pairs if options.pause and after - before >= 1000 * options.pause]
             self.places = sorted(pauses + [end for _, end in times.keys if not options.no_keys])
 
-    def begins(self, place):
+    def begins(self, place: int) -> bool:
         """Whether the clear at a place begins a page."""
         if self.places is None:
             return True
@@ -46,7 +51,7 @@ class Arms:
         return self.number > armed
 
 
-def control(state):
+def control(state: live.State) -> bytes:
     """The bytes that bring back what a decoder keeps beside its page, once the screen was cleared."""
     data = b"\x1f\x2f" + (b"\x44" if state.c1 else b"\x43")
     data += b"".join(b"\x1b" + bytes([0x28 + at]) + DESIGNATED[one] for at, one in enumerate(state.g) if one != SETS[at])
@@ -56,12 +61,12 @@ def control(state):
     return data + (b"\x9b\x31\x50" if state.protect else b"") + SINGLE[state.single]
 
 
-def kept(decoder):
+def kept(decoder: live.Live) -> Kept:
     """All that is known of where a decoder stands, but for how many bytes it took: the page as bytes, and the rest."""
     return decoder.write(), decoder.state()._replace(fed=0)
 
 
-def after(*pieces):
+def after(*pieces: bytes) -> Kept:
     """What a decoder keeps that was fed some bytes."""
     with live.Live() as decoder:
         for piece in pieces:
@@ -73,10 +78,11 @@ class Part:
     """A part of a recording that becomes a page: where it begins and ends, what it needs before it, or None where no bytes bring that back,
     and the cells at its end."""
 
-    def __init__(self, start, front):
-        self.start, self.front, self.end, self.cells = start, front, start, {}
+    def __init__(self, start: int, front: bytes | None) -> None:
+        self.start, self.front, self.end = start, front, start
+        self.cells: looks.Cells = {}
 
-    def page(self, data):
+    def page(self, data: bytes) -> bytes:
         """The page. One that wouldn't show the same by itself has all of the recording before it."""
         page = None if self.front is None else self.front + data[self.start : self.end]
         return page if page is not None and shown(page) == self.cells else data[: self.end]
@@ -85,20 +91,20 @@ class Part:
 class Cutter:
     """Reads a recording up to each clear at which a page begins."""
 
-    def __init__(self, data, decoder, arms):
+    def __init__(self, data: bytes, decoder: live.Live, arms: Arms) -> None:
         self.data, self.decoder, self.arms, self.at = data, decoder, arms, 0
 
-    def feed(self, end):
+    def feed(self, end: int) -> None:
         self.decoder.feed(self.data[self.at : end])
         self.at = end
 
-    def front(self):
+    def front(self) -> bytes | None:
         """What a page has before a clear that the decoder has just read: None where no bytes bring that back."""
         here = kept(self.decoder)
         fronts = (b"", control(here[1]), here[0] + control(here[1]))
         return next((front for front in fronts if after(front, CLEARED) == here), None)
 
-    def parts(self):
+    def parts(self) -> Iterator[Part]:
         """The parts in order. Every byte 0C is a clear, since no longer unit has it inside."""
         part, place = Part(0, b""), self.data.find(CLEARED)
         while place >= 0:
@@ -114,28 +120,28 @@ class Cutter:
         yield part
 
 
-def cells_at_end(decoder):
+def cells_at_end(decoder: live.Live) -> looks.Cells:
     """The cells where a decoder's page ends."""
     with decoder:
         decoder.finish()
         return decoder.cells()
 
 
-def shown(data):
+def shown(data: bytes) -> looks.Cells:
     """The cells at the end of a page."""
     decoder = live.Live()
     decoder.feed(data)
     return cells_at_end(decoder)
 
 
-def made(options):
+def made(options: argparse.Namespace) -> list[bytes]:
     """The pages of a recording; what came before the first clear is one, where something came."""
     data = files.read(options.recording, files.MOST_PAGE)
     parts = list(Cutter(data, live.Live(), Arms(options)).parts())
     return [part.page(data) for part in parts if part.end > part.start]
 
 
-def run(_, options):
+def run(_: object, options: argparse.Namespace) -> int:
     live.library()
     pages, folder = made(options), options.output
     os.makedirs(folder, exist_ok=True)

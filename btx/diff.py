@@ -1,29 +1,33 @@
 """Shows in which cells the screens at the end of two pages differ: first both screens beside each other in colour, then a line for each
 such cell with the look of the first page and that of the second. It ends with 0 where there is none, and with 1 where there are some."""
+import argparse
 import os
 import shutil
 import sys
+from collections.abc import Iterator, Sequence
 
 from btx import files, looks, program, terminal
 
 SUMMARY = "the cells in which the screens of two pages differ"
 SAME, DIFFERENT = 0, 1
+# Looks as they are written, by their places.
+Texts = dict[looks.Place, str]
 
 
-def arguments(parser):
+def arguments(parser: argparse.ArgumentParser) -> None:
     parser.add_argument("first", metavar="A")
     parser.add_argument("second", metavar="B")
     parser.add_argument("--reveal", action="store_true", help="show what is concealed")
     parser.add_argument("--quiet", action="store_true", help="show neither, and only list the cells")
 
 
-def texts_of(cells):
+def texts_of(cells: str) -> Texts:
     """The looks of a text of cells by their places, as they are written."""
     lines = (line.split(" ", 2) for line in cells.splitlines())
     return {(int(row), int(column)): look for row, column, look in lines}
 
 
-def differing(one, other):
+def differing(one: Texts, other: Texts) -> Iterator[tuple[looks.Place, str, str]]:
     """The places at which two screens differ, with both looks."""
     for place in sorted(one.keys() | other.keys()):
         pair = one.get(place, looks.BLANK_TEXT), other.get(place, looks.BLANK_TEXT)
@@ -31,20 +35,20 @@ def differing(one, other):
             yield place, *pair
 
 
-def beside(painter, screens):
+def beside(painter: terminal.Painter, screens: Sequence[Texts]) -> Iterator[str]:
     """Two screens beside each other, a line for each row, with a gap where the terminal has room for one."""
-    gap = " " * (shutil.get_terminal_size().columns > 2 * looks.COLUMNS)
+    gap = " " * int(shutil.get_terminal_size().columns > 2 * looks.COLUMNS)
     for rows in zip(*(painter.still({place: looks.look_of(text) for place, text in one.items()}, looks.ROWS) for one in screens)):
         yield gap.join(row.rstrip("\n") for row in rows) + "\n"
 
 
-def screen_of(path, page):
+def screen_of(path: program.Runner, page: str) -> Texts:
     with files.read_again(page) as again:
         return texts_of(program.text_put(path, "cells", again))
 
 
-def run(path, options):
-    sys.stdout.reconfigure(encoding="utf-8", newline="\n")
+def run(path: program.Runner, options: argparse.Namespace) -> int:
+    files.write_utf8(newline="\n")
     screens = [screen_of(path, page) for page in (options.first, options.second)]
     different = list(differing(*screens))
     if different and not options.quiet:

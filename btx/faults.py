@@ -1,8 +1,10 @@
 """What is wrong with a line of a script or a drawing, told so that it can be mended."""
 import string
 import unicodedata
+from collections.abc import Sequence
 
 from btx import files, grammar, letters, near, program, typed
+from btx.statuses import Status
 
 # What each reason for which an item is refused means, as the man page of cept_tool has it.
 REASONS = {
@@ -18,7 +20,7 @@ NO_PAGE = "/dev/null"
 LONGEST = 60
 
 
-def named(sign):
+def named(sign: str) -> str:
     """A sign with its number and its name in Unicode, as far as it can be seen and has one."""
     number = " ".join(f"U+{ord(point):04X}" for point in sign)
     name = unicodedata.name(sign[0], "")
@@ -26,32 +28,32 @@ def named(sign):
     return " ".join(filter(None, [seen, f"({number} {name})" if name else f"({number})"]))
 
 
-def of_sign(place, sign):
+def of_sign(place: int, sign: str) -> str:
     if typed.is_byte(sign[0]):
         return f"sign {place} is the byte {ord(sign[0]) & 0xFF:02X}, which is no UTF-8"
     return f"sign {place} is {named(sign)}, which no set has"
 
 
-def of_signs(line):
+def of_signs(line: str) -> str:
     """Which signs of a line's text no set has, each with its place in the line, or nothing."""
     text = typed.text_of(typed.spaced(line)) or ""
     before = len(line) - len(text)
     return "; ".join(of_sign(before + place, sign) for place, sign in letters.unknown_in(text))
 
 
-def of_word(word, kind):
+def of_word(word: str, kind: str) -> str:
     near_one = near.nearest(word, grammar.WORDS[kind])
     return f"{typed.shown(word)} is no word of {kind}s" + (f"; the nearest is {near_one}" if near_one else "")
 
 
-def of_count(word, values, kind):
+def of_count(word: str, values: Sequence[str], kind: str) -> str:
     names = grammar.names_after(word, kind)
     count = len(names.split())
     takes = f"{count} word{'s' if count > 1 else ''} after it, {names}" if count else "no word after it"
     return f"{word} takes {takes}, and not {len(values)}"
 
 
-def of_number(number, value):
+def of_number(number: grammar.Number, value: str) -> str:
     """What is wrong with a number, or nothing."""
     taken = grammar.range_of(number)
     if not (value.isascii() and value.isdigit() and len(value) <= 2):
@@ -60,7 +62,7 @@ def of_number(number, value):
     return "" if good else f"{number.name} is {value}, and takes {taken}"
 
 
-def of_numbers(wanted, values):
+def of_numbers(wanted: Sequence[grammar.Number], values: Sequence[str]) -> str:
     """What is wrong with the numbers of a line."""
     found = list(filter(None, map(of_number, wanted, values)))
     if not found and wanted == grammar.AREA and int(values[0]) > int(values[1]):
@@ -68,7 +70,7 @@ def of_numbers(wanted, values):
     return "; ".join(found)
 
 
-def of_digits(digits, before):
+def of_digits(digits: str, before: int) -> str:
     """What is wrong with the digits of bytes, of which so many signs stand before them."""
     other = next((place for place, digit in enumerate(digits, 1) if digit not in string.hexdigits), None)
     if other:
@@ -76,22 +78,22 @@ def of_digits(digits, before):
     return f"raw takes two digits for each byte, and here stand {len(digits)}" if len(digits) % 2 else ""
 
 
-def of_bytes(path, digits):
+def of_bytes(path: program.Runner, digits: str) -> str:
     """Which items of bytes are refused, and why, as the program says."""
     data = bytes.fromhex(digits)
     with files.copy_of(data) as page:
         output, _ = program.put(path, "check", page)
     refused = [line.split(" ")[1:] for line in output.decode("ascii").splitlines() if line.startswith("!")]
-    return "; ".join(of_item(data, *map(int, numbers), name) for *numbers, name in refused)
+    return "; ".join(of_item(data, int(place), int(length), int(number), name) for place, length, number, name in refused)
 
 
-def of_item(data, place, length, number, name):
+def of_item(data: bytes, place: int, length: int, number: int, name: str) -> str:
     item = data[place : place + length].hex(" ").upper()
     which = f"byte {place + 1}, {item}, is" if length == 1 else f"bytes {place + 1} to {place + length}, {item}, are"
     return f"{which} refused: {number} {name}, {REASONS[number]}"
 
 
-def of_line(line, kind):
+def of_line(line: str, kind: str) -> str:
     """What is wrong with a line as far as its own words tell, or nothing."""
     own = typed.spaced(line)
     if not own or own.startswith("#"):
@@ -103,22 +105,24 @@ def of_line(line, kind):
     if wanted == grammar.TEXT:
         return of_signs(line) if rest else f"{word} takes {grammar.TEXT} after it, at least one"
     values = rest.split(" ") if rest else []
-    if len(values) != (1 if wanted == grammar.DIGITS else len(wanted)):
+    if len(values) != (1 if isinstance(wanted, str) else len(wanted)):
         return of_count(word, values, kind)
-    return of_digits(rest, len(line.rstrip(typed.BLANKS)) - len(rest)) if wanted == grammar.DIGITS else of_numbers(wanted, values)
+    if isinstance(wanted, str):
+        return of_digits(rest, len(line.rstrip(typed.BLANKS)) - len(rest))
+    return of_numbers(wanted, values)
 
 
-def first_of(path, lines, kind):
+def first_of(path: program.Runner, lines: Sequence[str], kind: str) -> tuple[int, int] | None:
     """The number of the first line that the program refuses, and the number of its reason; or None."""
     with files.copy_of(typed.bytes_in(lines)) as script:
         output, status = program.put(path, grammar.TAKEN_BY[kind], NO_PAGE, script)
-    if status != program.OUTSIDE:
+    if status != Status.BAD_SCRIPT:
         return None
     head, _, reason = output.decode("ascii").partition(": ")
     return int(head.rsplit(" ", 1)[-1]), int(reason.split(" ")[0])
 
 
-def all_of(path, data, kind):
+def all_of(path: program.Runner, data: bytes, kind: str) -> list[tuple[int, str, str]]:
     """Each line that the program refuses, by its number, and what is wrong with it. What the words of a line don't tell the program is
     asked, for the first such line and, without that, for the next."""
     lines = typed.lines_of(data)
@@ -134,7 +138,7 @@ def all_of(path, data, kind):
         own[number - 1] = ""
 
 
-def told(path, name, data, kind):
+def told(path: program.Runner, name: str, data: bytes, kind: str) -> list[str]:
     """A sentence for each line that the program refuses: its number, what is wrong with it, and its beginning."""
     sentences = []
     for number, fault, line in all_of(path, data, kind):

@@ -1,11 +1,14 @@
 """Files that words read and write. A page or a script that is named - is standard input, and what -o names is written whole or not at
 all."""
 import contextlib
+import io
 import os
 import stat
 import sys
 import tempfile
 import threading
+from collections.abc import Iterator
+from typing import IO
 
 from btx import program, say
 
@@ -20,7 +23,7 @@ class Dropped(Exception):
     """What was written isn't whole, and isn't kept."""
 
 
-def mode_of(name):
+def mode_of(name: str) -> int:
     """The kind of a file, or of standard input; 0 where there is none."""
     try:
         return (os.fstat(INPUT) if name == STANDARD else os.stat(name)).st_mode
@@ -28,18 +31,18 @@ def mode_of(name):
         return 0
 
 
-def comes_slowly(name):
+def comes_slowly(name: str) -> bool:
     """Whether it is a pipe or a terminal, which can be read once, and has its end only when what writes it ends."""
     return stat.S_ISFIFO(mode_of(name)) or name == STANDARD and os.isatty(INPUT)
 
 
-def is_plain(name):
+def is_plain(name: str) -> bool:
     """Whether a name is that of a file that can be read twice."""
     return name != STANDARD and stat.S_ISREG(mode_of(name))
 
 
 @contextlib.contextmanager
-def patience(*names):
+def patience(*names: str) -> Iterator[None]:
     """Says on a terminal, after a second, which pipe among the names is waited for."""
     slow = next(filter(comes_slowly, names), None)
     shown = "standard input" if slow == STANDARD else slow
@@ -54,7 +57,7 @@ def patience(*names):
         timer.cancel()
 
 
-def read(name, most):
+def read(name: str, most: int) -> bytes:
     """The bytes of a file, no more than one above the most."""
     if name == STANDARD:
         return sys.stdin.buffer.read(most + 1)
@@ -63,7 +66,7 @@ def read(name, most):
 
 
 @contextlib.contextmanager
-def copy_of(data):
+def copy_of(data: bytes) -> Iterator[str]:
     """The name of a file with these bytes, which goes away."""
     with tempfile.NamedTemporaryFile(prefix="btx-") as file:
         file.write(data)
@@ -72,7 +75,7 @@ def copy_of(data):
 
 
 @contextlib.contextmanager
-def readable(name):
+def readable(name: str) -> Iterator[str]:
     """A name by which the program can read a page: of standard input that of its pipe, or else of a copy."""
     if name != STANDARD:
         yield name
@@ -84,7 +87,7 @@ def readable(name):
 
 
 @contextlib.contextmanager
-def read_again(name):
+def read_again(name: str) -> Iterator[str]:
     """A name by which a page can be read several times: of what can be read once, as a pipe, that of a copy."""
     if name != STANDARD and (is_plain(name) or not os.path.exists(name) or os.path.isdir(name)):
         yield name
@@ -99,14 +102,20 @@ def read_again(name):
             raise
 
 
-def put_all(output, data):
+def write_utf8(newline: str | None = None) -> None:
+    """Has standard output write UTF-8, with some end of lines."""
+    if isinstance(sys.stdout, io.TextIOWrapper):
+        sys.stdout.reconfigure(encoding="utf-8", newline=newline)
+
+
+def put_all(output: int, data: bytes) -> None:
     """Writes bytes to an open file, by its number, whole."""
     left = memoryview(data)
     while left:
         left = left[os.write(output, left) :]
 
 
-def mode_for(path):
+def mode_for(path: str) -> int:
     """The mode of a file that is written anew: that of the one in its place, or that of any new file."""
     if os.path.exists(path):
         return stat.S_IMODE(os.stat(path).st_mode)
@@ -116,7 +125,7 @@ def mode_for(path):
 
 
 @contextlib.contextmanager
-def replacing(path):
+def replacing(path: str) -> Iterator[IO[bytes]]:
     """A new file that takes the place of one once all is written."""
     target = os.path.realpath(path)
     try:
@@ -134,7 +143,7 @@ def replacing(path):
 
 
 @contextlib.contextmanager
-def output(path):
+def output(path: str) -> Iterator[IO[bytes]]:
     """The file of a path, as a stream of bytes, or standard output. A device or a pipe is written as it comes."""
     if path in (None, STANDARD):
         yield sys.stdout.buffer

@@ -1,8 +1,11 @@
 """Writes a GIF of a page being built at the speed of a line, and then as it flashes, again and again. A frame stands for each time at
 which something changes, at most fifty in a second."""
+import argparse
 import dataclasses
 import os
 import sys
+from collections.abc import Iterator
+from types import ModuleType
 
 from btx import canvas, files, looks, picture, pillow, program, recording, say, terminal
 
@@ -14,7 +17,7 @@ PHASES = 6
 REST = 3
 
 
-def arguments(parser):
+def arguments(parser: argparse.ArgumentParser) -> None:
     parser.add_argument("page", metavar="PAGE")
     parser.add_argument("-o", "--output", metavar="FILE", help="where to write it; without this to standard output")
     parser.add_argument("--replay", type=terminal.speed, default=1200, metavar="BITS", help="at how many bits a second; without this 1200")
@@ -31,7 +34,7 @@ class Frame:
     steps: int
 
 
-def steps_of_phases(until):
+def steps_of_phases(until: int) -> Iterator[tuple[int, int]]:
     """The steps at which a phase begins, before some step."""
     turn = 0
     while round(turn * STEPS / PHASES) < until:
@@ -39,13 +42,15 @@ def steps_of_phases(until):
         turn += 1
 
 
-def flashes(cells):
+def flashes(cells: looks.Cells) -> bool:
     return any(look.flash != "S" for look in cells.values())
 
 
-def frames_of(board, moments, until):
+def frames_of(board: canvas.Canvas, moments: looks.Moments, until: int) -> list[Frame]:
     """The frames of moments, each the step at which cells change and their looks. A phase makes a frame where something flashes."""
-    cells, changes, frames = {}, {}, []
+    cells: looks.Cells = {}
+    changes: dict[int, looks.Cells] = {}
+    frames: list[tuple[int, bytes]] = []
     for step, changed in moments:
         changes.setdefault(step, {}).update(changed)
     phases = dict(steps_of_phases(until))
@@ -62,7 +67,7 @@ def frames_of(board, moments, until):
     return [Frame(dots, end - step) for (step, dots), end in zip(frames, ends)]
 
 
-def moments_of(path, page, bits):
+def moments_of(path: program.Runner, page: str, bits: int) -> tuple[looks.Moments, int]:
     """The steps at which cells change, and how many there are until the page has come."""
     seconds = recording.BITS_OF_A_BYTE / bits
     moments = looks.moments_of(program.text_put(path, "changes", page))
@@ -70,7 +75,7 @@ def moments_of(path, page, bits):
     return steps, max([int(os.path.getsize(page) * seconds * STEPS), *(step for step, _ in steps)])
 
 
-def film_of(board, path, options):
+def film_of(board: canvas.Canvas, path: program.Runner, options: argparse.Namespace) -> list[Frame]:
     """The frames of a page."""
     with files.read_again(options.page) as page:
         if options.end:
@@ -79,7 +84,7 @@ def film_of(board, path, options):
     return frames_of(board, moments, length + REST * STEPS)
 
 
-def write(image, path, options):
+def write(image: ModuleType, path: program.Runner, options: argparse.Namespace) -> int:
     board = canvas.Canvas(options.reveal)
     frames = film_of(board, path, options)
     pictures = (board.picture(image, frame.dots, options.scale) for frame in frames)
@@ -90,7 +95,7 @@ def write(image, path, options):
     return 0
 
 
-def run(path, options):
+def run(path: program.Runner, options: argparse.Namespace) -> int:
     if options.output is None and sys.stdout.isatty():
         say("gif: a terminal shows no GIF; -o FILE writes it into a file")
         return 2

@@ -1,13 +1,17 @@
 """The terminal while a line is shown in it: a screen of its own, keys as they are struck, and all as it was at the end, whatever that is.
 What is written to it is made of looks alone."""
+from __future__ import annotations
+
 import contextlib
 import os
 import select
 import signal
 import termios
 import tty
+from collections.abc import Iterator
+from typing import Any, TextIO
 
-from btx import terminal
+from btx import looks, terminal
 
 OWN_SCREEN, FORMER_SCREEN = "\x1b[?1049h", "\x1b[?1049l"
 # What ends a run from outside, and what only has something to be done.
@@ -18,7 +22,7 @@ TELLING = (signal.SIGCONT, signal.SIGTSTP, signal.SIGWINCH)
 class Signalled(BaseException):
     """A signal ends the run."""
 
-    def __init__(self, number):
+    def __init__(self, number: int) -> None:
         super().__init__(number)
         self.number = number
 
@@ -26,15 +30,16 @@ class Signalled(BaseException):
 class Signals:
     """Signals that end the run, which raise once; and those that tell something, whose numbers come over a pipe."""
 
-    def __init__(self):
-        self.kept, self.raised = {}, False
+    def __init__(self) -> None:
+        self.kept: dict[int, Any] = {}
+        self.raised = False
 
-    def ends(self, number, _):
+    def ends(self, number: int, _: object) -> None:
         if not self.raised:
             self.raised = True
             raise Signalled(number)
 
-    def __enter__(self):
+    def __enter__(self) -> Signals:
         self.reading, writing = os.pipe()
         os.set_blocking(self.reading, False)
         os.set_blocking(writing, False)
@@ -47,14 +52,14 @@ class Signals:
             self.kept[number] = signal.signal(number, lambda *_: None)
         return self
 
-    def __exit__(self, *_):
+    def __exit__(self, *_: object) -> None:
         for number, handler in self.kept.items():
             signal.signal(number, handler)
         signal.set_wakeup_fd(self.woken[1])
         os.close(self.woken[0])
         os.close(self.reading)
 
-    def told(self):
+    def told(self) -> set[int]:
         """The numbers of the signals that came."""
         try:
             return {*os.read(self.reading, 256)}
@@ -63,7 +68,7 @@ class Signals:
 
 
 @contextlib.contextmanager
-def undisturbed():
+def undisturbed() -> Iterator[None]:
     """Has signals wait."""
     kept = signal.pthread_sigmask(signal.SIG_BLOCK, ENDING)
     try:
@@ -72,7 +77,7 @@ def undisturbed():
         signal.pthread_sigmask(signal.SIG_SETMASK, kept)
 
 
-def takes(file):
+def takes(file: int) -> bool:
     """Whether a terminal takes something within a second."""
     watch = select.poll()
     watch.register(file, select.POLLOUT)
@@ -82,26 +87,28 @@ def takes(file):
 class Glass:
     """Paints looks in the terminal of a stream, and has the keys of another, where there is one, come as they are struck."""
 
-    def __init__(self, painter, stream, keys):
+    def __init__(self, painter: terminal.Screen, stream: TextIO, keys: int | None) -> None:
         self.painter, self.stream = painter, stream
         self.keys = keys if keys is not None and os.isatty(keys) else None
         self.is_terminal = stream.isatty()
-        self.size, self.kept, self.begun = None, None, False
+        self.size: terminal.Size | None = None
+        self.kept: list[Any] | None = None
+        self.begun = False
 
-    def has_keys(self):
+    def has_keys(self) -> bool:
         """Whether somebody is there who strikes keys."""
         return self.keys is not None
 
-    def put(self, text):
+    def put(self, text: str) -> None:
         self.stream.write(text)
         self.stream.flush()
 
-    def begin(self, cells):
+    def begin(self, cells: looks.Cells) -> None:
         """Takes the terminal, and shows looks on a screen that is blank without them."""
         self.take()
         self.show(cells)
 
-    def take(self):
+    def take(self) -> None:
         with undisturbed():
             self.begun = True
             if self.keys is not None:
@@ -110,22 +117,22 @@ class Glass:
         if self.is_terminal:
             self.put(OWN_SCREEN)
 
-    def show(self, cells):
+    def show(self, cells: looks.Cells) -> None:
         """Shows all anew, as far as the terminal has room."""
         self.size = terminal.size_of(self.stream)
         self.put(self.painter.begun())
         self.paint(cells)
 
-    def again(self, cells, position):
+    def again(self, cells: looks.Cells, position: looks.Place) -> None:
         """Takes the terminal once more, which others had meanwhile, or which has another size."""
         self.take()
         self.show(cells)
         self.paint({}, position)
 
-    def fits(self, place):
+    def fits(self, place: looks.Place) -> bool:
         return self.size is None or place[0] <= self.size[0] and place[1] <= self.size[1]
 
-    def paint(self, changed, position=None):
+    def paint(self, changed: looks.Cells, position: looks.Place | None = None) -> None:
         """Repaints cells, and puts the cursor at a position."""
         here = {place: look for place, look in changed.items() if self.fits(place)}
         text = self.painter.changed(here) if here else ""
@@ -134,7 +141,7 @@ class Glass:
         if text:
             self.put(text)
 
-    def end(self):
+    def end(self) -> None:
         """Leaves the terminal as it was."""
         if not self.begun:
             return
@@ -144,11 +151,11 @@ class Glass:
             if self.is_terminal and takes(self.stream.fileno()):
                 with contextlib.suppress(OSError):
                     self.put(terminal.PLAIN + terminal.SHOW + FORMER_SCREEN)
-            if self.kept is not None:
+            if self.keys is not None and self.kept is not None:
                 with contextlib.suppress(termios.error):
                     termios.tcsetattr(self.keys, termios.TCSANOW, self.kept)
 
-    def leave_page(self, cells, rows):
+    def leave_page(self, cells: looks.Cells, rows: int) -> None:
         """Puts a page into the terminal as it was, to stay there."""
         if self.is_terminal:
             self.put("".join(self.painter.still(cells, rows)))

@@ -15,12 +15,12 @@ AT_FIRST = b"\x1f\x2f\x42"
 FOOT, BACK = b"\x1f\x2f\x40\x58\x18", b"\x1f\x2f\x4f"
 
 
-def written(text):
+def written(text: str) -> bytes:
     """A text as bytes once the primary set is locked."""
     return b"".join(letters.bytes_of(sign) or b"" for sign in letters.signs_in(text))
 
 
-def foot(text):
+def foot(text: str) -> bytes:
     """What shows a text in the last row, and leaves all else."""
     return FOOT + written(text) + BACK
 
@@ -29,7 +29,7 @@ class Pages:
     """The stored pages of a folder, by number and part. Where no name is a number, the pages have the numbers from 0 on in the order of
     their names."""
 
-    def __init__(self, folder):
+    def __init__(self, folder: str) -> None:
         names = sorted(name for name in os.listdir(folder) if name.endswith(".btx"))
         found = [(PAGE.fullmatch(name), name) for name in names]
         self.folder, self.names = folder, {(match[1], match[2]): name for match, name in found if match}
@@ -38,16 +38,16 @@ class Pages:
         if self.first() is None:
             raise OSError(0, "no file in it ends in .btx", folder)
 
-    def listed(self):
+    def listed(self) -> list[str]:
         """The numbers with the names, in order, where these don't say them."""
         return [f"*{number}# {name}" for (number, _), name in self.names.items() if not PAGE.fullmatch(name)]
 
-    def first(self):
+    def first(self) -> str | None:
         """The page 0, or else the one with the lowest number; None where there is no page."""
         whole = [number for number, part in self.names if not part]
-        return min(whole, key=int, default=None)
+        return min(whole, key=int) if whole else None
 
-    def page(self, number, part):
+    def page(self, number: str, part: str) -> bytes:
         """The bytes of a page."""
         with open(os.path.join(self.folder, self.names[number, part]), "rb") as file:
             return file.read()
@@ -56,14 +56,15 @@ class Pages:
 class Guest:
     """Where one guest stands: the page and the part that are shown, and what was typed of a request."""
 
-    def __init__(self, pages):
-        self.pages, self.number, self.part, self.typed = pages, pages.first(), "", None
+    def __init__(self, pages: Pages) -> None:
+        self.pages, self.number, self.part = pages, pages.first() or "", ""
+        self.typed: str | None = None
 
-    def shown(self):
+    def shown(self) -> bytes:
         """The bytes of the page that is shown."""
         return AT_FIRST + self.pages.page(self.number, self.part)
 
-    def take(self, byte):
+    def take(self, byte: int) -> tuple[bytes, bool]:
         """Takes a byte, and answers what is sent for it, and whether that is a page."""
         sign = bytes([byte])
         if sign in END:
@@ -79,13 +80,13 @@ class Guest:
             self.typed += sign.decode("ascii")
         return foot("*" + self.typed), False
 
-    def asked(self):
+    def asked(self) -> tuple[bytes, bool]:
         """Answers a request that is whole: a number, or the next part of what is shown."""
         typed, self.typed = self.typed, None
         if typed is None:
             wanted = self.number, chr(ord(self.part or "a") + 1)
         else:
-            wanted = typed and typed.lstrip("0") or typed and self.pages.first(), ""
+            wanted = typed.lstrip("0") or typed and (self.pages.first() or ""), ""
         if wanted not in self.pages.names:
             return foot(f"{'#' if typed is None else f'*{typed}#'}: keine Seite, no page"), False
         self.number, self.part = wanted

@@ -4,8 +4,10 @@ are dropped after a time. With --web the line is a WebSocket, for the viewer in 
 import argparse
 import asyncio
 import time
+from typing import Protocol
 
 from btx import debian, guest, messages, recording, say, web
+from btx.statuses import NOT_THERE
 
 SUMMARY = "a small host for trying terminals, with the pages of a folder"
 HERE = "127.0.0.1"
@@ -16,25 +18,25 @@ PIECES = 50
 MOST_TYPED = 64
 
 
-def port(text):
+def port(text: str) -> int:
     value = int(text)
     if not 0 <= value <= 65535:
         raise argparse.ArgumentTypeError("a port is 0 to 65535")
     return value
 
 
-def count(text):
+def count(text: str) -> int:
     value = int(text)
     if value < 1:
         raise argparse.ArgumentTypeError("it takes a number from 1 on")
     return value
 
 
-def bits(text):
+def bits(text: str) -> int:
     return 0 if text == "0" else count(text)
 
 
-def arguments(parser):
+def arguments(parser: argparse.ArgumentParser) -> None:
     parser.add_argument("folder", metavar="FOLDER")
     parser.add_argument("--port", type=port, required=True, metavar="N", help="the port; 0 takes one that is free, and says which")
     parser.add_argument("--bits", type=bits, default=BITS, metavar="BITS",
@@ -46,22 +48,37 @@ def arguments(parser):
     parser.add_argument("--web", action="store_true", help="the line is a WebSocket, for the viewer; takes python3-websockets")
 
 
+class Line(Protocol):
+    """The line of a guest."""
+
+    name: str
+
+    async def read(self) -> bytes:
+        """What the guest sends; empty bytes at the end."""
+
+    async def write(self, data: bytes) -> None:
+        """Sends bytes, once the line takes them."""
+
+    async def close(self) -> None:
+        """Ends the line."""
+
+
 class Stream:
     """The line of a guest by TCP."""
 
-    def __init__(self, reader, writer):
+    def __init__(self, reader: asyncio.StreamReader, writer: asyncio.StreamWriter) -> None:
         self.reader, self.writer = reader, writer
         self.name = "{}:{}".format(*writer.get_extra_info("peername")[:2])
 
-    async def read(self):
+    async def read(self) -> bytes:
         """What the guest sends; empty bytes at the end."""
         return await self.reader.read(MOST_TYPED)
 
-    async def write(self, data):
+    async def write(self, data: bytes) -> None:
         self.writer.write(data)
         await self.writer.drain()
 
-    async def close(self):
+    async def close(self) -> None:
         """Ends the line once what waits has gone out, for which nobody waits."""
         self.writer.close()
 
@@ -69,18 +86,18 @@ class Stream:
 class Host:
     """The guests of a folder of pages."""
 
-    def __init__(self, options):
+    def __init__(self, options: argparse.Namespace) -> None:
         self.options, self.guests = options, 0
         self.speed = recording.Speed(options.bits) if options.bits else None
 
-    async def taken(self, line, data):
+    async def taken(self, line: Line, data: bytes) -> None:
         """Sends bytes at once, to a guest who takes them."""
         try:
             await asyncio.wait_for(line.write(data), self.options.patience)
         except asyncio.TimeoutError:
             raise OSError(0, f"it took nothing for {self.options.patience} seconds") from None
 
-    async def put(self, line, data):
+    async def put(self, line: Line, data: bytes) -> None:
         """Sends bytes at the speed of the line."""
         begun, at = time.monotonic(), 0
         while at < len(data):
@@ -90,10 +107,10 @@ class Host:
             if end > at:
                 await self.taken(line, data[at:end])
                 at = end
-            if at < len(data):
+            if self.speed and at < len(data):
                 await asyncio.sleep(max(1 / PIECES, begun + self.speed.when(at + 1) - time.monotonic()))
 
-    async def serve(self, line):
+    async def serve(self, line: Line) -> None:
         """Serves a guest until it goes; why it is dropped is raised."""
         here = guest.Guest(guest.Pages(self.options.folder))
         await self.put(line, here.shown())
@@ -108,7 +125,7 @@ class Host:
                 if is_page:
                     until = time.monotonic() + self.options.patience
 
-    async def welcome(self, line):
+    async def welcome(self, line: Line) -> None:
         """Has a guest served, where there is room for one."""
         self.guests += 1
         try:
@@ -128,7 +145,7 @@ class Host:
             await line.close()
 
 
-async def listen(options):
+async def listen(options: argparse.Namespace) -> None:
     """Serves guests until the run is ended."""
     host = Host(options)
     if options.web:
@@ -141,12 +158,12 @@ async def listen(options):
     await asyncio.Event().wait()
 
 
-def run(_, options):
+def run(_: object, options: argparse.Namespace) -> int:
     for line in guest.Pages(options.folder).listed():
         say(f"host: {line}")
     try:
         asyncio.run(listen(options))
     except debian.Missing as fault:
         say(f"host: {fault}")
-        return debian.NOT_THERE
+        return NOT_THERE
     return 0

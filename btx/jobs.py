@@ -1,4 +1,5 @@
 """Makes the pages of an archive: by threads of this machine, or by GNU parallel on several."""
+import argparse
 import base64
 import concurrent.futures
 import dataclasses
@@ -9,20 +10,25 @@ import shlex
 import subprocess
 import sys
 import threading
+from collections.abc import Iterator, Sequence
+from typing import IO
 
-from btx import making, program
+from btx import collection, making, program
+from btx.website import Website
 
 WORKER = ["archive", "--worker"]
 PAGES_A_JOB = 8
 # So many pages a job are handed over before they are begun.
 AHEAD = 4
+# The name and the facts of a page that is made.
+Result = tuple[str, making.Facts]
 
 
-def by_threads(path, website, here, names, jobs):
+def by_threads(path: program.Runner, website: Website, here: collection.Collection, names: Sequence[str], jobs: int) -> Iterator[Result]:
     """Makes pages, as many at once as there are jobs; gives the name and facts of each as it is made. Nothing waits for a run of the
     program where it is stopped: the system ends these with this process."""
 
-    def make(name):
+    def make(name: str) -> Result:
         return name, website.add(name, *making.made(path, here.path(name), website.has_module))
 
     pool, waiting = concurrent.futures.ThreadPoolExecutor(jobs), iter(names)
@@ -39,10 +45,11 @@ def by_threads(path, website, here, names, jobs):
 class Sent:
     """The pages that go to the jobs of parallel, each read once as it is sent; those that can't be read are kept back."""
 
-    def __init__(self, here, names, has_module):
-        self.here, self.names, self.has_module, self.unread = here, names, has_module, {}
+    def __init__(self, here: collection.Collection, names: Sequence[str], has_module: bool) -> None:
+        self.here, self.names, self.has_module = here, names, has_module
+        self.unread: dict[str, making.Facts] = {}
 
-    def lines(self):
+    def lines(self) -> Iterator[str]:
         """For each page that can be read a line with its number and its bytes."""
         for number, name in enumerate(self.names):
             try:
@@ -52,7 +59,7 @@ class Sent:
             else:
                 yield json.dumps({"number": number, "page": page, "module": self.has_module}) + "\n"
 
-    def feed(self, stream):
+    def feed(self, stream: IO[str]) -> None:
         try:
             with stream:
                 stream.writelines(self.lines())
@@ -60,13 +67,13 @@ class Sent:
             pass  # The runner has ended; what it lacks is seen by the results that don't come.
 
 
-def own_command(beside):
+def own_command(beside: str) -> str:
     """What a shell of this machine starts btx by: the command, or Python where it is a part of the package."""
     path = os.path.join(beside, "btx")
     return shlex.quote(path) if os.path.exists(path) else f"{shlex.quote(sys.executable)} -m tamligub"
 
 
-def parallel_words(options):
+def parallel_words(options: argparse.Namespace) -> list[str]:
     """The words that start GNU parallel."""
     remote = options.remote or ("btx" if options.sshlogin else own_command(options.beside))
     machines = itertools.chain.from_iterable(["--sshlogin", login] for login in options.sshlogin)
@@ -74,10 +81,13 @@ def parallel_words(options):
     return ["parallel", "--will-cite", "--pipe", "-N", str(PAGES_A_JOB), *jobs, *machines, f"{remote} {shlex.join(WORKER)}"]
 
 
-def by_parallel(website, here, names, words):
+def by_parallel(website: Website, here: collection.Collection, names: Sequence[str], words: Sequence[str]) -> Iterator[Result]:
     """The same by GNU parallel: pages go to its jobs and results come back over their input and output."""
     sent = Sent(here, names, website.has_module)
-    runner = subprocess.Popen([*program.ending_with_us("TERM"), *words], stdin=subprocess.PIPE, stdout=subprocess.PIPE, text=True, encoding="ascii")
+    runner = subprocess.Popen(
+        [*program.ending_with_us("TERM"), *words], stdin=subprocess.PIPE, stdout=subprocess.PIPE, text=True, encoding="ascii"
+    )
+    assert runner.stdout is not None, "it is a pipe"
     feeder = threading.Thread(target=sent.feed, args=(runner.stdin,), daemon=True)
     feeder.start()
     try:
@@ -92,7 +102,7 @@ def by_parallel(website, here, names, words):
         runner.wait()
 
 
-def work(path):
+def work(path: program.Runner) -> int:
     """What runs on the machines of parallel: a line for each page comes in, and one for each goes out."""
     for line in sys.stdin:
         job = json.loads(line)

@@ -17,15 +17,18 @@ CONTROLS = {"\r": "return", "\n": "return", "\t": "tab", "\x08": "backspace", "\
 # Names of signs that a table can't have as they are.
 SIGNS = {"space": " ", "hash": "#"}
 NAMES = sorted({*ARROWS.values(), *NUMBERED.values(), *CONTROLS.values(), *SIGNS, *(f"ctrl-{chr(code)}" for code in range(0x61, 0x7B))})
+# What a key sends: bytes, or LEAVE; and that of each key by its name or its sign.
+Sent = bytes | str
+Table = dict[str, Sent]
 # What the keys send of which the sign doesn't say it: the two that begin and end a request, and those that move the position.
-USUAL = {
+USUAL: Table = {
     "*": b"\x13", "#": b"\x1c", "return": b"\x0d", "backspace": b"\x08", "left": b"\x08", "right": b"\x09", "down": b"\x0a", "up": b"\x0b",
     "home": b"\x1e", "ctrl-c": LEAVE,
 }
 BYTES = re.compile(r"(?:[0-9A-Fa-f]{2} ?)+")
 
 
-def named(sequence):
+def named(sequence: str) -> str:
     """The name of a key that a terminal sends as a sequence, or an empty one of a sequence that isn't known."""
     if len(sequence) == 1:
         return CONTROLS[sequence]
@@ -35,16 +38,17 @@ def named(sequence):
     return ARROWS.get(sequence[-1], "") if len(sequence) == 3 else ""
 
 
-def of_sign(sign):
+def of_sign(sign: str) -> str:
     """The name of a key that sends a sign, or the sign itself."""
     if sign in CONTROLS:
         return CONTROLS[sign]
     return f"ctrl-{chr(ord(sign) + 0x60)}" if len(sign) == 1 and 0 < ord(sign) < 27 else sign
 
 
-def keys_in(text):
+def keys_in(text: str) -> list[str]:
     """The keys of a text, each by its name or its sign."""
-    at, keys = 0, []
+    at = 0
+    keys: list[str] = []
     while at < len(text):
         found = SEQUENCE.match(text, at)
         if found:
@@ -55,14 +59,14 @@ def keys_in(text):
     return keys
 
 
-def bytes_in(words):
+def bytes_in(words: str) -> Sent | None:
     """What a line of a table has a key send, or None where that can't be read."""
     if words in (LEAVE, "nothing"):
         return LEAVE if words == LEAVE else b""
     return bytes.fromhex(words) if BYTES.fullmatch(words) else None
 
 
-def entry(line):
+def entry(line: str) -> tuple[str, Sent]:
     """The key and the bytes of a line of a table, or why it is none."""
     key, _, words = line.partition(" ")
     key = SIGNS.get(key, key)
@@ -75,7 +79,7 @@ def entry(line):
     return key, sent
 
 
-def table_in(text, path):
+def table_in(text: str, path: str) -> Table:
     """The table of a text: the usual one with what its lines say."""
     table = dict(USUAL)
     for number, line in enumerate(text.splitlines(), 1):
@@ -92,7 +96,7 @@ def table_in(text, path):
     return table
 
 
-def table_of(path):
+def table_of(path: str | None) -> Table:
     """The table of a file, or the usual one where none is named."""
     if path is None:
         return USUAL
@@ -103,16 +107,16 @@ def table_of(path):
 class Keyboard:
     """Reads what a terminal sends for keys, in any pieces."""
 
-    def __init__(self, table):
+    def __init__(self, table: Table) -> None:
         self.table = table
         self.decoder = codecs.getincrementaldecoder("utf-8")("ignore")
 
-    def of_key(self, key):
+    def of_key(self, key: str) -> Sent:
         """What a key sends: as the table says, or else the bytes of its sign."""
         if key in self.table:
             return self.table[key]
         return b"" if key == "" or key in NAMES else letters.bytes_of(key) or b""
 
-    def sent(self, data):
+    def sent(self, data: bytes) -> list[Sent]:
         """What the keys of some bytes send, one by one: bytes, or LEAVE."""
         return [sent for sent in map(self.of_key, keys_in(self.decoder.decode(data))) if sent]

@@ -8,8 +8,9 @@ import select
 import signal
 import sys
 import time
+from typing import NoReturn, Protocol
 
-from btx import files, glass, keyboard, live, messages, passing, recording, say, terminal, wire
+from btx import files, glass, keyboard, live, looks, messages, passing, recording, say, terminal, wire
 
 SUMMARY = "a line in the terminal: a host, a serial device or standard input"
 NAMES = "HOST:PORT, serial:DEVICE:BITS, as serial:/dev/ttyS0:1200, or -"
@@ -23,14 +24,14 @@ MOST_UNSENT = 4096
 EVER = float("inf")
 
 
-def line_name(text):
+def line_name(text: str) -> wire.Name:
     try:
         return wire.Name(text)
     except ValueError:
         raise argparse.ArgumentTypeError(f"{text} is no line: {NAMES}") from None
 
 
-def arguments(parser):
+def arguments(parser: argparse.ArgumentParser) -> None:
     parser.add_argument("line", metavar="LINE", type=line_name, help=NAMES)
     parser.add_argument("--record", metavar="FILE", help="keep what comes, as a stored page, and in FILE.times when it came")
     parser.add_argument("--keys", metavar="FILE", help="a table of what keys send")
@@ -43,7 +44,7 @@ def arguments(parser):
 class End(Exception):
     """The line is at its end: the sentence that is said of it, if there is one, the status, and whether the page stays in the terminal."""
 
-    def __init__(self, status, text="", stays=True):
+    def __init__(self, status: int, text: str = "", stays: bool = True) -> None:
         super().__init__(text)
         self.status, self.stays = status, stays
 
@@ -51,31 +52,33 @@ class End(Exception):
 class Shown:
     """The looks that a line has come to show, in the phase of flashing that is on."""
 
-    def __init__(self, decoder):
-        self.decoder, self.cells, self.flashing, self.count = decoder, {}, set(), 0
+    def __init__(self, decoder: live.Live) -> None:
+        self.decoder, self.count = decoder, 0
+        self.cells: looks.Cells = {}
+        self.flashing: set[looks.Place] = set()
 
-    def taken(self, changed):
+    def taken(self, changed: looks.Cells) -> looks.Cells:
         """Takes what was fed; what flashes is shown as it is seen until its next phase begins."""
         self.flashing -= changed.keys()
         self.flashing |= {place for place, look in changed.items() if look.flash != "S"}
         return self.now({place: look._replace(flash="S") for place, look in changed.items()})
 
-    def now(self, changed):
+    def now(self, changed: looks.Cells) -> looks.Cells:
         self.cells |= changed
         return changed
 
-    def feed(self, data):
+    def feed(self, data: bytes) -> looks.Cells:
         self.count += len(data)
         return self.taken(self.decoder.feed(data))
 
-    def finish(self):
+    def finish(self) -> looks.Cells:
         return self.taken(self.decoder.finish())
 
-    def turn(self):
+    def turn(self) -> looks.Cells:
         """Begins the next phase."""
         return self.now({place: look._replace(flash="S") for place, look in self.decoder.turn().items()})
 
-    def position(self):
+    def position(self) -> looks.Place:
         state = self.decoder.state()
         return state.row, state.column
 
@@ -83,31 +86,52 @@ class Shown:
 class Timers:
     """What is due and when: the next phase, the end of patience, and painting that waits."""
 
-    def __init__(self, patience):
+    def __init__(self, patience: float) -> None:
         self.patience = patience or EVER
         self.phase = self.answer = self.paint = EVER
 
-    def await_answer(self):
+    def await_answer(self) -> None:
         """Begins to wait for an answer."""
         self.answer = time.monotonic() + self.patience
 
-    def wait(self, now):
+    def wait(self, now: float) -> float | None:
         """How many milliseconds there are until the first is due, or None where none is."""
         due = min(self.phase, self.answer, self.paint)
         return None if due == EVER else max(0, 1000 * (due - now))
 
 
+class Pane(Protocol):
+    """What a line is shown in: glass.Glass says what its calls do."""
+
+    painter: terminal.Screen
+
+    def has_keys(self) -> bool: ...
+
+    def begin(self, cells: looks.Cells) -> None: ...
+
+    def again(self, cells: looks.Cells, position: looks.Place) -> None: ...
+
+    def paint(self, changed: looks.Cells, position: looks.Place | None) -> None: ...
+
+    def end(self) -> None: ...
+
+    def leave_page(self, cells: looks.Cells, rows: int) -> None: ...
+
+
 class Session:
     """A line that is shown until it ends or is left."""
 
-    def __init__(self, line, shown, pane, keys, table, options):
+    def __init__(
+        self, line: wire.Line, shown: Shown, pane: Pane, keys: int | None, table: keyboard.Table, options: argparse.Namespace
+    ) -> None:
         self.line, self.shown, self.glass, self.keys, self.patience = line, shown, pane, keys, options.patience
         self.keyboard = keyboard.Keyboard(table)
         self.recorder = recording.Recorder(options.record) if options.record else None
         self.timers = Timers(options.patience if line.sends else 0)
-        self.unsent, self.waiting, self.painted = b"", {}, -EVER
+        self.unsent, self.painted = b"", -EVER
+        self.waiting: looks.Cells = {}
 
-    def run(self, signals):
+    def run(self, signals: glass.Signals) -> NoReturn:
         """Shows the line, and ends by raising why."""
         self.timers.await_answer()
         while True:
@@ -120,7 +144,7 @@ class Session:
                 self.moved(events[self.line.fileno()])
             self.pass_on(time.monotonic())
 
-    def polled(self, signals):
+    def polled(self, signals: int) -> list[tuple[int, int]]:
         """What there is to do, once there is something."""
         watch = select.poll()
         watch.register(signals, select.POLLIN)
@@ -129,10 +153,10 @@ class Session:
             watch.register(self.keys, select.POLLIN)
         return watch.poll(self.timers.wait(time.monotonic()))
 
-    def bytes_so_far(self):
+    def bytes_so_far(self) -> str:
         return f"after {self.shown.count:,} bytes"
 
-    def moved(self, event):
+    def moved(self, event: int) -> None:
         """Takes what has come, and sends what waits."""
         try:
             if event & select.POLLOUT:
@@ -145,7 +169,7 @@ class Session:
         if data is not None:
             self.came(data)
 
-    def came(self, data):
+    def came(self, data: bytes) -> None:
         """Takes what has come over the line."""
         if not data:
             raise End(DONE, f"the line has ended, {self.bytes_so_far()}" if self.line.sends else "")
@@ -156,7 +180,7 @@ class Session:
         if not self.glass.has_keys():
             self.timers.await_answer()
 
-    def show(self, changed):
+    def show(self, changed: looks.Cells) -> None:
         """Paints what has changed, or has it wait for its time."""
         self.waiting |= changed
         due = self.painted + (PICTURES_AFTER if isinstance(self.glass.painter, terminal.PicturePainter) else 0)
@@ -165,14 +189,14 @@ class Session:
         else:
             self.paint()
 
-    def paint(self):
+    def paint(self) -> None:
         changed, self.waiting, self.timers.paint = self.waiting, {}, EVER
         self.glass.paint(changed, self.shown.position())
         self.painted = time.monotonic()
         if self.shown.flashing and self.timers.phase == EVER:
             self.timers.phase = self.painted + PHASE
 
-    def pass_on(self, now):
+    def pass_on(self, now: float) -> None:
         """Does what is due."""
         if now >= self.timers.answer:
             raise End(STALLED, f"nothing came for {self.patience:g} seconds, {self.bytes_so_far()}")
@@ -182,20 +206,20 @@ class Session:
         if now >= self.timers.paint:
             self.paint()
 
-    def struck(self):
+    def struck(self) -> None:
         """Sends what the keys that were struck send."""
         try:
-            data = os.read(self.keys, wire.PIECE)
+            data = b"" if self.keys is None else os.read(self.keys, wire.PIECE)
         except OSError:
             data = b""
         if not data:
             self.keys = None
         for sent in self.keyboard.sent(data):
-            if sent == keyboard.LEAVE:
+            if isinstance(sent, str):
                 raise End(DONE, stays=False)
             self.send(sent)
 
-    def send(self, data):
+    def send(self, data: bytes) -> None:
         if not self.line.sends or len(self.unsent) + len(data) > MOST_UNSENT:
             return
         if self.recorder:
@@ -203,7 +227,7 @@ class Session:
         self.unsent += data
         self.timers.await_answer()
 
-    def signalled(self, numbers):
+    def signalled(self, numbers: set[int]) -> None:
         """Stops and goes on as other programs do, and paints all where the terminal may be another."""
         if signal.SIGTSTP in numbers:
             self.glass.end()
@@ -211,17 +235,17 @@ class Session:
         if {signal.SIGTSTP, signal.SIGCONT, signal.SIGWINCH} & numbers:
             self.glass.again(self.shown.cells, self.shown.position())
 
-    def finish(self):
+    def finish(self) -> None:
         """Ends the page that came."""
         self.waiting |= self.shown.finish()
         self.paint()
 
-    def leave_page(self):
+    def leave_page(self) -> None:
         """Leaves the page in the terminal as it was."""
         self.glass.leave_page(self.shown.cells, self.shown.decoder.state().rows)
 
 
-def keys_for(line):
+def keys_for(line: wire.Line) -> int | None:
     """The file from which keys come: standard input, or the terminal where that is the line; None where there is none."""
     if line.sends:
         return files.INPUT
@@ -231,7 +255,7 @@ def keys_for(line):
         return None
 
 
-def hold(session, signals):
+def hold(session: Session, signals: glass.Signals) -> End:
     """Runs a session in the terminal, and answers why it ended. By then the terminal is as it was."""
     try:
         session.glass.begin(session.shown.cells)
@@ -248,7 +272,7 @@ def hold(session, signals):
             session.recorder.close()
 
 
-def watch(line, table, options):
+def watch(line: wire.Line, table: keyboard.Table, options: argparse.Namespace) -> End:
     """Shows a line, and answers why it ended. In too small a terminal nothing begins."""
     terminal.lines_of(sys.stdout)
     painter, keys = terminal.painter_of(options, os.environ), keys_for(line)
@@ -261,13 +285,13 @@ def watch(line, table, options):
     return end
 
 
-def run(_, options):
+def run(_: object, options: argparse.Namespace) -> int:
     live.library()
     table = keyboard.table_of(options.keys)
     if options.line.text == files.STANDARD and os.isatty(files.INPUT):
         say("line: - is standard input, and that is a terminal")
         return 2
-    sys.stdout.reconfigure(encoding="utf-8", newline="\n")
+    files.write_utf8(newline="\n")
     try:
         with contextlib.closing(options.line.open()) as line:
             end = watch(line, table, options)

@@ -3,13 +3,17 @@ import csv
 import dataclasses
 import json
 import os
+from collections.abc import Iterable, Iterator, Mapping, Sequence
+from typing import Any
 
-from btx import html, search, website
+from btx import html_file, making, search, website
 
 ENTRIES = '<script type="application/json" id="entries">[]</script>'
 # So many pages a part of the index tells of.
 PART = 250
 SEPARATORS = {"english": ",", "german": ";"}
+# The facts of pages by their names.
+AllFacts = Mapping[str, making.Facts]
 # What a spreadsheet would take as the beginning of a formula.
 FORMULAS = ("=", "+", "-", "@", "\t", "\r")
 
@@ -24,6 +28,7 @@ class Row:
     status: int
     items: int | None
     refused: int | None
+    passed_over: int | None
     meaning: str
     sha256: str | None
     alike: str
@@ -32,29 +37,31 @@ class Row:
 COLUMNS = [field.name for field in dataclasses.fields(Row)]
 
 
-def alike(facts):
+def alike(facts: AllFacts) -> dict[str, str]:
     """For each page whose screen is that of another: the name of the first of these."""
-    groups = {}
+    groups: dict[str, list[str]] = {}
     for name in sorted(facts, key=os.fsencode):
-        if facts[name].screen:
-            groups.setdefault(facts[name].screen, []).append(name)
+        screen = facts[name].screen
+        if screen:
+            groups.setdefault(screen, []).append(name)
     return {name: names[0] for names in groups.values() if len(names) > 1 for name in names}
 
 
-def rows_of(facts):
+def rows_of(facts: AllFacts) -> Iterator[Row]:
     first = alike(facts)
     for name in sorted(facts, key=os.fsencode):
         one = facts[name]
-        same = html.shown_name(first[name]) if name in first else ""
-        yield Row(html.shown_name(name), one.title, one.bytes, one.status, one.items, one.refused, one.meaning, one.sha256, same)
+        same = html_file.shown_name(first[name]) if name in first else ""
+        counts = (one.bytes, one.status, one.items, one.refused, one.passed_over)
+        yield Row(html_file.shown_name(name), one.title, *counts, one.meaning, one.sha256, same)
 
 
-def plain(value):
+def plain(value: object) -> object:
     """A value that no spreadsheet takes as a formula."""
     return f"'{value}" if isinstance(value, str) and value.startswith(FORMULAS) else value
 
 
-def write_table(path, rows, separator):
+def write_table(path: str, rows: Iterable[Row], separator: str) -> None:
     """The report as a table; the mark at its front tells spreadsheets that it is UTF-8."""
     with open(path + ".part", "w", encoding="utf-8-sig", newline="") as file:
         table = csv.writer(file, delimiter=separator)
@@ -63,45 +70,45 @@ def write_table(path, rows, separator):
     os.replace(path + ".part", path)
 
 
-def folders_of(names):
+def folders_of(names: Sequence[str]) -> list[list[Any]]:
     """For each folder the numbers of the first page in it and of the one after its last: what is in a folder stands together."""
-    folders = {}
+    folders: dict[str, list[int]] = {}
     for number, name in enumerate(names):
         for at in (at for at, sign in enumerate(name) if sign == "/"):
             folders[name[: at + 1]] = [folders.get(name[: at + 1], [number])[0], number + 1]
-    return [[html.shown_name(folder), *ends] for folder, ends in folders.items()]
+    return [[html_file.shown_name(folder), *ends] for folder, ends in folders.items()]
 
 
-def columns_of(facts, names):
+def columns_of(facts: AllFacts, names: Sequence[str]) -> dict[str, Any]:
     """What the index has of all pages: numbers for its filters and its order, folders, and letters with which a word begins."""
     first, places = alike(facts), {name: number for number, name in enumerate(names, 1)}
     return {
         "count": len(names), "part": PART, "folders": folders_of(names),
         "status": [facts[name].status for name in names], "bytes": [facts[name].bytes or 0 for name in names],
-        "refused": [facts[name].refused or 0 for name in names], "alike": [places.get(first.get(name), 0) for name in names],
+        "refused": [facts[name].refused or 0 for name in names], "alike": [places.get(first.get(name, ""), 0) for name in names],
     }
 
 
-def write_index(out, facts, rows):
+def write_index(out: str, facts: AllFacts, rows: Sequence[Row]) -> None:
     """The index, and in parts what it shows of a page and the words by which one is found."""
     names = sorted(facts, key=os.fsencode)
     entries = [[row.path, website.address(name), row.bytes, row.status, row.items, row.refused, row.meaning, row.title, row.alike]
                for name, row in zip(names, rows)]
-    parts = ((at // PART, html.data_of(entries[at : at + PART])) for at in range(0, len(entries), PART))
+    parts = ((at // PART, html_file.data_of(entries[at : at + PART])) for at in range(0, len(entries), PART))
     write_parts(os.path.join(out, "entries"), ((f"{number}.js", f"Tamligub.entries({number}, {part});\n") for number, part in parts))
     found = search.Words()
     for number, (name, row) in enumerate(zip(names, rows)):
         found.add(number, f"{row.path} {row.title} {facts[name].words}")
     letters = found.letters()
     write_parts(os.path.join(out, "words"), ((search.file_of(one), found.script(one)) for one in letters))
-    top = html.data_of({**columns_of(facts, names), "letters": {one: search.file_of(one) for one in letters}})
-    document = html.text_of("archive.html").replace(ENTRIES, f'<script type="application/json" id="entries">{top}</script>')
+    top = html_file.data_of({**columns_of(facts, names), "letters": {one: search.file_of(one) for one in letters}})
+    document = html_file.text_of("archive.html").replace(ENTRIES, f'<script type="application/json" id="entries">{top}</script>')
     website.write(os.path.join(out, "index.html"), document)
 
 
-def write_parts(folder, texts):
+def write_parts(folder: str, texts: Iterable[tuple[str, str]]) -> None:
     """The files of a folder of parts, of their names and texts; those that are no part any more go."""
-    written = set()
+    written: set[str] = set()
     for file, text in texts:
         website.write(os.path.join(folder, file), text)
         written.add(file)
@@ -109,23 +116,24 @@ def write_parts(folder, texts):
         os.remove(os.path.join(folder, file))
 
 
-def step_to(name, facts):
-    return [website.address(name), facts[name].title or html.shown_name(name)] if name else None
+def step_to(name: str, facts: AllFacts) -> list[str] | None:
+    return [website.address(name), facts[name].title or html_file.shown_name(name)] if name else None
 
 
-def write_walk(out, facts):
+def write_walk(out: str, facts: AllFacts) -> None:
     """For each page those before and after it, in parts by its name."""
     names = sorted((name for name in facts if facts[name].is_read()), key=os.fsencode)
-    parts = {}
+    parts: dict[str, dict[str, list[Any]]] = {}
     for before, name, after in zip(["", *names], names, [*names[1:], ""]):
         parts.setdefault(website.part_of(name) + ".js", {})[website.address(name)] = [step_to(before, facts), step_to(after, facts)]
-    write_parts(os.path.join(out, "walk"), ((file, f"Tamligub.walk({html.data_of(steps)});\n") for file, steps in parts.items()))
+    write_parts(os.path.join(out, "walk"), ((file, f"Tamligub.walk({html_file.data_of(steps)});\n") for file, steps in parts.items()))
 
 
-def write(out, facts, separator):
+def write(out: str, facts: AllFacts, separator: str) -> None:
     """All lists of an archive, of the facts of its pages by their names."""
     rows = list(rows_of(facts))
     write_walk(out, facts)
     write_index(out, facts, rows)
     write_table(os.path.join(out, "report.csv"), rows, separator)
-    website.write(os.path.join(out, "report.json"), json.dumps([dataclasses.asdict(row) for row in rows], ensure_ascii=False, indent=1) + "\n")
+    report = json.dumps([dataclasses.asdict(row) for row in rows], ensure_ascii=False, indent=1) + "\n"
+    website.write(os.path.join(out, "report.json"), report)

@@ -1,8 +1,11 @@
 """The decoder that is fed bytes as they come, of the shared library. What it says is what the program would say of all the bytes."""
-import collections
+from __future__ import annotations
+
 import ctypes
 import functools
 import os
+from collections.abc import Callable
+from typing import Any, NamedTuple
 
 from btx import library as shared
 from btx import looks, program
@@ -15,51 +18,76 @@ SIZE_OF_NOTICE, SIZE_OF_STATE = 184, 40
 ROW, COLUMN, LOOK, PATTERN, FORM, COLOURS = 11, 12, slice(13, 33), 40, 112, 116
 IS_PATTERN = 2
 NO_PLACE = (0, 0)
-FIELDS = "pending ended row column rows wrap first last implicit revision c1 g left right single accent table protect pen"
 # Beside what the library is looked for, in a checkout and under a prefix.
 BESIDE = os.path.join(program.ROOT, "bin"), os.path.normpath(os.path.join(program.ROOT, "..", "..", "bin"))
 
-State = collections.namedtuple("State", "fed " + FIELDS)
+
+class State(NamedTuple):
+    """Where a decoder stands, as the record of the header has it."""
+
+    fed: int
+    pending: int
+    ended: int
+    row: int
+    column: int
+    rows: int
+    wrap: int
+    first: int
+    last: int
+    implicit: int
+    revision: int
+    c1: int
+    g: tuple[int, ...]
+    left: int
+    right: int
+    single: int
+    accent: int
+    table: int
+    protect: int
+    pen: tuple[int, ...]
 
 
 class Full(Exception):
     """The decoder takes no more bytes."""
 
-    def __init__(self):
+    def __init__(self) -> None:
         super().__init__("more than 2^32 bytes came, and no more are taken")
 
 
-def place():
+def place() -> str | None:
     """Where the library stands, or None."""
     named = os.environ.get(shared.VARIABLE)
-    return next(filter(os.path.isfile, [named] if named else filter(None, map(shared.standing, BESIDE))), None)
+    places = [named] if named else map(shared.standing, BESIDE)
+    return next((one for one in places if one and os.path.isfile(one)), None)
 
 
-def missing():
+def missing() -> program.Missing:
     """What is said where there is no library."""
     named = os.environ.get(shared.VARIABLE)
     if named:
         return program.Missing(f"{shared.VARIABLE} is {named}, and no library is there")
     if not os.path.exists(program.BUILD):
         return program.Missing(f"the decoder's library isn't installed beside {BESIDE[1]}; {shared.VARIABLE} can name it")
-    return program.Missing(f"the decoder's library isn't built: {program.PROVES}{program.build_needs('rt')}; {shared.VARIABLE} can name one")
+    ways = f"{program.PROVES}{program.build_needs('rt')}; {shared.VARIABLE} can name one"
+    return program.Missing(f"the decoder's library isn't built: {ways}")
 
 
 @functools.lru_cache(None)
-def library():
+def library() -> ctypes.CDLL:
     """The calls of the library, as the package for Python has them."""
     path, binding = place(), shared.binding()
     if path is None or binding is None:
         raise missing()
-    return binding.at(os.path.abspath(path))
+    calls: ctypes.CDLL = binding.at(os.path.abspath(path))
+    return calls
 
 
-def colour_at(record, at):
+def colour_at(record: bytes, at: int) -> str:
     red, green, blue, behind = record[at : at + 4]
     return looks.VIDEO if behind else f"{red:X}{green:X}{blue:X}"
 
 
-def pattern_of(record):
+def pattern_of(record: bytes) -> str:
     """The text of a downloaded pattern."""
     width, height, planes, inks = record[FORM : FORM + 4]
     count = (width * height * planes + 63) // 64
@@ -68,34 +96,42 @@ def pattern_of(record):
     return f"%{width}x{height}x{planes}/" + "".join(f"{word:016X}" for word in words) + (f"/{colours}" if inks else "")
 
 
-def shape_of(record):
+def shape_of(record: bytes) -> str:
     kind, group, code, accent = record[13:17]
     if kind == IS_PATTERN:
         return pattern_of(record)
-    return f"{'PSMND'[group]}{code:02X}" + (f"+{accent:02X}" if accent else "") if kind else "-"
+    return f"{looks.SETS[group]}{code:02X}" + (f"+{accent:02X}" if accent else "") if kind else "-"
 
 
 @functools.lru_cache(2**12)
-def look_in(told, pattern):
+def look_in(told: bytes, pattern: bytes) -> looks.Look:
     """The look that a notice tells, by those of its bytes that say how a place looks."""
     record = bytes(LOOK.start) + told + bytes(PATTERN - LOOK.stop) + pattern
     down, right, wide, high = record[17:21]
     flash, *flags = record[29:33]
     return looks.Look(
-        shape_of(record), high, wide, down, right, colour_at(record, 21), colour_at(record, 25), "SFIR123"[flash], *map(bool, flags)
+        shape_of(record), high, wide, down, right, colour_at(record, 21), colour_at(record, 25), looks.FLASHES[flash], *map(bool, flags)
     )
 
 
-def look_of(record):
+def look_of(record: bytes) -> looks.Look:
     """The look of a notice."""
     return look_in(record[LOOK], record[PATTERN:] if record[LOOK.start] == IS_PATTERN else b"")
+
+
+def handle() -> Any:
+    """A decoder that isn't open yet, as C keeps it."""
+    binding = shared.binding()
+    if binding is None:
+        raise missing()
+    return binding.Handle()
 
 
 class Live:
     """A decoder. What its calls tell are the looks of the places that change, by row and column."""
 
-    def __init__(self):
-        self.calls, self.handle = library(), shared.binding().Handle()
+    def __init__(self) -> None:
+        self.calls, self.handle = library(), handle()
         self.list = bytearray(ROOM * SIZE_OF_NOTICE)
         self.number = ctypes.c_uint64(0)
         self.at = (ctypes.c_char * len(self.list)).from_buffer(self.list)
@@ -103,14 +139,14 @@ class Live:
             raise MemoryError("there is no memory for a decoder")
 
     @classmethod
-    def restored(cls, snapshot):
+    def restored(cls, snapshot: bytes) -> Live:
         """A decoder in the state that a snapshot has."""
         one = cls()
         if one.calls.tamligub_restore(one.handle, snapshot, len(snapshot)) != GOOD:
             raise ValueError("this is no snapshot")
         return one
 
-    def told(self):
+    def told(self) -> looks.Cells:
         """The places that the last call has told, each with its last look."""
         end = self.number.value * SIZE_OF_NOTICE
         rows, columns = (bytes(memoryview(self.list)[at:end:SIZE_OF_NOTICE]) for at in (ROW, COLUMN))
@@ -118,15 +154,16 @@ class Live:
         last.pop(NO_PLACE, None)
         return {spot: look_of(bytes(self.list[at : at + SIZE_OF_NOTICE])) for spot, at in last.items()}
 
-    def listed(self, call, fault):
+    def listed(self, call: Callable[..., int], fault: str) -> looks.Cells:
         """What a call tells that takes no bytes."""
         if call(self.handle, self.at, ROOM, ctypes.byref(self.number)) != GOOD:
             raise ValueError(fault)
         return self.told()
 
-    def feed(self, data):
+    def feed(self, data: bytes) -> looks.Cells:
         """Feeds bytes, and answers which places look otherwise, and how."""
-        changed, taken = {}, 0
+        changed: looks.Cells = {}
+        taken = 0
         while taken < len(data):
             piece = data[taken : taken + ROOM]
             count = self.calls.tamligub_feed(self.handle, piece, len(piece), self.at, ROOM, ctypes.byref(self.number))
@@ -136,33 +173,34 @@ class Live:
             taken += count
         return changed
 
-    def finish(self):
+    def finish(self) -> looks.Cells:
         """Ends the page."""
         return self.listed(self.calls.tamligub_finish, "the page has ended")
 
-    def turn(self):
+    def turn(self) -> looks.Cells:
         """Begins the next phase of flashing."""
         return self.listed(self.calls.tamligub_flash_turn, "no decoder is open")
 
-    def look(self, row, column):
+    def look(self, row: int, column: int) -> looks.Look:
         """The look at a place as it was fed."""
         if self.calls.tamligub_look(self.handle, row, column, self.at) != GOOD:
             raise ValueError("there is no such place")
         return look_of(bytes(self.list[:SIZE_OF_NOTICE]))
 
-    def cells(self):
+    def cells(self) -> looks.Cells:
         """The looks that aren't blank, as the word `cells` lists them."""
         places = ((row, column) for row in range(1, self.state().rows + 1) for column in range(1, looks.COLUMNS + 1))
         found = ((place, self.look(*place)) for place in places)
         return {place: look for place, look in found if look != looks.BLANK}
 
-    def state(self):
+    def state(self) -> State:
         """Where the decoder stands."""
         self.calls.tamligub_state(self.handle, self.at)
         record = bytes(self.list[:SIZE_OF_STATE])
-        return State(int.from_bytes(record[:8], "little"), *record[8:19], tuple(record[19:23]), *record[23:29], tuple(record[29:37]))
+        fed = int.from_bytes(record[:8], "little")
+        return State._make([fed, *record[8:19], tuple(record[19:23]), *record[23:29], tuple(record[29:37])])
 
-    def text(self, call, fault):
+    def text(self, call: Callable[..., int], fault: str) -> bytes:
         """The bytes that a call writes, with as much room as they need."""
         room = 2**16
         while True:
@@ -174,19 +212,19 @@ class Live:
                 raise ValueError(fault)
             room *= 4
 
-    def write(self):
+    def write(self) -> bytes:
         """The page as bytes, which bring it back on a reset decoder."""
         return self.text(self.calls.tamligub_write, "there is no memory for the page")
 
-    def snapshot(self):
+    def snapshot(self) -> bytes:
         """All of the state as bytes."""
         return self.text(self.calls.tamligub_snapshot, "the page has ended, or there is no memory")
 
-    def close(self):
+    def close(self) -> None:
         self.calls.tamligub_close(self.handle)
 
-    def __enter__(self):
+    def __enter__(self) -> Live:
         return self
 
-    def __exit__(self, *_):
+    def __exit__(self, *_: object) -> None:
         self.close()

@@ -1,18 +1,48 @@
 """Looks, as the program's texts name them. The man page says what each field is."""
-import collections
 import re
+from typing import NamedTuple
 
 ROWS, COLUMNS = 24, 40
 VIDEO = "---"
+# The letters of the sets and of the kinds of flashing, each in the order of its numbers in library/tamligub.h.
+SETS, FLASHES = "PSMND", "SFIR123"
 CHANGE = re.compile(rb"^\d+ (\d+ \d+) (.*)$", re.MULTILINE)
 # Of a long text of changes so many bytes are read at once, from its end, and so many at most.
 PIECE, MOST = 2**16, 2**20
 
-Look = collections.namedtuple("Look", "shape high wide down right fore back flash concealed lined boxed")
-Pattern = collections.namedtuple("Pattern", "width height inks numbers")
+
+class Look(NamedTuple):
+    """How a cell looks."""
+
+    shape: str
+    high: int
+    wide: int
+    down: int
+    right: int
+    fore: str
+    back: str
+    flash: str
+    concealed: bool
+    lined: bool
+    boxed: bool
 
 
-def look_of(text):
+class Pattern(NamedTuple):
+    """A downloaded pattern: its size, its inks where it names them, and the number of each pixel's ink."""
+
+    width: int
+    height: int
+    inks: list[str] | None
+    numbers: list[int]
+
+
+# Looks by their places, each a row and a column; and, one after the other, the places of bytes with the cells that change there.
+Place = tuple[int, int]
+Cells = dict[Place, Look]
+Moments = list[tuple[int, Cells]]
+
+
+def look_of(text: str) -> Look:
     shape, part, fore, back, kinds = text.split(" ")
     high, wide, down, right = (int(part[at]) for at in (0, 1, 3, 4))
     return Look(shape, high, wide, down, right, fore, back, kinds[0], kinds[1] == "c", kinds[2] == "l", kinds[3] == "b")
@@ -22,18 +52,18 @@ BLANK_TEXT = "- 11.00 FFF 000 S---"
 BLANK = look_of(BLANK_TEXT)
 
 
-def cells_of(text):
+def cells_of(text: str) -> Cells:
     """The looks of a text of cells by their places, each a row and a column; the others are blank."""
-    looks = {}
+    looks: Cells = {}
     for line in text.splitlines():
         row, column, look = line.split(" ", 2)
         looks[int(row), int(column)] = look_of(look)
     return looks
 
 
-def moments_of(text):
+def moments_of(text: str) -> Moments:
     """Of a text of changes, for each byte at which cells change: the byte's place, and the looks by their places."""
-    moments = []
+    moments: Moments = []
     for line in text.splitlines():
         if line.startswith("!"):
             continue
@@ -44,10 +74,11 @@ def moments_of(text):
     return moments
 
 
-def last_cells(changes):
+def last_cells(changes: bytes) -> str | None:
     """The text of cells at the end of a text of changes, which is read from its end until each cell has its last look; None where that
     would take too long, as where some cell of a long text never changes."""
-    last, end = {}, len(changes)
+    last: dict[bytes, bytes] = {}
+    end = len(changes)
     while end and len(last) < ROWS * COLUMNS:
         if len(changes) - end > MOST:
             return None
@@ -57,12 +88,12 @@ def last_cells(changes):
     return b"".join(lines[place] for place in sorted(lines)).decode("ascii")
 
 
-def inks_of(shape):
+def inks_of(shape: str) -> list[str]:
     """The inks that a pattern names; of one plane it names none."""
     return re.findall("...", "".join(shape.split("/")[2:]))
 
 
-def pattern_of(shape):
+def pattern_of(shape: str) -> Pattern:
     """A downloaded pattern: the number of each pixel's ink, line after line, and the inks where it names them."""
     form, words = shape[1:].split("/")[:2]
     width, height, planes = map(int, form.split("x"))

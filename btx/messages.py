@@ -2,37 +2,57 @@
 import os
 import select
 import shlex
+from collections.abc import Callable, Sequence
+from typing import NamedTuple
 
-from btx import faults, files, program, typed
+from btx import faults, files, library, program, typed
+from btx.statuses import Status
 
 MOST_PAGE, MOST_SCRIPT = files.MOST_PAGE, typed.MOST
-MOST_NUMBER, MOST_TURNS = 2**32 - 1, 600
 OUTPUT = 1
 COUNTS = {1: "one", 2: "two"}
 is_file = files.is_plain
 
 
-def usage(word):
+class Given(NamedTuple):
+    """What the program is given: its words, the bytes of a script or a drawing among them as they were typed, and the file of its
+    output."""
+
+    words: Sequence[str] = ()
+    typed: bytes | None = None
+    out: str | None = None
+
+
+class Run(NamedTuple):
+    """A run that has ended: what ran the word, the words after it as people gave them, and what the program was given of them."""
+
+    path: program.Runner
+    word: str
+    words: Sequence[str]
+    given: Given = Given()
+
+
+def usage(word: str) -> str:
     return f"usage: btx {word} {program.WORDS[word][0]} [-o FILE]"
 
 
-def files_of(word, words):
+def files_of(word: str, words: Sequence[str]) -> Sequence[str]:
     """The words that name files: all but a number."""
     return words[:1] if word == "flash" else words
 
 
-def kind_of(word):
+def kind_of(word: str) -> str:
     """What the second word after it names: a script or a drawing."""
     return program.WORDS[word][0].split(" ")[-1].lower()
 
 
-def why(fault):
+def why(fault: OSError) -> str:
     """Why a call of the system failed, as a sentence ends."""
     text = fault.strerror or str(fault)
     return text[:1].lower() + text[1:]
 
 
-def fault_of(path):
+def fault_of(path: str) -> str | None:
     """Why a file can't be opened or read, or None where it can."""
     if path == files.STANDARD:
         return None
@@ -46,29 +66,28 @@ def fault_of(path):
     return None
 
 
-def refused(path, word, page):
-    """Status 1: how many items are refused, where the page can be read once more."""
-    counts = None
+def refused(run: Run) -> str:
+    """How many items are refused, where the page can be read once more."""
+    page, counts = run.words[0], None
     if is_file(page):
-        output, status = program.put(path, "check", page)
-        counts = program.counts_in(output.decode("ascii")) if status == program.WITH_REFUSALS else None
+        output, status = program.put(run.path, "check", page)
+        counts = program.counts_in(output.decode("ascii")) if status == Status.REFUSALS else None
     if counts is None:
         return "some items of the page are refused"
     items, bad = counts
     said = f"{bad} of {items} items {'is' if bad == 1 else 'are'} refused"
-    return said if word == "check" else f"{said}; btx check {shlex.quote(page)} names {'it' if bad == 1 else 'them'}"
+    return said if run.word == "check" else f"{said}; btx check {shlex.quote(page)} names {'it' if bad == 1 else 'them'}"
 
 
-def no_request(word, words):
-    """Status 2: why the words are no request."""
-    wanted = program.WORDS[word][0].split(" ")
+def no_request(run: Run) -> str:
+    """Why the words are no request."""
+    word, words, wanted = run.word, run.words, program.WORDS[run.word][0].split(" ")
     if len(words) != len(wanted):
         reason = f"takes {COUNTS[len(wanted)]} word{'s' if len(wanted) > 1 else ''} after it, {' and '.join(wanted)}, and not {len(words)}"
     elif "" in words:
         reason = "a name is empty"
     elif wanted[-1] == "NUMBER":
-        most = MOST_TURNS if word == "flash" else MOST_NUMBER
-        reason = f"{words[-1]} is no number from 0 to {most} in one to ten digits"
+        reason = f"{words[-1]} is no number from 0 to {library.MOST[word]} in one to ten digits"
     elif len(set(words)) < len(words):
         reason = f"{' and '.join(wanted)} have the same name"
     else:
@@ -76,21 +95,29 @@ def no_request(word, words):
     return f"{word}: {reason}\n{usage(word)}"
 
 
-def bad_lines(path, word, words, given):
-    """Status 3: which lines of the script or the drawing, and what is wrong in each."""
-    return "\nbtx: ".join(f"{word}: {one}" for one in faults.told(path, words[1], given.typed, kind_of(word)))
+def bad_lines(run: Run) -> str:
+    """Which lines of the script or the drawing are bad, and what is wrong in each."""
+    script = run.given.typed or b""
+    return "\nbtx: ".join(f"{run.word}: {one}" for one in faults.told(run.path, run.words[1], script, kind_of(run.word)))
 
 
-def unreadable(word, words):
-    """Status 4: which file can't be read, and why."""
-    for name in reversed(words):
+def unreadable(run: Run) -> str:
+    """Which file can't be read, and why."""
+    names = files_of(run.word, run.words)
+    for name in reversed(names):
         fault = fault_of(name)
         if fault:
-            return f"{word}: {name}: {fault}"
-    return f"{word}: {words[0]}: it could not be read to its end"
+            return f"{run.word}: {name}: {fault}"
+    return f"{run.word}: {names[0]}: it could not be read to its end"
 
 
-def too_long_script(name, data, kind):
+def output_failed(run: Run) -> str:
+    """What stands in the output."""
+    rest = "" if run.given.out else "; what stands in it is only the front of the whole"
+    return f"{run.word}: the output failed, as on a full disk{rest}"
+
+
+def too_long_script(name: str, data: bytes, kind: str) -> str:
     """Why a script or a drawing is too long, or nothing where it isn't."""
     if len(data) > MOST_SCRIPT:
         return f"{name}: the {kind} has more than {MOST_SCRIPT:,} bytes"
@@ -99,43 +126,44 @@ def too_long_script(name, data, kind):
     return ""
 
 
-def too_long(word, words, given):
-    """Status 7: which limit."""
-    script = given and given.typed is not None and too_long_script(words[1], given.typed, kind_of(word))
-    if script:
-        return f"{word}: {script}, so nothing was read of the page"
-    if len(words) == 1 or is_file(words[0]) and os.path.getsize(words[0]) > MOST_PAGE:
-        return f"{word}: {words[0]}: the page has more than {MOST_PAGE:,} bytes; only the items of the first {MOST_PAGE:,} were read"
+def too_long(run: Run) -> str:
+    """Which limit was passed."""
+    word, names, script = run.word, files_of(run.word, run.words), run.given.typed
+    long = too_long_script(names[1], script, kind_of(word)) if script is not None else ""
+    if long:
+        return f"{word}: {long}, so nothing was read of the page"
+    if len(names) == 1 or is_file(names[0]) and os.path.getsize(names[0]) > MOST_PAGE:
+        return f"{word}: {names[0]}: the page has more than {MOST_PAGE:,} bytes; only the items of the first {MOST_PAGE:,} were read"
     return f"{word}: the page has more than {MOST_PAGE:,} bytes, or the {kind_of(word)} more than {MOST_SCRIPT:,}"
 
 
-def reader_is_gone():
+def reader_is_gone() -> bool:
     """Whether standard output is a pipe that nobody reads any more."""
     watch = select.poll()
     watch.register(OUTPUT, 0)
     return any(event & select.POLLERR for _, event in watch.poll(0))
 
 
-def sentence(path, word, words, status, given=None):
-    """What a status of the program means here, for words as people gave them, and for what the program was given of them; empty where
-    nothing is to be said."""
-    if status == 0:
-        return ""
-    if status == 1:
-        return refused(path, word, words[0])
-    if status == 2:
-        return no_request(word, words)
-    if status == 3:
-        return bad_lines(path, word, words, given)
-    if status == 4:
-        return unreadable(word, files_of(word, words))
-    if status == 5:
-        rest = "" if given and given.out else "; what stands in it is only the front of the whole"
-        return f"{word}: the output failed, as on a full disk{rest}"
-    if status == 6:
-        return f"{word}: there is not enough memory; nothing was written"
-    if status == 7:
-        return too_long(word, files_of(word, words), given)
-    if status == 8:
-        return f"{word}: {words[0]}: this is no page in seven bits; only what stands before its first wrong byte was written"
-    return f"{word}: the program ended with status {status}, which it doesn't have"
+def not_seven(run: Run) -> str:
+    return f"{run.word}: {run.words[0]}: this is no page in seven bits; only what stands before its first wrong byte was written"
+
+
+# What each status means; empty where nothing is to be said.
+SENTENCES: dict[int, Callable[[Run], str]] = {
+    Status.DONE: lambda run: "",
+    Status.REFUSALS: refused,
+    Status.USAGE: no_request,
+    Status.BAD_SCRIPT: bad_lines,
+    Status.UNREAD: unreadable,
+    Status.NO_ROOM: output_failed,
+    Status.NO_MEMORY: lambda run: f"{run.word}: there is not enough memory; nothing was written",
+    Status.TOO_LONG: too_long,
+    Status.NOT_SEVEN: not_seven,
+}
+
+
+def sentence(run: Run, status: int) -> str:
+    """What a status of the program means for a run."""
+    if status not in SENTENCES:
+        return f"{run.word}: the program ended with status {status}, which it doesn't have"
+    return SENTENCES[status](run)

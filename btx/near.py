@@ -1,7 +1,8 @@
 """The nearest of some words to one that isn't among them."""
+from collections.abc import Iterable
 
 
-def distance(one, other):
+def distance(one: str, other: str) -> int:
     """How many letters are put in, left out, changed or swapped with their neighbour to come from one word to the other."""
     rows = [list(range(len(other) + 1))]
     for at, letter in enumerate(one, 1):
@@ -15,7 +16,7 @@ def distance(one, other):
     return rows[-1][-1]
 
 
-def nearest(word, known):
+def nearest(word: str, known: Iterable[str]) -> str | None:
     """The known word whose letters are nearest, or None where more than half of them would be others. A word's beginning stands for it."""
     word = word.casefold()
     begun = [one for one in known if len(word) > 1 and one.startswith(word)]

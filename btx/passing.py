@@ -4,21 +4,15 @@ import contextlib
 import os
 import signal
 import subprocess
+from collections.abc import Iterator, Sequence
 
-from btx import files, library, messages, program, say, typed
+from btx import files, messages, program, say, typed
+from btx.statuses import READ, Status
 
 OUTPUT = ("-o", "--output")
-WHOLE = (program.READ_TO_THE_END, program.WITH_REFUSALS)
 
 
-class Given:
-    """What the program is given: its words, the bytes of a script or a drawing among them as they were typed, and the file of its output."""
-
-    def __init__(self, words=(), typed_bytes=None, out=None):
-        self.words, self.typed, self.out = words, typed_bytes, out
-
-
-def parted(words):
+def parted(words: Sequence[str]) -> tuple[list[str], str | None]:
     """The words without -o and its file, and that file: None where none is named, and empty where its name is missing."""
     rest, out = [], None
     left = iter(words)
@@ -34,13 +28,13 @@ def parted(words):
     return rest, out
 
 
-def are_request(word, words):
+def are_request(word: str, words: Sequence[str]) -> bool:
     """Whether the program would read files of these words."""
     wanted = program.WORDS[word][0].split(" ")
     return wanted[0] == "PAGE" and len(set(words)) == len(words) == len(wanted) and "" not in words
 
 
-def script_of(word, words):
+def script_of(word: str, words: Sequence[str]) -> bytes | None:
     """The bytes of the script or the drawing that the words name. One that can't be read is left to the program, which says so."""
     try:
         return files.read(words[-1], typed.MOST) if word in program.SCRIPTED else None
@@ -49,20 +43,20 @@ def script_of(word, words):
 
 
 @contextlib.contextmanager
-def given(word, words, out):
+def given(word: str, words: Sequence[str], out: str | None) -> Iterator[messages.Given]:
     """What the program is given: a script that isn't in its own grammar, or can be read only once, is a copy that is."""
     if not are_request(word, words):
-        yield Given(words, None, out)
+        yield messages.Given(words, None, out)
         return
     with contextlib.ExitStack() as stack:
         script, own = script_of(word, words), list(words)
         if script is not None and not (files.is_plain(words[1]) and script == typed.of_bytes(script)):
             own[1] = stack.enter_context(files.copy_of(typed.of_bytes(script)))
         own[0] = stack.enter_context(files.readable(words[0]))
-        yield Given(own, script, out)
+        yield messages.Given(own, script, out)
 
 
-def into(output, path, word, words):
+def into(output: int, path: program.Runner, word: str, words: Sequence[str]) -> int:
     """Runs the program, or the library, with its output in an open file, and answers its status."""
     if isinstance(path, str):
         return subprocess.run([path, word, *words], stdout=output, close_fds=False).returncode
@@ -70,30 +64,30 @@ def into(output, path, word, words):
     try:
         files.put_all(output, text)
     except OSError:
-        return library.FAULT
+        return Status.NO_ROOM
     return status
 
 
-def put(path, word, words, out):
+def put(path: program.Runner, word: str, words: Sequence[str], out: str | None) -> int:
     """Runs the program and answers its status. A file takes the output where that is whole."""
     if out is None:
         return into(messages.OUTPUT, path, word, words)
     with contextlib.suppress(files.Dropped), files.output(out) as file:
         status = into(file.fileno(), path, word, words)
-        if status not in WHOLE:
+        if status not in READ:
             raise files.Dropped
     return status
 
 
-def told(word, text, status, out):
+def told(word: str, text: str, status: int, out: str | None) -> None:
     """Says what a status means, and of a file that was to take the output that it doesn't."""
     if text:
         say(text)
-    if out and status not in WHOLE and (files.is_plain(out) or not os.path.exists(out)):
+    if out and status not in READ and (files.is_plain(out) or not os.path.exists(out)):
         say(f"{word}: {out} {'stays as it was' if os.path.exists(out) else 'is not written'}")
 
 
-def run(path, word, words):
+def run(path: program.Runner, word: str, words: Sequence[str]) -> int:
     """Runs a word with what stands after it, and answers its status."""
     words, out = parted(words)
     if out == "":
@@ -102,16 +96,16 @@ def run(path, word, words):
     named = messages.files_of(word, words) if are_request(word, words) else []
     with files.patience(*named), given(word, words, out) as handed:
         status = put(path, word, handed.words, out)
-        text = messages.sentence(path, word, words, status, handed) if status > 0 else ""
+        text = messages.sentence(messages.Run(path, word, words, handed), status) if status > 0 else ""
     if status < 0:
         end_by(-status)
-    if status == 5 and not out and messages.reader_is_gone():
+    if status == Status.NO_ROOM and not out and messages.reader_is_gone():
         end_by(signal.SIGPIPE)
     told(word, text, status, out)
     return status
 
 
-def end_by(number):
+def end_by(number: int) -> None:
     """Ends as a program without a handler would, so that a shell sees the usual status."""
     signal.signal(number, signal.SIG_DFL)
     os.kill(os.getpid(), number)

@@ -3,17 +3,19 @@ in a folder. What flashes is shown as it is seen."""
 import argparse
 import os
 import sys
+from collections.abc import Callable
+from types import ModuleType
 
-from btx import canvas, files, html, looks, pillow, program, say
+from btx import canvas, files, html_file, looks, pillow, program, say
 
 SUMMARY = "a picture of the screen at the end of each page, as PNG"
 MOST_SCALE, PHASES = 8, 6
 ENDING = ".png"
 
 
-def whole(least, most, what):
+def whole(least: int, most: int, what: str) -> Callable[[str], int]:
     """Reads a number between two."""
-    def read(text):
+    def read(text: str) -> int:
         value = int(text)
         if not least <= value <= most:
             raise argparse.ArgumentTypeError(f"{what} is {least} to {most}")
@@ -22,22 +24,22 @@ def whole(least, most, what):
     return read
 
 
-def add_scale(parser):
+def add_scale(parser: argparse.ArgumentParser) -> None:
     """The option of the size, which every picture has."""
     scale, what = whole(1, MOST_SCALE, "a scale"), "how many times two by three pixels a dot has, 1 to 8; without it 1"
     parser.add_argument("--scale", type=scale, default=1, metavar="TIMES", help=what)
 
 
-def add_reveal(parser):
+def add_reveal(parser: argparse.ArgumentParser) -> None:
     parser.add_argument("--reveal", action="store_true", help="show what is concealed")
 
 
-def add_phase(parser):
+def add_phase(parser: argparse.ArgumentParser) -> None:
     phase, what = whole(0, PHASES - 1, "a phase"), "which of the six phases of flashing, 0 to 5; without it each sign as it is seen"
     parser.add_argument("--phase", type=phase, metavar="PHASE", help=what)
 
 
-def arguments(parser):
+def arguments(parser: argparse.ArgumentParser) -> None:
     parser.add_argument("pages", metavar="PAGE", nargs="+")
     where = "where to write it, of several pages the folder; without this to standard output"
     parser.add_argument("-o", "--output", metavar="FILE", help=where)
@@ -46,7 +48,7 @@ def arguments(parser):
     add_phase(parser)
 
 
-def refused(word, options):
+def refused(word: str, options: argparse.Namespace) -> str | None:
     """Why a call can't be done, or None."""
     if options.output is None and sys.stdout.isatty():
         return f"a terminal shows no {word.upper()}; -o FILE writes it into a file"
@@ -57,22 +59,22 @@ def refused(word, options):
     return None
 
 
-def targets_of(options, ending):
+def targets_of(options: argparse.Namespace, ending: str) -> list[str]:
     """Where each picture is written: into a folder by the page's name, or where the option says."""
     if len(options.pages) == 1 and not os.path.isdir(options.output or ""):
         return [options.output]
     os.makedirs(options.output, exist_ok=True)
-    names = [name.replace(os.sep, "_") for name in html.names_of(options.pages)]
+    names = [name.replace(os.sep, "_") for name in html_file.names_of(options.pages)]
     return [os.path.join(options.output, name + ending) for name in names]
 
 
-def cells_of(path, page):
+def cells_of(path: program.Runner, page: str) -> looks.Cells:
     """The looks at the end of a page."""
     with files.read_again(page) as again:
         return looks.cells_of(program.text_put(path, "cells", again))
 
 
-def write(image, path, options):
+def write(image: ModuleType, path: program.Runner, options: argparse.Namespace) -> int:
     """Writes the picture of each page."""
     for page, target in zip(options.pages, targets_of(options, ENDING)):
         board = canvas.Canvas(options.reveal, options.phase)
@@ -82,7 +84,7 @@ def write(image, path, options):
     return 0
 
 
-def run(path, options):
+def run(path: program.Runner, options: argparse.Namespace) -> int:
     why = refused("png", options)
     if why:
         say(f"png: {why}")

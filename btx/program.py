@@ -3,6 +3,10 @@ import os
 import shlex
 import shutil
 import subprocess
+from collections.abc import Sequence
+from typing import Protocol
+
+from btx.statuses import READ
 
 ROOT = os.path.dirname(os.path.dirname(os.path.abspath(__file__)))
 CRATE = os.path.join(ROOT, "crates", "cept_tool")
@@ -19,6 +23,7 @@ NEEDED = {"rt": "the Rattle kit with its command rt", "wasm-opt": "wasm-opt (Deb
 WORDS = {
     "changes": ("PAGE", "for each item a line for each cell that it changes, or the line of its refusal"),
     "check": ("PAGE", "the line of each refused item, then how many items there are and how many are refused"),
+    "list": ("PAGE", "a line for each item: its place, its length, its name and its parameters"),
     "show": ("PAGE", "the screen at the end of the page as text"),
     "cells": ("PAGE", "a line for each cell whose look isn't the blank look, at the end of the page"),
     "write": ("PAGE", "the page at its end as bytes, which bring it back"),
@@ -33,7 +38,20 @@ WORDS = {
 }
 # The words whose second file has lines: a script or a drawing.
 SCRIPTED = ("trace", "edit", "plot")
-READ_TO_THE_END, WITH_REFUSALS, OUTSIDE = 0, 1, 3
+# What stands after a word: a name or a number; the library takes the bytes of a page too.
+Word = str | bytes
+Ending = tuple[bytes, int]
+
+
+class Caller(Protocol):
+    """What runs the program's words in this process."""
+
+    def put(self, word: str, *words: Word) -> Ending:
+        """The output of a word, and its status."""
+
+
+# What runs the words: the program by its path, or the library.
+Runner = str | Caller
 
 
 class Missing(Exception):
@@ -43,22 +61,22 @@ class Missing(Exception):
 class Ended(Exception):
     """A run that people asked for by another word ended without what is needed."""
 
-    def __init__(self, word, words, status):
+    def __init__(self, word: str, words: list[str], status: int) -> None:
         super().__init__(f"{word} ended with status {status}")
         self.word, self.words, self.status = word, words, status
 
 
-def is_there(path):
+def is_there(path: str) -> bool:
     return os.access(path, os.X_OK) and os.path.isfile(path)
 
 
-def build_needs(*tools):
+def build_needs(*tools: str) -> str:
     """What a build needs that isn't on this machine, as a sentence ends."""
     absent = [NEEDED[tool] for tool in tools if not shutil.which(tool)]
     return f"; that needs {' and '.join(absent)}, which this machine doesn't have" if absent else ""
 
 
-def standing(beside):
+def standing(beside: str) -> str | None:
     """The path of the proved program, or None: BTX_PROGRAM, or beside this command, or in the checkout."""
     named = os.environ.get("BTX_PROGRAM")
     if named:
@@ -66,17 +84,17 @@ def standing(beside):
         if path:
             return os.path.abspath(path)
         raise Missing(f"BTX_PROGRAM is {named}, and no program is there")
-    return next(filter(is_there, (os.path.join(beside, NAME), os.path.join(CRATE, "out", NAME))), None)
+    return next((path for path in (os.path.join(beside, NAME), os.path.join(CRATE, "out", NAME)) if is_there(path)), None)
 
 
-def missing(beside, *ways):
+def missing(beside: str, *ways: str) -> Missing:
     """Why no program was found, and the ways in which it can be built."""
     if not os.path.exists(BUILD):
         return Missing(f"the proved program isn't beside this command, in {beside}; BTX_PROGRAM can name it")
     return Missing(f"the program isn't built: {', and '.join(ways)}{build_needs('rt')}")
 
 
-def proved(beside):
+def proved(beside: str) -> str:
     """The path of the proved program."""
     path = standing(beside)
     if path is None:
@@ -84,7 +102,7 @@ def proved(beside):
     return path
 
 
-def found(beside):
+def found(beside: str) -> str:
     """The path of the proved program, or else of the unproved one that `./build --quick` keeps."""
     path = standing(beside) or (QUICK if is_there(QUICK) else None)
     if path is None:
@@ -92,13 +110,13 @@ def found(beside):
     return path
 
 
-def ending_with_us(signal):
+def ending_with_us(signal: str) -> list[str]:
     """The words before a command by which the system sends it a signal when the one that runs it ends, whatever ends that."""
     setter = shutil.which("setpriv")
     return [setter, "--pdeathsig", signal, "--"] if setter else []
 
 
-def put(program, word, *words, before=()):
+def put(program: Runner, word: str, *words: Word, before: Sequence[str] = ()) -> Ending:
     """The output of the program, and its status; words may stand before it that start it. The library runs in this process."""
     if not isinstance(program, str):
         return program.put(word, *words)
@@ -106,20 +124,20 @@ def put(program, word, *words, before=()):
     return done.stdout, done.returncode
 
 
-def bytes_put(program, word, page, *after, before=()):
+def bytes_put(program: Runner, word: str, page: Word, *after: Word, before: Sequence[str] = ()) -> bytes:
     """The output of the program for a page that is read to its end; else the run's end is raised."""
     output, status = put(program, word, page, *after, before=before)
-    if status not in (READ_TO_THE_END, WITH_REFUSALS):
-        raise Ended(word, [page, *after], status)
+    if status not in READ:
+        raise Ended(word, [str(one) for one in (page, *after)], status)
     return output
 
 
-def text_put(program, word, page, *after, before=()):
+def text_put(program: Runner, word: str, page: Word, *after: Word, before: Sequence[str] = ()) -> str:
     """The same as text."""
     return bytes_put(program, word, page, *after, before=before).decode("utf-8")
 
 
-def counts_in(text):
+def counts_in(text: str) -> tuple[int, int]:
     """How many items there are and how many are refused, of a text of check."""
     items, refused = text.splitlines()[-1].split(" ")[1::2]
     return int(items), int(refused)

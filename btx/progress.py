@@ -3,8 +3,11 @@ import math
 import os
 import sys
 import time
+from collections.abc import Callable
+from typing import TextIO
 
-from btx import program
+from btx import making
+from btx.statuses import READ, Status
 
 # In seconds.
 EVERY, SELDOM = 0.2, 30
@@ -13,18 +16,18 @@ PART = 20
 USUAL_WIDTH = 80
 
 
-def duration(seconds):
+def duration(seconds: float) -> str:
     """A time in hours and minutes."""
     hours, minutes = divmod(max(1, math.ceil(seconds / 60)), 60)
     return f"{hours:,} h {minutes:02} min" if hours else f"{minutes} min"
 
 
-def fitting(width, *texts):
+def fitting(width: int, *texts: str) -> str:
     """The first of some texts that fits into the width, or the front of the last."""
     return next((text for text in texts if len(text) < width), texts[-1][: max(0, width - 1)])
 
 
-def width_of(stream):
+def width_of(stream: TextIO) -> int:
     """How many columns a terminal has; one that doesn't know has the usual ones."""
     return os.get_terminal_size(stream.fileno()).columns or USUAL_WIDTH
 
@@ -32,23 +35,23 @@ def width_of(stream):
 class Progress:
     """A line that tells how far it is, on a terminal alone."""
 
-    def __init__(self, total, stream=None, clock=time.monotonic):
+    def __init__(self, total: int, stream: TextIO | None = None, clock: Callable[[], float] = time.monotonic) -> None:
         self.total, self.done, self.refused, self.unread = total, 0, 0, 0
         self.stream, self.clock = stream or sys.stderr, clock
         self.begun = self.said = clock()
         self.shown = self.stream.isatty()
 
-    def step(self, facts):
+    def step(self, facts: making.Facts) -> None:
         self.done += 1
-        self.refused += facts.status == program.WITH_REFUSALS
-        self.unread += facts.status not in (program.READ_TO_THE_END, program.WITH_REFUSALS)
+        self.refused += facts.status == Status.REFUSALS
+        self.unread += facts.status not in READ
         now = self.clock()
         if self.shown and (now - self.said > EVERY or self.done == self.total):
             self.said = now
             self.stream.write(f"\r\x1b[K{self.line(now)}" + ("\n" if self.done == self.total else ""))
             self.stream.flush()
 
-    def line(self, now):
+    def line(self, now: float) -> str:
         """As much as the terminal has room for."""
         far = f"{self.done:,} of {self.total:,} pages"
         counts = f"{far}, {self.refused:,} with refused items, {self.unread:,} not read"
@@ -61,16 +64,16 @@ class Progress:
 class NowAndThen:
     """Does something again and again, seldom, and the more seldom the longer it takes."""
 
-    def __init__(self, act, clock=time.monotonic):
+    def __init__(self, act: Callable[[], None], clock: Callable[[], float] = time.monotonic) -> None:
         self.act, self.clock = act, clock
         self.do()
 
-    def do(self):
+    def do(self) -> None:
         begun = self.clock()
         self.act()
         now = self.clock()
         self.next = now + max(SELDOM, PART * (now - begun))
 
-    def step(self):
+    def step(self) -> None:
         if self.clock() >= self.next:
             self.do()

@@ -6,34 +6,42 @@ import bisect
 import os
 import re
 import time
+from typing import Protocol
 
 TIMES = ".times"
 BITS_OF_A_BYTE = 10
 LINE = re.compile(r"(\d{1,15}) (\d{1,8})")
 
 
+class Clock(Protocol):
+    """When bytes come."""
+
+    def when(self, count: int) -> float:
+        """By how many seconds so many bytes have come."""
+
+
 class Recorder:
     """Writes a recording as it comes; what came stays, whatever ends the run."""
 
-    def __init__(self, path):
+    def __init__(self, path: str) -> None:
         for one in (path, path + TIMES):
             if os.path.lexists(one):
                 raise OSError(0, "it is there already, and a recording is never written over", one)
         self.page, self.times = (open(one, "xb", buffering=0) for one in (path, path + TIMES))
         self.begun = time.monotonic()
 
-    def note(self, count):
+    def note(self, count: int) -> None:
         self.times.write(b"%d %d\n" % ((time.monotonic() - self.begun) * 1000, count))
 
-    def came(self, data):
+    def came(self, data: bytes) -> None:
         self.page.write(data)
         self.note(len(data))
 
-    def key(self):
+    def key(self) -> None:
         """Notes that a key was sent, and not which."""
         self.note(0)
 
-    def close(self):
+    def close(self) -> None:
         self.page.close()
         self.times.close()
 
@@ -41,8 +49,10 @@ class Recorder:
 class Times:
     """When the bytes of a recording came: milliseconds, and how many bytes had come by then; and when keys were sent."""
 
-    def __init__(self, text, path):
-        self.milliseconds, self.ends, self.keys = [], [], []
+    def __init__(self, text: str, path: str) -> None:
+        self.milliseconds: list[int] = []
+        self.ends: list[int] = []
+        self.keys: list[tuple[int, int]] = []
         end = 0
         for number, line in enumerate(text.splitlines(), 1):
             found = LINE.fullmatch(line)
@@ -56,15 +66,15 @@ class Times:
             else:
                 self.keys.append((when, end))
 
-    def piece(self, place):
+    def piece(self, place: int) -> int:
         """The number of the piece that has the byte at a place; bytes of which no time is known come with the last."""
         return min(bisect.bisect_right(self.ends, place), len(self.ends) - 1)
 
-    def when(self, count):
+    def when(self, count: int) -> float:
         """By how many seconds so many bytes had come."""
         return self.milliseconds[self.piece(count - 1)] / 1000 if count and self.ends else 0
 
-    def pieces(self):
+    def pieces(self) -> list[list[int]]:
         """The milliseconds and the length of each piece."""
         return [[when, end - start] for when, start, end in zip(self.milliseconds, [0, *self.ends], self.ends)]
 
@@ -72,21 +82,21 @@ class Times:
 class Speed:
     """When bytes come over a line of so many bits a second: a byte takes ten."""
 
-    def __init__(self, bits):
+    def __init__(self, bits: int) -> None:
         self.bits = bits
 
-    def when(self, count):
+    def when(self, count: int) -> float:
         return count * BITS_OF_A_BYTE / self.bits
 
 
-def times_of(page):
+def times_of(page: str) -> Times:
     """When the bytes of a recording came."""
     path = page + TIMES
     with open(path, encoding="ascii", errors="replace") as file:
         return Times(file.read(), path)
 
 
-def seconds(text):
+def seconds(text: str) -> float:
     """A number of seconds, as argparse takes it."""
     value = float(text)
     if not 0 <= value < float("inf"):
@@ -94,10 +104,12 @@ def seconds(text):
     return value
 
 
-def add_times(parser):
+def add_times(parser: argparse.ArgumentParser | argparse._ArgumentGroup) -> None:
     parser.add_argument("--times", action="store_true", help="play a recording in its own time, by the file PAGE.times beside it")
 
 
-def clock_of(options):
+def clock_of(options: argparse.Namespace) -> Clock:
     """When the bytes of a page come: in their own time where that is asked for, else at a speed."""
-    return times_of(options.page) if options.times else Speed(options.replay)
+    if options.times:
+        return times_of(options.page)
+    return Speed(options.replay)

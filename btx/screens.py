@@ -8,6 +8,7 @@ import select
 import termios
 import tty
 import zlib
+from collections.abc import Iterator, Mapping
 
 from btx import canvas, looks
 
@@ -27,7 +28,7 @@ OWN_PROGRAMS = ("WezTerm", "ghostty", "kitty")
 VTE = 6600
 
 
-def draws_sextants(environment):
+def draws_sextants(environment: Mapping[str, str]) -> bool:
     """Whether the terminal is known to draw signs of six blocks. In tmux and screen that isn't known."""
     kind = environment.get("TERM", "")
     if kind.startswith(("tmux", "screen")):
@@ -37,7 +38,7 @@ def draws_sextants(environment):
 
 
 @contextlib.contextmanager
-def raw(terminal):
+def raw(terminal: int) -> Iterator[None]:
     """A terminal whose answers are read as they come, and aren't shown."""
     kept = termios.tcgetattr(terminal)
     try:
@@ -47,7 +48,7 @@ def raw(terminal):
         termios.tcsetattr(terminal, termios.TCSANOW, kept)
 
 
-def answer_of(terminal):
+def answer_of(terminal: int) -> bytes:
     """What a terminal answers, until it has said of which kind it is, or says nothing more."""
     answer = b""
     with raw(terminal):
@@ -57,7 +58,7 @@ def answer_of(terminal):
     return answer
 
 
-def protocol_in(answer):
+def protocol_in(answer: bytes) -> str | None:
     """The protocol of pictures that an answer tells of, or None."""
     if b"\x1b_Gi=31;OK" in answer:
         return KITTY
@@ -65,7 +66,7 @@ def protocol_in(answer):
     return SIXEL if found and HAS_SIXEL in found[1].decode().split(";")[1:] else None
 
 
-def protocol():
+def protocol() -> str | None:
     """The protocol of pictures that the terminal of this run has, or None."""
     try:
         terminal = os.open("/dev/tty", os.O_RDWR | os.O_NOCTTY)
@@ -79,13 +80,13 @@ def protocol():
         os.close(terminal)
 
 
-def colours_of(board):
+def colours_of(board: canvas.Canvas) -> list[bytes]:
     """The parts of each colour, from 0 to 255."""
     parts = board.palette.colours()
     return [parts[at : at + 3] for at in range(0, len(parts), 3)]
 
 
-def kitty(board, dots):
+def kitty(board: canvas.Canvas, dots: bytes) -> Iterator[str]:
     """A screen by the protocol of kitty, over 40 columns and 24 rows, in place of the one before."""
     colours = colours_of(board)
     data = base64.b64encode(zlib.compress(b"".join(colours[dot] for dot in dots), 1)).decode("ascii")
@@ -96,11 +97,11 @@ def kitty(board, dots):
         yield f"\x1b_G{head + ',' if number == 0 else ''}m={more};{piece}\x1b\\"
 
 
-def repeated(sign, count):
+def repeated(sign: str, count: int) -> str:
     return f"!{count}{sign}" if count > 3 else sign * count
 
 
-def band_of(upper, lower, number):
+def band_of(upper: bytes, lower: bytes, number: int) -> str:
     """The signs of a colour in six lines of pixels, which are two lines of dots: a bit for each line of pixels."""
     bits = [0b000111 * (one == number) | 0b111000 * (other == number) for one, other in zip(upper, lower)]
     runs = [(value, canvas.DOT[0] * len(list(run))) for value, run in itertools.groupby(bits)]
@@ -109,7 +110,7 @@ def band_of(upper, lower, number):
     return "".join(repeated(chr(63 + value), count) for value, count in runs)
 
 
-def sixel(board, dots):
+def sixel(board: canvas.Canvas, dots: bytes) -> Iterator[str]:
     """A screen by the protocol of sixel, each dot two pixels wide and three high."""
     yield f"\x1bP0;1q\"1;1;{canvas.WIDTH * canvas.DOT[0]};{canvas.HEIGHT * canvas.DOT[1]}"
     for number, parts in enumerate(colours_of(board)):
@@ -123,6 +124,6 @@ def sixel(board, dots):
 PROTOCOLS = {KITTY: kitty, SIXEL: sixel}
 
 
-def picture(protocol_name, board, cells):
+def picture(protocol_name: str, board: canvas.Canvas, cells: looks.Cells) -> str:
     """What shows the looks of a screen as a picture."""
     return "".join(PROTOCOLS[protocol_name](board, board.screen(cells)))

@@ -2,6 +2,8 @@
 parted in six or in four blocks, or by signs of ASCII."""
 import collections
 import unicodedata
+from collections.abc import Sequence
+from typing import NamedTuple
 
 from btx import letters, looks, painting
 
@@ -19,7 +21,7 @@ NEAREST = dict(zip(
 LINES_OF_ASCII = "++++<>v^/\\\\/+.Oo|-+++++++++><^v"
 
 
-def row_of(first, *last):
+def row_of(first: int, *last: str) -> list[str]:
     """Six signs: five that follow each other, and one more."""
     return [chr(first + index) for index in range(6 - len(last))] + list(last)
 
@@ -33,19 +35,19 @@ HIGH = (
     [*row_of(0x1FB52, "\u25e5"), *row_of(0x1FB57), "\U0001fb6c", "\U0001fb6d", SOME_MOSAIC, SOME_MOSAIC]
     + [*row_of(0x1FB5D, "\u25e4"), *row_of(0x1FB62), "\U0001fb6e", "\U0001fb6f", SOME_MOSAIC, SOME_MOSAIC]
 )
-LINES = [
+LINES: list[str] = [
     *"┷┯┝┥", *map(chr, (0x1FBA4, 0x1FBA5, 0x1FBA6, 0x1FBA7, 0x1FBA0, 0x1FBA1, 0x1FBA2, 0x1FBA3)), *"┿•●○",
     *"│─┌┐└┘├┤┬┴┼→←↑↓", SOME_MOSAIC,
 ]
 
 
-def sextant(blocks):
+def sextant(blocks: int) -> str:
     """The sign with the blocks of a number's six bits: upper left, upper right, middle left, and so on."""
     halves = {0: " ", 0b010101: "\u258c", 0b101010: "\u2590", 0b111111: FULL}
-    return halves.get(blocks) or chr(0x1FB00 + blocks - 1 - (blocks > 0b010101) - (blocks > 0b101010))
+    return halves.get(blocks) or chr(0x1FB00 + blocks - 1 - int(blocks > 0b010101) - int(blocks > 0b101010))
 
 
-def mosaic(letter, code):
+def mosaic(letter: str, code: int) -> str:
     if letter == "M" and not 0x40 <= code < 0x60:
         return sextant(code & 0x1F | (code & 0x40) >> 1)
     smooth = code - 0x20 if letter == "M" else code
@@ -54,7 +56,7 @@ def mosaic(letter, code):
     return LINES[smooth - 0x40] if smooth < 0x60 else HIGH[smooth - 0x60]
 
 
-def sign_of(shape):
+def sign_of(shape: str) -> str:
     """The sign of a shape that is no pattern."""
     if shape == "-":
         return " "
@@ -69,22 +71,32 @@ def sign_of(shape):
     return letters.PRIMARY.get(code) or letters.composed(chr(code) + mark)
 
 
-def paints_of(look, pattern):
+def paints_of(look: looks.Look, pattern: looks.Pattern) -> list[str]:
     """The paint of each pixel of a pattern."""
     inks = pattern.inks or (look.back, look.fore)
     return [inks[number] for number in pattern.numbers]
 
 
-def share(paints, fore, back):
+def share(paints: Sequence[str], fore: str, back: str) -> float:
     """Which part of the paints that are one of two is the first."""
     count = paints.count(fore)
     return count / ((count + paints.count(back)) or 1)
 
 
-Blocks = collections.namedtuple("Blocks", "bits fore back share")
+class Blocks(NamedTuple):
+    """Blocks of a sign: a bit for each, the two paints, and the share of the first."""
+
+    bits: int
+    fore: str
+    back: str
+    share: float
 
 
-def blocks_of(look, paints, width, down):
+# A sign with its foreground and its background.
+Shown = tuple[str, str, str]
+
+
+def blocks_of(look: looks.Look, paints: Sequence[str], width: int, down: int) -> Blocks:
     """Paints in lines of a width as two blocks across and some down: a bit for each, the two paints that there are most of, and the share
     of the first. A block is seen where it has at least the share of the foreground that the whole has, so that thin lines are seen too."""
     often = [paint for paint, _ in collections.Counter(paints).most_common(2)]
@@ -99,29 +111,29 @@ def blocks_of(look, paints, width, down):
     return Blocks(bits, fore, back, share(paints, fore, back))
 
 
-def dots_of(look):
+def dots_of(look: looks.Look) -> list[str]:
     """The paint of each dot that a cell shows of its sign, without lines between blocks and frames."""
     dots, paints = painting.cell_of(look._replace(flash="S", concealed=False, lined=False, boxed=False), 0, True)
     return [paints[number] for number in dots]
 
 
-def pattern_sign(look):
+def pattern_sign(look: looks.Look) -> Shown:
     """A pattern in six blocks: the sign, and the two paints that it has most of."""
     pattern = looks.pattern_of(look.shape)
     found = blocks_of(look, paints_of(look, pattern), pattern.width, 3)
     return sextant(found.bits), found.fore, found.back
 
 
-def is_large(look):
+def is_large(look: looks.Look) -> bool:
     return look.high > 1 or look.wide > 1
 
 
-def is_drawn(look):
+def is_drawn(look: looks.Look) -> bool:
     """Whether a look shows a mosaic or a pattern: of a large one each cell has its part."""
     return look.shape[0] in "MN%"
 
 
-def by_dots(look, kind):
+def by_dots(look: looks.Look, kind: str) -> Shown:
     """The sign that is nearest to a cell's dots."""
     found = blocks_of(look, dots_of(look), painting.WIDTH, 3 if kind == SEXTANTS else 2)
     if kind == ASCII:
@@ -130,13 +142,13 @@ def by_dots(look, kind):
     return (sextant if kind == SEXTANTS else QUADRANTS.__getitem__)(found.bits), found.fore, found.back
 
 
-def line_of(shape):
+def line_of(shape: str) -> int | None:
     """The code among the line mosaics from 4/0 on, or None for another shape."""
     code = int(shape[1:3], 16) - 0x40 if shape[0] == "N" else -1
     return code if 0 <= code < len(LINES_OF_ASCII) else None
 
 
-def drawn_sign(look, kind):
+def drawn_sign(look: looks.Look, kind: str) -> Shown:
     """The sign of a mosaic or a pattern."""
     line = line_of(look.shape)
     if kind == SEXTANTS and not is_large(look):
@@ -147,13 +159,13 @@ def drawn_sign(look, kind):
     return by_dots(look, kind)
 
 
-def as_ascii(sign):
+def as_ascii(sign: str) -> str:
     """A sign as one of ASCII."""
     plain = unicodedata.normalize("NFD", sign)[0]
     return plain if plain.isascii() else NEAREST.get(sign) or "?"
 
 
-def shown(look, revealed, kind=SEXTANTS):
+def shown(look: looks.Look, revealed: bool, kind: str = SEXTANTS) -> Shown:
     """The sign, the foreground and the background that a cell shows: a large letter stands in its first cell alone."""
     if look.shape == "-" or (look.concealed and not revealed):
         return " ", look.fore, look.back

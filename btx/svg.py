@@ -1,8 +1,10 @@
 """Writes an SVG of the screen at the end of a page: runs of dots as one path for each colour, sharp at any size, and the text beside it,
 to be searched, selected and read aloud."""
+import argparse
+from collections.abc import Iterable, Iterator
 from html import escape
 
-from btx import canvas, files, html, looks, picture, program
+from btx import canvas, files, html_file, looks, picture, program
 
 SUMMARY = "a drawing of the screen at the end of a page, as SVG"
 WIDTH, HEIGHT = canvas.WIDTH, canvas.HEIGHT
@@ -14,16 +16,19 @@ HEAD = """<svg xmlns="http://www.w3.org/2000/svg" width="{width}" height="{heigh
 TEXT = """</g>
 <g font-family="monospace" font-size="{size}" fill-opacity="0" xml:space="preserve">
 """
+# A number in a line of dots, with the first column and that after the last; and a rectangle: top, start, end and bottom.
+Run = tuple[int, int, int]
+Block = tuple[int, int, int, int]
 
 
-def arguments(parser):
+def arguments(parser: argparse.ArgumentParser) -> None:
     parser.add_argument("page", metavar="PAGE")
     parser.add_argument("-o", "--output", metavar="FILE", help="where to write it; without this to standard output")
     picture.add_reveal(parser)
     picture.add_phase(parser)
 
 
-def runs_of(line):
+def runs_of(line: bytes) -> Iterator[Run]:
     """The runs of a line of dots: a number, the first column and that after the last."""
     start = 0
     for column in range(1, WIDTH + 1):
@@ -32,9 +37,10 @@ def runs_of(line):
             start = column
 
 
-def blocks_of(dots):
+def blocks_of(dots: bytes) -> dict[int, list[Block]]:
     """The dots as rectangles by the numbers of their colours: a run that is alike in lines below each other is one."""
-    found, open_blocks = {}, {}
+    found: dict[int, list[Block]] = {}
+    open_blocks: dict[Run, int] = {}
     for row in range(HEIGHT + 1):
         line = dots[row * WIDTH : row * WIDTH + WIDTH]
         runs = set(runs_of(line)) if row < HEIGHT else set()
@@ -47,13 +53,13 @@ def blocks_of(dots):
     return found
 
 
-def path_of(colour, blocks):
+def path_of(colour: str, blocks: Iterable[Block]) -> str:
     """The path of a colour."""
     data = "".join(f"M{start} {top}h{end - start}v{bottom - top}h{start - end}z" for top, start, end, bottom in sorted(blocks))
     return f'<path fill="#{colour}" d="{data}"/>\n'
 
 
-def lines_of(text, size):
+def lines_of(text: str, size: int) -> Iterator[str]:
     """The text, each row where it is seen and as wide."""
     across, down = canvas.DOT[0] * 12, canvas.DOT[1] * 10
     for row, line in enumerate(text.splitlines()):
@@ -63,7 +69,7 @@ def lines_of(text, size):
             yield f'<text x="0" y="{row * down + size}" textLength="{width}" lengthAdjust="spacingAndGlyphs">{shown}</text>\n'
 
 
-def document(board, cells, text, title):
+def document(board: canvas.Canvas, cells: looks.Cells, text: str, title: str) -> str:
     """The drawing of a screen: the colour that most dots have is behind all others."""
     dots = board.screen(cells)
     blocks, colours = blocks_of(dots), list(board.palette.numbers)
@@ -76,11 +82,11 @@ def document(board, cells, text, title):
     return HEAD.format(**parts) + paths + TEXT.format(size=size) + "".join(lines_of(text, size)) + "</g>\n</svg>\n"
 
 
-def run(path, options):
+def run(path: program.Runner, options: argparse.Namespace) -> int:
     with files.read_again(options.page) as page:
         cells = looks.cells_of(program.text_put(path, "cells", page))
         text = program.text_put(path, "show", page)
     board = canvas.Canvas(options.reveal, options.phase)
     with files.output(options.output) as file:
-        file.write(document(board, cells, text, html.names_of([options.page])[0]).encode("utf-8"))
+        file.write(document(board, cells, text, html_file.names_of([options.page])[0]).encode("utf-8"))
     return 0

@@ -6,6 +6,8 @@ import argparse
 import os
 import sys
 import time
+from collections.abc import Iterable, Iterator, Mapping, Sequence
+from typing import Protocol, TextIO
 
 from btx import canvas, files, looks, messages, program, recording, say, screens, signs
 
@@ -15,25 +17,27 @@ MOST_KNOWN = 2**14
 STEPS = (0, 95, 135, 175, 215, 255)
 FORE, BACK = 38, 48
 ALL_COLOURS = 2**24
+# The rows and the columns of a terminal.
+Size = tuple[int, int]
 UNDERLINED, BLINKING = "4", "5"
 PLAIN, HIDE, SHOW, CLEAR, HOME = "\x1b[0m", "\x1b[?25l", "\x1b[?25h", "\x1b[2J", "\x1b[1;1H"
 AUTO = "auto"
 KINDS = (AUTO, signs.SEXTANTS, signs.BLOCKS, signs.ASCII, screens.KITTY, screens.SIXEL)
 
 
-def speed(text):
+def speed(text: str) -> int:
     value = int(text)
     if value < 1:
         raise argparse.ArgumentTypeError("a speed is at least 1 bit a second")
     return value
 
 
-def add_signs(parser, kinds, usual):
+def add_signs(parser: argparse.ArgumentParser, kinds: Sequence[str], usual: str) -> None:
     what = f"what shows mosaics: {', '.join(kinds)}; without it {usual}"
     parser.add_argument("--signs", choices=kinds, default=usual, metavar="SIGNS", help=what)
 
 
-def arguments(parser):
+def arguments(parser: argparse.ArgumentParser) -> None:
     parser.add_argument("page", metavar="PAGE")
     parser.add_argument("--reveal", action="store_true", help="show what is concealed")
     played = parser.add_mutually_exclusive_group()
@@ -42,12 +46,12 @@ def arguments(parser):
     add_signs(parser, KINDS, AUTO)
 
 
-def signs_known(environment):
+def signs_known(environment: Mapping[str, str]) -> str:
     """The signs that a terminal is known to show."""
     return signs.SEXTANTS if screens.draws_sextants(environment) else signs.BLOCKS
 
 
-def kind_of(asked, environment):
+def kind_of(asked: str, environment: Mapping[str, str]) -> str:
     """What shows mosaics: what is asked for, or what the terminal is known to have."""
     if asked != AUTO:
         return asked
@@ -55,18 +59,18 @@ def kind_of(asked, environment):
     return (pictured and screens.protocol()) or signs_known(environment)
 
 
-def depth_of(environment):
+def depth_of(environment: Mapping[str, str]) -> int:
     """How many colours there are: 0, 256 or 2^24."""
     if environment.get("NO_COLOR"):
         return 0
     return ALL_COLOURS if environment.get("COLORTERM") in ("truecolor", "24bit") else 256
 
 
-def distance(one, other):
+def distance(one: Sequence[int], other: Sequence[int]) -> int:
     return sum((a - b) ** 2 for a, b in zip(one, other))
 
 
-def of_256(parts):
+def of_256(parts: Sequence[int]) -> int:
     """The nearest of the terminal's 256 colours: of its cube, or of its greys."""
     cube = [min(range(6), key=lambda index: abs(STEPS[index] - part)) for part in parts]
     grey = min(range(24), key=lambda index: distance(parts, [8 + 10 * index] * 3))
@@ -75,7 +79,7 @@ def of_256(parts):
     return 16 + 36 * cube[0] + 6 * cube[1] + cube[2]
 
 
-def colour_of(paint, layer, depth):
+def colour_of(paint: str, layer: int, depth: int) -> str:
     """The words for a colour; the picture behind the screen is the terminal's own."""
     if paint == looks.VIDEO:
         return str(layer + 1)
@@ -85,19 +89,32 @@ def colour_of(paint, layer, depth):
     return f"{layer};2;{parts[0]};{parts[1]};{parts[2]}"
 
 
+class Screen(Protocol):
+    """Makes what a terminal is told of looks."""
+
+    def still(self, cells: looks.Cells, rows: int) -> Iterator[str]:
+        """What shows a whole page and leaves it there."""
+
+    def begun(self) -> str:
+        """What makes the screen blank."""
+
+    def changed(self, changed: looks.Cells) -> str:
+        """What repaints some cells."""
+
+
 class Painter:
     """Makes a terminal's text of looks."""
 
-    def __init__(self, depth, revealed, kind=signs.SEXTANTS):
+    def __init__(self, depth: int, revealed: bool, kind: str = signs.SEXTANTS) -> None:
         self.depth, self.revealed, self.kind = depth, revealed, kind
-        self.known = {}
+        self.known: dict[looks.Look, tuple[str, str]] = {}
 
-    def style(self, look, fore, back):
+    def style(self, look: looks.Look, fore: str, back: str) -> str:
         words = [colour_of(fore, FORE, self.depth), colour_of(back, BACK, self.depth)] if self.depth else []
         words += [UNDERLINED] * look.lined + [BLINKING] * (look.flash != "S")
         return "\x1b[" + ";".join(["0", *words]) + "m"
 
-    def cell(self, look):
+    def cell(self, look: looks.Look) -> tuple[str, str]:
         """The style and the sign of a cell."""
         if len(self.known) == MOST_KNOWN:
             self.known.clear()
@@ -106,7 +123,7 @@ class Painter:
             self.known[look] = self.style(look, fore, back), sign
         return self.known[look]
 
-    def row(self, row_looks):
+    def row(self, row_looks: Iterable[looks.Look]) -> str:
         """The text of neighbours: a style stands where it changes."""
         text, last = "", None
         for look in row_looks:
@@ -115,16 +132,16 @@ class Painter:
             last = style
         return text + PLAIN
 
-    def still(self, cells, rows):
+    def still(self, cells: looks.Cells, rows: int) -> Iterator[str]:
         """The whole page, a line for each row."""
         for row in range(1, rows + 1):
             yield self.row([cells.get((row, column), looks.BLANK) for column in range(1, looks.COLUMNS + 1)]) + "\n"
 
-    def begun(self):
+    def begun(self) -> str:
         """What makes the screen blank."""
         return HIDE + CLEAR + repaint(self, blank_screen())
 
-    def changed(self, changed):
+    def changed(self, changed: looks.Cells) -> str:
         """What repaints some cells."""
         return repaint(self, changed)
 
@@ -132,40 +149,43 @@ class Painter:
 class PicturePainter:
     """Shows the screen as a picture, anew at each change."""
 
-    def __init__(self, revealed, protocol):
-        self.board, self.protocol, self.cells = canvas.Canvas(revealed), protocol, {}
+    def __init__(self, revealed: bool, protocol: str) -> None:
+        self.board, self.protocol = canvas.Canvas(revealed), protocol
+        self.cells: looks.Cells = {}
 
-    def picture(self):
+    def picture(self) -> str:
         return screens.picture(self.protocol, self.board, self.cells)
 
-    def still(self, cells, rows):
+    def still(self, cells: looks.Cells, rows: int) -> Iterator[str]:
         self.cells = cells
         yield self.picture()
         # The picture of kitty leaves the cursor where it is, that of sixel moves it below itself.
         yield "\n" * (rows if self.protocol == screens.KITTY else 1)
 
-    def begun(self):
+    def begun(self) -> str:
         return HIDE + CLEAR + HOME + self.picture()
 
-    def changed(self, changed):
+    def changed(self, changed: looks.Cells) -> str:
         self.cells |= changed
         return HOME + self.picture()
 
 
-def painter_of(options, environment):
+def painter_of(options: argparse.Namespace, environment: Mapping[str, str]) -> Screen:
     kind = kind_of(options.signs, environment)
     if kind in screens.PROTOCOLS:
         return PicturePainter(options.reveal, kind)
     return Painter(depth_of(environment), options.reveal, kind)
 
 
-def blank_screen():
+def blank_screen() -> looks.Cells:
     return {(row, column): looks.BLANK for row in range(1, looks.ROWS + 1) for column in range(1, looks.COLUMNS + 1)}
 
 
-def repaint(painter, changed):
+def repaint(painter: Painter, changed: looks.Cells) -> str:
     """What repaints some cells, each at its place: neighbours without a new position, and a style where it changes."""
-    text, after, last = "", None, None
+    text = ""
+    after: looks.Place | None = None
+    last: str | None = None
     for row, column in sorted(changed):
         style, sign = painter.cell(changed[row, column])
         text += ("" if (row, column) == after else f"\x1b[{row};{column}H") + (style if style != last else "") + sign
@@ -173,7 +193,7 @@ def repaint(painter, changed):
     return text + PLAIN
 
 
-def size_of(stream):
+def size_of(stream: TextIO) -> Size | None:
     """The rows and columns of the terminal, or None where there is none."""
     try:
         size = os.get_terminal_size(stream.fileno())
@@ -182,26 +202,27 @@ def size_of(stream):
     return size.lines, size.columns
 
 
-def too_small(size):
+def too_small(size: Size | None) -> str | None:
     """What is said of a terminal that is too small for a page, or None."""
     if size is None or size[0] >= looks.ROWS and size[1] >= looks.COLUMNS:
         return None
     return f"the terminal has {size[0]} rows of {size[1]}, and a page {looks.ROWS} of {looks.COLUMNS}"
 
 
-def lines_of(stream):
+def lines_of(stream: TextIO) -> int:
     """How many rows the terminal has, or more than enough where there is none."""
     size = size_of(stream)
-    if too_small(size):
-        raise OSError(0, too_small(size))
+    small = too_small(size)
+    if small:
+        raise OSError(0, small)
     return size[0] if size else looks.ROWS + 1
 
 
-def wait(until):
+def wait(until: float) -> None:
     time.sleep(max(0, until - time.monotonic()))
 
 
-def play(painter, moments, length, clock, stream):
+def play(painter: Screen, moments: looks.Moments, length: int, clock: recording.Clock, stream: TextIO) -> None:
     """Shows each change when the byte at its place has come."""
     last = min(lines_of(stream), looks.ROWS + 1)
     stream.write(painter.begun())
@@ -218,7 +239,7 @@ def play(painter, moments, length, clock, stream):
         stream.flush()
 
 
-def show(path, page, options):
+def show(path: program.Runner, page: str, options: argparse.Namespace) -> int:
     """Shows a page that can be read again, and answers the program's status."""
     painter = painter_of(options, os.environ)
     if options.replay or options.times:
@@ -234,10 +255,10 @@ def show(path, page, options):
     return program.put(path, "check", page)[1]
 
 
-def run(path, options):
-    sys.stdout.reconfigure(encoding="utf-8", newline="\n")
+def run(path: program.Runner, options: argparse.Namespace) -> int:
+    files.write_utf8(newline="\n")
     with files.read_again(options.page) as page:
         status = show(path, page, options)
     if status:
-        say(messages.sentence(path, "show", [options.page], status))
+        say(messages.sentence(messages.Run(path, "show", [options.page]), status))
     return status

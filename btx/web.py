@@ -2,46 +2,51 @@
 page."""
 import http
 import os
+from collections.abc import Awaitable, Callable, Mapping
+from types import ModuleType
+from typing import Any
 
 from btx import debian, viewer
 
 NAME, PACKAGE = "websockets", "python3-websockets"
 MOST_MESSAGE = 1024
 # The names by which this machine alone reaches itself.
+# A status, headers and a body.
+Answer = tuple[http.HTTPStatus, list[tuple[str, str]], bytes]
 HERE = ("127.0.0.1", "localhost", "::1", "[::1]")
 ABSENT = "This port is a WebSocket. The viewer for it isn't built; ./build builds it.\n"
 
 
-def library(module):
+def library(module: str) -> ModuleType:
     return debian.module(module, NAME, PACKAGE)
 
 
 class Socket:
     """The line of a guest."""
 
-    def __init__(self, connection):
+    def __init__(self, connection: Any) -> None:
         self.connection, self.closed = connection, library("websockets.exceptions").ConnectionClosed
         self.name = "{}:{}".format(*connection.remote_address[:2])
 
-    async def read(self):
+    async def read(self) -> bytes:
         """What the guest sends; empty bytes at the end."""
         try:
-            data = await self.connection.recv()
+            data: bytes | str = await self.connection.recv()
         except self.closed:
             return b""
         return data if isinstance(data, bytes) else data.encode("utf-8")
 
-    async def write(self, data):
+    async def write(self, data: bytes) -> None:
         try:
             await self.connection.send(data)
         except self.closed:
             raise ConnectionResetError(0, "it has gone") from None
 
-    async def close(self):
+    async def close(self) -> None:
         await self.connection.close()
 
 
-def document():
+def document() -> bytes | None:
     """The viewer with the decoder's module, or None where that isn't there."""
     if not os.path.exists(viewer.MODULE):
         return None
@@ -49,7 +54,7 @@ def document():
         return viewer.html_with(file.read()).encode("utf-8")
 
 
-def page():
+def page() -> Answer:
     """What a browser gets that asks for a page, and not for a WebSocket."""
     found = document()
     kind = "text/html" if found else "text/plain"
@@ -57,7 +62,7 @@ def page():
     return status, [("Content-Type", f"{kind}; charset=utf-8")], found or ABSENT.encode("ascii")
 
 
-def is_open_to(headers, address, port):
+def is_open_to(headers: Mapping[str, str], address: str, port: int) -> bool:
     """Whether a document may open the line: a file of a machine, and what this port serves itself. Other websites may not. Of the names
     that this machine has in a network only who asks knows."""
     origin, own = headers.get("Origin", "null"), [f"http://{name}:{port}" for name in (*HERE, address)]
@@ -66,14 +71,15 @@ def is_open_to(headers, address, port):
     return origin in ("null", "file://", *own)
 
 
-async def serve(welcome, address, port):
+async def serve(welcome: Callable[[Socket], Awaitable[None]], address: str, port: int) -> Any:
     """A server whose guests are welcomed."""
-    legacy, ports = library("websockets.legacy.server"), []
+    legacy = library("websockets.legacy.server")
+    ports: list[int] = []
 
-    async def begin(connection, _=None):
+    async def begin(connection: Any, _: Any = None) -> None:
         await welcome(Socket(connection))
 
-    async def answer(_, headers):
+    async def answer(_: str, headers: Mapping[str, str]) -> Answer | None:
         if "Upgrade" not in headers:
             return page()
         if not is_open_to(headers, address, *ports):

@@ -8,16 +8,16 @@ import json
 import os
 import shutil
 import urllib.parse
+from collections.abc import Iterator
 from html import escape
+from types import ModuleType
 
-from btx import canvas, html, looks, making
+from btx import canvas, html_file, looks, making, modules, viewer
+from btx.statuses import Status
 
-SCRIPTS = (
-    "text.js", "signs.js", "shapes.js", "dots.js", "paint.js", "film.js", "screen.js", "player.js", "panels.js", "files.js", "viewer.js",
-    "words.js", "language.js", "archive.js", "walk.js",
-)
-# What a page of an archive has besides those of the viewer.
-OWN_SCRIPTS = ("site.js", "walk.js")
+# What all pages say, and the scripts of an archive, each made of a module and of all that it needs besides.
+WORDS = "language.js"
+SCRIPTS = ("viewer.js", "archive.js", "walk.js")
 STYLES = ("style.css", "archive.css")
 # What is made of a page, each kind in a folder of its own; the facts, by which it counts as made, come last and go first.
 KINDS = {"pages": ".html", "pictures": ".png", "made": ".json"}
@@ -29,20 +29,20 @@ LONGEST = 255 - len(".json.part")
 NO_NAMES = (errno.ENAMETOOLONG, errno.EISDIR, errno.ENOTDIR, errno.EEXIST)
 POLICY = "default-src 'none'; img-src blob: data:; style-src 'self'; script-src 'self'"
 # The decoder's module, for pages that are decoded in the browser; no other page asks for it.
-MODULE, COMPILES = "module.js", " 'wasm-unsafe-eval'"
+MODULE, COMPILES = "module.js", f" 'wasm-unsafe-eval'; {viewer.WORKER}"
 
 
-def address(name):
+def address(name: str) -> str:
     """The address of a page in the website, whatever the bytes of its name are."""
     return urllib.parse.quote(os.fsencode(name))
 
 
-def part_of(name):
+def part_of(name: str) -> str:
     """In which part of the archive's order a page is told of: a page asks for its own alone."""
     return hashlib.sha256(os.fsencode(name)).hexdigest()[:2]
 
 
-def write_bytes(path, data):
+def write_bytes(path: str, data: bytes) -> None:
     """A file, whole or not at all."""
     os.makedirs(os.path.dirname(path), exist_ok=True)
     with open(path + ".part", "wb") as file:
@@ -50,57 +50,67 @@ def write_bytes(path, data):
     os.replace(path + ".part", path)
 
 
-def write(path, text):
+def write(path: str, text: str) -> None:
     write_bytes(path, text.encode("utf-8"))
 
 
-def picture_of(image, cells):
+def picture_of(image: ModuleType, cells: str) -> bytes:
     """The screen of a text of cells as a PNG, by Pillow: a pixel for each dot."""
     board, file = canvas.Canvas(False), io.BytesIO()
     board.small(image, board.screen(looks.cells_of(cells))).save(file, "PNG")
     return file.getvalue()
 
 
-def halves(decodes):
+def halves(decodes: bool) -> tuple[str, str]:
     """The viewer's document before and after a page's data, with places for what is each page's own; of pages that it decodes, or whose
     texts it has."""
-    scripts = (*([MODULE] if decodes else []), "viewer.js", *OWN_SCRIPTS)
+    scripts = (*([MODULE] if decodes else []), "words.js", "viewer.js", "site.js", "walk.js")
     changed = {
         'href="style.css"': 'href="{up}viewer/style.css"',
         "<h1>Tamligub</h1>": '<h1><a href="{up}index.html">Archive</a></h1>',
         '<title data-word="viewer">Tamligub</title>': "<title>{title}</title>",
         "</header>": '</header>\n<nav id="walk" data-up="{up}" data-part="{part}" data-address="{address}"></nav>',
-        '<script src="viewer.js"></script>': "\n".join(f'<script src="{name}"></script>' for name in scripts),
-        '<script src="': '<script src="{up}viewer/',
+        html_file.MODULE: "".join(f'<script src="{{up}}viewer/{name}"></script>\n' for name in scripts),
     }
-    document = html.with_policy(html.text_of("index.html"), POLICY + (COMPILES if decodes else ""))
+    document = html_file.with_policy(html_file.text_of("index.html"), POLICY + (COMPILES if decodes else ""))
     for old, new in changed.items():
         document = document.replace(old, new)
-    return document.split(html.DATA)
+    head, tail = document.split(html_file.DATA)
+    return head, tail
+
+
+def scripts_of() -> dict[str, list[str]]:
+    """The scripts of an archive, by their files: the words, which the index has too, and what is made of each entry."""
+    words = [one.name for one in modules.modules_of(html_file.VIEW, WORDS)]
+    made = {name: modules.scripts_of(html_file.VIEW, name, without=words) for name in SCRIPTS}
+    return {"words.js": modules.scripts_of(html_file.VIEW, WORDS), **made}
 
 
 class Website:
     """The files of an archive in a folder. Without Pillow's module of images pages have no pictures, and without the decoder's module, as a
     script, all have their texts of changes."""
 
-    def __init__(self, out, image=None, module=None):
-        self.out, self.image, self.module, self.has_module = out, image, module, module is not None
+    def __init__(self, out: str, image: ModuleType | None = None, module: str | None = None) -> None:
+        self.out, self.image, self.module = out, image, module
+        self.has_module = module is not None
         self.halves = {decodes: halves(decodes) for decodes in (False, True)}
 
-    def begin(self, title):
+    def begin(self, title: str) -> None:
         """What all pages have in common: scripts, styles, and the title of the archive, by which pages don't change."""
         os.makedirs(os.path.join(self.out, "viewer"), exist_ok=True)
-        for name in (*SCRIPTS, *STYLES):
-            shutil.copyfile(os.path.join(html.VIEW, name), os.path.join(self.out, "viewer", name))
-        if self.has_module:
+        for name in STYLES:
+            shutil.copyfile(os.path.join(html_file.VIEW, name), os.path.join(self.out, "viewer", name))
+        for name, scripts in scripts_of().items():
+            write(os.path.join(self.out, "viewer", name), "".join(scripts))
+        if self.module is not None:
             write(os.path.join(self.out, "viewer", MODULE), self.module)
-        site = html.data_of({"title": title})
+        site = html_file.data_of({"title": title})
         write(os.path.join(self.out, "viewer", "site.js"), f"(window.Tamligub = window.Tamligub || {{}}).site = {site};\n")
 
-    def path(self, kind, name):
+    def path(self, kind: str, name: str) -> str:
         return os.path.join(self.out, kind, name + KINDS[kind])
 
-    def names(self):
+    def names(self) -> Iterator[str]:
         """The names of all pages of which something was made and whole."""
         top = os.path.join(self.out, "made")
         for place, _, files in os.walk(top):
@@ -109,19 +119,20 @@ class Website:
                 if ending == KINDS["made"]:
                     yield name
 
-    def facts(self, name):
-        """The facts of a page that is made, or None."""
+    def facts(self, name: str) -> making.Facts | None:
+        """The facts of a page that is made with all that is told of it, or None."""
         try:
             with open(self.path("made", name), encoding="utf-8") as file:
-                return making.Facts(**json.load(file))
+                facts = making.Facts(**json.load(file))
         except (OSError, ValueError, TypeError):
             return None
+        return facts if facts.passed_over is not None or not facts.is_read() else None
 
-    def lacks_picture(self, name):
+    def lacks_picture(self, name: str) -> bool:
         """Whether a page has no picture that could be made."""
         return self.image is not None and not os.path.isfile(self.path("pictures", name))
 
-    def remove_kind(self, kind, name):
+    def remove_kind(self, kind: str, name: str) -> None:
         """Takes away one of the files of a page, and folders that are empty without it."""
         path = self.path(kind, name)
         with contextlib.suppress(FileNotFoundError, NotADirectoryError, IsADirectoryError):
@@ -129,22 +140,22 @@ class Website:
         with contextlib.suppress(OSError):
             os.removedirs(os.path.dirname(path))
 
-    def remove(self, name):
+    def remove(self, name: str) -> None:
         """Takes away what was made of a page."""
         for kind in reversed(KINDS):
             self.remove_kind(kind, name)
 
-    def document(self, name, facts, parts):
+    def document(self, name: str, facts: making.Facts, parts: making.Parts) -> str:
         """The viewer with a page; its style and scripts are those of the whole archive."""
-        shown = html.shown_name(name)
+        shown = html_file.shown_name(name)
         places = {"up": "../" * (name.count("/") + 1), "part": part_of(name), "address": address(name), "title": facts.title or shown}
         head, tail = self.halves["deflated" not in parts]
         for place, value in places.items():
             head, tail = (text.replace("{" + place + "}", escape(value)) for text in (head, tail))
         data = {"name": shown, **{part: parts[part] for part in ("deflated", "check", "page") if part in parts}}
-        return f'{head}<script type="application/json" id="pages">{html.data_of([data])}</script>{tail}'
+        return f'{head}<script type="application/json" id="pages">{html_file.data_of([data])}</script>{tail}'
 
-    def write_page(self, name, facts, parts):
+    def write_page(self, name: str, facts: making.Facts, parts: making.Parts) -> None:
         """Writes what was made of a page, last the facts."""
         with contextlib.suppress(FileNotFoundError):
             os.remove(self.path("made", name))
@@ -153,20 +164,20 @@ class Website:
             write_bytes(self.path("pictures", name), picture_of(self.image, parts["cells"]))
         else:
             self.remove_kind("pictures", name)
-        write(self.path("made", name), html.data_of(dataclasses.asdict(facts)))
+        write(self.path("made", name), html_file.data_of(dataclasses.asdict(facts)))
 
-    def add(self, name, facts, parts):
+    def add(self, name: str, facts: making.Facts, parts: making.Parts | None) -> making.Facts:
         """Writes what was made of a page. Of one that can't be read now stays what was made before, and of another nothing."""
         try:
             if any(len(os.fsencode(part)) > LONGEST for part in name.split("/")):
                 raise OSError(errno.ENAMETOOLONG, "too long")
             if parts:
                 self.write_page(name, facts, parts)
-            elif facts.status != making.UNREADABLE:
+            elif facts.status != Status.UNREAD:
                 self.remove(name)
         except OSError as fault:
             if fault.errno not in NO_NAMES:
                 raise
             why = "its name is too long for a file of an archive" if fault.errno == errno.ENAMETOOLONG else "another page has its place"
-            return making.Facts(facts.bytes, making.FAULT, why)
+            return making.Facts(facts.bytes, Status.NO_ROOM, why)
         return facts

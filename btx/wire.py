@@ -4,6 +4,7 @@ import re
 import socket
 import termios
 import tty
+from typing import Protocol
 
 from btx import files
 
@@ -15,30 +16,49 @@ MOST_PORT = 65535
 ANSWERS_IN = 20
 
 
+class Line(Protocol):
+    """A line that is open."""
+
+    sends: bool
+
+    def fileno(self) -> int:
+        """Its number, for the system."""
+
+    def read(self) -> bytes:
+        """What has come; empty bytes at the end of the line."""
+
+    def send(self, data: bytes) -> int:
+        """Sends what the line takes now, and answers how much that is."""
+
+    def close(self) -> None:
+        """Ends the line."""
+
+
 class Name:
     """A line as it is named: HOST:PORT, serial:DEVICE:BITS, or -."""
 
-    def __init__(self, text):
+    def __init__(self, text: str) -> None:
         self.text = text
         self.serial, self.host = SERIAL.fullmatch(text), HOST.fullmatch(text)
         if text != files.STANDARD and not (self.serial and hasattr(termios, f"B{self.serial[2]}")) and not self.is_host():
             raise ValueError(text)
 
-    def is_host(self):
-        return bool(self.host) and not self.text.startswith("serial:") and 0 < int(self.host[3]) <= MOST_PORT
+    def is_host(self) -> bool:
+        return self.host is not None and not self.text.startswith("serial:") and 0 < int(self.host[3]) <= MOST_PORT
 
-    def open(self):
+    def open(self) -> Line:
         """Opens the line; why that fails is raised with its name."""
         try:
             return self.opened()
         except OSError as fault:
             raise OSError(fault.errno, fault.strerror or str(fault), self.text) from None
 
-    def opened(self):
+    def opened(self) -> Line:
         if self.text == files.STANDARD:
             return Standard()
         if self.serial:
             return Serial(self.serial[1], getattr(termios, f"B{self.serial[2]}"))
+        assert self.host is not None, "a line with another name is refused as it is named"
         return Socket(self.host[1] or self.host[2], int(self.host[3]))
 
 
@@ -47,23 +67,23 @@ class Socket:
 
     sends = True
 
-    def __init__(self, host, port):
+    def __init__(self, host: str, port: int) -> None:
         self.socket = socket.create_connection((host, port), ANSWERS_IN)
         self.socket.setsockopt(socket.IPPROTO_TCP, socket.TCP_NODELAY, 1)
         self.socket.setblocking(False)
 
-    def fileno(self):
+    def fileno(self) -> int:
         return self.socket.fileno()
 
-    def read(self):
+    def read(self) -> bytes:
         """What has come; empty bytes at the end of the line."""
         return self.socket.recv(PIECE)
 
-    def send(self, data):
+    def send(self, data: bytes) -> int:
         """Sends what the line takes now, and answers how much that is."""
         return self.socket.send(data)
 
-    def close(self):
+    def close(self) -> None:
         self.socket.close()
 
 
@@ -72,7 +92,7 @@ class Serial:
 
     sends = True
 
-    def __init__(self, device, speed):
+    def __init__(self, device: str, speed: int) -> None:
         self.file = os.open(device, os.O_RDWR | os.O_NOCTTY | os.O_NONBLOCK)
         try:
             self.kept = termios.tcgetattr(self.file)
@@ -81,7 +101,7 @@ class Serial:
             os.close(self.file)
             raise OSError(fault.args[0], os.strerror(fault.args[0]).lower(), device) from None
 
-    def set(self, speed):
+    def set(self, speed: int) -> None:
         tty.setraw(self.file, termios.TCSANOW)
         words = termios.tcgetattr(self.file)
         words[2] |= termios.CLOCAL | termios.CREAD
@@ -89,16 +109,16 @@ class Serial:
         words[4] = words[5] = speed
         termios.tcsetattr(self.file, termios.TCSANOW, words)
 
-    def fileno(self):
+    def fileno(self) -> int:
         return self.file
 
-    def read(self):
+    def read(self) -> bytes:
         return os.read(self.file, PIECE)
 
-    def send(self, data):
+    def send(self, data: bytes) -> int:
         return os.write(self.file, data)
 
-    def close(self):
+    def close(self) -> None:
         try:
             termios.tcsetattr(self.file, termios.TCSANOW, self.kept)
         except termios.error:
@@ -112,12 +132,14 @@ class Standard:
 
     sends = False
 
-    def fileno(self):
+    def fileno(self) -> int:
         return files.INPUT
 
-    def read(self):
+    def read(self) -> bytes:
         return os.read(files.INPUT, PIECE)
 
-    def close(self):
-        pass
+    def send(self, data: bytes) -> int:
+        return 0
 
+    def close(self) -> None:
+        pass

@@ -16,8 +16,9 @@ PROVED = re.compile(r"^logic=proved .*", re.MULTILINE)
 def jobs():
     """How many processes share the proof: as many as processors, but no more than gain by it and than have memory."""
     with open("/proc/meminfo", encoding="ascii") as file:
-        free = 1024 * int(re.search(r"MemAvailable:\s+(\d+)", file.read())[1])
-    return max(1, min(JOBS, len(os.sched_getaffinity(0)), free // EACH))
+        free = re.search(r"MemAvailable:\s+(\d+)", file.read())
+    places = 1024 * int(free[1]) // EACH if free else 1
+    return max(1, min(JOBS, len(os.sched_getaffinity(0)), places))
 
 
 def words_of(folder, libraries):

@@ -163,6 +163,7 @@ def make(folder, binary):
     os.makedirs(folder, exist_ok=True)
     if not os.access(folder, os.W_OK | os.X_OK):
         raise Failed(f"{folder}: no package can be made there, since you may not write in it")
-    known = {"version": VERSION, "architecture": asked("dpkg", "--print-architecture"), "libc": os.confstr("CS_GNU_LIBC_VERSION").split(" ")[1]}
+    _, libc = (os.confstr("CS_GNU_LIBC_VERSION") or "glibc 0").split(" ")
+    known = {"version": VERSION, "architecture": asked("dpkg", "--print-architecture"), "libc": libc}
     names = PACKAGES if parts.is_built() else ("tamligub",)
     return [make_one(name, folder, binary, known) for name in names]

@@ -51,12 +51,13 @@ def chains(minutes, uses):
 def span(minutes, uses, lanes):
     """The minutes until all of these crates are done, so many at once, each after those on which it stands, those with the longest chain
     behind them first."""
-    behind, left, running, now = chains(minutes, uses), dict(minutes), {}, 0.0
+    behind, left, now = chains(minutes, uses), dict(minutes), 0.0
+    running: dict[str, float] = {}
     while left or running:
         ready = [name for name in left if not any(one in left or one in running for one in uses[name])]
         for name in sorted(ready, key=lambda one: -behind[one])[: lanes - len(running)]:
             running[name] = now + left.pop(name)
-        first = min(running, key=running.get)
+        first = min(running, key=lambda one: running[one])
         now = running.pop(first)
     return now
 

@@ -17,7 +17,8 @@ TAKING = 20
 
 def follow(lines, course, log):
     """Says of each crate when it is done, and how long the rest takes. Answers the lines of the crates that aren't proved."""
-    block, failed = [], []
+    block: list[str] = []
+    failed: list[str] = []
     for line in lines:
         log.write(line)
         if line.startswith("== "):

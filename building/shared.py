@@ -33,7 +33,8 @@ def pkg_config(prefix, libdir, includedir, version, is_searched):
 def version():
     """The version that the header says."""
     with open(module.HEADER, encoding="utf-8") as file:
-        return re.search(r'^#define TAMLIGUB_VERSION "(.*)"$', file.read(), re.MULTILINE)[1]
+        said, = re.findall(r'^#define TAMLIGUB_VERSION "(.*)"$', file.read(), re.MULTILINE)
+    return said
 
 
 def c_library():

@@ -44,7 +44,7 @@ def put_library(paths, out):
     """Puts what was made of the library into a folder, and takes away what an earlier build left there of the rest. Answers the paths."""
     for name in MADE:
         path = os.path.join(out, name)
-        if os.path.exists(path) and name not in map(os.path.basename, paths):
+        if os.path.exists(path) and name not in [os.path.basename(one) for one in paths]:
             os.remove(path)
     kept = [put(path, os.path.join(out, os.path.basename(path)), 0o644) for path in paths]
     wasm = os.path.join(out, "tamligub.wasm")

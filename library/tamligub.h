@@ -30,7 +30,7 @@ extern "C" {
 /* What is given after the word. Any other number means TAMLIGUB_NOTHING. */
 enum {
     TAMLIGUB_NOTHING = 0,
-    TAMLIGUB_PAGE = 1,            /* changes, check, show, cells, write, seven, eight */
+    TAMLIGUB_PAGE = 1,            /* changes, check, list, show, cells, write, seven, eight */
     TAMLIGUB_PAGE_AND_SCRIPT = 2, /* trace, edit; plot, whose script is a drawing */
     TAMLIGUB_NUMBER = 3,          /* gen, load */
     TAMLIGUB_PAGE_AND_NUMBER = 4  /* flash, whose number is 0 to 600 */
@@ -44,7 +44,7 @@ enum {
     TAMLIGUB_BAD_SCRIPT = 3, /* a line of the script can't be read; the text says which */
     TAMLIGUB_UNREAD = 4,     /* a number is given where the word takes a page or a script */
     TAMLIGUB_NO_ROOM = 5,    /* the text is longer than `room`: its front was written */
-    TAMLIGUB_NO_MEMORY = 6,  /* the words are right, and there is no memory for page, screen or text; no text */
+    TAMLIGUB_NO_MEMORY = 6,  /* there is no memory for a screen or a script; never of `gen`, `seven`, `eight` and wrong words; no text */
     TAMLIGUB_TOO_LONG = 7,   /* the page has more than 2^24 bytes, or the script more than 2^20 */
     TAMLIGUB_NOT_SEVEN = 8   /* `eight`: the page isn't in seven bits */
 };
@@ -55,13 +55,13 @@ enum {
  *   given   one of the numbers above
  *   number  0 to 4294967295; looked at only where a number is given
  *   page    0 to 2^24 bytes; looked at only where a page is given, as is the script, which has 0 to 2^20
- *   out     the text is written at its front, which has room for `room` bytes, of which 2^32 - 1 are used at most; what stands after
- *           the text stays
+ *   out     the text is written at its front, which has room for `room` bytes; what stands after the text stays
  *   put     how many bytes of text were written, at most `room`
  *
  * No pointer may be null, not even where the length is 0. `out` and `put` may overlap neither each other nor anything else that is
  * handed in; word, page and script may. What is handed in is read during the call alone, and nothing is kept between calls. Several
- * threads may call at once. The call takes memory by malloc, and gives all of it back. */
+ * threads may call at once. `gen`, `seven` and `eight` take no memory. The other words take it by malloc, and give all of it back; none is
+ * taken for the page or the text. */
 uint32_t tamligub_run(const uint8_t *word, size_t word_length, uint32_t given, uint32_t number,
                       const uint8_t *page, size_t page_length, const uint8_t *script, size_t script_length,
                       uint8_t *out, size_t room, uint64_t *put);
@@ -79,7 +79,7 @@ uint32_t tamligub_run(const uint8_t *word, size_t word_length, uint32_t given, u
  *   that are written stays as it is.
  * - The room for notices is that for a byte, or for a phase of flashing, or more. Where it is less nothing is done.
  *
- * A decoder takes all its memory by malloc when it is opened, about 400 KB; after that only tamligub_write and tamligub_snapshot take
+ * A decoder takes all its memory by malloc when it is opened, about 240 KB; after that only tamligub_write and tamligub_snapshot take
  * some, and give it back.
  * Where a call answers 1 no more was done than that `notices` is 0. */
 

@@ -1,5 +1,5 @@
 """The pages of this folder, each a function that gives its bytes. What a page shows is said in README.md."""
-from codes import *  # noqa: F403
+from codes import *  # noqa: F403 -- the drawings take every code by its name
 
 
 def title():

@@ -1,6 +1,7 @@
 """Mosaics by their geometry in dots. A dot belongs to an area where its middle is inside; no middle lies on an edge of any."""
 import functools
 import math
+from collections.abc import Callable
 
 WIDTH, HEIGHT = 12, 10
 # Where the columns and rows of blocks end: two across of six dots, three down of three, four and three.
@@ -144,7 +145,7 @@ def checks():
     return shape_where(lambda x, y: (x // 3 + sum(y >= edge for edge in (3, 5, 8))) % 2 == 0)
 
 
-KINDS = {
+KINDS: dict[str, Callable[..., list[str]]] = {
     "slope": slope, "quarters": quarters, "lines": lines, "slants": slants, "disc": disc, "ring": ring, "bar": bar, "checks": checks,
 }
 

@@ -1,6 +1,7 @@
 """Reads signs.txt: drawings of ten lines of twelve dots, and the words of mosaics that geometry draws."""
 import pathlib
 import re
+from typing import Any
 
 FILE = pathlib.Path(__file__).resolve().parent / "signs.txt"
 WIDTH, HEIGHT = 12, 10
@@ -35,7 +36,8 @@ def drawings_of(lines, number):
 
 def rows_in(lines):
     """The blocks of lines between empty ones, without comments, each with the number of its first line."""
-    block, first = [], 0
+    block: list[str] = []
+    first = 0
     for number, line in enumerate([*lines, ""], 1):
         if line == "#" or line.startswith("# "):
             continue
@@ -49,7 +51,8 @@ def rows_in(lines):
 
 def read(path=FILE):
     """The sections by their names: of drawings by their names, or of words by the code before them."""
-    sections, name = {}, None
+    sections: dict[str, dict[str, Any]] = {}
+    name = None
     for number, lines in rows_in(path.read_text("utf-8").splitlines()):
         found = SECTION.match(lines[0])
         if found:

@@ -12,7 +12,7 @@ import tempfile
 ROOT = os.path.dirname(os.path.dirname(os.path.dirname(os.path.abspath(__file__))))
 CASES = os.path.join(ROOT, "cases", "run")
 
-OF_A_PAGE = ("changes", "check", "show", "cells", "write", "seven", "eight")
+OF_A_PAGE = ("changes", "check", "list", "show", "cells", "write", "seven", "eight")
 OF_A_SCRIPT = ("trace", "edit", "plot")
 OF_A_NUMBER = ("gen", "load")
 OF_A_PAGE_AND_A_NUMBER = ("flash",)

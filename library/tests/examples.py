@@ -27,7 +27,7 @@ def feeds(program, tool):
     """Whether the example says of the worked page of cept_tool(1) what that page says there."""
     said = subprocess.run([tool], input=b"\x9B1\rB", stdout=subprocess.PIPE).stdout
     if said != b"2 bytes are refused\nrow 1, column 1: sign 42 of set 0\n":
-        print(f"example_feed says {said}")
+        print(f"example_feed says {said!r}")
         return False
     return True
 
@@ -82,7 +82,7 @@ def faults_on(screen, program, path):
 def over_a_port(tool, page, typed):
     """The output of the terminal for a page that comes in pieces over a port of this machine, and what it sent there."""
     with socket.create_server(("127.0.0.1", 0)) as server:
-        sent = []
+        sent: list[bytes] = []
 
         def serve():
             line, _ = server.accept()

@@ -1,40 +1,47 @@
 """Writes one file that shows stored pages being built, with viewer and data in it, to open or to send. With several pages it has an
 index with small pictures. Nothing in it is fetched from elsewhere, and no script runs in it but the viewer's own."""
+import argparse
 import base64
 import hashlib
 import json
 import os
 import re
+from collections.abc import Sequence
+from typing import Any
 
-from btx import files, program, recording, say
+from btx import files, modules, program, recording, say
 
 SUMMARY = "a file that shows pages being built, in a browser"
 VIEW = os.path.join(program.ROOT, "view")
-SCRIPT = re.compile(r'<script src="([\w.]+)"></script>\n?')
+# The first of the viewer's modules, as the document names it.
+ENTRY = "viewer.js"
+MODULE = f'<script type="module" src="{ENTRY}"></script>\n'
 DATA = '<script type="application/json" id="pages">[]</script>'
 # Each phase of the flash once, and back to the first; and the beginning of a line of one of these turns.
 TURNS = "6"
 TURNED = re.compile("^[1-9]", re.MULTILINE)
+# What the viewer needs of a page.
+Page = dict[str, Any]
 
 
-def arguments(parser):
-    parser.add_argument("pages", metavar="PAGE", nargs="+")
+def arguments(parser: argparse.ArgumentParser) -> None:
+    parser.add_argument("pages", metavar="PAGE", nargs="*", help="without one the viewer alone, which takes what is opened there")
     parser.add_argument("-o", "--output", metavar="FILE", help="where to write it; without this to standard output")
     recording.add_times(parser)
 
 
-def names_of(paths):
+def names_of(paths: Sequence[str]) -> list[str]:
     """A name for each page: its file's, or its path where two files have the same."""
     files = [os.path.basename(path).removesuffix(".btx") for path in paths]
     return [shown_name(file if files.count(file) == 1 else path) for file, path in zip(files, paths)]
 
 
-def shown_name(name):
+def shown_name(name: str) -> str:
     """A file's name as text that can be written; bytes that are no UTF-8 are escaped."""
     return os.fsencode(name).decode("utf-8", "backslashreplace")
 
 
-def page_of(path, name, page, timed=False):
+def page_of(path: program.Runner, name: str, page: str, timed: bool = False) -> Page:
     """What the viewer needs of a page: of one that flashes also what each turn changes, of a recording when its bytes came."""
     times = {"times": recording.times_of(page).pieces()} if timed else {}
     with files.read_again(page) as again:
@@ -46,37 +53,37 @@ def page_of(path, name, page, timed=False):
     return {"name": name, "changes": changes, "check": check, **turned, **times, "page": stored}
 
 
-def text_of(name):
+def text_of(name: str) -> str:
     with open(os.path.join(VIEW, name), encoding="utf-8") as file:
         return file.read()
 
 
-def sum_of(text):
+def sum_of(text: str) -> str:
     return "'sha256-" + base64.b64encode(hashlib.sha256(text.encode("utf-8")).digest()).decode("ascii") + "'"
 
 
-def data_of(value):
+def data_of(value: object) -> str:
     """A value as JSON that may stand in a script of a document."""
     return json.dumps(value, ensure_ascii=True, separators=(",", ":")).replace("<", "\\u003c")
 
 
-def with_policy(html, policy):
+def with_policy(html: str, policy: str) -> str:
     meta = f'<meta charset="utf-8">\n<meta http-equiv="Content-Security-Policy" content="{policy}">'
     return html.replace('<meta charset="utf-8">', meta, 1)
 
 
-def html_of(pages):
+def html_of(pages: Sequence[Page]) -> str:
     """The viewer's document with its style, scripts and pages inside. Its policy lets no other style or script in."""
     html, style = text_of("index.html"), text_of("style.css")
-    scripts = [text_of(name) for name in SCRIPT.findall(html)]
+    scripts = modules.scripts_of(VIEW, ENTRY)
     policy = f"default-src 'none'; img-src blob: data:; style-src {sum_of(style)}; script-src " + " ".join(map(sum_of, scripts))
-    head, tail = SCRIPT.sub("", with_policy(html, policy)).split(DATA)
+    head, tail = with_policy(html, policy).replace(MODULE, "").split(DATA)
     head = head.replace('<link rel="stylesheet" href="style.css">', f"<style>{style}</style>")
     inside = "\n".join(f"<script>{script}</script>" for script in scripts)
     return f'{head}<script type="application/json" id="pages">{data_of(pages)}</script>\n{inside}\n{tail.lstrip()}'
 
 
-def run(path, options):
+def run(path: program.Runner, options: argparse.Namespace) -> int:
     if options.pages.count(files.STANDARD) > 1:
         say("html: standard input is one page, and - stands more than once")
         return 2
