@@ -1,13 +1,14 @@
-// What the editor takes of the viewer's scripts (../view) and of what calls the module (../library/tamligub.js), as a module. These add to
-// the one name Tamligub, and run before. Of this file nothing stands in the page of `btx editor`, where the editor's modules add to the
-// same name: it is for Node and for the types.
+// What the editor takes of the viewer's modules (../view), and of what calls the module (../library/tamligub.js). In the page of `btx editor`
+// these stand before the editor's modules and add to the same name, so of this file nothing stands there: it is for Node and for the types.
 
-/** @typedef {import("./types.js").Shared} Shared */
+export { pixelsOf, readCells, readCheck, readFlash, readLook, readTrace, CELLS, COLUMNS, Looks, PHASES, ROWS } from "../view/text.js";
+export { unicodeOf } from "../view/signs.js";
+export { PICTURE } from "../view/dots.js";
+export { Painter } from "../view/paint.js";
+export { lastGrid } from "../view/film.js";
+export { Screen, TALL, paintStill } from "../view/screen.js";
 
-/** @type {Shared} */
-const tamligub = /** @type {any} */ (globalThis).Tamligub;
+/** @typedef {import("./types.js").Run} Run */
 
-export const {
-  COLUMNS, ROWS, CELLS, PHASES, TALL, PICTURE, Looks, Painter, Screen, lastGrid, paintStill, pixelsOf, readCells, readCheck, readFlash,
-  readLook, readTrace, run, unicodeOf,
-} = tamligub;
+/** @type {{ run: Run }} */
+export const { run } = /** @type {any} */ (globalThis).Tamligub;

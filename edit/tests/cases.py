@@ -6,6 +6,7 @@ import random
 import subprocess
 import unicodedata
 
+import access
 from hands import BLANK, CONTROL, ROOT, SHIFT
 
 PAGES = os.path.join(ROOT, "pages")
@@ -441,7 +442,7 @@ def lines_are_stepped_and_pointed_at(hand):
     script = "at 1 1\ntext AB\n\n# a comment\nrow 4\nat 2 3\nc1 13\ntext C\nundo\nredo\n"
     hand.write_script(script)
     assert hand.shown_script() == script, hand.shown_script()
-    changed = {}
+    changed: dict[int, set[int]] = {}
     for line in hand.put("trace", hand.written("stored.btx", b""), hand.written("lines.txt", script.encode())).decode().splitlines():
         number, row, column, _ = line.split(" ", 3)
         changed.setdefault(int(number), set()).add((int(row) - 1) * 40 + int(column) - 1)
@@ -768,6 +769,35 @@ def it_fits_small_screens(hand):
     hand.is_true(read(page("title")))
 
 
+PANELS = ("pen", "mosaic", "draw", "pattern", "sheet", "colours")
+
+
+def each_panel_serves_a_person_without_a_mouse(hand):
+    """Names, contrast, the way of the focus, and twice as large, over a page with refused items and a script with a bad line; and the help."""
+    hand.fresh(page("refused"), hand.written("bad.txt", b"at 3 4\ntext abc\nno such line\n"))
+    assert hand.text("script-fault"), "the bad line isn't told"
+    for panel in PANELS:
+        hand.tab_of(panel)
+        access.all_is_named(hand.tab, 25)
+        access.all_has_contrast(hand.tab)
+        access.the_focus_goes_through_all(hand.tab)
+        access.nothing_is_lost_twice_as_large(hand.tab)
+    hand.tab.value("Tamligub.part('help').click()")
+    access.all_has_contrast(hand.tab)
+    hand.tab.value("Tamligub.part('help-close').click()")
+
+
+def with_less_motion_nothing_moves(hand):
+    access.media(hand.tab, prefers_reduced_motion="reduce")
+    try:
+        hand.fresh(page("flashing"))
+        assert not hand.tab.value("Tamligub.part('flash').checked"), "it flashes"
+        hand.tab.value("Tamligub.part('typing').focus()")
+        access.nothing_moves(hand.tab)
+    finally:
+        access.media(hand.tab)
+
+
 def a_finger_places_the_caret(hand):
     hand.fresh(size=(820, 1180))
     x, y = hand.place(6, 7, 40, 24)
@@ -840,5 +870,6 @@ CASES = (
     lines_are_stepped_and_pointed_at, a_crash_loses_nothing, an_unsaved_page_is_asked_about, refused_items_are_told, what_is_kept,
     what_flashes_is_that_of_flash, letters_of_the_browsers_font_take_the_place_of_dots, tidying_takes_undone_lines_out,
     the_keyboard_alone_does_all, every_control_has_a_name_in_both_languages, it_fits_small_screens, a_finger_places_the_caret,
+    each_panel_serves_a_person_without_a_mouse, with_less_motion_nothing_moves,
     random_actions_show_what_the_program_says, lines_that_end_a_break_of_the_page_are_run_from_it, no_other_script_runs,
 )

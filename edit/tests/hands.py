@@ -127,7 +127,7 @@ class Hands:
         self.press(*self.place(column - 1, row - 1, 40, 24))
 
     def drag(self, start, end, wide=80, tall=72, canvas="page", steps=10):
-        (x, y), (to_x, to_y) = self.place(*start, wide, tall, canvas), self.place(*end, wide, tall, canvas)
+        (x, y), (to_x, to_y) = (self.place(across, down, wide, tall, canvas) for across, down in (start, end))
         self.mouse("mousePressed", x, y)
         for step in range(1, steps + 1):
             self.mouse("mouseMoved", x + (to_x - x) * step / steps, y + (to_y - y) * step / steps)

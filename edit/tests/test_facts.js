@@ -15,7 +15,7 @@ const MANUAL = textOf("docs/cept_tool.1");
 const MODULES = readdirSync(new URL("../", import.meta.url)).filter((name) => name.endsWith(".js") && !["editor.js", "shared.js"].includes(name));
 
 test("no module takes a name that the viewer's scripts have", async () => {
-  const taken = Object.keys(globalThis.Tamligub);
+  const taken = Object.keys(await import("../shared.js"));
   assert.ok(taken.includes("readTrace") && MODULES.length > 10);
   for (const name of MODULES) {
     const exported = Object.keys(await import(`../${name}`));

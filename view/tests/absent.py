@@ -10,7 +10,7 @@ import sys
 # The Debian package of each program, and of a library of Python.
 PACKAGES = {
     "c++": "g++", "cc": "gcc libc6-dev", "chromium": "chromium", "dpkg": "dpkg", "dpkg-deb": "dpkg", "ensurepip": "python3-venv",
-    "eslint": "eslint", "fish": "fish", "man": "man-db", "node": "nodejs", "parallel": "parallel",
+    "eslint": "eslint", "fish": "fish", "flake8": "flake8", "man": "man-db", "node": "nodejs", "parallel": "parallel",
     "lintian": "lintian", "mypy": "mypy", "npm": "npm", "numpy": "python3-numpy", "PIL": "python3-pil", "pkg-config": "pkg-config",
     "pyproject-build": "python3-build python3-setuptools python3-wheel", "pyte": "python3-pyte", "readelf": "binutils", "setpriv": "util-linux",
     "ssh": "openssh-client", "ssh-keygen": "openssh-client", "sshd": "openssh-server", "tmux": "tmux", "tsc": "node-typescript",

@@ -11,6 +11,7 @@ import time
 
 import absent
 
+
 def text_of(name):
     with open(os.path.join(os.path.dirname(os.path.abspath(__file__)), name), encoding="utf-8") as file:
         return file.read()
@@ -45,12 +46,33 @@ def is_right(case, tab, *given):
         faults = [str(fault)] + tab.faults
     tab.faults.clear()
     print(f"{'ok  ' if not faults else 'FAIL'} {case.__name__.replace('_', ' ')} ({time.monotonic() - begun:.1f} s)", flush=True)
-    for fault in faults[:8]:
-        print(f"     {fault[:2000]}")
+    for one in faults[:8]:
+        print(f"     {one[:2000]}")
     return not faults
 
 
+def suite(name, cases, tab, *given):
+    """Runs cases and prints how many hold. Answers whether all do."""
+    results = [is_right(case, tab, *given) for case in cases]
+    print(f"{name}: {results.count(True)} passed, {results.count(False)} failed")
+    return all(results)
+
+
+@contextlib.contextmanager
+def opened(what):
+    """A browser, which is closed at the end; None where this machine has none, which is said of what so is left out."""
+    program = absent.needed(what, "chromium")
+    tab = Browser(program[0]) if program else None
+    try:
+        yield tab
+    finally:
+        if tab:
+            tab.close()
+
+
 class Browser:
+    """A browser that stands by itself; `opened` has one as long as it is needed."""
+
     def __init__(self, program):
         self.profile = tempfile.TemporaryDirectory()
         out_read, self.writing = (fcntl.fcntl(end, fcntl.F_DUPFD, 20) for end in os.pipe())

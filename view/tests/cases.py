@@ -3,16 +3,13 @@ import json
 import os
 import re
 import subprocess
-import sys
 
+import access
 import browser
 from looks import want_of
 
 HERE = os.path.dirname(os.path.abspath(__file__))
 VIEW = os.path.dirname(HERE)
-sys.path.append(os.path.dirname(VIEW))
-from btx import looks as btx_looks  # noqa: E402
-from btx import painting  # noqa: E402
 
 PAGES = os.path.join(os.path.dirname(VIEW), "pages")
 BLANK = "- 11.00 FFF 000 S---"
@@ -71,6 +68,7 @@ class Stand:
         self.paths = [os.path.join(PAGES, file) for file in sorted(os.listdir(PAGES)) if file.endswith(".btx")]
         self.names = [os.path.basename(path)[: -len(".btx")] for path in self.paths]
         self.html = self.written("pages.html", self.paths)
+        self.bare = self.written("bare.html", [])
 
     def path(self, name):
         return os.path.join(PAGES, name + ".btx")
@@ -133,7 +131,7 @@ def go_to(tab, stand, name):
 
 def moments_of(changes):
     """Place, number of lines, and whether it is refused, of each command that changes cells and each refusal."""
-    moments = []
+    moments: list[list[int]] = []
     for line in changes.splitlines():
         refused = line[0] == "!"
         place = int(line.split(" ")[1 if refused else 0])
@@ -182,19 +180,6 @@ def taken(tab, stand, name, flash):
     parts = {"name": name, "changes": stand.put("changes", name), "check": None, "page": None, "flash": flash}
     tab.value(f"Tamligub.viewer.takeParts({json.dumps(parts)})")
     assert tab.value("Tamligub.part('fault').textContent") == "", tab.value("Tamligub.part('fault').textContent")
-
-
-def letters_are_in_dots(tab, stand):
-    """Each dot of each letter has the colour that btx gives it, by the same rule."""
-    opened(tab, stand)
-    for name in ("title", "signs"):
-        go_to(tab, stand, name)
-        letters = [(cell, look) for cell, look in enumerate(looks_at_end(stand, name)) if look[0] in "PS"]
-        middles = [((dot % 12 + 0.5) / 12, (dot // 12 + 0.5) / 10) for dot in range(120)]
-        found = tab.value(f"probe.colours({json.dumps([(cell, x, y) for cell, _ in letters for x, y in middles])})")
-        for at, (cell, look) in enumerate(letters):
-            wanted = painting.colours_of(btx_looks.look_of(look), 0, False)
-            assert found[120 * at : 120 * at + 120] == wanted, f"{name}: {look} at row {cell // 40 + 1}, column {cell % 40 + 1}"
 
 
 def letters_of_a_font_stand_in_their_cells(tab, stand):
@@ -267,8 +252,8 @@ def lines_of_flash_are_what_is_shown(tab, stand):
     tab.value("Tamligub.viewer.turn(0); Tamligub.viewer.player.step(-1)")
     assert tab.value("probe.colours([[0, 0.5, 0.5]])") == ["000000"], "before the end"
     tab.value("Tamligub.viewer.player.step(1); Tamligub.part('flash').click()")
-    turned = tab.value(f"clock.turn({4 * PHASE}), [Tamligub.viewer.screen.phase, ...probe.colours([[0, 0.5, 0.5]])]")
-    assert turned == [4, "00FF00"], f"after four turns {turned}"
+    here = tab.value(f"clock.turn({4 * PHASE}), [Tamligub.viewer.screen.phase, ...probe.colours([[0, 0.5, 0.5]])]")
+    assert here == [4, "00FF00"], f"after four turns {here}"
     tab.value("Tamligub.part('flash').click()")
     assert tab.value("[clock.waiting(), Tamligub.viewer.screen.phase]") == [0, None], "the clock goes on"
     parts["flash"] = f"0 1 1 {steady}\n"
@@ -345,61 +330,6 @@ def double_density_is_sharp(tab, stand):
     tab.size(1280, 1000)
 
 
-def each_command_repaints_its_cells_alone(tab, stand):
-    opened(tab, stand)
-    script = """(() => {
-      const { player, screen } = Tamligub.viewer;
-      const text = (id) => Tamligub.part(id).textContent;
-      const steps = [];
-      player.toStart();
-      while (player.film.moment < player.film.moments.length) {
-        const before = screen.painted;
-        player.step(1);
-        steps.push([player.come, screen.painted - before, text("count-last"), text("count-all"), text("count-whole")]);
-      }
-      return steps;
-    })()"""
-    for name in stand.names:
-        go_to(tab, stand, name)
-        found, total = tab.value(script), 0
-        moments = moments_of(stand.put("changes", name))
-        assert len(found) == len(moments), f"{name}: {len(found)} steps, {len(moments)} moments"
-        for count, (step, (place, lines, _)) in enumerate(zip(found, moments), 1):
-            total += lines
-            want = [place + 1, lines, f"{lines} of 960 cells", f"{total:,}", f"{960 * count:,}"]
-            assert step == want, f"{name}: step {count} is {step}, not {want}"
-
-
-def back_is_as_forward_and_as_a_whole_repaint(tab, stand):
-    opened(tab, stand)
-    script = """(() => {
-      const { player, screen } = Tamligub.viewer;
-      const forward = [];
-      const wrong = [];
-      player.toStart();
-      forward.push(probe.sum());
-      while (player.film.moment < player.film.moments.length) {
-        player.step(1);
-        forward.push(probe.sum());
-        if (player.film.moment % 9) continue;
-        screen.forget();
-        screen.show(player.film.grid);
-        if (probe.sum() !== forward[player.film.moment]) wrong.push(`whole ${player.film.moment}`);
-      }
-      while (player.film.moment) {
-        player.step(-1);
-        if (probe.sum() !== forward[player.film.moment]) wrong.push(`back ${player.film.moment}`);
-      }
-      return wrong;
-    })()"""
-    tab.size(640, 500)
-    for name in ("hold", "title"):
-        go_to(tab, stand, name)
-        wrong = tab.value(script)
-        assert not wrong, f"{name}: {wrong[:5]}"
-    tab.size(1280, 1000)
-
-
 def the_slider_shows_what_has_come(tab, stand):
     """After so many bytes exactly the commands have come whose place is less."""
     opened(tab, stand)
@@ -423,15 +353,6 @@ def the_slider_shows_what_has_come(tab, stand):
     tab.until(f"Tamligub.viewer.page.name === 'refused' && Tamligub.viewer.player.come === {length}")
 
 
-def the_text_is_that_of_show(tab, stand):
-    opened(tab, stand)
-    for name in stand.names:
-        go_to(tab, stand, name)
-        found = tab.value("Tamligub.viewer.film().text(false)").split("\n")
-        want = stand.put("show", name).split("\n")[:-1]
-        assert found[: len(want)] == want, f"{name}: {[(f, w) for f, w in zip(found, want) if f != w][:2]}"
-
-
 # Plays from the start at a speed, by a clock that goes on a millisecond at a time: how many moments have come after each, and how many
 # timers were due in all.
 PLAYED = """((bits, most) => {
@@ -448,44 +369,6 @@ PLAYED = """((bits, most) => {
   }
   return { come, due, bytes: player.come };
 })"""
-
-
-def is_played(played, places, length, bits):
-    """Whether each moment came with its byte: not before, and no later than a display shows the next of sixty pictures a second."""
-    for after, moments in enumerate(played["come"], 1):
-        most, least = (sum((place + 1) * 10000 <= bits * (after - late) + 1e-6 for place in places) for late in (0, FRAME))
-        assert least <= moments <= most, f"{bits} bit/s: after {after} ms {moments} moments have come, not {least} to {most}"
-    end = length * 10000 / bits
-    assert end <= len(played["come"]) <= end + FRAME + 1, f"{bits} bit/s: it ended after {len(played['come'])} ms, not {end:.0f}"
-    assert played["bytes"] == length, f"{bits} bit/s: it ended after {played['bytes']} bytes"
-    # One for each moment, and one for the end.
-    assert played["due"] <= len(places) + 1, f"{bits} bit/s: {played['due']} timers for {len(places)} moments"
-
-
-def pages_play_at_the_speed_of_the_line(tab, stand):
-    """A byte takes ten bits; between two moments nothing runs but the timer that waits for the next."""
-    opened_by_a_clock(tab, stand)
-    go_to(tab, stand, "title")
-    places = [moment[0] for moment in moments_of(stand.put("changes", "title"))]
-    length = os.path.getsize(stand.path("title"))
-    for bits in (1200, 2400, 9600):
-        is_played(tab.value(f"{PLAYED}({bits}, 100000)"), places, length, bits)
-    tab.value("document.activeElement.blur()")
-    tab.key("9")
-    tab.key("p")
-    assert tab.value("[Tamligub.viewer.player.speed, Tamligub.part('play-word').textContent]") == [9600, "Pause"], "the keys"
-    come = tab.value("clock.turn(100), Tamligub.part('play').click(), Tamligub.viewer.film().moment")
-    assert tab.value("[clock.waiting(), Tamligub.viewer.player.playing()]") == [0, False], "it isn't paused"
-    least, most = (sum((place + 1) * 10000 <= 9600 * after for place in places) for after in (100 - FRAME, 100))
-    assert least <= come <= most < len(places), f"{come} moments in 100 ms, not {least} to {most}"
-
-
-def nothing_runs_between_commands(tab, stand):
-    """A page of two commands with a gap of 60 bytes between them."""
-    with tab.beforehand(browser.CLOCK):
-        tab.open(stand.written("gap.html", [stand.kept("gap.btx", "A" + "\0" * 60 + "B")]))
-    is_played(tab.value(f"{PLAYED}(1200, 100000)"), [0, 61], 62, 1200)
-    assert tab.value("clock.waiting()") == 0, "a timer waits after the end"
 
 
 def a_recording_plays_in_its_own_time(tab, stand):
@@ -520,7 +403,10 @@ def keys_do_what_buttons_do(tab, stand):
     go_to(tab, stand, "title")
     moments = len(moments_of(stand.put("changes", "title")))
     tab.value("document.activeElement.blur()")
-    moment = lambda: tab.value("Tamligub.viewer.film().moment")
+
+    def moment():
+        return tab.value("Tamligub.viewer.film().moment")
+
     tab.key("Home", 36)
     assert moment() == 0, "Home"
     tab.key(".")
@@ -534,6 +420,12 @@ def keys_do_what_buttons_do(tab, stand):
         before = tab.value(f"Tamligub.part('{box}').checked")
         tab.key(key)
         assert tab.value(f"Tamligub.part('{box}').checked") is not before, f"{key} doesn't switch {box}"
+    tab.key("9")
+    tab.key("p")
+    assert tab.value("[Tamligub.viewer.player.speed, Tamligub.part('play-word').textContent]") == [9600, "Pause"], "speed and play"
+    tab.key("p")
+    assert tab.value("Tamligub.part('play-word').textContent") == "Play", "pause"
+    tab.key("End", 35)
     tab.value("Tamligub.part('letters').click(); document.activeElement.blur()")
     tab.key(",")
     assert moment() == moments, "letter keys are off, and one acted"
@@ -546,53 +438,49 @@ def keys_do_what_buttons_do(tab, stand):
     assert tab.value("Tamligub.part('cell-line').textContent").startswith("Row 2, column 2: "), "arrow keys"
 
 
-def all_controls_have_names_and_are_reached(tab, stand):
+def opened_for_access(tab, stand):
+    """The page with refusals, and all that can be folded open."""
     opened(tab, stand)
-    tab.value("document.querySelectorAll('details').forEach((one) => { one.open = true; })")
-    kinds = {"button", "checkbox", "combobox", "slider", "textbox", "link", "application", "DisclosureTriangle"}
-    nodes = [node for node in tab.call("Accessibility.getFullAXTree")["nodes"] if node.get("role", {}).get("value") in kinds]
-    unnamed = [node["role"]["value"] for node in nodes if not node.get("name", {}).get("value")]
-    assert len(nodes) > 20 and not unnamed, f"{len(nodes)} controls, without a name: {unnamed}"
-    tab.value("document.activeElement.blur(); window.scrollTo(0, 0)")
-    reached = set()
-    for _ in range(60):
-        tab.key("Tab", 9)
-        reached.add(tab.value("document.activeElement.id"))
-    wanted = set("screen bytes first back play forward last speed outline reveal font flash copy save".split())
-    wanted |= set("paste letters text file-changes file-page file-check file-flash".split())
-    assert wanted <= reached, f"Tab doesn't reach {wanted - reached}"
-
-
-def light_and_dark_have_contrast(tab, stand):
-    opened(tab, stand)
-    script = """(() => {
-      const light = (text) => {
-        const parts = text.match(/[\\d.]+/g).slice(0, 3).map((part) => part / 255);
-        const [r, g, b] = parts.map((part) => (part <= 0.03928 ? part / 12.92 : ((part + 0.055) / 1.055) ** 2.4));
-        return 0.2126 * r + 0.7152 * g + 0.0722 * b;
-      };
-      const ground = (element) => {
-        for (let one = element; one; one = one.parentElement) {
-          const colour = getComputedStyle(one).backgroundColor;
-          if (!/, 0\\)$/.test(colour)) return colour;
-        }
-      };
-      return ["h1", "#name", "dt", "dd", "#play", "summary", "#cell-line", "#refusals a", "#speed"].map((name) => {
-        const element = document.querySelector(name);
-        const [a, b] = [light(getComputedStyle(element).color), light(ground(element))];
-        return [name, (Math.max(a, b) + 0.05) / (Math.min(a, b) + 0.05), light(ground(element))];
-      });
-    })()"""
-    grounds = []
     go_to(tab, stand, "refused")
-    for scheme in ("light", "dark"):
-        tab.call("Emulation.setEmulatedMedia", features=[{"name": "prefers-color-scheme", "value": scheme}])
-        found = tab.value(script)
-        low = [(name, round(contrast, 1)) for name, contrast, _ in found if contrast < 4.5]
-        assert not low, f"{scheme}: too little contrast: {low}"
-        grounds.append(found[0][2])
-    tab.call("Emulation.setEmulatedMedia", features=[])
-    assert grounds[0] > 0.5 > grounds[1], f"light and dark grounds: {grounds}"
+    tab.value("document.querySelectorAll('details').forEach((one) => { one.open = true; })")
+
+
+def all_controls_have_names_and_are_reached(tab, stand):
+    opened_for_access(tab, stand)
+    access.all_is_named(tab, 20)
+    reached = access.the_focus_goes_through_all(tab)
+    wanted = (
+        "screen bytes first back play forward last speed outline reveal font flash copy save paste letters text "
+        "file-changes file-page file-check file-flash"
+    )
+    missed = [name for name in wanted.split() if f"#{name}" not in reached]
+    assert not missed, f"Tab doesn't reach {missed}"
+
+
+def text_and_controls_have_contrast(tab, stand):
+    opened_for_access(tab, stand)
+    access.all_has_contrast(tab)
+
+
+def nothing_is_lost_at_200_percent(tab, stand):
+    opened_for_access(tab, stand)
+    access.nothing_is_lost_twice_as_large(tab)
+
+
+def with_less_motion_nothing_moves(tab, stand):
+    """A page that flashes is shown at rest, each sign as it is seen, until the flash is asked for."""
+    tab.size(1280, 1000)
+    access.media(tab, prefers_reduced_motion="reduce")
+    try:
+        with tab.beforehand(browser.CLOCK):
+            tab.open(stand.html)
+        go_to(tab, stand, "flashing")
+        assert tab.value("[Tamligub.part('flash').checked, clock.waiting(), Tamligub.viewer.screen.phase]") == [False, 0, None], "it flashes"
+        access.nothing_moves(tab)
+        tab.value("Tamligub.part('flash').click()")
+        assert tab.value("clock.waiting()") == 1, "the flash that is asked for doesn't come"
+    finally:
+        access.media(tab)
 
 
 def refusals_are_listed_and_lead_to_their_moments(tab, stand):
@@ -660,7 +548,7 @@ def a_pointer_over_the_screen_names_the_cell(tab, stand):
 
 
 def text_that_is_no_changes_names_its_line(tab, stand):
-    tab.open(os.path.join(VIEW, "index.html"))
+    tab.open(stand.bare)
     good = "0 1 1 P41 11.00 FFF 000 S---\n"
     for text, number in (
         ("<b>hello</b>\n", 1),
@@ -681,7 +569,7 @@ def text_that_is_no_changes_names_its_line(tab, stand):
 
 
 def files_are_opened_and_dropped(tab, stand):
-    tab.open(os.path.join(VIEW, "index.html"))
+    tab.open(stand.bare)
     tab.value(PROBES)
     paths = {
         "file-changes": stand.kept("refused.changes", stand.put("changes", "refused")),
@@ -717,7 +605,7 @@ def files_are_opened_and_dropped(tab, stand):
 
 
 def the_text_of_flash_is_opened_and_dropped(tab, stand):
-    tab.open(os.path.join(VIEW, "index.html"))
+    tab.open(stand.bare)
     paths = {
         "file-changes": stand.kept("flashing.changes", stand.put("changes", "flashing")),
         "file-page": stand.path("flashing"),
@@ -777,8 +665,13 @@ def a_big_file_is_read_once(tab, stand):
         tab.open(stand.written("big.html", [page, stand.path("title")]))
     tab.until("work.of('paintStill').count === 2")
     assert tab.value("Tamligub.viewer.film().changes.count") == 50000, "there are other change lines"
-    of = lambda name: tab.value(f"work.of({json.dumps(name)})")
-    count = lambda *names: [of(name)["count"] for name in names]
+
+    def of(name):
+        return tab.value(f"work.of({json.dumps(name)})")
+
+    def count(*names):
+        return [of(name)["count"] for name in names]
+
     signs, lines = tab.value("[/[^]/g, /\\n/g].map((one) => Tamligub.viewer.pages.map((page) => page.changes.match(one).length))")
     assert of("readChanges") == {"count": 2, "size": sum(signs)}, f"texts of {signs} signs: {of('readChanges')}"
     assert count("embedded", "unpacked", "Film", "readCheck") == [1, 1, 1, 1], "the file is taken several times"
@@ -796,7 +689,7 @@ def a_big_page_is_painted_cell_by_cell(tab, stand):
     """A text of 50,000 change lines that is opened: to its end at once, a step, and to its start."""
     tab.size(1280, 1000)
     with tab.beforehand(browser.WORK):
-        tab.open(os.path.join(VIEW, "index.html"))
+        tab.open(stand.bare)
     script = """(() => {
       const inks = ["FFF", "F00", "0F0", "FF0", "00F", "F0F", "0FF"];
       const lines = [];
@@ -823,14 +716,15 @@ def a_big_page_is_painted_cell_by_cell(tab, stand):
 
 
 CASES = (
-    the_canvas_shows_the_cells, letters_are_in_dots, letters_of_a_font_stand_in_their_cells,
+    the_canvas_shows_the_cells, letters_of_a_font_stand_in_their_cells,
     flash_has_six_phases, without_the_flash_each_sign_is_seen, phases_by_the_lines_of_flash_are_those_of_the_looks,
     lines_of_flash_are_what_is_shown, files_have_the_lines_of_flash_where_a_page_flashes, the_text_of_flash_is_opened_and_dropped,
     the_flash_runs_only_where_something_flashes,
-    concealed_cells_show_when_revealed, double_density_is_sharp, each_command_repaints_its_cells_alone,
-    back_is_as_forward_and_as_a_whole_repaint, the_slider_shows_what_has_come, the_text_is_that_of_show,
-    nothing_runs_between_commands, pages_play_at_the_speed_of_the_line, a_recording_plays_in_its_own_time,
-    keys_do_what_buttons_do, all_controls_have_names_and_are_reached, light_and_dark_have_contrast,
+    concealed_cells_show_when_revealed, double_density_is_sharp,
+    the_slider_shows_what_has_come,
+    a_recording_plays_in_its_own_time,
+    keys_do_what_buttons_do, all_controls_have_names_and_are_reached, text_and_controls_have_contrast,
+    nothing_is_lost_at_200_percent, with_less_motion_nothing_moves,
     refusals_are_listed_and_lead_to_their_moments, no_byte_of_a_page_is_markup, a_cell_tells_its_line_and_bytes,
     a_pointer_over_the_screen_names_the_cell, text_that_is_no_changes_names_its_line, files_are_opened_and_dropped,
     the_index_has_small_pictures, the_picture_and_the_text_can_be_taken, a_big_page_is_painted_cell_by_cell,

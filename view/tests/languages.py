@@ -1,9 +1,7 @@
 """The cases of view/test that are about the viewer's two languages: each takes the browser's tab and the stand, and fails by an assertion."""
-import os
 import re
 
 import cases
-from cases import VIEW
 
 # What is seen, heard or read out: texts of elements that have no elements in them, and names.
 SEEN = """(() => {
@@ -23,18 +21,9 @@ def text(tab, part):
     return tab.value(f"Tamligub.part({part!r}).textContent")
 
 
-def both_tables_have_the_same_words(tab, stand):
-    cases.opened(tab, stand)
-    keys, values = (tab.value(f"['de', 'en'].map((one) => Object.{kind}(Tamligub.TABLES[one]))") for kind in ("keys", "values"))
-    assert keys[0] == keys[1], "the tables have other keys"
-    for key, german, english in zip(keys[0], *values):
-        names = [sorted(re.findall(r"\{(\w+)\}", one)) for one in (german, english)]
-        assert names[0] == names[1] or key == "notRead", f"{key} has other values"
-
-
 def all_that_is_said_changes_with_the_language(tab, stand):
     """In a file of pages and in the viewer without one, which names each control in both."""
-    for document in (stand.written("two.html", [stand.path("refused"), stand.path("title")]), os.path.join(VIEW, "index.html")):
+    for document in (stand.written("two.html", [stand.path("refused"), stand.path("title")]), stand.bare):
         tab.open(document)
         seen = {}
         for language in ("en", "de"):
@@ -72,7 +61,7 @@ def what_is_told_of_a_page_is_told_anew(tab, stand):
 
 def faults_are_told_anew(tab, stand):
     """But for the name of what was pasted, which it has from then on."""
-    tab.open(os.path.join(VIEW, "index.html"))
+    tab.open(stand.bare)
     tab.value("Tamligub.part('paste').value = 'hello\\n'; document.querySelector('#open button').click()")
     tab.until("Tamligub.part('fault').textContent !== ''")
     for language, said in (
@@ -98,6 +87,6 @@ def the_language_is_kept(tab, stand):
 
 
 CASES = (
-    both_tables_have_the_same_words, all_that_is_said_changes_with_the_language, what_is_told_of_a_page_is_told_anew, faults_are_told_anew,
+    all_that_is_said_changes_with_the_language, what_is_told_of_a_page_is_told_anew, faults_are_told_anew,
     the_language_is_kept,
 )

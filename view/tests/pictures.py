@@ -3,7 +3,7 @@ import os
 
 # A picture's name, its page (with the drawing on it that stands beside it, if one does), the byte up to which the page has come (None is
 # its end), and whether all of the viewer is shown.
-PICTURES = (
+PICTURES: tuple[tuple[str, str, int | None, bool], ...] = (
     ("viewer.png", "title", None, True),
     ("patterns.png", "patterns", None, False),
     ("boat.png", "boat", None, False),

@@ -41,6 +41,8 @@
 
   function withCounts(name, value) {
     if (name === "run") return countedRun(value);
+    // Its text is what a Worker is made of.
+    if (name === "calling") return value;
     if (typeof value === "function") {
       if (value.prototype) countMethods(name, value.prototype);
       return counted(name, value);
