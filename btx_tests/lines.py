@@ -1,5 +1,6 @@
 """What the tests of lines stand on: a host that does what a test says, the cells that a line has come to show at each stop, and a run of
 btx in a terminal."""
+import argparse
 import contextlib
 import fcntl
 import os
@@ -14,12 +15,11 @@ import sys
 import termios
 import threading
 import time
-import types
 
 import stand
 
 sys.path.insert(0, stand.ROOT)
-from btx import glass, keyboard, line, live, looks, wire  # noqa: E402
+from btx import glass, keyboard, line, live, looks, terminal, wire  # noqa: E402
 
 ROWS, COLUMNS = 30, 80
 
@@ -79,10 +79,10 @@ class Board:
     """Stands in the place of the terminal: it keeps what is painted, and of each painting how many bytes had come by then, the cells, and
     a decoder's snapshot."""
 
-    painter = None
-
     def __init__(self):
-        self.cells, self.stops, self.session = {}, [], None
+        self.painter: terminal.Screen = terminal.Painter(0, False)
+        self.cells, self.stops = {}, []
+        self.session: line.Session | None = None
 
     def begin(self, cells):
         self.cells |= cells
@@ -99,7 +99,10 @@ class Board:
     def shown(self):
         return {place: look for place, look in self.cells.items() if look != looks.BLANK}
 
-    def leave_page(self, *_):
+    def again(self, cells, position):
+        pass
+
+    def leave_page(self, cells, rows):
         pass
 
     def end(self):
@@ -109,7 +112,7 @@ class Board:
 def watched(name, patience=0, record=None, boards=None, begins=None):
     """What is shown of a line, in this process: its board, and why it ended. The board is put into a list before anything is read, and a
     condition may have to hold before that."""
-    options, board = types.SimpleNamespace(patience=patience, record=record), Board()
+    options, board = argparse.Namespace(patience=patience, record=record), Board()
     with contextlib.closing(wire.Name(name).open()) as one, live.Live() as decoder, glass.Signals() as signals:
         if boards is not None:
             boards.append(board)

@@ -3,22 +3,24 @@
 "use strict";
 const fs = require("node:fs");
 const path = require("node:path");
-const vm = require("node:vm");
+const { pathToFileURL } = require("node:url");
 
-const folder = path.join(path.dirname(__dirname), "view");
-const context = vm.createContext({ window: {} });
-for (const file of ["text.js", "shapes.js", "dots.js"]) {
-  vm.runInContext(fs.readFileSync(path.join(folder, file), "utf8"), context, { filename: file });
-}
-const { readLook, runsOf } = context.window.Tamligub;
+const view = (name) => import(pathToFileURL(path.join(path.dirname(__dirname), "view", name)));
 
 // The dots of a cell; where runs leave one out or paint one twice it isn't the cell's 120.
-function dotsOf([text, phase, revealed]) {
+function dotsOf(runs) {
   const dots = [];
-  for (const { colour, line, start, end } of runsOf(readLook(text), phase, revealed)) {
+  for (const { colour, line, start, end } of runs) {
     for (let column = start; column < end; column++) dots[12 * line + column] = colour.slice(1);
   }
   return dots.join(" ");
 }
 
-process.stdout.write(JSON.parse(fs.readFileSync(process.argv[2], "utf8")).map(dotsOf).join("\n") + "\n");
+async function main() {
+  const [{ readLook }, { runsOf }] = [await view("text.js"), await view("dots.js")];
+  const wanted = JSON.parse(fs.readFileSync(process.argv[2], "utf8"));
+  const lines = wanted.map(([text, phase, revealed]) => dotsOf(runsOf(readLook(text), phase, revealed)));
+  process.stdout.write(lines.join("\n") + "\n");
+}
+
+main();

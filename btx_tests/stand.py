@@ -10,6 +10,7 @@ import unittest
 ROOT = os.path.dirname(os.path.dirname(os.path.abspath(__file__)))
 sys.path.append(os.path.join(ROOT, "view", "tests"))
 import absent  # noqa: E402
+import browser  # noqa: E402
 
 # In seconds: what hasn't ended by then hangs, however much else the machine has to do.
 LONG = 600
@@ -104,6 +105,15 @@ class Case(unittest.TestCase):
         """Skips this test where there is no Pillow."""
         if not absent.has_library("PIL"):
             self.leave_out("PIL")
+
+    def browser(self):
+        """A browser, which is closed after this test; it is skipped where there is none."""
+        opened = browser.opened(f"btx_tests/run: {self.id()}")
+        tab = opened.__enter__()
+        self.addCleanup(opened.__exit__, None, None, None)
+        if not tab:
+            self.skipTest("there is no browser")
+        return tab
 
     def leave_out(self, name=None, why=None):
         """Skips this test, since a program is absent, or for another reason that the machine gives."""

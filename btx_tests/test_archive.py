@@ -12,13 +12,13 @@ import sys
 import time
 import urllib.parse
 import zlib
+from typing import Any
 
 import archives
 from archives import ODD, data_in, entries_in
 import pngs
 import stand
 
-import browser
 import looks as second_reading
 from btx import lists, looks, making, website
 
@@ -147,7 +147,7 @@ class Archive(archives.Case):
         self.small("title")
         self.archive(env=environment)
         with open(runs, encoding="ascii") as file:
-            self.assertEqual(sorted(file.read().split()), ["changes", "check"])
+            self.assertEqual(sorted(file.read().split()), ["changes", "list"])
         # The page was another one before its first run ended.
         page, = data_in(os.path.join(self.out, "pages", "title.btx.html"), "pages")
         with open(stand.page("title"), "rb") as file:
@@ -208,7 +208,8 @@ class Archive(archives.Case):
 
     def test_killed_it_leaves_no_run_behind(self):
         self.needs("setpriv")
-        for words in ([], ["--jobs-by", "parallel"]) if stand.there("parallel") else ([],):
+        ways: list[list[str]] = [[], *([["--jobs-by", "parallel"]] if stand.there("parallel") else [])]
+        for words in ways:
             with self.subTest(words):
                 runs, slow = self.waiting()
                 run = stand.begun("archive", self.source, "-o", self.out, "--jobs", "2", *words, env=stand.environment(BTX_PROGRAM=slow))
@@ -271,9 +272,9 @@ class Archive(archives.Case):
     def over_ssh(self, *words, **more):
         """An archive over two logins of this machine."""
         self.needs("parallel", "sshd", "ssh", "ssh-keygen")
-        words = [os.path.join(stand.ROOT, "btx_tests", "over_ssh"), self.source, self.out, *words]
-        keys = {"stdout": subprocess.PIPE, "stderr": subprocess.STDOUT, "env": stand.environment(**more), "timeout": stand.LONG}
-        done = subprocess.run(words, **keys)
+        command = [os.path.join(stand.ROOT, "btx_tests", "over_ssh"), self.source, self.out, *words]
+        keys: dict[str, Any] = {"stdout": subprocess.PIPE, "stderr": subprocess.STDOUT, "env": stand.environment(**more), "timeout": stand.LONG}
+        done = subprocess.run(command, **keys)
         if done.returncode == 77:
             self.leave_out(why=done.stdout.decode().strip())
         self.assertEqual(done.returncode, 0, done.stdout.decode())
@@ -291,8 +292,7 @@ class Archive(archives.Case):
 class Index(stand.Case):
     def setUp(self):
         super().setUp()
-        self.tab = browser.Browser(*self.needs("chromium"))
-        self.addCleanup(self.tab.close)
+        self.tab = self.browser()
 
     def archive(self, source):
         out = self.path("out")
@@ -368,9 +368,9 @@ class Index(stand.Case):
             self.choose("filter", choice)
             self.are(wanted)
         self.choose("filter", "all")
-        for search, wanted in (("50%", [ODD]), ("bildschirmtext größe", [ODD, "title.btx"]), ("segelboot zelle", ["boat.btx"]), ("nowhere", [])):
+        for search, *found in (("50%", ODD), ("bildschirmtext größe", ODD, "title.btx"), ("segelboot zelle", "boat.btx"), ("nowhere",)):
             self.choose("search", search)
-            self.are(wanted)
+            self.are(found)
         self.choose("search", "")
         self.choose("order", "refused")
         self.tab.until(f"{NAMES}[0] === 'refused.btx'")

@@ -10,6 +10,7 @@ import subprocess
 import sys
 import time
 import unittest.mock
+from typing import Any
 
 import stand
 import stub_kit
@@ -64,7 +65,7 @@ class Build(stand.Case):
             return file.read()
 
     def run_of(self, *words, status=0, **more):
-        keys = {"stdin": subprocess.DEVNULL, "stdout": subprocess.PIPE, "stderr": subprocess.PIPE, "timeout": 60, "text": True}
+        keys: dict[str, Any] = {"stdin": subprocess.DEVNULL, "stdout": subprocess.PIPE, "stderr": subprocess.PIPE, "timeout": 60, "text": True}
         done = subprocess.run([os.path.join(self.tree, words[0]), *words[1:]], **keys, env={**self.environment, **more})
         self.assertEqual(done.returncode, status, done.stderr)
         self.assertEqual(os.listdir(self.temporary), [])

@@ -9,6 +9,7 @@ import signal
 import time
 import unicodedata
 import unittest.mock
+from typing import Any
 
 import archives
 from archives import data_in, entries_in
@@ -144,7 +145,7 @@ class Taken(archives.Case):
     def test_names_that_are_no_utf_8_are_read_by_their_bytes(self):
         self.add(NO_UTF_8, "größe.btx")
         plain = stand.environment(LC_ALL="C", PYTHONUTF8="0", PYTHONCOERCECLOCALE="0")
-        for again, more in enumerate(({}, {"env": plain})):
+        for again, more in enumerate([dict[str, Any](), {"env": plain}]):
             self.assertIn(b"%d were there" % (2 * again), self.archive(**more).stdout)
             self.assertEqual({name: row["status"] for name, row in self.report().items()}, {SHOWN: "0", "größe.btx": "0"})
             entries = entries_in(self.out)
@@ -182,7 +183,7 @@ class Report(archives.Case):
         self.archive("--csv", "german")
         with open(os.path.join(self.out, "report.csv"), "rb") as file:
             data = file.read()
-        self.assertTrue(data.startswith(b"\xef\xbb\xbfpath;title;bytes;status;items;refused;meaning;sha256;alike\r\n"), data[:80])
+        self.assertTrue(data.startswith(b"\xef\xbb\xbfpath;title;bytes;status;items;refused;passed_over;meaning;sha256;alike\r\n"), data[:80])
         self.assertEqual(len(list(csv.DictReader(io.StringIO(data.decode("utf-8-sig")), delimiter=";"))), 6)
 
     def test_table_and_json_have_the_same(self):
@@ -199,6 +200,16 @@ class Report(archives.Case):
             self.assertEqual((row["bytes"], row["items"], row["refused"]), (len(page), int(items), int(refused)))
             self.assertEqual(row["sha256"], hashlib.sha256(page).hexdigest())
 
+    def test_bytes_that_a_unit_passes_over_are_counted(self):
+        # The colours' defaults, then two bytes up to the next unit; and a unit that isn't known, then one byte up to the end.
+        for name, page in (("colours.btx", "1F 26 21 41 42 1F 41 41 41"), ("unknown.btx", "1F 2F 7A 41")):
+            with open(os.path.join(self.source, name), "wb") as file:
+                file.write(bytes.fromhex(page))
+        self.archive()
+        report = self.report()
+        passed_over = {name: report[name]["passed_over"] for name in ("colours.btx", "unknown.btx", "'=1+1.btx")}
+        self.assertEqual(passed_over, {"colours.btx": "2", "unknown.btx": "1", "'=1+1.btx": "0"})
+
     def test_a_title_is_the_first_line_of_double_size_or_else_the_first(self):
         self.small("refused", "title")
         self.archive()
@@ -207,10 +218,11 @@ class Report(archives.Case):
         self.assertEqual({name: row["title"] for name, row in self.report().items()}, {"title.btx": "BILDSCHIRMTEXT", "refused.btx": first})
 
 
-class Terminal:
+class Terminal(io.StringIO):
     """What a terminal keeps of a line, and a clock that is turned."""
 
     def __init__(self):
+        super().__init__()
         self.text, self.now = "", 0
 
     def isatty(self):
@@ -218,9 +230,7 @@ class Terminal:
 
     def write(self, text):
         self.text = text
-
-    def flush(self):
-        pass
+        return len(text)
 
     def clock(self):
         return self.now

@@ -159,7 +159,7 @@ class Proofs(stand.Case):
 
     def words_of_the_code(self):
         """All words of the sources and the definitions of the crates."""
-        words = set()
+        words: set[str] = set()
         for place, _, names in os.walk(os.path.join(stand.ROOT, "crates")):
             if {"src", "specs"} & set(place.split(os.sep)):
                 texts = [text_of(os.path.join(os.path.relpath(place, stand.ROOT), name)) for name in names if name.endswith((".rt", ".antt"))]

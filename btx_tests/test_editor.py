@@ -1,7 +1,6 @@
 """The file with the page editor and the decoder in it. What it does is tested by edit/test."""
 import base64
 import json
-import os
 import re
 
 import stand

@@ -7,12 +7,20 @@ import os
 import re
 import subprocess
 import sys
+from typing import Any
 
 import stand
 
-LOADER = importlib.machinery.SourceFileLoader("parts", os.path.join(stand.ROOT, ".ci", "parts"))
-parts = importlib.util.module_from_spec(importlib.util.spec_from_loader("parts", LOADER))
-LOADER.exec_module(parts)
+
+def program_of(name):
+    """A program of the gate, as a module."""
+    loader = importlib.machinery.SourceFileLoader(name, os.path.join(stand.ROOT, ".ci", name))
+    found = importlib.util.module_from_spec(importlib.util.spec_from_loader(name, loader))
+    loader.exec_module(found)
+    return found
+
+
+parts, check_python = program_of("parts"), program_of("check_python")
 
 
 def part(name, line, after=None):
@@ -47,6 +55,13 @@ class Gate(stand.Case):
         said, good = self.said(part("high", f"cat {mark}", "low"), part("low", f"sleep 0.2; echo made > {mark}"))
         self.assertEqual((said.splitlines()[:2], good), (["== high: passed, N s", "made"], True))
 
+    def test_parts_that_are_named_run_alone(self):
+        all_parts = [part("low", "echo no"), part("high", "echo yes", "low")]
+        self.assertEqual(self.said(*parts.named_of(all_parts, ["high"]))[0].splitlines()[:2], ["== high: passed, N s", "yes"])
+        self.assertEqual(parts.named_of(all_parts, []), all_parts)
+        with self.assertRaisesRegex(SystemExit, "^other: no such part; these are there: low high$"):
+            parts.named_of(all_parts, ["low", "other"])
+
     def test_each_part_has_a_folder_of_its_own(self):
         said, good = self.said(part("a", "echo $TMPDIR; echo x > $TMPDIR/x"), part("b", "echo $TMPDIR; [ ! -e $TMPDIR/x ]"))
         self.assertEqual((len(set(re.findall("^/.*", said, re.MULTILINE))), good), (2, True))
@@ -56,20 +71,22 @@ class Gate(stand.Case):
         bare = self.path("bin")
         os.mkdir(bare)
         os.symlink(sys.executable, os.path.join(bare, "python3"))
-        tests = ("view/test", "view/test_decoder", "edit/test", "edit/check_scripts", "library/test", "library/test_web")
+        tests = ("view/test", "view/test_decoder", "edit/test", "edit/check_scripts", ".ci/check_python", "library/test", "library/test_web")
         lines = self.path("left_out")
         for test in tests:
-            given = {"edit/check_scripts": [], "library/test": [stand.program, "out"]}.get(test, [stand.program])
+            own: dict[str, list[str]] = {"edit/check_scripts": [], ".ci/check_python": [], "library/test": [stand.program, "out"]}
+            given = own.get(test, [stand.program])
             words = [os.path.join(stand.ROOT, test), *given]
-            keys = {"stdout": subprocess.PIPE, "stderr": subprocess.STDOUT, "timeout": stand.LONG}
+            keys: dict[str, Any] = {"stdout": subprocess.PIPE, "stderr": subprocess.STDOUT, "timeout": stand.LONG}
             done = subprocess.run(words, env=stand.environment(PATH=bare, TAMLIGUB_LEFT_OUT=lines), **keys)
             self.assertEqual(done.returncode, 0, (test, done.stdout))
         with open(lines, encoding="utf-8") as file:
             told = {(package, line.split(":")[1].strip()) for package, line in (one.split("\t") for one in file.read().splitlines())}
         wanted = {("nodejs", test) for test in ("view/test", "edit/test")} | {("chromium", test) for test in tests[:3]}
         wanted |= {("gcc libc6-dev", "library/test"), *((package, "edit/check_scripts") for package in ("node-typescript", "eslint"))}
+        wanted |= {(package, ".ci/check_python") for package in ("mypy", "flake8")}
         there = os.path.exists(stand.absent.MODULE)
-        wanted |= set() if there else {("binaryen", "edit/test")}
+        wanted |= {("nodejs" if there else "binaryen", "view/test_decoder")} | (set() if there else {("binaryen", "edit/test")})
         wanted |= {(package, "library/test_web") for package in (("nodejs", "chromium") if there else ("binaryen",))}
         self.assertEqual(told, wanted)
         with contextlib.redirect_stdout(io.StringIO()) as said:
@@ -78,6 +95,19 @@ class Gate(stand.Case):
         packages = sorted({one for package, _ in wanted for one in package.split()})
         self.assertEqual(first, f"== Left out, until apt-get install {' '.join(packages)}")
         self.assertEqual(len(rest), len(wanted))
+
+    def test_each_file_of_python_is_in_one_group_and_no_other(self):
+        self.assertEqual([*check_python.forgotten()], [])
+        files = check_python.all_files(check_python.GROUPS)
+        self.assertEqual(sorted(set(files)), sorted(files))
+        self.assertGreater(len(files), 150)
+
+    def test_a_check_is_turned_off_with_a_reason_beside_it(self):
+        off = "x = 1  # " + "type: ignore[name]"
+        for line, right in ((off, False), (off + "  # -- why", True), ("from a import *  # " + "noqa: F403", False), ("import a  # " + "noqa: E402", True)):
+            self.assertTrue(check_python.SUPPRESSED.search(line), line)
+            self.assertEqual(bool(check_python.REASON.search(line)), right, line)
+        self.assertEqual([*check_python.without_reason(check_python.GROUPS)], [])
 
     def test_the_first_line_of_contributing_installs_all_packages(self):
         with open(os.path.join(stand.ROOT, "CONTRIBUTING.md"), encoding="utf-8") as file:

@@ -146,8 +146,8 @@ class Requests(HostCase):
             ):
                 done = stand.btx("host", *words)
                 self.assertEqual((done.returncode, said in done.stderr.decode()), (4, True), done.stderr)
-        for words in (("--port", "x"), ("--port", "65536"), ("--port", "0", "--bits", "-1"), ("--port", "0", "--patience", "0"), ()):
-            self.assertEqual(stand.btx("host", self.path("pages"), *words).returncode, 2)
+        for line in ("--port x", "--port 65536", "--port 0 --bits -1", "--port 0 --patience 0", ""):
+            self.assertEqual(stand.btx("host", self.path("pages"), *line.split()).returncode, 2)
 
 
 class Guests(HostCase):

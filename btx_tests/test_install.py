@@ -9,6 +9,7 @@ import subprocess
 import sys
 import tempfile
 import xml.etree.ElementTree
+from typing import Any
 
 import stand
 from building import deb, parts, tree
@@ -18,7 +19,7 @@ INSTALL = os.path.join(stand.ROOT, "install")
 
 class Install(stand.Case):
     def run_of(self, *words, **more):
-        keys = {"stdout": subprocess.PIPE, "stderr": subprocess.PIPE, "timeout": stand.LONG, "env": self.bare()}
+        keys: dict[str, Any] = {"stdout": subprocess.PIPE, "stderr": subprocess.PIPE, "timeout": stand.LONG, "env": self.bare()}
         return subprocess.run(words, **{**keys, **more})
 
     def bare(self):
@@ -142,7 +143,7 @@ class Install(stand.Case):
 
     def test_the_completion_of_bash(self):
         script = self.written("btx.bash", stand.btx("completion", "bash").stdout)
-        for words, wanted in (
+        cases: list[tuple[list[str], list[str]]] = [
             (["btx", "te"], ["terminal"]), (["btx", "c"], ["cast", "changes", "check", "cells", "check-script", "colours.btx", "completion", "cut"]),
             (["btx", "terminal", "--re"], ["--reveal", "--replay"]), (["btx", "help", "ar"], ["archive"]),
             (["btx", "edit", "--o"], ["--output"]),
@@ -151,7 +152,8 @@ class Install(stand.Case):
             (["btx", "png", "-o", "boat.b"], ["boat.btx"]), (["btx", "png", "--scale", "boat.b"], []), (["btx", "gif", "--replay", "2"], ["2400"]),
             (["btx", "terminal", "--signs", "s"], ["sextants", "sixel"]), (["btx", "host", "exp"], ["expected"]), (["btx", "host", "--bits", "9"], ["9600"]),
             (["btx", "line", "--k"], ["--keys"]), (["btx", "cut", "boat.b"], ["boat.btx"]),
-        ):
+        ]
+        for words, wanted in cases:
             line = f". {script}; COMP_WORDS=({shlex.join(words)}); COMP_CWORD={len(words) - 1}; _btx; printf '%s\\n' \"${{COMPREPLY[@]}}\""
             found = self.run_of("bash", "-c", line, cwd=stand.PAGES)
             self.assertEqual(sorted(self.is_right(found).decode().split()), sorted(wanted), words)
@@ -299,7 +301,7 @@ class Install(stand.Case):
         folder = os.path.join(place.name, "closed")
         os.mkdir(folder, 0o555)
         # Root may write anywhere.
-        keys = {"user": 65534, "group": 65534, "extra_groups": []} if os.geteuid() == 0 else {}
+        keys: dict[str, Any] = {"user": 65534, "group": 65534, "extra_groups": []} if os.geteuid() == 0 else {}
         if subprocess.run(["test", "-x", INSTALL, "-a", "-x", stand.program], **keys).returncode:
             self.leave_out(why="another user can't read this checkout")
         here = f"{folder}: no package can be made there, since you may not write in it"

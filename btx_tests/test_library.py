@@ -61,7 +61,7 @@ class Library(stand.Case):
         page, script = stand.page("refused"), self.written("script", b"at 1 2\ntext XY\n")
         bad = self.written("bad", b"at 300 1\n")
         for request in (
-            *([word, page] for word in ("changes", "check", "show", "cells", "write", "seven", "eight")), ["trace", page, script],
+            *([word, page] for word in ("changes", "check", "list", "show", "cells", "write", "seven", "eight")), ["trace", page, script],
             ["edit", page, script], ["edit", page, bad], ["edit", "nowhere", bad], ["edit", page, "nowhere"], ["show", "nowhere"], ["show"],
             ["flash", page, "6"], ["flash", page, "601"], ["gen", "7"], ["load", "7"], ["gen", "4294967296"], ["show", stand.ROOT],
             ["terminal", page], ["svg", page], ["html", page], ["check-script", bad], ["cast", page], ["diff", page, stand.page("title")],

@@ -31,7 +31,7 @@ class Cells(lines.Case):
 
     def plays(self, data, size, bits):
         """A page in pieces at a speed, each shown before the next is sent. Answers the board."""
-        boards = []
+        boards: list[lines.Board] = []
 
         def act(host):
             sent = 0
@@ -87,7 +87,7 @@ class Cells(lines.Case):
             shown = line.Shown(decoder)
             shown.feed(file.read())
             shown.finish()
-            told = {}
+            told: looks.Cells = {}
             phases = {turn: [*group] for turn, group in itertools.groupby(
                 stand.put("flash", page, "6").decode().splitlines(), lambda text: int(text.split()[0]))}
             for turn in range(7):
@@ -115,7 +115,7 @@ class Cells(lines.Case):
             lines.until(lambda: boards and boards[0].stops)
             host.breaks_off()
 
-        boards = []
+        boards: list[lines.Board] = []
         board, end = lines.watched(self.host(act).name, boards=boards)
         self.assertEqual((end.status, str(end)), (4, "connection reset by peer, after 2 bytes"))
         self.assertEqual(board.shown(), self.cells(b"AB"))
@@ -179,8 +179,8 @@ class Words(lines.Case):
         self.ends([host.name, "--record", path], 0, "the line has ended", input=b"x" * 3, stdin=None)
         with open(path, "rb") as file:
             self.assertEqual(file.read(), b"\x0cABCDE")
-        with open(path + ".times", encoding="ascii") as file:
-            times = [[*map(int, text.split(" "))] for text in file.read().splitlines()]
+        with open(path + ".times", encoding="ascii") as kept:
+            times = [[*map(int, text.split(" "))] for text in kept.read().splitlines()]
         self.assertEqual(sum(length for _, length in times), 6)
         self.assertEqual([when for when, _ in times], sorted(when for when, _ in times))
         self.assertEqual(sum(length == 0 for _, length in times), 3)

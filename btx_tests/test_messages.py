@@ -136,7 +136,7 @@ class Messages(stand.Case):
         self.ends(["show", "x"], 127, "BTX_PROGRAM is nowhere", env=stand.environment(BTX_PROGRAM="nowhere"))
 
     def test_help_and_version(self):
-        program = ("changes", "check", "show", "cells", "write", "trace", "edit", "plot", "gen", "load")
+        program = ("changes", "check", "list", "show", "cells", "write", "trace", "edit", "plot", "gen", "load")
         for word in (*program, "terminal", "html", "png", "gif", "svg", "cast", "archive", "diff", "line", "cut", "host"):
             self.assertIn(f"usage: btx {word}".encode(), self.ends([word, "--help"], 0).stdout)
             self.assertIn(f"\n    {word} ".encode(), self.ends(["--help"], 0).stdout)

@@ -1,14 +1,21 @@
 """Scripts that are made of modules. What is wanted is what the text of a module says, and what Node makes of the scripts."""
 import json
 import os
+import re
 import subprocess
 
 import stand
-from btx import editor, modules
+from btx import editor, html_file, modules, viewer, website
 
 BASE = 'export const BASE = 7;\nexport function twice(number) {\n  return 2 * number;\n}\n'
-NAMES = 'import { BASE, twice } from "./base.js";\n\nconst secret = twice(BASE);\nexport const told = () => secret;\nexport async function later() {\n  return secret;\n}\n'
-ENTRY = '// Begins.\nimport {\n  later, told,\n} from "./names.js";\nimport { BASE } from "./base.js";\n\nexport class Sum {\n  of() {\n    return told() + BASE;\n  }\n}\n'
+NAMES = (
+    'import { BASE, twice } from "./base.js";\n\nconst secret = twice(BASE);\nexport const told = () => secret;\n'
+    "export async function later() {\n  return secret;\n}\n"
+)
+ENTRY = (
+    '// Begins.\nimport {\n  later, told,\n} from "./names.js";\nimport { BASE } from "./base.js";\n\n'
+    "export class Sum {\n  of() {\n    return told() + BASE;\n  }\n}\n"
+)
 
 
 class Modules(stand.Case):
@@ -44,6 +51,20 @@ class Modules(stand.Case):
         ends = "Tamligub.later().then((one) => console.log(new Tamligub.Sum().of(), one, Object.keys(Tamligub).join(), typeof secret))"
         self.assertEqual(self.ran(scripts, ends), "21 14 BASE,twice,told,later,Sum undefined\n")
 
+    def test_what_says_types_stands_in_no_script(self):
+        typed = (
+            "/** @typedef {number} Count */\n\n/**\n * Twice.\n * @param {Count} one\n */\n"
+            "export function twice(one) {\n  return 2 * /** @type {any} */ (one);\n}\n"
+        )
+        script, = modules.scripts_of(self.folder_of(entry=typed), "entry.js")
+        self.assertIn("\n\nfunction twice(one) {\n  return 2 * /** @type {any} */ (one);\n}\n", script)
+        self.assertNotIn("Count", script)
+
+    def test_scripts_of_several_leave_out_what_is_there(self):
+        folder = self.folder_of(base=BASE, names=NAMES, entry=ENTRY)
+        scripts = modules.scripts_of(folder, "names.js", "entry.js", without=["base.js"])
+        self.assertEqual(scripts, modules.scripts_of(folder, "entry.js")[1:])
+
     def test_what_stands_before_is_taken_and_not_made(self):
         self.folder_of(shared="export const { run } = globalThis.Tamligub;\n", entry='import { run } from "./shared.js";\nexport const ran = run();\n')
         scripts = modules.scripts_of(self.folder, "entry.js")
@@ -71,3 +92,17 @@ class Modules(stand.Case):
         names = [one.name for one in modules.modules_of(editor.EDIT, "editor.js")]
         wanted = {name for name in os.listdir(editor.EDIT) if name.endswith(".js")} - {modules.SHARED, "types.js"}
         self.assertEqual(sorted(names), sorted(wanted))
+
+    def test_the_viewer_and_an_archive_leave_no_module_out(self):
+        """All but what is there for the types stands in the viewer or in an archive; and what an archive's pages have is there before it is
+        taken, each once."""
+        wanted = {name for name in os.listdir(html_file.VIEW) if name.endswith(".js")} - {"types.js"}
+        found = {one.name for one in modules.modules_of(html_file.VIEW, html_file.ENTRY, *viewer.OWN, *website.SCRIPTS)}
+        self.assertEqual(sorted(found), sorted(wanted))
+        made = website.scripts_of()
+        for files in (("words.js", "viewer.js", "walk.js"), ("words.js", "archive.js")):
+            scripts = "".join(script for file in files for script in made[file])
+            given = [one for names in re.findall(r"Object\.assign\(tamligub, \{ (.*) \}\);\n\}\)", scripts) for one in names.split(", ")]
+            self.assertEqual(len(given), len(set(given)), files)
+            taken = {one for names in re.findall(r"^const \{ (.*) \} = tamligub;$", scripts, re.MULTILINE) for one in names.split(", ")}
+            self.assertLessEqual(taken, set(given), files)

@@ -189,7 +189,8 @@ class Svg(Case):
     def dots_of(self, root):
         """The dots of a drawing, which are those of its paths over its ground; none is painted twice."""
         ground = root.find(f"{SVG}rect").get("fill")[1:]
-        dots, painted = [[ground] * 480 for _ in range(240)], set()
+        dots = [[ground] * 480 for _ in range(240)]
+        painted: set[tuple[int, int]] = set()
         for path in root.iter(f"{SVG}path"):
             for left, top, width, height, back in re.findall(r"M(\d+) (\d+)h(\d+)v(\d+)h-(\d+)z", path.get("d")):
                 self.assertEqual(width, back)

@@ -5,7 +5,7 @@ import subprocess
 
 import stand
 
-WORDS = ("changes", "check", "show", "cells", "write", "trace", "edit", "gen", "load", "seven", "eight", "flash", "plot")
+WORDS = ("changes", "check", "list", "show", "cells", "write", "trace", "edit", "gen", "load", "seven", "eight", "flash", "plot")
 
 
 def listed(*words):

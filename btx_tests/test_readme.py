@@ -4,6 +4,7 @@ import re
 import shlex
 import shutil
 import subprocess
+from typing import Any
 
 import stand
 
@@ -52,7 +53,8 @@ class Readme(stand.Case):
 
     def run_in(self, tree, command, **more):
         bare = {name: value for name, value in stand.environment().items() if name != "BTX_PROGRAM"}
-        keys = {"stdin": subprocess.DEVNULL, "stdout": subprocess.PIPE, "stderr": subprocess.PIPE, "timeout": stand.LONG, "env": bare, "cwd": tree}
+        keys: dict[str, Any] = {"stdin": subprocess.DEVNULL, "stdout": subprocess.PIPE, "stderr": subprocess.PIPE, "timeout": stand.LONG}
+        keys |= {"env": bare, "cwd": tree}
         return subprocess.run(["bash", "-c", command], **{**keys, **more})
 
     def test_it_has_at_most_ninety_lines(self):
@@ -117,7 +119,7 @@ class Readme(stand.Case):
         """Whether the kit has a word, where it is on this machine."""
         rt = stand.there("rt")
         if rt:
-            keys = {"stdin": subprocess.DEVNULL, "stdout": subprocess.PIPE, "stderr": subprocess.STDOUT, "timeout": stand.LONG}
+            keys: dict[str, Any] = {"stdin": subprocess.DEVNULL, "stdout": subprocess.PIPE, "stderr": subprocess.STDOUT, "timeout": stand.LONG}
             self.assertRegex(subprocess.run([rt, "help"], **keys).stdout.decode(), rf"\brt (\w+\|)*{word}\b")
 
     def describes(self, command, options):

@@ -106,7 +106,8 @@ class Replays(Kept, lines.Case):
                 sent += len(piece)
                 lines.until(lambda: boards and boards[0].stops and boards[0].stops[-1][0] == sent)
 
-        boards, path = [], self.path("kept")
+        boards: list[lines.Board] = []
+        path = self.path("kept")
         board, _ = lines.watched(self.host(act).name, record=path, boards=boards)
         with open(path, "rb") as file:
             self.assertEqual(file.read(), DATA)

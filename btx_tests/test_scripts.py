@@ -26,7 +26,7 @@ def in_rows(things):
 
 
 def signs_of(row):
-    signs = []
+    signs: list[str] = []
     for point in row:
         if unicodedata.combining(point):
             signs[-1] += point
@@ -86,7 +86,8 @@ class Scripts(stand.Case):
         node, = self.needs("node")
         lines = [f"text {sign}" for sign in self.all_signs()] + ["", " ", "\t# Größe", "text", "text ", "text\tA", "  text  ü ", "text \tü"]
         lines += [" at  1\t2 ", "undo\t", "raw 41 ", "texts ü", "text A„ü", "text ö\u0301", "text \u0308", "#", "Text ü", "text A\u030aa"]
-        done = subprocess.run([node, "--input-type=module", "-e", LOADS], input=json.dumps(lines), capture_output=True, text=True, cwd=stand.ROOT, timeout=stand.LONG)
+        words = [node, "--input-type=module", "-e", LOADS]
+        done = subprocess.run(words, input=json.dumps(lines), capture_output=True, text=True, cwd=stand.ROOT, timeout=stand.LONG)
         self.assertEqual(done.returncode, 0, done.stderr)
         results = dict(zip(lines, json.loads(done.stdout)))
         good = [line for line, (_, unknown) in results.items() if not unknown and line not in ("text", "text ", "texts ü", "Text ü")]

@@ -69,7 +69,7 @@ class Signs(stand.Case):
                 self.assertNotEqual(codes[one], codes[other], f"{name} {one:02X} {other:02X}")
 
     def test_no_letter_is_like_one_with_an_accent(self):
-        seen = {}
+        seen: dict[str, str] = {}
         for name in ("P", *ACCENTS):
             for letter in LETTERS:
                 if (name, letter) == ("P+47", "i"):

@@ -11,6 +11,7 @@ import subprocess
 import termios
 import unicodedata
 import zlib
+from typing import Any
 
 import stand
 
@@ -65,11 +66,12 @@ class Signs(stand.Case):
 
     def test_sextants_stand_only_where_they_are_known(self):
         page = self.written("page", b"\x0e\x21")
-        for environment, known in (
+        cases: list[tuple[dict[str, str], bool]] = [
             ({"TERM": "xterm-kitty"}, True), ({"TERM": "foot"}, True), ({"TERM_PROGRAM": "WezTerm"}, True), ({"VTE_VERSION": "7200"}, True),
             ({"VTE_VERSION": "5202"}, False), ({"TERM": "xterm-256color"}, False), ({}, False),
             ({"TERM": "tmux-256color", "VTE_VERSION": "7200"}, False),
-        ):
+        ]
+        for environment, known in cases:
             clean = {"TERM": "", "TERM_PROGRAM": "", "VTE_VERSION": ""}
             text = self.run_of(page, env=stand.environment(**{**clean, **environment}))
             self.assertEqual("\U0001fb00" in text, known, environment)
@@ -136,7 +138,7 @@ class Asked(stand.Case):
         """What btx writes into a terminal that answers so, and what it says."""
         terminal, inside = pty.openpty()
         fcntl.ioctl(inside, termios.TIOCSWINSZ, struct.pack("HHHH", *size, 0, 0))
-        keys = {"stdin": inside, "stdout": inside, "stderr": subprocess.PIPE, "env": {**FULL, **variables}, "start_new_session": True}
+        keys: dict[str, Any] = {"stdin": inside, "stdout": inside, "stderr": subprocess.PIPE, "env": {**FULL, **variables}, "start_new_session": True}
         command = ["setsid", "--ctty", stand.BTX, "terminal", *words]
         run = subprocess.Popen(command, **keys)
         os.close(inside)

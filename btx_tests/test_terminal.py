@@ -7,6 +7,7 @@ import shlex
 import subprocess
 import time
 import unicodedata
+from typing import Any
 
 import stand
 
@@ -226,9 +227,9 @@ class Terminal(stand.Case):
 
         def ask(*words):
             # By a short name, since that of a socket has little room.
-            words = [tmux, "-f", "/dev/null", "-S", "socket", *words]
-            keys = {"stdout": subprocess.PIPE, "stderr": subprocess.STDOUT, "timeout": stand.LONG, "env": env, "cwd": self.folder}
-            done = subprocess.run(words, **keys)
+            command = [tmux, "-f", "/dev/null", "-S", "socket", *words]
+            keys: dict[str, Any] = {"stdout": subprocess.PIPE, "stderr": subprocess.STDOUT, "timeout": stand.LONG, "env": env, "cwd": self.folder}
+            done = subprocess.run(command, **keys)
             self.assertEqual(done.returncode, 0, done.stdout.decode())
             return done.stdout.decode()
 

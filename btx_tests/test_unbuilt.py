@@ -3,6 +3,7 @@ import os
 import shutil
 import subprocess
 import sys
+from typing import Any
 
 import stand
 
@@ -40,7 +41,7 @@ class Unbuilt(stand.Case):
         return path
 
     def run_of(self, *words, **more):
-        keys = {"stdin": subprocess.DEVNULL, "stdout": subprocess.PIPE, "stderr": subprocess.PIPE, "timeout": 60, "env": self.with_kit}
+        keys: dict[str, Any] = {"stdin": subprocess.DEVNULL, "stdout": subprocess.PIPE, "stderr": subprocess.PIPE, "timeout": 60, "env": self.with_kit}
         done = subprocess.run([os.path.join(self.tree, words[0]), *words[1:]], **{**keys, **more})
         self.assertFalse(os.path.exists(self.mark), "something was started")
         return done.returncode, done.stdout, done.stderr.decode()
@@ -49,7 +50,10 @@ class Unbuilt(stand.Case):
         """Each word of btx, as its help lists them, with what it needs after it."""
         text = self.run_of("bin/btx", "--help")[1].decode()
         words = [line.split()[0] for line in text.splitlines() if line.startswith("    ") and line[4] not in " W"]
-        after = {"archive": [stand.PAGES, "-o", self.path("website")], "cut": [stand.page("title"), "-o", self.path("pages")], "line": ["-"], "gen": ["1"], "load": ["1"], "viewer": [], "editor": [], "diff": [stand.page("title")] * 2}
+        after = {
+            "archive": [stand.PAGES, "-o", self.path("website")], "cut": [stand.page("title"), "-o", self.path("pages")], "line": ["-"],
+            "gen": ["1"], "load": ["1"], "viewer": [], "editor": [], "diff": [stand.page("title")] * 2,
+        }
         self.assertGreater(len(words), 15)
         return [[word, *after.get(word, [stand.page("title")])] for word in words if word not in ("completion", "host")]
 

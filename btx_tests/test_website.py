@@ -6,7 +6,7 @@ import urllib.parse
 import archives
 import stand
 
-import browser
+import access
 
 NAMES = "[...document.querySelectorAll('#tiles .name')].map((one) => one.textContent).join()"
 FOLDERS = "[...document.querySelectorAll('#folders a')].map((one) => one.textContent).join()"
@@ -21,8 +21,7 @@ OUTLINED = """(() => {
 class Website(archives.Case):
     def setUp(self):
         super().setUp()
-        self.tab = browser.Browser(*self.needs("chromium"))
-        self.addCleanup(self.tab.close)
+        self.tab = self.browser()
         self.small("boat", "refused")
         os.makedirs(os.path.join(self.source, "alt & neu", "größe"))
         shutil.copy(stand.page("title"), os.path.join(self.source, "alt & neu", "größe", "eins.btx"))
@@ -48,6 +47,21 @@ class Website(archives.Case):
 
     def click(self, text, where="a"):
         self.tab.value(f"[...document.querySelectorAll({where!r})].find((one) => one.textContent === {text!r}).click()")
+
+    def test_index_and_pages_serve_a_person_without_a_mouse(self):
+        """Names, contrast, the way of the focus, twice as large, and nothing that moves."""
+        self.archive()
+        access.media(self.tab, prefers_reduced_motion="reduce")
+        for name, least in (("index.html", 10), ("pages/boat.btx.html", 20)):
+            self.open(name)
+            if name == "index.html":
+                self.tab.until("document.querySelectorAll('#tiles a').length > 3")
+            access.all_is_named(self.tab, least)
+            access.all_has_contrast(self.tab)
+            access.the_focus_goes_through_all(self.tab)
+            access.nothing_is_lost_twice_as_large(self.tab)
+            access.media(self.tab, prefers_reduced_motion="reduce")
+            access.nothing_moves(self.tab)
 
     def test_from_page_to_page(self):
         self.archive()
@@ -109,7 +123,8 @@ class Website(archives.Case):
         self.archive()
         self.open()
         for search, wanted in (
-            ("grosse", "alt & neu/größe/eins.btx,alt & neu/größe/zwei.btx,zu\\xdf.btx"), ("GRÖSSE", "alt & neu/größe/eins.btx,alt & neu/größe/zwei.btx,zu\\xdf.btx"),
+            ("grosse", "alt & neu/größe/eins.btx,alt & neu/größe/zwei.btx,zu\\xdf.btx"),
+            ("GRÖSSE", "alt & neu/größe/eins.btx,alt & neu/größe/zwei.btx,zu\\xdf.btx"),
             ("gestorte", "refused.btx"), ("Übertragung", "refused.btx"), ("xdf", "zu\\xdf.btx"), ("", self.all),
         ):
             self.choose("search", search)

@@ -30,6 +30,11 @@ class Html(stand.Case):
         pages = self.data_in(stand.btx("html", *map(stand.page, names)).stdout)
         self.assertEqual([page.get("flash") for page in pages], [stand.put("flash", stand.page("flashing"), "6").decode(), None])
 
+    def test_without_a_page_it_is_the_viewer_alone(self):
+        done = stand.btx("html")
+        self.assertEqual((done.returncode, done.stderr, self.data_in(done.stdout)), (0, b"", []))
+        self.assertEqual(re.findall(rb"<script[^>]+(?:src|module)", done.stdout), [])
+
     def test_nothing_is_fetched(self):
         document = stand.btx("html", stand.page("title")).stdout
         self.assertEqual(re.findall(rb'(?:src|href)="(?!#)([^"]*)"', document), [])
