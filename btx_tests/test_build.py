@@ -65,7 +65,7 @@ class Build(stand.Case):
             return file.read()
 
     def run_of(self, *words, status=0, **more):
-        keys: dict[str, Any] = {"stdin": subprocess.DEVNULL, "stdout": subprocess.PIPE, "stderr": subprocess.PIPE, "timeout": 60, "text": True}
+        keys: dict[str, Any] = {"stdin": subprocess.DEVNULL, "stdout": subprocess.PIPE, "stderr": subprocess.PIPE, "timeout": stand.LONG, "text": True}
         done = subprocess.run([os.path.join(self.tree, words[0]), *words[1:]], **keys, env={**self.environment, **more})
         self.assertEqual(done.returncode, status, done.stderr)
         self.assertEqual(os.listdir(self.temporary), [])
@@ -129,15 +129,12 @@ class Build(stand.Case):
 
     def is_gone(self, process):
         """Whether a process has ended; one that nobody has waited for yet has."""
-        for _ in range(100):
-            try:
-                with open(f"/proc/{process}/stat", encoding="ascii") as file:
-                    if file.read().rsplit(")", 1)[1].split()[0] == "Z":
-                        return True
-            except OSError:
-                return True
+        end = time.monotonic() + stand.LONG
+        while stand.is_running(process):
+            if time.monotonic() > end:
+                return False
             time.sleep(0.05)
-        return False
+        return True
 
     def test_what_keeps_a_module_from_being_made_is_said_first(self):
         self.run_of("build")
@@ -181,7 +178,9 @@ class Plan(stand.Case):
         course = plan.Plan(["cept_codes", "cept_profile"], 2)
         course.done("cept_codes", True)
         with contextlib.redirect_stderr(said), unittest.mock.patch.object(proving, "TAKING", 0.01), proving.told_later(course):
-            time.sleep(0.5)
+            end = time.monotonic() + stand.LONG
+            while not said.getvalue().endswith("\n") and time.monotonic() < end:
+                time.sleep(0.01)
         self.assertRegex(said.getvalue(), r"^build: 1 of 2 crates are proved anew, in (less than a|about \d+) minutes? on 2 processors\n$")
         with contextlib.redirect_stderr(said), proving.told_later(course):
             pass

@@ -41,7 +41,7 @@ class Unbuilt(stand.Case):
         return path
 
     def run_of(self, *words, **more):
-        keys: dict[str, Any] = {"stdin": subprocess.DEVNULL, "stdout": subprocess.PIPE, "stderr": subprocess.PIPE, "timeout": 60, "env": self.with_kit}
+        keys: dict[str, Any] = {"stdin": subprocess.DEVNULL, "stdout": subprocess.PIPE, "stderr": subprocess.PIPE, "timeout": stand.LONG, "env": self.with_kit}
         done = subprocess.run([os.path.join(self.tree, words[0]), *words[1:]], **{**keys, **more})
         self.assertFalse(os.path.exists(self.mark), "something was started")
         return done.returncode, done.stdout, done.stderr.decode()

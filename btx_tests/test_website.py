@@ -201,17 +201,17 @@ class Website(archives.Case):
         self.assertGreater(self.tab.value(OUTLINED), 0)
         seen = "['outlines', 'page', 'walk', 'bytes', 'text-part'].filter((id) => document.getElementById(id).getClientRects().length).join()"
         self.tab.call("Emulation.setEmulatedMedia", media="print")
-        self.assertEqual(self.tab.value(seen), "page")
+        self.shows(seen, "page")
         self.tab.call("Emulation.setEmulatedMedia", media="screen")
-        self.assertEqual(self.tab.value(seen), "outlines,page,walk,bytes,text-part")
+        self.shows(seen, "outlines,page,walk,bytes,text-part")
 
     def test_a_phone_has_the_whole_page_in_its_width(self):
         self.archive()
         self.open("pages/alt%20&%20neu/größe/eins.btx.html".replace("%20", " "))
-        self.tab.size(360, 740, 2)
+        access.laid_out(self.tab, 360, 740, 2)
         self.tab.until("document.getElementById('page').getBoundingClientRect().width <= 360")
         self.assertLessEqual(self.tab.value("document.documentElement.scrollWidth"), 360)
         self.assertEqual(self.tab.value(OUTLINED), 0)
         self.open()
-        self.tab.size(360, 740, 2)
+        access.laid_out(self.tab, 360, 740, 2)
         self.assertLessEqual(self.tab.value("document.documentElement.scrollWidth"), 360)

@@ -747,23 +747,19 @@ def every_control_has_a_name_in_both_languages(hand):
         seen[language] = [name for _, name in found]
     other = sum(one != two for one, two in zip(seen["de"], seen["en"]))
     assert other > 80, f"only {other} names differ between the languages"
-    tree = hand.tab.call("Accessibility.getFullAXTree")["nodes"]
-    kinds = ("button", "textbox", "combobox", "slider", "tab", "spinbutton", "checkbox")
-    bare = [node for node in tree if not node.get("ignored") and node["role"]["value"] in kinds and not node.get("name", {}).get("value")]
-    assert not bare, bare[:2]
+    access.all_is_named(hand.tab, 25)
 
 
 def it_fits_small_screens(hand):
     hand.fresh(page("title"))
     for width, height in ((1024, 700), (1280, 800), (768, 1024), (820, 1180)):
-        hand.tab.size(width, height)
-        hand.tab.until(f"window.innerWidth === {width} && window.innerHeight === {height}")
+        access.laid_out(hand.tab, width, height)
         for panel in ("pen", "mosaic", "draw", "pattern", "sheet", "colours"):
             hand.tab.value(f"Tamligub.part('tab-{panel}').click()")
             wide, high = hand.tab.value("[document.documentElement.scrollWidth, document.documentElement.scrollHeight]")
             assert wide <= width, f"{panel} is wider than {width}: {wide}"
             assert (width, height) != (1024, 700) or high <= 712, f"{panel} at 1024 by 700 is {high} high"
-    hand.tab.size(768, 1024)
+    access.laid_out(hand.tab, 768, 1024)
     hand.cell(5, 5)
     hand.type("x")
     hand.is_true(read(page("title")))
