@@ -13,7 +13,7 @@ use Rattle.cept_codes.specs.Table.{row_of, value_at, entry, list_by_index, IsTab
 use Rattle.cept_codes.proofs.Laws.{table-value_at, same_table, set_is, rows_are, set_row_is, entry-list_by_index}
 use Rattle.cept_codes.proofs.Laws.{length-list_by_index}
 use Rattle.cept_codes.proofs.Laws.{entry_from}
-use Rattle.cept_cells.specs.Erased.{cell_after_erasing}
+use Rattle.cept_cells.specs.inside.Erased.{cell_after_erasing}
 use Rattle.cept_cells.specs.declared.grid.TheConstants.{BLANK_ROW}
 use Rattle.cept_profile.specs.Cells.{is_at, cell_after, cells_after}
 

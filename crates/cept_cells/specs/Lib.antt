@@ -1,3 +1,3 @@
-pub mod Erased
 pub mod Freed
 pub mod Replaced
+pub mod inside

@@ -9,7 +9,7 @@ ghost use Rattle.cept_codes.specs.Stroke.{IsValidStroke};
 ghost use Rattle.cept_codes.specs.Table.{table, value_at, entry, list_by_index, IsTable};
 ghost use Rattle.cept_profile.specs.Cells.{cells_after};
 ghost use Rattle.cept_scroll.specs.Order.{rows_turned};
-ghost use Rattle.cept_cells.specs.Erased.{cell_after_erasing};
+ghost use Rattle.cept_cells.specs.inside.Erased.{cell_after_erasing};
 ghost use Rattle.cept_cells.specs.Freed.{cells_freed};
 ghost use Rattle.cept_cells.specs.Replaced.{cells_with};
 

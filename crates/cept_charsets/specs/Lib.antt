@@ -1,1 +1,2 @@
 pub mod Rendition
+pub mod inside

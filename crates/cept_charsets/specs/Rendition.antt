@@ -1,5 +1,5 @@
 -- The rendition of signs in Unicode. It is this project's own. The marks are those of the accents of ISO 6937.
-use Rattle.std.specs.Prelude.{◌≡◌, ◌<◌, ℕ, ◌+◌, ◌-◌, Bool, ◌&&◌, Option, Some, None, List, [], ◌∷◌, ◌++◌, length}
+use Rattle.std.specs.Prelude.{ℕ, ◌+◌, ◌-◌, Bool, ◌&&◌, Option, Some, None, List, [], ◌∷◌, ◌++◌, length}
 use Rattle.std.specs.Prelude.{slice_index, option_to_list, encode_utf8_all, nat_lt, nat_le, ◌==◌, if◌then◌else◌}
 use Rattle.cept_codes.specs.declared.glyph.Glyph.{Glyph}
 use Rattle.cept_codes.specs.declared.glyph.SetId.{SetId}
@@ -52,11 +52,6 @@ point_in [] code = 0xFFFD
 point_in (r ∷ rows) code =
     if stands_in r code then slice_index r.points (code - r.first)
     else point_in rows code
-
--- a code point that renders a code of a column, of the first plane
-pub record IsPointIn (column : List Row) (code point : ℕ) : Type 0 where
-  pub is : point ≡ point_in column code
-  pub small : point < 0x1_0000
 
 -- the point of a code of set S
 abbrev pub supplementary_point : ℕ → ℕ

@@ -1,6 +1,7 @@
 ghost use Rattle.std.specs.Prelude.{◌≡◌, ◌/◌, ◌<◌};
 ghost use Rattle.cept_charsets.specs.Rendition.{column_2, column_3, column_5, column_6, column_7};
-ghost use Rattle.cept_charsets.specs.Rendition.{IsPointIn, supplementary_point};
+ghost use Rattle.cept_charsets.specs.Rendition.{supplementary_point};
+ghost use Rattle.cept_charsets.specs.inside.Rendition.{IsPointIn};
 
 /// A code of set `S` in Unicode: U+FFFD where the set leaves it unassigned.
 #[tactic(auto, unfolding(crate::specs::Rendition::supplementary_rows))]

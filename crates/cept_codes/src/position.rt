@@ -198,7 +198,7 @@ impl Model for Pos {
 }
 
 impl Pos {
-    ghost use Rattle.cept_codes.specs.Place.{OnScreen, number, place_of};
+    ghost use Rattle.cept_codes.specs.Place.{IsColumn, IsRow, OnScreen, number, place_of};
 
     /// The position in this row and column, `None` where there is no such position.
     pub fn new(row: u8, col: u8) -> Option<Pos>
@@ -259,7 +259,7 @@ impl Pos {
     #[inline(always)]
     pub fn in_row(&self) -> Row
         ensures row { result ≡ self.now.row }
-        ensures on_screen { OnScreen self.now.row self.now.column }
+        ensures in_range { IsRow self.now.row }
     {
         Row { number: self.row }
     }
@@ -268,7 +268,7 @@ impl Pos {
     #[inline(always)]
     pub fn in_column(&self) -> Column
         ensures column { result ≡ self.now.column }
-        ensures on_screen { OnScreen self.now.row self.now.column }
+        ensures in_range { IsColumn self.now.column }
     {
         Column {
             number: self.column,

@@ -1,2 +1,2 @@
 pub mod Colours
-pub mod Inside
+pub mod Fields

@@ -18,7 +18,7 @@ pub struct Colours {
 
 impl Model for Colours {
     ghost use Rattle.cept_colours.specs.Colours.{ColourTables, HasValidColours};
-    ghost use Rattle.cept_colours.specs.Inside.{tables_of, fields_of};
+    ghost use Rattle.cept_colours.specs.Fields.{tables_of, fields_of};
 
     ghost Value = { ColourTables };
 

@@ -2,7 +2,7 @@ ghost use Rattle.std.specs.Prelude.{◌≡◌, ◌≤◌, length};
 ghost use Rattle.std.specs.List.{AllByRecursion};
 ghost use Rattle.cept_codes.specs.Command.{IsValidCommand};
 ghost use Rattle.cept_codes.specs.Stroke.{IsValidStroke};
-ghost use Rattle.cept_control.specs.Taking.{CanTake};
+ghost use Rattle.cept_control.specs.inside.Taking.{CanTake};
 ghost use Rattle.cept_profile.specs.Control.{control_after, initial_control, control_effect};
 ghost use Rattle.cept_profile.specs.Control.{state_for_effect};
 ghost use Rattle.cept_profile.specs.Strokes.{strokes_of, strokes_when};
@@ -32,7 +32,7 @@ impl Model for Control {
     ghost Value = { ControlState };
 
     ghost use Rattle.cept_profile.specs.Valid.{IsValidControl};
-    ghost use Rattle.cept_control.specs.Inside.{state_of, state_fields};
+    ghost use Rattle.cept_control.specs.Fields.{state_of, state_fields};
 
     ghost view = { state_of };
 

@@ -1,7 +1,7 @@
 ghost use Rattle.std.specs.Prelude.{◌≡◌, ◌+◌, ◌≤◌, ◌⊎◌, ◌++◌, length, IfSome};
 ghost use Rattle.cept_codes.specs.Command.{IsGraphic};
 ghost use Rattle.cept_codes.specs.Glyph.{IsValidGlyph};
-ghost use Rattle.cept_control.specs.Taking.{CanTake};
+ghost use Rattle.cept_control.specs.inside.Taking.{CanTake};
 ghost use Rattle.cept_profile.specs.Control.{control_effect, control_with};
 ghost use Rattle.cept_profile.specs.Sets.{IsAccent, IsValidRead};
 ghost use Rattle.cept_profile.specs.Strokes.{strokes_when};

@@ -1,7 +1,7 @@
 ghost use Rattle.std.specs.Prelude.{◌≡◌, ◌+◌, ◌≤◌, ◌⊎◌, ◌++◌, length, IfSome};
 ghost use Rattle.cept_codes.specs.Cell.{IsValidMarker};
 ghost use Rattle.cept_codes.specs.Command.{IsC1};
-ghost use Rattle.cept_control.specs.Taking.{CanTake};
+ghost use Rattle.cept_control.specs.inside.Taking.{CanTake};
 ghost use Rattle.cept_profile.specs.Control.{control_effect, control_with};
 ghost use Rattle.cept_profile.specs.Markers.{marker_of, run_after, step_after};
 ghost use Rattle.cept_profile.specs.Markers.{strokes_of_marker};

@@ -1,6 +1,6 @@
 ghost use Rattle.std.specs.Prelude.{◌≡◌, ◌≤◌, ◌<◌, ◌++◌, length};
 ghost use Rattle.cept_codes.specs.Place.{OnScreen};
-ghost use Rattle.cept_control.specs.Taking.{CanTake};
+ghost use Rattle.cept_control.specs.inside.Taking.{CanTake};
 ghost use Rattle.cept_profile.specs.Control.{working_at, control_effect, working_without_pen};
 ghost use Rattle.cept_profile.specs.Control.{working_without_run, control_with};
 ghost use Rattle.cept_profile.specs.Motions.{working_ahead, row_above, row_below};

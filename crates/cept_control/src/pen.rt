@@ -2,7 +2,7 @@ ghost use Rattle.std.specs.Prelude.{◌≡◌, ◌≤◌, [], true, false, IfSom
 ghost use Rattle.cept_codes.specs.Attribute.{IsValidAttr, IsValidPen};
 ghost use Rattle.cept_codes.specs.Command.{IsC1, IsValidCommand};
 ghost use Rattle.cept_control.specs.AttributeCode.{is_attribute_code};
-ghost use Rattle.cept_control.specs.Taking.{CanTake};
+ghost use Rattle.cept_control.specs.inside.Taking.{CanTake};
 ghost use Rattle.cept_profile.specs.Control.{control_after, control_effect};
 ghost use Rattle.cept_profile.specs.Edges.{edges_of};
 ghost use Rattle.cept_profile.specs.Strokes.{strokes_of, strokes_when};

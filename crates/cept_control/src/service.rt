@@ -1,5 +1,5 @@
 ghost use Rattle.std.specs.Prelude.{◌≡◌, ◌≤◌, ◌⊎◌};
-ghost use Rattle.cept_control.specs.Taking.{CanTake};
+ghost use Rattle.cept_control.specs.inside.Taking.{CanTake};
 ghost use Rattle.cept_profile.specs.Control.{control_effect};
 ghost use Rattle.cept_profile.specs.Control.{control_with, working_by_default};
 ghost use Rattle.cept_profile.specs.Strokes.{strokes_when};

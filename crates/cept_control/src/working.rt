@@ -27,7 +27,7 @@ impl Model for Working {
 
     ghost Value = { WorkingState };
 
-    ghost use Rattle.cept_control.specs.Inside.{working_of, working_fields};
+    ghost use Rattle.cept_control.specs.inside.Fields.{working_of, working_fields};
 
     ghost view = { working_of };
 

@@ -14,7 +14,7 @@ use Rattle.cept_codes.proofs.Laws.{entry-list_by_index, list_by_index-entry, row
 use Rattle.cept_codes.proofs.Laws.{value_at-table}
 use Rattle.cept_profile.specs.Cells.{is_at}
 use Rattle.cept_delta.specs.Exchanged.{noted_instead}
-use Rattle.cept_delta.specs.PutBack.{cells_back, value_back}
+use Rattle.cept_delta.specs.inside.PutBack.{cells_back, value_back}
 use Rattle.cept_delta.proofs.PutBack.{cells_back-alike, cells_back-more, cells_back-none, row_back-more}
 
 -- ---- a list

@@ -11,7 +11,7 @@ use Rattle.cept_codes.specs.Table.{IsTable, entry, list_by_index, table, value_a
 use Rattle.cept_codes.proofs.Laws.{entry-list_by_index, list_by_index-entry, same_indexed, same_table, table-value_at}
 use Rattle.cept_codes.proofs.Laws.{entry_from, value_at-table}
 use Rattle.cept_profile.specs.Cells.{is_at}
-use Rattle.cept_delta.specs.PutBack.{cells_back, entries_back, value_back}
+use Rattle.cept_delta.specs.inside.PutBack.{cells_back, entries_back, value_back}
 
 -- ---- one location
 

@@ -2,4 +2,4 @@ pub mod Delta
 pub mod Exchanged
 pub mod Noted
 pub mod Noter
-pub mod PutBack
+pub mod inside

@@ -8,7 +8,7 @@ ghost use Rattle.cept_profile.specs.Cells.{is_at};
 ghost use Rattle.cept_profile.specs.PageParts.{dclut_in, list_of_codes, list_of_colours, list_of_dclut};
 ghost use Rattle.cept_profile.specs.PageParts.{list_of_rows, paint_in, pattern_in, row_pen_in};
 ghost use Rattle.cept_delta.specs.Exchanged.{noted_instead};
-ghost use Rattle.cept_delta.specs.PutBack.{cells_back};
+ghost use Rattle.cept_delta.specs.inside.PutBack.{cells_back};
 
 use cept_cells::Grid;
 use cept_codes::{Cell, Column, Paint, Pattern, Pen, Pos, Row};

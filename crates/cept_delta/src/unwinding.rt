@@ -9,7 +9,7 @@ ghost use Rattle.cept_profile.specs.PageParts.{dclut_in, list_of_codes, list_of_
 ghost use Rattle.cept_profile.specs.PageParts.{list_of_rows, paint_in, pattern_in, row_pen_in};
 ghost use Rattle.cept_profile.specs.Valid.{IsValidPage};
 ghost use Rattle.cept_delta.specs.Noter.{page_with};
-ghost use Rattle.cept_delta.specs.PutBack.{cells_back};
+ghost use Rattle.cept_delta.specs.inside.PutBack.{cells_back};
 
 use crate::delta::Delta;
 use cept_cells::Grid;

@@ -8,8 +8,10 @@ use Rattle.cept_codes.specs.declared.command.Form.{Form}
 use Rattle.std.proofs.lemmas.Bool.{eq-eqb, cond-false, cond-true, true≢false}
 use Rattle.std.proofs.lemmas.List.{length-append, length-replicate, length-drop}
 use Rattle.std.proofs.lemmas.List.{get_or-map, get_or-drop, drop_all}
-use Rattle.cept_drcs.specs.Loading.{Loading, all_lines, room, completed_loading, loading_at_plane, loading_with, above, before}
-use Rattle.cept_drcs.specs.Strips.{strip_of, line_of_strips, left_over, pairs, strip_line, whole_lines}
+use Rattle.cept_drcs.specs.Loading.{Loading, all_lines, room, loading_at_plane, loading_with, above, before}
+use Rattle.cept_drcs.specs.inside.Loading.{completed_loading}
+use Rattle.cept_drcs.specs.Strips.{strip_of, line_of_strips, left_over, pairs, whole_lines}
+use Rattle.cept_drcs.specs.inside.Strips.{strip_line}
 use Rattle.cept_drcs.specs.Strips.{half_of, strips_in}
 use Rattle.cept_drcs.specs.Kept.{IsKeptDrawing, plane_end}
 use Rattle.cept_drcs.specs.Block.{whole, last_line}

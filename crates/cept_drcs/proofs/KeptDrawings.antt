@@ -11,7 +11,8 @@ use Rattle.std.specs.Option.{option_to_list}
 use Rattle.std.proofs.lemmas.Bool.{ne_eqb, cond-false, ltb-true, lt-ltb}
 use Rattle.std.proofs.lemmas.Bool.Decides.{nat_tests}
 use Rattle.std.proofs.lemmas.List.{length-map, length_push}
-use Rattle.cept_drcs.specs.Loading.{Loading, all_lines, room, takes, fresh, completed_loading, loading_with, before}
+use Rattle.cept_drcs.specs.Loading.{Loading, all_lines, room, takes, fresh, loading_with, before}
+use Rattle.cept_drcs.specs.inside.Loading.{completed_loading}
 use Rattle.cept_drcs.specs.Unit.{lines_from, pattern_of, words}
 use Rattle.cept_drcs.specs.Strips.{strip_of, in_pairs, left_over, whole_lines}
 use Rattle.cept_drcs.specs.Strips.{half_of, strips_in, number_of}

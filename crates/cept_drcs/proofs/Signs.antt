@@ -5,7 +5,8 @@ use Rattle.std.proofs.Common.{◌∙◌, arith, append-nil, Option, None, Some}
 use Rattle.std.proofs.lemmas.List.{append_assoc, length_push, length-drop, get_or-drop, get_or_push}
 use Rattle.cept_drcs.specs.Block.{has_pixels, adds, whole, sign_lines, last_line}
 use Rattle.cept_drcs.specs.Cut.{is_opener}
-use Rattle.cept_drcs.specs.Loading.{Loading, above, room, before, completed_loading, loading_after, loading_with}
+use Rattle.cept_drcs.specs.Loading.{Loading, above, room, before, loading_after, loading_with}
+use Rattle.cept_drcs.specs.inside.Loading.{completed_loading}
 use Rattle.cept_drcs.proofs.KeptDrawings.{loading}
 
 adds_none : (w r b a : ℕ) → has_pixels a ≡ false → adds w r b None a ≡ whole (sign_lines w r b a)

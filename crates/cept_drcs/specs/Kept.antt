@@ -1,6 +1,5 @@
--- What a drawing keeps true of its fields, and what it makes of a byte (this project's own). Private clauses alone cite
--- this file.
-use Rattle.std.specs.Prelude.{ℕ, ◌≡◌, ◌+◌, ◌*◌, ◌≤◌, ◌<◌, Bool, List, length, if◌then◌else◌, None}
+-- What a drawing keeps true of its fields, and what it makes of a byte (this project's own).
+use Rattle.std.specs.Prelude.{ℕ, ◌≡◌, ◌+◌, ◌*◌, ◌≤◌, ◌<◌, Bool, List, length, if◌then◌else◌}
 use Rattle.cept_codes.specs.declared.command.Form.{Form}
 use Rattle.cept_codes.specs.Command.{IsValidForm}
 use Rattle.cept_drcs.specs.Loading.{Loading, room, takes, loading_after}
@@ -10,11 +9,6 @@ use Rattle.cept_drcs.specs.Strips.{strips_in}
 pub record IsPlaneOf (f : Form) (plane : ℕ) : Type 0 where
   pub form : IsValidForm f
   pub is_plane : plane < f.planes
-
--- the open plane has so many lines left, and no half line stands before them
-pub record HasRoomFor (l : Loading) (lines : ℕ) : Type 0 where
-  pub whole : l.half ≡ None
-  pub enough : lines ≤ room l
 
 -- how many strips there are when this plane has all its lines
 abbrev pub plane_end : Form → ℕ → ℕ

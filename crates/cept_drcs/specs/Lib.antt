@@ -6,3 +6,4 @@ pub mod Loading
 pub mod Patterns
 pub mod Strips
 pub mod Unit
+pub mod inside

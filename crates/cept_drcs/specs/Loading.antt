@@ -34,10 +34,6 @@ before l = last_line (drop (above l) l.lines)
 abbrev pub all_lines : Loading → List ℕ
 all_lines l = closed_lines l.lines l.half
 
--- the same, with no half line
-abbrev pub completed_loading : Loading → Loading
-completed_loading l = record l { lines = all_lines l; half = None }
-
 -- lines of 0 after these, so that there are n
 abbrev pub filled_lines : ℕ → List ℕ → List ℕ
 filled_lines n ls = ls ++ replicate (n - length ls) 0

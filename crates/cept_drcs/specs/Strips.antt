@@ -1,5 +1,5 @@
 -- Lines cut into strips of six pixels, from the left and from the top (this project's own). A loader keeps the byte of
--- each strip. Private clauses alone cite this file.
+-- each strip.
 use Rattle.std.specs.Prelude.{ℕ, zero, suc, ◌≡◌, ◌+◌, ◌*◌, ◌≤◌, List, [], ◌∷◌, map, slice_index}
 use Rattle.std.specs.Prelude.{if◌then◌else◌, ◌==◌, Option, Some, None}
 use Rattle.cept_drcs.specs.Block.{six}
@@ -35,10 +35,6 @@ half_of w ss = if w == 6 then None else left_over ss
 -- how many strips so many lines are
 abbrev pub strips_in : ℕ → ℕ → ℕ
 strips_in w n = if w == 6 then n else 2 * n
-
--- the line of these two strips; a line of six pixels is the second alone
-abbrev pub strip_line : ℕ → ℕ → ℕ → ℕ
-strip_line w a b = if w == 6 then strip_of b else line_of_strips a b
 
 -- the same two so many times
 unfoldable pub pairs : ℕ → ℕ → ℕ → List ℕ

@@ -1,8 +1,10 @@
 ghost use Rattle.std.specs.Prelude.{◌≡◌, ◌≤◌, ◌<◌, ◌+◌, ◌*◌, ◌-◌, ◌^◌, length, replicate};
 ghost use Rattle.std.specs.Prelude.{true, false, if◌then◌else◌, ◌&&◌, nat_lt, None};
 ghost use Rattle.cept_codes.specs.Command.{IsValidForm};
-ghost use Rattle.cept_drcs.specs.Kept.{plane_end, HasRoomFor, IsFed, IsPlaneOf};
-ghost use Rattle.cept_drcs.specs.Strips.{strips_in, strip_line};
+ghost use Rattle.cept_drcs.specs.Kept.{plane_end, IsFed, IsPlaneOf};
+ghost use Rattle.cept_drcs.specs.inside.Kept.{HasRoomFor};
+ghost use Rattle.cept_drcs.specs.Strips.{strips_in};
+ghost use Rattle.cept_drcs.specs.inside.Strips.{strip_line};
 
 use crate::lines::{first_line, has_pixels, is_opener, is_sign, lines_asked};
 use crate::strips::Strips;
@@ -49,7 +51,8 @@ impl Model for Drawing {
 
 impl Drawing {
     ghost use Rattle.cept_drcs.specs.Loading.{fresh, above, room, before, takes, loading_after};
-    ghost use Rattle.cept_drcs.specs.Loading.{all_lines, completed_loading, loading_at_plane, loading_with};
+    ghost use Rattle.cept_drcs.specs.Loading.{all_lines, loading_at_plane, loading_with};
+    ghost use Rattle.cept_drcs.specs.inside.Loading.{completed_loading};
     ghost use Rattle.cept_drcs.specs.Loading.{is_full};
     ghost use Rattle.cept_drcs.specs.Unit.{pattern_of, lines_from};
     ghost use Rattle.cept_drcs.specs.Block.{adds, sign_lines, whole, has_pixels, is_sign};

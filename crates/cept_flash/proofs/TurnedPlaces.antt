@@ -14,7 +14,8 @@ use Rattle.cept_codes.proofs.Laws.{OnScreen-place_of, number-lt, number-place_of
 use Rattle.cept_flash.specs.declared.blink.Flashing.{Flashing}
 use Rattle.cept_flash.specs.Flashing.{AreFlashing, IsFlashing, flashing_at}
 use Rattle.cept_flash.specs.Phases.{frame, look_at_phase}
-use Rattle.cept_flash.specs.SeenFlashing.{flashes_seen, turns}
+use Rattle.cept_flash.specs.SeenFlashing.{flashes_seen}
+use Rattle.cept_flash.specs.inside.SeenFlashing.{turns}
 use Rattle.cept_flash.proofs.MarkedInTurn.{is_marked-no_marks, length-no_marks}
 use Rattle.cept_flash.proofs.TurningLooks.{same_at_phases}
 use Rattle.cept_profile.specs.Changes.{differences, look_at}

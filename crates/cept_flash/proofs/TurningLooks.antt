@@ -11,7 +11,8 @@ use Rattle.cept_codes.specs.declared.look.Shape.TheVariants as shapes
 use Rattle.cept_codes.specs.Same.{same_look}
 use Rattle.cept_codes.proofs.Laws.{look_decides}
 use Rattle.cept_flash.specs.Phases.{halved, is_dimmed, is_on, look_at_phase}
-use Rattle.cept_flash.specs.SeenFlashing.{differ, flashes_seen, has_light, is_seen_flashing, is_space, turns}
+use Rattle.cept_flash.specs.SeenFlashing.{flashes_seen, has_light, is_seen_flashing, is_space}
+use Rattle.cept_flash.specs.inside.SeenFlashing.{differ, turns}
 
 same : (a b : Look) → a ≡ b → same_look a b ≡ true
 same a b e = (look_decides a b).1 e

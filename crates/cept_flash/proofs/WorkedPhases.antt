@@ -9,7 +9,7 @@ use Rattle.cept_codes.specs.declared.look.Paint.{Paint}
 use Rattle.cept_codes.specs.declared.look.Paint.TheVariants.{Ink, Video}
 use Rattle.cept_codes.specs.declared.look.Shape.TheVariants.{Char, Space}
 use Rattle.cept_flash.specs.Phases.{halved, is_dimmed, is_on, look_at_phase, next_phase}
-use Rattle.cept_flash.specs.SeenFlashing.{turns}
+use Rattle.cept_flash.specs.inside.SeenFlashing.{turns}
 
 -- ---- what is seen
 

@@ -1,3 +1,4 @@
 pub mod Flashing
 pub mod Phases
 pub mod SeenFlashing
+pub mod inside

@@ -1,5 +1,5 @@
 -- Looks that are seen flashing (own): those that aren't the same at all phases, and between which phases they differ.
-use Rattle.std.specs.Prelude.{ℕ, Bool, true, false, not, ◌&&◌, ◌||◌, ◌==◌, if◌then◌else◌}
+use Rattle.std.specs.Prelude.{Bool, true, false, not, ◌&&◌, ◌||◌, ◌==◌}
 use Rattle.cept_codes.specs.declared.attribute.Flash.{Flash}
 use Rattle.cept_codes.specs.declared.attribute.Flash.TheVariants as flashes
 use Rattle.cept_codes.specs.declared.look.Look.{Look}
@@ -7,7 +7,6 @@ use Rattle.cept_codes.specs.declared.look.Paint.{Paint}
 use Rattle.cept_codes.specs.declared.look.Paint.TheVariants as paints
 use Rattle.cept_codes.specs.declared.look.Shape.{Shape}
 use Rattle.cept_codes.specs.declared.look.Shape.TheVariants as shapes
-use Rattle.cept_flash.specs.Phases.{is_dimmed, is_on}
 
 -- a shape is nothing
 abbrev pub is_space : Shape → Bool
@@ -27,12 +26,3 @@ is_seen_flashing l _ = not (is_space l.shape) || l.lined
 
 abbrev pub flashes_seen : Look → Bool
 flashes_seen l = is_seen_flashing l l.flash
-
--- one holds and the other doesn't
-abbrev pub differ : Bool → Bool → Bool
-differ a b = if a then not b else b
-
--- and such a look isn't the same at these two phases
-abbrev pub turns : Flash → ℕ → ℕ → Bool
-turns flash before after =
-    differ (is_on flash before) (is_on flash after) || differ (is_dimmed flash before) (is_dimmed flash after)

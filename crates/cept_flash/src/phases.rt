@@ -1,6 +1,7 @@
 ghost use Rattle.std.specs.Prelude.{◌≡◌, ◌<◌, ◌==◌, ◌||◌, not};
 ghost use Rattle.cept_codes.specs.Look.{IsValidLook, IsValidPaint};
-ghost use Rattle.cept_flash.specs.SeenFlashing.{differ, flashes_seen, has_light, turns};
+ghost use Rattle.cept_flash.specs.SeenFlashing.{flashes_seen, has_light};
+ghost use Rattle.cept_flash.specs.inside.SeenFlashing.{differ, turns};
 ghost use Rattle.cept_flash.specs.Phases.{halved, is_dimmed, is_on, look_at_phase, next_phase};
 
 use cept_codes::{Flash, Look, Paint, Rgb, Shape};

@@ -16,8 +16,8 @@ use Rattle.cept_profile.specs.State.{Page}
 use Rattle.cept_delta.specs.Exchanged.{HasSameLocations}
 use Rattle.cept_delta.specs.Noted.{IsRowUnnoted}
 use Rattle.cept_delta.proofs.Laws.{cell_stays, pen_stays}
-use Rattle.cept_page.specs.FlagsAnew.{AreFlagsMade, IsFlagMade, IsSingle, IsSingleRowAnew, IsSoOrStays}
-use Rattle.cept_page.specs.FlagsAnew.{IsUnmarkedRow, RowHasNone, row_in_table}
+use Rattle.cept_page.specs.inside.FlagsAnew.{AreFlagsMade, IsFlagMade, IsSingle, IsSingleRowAnew, IsSoOrStays}
+use Rattle.cept_page.specs.inside.FlagsAnew.{IsUnmarkedRow, RowHasNone, row_in_table}
 use Rattle.cept_page.specs.MarkedRows.{HasNone, IsKeptPage, IsSingleRow}
 
 -- ---- one row after the other

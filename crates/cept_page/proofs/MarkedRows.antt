@@ -17,7 +17,7 @@ use Rattle.cept_codes.specs.Command.{IsArea}
 use Rattle.cept_codes.specs.Stroke.{IsValidStroke}
 use Rattle.cept_codes.specs.Attribute.{unset_pen}
 use Rattle.cept_codes.specs.Cell.{blank_cell}
-use Rattle.cept_codes.specs.Place.{OnScreen, Place}
+use Rattle.cept_codes.specs.Place.{IsRow, OnScreen, Place}
 use Rattle.cept_codes.specs.Table.{value_at, entry, table}
 use Rattle.cept_codes.proofs.Laws.{entry-list_by_index, length-list_by_index, value_at-table}
 use Rattle.cept_profile.specs.Cells.{cell_after, cells_after, shifted}
@@ -31,8 +31,10 @@ use Rattle.cept_profile.specs.Serial.{is_marker}
 use Rattle.cept_profile.specs.State.{Page}
 use Rattle.cept_profile.proofs.Laws.{row_pen_after-carried}
 use Rattle.cept_page.specs.Drawn.{IsDrawn}
-use Rattle.cept_page.specs.MarkedRows.{AreFlagsAfter, HasNone, IsKeptPage, flag_after, gives_size}
-use Rattle.cept_page.specs.MarkedRows.{IsUnflagged, StandsAlone, size_flag_after}
+use Rattle.cept_page.specs.MarkedRows.{HasNone, IsKeptPage}
+use Rattle.cept_page.specs.inside.MarkedRows.{AreFlagsAfter, flag_after, gives_size}
+use Rattle.cept_page.specs.MarkedRows.{StandsAlone}
+use Rattle.cept_page.specs.inside.MarkedRows.{IsUnflagged, size_flag_after}
 
 -- ---- at the start
 
@@ -288,14 +290,14 @@ StandsAlone-unflagged {p} {marked} {sized} m r top bottom is = record {
 
 -- flags that are unset after a cell is put were unset before
 pub IsUnflagged-before : {marked sized marked_after sized_after : List Bool} (place : Place) (cell : Cell)
-    → OnScreen place.row place.column
+    → IsRow place.row
     → AreFlagsAfter (strokes.Put place cell) marked sized marked_after sized_after
     → IsUnflagged marked_after sized_after place.row → IsUnflagged marked sized place.row
 IsUnflagged-before {marked} {sized} place cell on flags is = record {
   unmarked = (or_parts (entry false 1 marked place.row) (place.row == place.row && is_marker cell.what)
-      (sym (flags.marked place.row on.from_top on.to_bottom) ∙ is.unmarked)).0;
+      (sym (flags.marked place.row on.0 on.1) ∙ is.unmarked)).0;
   single = (or_parts (entry false 1 sized place.row) (place.row == place.row && sets_double_size cell.what)
-      (sym (flags.sized place.row on.from_top on.to_bottom) ∙ is.single)).0;
+      (sym (flags.sized place.row on.0 on.1) ∙ is.single)).0;
   single_above = λ more. (or_parts (entry false 1 sized (place.row - 1))
       (place.row == place.row - 1 && sets_double_size cell.what)
       (sym (flags.sized (place.row - 1) (omega arith) (omega (arith, on))) ∙ is.single_above more)).0;

@@ -1,7 +1,6 @@
 pub mod Behind
 pub mod Drawn
-pub mod FlagsAnew
-pub mod Inside
+pub mod Fields
 pub mod MarkedRows
 pub mod Parts
-pub mod ShiftedRows
+pub mod inside

@@ -6,7 +6,7 @@ ghost use Rattle.cept_profile.specs.Serial.{is_marker};
 ghost use Rattle.cept_profile.specs.OldValues.{OldValues, page_unwound};
 ghost use Rattle.cept_profile.specs.State.{Page};
 ghost use Rattle.cept_delta.specs.Exchanged.{HasSameLocations};
-ghost use Rattle.cept_page.specs.FlagsAnew.{IsFlagMade, IsSingle, IsSingleRowAnew, IsUnmarkedRow, RowHasNone};
+ghost use Rattle.cept_page.specs.inside.FlagsAnew.{IsFlagMade, IsSingle, IsSingleRowAnew, IsUnmarkedRow, RowHasNone};
 ghost use Rattle.cept_page.specs.MarkedRows.{IsKeptPage};
 
 use crate::row_flags::{is_double, is_marker, sets_double_size};

@@ -48,7 +48,7 @@ pub struct Pens {
 
 impl Model for Page {
     ghost use Rattle.cept_profile.specs.State.{Page as PageOfParts};
-    ghost use Rattle.cept_page.specs.Inside.{page_of};
+    ghost use Rattle.cept_page.specs.Fields.{page_of};
     ghost use Rattle.cept_page.specs.MarkedRows.{IsKeptPage};
 
     ghost Value = { PageOfParts };

@@ -5,11 +5,7 @@ ghost use Rattle.cept_codes.specs.Table.{entry, list_by_index};
 ghost use Rattle.cept_profile.specs.Cells.{shifted};
 ghost use Rattle.cept_profile.specs.Look.{is_double, sets_double_size};
 ghost use Rattle.cept_profile.specs.Serial.{is_marker, row_in};
-ghost use Rattle.cept_page.specs.MarkedRows.{
-  AreFlagsAfter,
-  IsUnflagged,
-  gives_size,
-};
+ghost use Rattle.cept_page.specs.inside.MarkedRows.{AreFlagsAfter, IsUnflagged, gives_size};
 
 use crate::shifting::shifted_rows;
 use cept_codes::{Attr, Cell, Column, Marker, Pos, Row, Size, Stroke, Up, What};

@@ -2,7 +2,7 @@ ghost use Rattle.std.specs.Prelude.{◌≡◌, length};
 ghost use Rattle.cept_codes.specs.Command.{IsArea};
 ghost use Rattle.cept_codes.specs.Table.{entry, list_by_index};
 ghost use Rattle.cept_profile.specs.Cells.{shifted};
-ghost use Rattle.cept_page.specs.ShiftedRows.{RowsFit};
+ghost use Rattle.cept_page.specs.inside.ShiftedRows.{RowsFit};
 
 use cept_codes::{Row, Up};
 

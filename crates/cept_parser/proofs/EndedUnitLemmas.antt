@@ -9,7 +9,7 @@ use Rattle.cept_parser.specs.declared.context.Outcome.{Outcome}
 use Rattle.cept_parser.specs.declared.fit.Fit.{Fit}
 use Rattle.cept_parser.specs.declared.fit.Fit.TheVariants.{Misfit, Open, Whole, Longer}
 use Rattle.cept_parser.specs.Bytes.{is_longer}
-use Rattle.cept_parser.specs.Fit.{word}
+use Rattle.cept_parser.specs.inside.Fit.{word}
 use Rattle.cept_parser.specs.Grammar.{unit, fits, grows}
 use Rattle.cept_parser.specs.Items.{Front, Reading, front_of, front, reading_with_items, waiting_reading, reading_at}
 use Rattle.cept_parser.specs.Items.{said_at_end, closing_items, is_refusal}

@@ -16,8 +16,9 @@ use Rattle.cept_parser.specs.Bytes.{is_fit, is_whole, is_longer, Standing}
 use Rattle.cept_parser.specs.Grammar.{standing, unit, fits, grows}
 use Rattle.cept_parser.specs.Items.{Reading, Front, is_refusal, front_of, front, reading_with_items, waiting_reading, reading_at}
 use Rattle.cept_parser.specs.Items.{said_at_end}
-use Rattle.cept_parser.specs.Fit.{fit, fit_by, word, closes, Answer, answer}
-use Rattle.cept_parser.specs.Waits.{outcome_at_misfit, cut_item}
+use Rattle.cept_parser.specs.Fit.{fit, fit_by, closes, Answer, answer}
+use Rattle.cept_parser.specs.inside.Fit.{word}
+use Rattle.cept_parser.specs.inside.Waits.{outcome_at_misfit, cut_item}
 use Rattle.cept_parser.proofs.GrammarLemmas.{refused_ends}
 use Rattle.cept_parser.proofs.LongestBeginningLemmas.{front_fitting, front_ended, front_none, waits_fits}
 use Rattle.cept_parser.proofs.LongestBeginningLemmas.{front_append_more}

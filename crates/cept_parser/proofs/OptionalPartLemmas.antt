@@ -2,7 +2,7 @@
 use Rattle.std.proofs.Common.{◌≡◌, ℕ, Bool, true, false, cond, List, [], ◌∷◌, refl, sym, ◌∙◌}
 use Rattle.cept_parser.specs.declared.fit.Fit.{Fit}
 use Rattle.cept_parser.specs.Bytes.{contains, optional}
-use Rattle.cept_parser.specs.Fit.{bytes_after}
+use Rattle.cept_parser.specs.inside.Fit.{bytes_after}
 
 same_choice : (F : List ℕ → Fit) (b : Bool) (u v : List ℕ) → cond b (F u) (F v) ≡ F (cond b u v)
 same_choice F true u v = refl

@@ -17,7 +17,8 @@ use Rattle.cept_parser.specs.Bytes.{is_plain}
 use Rattle.cept_parser.specs.declared.fit.Fit.{Fit}
 use Rattle.cept_parser.specs.declared.fit.Fit.TheVariants.{Misfit, Open, Whole, Longer}
 use Rattle.cept_parser.specs.Bytes.{is_longer, Standing}
-use Rattle.cept_parser.specs.Fit.{word, closes, Answer, answer}
+use Rattle.cept_parser.specs.Fit.{closes, Answer, answer}
+use Rattle.cept_parser.specs.inside.Fit.{word}
 use Rattle.cept_parser.specs.Runs.{has_six_bits, starts_pattern, pattern_fit, pattern_outcome, with_pattern}
 use Rattle.cept_parser.specs.Runs.{pattern_unit, table_entry, run_unit}
 use Rattle.cept_parser.specs.Units.{us_unit}

@@ -17,11 +17,12 @@ use Rattle.cept_parser.specs.declared.fit.Fit.TheVariants.{Misfit, Open, Whole, 
 use Rattle.cept_parser.specs.Bytes.{is_whole, is_longer, Standing}
 use Rattle.cept_parser.specs.Grammar.{standing, unit, fits}
 use Rattle.cept_parser.specs.Items.{Reading, reading_at, reading_with_items, said_at_end}
-use Rattle.cept_parser.specs.Fit.{word}
+use Rattle.cept_parser.specs.inside.Fit.{word}
 use Rattle.cept_parser.specs.declared.context.Mode.TheVariants.{DrcsRun}
 use Rattle.cept_parser.specs.Context.{with_mode}
 use Rattle.cept_parser.specs.Runs.{pattern_fit, pattern_outcome}
-use Rattle.cept_parser.specs.Waits.{in_pattern, IsBeside, IsWaiting, MayRead, HasLeft, outcome_at_misfit, cut_item}
+use Rattle.cept_parser.specs.Waits.{in_pattern, IsBeside, IsWaiting, MayRead, HasLeft}
+use Rattle.cept_parser.specs.inside.Waits.{outcome_at_misfit, cut_item}
 use Rattle.cept_parser.proofs.OneByteMoreLemmas.{read_open, read_as_longer}
 use Rattle.cept_parser.proofs.PatternLemmas.{pattern_run, pattern_more, alone_ends}
 use Rattle.cept_parser.proofs.UnitLemmas.{never_open}

@@ -13,7 +13,8 @@ use Rattle.cept_parser.specs.Grammar.{unit, grows}
 use Rattle.cept_parser.specs.Items.{longest_beginning, Front, front, Reading, reading_at, reading, waiting_reading}
 use Rattle.cept_parser.specs.State.{ParserState, Leads}
 use Rattle.cept_parser.specs.Valid.{IsValidContext, AreBytes}
-use Rattle.cept_parser.specs.Waits.{outcome_at_misfit, IsWaiting, HasLeft}
+use Rattle.cept_parser.specs.Waits.{IsWaiting, HasLeft}
+use Rattle.cept_parser.specs.inside.Waits.{outcome_at_misfit}
 use Rattle.cept_parser.proofs.ValidOutcomeLemmas.{start_valid, text_valid, unit_leads}
 use Rattle.cept_parser.proofs.ValidItemLemmas.{cases_outcome, front_cut}
 use Rattle.cept_parser.proofs.LongestBeginningLemmas.{longest_is, front_is, front_none, front_append_more}

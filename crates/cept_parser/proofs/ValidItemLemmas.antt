@@ -12,7 +12,7 @@ use Rattle.cept_parser.specs.Grammar.{unit, fits, grows}
 use Rattle.cept_parser.specs.Items.{is_refusal, longest_beginning, Front, front_of, front, Reading, reading_at}
 use Rattle.cept_parser.specs.Items.{said_at_end}
 use Rattle.cept_parser.specs.Valid.{IsValidContext, AreBytes, greatest_length, AreValid, AreMeasured}
-use Rattle.cept_parser.specs.Waits.{outcome_at_misfit}
+use Rattle.cept_parser.specs.inside.Waits.{outcome_at_misfit}
 use Rattle.cept_parser.proofs.GrammarLemmas.{open_small, refused_small}
 use Rattle.cept_parser.proofs.ValidOutcomeLemmas.{IsValidOutcome, text_valid, unit_valid, fits_hundred}
 use Rattle.cept_parser.proofs.LongestBeginningLemmas.{longest_is, front_is, front_within, front_none}

@@ -1,16 +1,12 @@
 -- What the functions of the tables answer (this project's own). No public clause cites this file.
-use Rattle.std.specs.Prelude.{ℕ, Bool, true, false, List, [], ◌∷◌, if◌then◌else◌, Option, Some, None}
+use Rattle.std.specs.Prelude.{ℕ, Bool, true, false, List, if◌then◌else◌, Option, Some, None}
 use Rattle.cept_codes.specs.declared.item.Said.{Said}
 use Rattle.cept_parser.specs.declared.context.Context.{Context}
 use Rattle.cept_parser.specs.declared.context.Outcome.{Outcome}
 use Rattle.cept_parser.specs.declared.fit.Fit.{Fit}
 use Rattle.cept_parser.specs.declared.fit.Fit.TheVariants.{Misfit, Open, Whole, Longer}
-use Rattle.cept_parser.specs.Bytes.{contains, Standing}
-use Rattle.cept_parser.specs.Grammar.{standing, unit, fits, grows}
-
--- the word for how these bytes stand to the grammar
-abbrev pub word : Context → List ℕ → Fit
-word x u = (standing x u).fit
+use Rattle.cept_parser.specs.Bytes.{Standing}
+use Rattle.cept_parser.specs.Grammar.{unit, fits, grows}
 
 -- the word for bytes that fit or not, grow or not, and wholly are this
 abbrev pub fit_by : Bool → Bool → Option Outcome → Fit
@@ -43,8 +39,3 @@ answer s ended said x = record {
   said = if closes s.fit ended then s.outcome.said else said;
   context = if closes s.fit ended then s.outcome.next else x;
 }
-
--- the bytes after an optional part, if it is there
-abbrev pub bytes_after : List ℕ → List ℕ → List ℕ
-bytes_after part [] = []
-bytes_after part (a ∷ u) = if contains part a then u else a ∷ u

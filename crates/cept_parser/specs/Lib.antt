@@ -15,3 +15,4 @@ pub mod Fit
 pub mod Waits
 pub mod ReadsAs
 pub mod Spelling
+pub mod inside

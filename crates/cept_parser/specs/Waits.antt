@@ -1,20 +1,16 @@
 -- Pending bytes of a parser (this project's own), and what becomes of them where the next byte doesn't fit. The model
 -- and private clauses alone cite this file.
 use Rattle.std.specs.Prelude.{◌≡◌, ℕ, ◌≤◌, ◌<◌, ◌^◌, Bool, true, false, ◌&&◌, List, [], ◌∷◌, ◌++◌, length}
-use Rattle.std.specs.Prelude.{Option, Some, None}
+use Rattle.std.specs.Prelude.{None}
 use Rattle.cept_codes.specs.Command.{IsValidForm}
 use Rattle.cept_codes.specs.declared.item.Item.{Item}
-use Rattle.cept_codes.specs.declared.item.Reason.TheVariants.{Interrupted}
-use Rattle.cept_codes.specs.declared.item.Said.TheVariants.{Refused}
 use Rattle.cept_drcs.specs.Loading.{Loading, Leads}
 use Rattle.cept_parser.specs.declared.context.Mode.{Mode}
 use Rattle.cept_parser.specs.declared.context.Mode.TheVariants.{Text, TableRun, DclutRun, DrcsRun, Skip}
 use Rattle.cept_parser.specs.declared.context.Context.{Context}
-use Rattle.cept_parser.specs.declared.context.Outcome.{Outcome}
-use Rattle.cept_parser.specs.Context.{with_mode}
 use Rattle.cept_parser.specs.Bytes.{is_plain}
 use Rattle.cept_parser.specs.Runs.{starts_pattern}
-use Rattle.cept_parser.specs.Grammar.{unit, fits}
+use Rattle.cept_parser.specs.Grammar.{fits}
 use Rattle.cept_parser.specs.declared.reader.Reader.{Reader}
 use Rattle.cept_parser.specs.Items.{Reading, front, reading_at}
 use Rattle.cept_parser.specs.Valid.{IsValidContext, AreBytes}
@@ -44,26 +40,10 @@ pub record IsBeside (x : Context) (u : List ℕ) (loading : Bool) (l : Loading) 
   pub pattern : loading ≡ in_pattern x u
   pub leads : loading ≡ true → Leads x.form u l
 
--- what bytes say after which the next byte doesn't fit: what they wholly are, else they are interrupted
-abbrev pub outcome_at_misfit : Context → Option Outcome → Outcome
-outcome_at_misfit x (Some c) = c
-outcome_at_misfit x None = record { said = Refused Interrupted; next = with_mode x Text }
-
--- the item that bytes at this place are then
-abbrev pub cut_item : Context → ℕ → List ℕ → Item
-cut_item x at p = record { at = at; len = length p; what = (outcome_at_misfit x (unit x p)).said }
-
 -- bytes that end here or not, in this context; of a pattern it is the first one alone
 pub record AreToFit (x : Context) (u : List ℕ) (ended : Bool) : Type 0 where
   pub form : IsValidForm x.form
   pub other : in_pattern x u ≡ true → (length u ≡ 1) × (ended ≡ false)
-
--- at most 100 bytes that fit in this context and are no pattern
-pub record AreToCut (x : Context) (u : List ℕ) : Type 0 where
-  pub few : length u ≤ 100
-  pub form : IsValidForm x.form
-  pub other : in_pattern x u ≡ false
-  pub fits : fits x u ≡ true
 
 -- the bytes of a reader wait in its context and stand right before the place, and its loader reads them as above
 pub record IsWaiting (s : Reader) (place : ℕ) : Type 0 where
@@ -75,12 +55,6 @@ pub record MayRead (s : Reader) (place : ℕ) (closed : List Item) : Type 0 wher
   pub waits : IsWaiting s place
   pub few : place < 2 ^ 33
   pub empty : closed ≡ []
-
--- nothing is pending in a reader
-pub record IsIdle (s : Reader) : Type 0 where
-  pub none : s.bytes ≡ []
-  pub free : s.loading ≡ false
-  pub form : IsValidForm s.context.form
 
 -- what is pending in a reader fits, and its loader reads it as above
 pub record HasFitting (s : Reader) : Type 0 where
@@ -98,11 +72,3 @@ pub record HasLeft (r : Reading) (s : Reader) : Type 0 where
 pub record HasRead (old : Reader) (at a : ℕ) (closed : List Item) (new : Reader) : Type 0 where
   pub items : closed ≡ (reading_at old.context at (old.bytes ++ a ∷ [])).items
   pub left : HasLeft (reading_at old.context at (old.bytes ++ a ∷ [])) new
-
--- a reader closed what was pending in it at this place, after which the next byte didn't fit: these are the items before
--- and after
-pub record HasClosed (old : Reader) (at : ℕ) (before after : List Item) (new : Reader) : Type 0 where
-  pub items : after ≡ before ++ cut_item old.context at old.bytes ∷ []
-  pub context : new.context ≡ (outcome_at_misfit old.context (unit old.context old.bytes)).next
-  pub pending : new.bytes ≡ []
-  pub free : new.loading ≡ false

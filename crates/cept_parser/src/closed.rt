@@ -2,8 +2,10 @@ ghost use Rattle.std.specs.Prelude.{◌≡◌, ◌≢◌, ◌≤◌, ◌<◌, �
 ghost use Rattle.cept_codes.specs.Command.{IsValidForm};
 ghost use Rattle.cept_parser.specs.Grammar.{standing, unit, fits};
 ghost use Rattle.cept_parser.specs.Items.{reading_at};
-ghost use Rattle.cept_parser.specs.Fit.{word, answer};
-ghost use Rattle.cept_parser.specs.Waits.{in_pattern, AreToCut, AreToFit, outcome_at_misfit, cut_item};
+ghost use Rattle.cept_parser.specs.Fit.{answer};
+ghost use Rattle.cept_parser.specs.inside.Fit.{word};
+ghost use Rattle.cept_parser.specs.Waits.{in_pattern, AreToFit};
+ghost use Rattle.cept_parser.specs.inside.Waits.{AreToCut, outcome_at_misfit, cut_item};
 
 use crate::context::{Context, Mode};
 use crate::fit::{Fit, fit_of};

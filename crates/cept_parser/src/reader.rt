@@ -4,8 +4,10 @@ ghost use Rattle.cept_codes.specs.Command.{IsValidForm};
 ghost use Rattle.cept_parser.specs.Grammar.{unit, fits};
 ghost use Rattle.cept_parser.specs.Items.{front, reading_at, said_at_end};
 ghost use Rattle.cept_parser.specs.Valid.{IsValidContext};
-ghost use Rattle.cept_parser.specs.Waits.{in_pattern, IsBeside, IsIdle, IsWaiting, HasFitting};
-ghost use Rattle.cept_parser.specs.Waits.{MayRead, HasLeft, HasRead, HasClosed};
+ghost use Rattle.cept_parser.specs.Waits.{in_pattern, IsBeside, IsWaiting, HasFitting};
+ghost use Rattle.cept_parser.specs.inside.Waits.{IsIdle};
+ghost use Rattle.cept_parser.specs.Waits.{MayRead, HasLeft, HasRead};
+ghost use Rattle.cept_parser.specs.inside.Waits.{HasClosed};
 
 use crate::closed::Closed;
 use crate::context::{Context, Mode};

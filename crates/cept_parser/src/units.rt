@@ -1,7 +1,8 @@
 ghost use Rattle.std.specs.Prelude.{◌≡◌, ◌<◌, ◌∷◌, [], Bool, true, if◌then◌else◌};
 ghost use Rattle.cept_parser.specs.Bytes.{is_digit, contains, outcome, complete, optional};
 ghost use Rattle.cept_parser.specs.Bytes.{with_options};
-ghost use Rattle.cept_parser.specs.Fit.{answer, bytes_after};
+ghost use Rattle.cept_parser.specs.Fit.{answer};
+ghost use Rattle.cept_parser.specs.inside.Fit.{bytes_after};
 ghost use Rattle.cept_parser.specs.Units.{us_position, drcs_parts, drcs_width, drcs_height};
 ghost use Rattle.cept_parser.specs.Units.{drcs_planes, drcs_form, drcs_header, drcs_unit};
 ghost use Rattle.cept_parser.specs.Units.{colour_parts, colour_header, last_place, run_from};

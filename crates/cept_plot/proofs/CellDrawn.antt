@@ -14,7 +14,7 @@ use Rattle.cept_profile.specs.State.{Core, Page, State, state_after}
 use Rattle.cept_profile.specs.Valid.{AllValid, IsValidPage}
 use Rattle.cept_plot.specs.Commands.{code_of_value, is_written_anew, numbered_cell_commands, value_commands}
 use Rattle.cept_plot.specs.Commands.{value_of_points}
-use Rattle.cept_plot.specs.Drawing.{cell_of_value}
+use Rattle.cept_plot.specs.inside.Drawing.{cell_of_value}
 use Rattle.cept_repaint.specs.InTurn.{state_after_all}
 use Rattle.cept_plot.proofs.ControlInDrawing.{Hand, control_at, hand_after, hand_at, mosaic_gives, mosaic_sets}
 use Rattle.cept_plot.proofs.ControlInDrawing.{position-control, sign-control, sign-strokes, space_gives}

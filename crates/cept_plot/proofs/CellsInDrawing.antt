@@ -8,7 +8,7 @@ use Rattle.cept_codes.specs.Place.{OnScreen, number, place_of}
 use Rattle.cept_profile.specs.Cells.{is_at}
 use Rattle.cept_profile.specs.State.{Core}
 use Rattle.cept_plot.specs.Commands.{cell_in_core, is_written_anew, value_of_points}
-use Rattle.cept_plot.specs.Drawing.{cell_in_drawing, cell_of_value}
+use Rattle.cept_plot.specs.inside.Drawing.{cell_in_drawing, cell_of_value}
 use Rattle.cept_plot.specs.Points.{value_in_core, value_of}
 
 -- a test that fails fails with any other

@@ -24,7 +24,7 @@ use Rattle.cept_profile.specs.Strokes.{strokes_of}
 use Rattle.cept_profile.specs.Working.{ControlState, Working}
 use Rattle.cept_profile.specs.Writing.{sign_with_accent, strokes_of_read, working_after_read}
 use Rattle.cept_profile.proofs.Laws.{on_strokes-none}
-use Rattle.cept_plot.specs.Drawing.{control_in_drawing}
+use Rattle.cept_plot.specs.inside.Drawing.{control_in_drawing}
 
 -- what changes of control
 pub record Hand : Type 0 where

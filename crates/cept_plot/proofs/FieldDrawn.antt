@@ -7,7 +7,7 @@ use Rattle.cept_codes.specs.Table.{value_at}
 use Rattle.cept_codes.proofs.Laws.{number-lt}
 use Rattle.cept_profile.specs.State.{Core, Page}
 use Rattle.cept_plot.specs.Commands.{IsDrawnOn, cell_in_core, is_written_anew, value_of_points}
-use Rattle.cept_plot.specs.Drawing.{cell_in_drawing, cell_of_value}
+use Rattle.cept_plot.specs.inside.Drawing.{cell_in_drawing, cell_of_value}
 use Rattle.cept_plot.specs.Points.{OnField, column_of_point, has_weight, row_of_point, value_of}
 use Rattle.cept_plot.proofs.CellsInDrawing.{IsFree, cell_unwritten, cell_written, free_by, value_by}
 use Rattle.cept_plot.proofs.ValuesWritten.{has_weight-value_of_points, value_of_points-lt, value_of_sign}

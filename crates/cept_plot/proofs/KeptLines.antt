@@ -13,7 +13,7 @@ use Rattle.cept_words.specs.Faults.{Fault, fault_from, fault_or}
 use Rattle.cept_plot.specs.Drawings.{AreValidFigures, SaysFault, figure_in, figures_in}
 use Rattle.cept_plot.specs.Drawings.{figures_of, first_fault, line_meaning}
 use Rattle.cept_plot.specs.Figures.{IsValidFigure}
-use Rattle.cept_plot.specs.Kept.{HasFigures, HasKept, IsUnkept}
+use Rattle.cept_plot.specs.inside.Kept.{HasFigures, HasKept, IsUnkept}
 
 -- so many lines were read, and these bytes are left
 pub record HasRead (bytes : List ℕ) (list : List Figure) (n : ℕ) (rest : List ℕ) : Type 0 where

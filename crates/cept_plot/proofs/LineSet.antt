@@ -10,8 +10,8 @@ use Rattle.cept_plot.specs.declared.coordinate.Slope.{Slope}
 use Rattle.cept_plot.specs.declared.figure.Point.{Point}
 use Rattle.cept_plot.specs.Figures.{is_among, is_on_line, is_point, on_the_way, point_on_the_way, points_of_line}
 use Rattle.cept_plot.specs.Figures.{steps_of_line}
-use Rattle.cept_plot.specs.Lit.{IsSet}
-use Rattle.cept_plot.specs.Rounding.{IsSlope, IsUnderWay}
+use Rattle.cept_plot.specs.inside.Lit.{IsSet}
+use Rattle.cept_plot.specs.inside.Rounding.{IsSlope, IsUnderWay}
 use Rattle.cept_plot.proofs.RegionSet.{IsSet-more, IsSet-same}
 use Rattle.cept_plot.proofs.RoundedWay.{IsUnderWay-start, rounded_at}
 

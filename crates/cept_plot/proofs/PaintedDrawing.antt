@@ -7,10 +7,10 @@ use Rattle.cept_profile.specs.State.{Core, State, core_of}
 use Rattle.cept_profile.specs.Valid.{IsValidState}
 use Rattle.cept_repaint.specs.GlassState.{GlassState}
 use Rattle.cept_plot.specs.Commands.{IsDrawnOn, cells_commands, drawn, opening}
-use Rattle.cept_plot.specs.Drawing.{StandsDrawn}
+use Rattle.cept_plot.specs.inside.Drawing.{StandsDrawn}
 use Rattle.cept_plot.specs.Painted.{ArePaintedInTurn}
 use Rattle.cept_repaint.specs.InTurn.{state_after_all}
-use Rattle.cept_plot.specs.ValidPainted.{ArePaintedAndValid}
+use Rattle.cept_plot.specs.inside.ValidPainted.{ArePaintedAndValid}
 use Rattle.cept_plot.proofs.DrawnInTurn.{drawn_on, stands_first}
 use Rattle.cept_plot.proofs.PaintedInTurn.{painted_more}
 

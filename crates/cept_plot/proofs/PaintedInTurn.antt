@@ -14,7 +14,7 @@ use Rattle.cept_repaint.specs.Applied.{IsApplied}
 use Rattle.cept_repaint.specs.GlassState.{GlassState, Lists}
 use Rattle.cept_plot.specs.Painted.{changes_of_all}
 use Rattle.cept_repaint.specs.InTurn.{rows_in_reach_of_all, rows_renewed_by_all, state_after_all}
-use Rattle.cept_plot.specs.ValidPainted.{ArePaintedAndValid}
+use Rattle.cept_plot.specs.inside.ValidPainted.{ArePaintedAndValid}
 
 -- ---- the commands of two lists
 

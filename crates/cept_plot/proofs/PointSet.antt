@@ -5,7 +5,8 @@ use Rattle.std.specs.Int.{bit_at}
 use Rattle.std.proofs.lemmas.Bool.{and_parts, and_from, cases_eq, eqb-true, eq-eqb, true≢false}
 use Rattle.std.proofs.lemmas.List.{get_or-set_other, get_or-set_same}
 use Rattle.cept_codes.specs.Place.{number}
-use Rattle.cept_plot.specs.Lit.{AreValues, IsSet, is_lit}
+use Rattle.cept_plot.specs.Lit.{AreValues, is_lit}
+use Rattle.cept_plot.specs.inside.Lit.{IsSet}
 use Rattle.cept_plot.specs.Points.{block_of, column_of_point, has_weight, row_of_point}
 
 pub AreValues-set : (was : List ℕ) (cell v : ℕ) → AreValues was → cell < length was → v < 64

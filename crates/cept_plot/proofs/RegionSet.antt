@@ -1,6 +1,7 @@
 -- Points of a field set or unset one after the other.
 use Rattle.std.proofs.Common.{◌≡◌, ℕ, ◌||◌, Bool, true, false, List, if◌then◌else◌, refl, sym, ap, ◌∙◌}
-use Rattle.cept_plot.specs.Lit.{IsSet, is_lit}
+use Rattle.cept_plot.specs.Lit.{is_lit}
+use Rattle.cept_plot.specs.inside.Lit.{IsSet}
 use Rattle.cept_plot.specs.Points.{OnField}
 
 -- another test that picks the same points

@@ -6,7 +6,7 @@ use Rattle.std.proofs.Math.Nat.{mul_comm}
 use Rattle.cept_plot.specs.declared.coordinate.Coordinate.{Coordinate}
 use Rattle.cept_plot.specs.declared.coordinate.Slope.{Slope}
 use Rattle.cept_plot.specs.Figures.{on_the_way}
-use Rattle.cept_plot.specs.Rounding.{IsSlope, IsUnderWay}
+use Rattle.cept_plot.specs.inside.Rounding.{IsSlope, IsUnderWay}
 
 -- a step of a sum of shares
 pub share_up : (m i a b : ℕ) → a ≤ b

@@ -3,7 +3,7 @@ use Rattle.std.proofs.Common.{◌≡◌, ℕ, ◌+◌, ◌≤◌, ◌==◌, ◌&
 use Rattle.std.proofs.lemmas.Bool.Decides.{nat_tests}
 use Rattle.cept_plot.specs.declared.figure.Point.{Point}
 use Rattle.cept_plot.specs.Figures.{is_in_rectangle, is_on_sides}
-use Rattle.cept_plot.specs.Lit.{IsSet}
+use Rattle.cept_plot.specs.inside.Lit.{IsSet}
 use Rattle.cept_plot.proofs.RegionSet.{IsSet-more, IsSet-same}
 
 -- a row of points, and rows of points

@@ -8,7 +8,7 @@ use Rattle.cept_codes.specs.declared.glyph.Glyph.{Glyph}
 use Rattle.cept_codes.specs.declared.glyph.SetId.TheVariants as sets
 use Rattle.cept_profile.specs.Sets.{sign}
 use Rattle.cept_plot.specs.Commands.{code_of_value, value_of_points, weight_if}
-use Rattle.cept_plot.specs.Drawing.{sign_of_value}
+use Rattle.cept_plot.specs.inside.Drawing.{sign_of_value}
 use Rattle.cept_plot.specs.Points.{block_of, column_of_point, has_weight, row_of_point, value_of_code}
 
 -- ---- six points as digits of base two

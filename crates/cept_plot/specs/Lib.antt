@@ -1,10 +1,7 @@
 pub mod Commands
-pub mod Drawing
 pub mod Drawings
 pub mod Figures
-pub mod Kept
 pub mod Lit
 pub mod Painted
 pub mod Points
-pub mod Rounding
-pub mod ValidPainted
+pub mod inside

@@ -1,7 +1,7 @@
 -- A field as the values of its 960 cells, in reading order (this project's own).
-use Rattle.std.specs.Prelude.{ℕ, ◌≡◌, ◌<◌, Bool, List, slice_index_or, if◌then◌else◌}
+use Rattle.std.specs.Prelude.{ℕ, ◌<◌, Bool, List, slice_index_or}
 use Rattle.cept_codes.specs.Place.{number}
-use Rattle.cept_plot.specs.Points.{OnField, column_of_point, has_weight, row_of_point}
+use Rattle.cept_plot.specs.Points.{column_of_point, has_weight, row_of_point}
 
 -- the value of the cell in row r and column c
 abbrev pub value_in : List ℕ → ℕ → ℕ → ℕ
@@ -14,7 +14,3 @@ is_lit values x y = has_weight (value_in values (row_of_point y) (column_of_poin
 -- each value is one of six weights together
 abbrev pub AreValues : List ℕ → Type 0
 AreValues values = (n : ℕ) → slice_index_or values n 0 < 64
-
--- the points that a test picks are in the field, or aren't, and all others are as they were
-abbrev pub IsSet : List ℕ → List ℕ → Bool → (ℕ → ℕ → Bool) → Type 0
-IsSet was now lit test = (x y : ℕ) → OnField x y → is_lit now x y ≡ (if test x y then lit else is_lit was x y)

@@ -1,6 +1,6 @@
 ghost use Rattle.std.specs.Prelude.{◌≡◌, ◌≤◌, ◌<◌, ◌+◌, ◌*◌, true, false};
 ghost use Rattle.cept_plot.specs.Figures.{distance};
-ghost use Rattle.cept_plot.specs.Rounding.{IsSlope};
+ghost use Rattle.cept_plot.specs.inside.Rounding.{IsSlope};
 
 /// How a coordinate goes on along a line: at each step by a part of a whole, up or down.
 #[derive(Clone, Copy)]

@@ -1,6 +1,6 @@
 ghost use Rattle.std.specs.Prelude.{◌≡◌, ◌≤◌, ◌^◌, [], length, IfErr, IfOk, None, OnOk};
 ghost use Rattle.cept_plot.specs.Drawings.{AreValidFigures, SaysFault, figures_of, first_fault, line_meaning};
-ghost use Rattle.cept_plot.specs.Kept.{HasFigures, HasKept, IsUnkept};
+ghost use Rattle.cept_plot.specs.inside.Kept.{HasFigures, HasKept, IsUnkept};
 
 use crate::figure::Figure;
 use crate::line::line_figure;

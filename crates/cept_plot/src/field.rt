@@ -5,7 +5,8 @@ ghost use Rattle.cept_codes.specs.Place.{OnScreen};
 ghost use Rattle.cept_plot.specs.Drawings.{points_after_all};
 ghost use Rattle.cept_plot.specs.Figures.{IsValidFigure, is_in_rectangle, is_on_line, is_on_sides};
 ghost use Rattle.cept_plot.specs.Figures.{points_after};
-ghost use Rattle.cept_plot.specs.Lit.{IsSet, is_lit, value_in};
+ghost use Rattle.cept_plot.specs.Lit.{is_lit, value_in};
+ghost use Rattle.cept_plot.specs.inside.Lit.{IsSet};
 ghost use Rattle.cept_plot.specs.Points.{OnField, is_in_field, value_in_core, value_of, value_of_code};
 ghost use Rattle.cept_profile.specs.State.{core_of};
 

@@ -2,11 +2,11 @@ ghost use Rattle.std.specs.Prelude.{◌≡◌, ◌<◌, ◌++◌, ◌∷◌, []}
 ghost use Rattle.cept_codes.specs.Command.{IsValidCommand};
 ghost use Rattle.cept_plot.specs.Commands.{IsDrawnOn, cell_commands, cells_commands, code_of_value};
 ghost use Rattle.cept_plot.specs.Commands.{drawn, is_written_anew, opening, value_commands};
-ghost use Rattle.cept_plot.specs.Drawing.{StandsDrawn};
+ghost use Rattle.cept_plot.specs.inside.Drawing.{StandsDrawn};
 ghost use Rattle.cept_plot.specs.Lit.{is_lit};
 ghost use Rattle.cept_plot.specs.Painted.{ArePaintedInTurn};
 ghost use Rattle.cept_repaint.specs.InTurn.{state_after_all};
-ghost use Rattle.cept_plot.specs.ValidPainted.{ArePaintedAndValid};
+ghost use Rattle.cept_plot.specs.inside.ValidPainted.{ArePaintedAndValid};
 ghost use Rattle.cept_profile.specs.Changes.{differences};
 ghost use Rattle.cept_profile.specs.Look.{looks_of};
 ghost use Rattle.cept_profile.specs.State.{Core, core_of};

@@ -3,7 +3,7 @@ ghost use Rattle.cept_words.specs.Words.{words_after};
 ghost use Rattle.cept_plot.specs.declared.figure.Point.{Point as PointValue};
 ghost use Rattle.cept_plot.specs.declared.figure.Figure.{Figure as FigureValue};
 ghost use Rattle.cept_plot.specs.Drawings.{of_four, of_two, point};
-ghost use Rattle.cept_plot.specs.Kept.{figured};
+ghost use Rattle.cept_plot.specs.inside.Kept.{figured};
 ghost use Rattle.cept_plot.specs.Points.{OnField};
 
 use crate::figure::Point;

@@ -5,7 +5,8 @@ use Rattle.cept_codes.specs.declared.look.Paint.{Paint}
 use Rattle.cept_codes.specs.declared.look.Paint.TheVariants as paints
 use Rattle.cept_codes.specs.Look.{IsValidLook, IsValidPaint}
 use Rattle.cept_report.specs.declared.ending.Fields.{Fields}
-use Rattle.cept_report.specs.Ending.{ending_text, fields_of, paint_word}
+use Rattle.cept_report.specs.Ending.{ending_text}
+use Rattle.cept_report.specs.inside.Ending.{fields_of, paint_word}
 use Rattle.cept_report.specs.Text.{paint_text}
 
 -- a paint is known by its number

@@ -6,3 +6,4 @@ pub mod Front
 pub mod Ending
 pub mod Gathered
 pub mod Room
+pub mod inside

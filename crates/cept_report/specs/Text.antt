@@ -21,7 +21,6 @@ use Rattle.cept_codes.specs.declared.look.Pattern.{Pattern}
 use Rattle.cept_codes.specs.declared.look.Shape.{Shape}
 use Rattle.cept_codes.specs.declared.look.Shape.TheVariants as shapes
 use Rattle.cept_codes.specs.Place.{Place}
-use Rattle.cept_profile.specs.Changes.{marked_looks}
 use Rattle.cept_report.specs.Ascii.{ascii}
 
 -- a hexadecimal digit in upper case
@@ -125,10 +124,6 @@ change_line label p l =
 unfoldable pub change_lines : ℕ → List (Place × Look) → List ℕ
 change_lines label [] = []
 change_lines label (x ∷ xs) = change_line label x.0 x.1 ++ change_lines label xs
-
--- a line for each marked place
-abbrev pub marked_lines : ℕ → List Bool → List (List Look) → List ℕ
-marked_lines label marks looks = change_lines label (marked_looks marks looks)
 
 -- the number of a reason
 unfoldable pub reason_number : Reason → ℕ

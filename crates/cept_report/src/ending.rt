@@ -6,7 +6,8 @@ ghost use Rattle.cept_profile.specs.Look.{looks_of};
 ghost use Rattle.cept_profile.specs.State.{core_of};
 ghost use Rattle.cept_codes.specs.declared.look.Look.{Look};
 ghost use Rattle.cept_codes.specs.Look.{IsValidLook, IsValidPaint};
-ghost use Rattle.cept_report.specs.Ending.{ending_text, fields_of, paint_word};
+ghost use Rattle.cept_report.specs.Ending.{ending_text};
+ghost use Rattle.cept_report.specs.inside.Ending.{fields_of, paint_word};
 ghost use Rattle.cept_report.specs.Room.{HasRoomFor};
 
 use crate::line::{Line, add_text};

@@ -8,7 +8,8 @@ ghost use Rattle.cept_profile.specs.State.{core_of};
 ghost use Rattle.cept_redraw.specs.Marks.{IsFirstFrom};
 ghost use Rattle.cept_report.specs.Screen.{cells_text, screen_text};
 ghost use Rattle.cept_report.specs.Text.{change_line, change_lines, check_line, refusal_line};
-ghost use Rattle.cept_report.specs.Text.{marked_lines, nothing_line, script_fault_line, load_line};
+ghost use Rattle.cept_report.specs.Text.{nothing_line, script_fault_line, load_line};
+ghost use Rattle.cept_report.specs.inside.Text.{marked_lines};
 
 use crate::ending::Ending;
 use crate::gathering::{gather_change, gather_shape, put_gathered};

@@ -11,10 +11,10 @@ use Rattle.cept_profile.specs.Serial.{own_attributes_of, row_in}
 use Rattle.cept_profile.proofs.Laws.{IsValidLook-look_of}
 use Rattle.cept_rows.specs.declared.drawing.Drawing.{Drawing}
 use Rattle.cept_rows.specs.declared.small_look.SmallLook.{SmallLook}
-use Rattle.cept_rows.specs.Brush.{attributes_by, small_shape}
-use Rattle.cept_rows.specs.Flagged.{IsReplaced}
-use Rattle.cept_rows.specs.Places.{IsPlainLook, own_drawing}
-use Rattle.cept_rows.specs.RowsByCell.{is_downloaded}
+use Rattle.cept_rows.specs.inside.Brush.{attributes_by, small_shape}
+use Rattle.cept_rows.specs.inside.Flagged.{IsReplaced}
+use Rattle.cept_rows.specs.inside.Places.{IsPlainLook, own_drawing}
+use Rattle.cept_rows.specs.inside.RowsByCell.{is_downloaded}
 use Rattle.cept_rows.specs.SmallLooks.{IsSmallLook, look_kept, no_drawing, sign_of, small_of}
 use Rattle.cept_rows.specs.Source.{IsValidSource, Source, look_by_itself}
 use Rattle.cept_rows.proofs.KeptLooks.{plain_is, plain_small}

@@ -10,7 +10,8 @@ use Rattle.cept_codes.specs.Table.{HasMadeEntries, entry, list_by_index, row_of}
 use Rattle.cept_codes.proofs.Laws.{HasMadeEntries-all, HasMadeEntries-more, entry_from, look_decides, row_of-list_by_index}
 use Rattle.cept_codes.proofs.Laws.{same_indexed}
 use Rattle.cept_profile.specs.Tiling.{column_entry}
-use Rattle.cept_rows.specs.Flagged.{IsResolvedTo, differs_after, look_after}
+use Rattle.cept_rows.specs.Flagged.{look_after}
+use Rattle.cept_rows.specs.inside.Flagged.{IsResolvedTo, differs_after}
 use Rattle.cept_rows.proofs.Columns.{column_entry-at, column_entry-row_of}
 
 -- an entry that is left as it was is made, where that is what it was to be

@@ -21,7 +21,8 @@ use Rattle.cept_rows.specs.declared.small_look.Kind.TheVariants as kinds
 use Rattle.cept_rows.specs.declared.small_look.Sign.{Sign}
 use Rattle.cept_rows.specs.declared.small_look.SmallLook.{SmallLook}
 use Rattle.cept_rows.specs.KeptRows.{kept_in}
-use Rattle.cept_rows.specs.SmallLooks.{IsSmallLook, blank_small, drawing_of, has_pattern, is_drcs, look_kept}
+use Rattle.cept_rows.specs.SmallLooks.{IsSmallLook, blank_small, has_pattern, is_drcs, look_kept}
+use Rattle.cept_rows.specs.inside.SmallLooks.{drawing_of}
 use Rattle.cept_rows.specs.SmallLooks.{no_drawing}
 use Rattle.cept_rows.specs.SmallLooks.{paint_kept, shape_by, shape_kept, sign_of, small_of, tint_of}
 use Rattle.cept_rows.proofs.Columns.{column_entry-row_of}

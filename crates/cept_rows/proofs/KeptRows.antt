@@ -12,8 +12,10 @@ use Rattle.cept_profile.specs.Tiling.{column_entry, covers_below}
 use Rattle.cept_rows.specs.declared.drawing.Drawing.{Drawing}
 use Rattle.cept_rows.specs.declared.row_looks.RowLooks.TheInside.{Inside}
 use Rattle.cept_rows.specs.declared.small_look.SmallLook.{SmallLook}
-use Rattle.cept_rows.specs.KeptRows.{HasNoPatterns, IsKeptRow, kept_in, looks_kept}
-use Rattle.cept_rows.specs.SmallLooks.{IsSmallLook, blank_small, drawing_of, has_pattern, look_kept, no_drawing}
+use Rattle.cept_rows.specs.KeptRows.{IsKeptRow, kept_in, looks_kept}
+use Rattle.cept_rows.specs.inside.KeptRows.{HasNoPatterns}
+use Rattle.cept_rows.specs.SmallLooks.{IsSmallLook, blank_small, has_pattern, look_kept, no_drawing}
+use Rattle.cept_rows.specs.inside.SmallLooks.{drawing_of}
 use Rattle.cept_rows.specs.SmallLooks.{small_of}
 use Rattle.cept_rows.proofs.Columns.{column_entry-past, length-row_of, same_rows, set-row_of}
 use Rattle.cept_rows.proofs.KeptLooks.{IsSmallLook-plain, column_kept, drawing_kept, look_kept-plain}

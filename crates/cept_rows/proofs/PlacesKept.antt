@@ -8,7 +8,8 @@ use Rattle.cept_profile.specs.Definitions.{Definitions}
 use Rattle.cept_profile.specs.Look.{look_in_row, look_with_part, part_of, shape_of}
 use Rattle.cept_profile.specs.Tiling.{covers_right, origin_part, part_below, part_to_the_right}
 use Rattle.cept_rows.specs.declared.small_look.SmallLook.{SmallLook}
-use Rattle.cept_rows.specs.SmallLooks.{drawing_of, small_of}
+use Rattle.cept_rows.specs.SmallLooks.{small_of}
+use Rattle.cept_rows.specs.inside.SmallLooks.{drawing_of}
 use Rattle.cept_rows.proofs.Signs.{drawing_of-look_in_row}
 
 -- a look with another part

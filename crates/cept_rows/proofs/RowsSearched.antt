@@ -20,9 +20,10 @@ use Rattle.cept_rows.specs.declared.drawing.Drawing.{Drawing}
 use Rattle.cept_rows.specs.declared.naming.RowNames.{RowNames}
 use Rattle.cept_rows.specs.declared.small_look.SmallLook.{SmallLook}
 use Rattle.cept_rows.specs.KeptNames.{code_kept, names_kept}
-use Rattle.cept_rows.specs.KeptRows.{HasNoPatterns}
+use Rattle.cept_rows.specs.inside.KeptRows.{HasNoPatterns}
 use Rattle.cept_rows.specs.Planes.{has_inks, has_planes}
-use Rattle.cept_rows.specs.SmallLooks.{drawing_of, has_pattern, is_drcs, sign_of, small_of}
+use Rattle.cept_rows.specs.SmallLooks.{has_pattern, is_drcs, sign_of, small_of}
+use Rattle.cept_rows.specs.inside.SmallLooks.{drawing_of}
 
 -- some place does, where this one does
 pub found_there : (meets : ℕ → Bool) (c : ℕ) → 1 ≤ c → c ≤ 40 → meets c ≡ true → some_place meets ≡ true

@@ -25,8 +25,9 @@ use Rattle.cept_profile.specs.Valid.{AreValidDefinitions}
 use Rattle.cept_profile.proofs.Laws.{IsValidLook-look_of}
 use Rattle.cept_rows.specs.declared.drawing.Drawing.{Drawing}
 use Rattle.cept_rows.specs.declared.small_look.SmallLook.{SmallLook}
-use Rattle.cept_rows.specs.RowsByCell.{is_downloaded, is_set_d, pattern_of_sign}
-use Rattle.cept_rows.specs.SmallLooks.{IsSmallLook, drawing_of, has_pattern, is_drcs, look_kept, no_drawing, sign_of}
+use Rattle.cept_rows.specs.inside.RowsByCell.{is_downloaded, is_set_d, pattern_of_sign}
+use Rattle.cept_rows.specs.SmallLooks.{IsSmallLook, has_pattern, is_drcs, look_kept, no_drawing, sign_of}
+use Rattle.cept_rows.specs.inside.SmallLooks.{drawing_of}
 use Rattle.cept_rows.specs.SmallLooks.{small_of}
 use Rattle.cept_rows.proofs.KeptLooks.{kept_is, small_is}
 

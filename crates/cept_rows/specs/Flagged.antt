@@ -1,18 +1,14 @@
 -- A row of which some columns get another look (own): all at once, or the flagged ones one after the other.
-use Rattle.std.specs.Prelude.{ℕ, ◌≡◌, ◌-◌, Bool, false, not, List, slice_set, if◌then◌else◌}
+use Rattle.std.specs.Prelude.{ℕ, ◌-◌, Bool, false, not, List, if◌then◌else◌}
 use Rattle.cept_codes.specs.declared.look.Look.{Look}
 use Rattle.cept_codes.specs.Look.{blank_look}
 use Rattle.cept_codes.specs.Same.{same_look}
-use Rattle.cept_codes.specs.Table.{HasMadeEntries, entry}
+use Rattle.cept_codes.specs.Table.{entry}
 use Rattle.cept_profile.specs.Tiling.{column_entry}
 
 -- the look of a column of a row
 abbrev pub look_at : List Look → ℕ → Look
 look_at looks c = column_entry blank_look looks c
-
--- another look in one column
-abbrev pub with_look : List Look → ℕ → Look → List Look
-with_look looks c look = slice_set looks (c - 1) look
 
 -- the look of a column: of a flagged one the fresh one, of any other the one before
 abbrev pub look_after : List Bool → (ℕ → Look) → List Look → ℕ → Look
@@ -21,22 +17,3 @@ look_after flags fresh was c = if entry false 1 flags c then fresh c else look_a
 -- two rows have different looks in a column
 abbrev pub looks_differ : List Look → List Look → ℕ → Bool
 looks_differ was now c = not (same_look (look_at was c) (look_at now c))
-
--- the look of a column after that differs from the one before
-abbrev pub differs_after : List Bool → (ℕ → Look) → List Look → ℕ → Bool
-differs_after flags fresh was c = not (same_look (look_at was c) (look_after flags fresh was c))
-
--- a column gets this look, and it is answered whether it differs from the one before
-pub record IsReplaced (was : List Look) (c : ℕ) (fresh : Look) (now : List Look) (answer : Bool) : Type 0 where
-  pub looks : now ≡ with_look was c fresh
-  pub differs : answer ≡ not (same_look (look_at was c) fresh)
-
--- the first n columns are made, and the others as they were
-abbrev pub IsMadeTo : (ℕ → Look) → List Look → List Look → ℕ → Type 0
-IsMadeTo fresh was now n = HasMadeEntries blank_look 1 40 fresh (entry blank_look 1 was) now n
-
--- the first n columns are resolved where they are flagged, and it is said which differ
-pub record IsResolvedTo (flags : List Bool) (own : ℕ → Look) (was now : List Look) (differ : List Bool) (n : ℕ)
-    : Type 0 where
-  pub looks : HasMadeEntries blank_look 1 40 (look_after flags own was) (column_entry blank_look was) now n
-  pub answers : HasMadeEntries false 1 40 (differs_after flags own was) (λ _. false) differ n

@@ -8,17 +8,12 @@ use Rattle.cept_profile.specs.Names.{Names}
 use Rattle.cept_profile.specs.NamesFromAbove.{names_from_above, names_in_row}
 use Rattle.cept_profile.specs.Serial.{row_in}
 use Rattle.cept_profile.specs.Tiling.{column_entry}
-use Rattle.cept_rows.specs.declared.naming.PlaceNames.{PlaceNames}
 use Rattle.cept_rows.specs.declared.naming.RowNames.{RowNames}
 use Rattle.cept_rows.specs.Source.{Source}
 
 -- the code that is kept: 0 stands for none
 abbrev pub code_kept : ℕ → Option ℕ
 code_kept code = if code == 0 then None else Some code
-
--- the names of one place
-abbrev pub names_of_place : PlaceNames → Names
-names_of_place p = record { fore = p.fore; back = p.back; code = code_kept p.code }
 
 -- the names that are kept in a column, from 1
 abbrev pub names_kept : RowNames → ℕ → Names

@@ -1,13 +1,12 @@
 -- Rows of looks in little space (own): forty small looks, and beside each the drawing of its pattern.
 use Rattle.std.specs.Prelude.{ℕ, ◌≡◌, ◌-◌, ◌<◌, false, List, length, slice_index_or}
 use Rattle.cept_codes.specs.declared.look.Look.{Look}
-use Rattle.cept_codes.specs.Look.{blank_look}
 use Rattle.cept_codes.specs.Table.{row_of}
-use Rattle.cept_profile.specs.Tiling.{column_entry, covers_below}
+use Rattle.cept_profile.specs.Tiling.{covers_below}
 use Rattle.cept_rows.specs.declared.drawing.Drawing.{Drawing}
 use Rattle.cept_rows.specs.declared.row_looks.RowLooks.TheInside.{Inside}
 use Rattle.cept_rows.specs.declared.small_look.SmallLook.{SmallLook}
-use Rattle.cept_rows.specs.SmallLooks.{IsSmallLook, blank_small, has_pattern, look_kept, no_drawing, small_of}
+use Rattle.cept_rows.specs.SmallLooks.{IsSmallLook, blank_small, has_pattern, look_kept, no_drawing}
 
 -- the look that is kept in a column
 abbrev pub kept_in : List SmallLook → List Drawing → ℕ → Look
@@ -27,7 +26,3 @@ pub record IsKeptRow (a : Inside) : Type 0 where
       → IsSmallLook (slice_index_or a.looks k blank_small) (slice_index_or a.drawn k no_drawing)
   pub plain : a.patterned ≡ false → (k : ℕ) → k < 40 → has_pattern (slice_index_or a.looks k blank_small) ≡ false
   pub low : a.tall ≡ false → (k : ℕ) → k < 40 → covers_below (slice_index_or a.looks k blank_small).part ≡ false
-
--- no look of a row is a pattern
-abbrev pub HasNoPatterns : List Look → Type 0
-HasNoPatterns looks = (c : ℕ) → has_pattern (small_of (column_entry blank_look looks c)) ≡ false

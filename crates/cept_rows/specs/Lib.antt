@@ -1,4 +1,3 @@
-pub mod Brush
 pub mod DrawnWith
 pub mod Source
 pub mod SmallLooks
@@ -6,7 +5,5 @@ pub mod KeptRows
 pub mod RowsByCell
 pub mod KeptNames
 pub mod Planes
-pub mod Walk
 pub mod Flagged
-pub mod Compared
-pub mod Places
+pub mod inside

@@ -36,12 +36,6 @@ no_drawing = record {
   inks = record { count = 0; paints = replicate 16 black_paint };
 }
 
--- the pattern of a shape with its inks
-abbrev pub drawing_of : Shape → Drawing
-drawing_of shapes.Space = no_drawing
-drawing_of (shapes.Char g) = no_drawing
-drawing_of (shapes.Drcs pattern inks) = record { pattern = pattern; inks = inks }
-
 -- a paint as it is kept
 abbrev pub tint_of : Paint → Tint
 tint_of (paints.Ink c) = record { video = false; r = c.r; g = c.g; b = c.b }

@@ -8,10 +8,10 @@ ghost use Rattle.cept_profile.specs.Look.{shape_in, shape_of, shape_of_sign};
 ghost use Rattle.cept_profile.specs.Serial.{is_marker, own_attributes_of, row_in};
 ghost use Rattle.cept_codes.specs.declared.cell.Marker.{Marker};
 ghost use Rattle.cept_codes.specs.declared.cell.What.TheVariants.{Marker as stands};
-ghost use Rattle.cept_rows.specs.Brush.{IsBare, IsBrush, IsDipped};
-ghost use Rattle.cept_rows.specs.Brush.{attributes_by, small_shape, space_by, space_for};
+ghost use Rattle.cept_rows.specs.inside.Brush.{IsBare, IsBrush, IsDipped};
+ghost use Rattle.cept_rows.specs.inside.Brush.{attributes_by, small_shape, space_by, space_for};
 ghost use Rattle.cept_rows.specs.SmallLooks.{sign_of, small_of};
-ghost use Rattle.cept_rows.specs.RowsByCell.{is_downloaded, is_set_d, pattern_of_sign};
+ghost use Rattle.cept_rows.specs.inside.RowsByCell.{is_downloaded, is_set_d, pattern_of_sign};
 ghost use Rattle.cept_rows.specs.Source.{look_by_itself};
 
 use crate::small_look::{Kind, Sign, SmallLook};

@@ -3,10 +3,10 @@ ghost use Rattle.std.specs.Prelude.{option_copied};
 ghost use Rattle.cept_codes.specs.declared.look.Pattern.{Pattern};
 ghost use Rattle.cept_profile.specs.Definitions.{inks_of};
 ghost use Rattle.cept_profile.specs.Look.{shape_of_sign};
-ghost use Rattle.cept_rows.specs.RowsByCell.{pattern_of_sign};
+ghost use Rattle.cept_rows.specs.inside.RowsByCell.{pattern_of_sign};
 ghost use Rattle.cept_codes.specs.Glyph.{IsValidGlyph};
 ghost use Rattle.cept_rows.specs.DrawnWith.{drawn_with};
-ghost use Rattle.cept_rows.specs.SmallLooks.{drawing_of};
+ghost use Rattle.cept_rows.specs.inside.SmallLooks.{drawing_of};
 
 use cept_codes::{Glyph, Inks, Paint, Pattern, SetId};
 use cept_colours::Colours;

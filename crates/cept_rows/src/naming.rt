@@ -12,7 +12,8 @@ ghost use Rattle.cept_profile.specs.PageParts.{row_pen_in};
 ghost use Rattle.cept_profile.specs.RowsFromAbove.{looks_in};
 ghost use Rattle.cept_profile.specs.Serial.{row_in};
 ghost use Rattle.cept_profile.specs.State.{Core};
-ghost use Rattle.cept_rows.specs.KeptNames.{code_kept, names_kept, names_made, names_of_place};
+ghost use Rattle.cept_rows.specs.KeptNames.{code_kept, names_kept, names_made};
+ghost use Rattle.cept_rows.specs.inside.KeptNames.{names_of_place};
 ghost use Rattle.cept_rows.specs.KeptNames.{own_names};
 ghost use Rattle.cept_rows.specs.Source.{AreValidCells};
 

@@ -2,12 +2,14 @@ ghost use Rattle.std.specs.Prelude.{◌≡◌, ◌+◌, ◌-◌, ◌≤◌, fals
 ghost use Rattle.cept_codes.specs.Look.{IsValidLook};
 ghost use Rattle.cept_profile.specs.Look.{part_of};
 ghost use Rattle.cept_profile.specs.Tiling.{covers_below, is_covered_from_left};
-ghost use Rattle.cept_rows.specs.Flagged.{look_at, with_look};
-ghost use Rattle.cept_rows.specs.Places.{covers_next, look_below, look_beside, own_drawing};
-ghost use Rattle.cept_rows.specs.Places.{with_drawn};
-ghost use Rattle.cept_rows.specs.SmallLooks.{IsSmallLook, drawing_of, has_pattern, small_of};
+ghost use Rattle.cept_rows.specs.Flagged.{look_at};
+ghost use Rattle.cept_rows.specs.inside.Flagged.{with_look};
+ghost use Rattle.cept_rows.specs.inside.Places.{covers_next, look_below, look_beside, own_drawing};
+ghost use Rattle.cept_rows.specs.inside.Places.{with_drawn};
+ghost use Rattle.cept_rows.specs.SmallLooks.{IsSmallLook, has_pattern, small_of};
+ghost use Rattle.cept_rows.specs.inside.SmallLooks.{drawing_of};
 ghost use Rattle.cept_rows.specs.Source.{place_made};
-ghost use Rattle.cept_rows.specs.Walk.{IsWalk};
+ghost use Rattle.cept_rows.specs.inside.Walk.{IsWalk};
 
 use crate::row_looks::RowLooks;
 use crate::small_look::SmallLook;

@@ -15,10 +15,11 @@ ghost use Rattle.cept_profile.specs.RowsFromAbove.{look_from, looks_in, row_from
 ghost use Rattle.cept_profile.specs.Serial.{row_in};
 ghost use Rattle.cept_profile.specs.State.{Core, definitions_of};
 ghost use Rattle.cept_profile.specs.Tiling.{column_entry, covers_below, covers_right};
-ghost use Rattle.cept_rows.specs.Brush.{attributes_by};
+ghost use Rattle.cept_rows.specs.inside.Brush.{attributes_by};
 ghost use Rattle.cept_rows.specs.DrawnWith.{drawn_with};
-ghost use Rattle.cept_rows.specs.Flagged.{IsMadeTo, look_at};
-ghost use Rattle.cept_rows.specs.Places.{IsMadeBeside, IsMadeFrom};
+ghost use Rattle.cept_rows.specs.Flagged.{look_at};
+ghost use Rattle.cept_rows.specs.inside.Flagged.{IsMadeTo};
+ghost use Rattle.cept_rows.specs.inside.Places.{IsMadeBeside, IsMadeFrom};
 ghost use Rattle.cept_rows.specs.RowsByCell.{FollowsToTheRight, IsCoveredAlike};
 ghost use Rattle.cept_rows.specs.Source.{AreValidCells, own_look, place_made, row_made};
 

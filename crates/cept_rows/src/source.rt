@@ -5,13 +5,13 @@ ghost use Rattle.cept_codes.specs.Cell.{IsValidWhat};
 ghost use Rattle.cept_codes.specs.Glyph.{IsValidGlyph};
 ghost use Rattle.cept_codes.specs.declared.cell.What.TheVariants.{Marker as stands};
 ghost use Rattle.cept_profile.specs.Serial.{held_sign, is_marker, row_in};
-ghost use Rattle.cept_rows.specs.Brush.{attributes_by, small_shape};
+ghost use Rattle.cept_rows.specs.inside.Brush.{attributes_by, small_shape};
 ghost use Rattle.cept_rows.specs.DrawnWith.{drawn_with};
-ghost use Rattle.cept_rows.specs.Places.{own_drawing};
-ghost use Rattle.cept_rows.specs.RowsByCell.{pattern_of_sign};
+ghost use Rattle.cept_rows.specs.inside.Places.{own_drawing};
+ghost use Rattle.cept_rows.specs.inside.RowsByCell.{pattern_of_sign};
 ghost use Rattle.cept_rows.specs.SmallLooks.{sign_of};
 ghost use Rattle.cept_rows.specs.Source.{AreValidCells, IsValidSource};
-ghost use Rattle.cept_rows.specs.Walk.{IsCarried, serial_in};
+ghost use Rattle.cept_rows.specs.inside.Walk.{IsCarried, serial_in};
 
 use crate::colours::{back_of, fore_of};
 use crate::drawing::{Drawing, drawing_of_glyph, pattern_of};

@@ -1,7 +1,7 @@
 ghost use Rattle.std.specs.Prelude.{◌≡◌, ◌-◌};
 ghost use Rattle.cept_codes.specs.declared.cell.What.TheVariants.{Marker as stands};
 ghost use Rattle.cept_profile.specs.Serial.{row_in};
-ghost use Rattle.cept_rows.specs.Walk.{IsOwnLook, IsWalk};
+ghost use Rattle.cept_rows.specs.inside.Walk.{IsLedOver, IsWalk};
 
 use crate::cell_look::{Brush, sign_held, sign_of_glyph, take_up};
 use crate::small_look::{Sign, SmallLook};
@@ -56,8 +56,7 @@ impl Walk {
     #[inline(always)]
     pub(crate) fn look(&mut self, column: Column, source: &RowSource) -> OwnLook
         requires { IsWalk source.now (column - 1) self.old }
-        ensures own { IsOwnLook source.now column result }
-        ensures walk { IsWalk source.now column self.new }
+        ensures { IsLedOver source.now column result self.new }
     {
         match source.what(column) {
             What::Marker(marker) => self.look_of_marker(column, *marker, source),
@@ -98,8 +97,7 @@ impl Walk {
     fn look_of_marker(&mut self, column: Column, marker: Marker, source: &RowSource) -> OwnLook
         requires there { row_in source.now.cells column ≡ stands marker }
         requires walk { IsWalk source.now (column - 1) self.old }
-        ensures own { IsOwnLook source.now column result }
-        ensures walk { IsWalk source.now column self.new }
+        ensures { IsLedOver source.now column result self.new }
     {
         let space = self.space;
         let size = self.influence.full().size;

@@ -18,7 +18,7 @@ use Rattle.cept_parser.specs.Controls.{one_byte}
 use Rattle.cept_parser.specs.Escape.{escape, escape_1}
 use Rattle.cept_parser.specs.declared.fit.Fit.TheVariants.{Open}
 use Rattle.cept_parser.specs.Fit.{fit}
-use Rattle.cept_parser.specs.Waits.{outcome_at_misfit}
+use Rattle.cept_parser.specs.inside.Waits.{outcome_at_misfit}
 use Rattle.cept_parser.specs.Grammar.{unit, fits, grows, escape_unit, begins_escape}
 use Rattle.cept_parser.specs.Items.{Front, front, front_of, waiting_reading}
 use Rattle.cept_parser.specs.Items.{closing_items, said_at_end}

@@ -4,7 +4,8 @@ ghost use Rattle.cept_profile.specs.State.{State};
 ghost use Rattle.cept_profile.specs.Valid.{IsValidState};
 ghost use Rattle.cept_repaint.specs.Applied.{IsApplied};
 ghost use Rattle.cept_undo.specs.Past.{FitsTogether, IsBegun, IsBetweenEdits, IsNotBegun, IsWithinEdit};
-ghost use Rattle.cept_undo.specs.Past.{StaysBegun, StaysUnbegun, at_begin, future, most_kept, past};
+ghost use Rattle.cept_undo.specs.Outside.{IsAppliedOutside};
+ghost use Rattle.cept_undo.specs.Past.{StaysBegun, at_begin, future, most_kept, past};
 ghost use Rattle.cept_undo.specs.Turned.{PaintsTurn, TouchesNothing, TurnsTo};
 
 use crate::turn::{give_back, take_free, turn};
@@ -132,8 +133,7 @@ impl Undo {
     )
         requires between { IsBetweenEdits self.old screen.old }
         requires valid { IsValidCommand command.now }
-        ensures edits { StaysUnbegun self.old screen.old self.new screen.new }
-        ensures applied { IsApplied screen.old command.now screen.new marks.new
+        ensures { IsAppliedOutside self.old screen.old command.now self.new screen.new marks.new
             (G.state glass.old) (G.state glass.new) steps.old steps.new }
     {
         if self.holds_none() {
@@ -165,8 +165,7 @@ impl Undo {
     )
         requires between { IsBetweenEdits self.old screen.old }
         requires valid { IsValidCommand command.now }
-        ensures edits { StaysUnbegun self.old screen.old self.new screen.new }
-        ensures applied { IsApplied screen.old command.now screen.new marks.new
+        ensures { IsAppliedOutside self.old screen.old command.now self.new screen.new marks.new
             (G.state glass.old) (G.state glass.new) steps.old steps.new }
     {
         give_back(&mut self.undone, &mut self.spare);

@@ -1,13 +1,7 @@
 -- The first part of bytes, and what stands after it (this project's own). Clauses alone cite this file.
-use Rattle.std.specs.Prelude.{ℕ, ◌≡◌, ◌≤◌, ◌<◌, ◌+◌, ◌==◌, List, [], ◌∷◌, length, take, drop, Option, Some, None}
+use Rattle.std.specs.Prelude.{ℕ, ◌≡◌, ◌≤◌, ◌<◌, ◌+◌, List, ◌∷◌, length, take, drop, Option, Some, None}
 use Rattle.std.specs.Borrow.{Bor}
-use Rattle.std.specs.List.{slice_split}
 use Rattle.cept_words.specs.Lines.{lines}
-
--- the parts of what stands after a mark, if one does
-abbrev pub parts_after : ℕ → Option (Bor (List ℕ)) → List (List ℕ)
-parts_after mark None = []
-parts_after mark (Some rest) = slice_split (λ a. a == mark) rest.now
 
 -- bytes are this part alone; or this part stands at their front, and the rest after one byte more
 abbrev pub IsCut : List ℕ → List ℕ → Option (Bor (List ℕ)) → Type 0

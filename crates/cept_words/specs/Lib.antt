@@ -2,3 +2,4 @@ pub mod Cut
 pub mod Faults
 pub mod Lines
 pub mod Words
+pub mod inside

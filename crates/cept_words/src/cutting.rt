@@ -1,6 +1,7 @@
 ghost use Rattle.std.specs.Prelude.{◌≡◌, ◌∷◌, ◌==◌};
 ghost use Rattle.std.specs.List.{slice_split};
-ghost use Rattle.cept_words.specs.Cut.{parts_after, IsCut};
+ghost use Rattle.cept_words.specs.Cut.{IsCut};
+ghost use Rattle.cept_words.specs.inside.Cut.{parts_after};
 
 /// What stands before the first of these bytes that is the mark, and what stands after it.
 pub(crate) fn cut(bytes: &[u8], mark: u8) -> (&[u8], Option<&[u8]>)

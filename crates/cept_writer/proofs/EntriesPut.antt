@@ -16,9 +16,12 @@ use Rattle.cept_profile.specs.State.{Core}
 use Rattle.cept_profile.specs.Valid.{AllValid, IsValidCore}
 use Rattle.cept_writer.specs.declared.last.LastPattern.{LastPattern}
 use Rattle.cept_writer.specs.CompactCommands.{CodedPattern, NumberedColour, changed_entry, coded_pattern, is_next_entry}
-use Rattle.cept_writer.specs.EntryPieces.{entries_after, entry_numbered, entry_piece, last_below, last_pattern, last_then}
-use Rattle.cept_writer.specs.EntryPieces.{later_of, number_after, number_then, pattern_numbered, pattern_piece}
-use Rattle.cept_writer.specs.EntryPieces.{patterns_after, piece_after, pieces_in_turn}
+use Rattle.cept_writer.specs.EntryPieces.{entry_numbered, entry_piece, last_below}
+use Rattle.cept_writer.specs.inside.EntryPieces.{entries_after, last_pattern, last_then}
+use Rattle.cept_writer.specs.EntryPieces.{later_of, pattern_numbered, pattern_piece}
+use Rattle.cept_writer.specs.inside.EntryPieces.{number_after, number_then}
+use Rattle.cept_writer.specs.EntryPieces.{piece_after, pieces_in_turn}
+use Rattle.cept_writer.specs.inside.EntryPieces.{patterns_after}
 use Rattle.cept_writer.proofs.StrokesByPart.{all_range}
 
 -- the last one of one number more

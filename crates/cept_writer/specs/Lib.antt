@@ -8,3 +8,4 @@ pub mod SegmentCommands
 pub mod SegmentPieces
 pub mod EntryPieces
 pub mod CompactCommands
+pub mod inside

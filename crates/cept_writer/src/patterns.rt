@@ -3,8 +3,9 @@ ghost use Rattle.cept_codes.specs.Look.{IsValidPattern};
 ghost use Rattle.cept_outside.specs.SinkState.{PutsText};
 ghost use Rattle.cept_parser.specs.Spelling.{form_of, spellings};
 ghost use Rattle.cept_writer.specs.CompactCommands.{coded_pattern};
-ghost use Rattle.cept_writer.specs.EntryPieces.{has_form, is_code_next, last_then, pattern_after};
-ghost use Rattle.cept_writer.specs.EntryPieces.{pattern_numbered, pattern_piece, patterns_after};
+ghost use Rattle.cept_writer.specs.inside.EntryPieces.{has_form, is_code_next, last_then, pattern_after};
+ghost use Rattle.cept_writer.specs.EntryPieces.{pattern_numbered, pattern_piece};
+ghost use Rattle.cept_writer.specs.inside.EntryPieces.{patterns_after};
 ghost use Rattle.cept_writer.specs.EntryPieces.{pieces_in_turn};
 
 use crate::last::LastPattern;

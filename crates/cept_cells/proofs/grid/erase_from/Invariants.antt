@@ -1,6 +1,6 @@
 use Rattle.cept_codes.specs.Cell.{blank_cell}
 use Rattle.cept_codes.specs.Table.{entry, HasMadeEntries}
-use Rattle.cept_cells.specs.Erased.{cell_after_erasing}
+use Rattle.cept_cells.specs.inside.Erased.{cell_after_erasing}
 use Rattle.cept_cells.proofs.grid.erase_from.Given as goal
 
 abbrev pub invariant-loop-i : goal.invariant-loop-i

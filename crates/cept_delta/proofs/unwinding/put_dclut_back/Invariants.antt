@@ -1,6 +1,6 @@
 use Rattle.std.proofs.Common.{◌≡◌, nat_lt}
 use Rattle.cept_profile.specs.OldValues.{old_dclut}
-use Rattle.cept_delta.specs.PutBack.{entries_back}
+use Rattle.cept_delta.specs.inside.PutBack.{entries_back}
 use Rattle.cept_delta.proofs.unwinding.put_dclut_back.Given as goal
 
 abbrev pub invariant-loop-i : goal.invariant-loop-i

@@ -1,6 +1,6 @@
 use Rattle.std.proofs.Common.{◌≡◌, None, nat_lt}
 use Rattle.cept_profile.specs.OldValues.{old_pattern}
-use Rattle.cept_delta.specs.PutBack.{entries_back}
+use Rattle.cept_delta.specs.inside.PutBack.{entries_back}
 use Rattle.cept_delta.proofs.unwinding.unwind_patterns.Given as goal
 
 abbrev pub invariant-loop-code : goal.invariant-loop-code

@@ -1,6 +1,6 @@
 use Rattle.std.proofs.Common.{◌≡◌, ◌==◌, ◌&&◌, None, nat_lt}
 use Rattle.cept_codes.specs.Table.{entry}
-use Rattle.cept_delta.specs.PutBack.{cells_back}
+use Rattle.cept_delta.specs.inside.PutBack.{cells_back}
 use Rattle.cept_delta.proofs.unwinding.unwind_row.Given as goal
 
 abbrev pub invariant-loop-number : goal.invariant-loop-number

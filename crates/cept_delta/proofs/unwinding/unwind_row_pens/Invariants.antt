@@ -1,7 +1,7 @@
 use Rattle.std.proofs.Common.{◌≡◌, nat_lt}
 use Rattle.cept_codes.specs.Attribute.{unset_pen}
 use Rattle.cept_profile.specs.OldValues.{old_row_pen}
-use Rattle.cept_delta.specs.PutBack.{entries_back}
+use Rattle.cept_delta.specs.inside.PutBack.{entries_back}
 use Rattle.cept_delta.proofs.unwinding.unwind_row_pens.Given as goal
 
 abbrev pub invariant-loop-number : goal.invariant-loop-number

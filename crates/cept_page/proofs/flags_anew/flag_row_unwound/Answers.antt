@@ -3,7 +3,7 @@ use Rattle.cept_delta.specs.Noted.{notes_row}
 use Rattle.cept_profile.specs.PageParts.{row_pen_in}
 use Rattle.std.proofs.Common.{sym, ap, ◌∙◌, arith}
 use Rattle.cept_delta.proofs.Laws.{unnoted}
-use Rattle.cept_page.specs.FlagsAnew.{IsSingle, RowHasNone, row_in_table}
+use Rattle.cept_page.specs.inside.FlagsAnew.{IsSingle, RowHasNone, row_in_table}
 use Rattle.cept_page.proofs.FlagsAnew.{IsFlagMade-stays}
 use Rattle.cept_page.proofs.flags_anew.flag_row_unwound.Goals as goal
 

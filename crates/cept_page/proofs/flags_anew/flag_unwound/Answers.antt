@@ -1,7 +1,8 @@
 use Rattle.std.proofs.Common.{◌+◌, sym, subst, arith}
 use Rattle.cept_profile.specs.PageParts.{row_pen_in}
 use Rattle.cept_profile.specs.Serial.{is_marker}
-use Rattle.cept_page.specs.FlagsAnew.{AreFlagsMade, IsSingle, IsSingleRowAnew, IsUnmarkedRow, RowHasNone, row_in_table}
+use Rattle.cept_page.specs.inside.FlagsAnew.{AreFlagsMade, IsSingle, IsSingleRowAnew, IsUnmarkedRow, RowHasNone}
+use Rattle.cept_page.specs.inside.FlagsAnew.{row_in_table}
 use Rattle.cept_page.proofs.FlagsAnew.{AreFlagsMade-more, AreFlagsMade-none, IsKeptPage-noted}
 use Rattle.cept_page.proofs.flags_anew.flag_unwound.Goals as goal
 

@@ -1,4 +1,4 @@
-use Rattle.cept_page.specs.FlagsAnew.{AreFlagsMade, IsSingleRowAnew, IsUnmarkedRow}
+use Rattle.cept_page.specs.inside.FlagsAnew.{AreFlagsMade, IsSingleRowAnew, IsUnmarkedRow}
 use Rattle.cept_page.proofs.flags_anew.flag_unwound.Given as goal
 
 abbrev pub invariant-loop-number : goal.invariant-loop-number

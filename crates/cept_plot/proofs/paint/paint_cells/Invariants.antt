@@ -1,5 +1,5 @@
 use Rattle.cept_profile.specs.State.{Core}
-use Rattle.cept_plot.specs.Drawing.{StandsDrawn}
+use Rattle.cept_plot.specs.inside.Drawing.{StandsDrawn}
 use Rattle.cept_plot.specs.Lit.{is_lit}
 use Rattle.cept_plot.proofs.PaintedCells.{StandsPainted}
 use Rattle.cept_plot.proofs.paint.paint_cells.Given as goal

@@ -2,7 +2,8 @@ use Rattle.std.proofs.Common.{◌≡◌, ◌≢◌, ℕ, ◌+◌, ◌-◌, sym, 
 use Rattle.cept_profile.specs.Names.{Names}
 use Rattle.cept_profile.specs.NamesFromAbove.{names_in_row}
 use Rattle.cept_profile.specs.Serial.{row_in}
-use Rattle.cept_rows.specs.KeptNames.{names_kept, names_made, names_of_place}
+use Rattle.cept_rows.specs.KeptNames.{names_kept, names_made}
+use Rattle.cept_rows.specs.inside.KeptNames.{names_of_place}
 use Rattle.cept_rows.proofs.Columns.{one_more}
 use Rattle.cept_rows.proofs.NamesKept.{names_from_above-0, own_named, parts_shown, place_made}
 use Rattle.cept_rows.proofs.RowsByPart.{own_at}

@@ -1,7 +1,8 @@
 use Rattle.std.proofs.Common.{◌≡◌, ℕ, ◌-◌, ◌≤◌, ◌<◌}
 use Rattle.cept_profile.specs.NamesFromAbove.{names_in_row}
 use Rattle.cept_profile.specs.Serial.{row_in}
-use Rattle.cept_rows.specs.KeptNames.{names_kept, names_made, names_of_place}
+use Rattle.cept_rows.specs.KeptNames.{names_kept, names_made}
+use Rattle.cept_rows.specs.inside.KeptNames.{names_of_place}
 use Rattle.cept_rows.proofs.naming.name_places.Given as goal
 
 abbrev pub invariant-loop-number : goal.invariant-loop-number

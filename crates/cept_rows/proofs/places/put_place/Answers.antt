@@ -5,8 +5,9 @@ use Rattle.cept_profile.specs.Look.{look_with_part, part_of}
 use Rattle.cept_profile.specs.Serial.{row_in}
 use Rattle.cept_profile.specs.Tiling.{covers_below, is_high, is_wide, origin_part}
 use Rattle.cept_profile.specs.Tiling.{part_to_the_right, single_part}
-use Rattle.cept_rows.specs.Flagged.{look_at, with_look}
-use Rattle.cept_rows.specs.Places.{look_below, look_beside}
+use Rattle.cept_rows.specs.Flagged.{look_at}
+use Rattle.cept_rows.specs.inside.Flagged.{with_look}
+use Rattle.cept_rows.specs.inside.Places.{look_below, look_beside}
 use Rattle.cept_rows.specs.Source.{own_look, own_size, place_made}
 use Rattle.cept_rows.proofs.KeptLooks.{kept_is, small_is}
 use Rattle.cept_rows.proofs.PlacesKept.{drawing_is, origin-covers, origin_is}

@@ -6,10 +6,11 @@ use Rattle.cept_profile.specs.Look.{part_of}
 use Rattle.cept_profile.specs.RowsFromAbove.{row_from_above}
 use Rattle.cept_profile.specs.Serial.{row_in}
 use Rattle.cept_profile.specs.Tiling.{is_covered_from_left}
-use Rattle.cept_rows.specs.Flagged.{IsMadeTo, look_at}
-use Rattle.cept_rows.specs.Places.{covers_next}
+use Rattle.cept_rows.specs.Flagged.{look_at}
+use Rattle.cept_rows.specs.inside.Flagged.{IsMadeTo}
+use Rattle.cept_rows.specs.inside.Places.{covers_next}
 use Rattle.cept_rows.specs.Source.{own_look, own_size, place_made}
-use Rattle.cept_rows.specs.Walk.{IsWalk}
+use Rattle.cept_rows.specs.inside.Walk.{IsWalk}
 use Rattle.cept_rows.proofs.Columns.{made_all, made_next}
 use Rattle.cept_rows.proofs.RowsByPart.{IsValidLook-cell, IsValidLook-look_from, left_made}
 use Rattle.cept_rows.proofs.RowsByPart.{look_from-0, made_before, made_end, made_stays}

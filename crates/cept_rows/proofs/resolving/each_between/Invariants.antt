@@ -1,8 +1,8 @@
 use Rattle.std.proofs.Common.{◌≡◌, ◌-◌}
-use Rattle.cept_rows.specs.Flagged.{IsMadeTo}
-use Rattle.cept_rows.specs.Places.{covers_next}
+use Rattle.cept_rows.specs.inside.Flagged.{IsMadeTo}
+use Rattle.cept_rows.specs.inside.Places.{covers_next}
 use Rattle.cept_rows.specs.Source.{place_made}
-use Rattle.cept_rows.specs.Walk.{IsWalk}
+use Rattle.cept_rows.specs.inside.Walk.{IsWalk}
 use Rattle.cept_rows.proofs.resolving.each_between.Given as goal
 
 abbrev pub invariant-loop-number : goal.invariant-loop-number

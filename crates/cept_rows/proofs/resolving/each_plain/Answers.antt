@@ -6,8 +6,8 @@ use Rattle.cept_profile.specs.PageParts.{paint_in}
 use Rattle.cept_profile.specs.Serial.{is_marker, own_attributes_of, row_in}
 use Rattle.cept_profile.specs.Tiling.{covers_below}
 use Rattle.cept_codes.specs.Attribute.{unset_pen}
-use Rattle.cept_rows.specs.Brush.{attributes_by, small_shape}
-use Rattle.cept_rows.specs.Flagged.{IsMadeTo}
+use Rattle.cept_rows.specs.inside.Brush.{attributes_by, small_shape}
+use Rattle.cept_rows.specs.inside.Flagged.{IsMadeTo}
 use Rattle.cept_rows.specs.SmallLooks.{look_kept, no_drawing, small_of}
 use Rattle.cept_rows.specs.Source.{own_look}
 use Rattle.cept_rows.proofs.Columns.{made_next, one_more}

@@ -1,8 +1,8 @@
 use Rattle.std.proofs.Common.{◌≡◌, ℕ, ◌-◌, ◌≤◌, ◌<◌, false}
 use Rattle.cept_profile.specs.Look.{sets_double_size}
 use Rattle.cept_profile.specs.Serial.{is_marker, row_in}
-use Rattle.cept_rows.specs.Brush.{IsBrush}
-use Rattle.cept_rows.specs.Flagged.{IsMadeTo}
+use Rattle.cept_rows.specs.inside.Brush.{IsBrush}
+use Rattle.cept_rows.specs.inside.Flagged.{IsMadeTo}
 use Rattle.cept_rows.specs.Source.{own_look}
 use Rattle.cept_rows.proofs.resolving.each_plain.Given as goal
 

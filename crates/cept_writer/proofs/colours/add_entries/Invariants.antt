@@ -1,5 +1,6 @@
 use Rattle.std.proofs.Common.{◌≡◌, ◌+◌, ◌*◌, ◌≤◌, ◌++◌, length}
-use Rattle.cept_writer.specs.EntryPieces.{entry_numbered, entry_piece, last_below, number_after, pieces_in_turn}
+use Rattle.cept_writer.specs.EntryPieces.{entry_numbered, entry_piece, last_below, pieces_in_turn}
+use Rattle.cept_writer.specs.inside.EntryPieces.{number_after}
 use Rattle.cept_writer.proofs.colours.add_entries.Given as goal
 
 abbrev pub invariant-loop-i : goal.invariant-loop-i

@@ -1,7 +1,8 @@
 use Rattle.std.proofs.Common.{◌≡◌}
 use Rattle.cept_outside.specs.SinkState.{Gains}
 use Rattle.cept_parser.specs.Spelling.{spellings}
-use Rattle.cept_writer.specs.EntryPieces.{last_below, last_pattern, pattern_numbered, pattern_piece, pieces_in_turn}
+use Rattle.cept_writer.specs.EntryPieces.{last_below, pattern_numbered, pattern_piece, pieces_in_turn}
+use Rattle.cept_writer.specs.inside.EntryPieces.{last_pattern}
 use Rattle.cept_writer.proofs.patterns.put_patterns.Given as goal
 
 abbrev pub invariant-loop-i : goal.invariant-loop-i

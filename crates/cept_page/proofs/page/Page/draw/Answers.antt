@@ -1,6 +1,6 @@
 use Rattle.std.proofs.Common.{◌≡◌, subst}
 use Rattle.cept_profile.specs.State.{Page}
-use Rattle.cept_page.specs.Inside.{page_of}
+use Rattle.cept_page.specs.Fields.{page_of}
 use Rattle.cept_page.specs.Behind.{page_behind}
 use Rattle.cept_page.proofs.MarkedRows.{IsAreaOf-valid, IsKeptPage-after}
 use Rattle.cept_page.proofs.NotedPages.{page_behind-stroke}

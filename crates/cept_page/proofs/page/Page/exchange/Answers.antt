@@ -5,7 +5,7 @@ use Rattle.cept_profile.specs.Valid.{IsValidPage}
 use Rattle.cept_delta.specs.Exchanged.{HasSameLocations, page_exchanged}
 use Rattle.cept_delta.specs.Noter.{page_with}
 use Rattle.cept_delta.proofs.Laws.{HasSameLocations-page}
-use Rattle.cept_page.specs.Inside.{page_of}
+use Rattle.cept_page.specs.Fields.{page_of}
 use Rattle.cept_page.proofs.page.Page.exchange.Goals as goal
 
 pub exchange_page-requires-clause-valid : goal.exchange_page-requires-clause-valid

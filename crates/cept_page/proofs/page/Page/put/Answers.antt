@@ -2,8 +2,9 @@ use Rattle.std.proofs.Common.{◌≡◌, subst}
 use Rattle.cept_codes.specs.declared.stroke.Stroke.TheVariants as strokes
 use Rattle.cept_profile.specs.State.{Page}
 use Rattle.cept_page.specs.Drawn.{IsDrawn}
-use Rattle.cept_page.specs.Inside.{page_of}
-use Rattle.cept_page.specs.MarkedRows.{IsUnflagged, StandsAlone}
+use Rattle.cept_page.specs.Fields.{page_of}
+use Rattle.cept_page.specs.MarkedRows.{StandsAlone}
+use Rattle.cept_page.specs.inside.MarkedRows.{IsUnflagged}
 use Rattle.cept_page.specs.Behind.{page_behind}
 use Rattle.cept_page.proofs.MarkedRows.{IsKeptPage-after, IsUnflagged-before, StandsAlone-unflagged}
 use Rattle.cept_page.proofs.NotedPages.{page_behind-stroke}
@@ -22,8 +23,8 @@ returns-clause-drawn g c =
 pub returns-clause-before : goal.returns-clause-before
 returns-clause-before g c = λ yes.
     subst (λ (p : Page). StandsAlone p c.args.place.row) c.self.view_is
-    (StandsAlone-unflagged c.self.invariant c.args.place.row c.in_row.ensures.on_screen.from_top
-    c.in_row.ensures.on_screen.to_bottom (IsUnflagged-before c.args.place c.args.cell.now c.in_row.ensures.on_screen
+    (StandsAlone-unflagged c.self.invariant c.args.place.row c.in_row.ensures.in_range.0
+    c.in_row.ensures.in_range.1 (IsUnflagged-before c.args.place c.args.cell.now c.in_row.ensures.in_range
     c.flag_put.ensures
     (subst (λ n. IsUnflagged c.flag_put.new.marked c.flag_put.new.sized n) c.in_row.ensures.row
     (c.is_unflagged.ensures yes))))
@@ -33,7 +34,7 @@ returns-clause-after g c = λ yes.
     StandsAlone-unflagged (IsKeptPage-after tt c.self.invariant
     (IsDrawn-put (page_of c.self.inside) c.args.place c.args.cell.now c.put.new.self c.self.invariant.rows
     c.self.invariant.colours c.self.invariant.names c.self.invariant.codes c.put.ensures.cells) c.flag_put.ensures)
-    c.args.place.row c.in_row.ensures.on_screen.from_top c.in_row.ensures.on_screen.to_bottom
+    c.args.place.row c.in_row.ensures.in_range.0 c.in_row.ensures.in_range.1
     (subst (λ n. IsUnflagged c.flag_put.new.marked c.flag_put.new.sized n) c.in_row.ensures.row
     (c.is_unflagged.ensures yes))
 

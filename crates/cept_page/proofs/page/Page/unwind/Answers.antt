@@ -3,7 +3,7 @@ use Rattle.cept_profile.specs.OldValues.{page_unwound}
 use Rattle.cept_profile.specs.State.{Page}
 use Rattle.cept_profile.specs.Valid.{IsValidPage}
 use Rattle.cept_delta.specs.Noter.{page_with}
-use Rattle.cept_page.specs.Inside.{page_of}
+use Rattle.cept_page.specs.Fields.{page_of}
 use Rattle.cept_page.proofs.FlagsAnew.{HasSameLocations-refl}
 use Rattle.cept_page.proofs.page.Page.unwind.Goals as goal
 

@@ -3,7 +3,8 @@ use Rattle.cept_codes.specs.declared.item.Item.{Item}
 use Rattle.cept_codes.specs.Command.{IsValidForm}
 use Rattle.cept_parser.specs.declared.context.Context.{Context}
 use Rattle.cept_parser.specs.Items.{Reading, reading_at}
-use Rattle.cept_parser.specs.Waits.{HasLeft, cut_item}
+use Rattle.cept_parser.specs.Waits.{HasLeft}
+use Rattle.cept_parser.specs.inside.Waits.{cut_item}
 use Rattle.cept_parser.proofs.LongestBeginningLemmas.{waits_fits}
 use Rattle.cept_parser.proofs.OneByteMoreLemmas.{read_cut_by}
 use Rattle.cept_parser.proofs.ReaderLemmas.{left_after}

@@ -1,7 +1,7 @@
 use Rattle.std.proofs.Common.{◌≡◌, ℕ, List, false, ap, arith, ◌∙◌}
 use Rattle.std.proofs.lemmas.Bool.{both_ways}
 use Rattle.cept_parser.specs.Items.{reading_at}
-use Rattle.cept_parser.specs.Fit.{word}
+use Rattle.cept_parser.specs.inside.Fit.{word}
 use Rattle.cept_parser.specs.Waits.{in_pattern}
 use Rattle.cept_parser.proofs.OneByteMoreLemmas.{whole_left, longer_left, open_left}
 use Rattle.cept_parser.proofs.PatternLemmas.{pattern_more}

@@ -2,7 +2,7 @@ use Rattle.std.proofs.Common.{ℕ, ◌-◌, List, [], ◌∷◌, ◌++◌, lengt
 use Rattle.cept_codes.specs.declared.item.Item.{Item}
 use Rattle.cept_parser.specs.Grammar.{unit}
 use Rattle.cept_parser.specs.Items.{Reading}
-use Rattle.cept_parser.specs.Waits.{outcome_at_misfit, cut_item}
+use Rattle.cept_parser.specs.inside.Waits.{outcome_at_misfit, cut_item}
 use Rattle.cept_parser.proofs.OneByteMoreLemmas.{read_closed, read_as_longer}
 use Rattle.cept_parser.proofs.ReaderLemmas.{HasTaken, one_taken, nothing_beside, full_fit, grow_fit}
 use Rattle.cept_parser.proofs.ReaderLemmas.{none_taken, start_after, may_from}

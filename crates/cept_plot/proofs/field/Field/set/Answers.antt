@@ -2,7 +2,7 @@ use Rattle.std.proofs.Common.{◌≡◌, ℕ, ◌+◌, ◌-◌, ◌*◌, ◌%◌
 use Rattle.std.proofs.Common.{sym, ap, ◌∙◌, subst, arith, rules, bit_or, bit_and, w8}
 use Rattle.std.proofs.lemmas.Nat.{one_shl, or_lt, pow_below}
 use Rattle.std.proofs.lemmas.Nat.Bits.{bit_at_clear_other, bit_at_clear_same, bit_at_set_other, bit_at_set_same}
-use Rattle.cept_plot.specs.Lit.{IsSet}
+use Rattle.cept_plot.specs.inside.Lit.{IsSet}
 use Rattle.cept_plot.specs.Points.{block_of}
 use Rattle.cept_plot.proofs.PointSet.{AreValues-set, IsSet-point}
 use Rattle.cept_plot.proofs.field.Field.set.Goals as goal

@@ -1,5 +1,5 @@
 use Rattle.std.proofs.Common.{◌&&◌, nat_le, nat_lt}
-use Rattle.cept_plot.specs.Lit.{IsSet}
+use Rattle.cept_plot.specs.inside.Lit.{IsSet}
 use Rattle.cept_plot.proofs.field.Field.set_rows.Given as goal
 
 -- the points of the rows before y are set

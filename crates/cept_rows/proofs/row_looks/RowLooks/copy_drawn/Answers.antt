@@ -1,5 +1,6 @@
 use Rattle.std.proofs.Common.{sym, ◌∙◌, ap}
-use Rattle.cept_rows.specs.Flagged.{look_at, with_look}
+use Rattle.cept_rows.specs.Flagged.{look_at}
+use Rattle.cept_rows.specs.inside.Flagged.{with_look}
 use Rattle.cept_rows.proofs.KeptLooks.{kept_is, plain_is, plain_small, small_is}
 use Rattle.cept_rows.proofs.row_looks.RowLooks.copy_drawn.Goals as goal
 

@@ -1,6 +1,6 @@
 use Rattle.std.proofs.Common.{◌≡◌, sym, ap, inl, inr, ◌∙◌}
 use Rattle.cept_codes.specs.declared.cell.What.TheVariants as whats
-use Rattle.cept_rows.specs.Brush.{space_by}
+use Rattle.cept_rows.specs.inside.Brush.{space_by}
 use Rattle.cept_rows.specs.SmallLooks.{small_of}
 use Rattle.cept_rows.specs.Source.{look_by_itself}
 use Rattle.cept_rows.proofs.CellsAlone.{alone_plain, alone_replaced, among_is, sign_is}

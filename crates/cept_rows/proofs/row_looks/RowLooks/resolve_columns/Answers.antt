@@ -1,5 +1,5 @@
 use Rattle.std.proofs.Common.{◌+◌, ◌*◌, ◌≡◌, arith, subst, sym}
-use Rattle.cept_rows.specs.Brush.{IsBrush}
+use Rattle.cept_rows.specs.inside.Brush.{IsBrush}
 use Rattle.cept_rows.proofs.FlaggedColumns.{IsResolvedTo-as, IsResolvedTo-differ, IsResolvedTo-looks, IsResolvedTo-none}
 use Rattle.cept_rows.proofs.FlaggedColumns.{IsResolvedTo-skip, IsResolvedTo-to}
 use Rattle.cept_rows.proofs.row_looks.RowLooks.resolve_columns.Goals as goal

@@ -1,5 +1,6 @@
 use Rattle.std.proofs.Common.{not, ap, ◌∙◌}
-use Rattle.cept_rows.specs.Flagged.{look_at, with_look}
+use Rattle.cept_rows.specs.Flagged.{look_at}
+use Rattle.cept_rows.specs.inside.Flagged.{with_look}
 use Rattle.cept_rows.specs.Source.{look_by_itself}
 use Rattle.cept_rows.proofs.CellsAlone.{alone_drawn, alone_kept}
 use Rattle.cept_rows.proofs.KeptRows.{entry_at, kept_at}

@@ -1,5 +1,5 @@
 use Rattle.std.proofs.Common.{◌+◌, ◌≡◌, ◌∙◌, ap, get_or, arith, subst, sym, false, refl}
-use Rattle.cept_rows.specs.Brush.{IsBrush}
+use Rattle.cept_rows.specs.inside.Brush.{IsBrush}
 use Rattle.cept_rows.proofs.FlaggedColumns.{IsResolvedTo-as, IsResolvedTo-left, IsResolvedTo-more, IsResolvedTo-to}
 use Rattle.cept_rows.proofs.row_looks.RowLooks.resolve_eight.Goals as goal
 use Rattle.cept_rows.proofs.row_looks.RowLooks.resolve_eight.Goals.{then-flags-at, else-flags-at}

@@ -1,7 +1,7 @@
 use Rattle.std.proofs.Common.{List}
 use Rattle.cept_codes.specs.declared.look.Look.{Look}
-use Rattle.cept_rows.specs.Brush.{IsBrush}
-use Rattle.cept_rows.specs.Flagged.{IsResolvedTo}
+use Rattle.cept_rows.specs.inside.Brush.{IsBrush}
+use Rattle.cept_rows.specs.inside.Flagged.{IsResolvedTo}
 use Rattle.cept_rows.specs.Source.{look_by_itself}
 use Rattle.cept_rows.proofs.row_looks.RowLooks.resolve_eight.Given as goal
 

@@ -4,7 +4,7 @@ use Rattle.cept_codes.specs.Attribute.{IsValidFull, unset_pen}
 use Rattle.cept_profile.specs.Attributes.{cascade}
 use Rattle.cept_profile.specs.Serial.{row_in}
 use Rattle.cept_profile.proofs.Laws.{IsValidFull-cascade}
-use Rattle.cept_rows.specs.Brush.{attributes_by, small_shape}
+use Rattle.cept_rows.specs.inside.Brush.{attributes_by, small_shape}
 use Rattle.cept_rows.proofs.walk.Walk.at_start.Goals as goal
 
 pub returns : goal.returns

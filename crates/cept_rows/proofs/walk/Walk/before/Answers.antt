@@ -1,5 +1,5 @@
 use Rattle.std.proofs.Common.{◌≡◌, ◌+◌, ◌-◌, subst, arith}
-use Rattle.cept_rows.specs.Walk.{IsWalk}
+use Rattle.cept_rows.specs.inside.Walk.{IsWalk}
 use Rattle.cept_rows.proofs.walk.Walk.before.Goals as goal
 
 pub loop-passed-init : goal.loop-passed-init

@@ -1,6 +1,6 @@
 use Rattle.std.proofs.Common.{refl, ap, ◌∙◌}
 use Rattle.cept_codes.specs.declared.look.Shape.TheVariants as shapes
-use Rattle.cept_rows.specs.Brush.{small_shape}
+use Rattle.cept_rows.specs.inside.Brush.{small_shape}
 use Rattle.cept_rows.proofs.walk.Walk.pass_marker.Goals as goal
 
 pub returns : goal.returns

@@ -1,4 +1,4 @@
-use Rattle.std.proofs.Common.{◌≡◌, ◌≤◌, List, Option, [], drop, length, sym, ap, ◌∙◌, arith}
+use Rattle.std.proofs.Common.{◌≡◌, ◌≤◌, List, Option, [], drop, length, rules, sym, ap, ◌∙◌, arith}
 use Rattle.cept_profile.specs.OldValues.{OldValues}
 use Rattle.circular_buffer.specs.Buffer.{Buffer}
 use Rattle.cept_undo.specs.Past.{Edits, StaysUnbegun, future, past}
@@ -26,8 +26,8 @@ invariant_of-self-in-Some-2 g c =
 abbrev edits_after : List OldValues → List OldValues → Option OldValues → Edits
 edits_after kept undone begun = record { kept = kept; undone = undone; begun = begun }
 
-pub returns-in-Some-clause-edits : goal.returns-in-Some-clause-edits
-returns-in-Some-clause-edits g c =
+pub returns-in-Some : goal.returns-in-Some
+returns-in-Some g c =
     let edits = edits_after c.push_front.new.self.items c.give_back.new.undone.items c.self.inside.begun in
     let still = still_none _ c.args.self.now c.self.view_is c.requires.between.none_begun in
     let within : length c.self.inside.kept.items ≤ c.self.inside.kept.capacity =
@@ -50,19 +50,22 @@ returns-in-Some-clause-edits g c =
       fits = FitsTogether-same c.args.self.now edits c.args.screen.now c.apply_noting.new.self still same none c.requires.between.fits;
     } in
     elim c.match-push_front.branch [
-      | in-Some-1 w ↦ rw w.self-is stays
-      | in-None-1 w ↦ rw w.self-is stays
+      | in-Some-1 w ↦ record { edits = rw w.self-is stays; applied = (search rules) }
+      | in-None-1 w ↦ record { edits = rw w.self-is stays; applied = (search rules) }
     ]
 
-pub returns-in-None-clause-edits : goal.returns-in-None-clause-edits
-returns-in-None-clause-edits g c =
+pub returns-in-None : goal.returns-in-None
+returns-in-None g c =
     let still = still_none _ c.args.self.now c.self.view_is c.requires.between.none_begun in
     let first = none_first c.self.inside.kept.items c.in-None.ensures.value in
     let none = ap (λ (b : Buffer OldValues). b.items) c.pop_front.ensures.items ∙ ap (drop 1) first in
     record {
-      past = past-none _ c.apply_from.new.self none
-          ∙ sym (past-none c.args.self.now c.args.screen.now (sym (ap (λ (u : Edits). u.kept) c.self.view_is) ∙ first));
-      future = future-none _ c.apply_from.new.self c.give_back.ensures.none;
-      none_begun = still;
-      fits = FitsTogether-none _ c.apply_from.new.self still none c.give_back.ensures.none;
+      edits = record {
+        past = past-none _ c.apply_from.new.self none
+            ∙ sym (past-none c.args.self.now c.args.screen.now (sym (ap (λ (u : Edits). u.kept) c.self.view_is) ∙ first));
+        future = future-none _ c.apply_from.new.self c.give_back.ensures.none;
+        none_begun = still;
+        fits = FitsTogether-none _ c.apply_from.new.self still none c.give_back.ensures.none;
+      };
+      applied = (search rules);
     }

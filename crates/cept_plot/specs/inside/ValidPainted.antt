@@ -1,4 +1,4 @@
--- Valid commands that were painted in turn (this project's own). Private clauses alone cite this file.
+-- Valid commands that were painted in turn (this project's own).
 use Rattle.std.specs.Prelude.{ℕ, List}
 use Rattle.cept_codes.specs.declared.command.Command.{Command}
 use Rattle.cept_profile.specs.State.{State}

@@ -1,4 +1,4 @@
--- A set of points while it is drawn, cell by cell (this project's own). Private clauses alone cite this file.
+-- A set of points while it is drawn, cell by cell (this project's own).
 use Rattle.std.specs.Prelude.{ℕ, ◌≡◌, ◌&&◌, ◌==◌, nat_lt, Bool, false, if◌then◌else◌}
 use Rattle.cept_codes.specs.declared.cell.Cell.{Cell}
 use Rattle.cept_codes.specs.declared.cell.What.TheVariants as whats

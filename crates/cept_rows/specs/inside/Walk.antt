@@ -1,4 +1,4 @@
--- What is carried along a row (own). Private clauses alone cite it.
+-- What is carried along a row (own).
 use Rattle.std.specs.Prelude.{ℕ, ◌≡◌}
 use Rattle.cept_attrs.specs.Walk.{IsInfluence}
 use Rattle.cept_codes.specs.Attribute.{IsValidFull}
@@ -6,7 +6,7 @@ use Rattle.cept_codes.specs.declared.attribute.Full.{Full}
 use Rattle.cept_codes.specs.declared.look.Shape.TheVariants as shapes
 use Rattle.cept_profile.specs.Influence.{Influence}
 use Rattle.cept_profile.specs.Serial.{row_in, serial_attributes}
-use Rattle.cept_rows.specs.Brush.{IsBrush, small_shape}
+use Rattle.cept_rows.specs.inside.Brush.{IsBrush, small_shape}
 use Rattle.cept_rows.specs.declared.walk.OwnLook.{OwnLook}
 use Rattle.cept_rows.specs.declared.walk.Walk.{Walk}
 use Rattle.cept_rows.specs.SmallLooks.{small_of}
@@ -31,3 +31,8 @@ pub record IsWalk (source : Source) (c : ℕ) (walk : Walk) : Type 0 where
 pub record IsOwnLook (source : Source) (c : ℕ) (own : OwnLook) : Type 0 where
   pub look : own.look ≡ small_of (own_look source c)
   pub size : own.size ≡ own_size source c
+
+-- a walk was led on over a column: what stands there by itself, and what is carried on from there
+pub record IsLedOver (source : Source) (c : ℕ) (found : OwnLook) (after : Walk) : Type 0 where
+  pub own : IsOwnLook source c found
+  pub walk : IsWalk source c after

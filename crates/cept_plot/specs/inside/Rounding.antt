@@ -1,5 +1,4 @@
--- A coordinate on its way from one number to another in equal steps (this project's own). Private clauses alone cite
--- this file.
+-- A coordinate on its way from one number to another in equal steps (this project's own).
 use Rattle.std.specs.Prelude.{ℕ, ◌≡◌, ◌<◌, ◌+◌, ◌*◌, ◌-◌, nat_le}
 use Rattle.cept_plot.specs.declared.coordinate.Coordinate.{Coordinate}
 use Rattle.cept_plot.specs.declared.coordinate.Slope.{Slope}

@@ -1,4 +1,4 @@
--- What is kept of a line while a drawing is read (this project's own). Private clauses alone cite this file.
+-- What is kept of a line while a drawing is read (this project's own).
 use Rattle.std.specs.Prelude.{ℕ, ◌≡◌, List, [], ◌∷◌, ◌++◌, Option, Some, None, Result, Ok, Err}
 use Rattle.cept_codes.specs.declared.line_reason.LineReason.{LineReason}
 use Rattle.cept_plot.specs.declared.drawing.DrawFault.{DrawFault}

@@ -1,4 +1,4 @@
--- What the walk along a row keeps of the last pen (own). Private clauses alone cite it.
+-- What the walk along a row keeps of the last pen (own).
 use Rattle.std.specs.Prelude.{◌≡◌, true}
 use Rattle.cept_codes.specs.declared.attribute.Full.{Full}
 use Rattle.cept_codes.specs.declared.attribute.Pen.{Pen}

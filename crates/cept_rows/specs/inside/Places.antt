@@ -1,4 +1,4 @@
--- Places of a row, kept one after the other (own). Private clauses alone cite it.
+-- Places of a row, kept one after the other (own).
 use Rattle.std.specs.Prelude.{ℕ, ◌≡◌, ◌≤◌, ◌<◌, ◌+◌, Bool, false, List}
 use Rattle.cept_codes.specs.declared.look.Look.{Look}
 use Rattle.cept_profile.specs.Look.{look_with_part, part_of, shape_of}
@@ -6,8 +6,10 @@ use Rattle.cept_profile.specs.Serial.{row_in}
 use Rattle.cept_profile.specs.Tiling.{is_covered_from_left, part_below, part_to_the_right}
 use Rattle.cept_rows.specs.declared.drawing.Drawing.{Drawing}
 use Rattle.cept_rows.specs.declared.small_look.SmallLook.{SmallLook}
-use Rattle.cept_rows.specs.Flagged.{look_at, with_look}
-use Rattle.cept_rows.specs.SmallLooks.{IsSmallLook, drawing_of, has_pattern, look_kept, no_drawing}
+use Rattle.cept_rows.specs.Flagged.{look_at}
+use Rattle.cept_rows.specs.inside.Flagged.{with_look}
+use Rattle.cept_rows.specs.SmallLooks.{IsSmallLook, has_pattern, look_kept, no_drawing}
+use Rattle.cept_rows.specs.inside.SmallLooks.{drawing_of}
 use Rattle.cept_rows.specs.RowsByCell.{FollowsToTheRight}
 use Rattle.cept_rows.specs.Source.{Source, place_made, row_made}
 

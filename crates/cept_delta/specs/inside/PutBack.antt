@@ -1,4 +1,4 @@
--- Old values put back at some of their locations (this project's own). Private clauses alone cite this file.
+-- Old values put back at some of their locations (this project's own).
 use Rattle.std.specs.Prelude.{ℕ, Bool, Option, List, unwrap_or, if◌then◌else◌}
 use Rattle.cept_codes.specs.declared.cell.Cell.{Cell}
 use Rattle.cept_codes.specs.Cell.{blank_cell}

@@ -1,4 +1,4 @@
--- Rows whose unprotected cells are blanked from a column on (own). Private clauses alone cite this file.
+-- Rows whose unprotected cells are blanked from a column on (own).
 use Rattle.std.specs.Prelude.{ℕ, not, ◌&&◌, nat_le, if◌then◌else◌}
 use Rattle.cept_codes.specs.declared.cell.Cell.{Cell}
 use Rattle.cept_codes.specs.Cell.{blank_cell}

@@ -1,4 +1,4 @@
--- Flags of rows that are made anew by what stands in them (this project's own). Private clauses alone cite this file.
+-- Flags of rows that are made anew by what stands in them (this project's own).
 use Rattle.std.specs.Prelude.{ℕ, ◌≡◌, ◌≢◌, ◌≤◌, ◌<◌, ◌-◌, ◌⊎◌, Bool, false, List, [], length, slice_index_or}
 use Rattle.cept_codes.specs.declared.attribute.Pen.{Pen}
 use Rattle.cept_codes.specs.declared.cell.Cell.{Cell}

@@ -1,0 +1,3 @@
+-- Definitions that private clauses alone cite: a reader of the contracts passes them over.
+pub mod Fit
+pub mod Waits
