@@ -27,8 +27,9 @@ use Rattle.cept_profile.specs.Valid.{IsValidPage}
 use Rattle.cept_page.specs.Parts.{pens_of}
 use Rattle.cept_page.specs.MarkedRows.{IsSingleRow, StandsAlone}
 use Rattle.cept_page.proofs.Laws.{page_after-put}
-use Rattle.cept_redraw.specs.Due.{is_altered}
-use Rattle.cept_redraw.specs.Kept.{OthersStay, core_on, look_alone}
+use Rattle.cept_redraw.specs.inside.Due.{is_altered}
+use Rattle.cept_redraw.specs.Kept.{core_on}
+use Rattle.cept_redraw.specs.inside.Kept.{OthersStay, look_alone}
 use Rattle.cept_redraw.proofs.AlteredRows.{is_altered-put}
 use Rattle.cept_redraw.proofs.RowsDue.{look-unaltered}
 use Rattle.cept_redraw.proofs.RowsOfLooks.{covered_otherwise-below, covered_otherwise-first, is_other_above-none}

@@ -2,7 +2,9 @@
 use Rattle.std.proofs.Common.{◌≡◌, ℕ, ◌≤◌, ◌||◌, ◌&&◌, ◌==◌, not, Bool, true, false, List, [], ◌∷◌}
 use Rattle.std.proofs.Common.{Option, Some, None, rules, refl, sym, ap, ◌∙◌, arith}
 use Rattle.std.specs.Option.{option_eq}
-use Rattle.std.proofs.lemmas.Bool.{and_parts, eqb-true, not-false}
+use Rattle.std.specs.Prelude.{option_and_then}
+use Rattle.std.specs.List.{list_any}
+use Rattle.std.proofs.lemmas.Bool.{and_parts, eqb-true, not-false, or_from, or_parts, true≢false}
 use Rattle.std.proofs.lemmas.Bool.Decides.{nat_tests}
 use Rattle.cept_codes.specs.declared.attribute.Flash.{Flash}
 use Rattle.cept_codes.specs.declared.attribute.Pen.{Pen}
@@ -13,16 +15,19 @@ use Rattle.cept_codes.specs.declared.stroke.Stroke.TheVariants as strokes
 use Rattle.cept_codes.specs.Attribute.{unset_pen}
 use Rattle.cept_codes.specs.Place.{Place}
 use Rattle.cept_codes.specs.Same.{same_flash, same_pen, same_size}
-use Rattle.cept_codes.specs.Table.{list_by_index}
+use Rattle.cept_codes.specs.Table.{entry, list_by_index}
 use Rattle.cept_codes.proofs.Laws.{entry-list_by_index, same_indexed}
 use Rattle.cept_profile.specs.Edges.{Edges, is_last}
-use Rattle.cept_profile.specs.MovedRows.{row_before}
-use Rattle.cept_profile.specs.PageParts.{part_after_all, row_pen_after, row_pen_in}
+use Rattle.cept_profile.specs.MovedRows.{moved_rows, row_before, row_before_move}
+use Rattle.cept_profile.specs.PageParts.{part_after_all, row_pen_after, row_pen_in, row_pens_after, screen_pen_after}
 use Rattle.cept_profile.specs.Reach.{is_written, just_one}
 use Rattle.cept_profile.specs.State.{Page, page_after}
 use Rattle.cept_page.specs.declared.page.Pens.{Pens}
 use Rattle.cept_page.specs.Parts.{pens_of}
-use Rattle.cept_redraw.specs.Due.{has_others, is_altered}
+use Rattle.cept_redraw.specs.declared.followed_rows.Followed.{Followed}
+use Rattle.cept_redraw.specs.inside.Due.{followed, freed, has_others, is_altered, is_altered_from, just_writes}
+use Rattle.cept_redraw.specs.inside.Due.{one_does_more}
+use Rattle.cept_redraw.specs.Resolved.{defines}
 use mathlib.Core.Bool.{beq}
 
 -- ---- other attributes
@@ -99,6 +104,101 @@ altered-put p q xs place cell before after flags row only drawn same made here =
     ∙ sym ((λ i. is_altered (only i) (pens_of p) before (pens_of (drawn i)) (back i) r)
     ∙ ap (λ (l : List Stroke). is_altered (strokes.Put place cell ∷ []) (pens_of p) before (pens_of (page_after p l)) before r)
     only))
+
+-- ---- strokes that just write
+
+-- such a stroke moves no row, defines nothing, and sets no attribute of a row or of the screen
+record IsJustWriting (x : Stroke) : Type 0 where
+  moved : moved_rows x ≡ None
+  defined : defines x ≡ false
+  pens : (was : ℕ → Pen) (r : ℕ) → row_pen_after x was r ≡ was r
+  screen : (was : Pen) → screen_pen_after was x ≡ was
+
+IsJustWriting-at : (x : Stroke) → not (just_writes x) ≡ false → IsJustWriting x
+IsJustWriting-at (strokes.Put place cell) just = record {
+  moved = refl;
+  defined = refl;
+  pens = λ was r. refl;
+  screen = λ was. refl;
+}
+IsJustWriting-at (strokes.Erase row from) just = record {
+  moved = refl;
+  defined = refl;
+  pens = λ was r. refl;
+  screen = λ was. refl;
+}
+IsJustWriting-at strokes.Wipe just = absurd (true≢false just)
+IsJustWriting-at (strokes.Shift first last way) just = absurd (true≢false just)
+IsJustWriting-at (strokes.Carry first last way) just = absurd (true≢false just)
+IsJustWriting-at (strokes.RowAttr row attr) just = absurd (true≢false just)
+IsJustWriting-at (strokes.ScreenAttr attr) just = absurd (true≢false just)
+IsJustWriting-at strokes.ScreenClear just = absurd (true≢false just)
+IsJustWriting-at (strokes.Colour i paint) just = absurd (true≢false just)
+IsJustWriting-at (strokes.Dclut j v) just = absurd (true≢false just)
+IsJustWriting-at strokes.ColourDefaults just = absurd (true≢false just)
+IsJustWriting-at (strokes.Drcs code pattern) just = absurd (true≢false just)
+IsJustWriting-at strokes.DrcsClear just = absurd (true≢false just)
+IsJustWriting-at (strokes.Format rows) just = absurd (true≢false just)
+
+came_of-written : (xs : List Stroke) → one_does_more xs ≡ false → (r : ℕ) → row_before xs r ≡ Some r
+unfolding row_before one_does_more
+came_of-written [] just r = refl
+came_of-written (x ∷ xs) just r =
+    let parts = or_parts (not (just_writes x)) (one_does_more xs) just in
+    ap (option_and_then (row_before_move (moved_rows x))) (came_of-written xs parts.1 r)
+    ∙ ap (λ moved. row_before_move moved r) (IsJustWriting-at x parts.0).moved
+
+none_defined : (xs : List Stroke) → one_does_more xs ≡ false → list_any defines xs ≡ false
+unfolding one_does_more
+none_defined [] just = refl
+none_defined (x ∷ xs) just =
+    let parts = or_parts (not (just_writes x)) (one_does_more xs) just in
+    or_from (defines x) (list_any defines xs) (IsJustWriting-at x parts.0).defined (none_defined xs parts.1)
+
+pens-written : (pens : List Pen) (xs : List Stroke) → one_does_more xs ≡ false → (r : ℕ) → 1 ≤ r → r ≤ 24
+    → row_pen_in (part_after_all row_pens_after pens xs) r ≡ row_pen_in pens r
+unfolding part_after_all one_does_more
+pens-written pens [] just r low high = refl
+pens-written pens (x ∷ xs) just r low high =
+    let parts = or_parts (not (just_writes x)) (one_does_more xs) just in
+    pens-written (row_pens_after pens x) xs parts.1 r low high
+    ∙ entry-list_by_index unset_pen 1 24 (row_pen_after x (row_pen_in pens)) r low (omega (arith, high))
+    ∙ (IsJustWriting-at x parts.0).pens (row_pen_in pens) r
+
+screen-written : (pen : Pen) (xs : List Stroke) → one_does_more xs ≡ false
+    → part_after_all screen_pen_after pen xs ≡ pen
+unfolding part_after_all one_does_more
+screen-written pen [] just = refl
+screen-written pen (x ∷ xs) just =
+    let parts = or_parts (not (just_writes x)) (one_does_more xs) just in
+    screen-written (screen_pen_after pen x) xs parts.1 ∙ (IsJustWriting-at x parts.0).screen pen
+
+-- where the edges stay they alter just the rows in which they write
+is_altered-written : (p : Page) (xs : List Stroke) (edges : Edges) → one_does_more xs ≡ false → (r : ℕ) → 1 ≤ r → r ≤ 24
+    → is_altered xs (pens_of p) edges (pens_of (page_after p xs)) edges r ≡ is_written xs r
+unfolding is_altered has_others
+is_altered-written p xs edges just r low high =
+    let row : not (same_pen (row_pen_in p.row_pens r) (row_pen_in (page_after p xs).row_pens r)) ≡ false =
+    same_pen-refl (row_pen_in p.row_pens r) (row_pen_in (page_after p xs).row_pens r)
+    (sym (pens-written p.row_pens xs just r low high)) in
+    let screen : not (same_pen p.screen_pen (page_after p xs).screen_pen) ≡ false =
+    same_pen-refl p.screen_pen (page_after p xs).screen_pen (sym (screen-written p.screen_pen xs just)) in
+    ap (λ found. is_altered_from (is_written xs r) (list_any defines xs) (pens_of p) edges (pens_of (page_after p xs))
+    edges found r) (came_of-written xs just r)
+    ∙ (λ i. (is_written xs r || none_defined xs just i) || (row i || screen i || none_under_one edges r i))
+    ∙ or_false_of (is_written xs r || false) ∙ or_false_of (is_written xs r)
+
+pub altered-written : (p q : Page) (xs : List Stroke) (before after : Edges) (rows : List Followed) (flags : List Bool)
+    → before ≡ after → one_does_more xs ≡ false → q ≡ page_after p xs → rows ≡ list_by_index 1 24 (followed xs)
+    → flags ≡ list_by_index 1 24 (λ r. (entry freed 1 rows r).written)
+    → flags ≡ list_by_index 1 24 (is_altered xs (pens_of p) before (pens_of q) after)
+altered-written p q xs before after rows flags same just drawn are e =
+    e ∙ same_indexed 1 24 (λ r. (entry freed 1 rows r).written)
+    (is_altered xs (pens_of p) before (pens_of q) after) (λ r low high.
+    (λ i. (entry freed 1 (are i) r).written)
+    ∙ ap (λ (f : Followed). f.written) (entry-list_by_index freed 1 24 (followed xs) r low (omega (arith, high)))
+    ∙ sym (is_altered-written p xs before just r low (omega (arith, high)))
+    ∙ (λ i. is_altered xs (pens_of p) before (pens_of (sym drawn i)) (same i) r))
 
 -- ---- the same attributes
 

@@ -33,8 +33,9 @@ use Rattle.cept_profile.proofs.Laws.{serial_attributes-suc, size_in_row-alike}
 use Rattle.cept_rows.specs.RowsByCell.{IsCoveredAlike}
 use Rattle.cept_page.specs.MarkedRows.{IsPutAmongSigns}
 use Rattle.cept_page.proofs.Laws.{page_after-put}
-use Rattle.cept_redraw.specs.Due.{FollowsBeside}
-use Rattle.cept_redraw.specs.Kept.{contents_in, core_on}
+use Rattle.cept_redraw.specs.inside.Due.{FollowsBeside}
+use Rattle.cept_redraw.specs.Kept.{core_on}
+use Rattle.cept_redraw.specs.inside.Kept.{contents_in}
 use Rattle.cept_redraw.proofs.AloneRows.{cell_elsewhere}
 use Rattle.cept_redraw.proofs.LeftOfColumns.{look_is, row_beneath-from}
 

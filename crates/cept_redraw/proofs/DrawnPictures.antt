@@ -23,12 +23,14 @@ use Rattle.cept_page.specs.Behind.{page_behind}
 use Rattle.cept_page.proofs.Laws.{noted-none, noted-one, page_after-none}
 use Rattle.cept_redraw.specs.declared.followed_rows.Followed.{Followed}
 use Rattle.cept_redraw.specs.declared.picture.Picture.{Picture}
-use Rattle.cept_redraw.specs.Due.{at_rest, followed, is_altered, rows_due}
-use Rattle.cept_redraw.specs.Kept.{AreEdges, AreLooksOn, IsRefreshedRow, core_on, row_beneath}
+use Rattle.cept_redraw.specs.inside.Due.{at_rest, followed, is_altered, rows_due}
+use Rattle.cept_redraw.specs.Kept.{AreEdges, AreLooksOn, core_on}
+use Rattle.cept_redraw.specs.inside.Kept.{IsRefreshedRow, row_beneath}
 use Rattle.cept_redraw.specs.Marks.{no_marks}
-use Rattle.cept_redraw.specs.Named.{AreRemembered, IsUnmarkedBelow}
-use Rattle.cept_redraw.specs.Picture.{AreDrawable, AreOthersKept, AreTicksOf, IsKeptOn, IsNotedAlong, IsRedrawn}
-use Rattle.cept_redraw.specs.Picture.{HasSameRest, IsRefreshedOn}
+use Rattle.cept_redraw.specs.inside.Named.{AreRemembered, IsUnmarkedBelow}
+use Rattle.cept_redraw.specs.Picture.{AreDrawable, AreTicksOf, IsKeptOn, IsNotedAlong, IsRedrawn}
+use Rattle.cept_redraw.specs.inside.Picture.{AreOthersKept}
+use Rattle.cept_redraw.specs.inside.Picture.{HasSameRest, IsRefreshedOn}
 use Rattle.cept_redraw.specs.Resolved.{defines, mixes}
 use Rattle.cept_redraw.proofs.AlteredRows.{altered-put}
 use Rattle.cept_redraw.proofs.FollowedRows.{still-put}

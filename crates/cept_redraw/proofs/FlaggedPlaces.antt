@@ -14,7 +14,7 @@ use Rattle.cept_codes.specs.Table.{entry, list_by_index}
 use Rattle.cept_codes.proofs.Laws.{entry-list_by_index, entry_from, list_by_index-entry, same_indexed}
 use Rattle.cept_profile.specs.Names.{Names, pattern_shown}
 use Rattle.cept_profile.specs.Tiling.{column_entry}
-use Rattle.cept_redraw.specs.Redefined.{redefines_place}
+use Rattle.cept_redraw.specs.inside.Redefined.{redefines_place}
 use Rattle.cept_redraw.specs.Resolved.{defines}
 use Rattle.cept_rows.specs.declared.naming.RowNames.{RowNames}
 use Rattle.cept_rows.specs.KeptNames.{names_kept}

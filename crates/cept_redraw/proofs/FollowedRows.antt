@@ -18,7 +18,7 @@ use Rattle.cept_profile.specs.MovedRows.{MovedRows, moved_rows, row_before, row_
 use Rattle.cept_profile.specs.Reach.{is_written, writes, writes_where}
 use Rattle.cept_profile.proofs.Laws.{row_before-on}
 use Rattle.cept_redraw.specs.declared.followed_rows.Followed.{Followed}
-use Rattle.cept_redraw.specs.Due.{followed, followed_after, freed, row_from, written_if}
+use Rattle.cept_redraw.specs.inside.Due.{followed, followed_after, freed, row_from, written_if}
 
 -- ---- one stroke more
 

@@ -25,9 +25,10 @@ use Rattle.cept_profile.specs.Tiling.{column_entry}
 use Rattle.cept_page.proofs.Laws.{page_after-put}
 use Rattle.cept_profile.specs.Valid.{IsValidPage}
 use Rattle.cept_redraw.specs.declared.followed_rows.Followed.{Followed}
-use Rattle.cept_redraw.specs.Due.{LeftStays}
+use Rattle.cept_redraw.specs.inside.Due.{LeftStays}
 use Rattle.cept_rows.specs.Source.{Source, place_made, row_made}
-use Rattle.cept_redraw.specs.Kept.{contents_in, core_on, row_beneath, source_of, IsLeftOf}
+use Rattle.cept_redraw.specs.Kept.{core_on}
+use Rattle.cept_redraw.specs.inside.Kept.{contents_in, row_beneath, source_of, IsLeftOf}
 use Rattle.cept_redraw.proofs.RowsOfLooks.{column_entry-at, length-looks_in, look_seen-at}
 use Rattle.cept_redraw.proofs.WalkedRows.{WalkedTo, above_is, beneath_is}
 

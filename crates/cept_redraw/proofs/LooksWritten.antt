@@ -3,12 +3,17 @@ use Rattle.std.proofs.Common.{◌≡◌, ℕ, ◌+◌, ◌-◌, ◌<◌, ◌==�
 use Rattle.std.proofs.lemmas.List.{get_or_default, length-set, set-append_left, take-append-le, take_all}
 use Rattle.cept_codes.specs.declared.look.Look.{Look}
 use Rattle.cept_codes.specs.Look.{blank_look}
-use Rattle.cept_codes.specs.Place.{Place, OnScreen}
+use Rattle.cept_codes.specs.Place.{Place, IsColumn, IsRow, OnScreen}
 use Rattle.cept_codes.specs.Table.{entry, value_at, IsTable}
 use Rattle.cept_codes.proofs.Laws.{IsTable-table, set_is, set_row_is}
 use Rattle.cept_profile.specs.Changes.{grid_with_paint, look_at}
 use Rattle.cept_profile.specs.Tiling.{column_entry}
 use Rattle.cept_redraw.proofs.RowsOfLooks.{column_entry-at}
+
+-- a place in a row and a column of the screen
+pub OnScreen-parts : {row column : ℕ} → IsRow row → IsColumn column → OnScreen row column
+OnScreen-parts in_row in_column =
+    record { from_top = in_row.0; to_bottom = in_row.1; from_left = in_column.0; to_right = in_column.1 }
 
 -- a look read in its row; `g` is the table as the code holds it, `now` as the contract sees it
 pub read_is : {g now : List (List Look)} → IsTable g → g ≡ now → (p : Place) (i j : ℕ) (row e : List Look)

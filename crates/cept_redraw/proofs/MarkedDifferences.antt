@@ -13,8 +13,9 @@ use Rattle.cept_profile.specs.Look.{part_of}
 use Rattle.cept_profile.specs.Names.{some_place}
 use Rattle.cept_profile.specs.RowsFromAbove.{is_other_covering}
 use Rattle.cept_profile.specs.Tiling.{column_entry, covers_below}
-use Rattle.cept_redraw.specs.Kept.{HasMarkedRow, is_other_above, is_other_look}
-use Rattle.cept_redraw.specs.Marks.{is_marked, HasFlags}
+use Rattle.cept_redraw.specs.inside.Kept.{HasMarkedRow, is_other_above, is_other_look}
+use Rattle.cept_redraw.specs.Marks.{is_marked}
+use Rattle.cept_redraw.specs.inside.Marks.{HasFlags}
 use Rattle.cept_redraw.proofs.RowsOfLooks.{is_other_above-none}
 
 -- what stands in a column of two rows is the same

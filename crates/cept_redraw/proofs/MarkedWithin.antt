@@ -10,7 +10,8 @@ use Rattle.std.proofs.lemmas.List.Sums.{sum_by-cons, sum_by-take-drop}
 use Rattle.std.proofs.Math.Seq.{get_or-append_right}
 use Rattle.cept_codes.specs.Table.{entry}
 use Rattle.cept_codes.proofs.Laws.{entry_from}
-use Rattle.cept_redraw.specs.Marks.{is_marked, no_marks, AreWithin, HasFlags}
+use Rattle.cept_redraw.specs.Marks.{is_marked, no_marks, AreWithin}
+use Rattle.cept_redraw.specs.inside.Marks.{HasFlags}
 use Rattle.cept_redraw.proofs.Unmarked.{length-no_marks, is_marked-no_marks}
 
 pub AreWithin-none : AreWithin no_marks 0 0

@@ -19,11 +19,11 @@ use Rattle.cept_profile.specs.RowsFromAbove.{is_covered_otherwise, looks_in}
 use Rattle.cept_profile.specs.State.{Core}
 use Rattle.cept_profile.specs.Tiling.{column_entry}
 use Rattle.cept_redraw.specs.declared.followed_rows.Followed.{Followed}
-use Rattle.cept_redraw.specs.Due.{came_from, freed, is_covered_from, is_due, row_from, rows_due, OtherRowsStay}
-use Rattle.cept_redraw.specs.Kept.{HasMarkedRow, is_other_above, is_other_look, row_beneath}
+use Rattle.cept_redraw.specs.inside.Due.{came_from, freed, is_covered_from, is_due, row_from, rows_due, OtherRowsStay}
+use Rattle.cept_redraw.specs.inside.Kept.{HasMarkedRow, is_other_above, is_other_look, row_beneath}
 use Rattle.cept_redraw.specs.Marks.{is_marked, no_marks}
 use Rattle.cept_redraw.specs.declared.passed_rows.Passed.{Passed}
-use Rattle.cept_redraw.specs.Passed.{came_above, looks_back, stood_in, GoDownByOne, HavePassed, NoneLooksBack}
+use Rattle.cept_redraw.specs.inside.Passed.{came_above, looks_back, stood_in, GoDownByOne, HavePassed, NoneLooksBack}
 use Rattle.cept_redraw.proofs.LooksWritten.{IsTable-row_set}
 use Rattle.cept_redraw.proofs.Refreshed.{differences_is}
 use Rattle.cept_redraw.proofs.RowsDue.{due_above, ticks-all, ticks-no, ticks-yes}

@@ -19,7 +19,7 @@ use Rattle.cept_profile.specs.Names.{pattern_shown, place_names_entry, shows_ink
 use Rattle.cept_profile.specs.State.{Core, definitions_of}
 use Rattle.cept_profile.specs.Tiling.{column_entry}
 use Rattle.cept_profile.proofs.Laws.{IsValidGrid-looks_of}
-use Rattle.cept_redraw.specs.Redefined.{IsNamedRow, is_ink_in}
+use Rattle.cept_redraw.specs.inside.Redefined.{IsNamedRow, is_ink_in}
 use Rattle.cept_redraw.proofs.RowsOfLooks.{look_seen-at}
 use Rattle.cept_rows.specs.declared.naming.RowNames.{RowNames}
 use Rattle.cept_rows.specs.KeptNames.{names_kept}

@@ -29,10 +29,12 @@ use Rattle.cept_profile.specs.Valid.{IsValidPage}
 use Rattle.cept_profile.proofs.Laws.{cell-from}
 use Rattle.cept_page.specs.Parts.{pens_of}
 use Rattle.cept_redraw.specs.declared.followed_rows.Followed.{Followed}
-use Rattle.cept_redraw.specs.Due.{followed, has_others, is_altered, is_altered_from}
-use Rattle.cept_redraw.specs.Kept.{AreEdges, AreLooksOn, OthersStay, core_on}
+use Rattle.cept_redraw.specs.inside.Due.{followed, has_others, is_altered, is_altered_from}
+use Rattle.cept_redraw.specs.Kept.{AreEdges, AreLooksOn, core_on}
+use Rattle.cept_redraw.specs.inside.Kept.{OthersStay}
 use Rattle.cept_redraw.specs.Marks.{is_marked}
-use Rattle.cept_redraw.specs.Named.{AreNamedOn, AreRemembered, IsStill, NamesOfRows, names_beneath}
+use Rattle.cept_redraw.specs.Named.{AreNamedOn, NamesOfRows, names_beneath}
+use Rattle.cept_redraw.specs.inside.Named.{AreRemembered, IsStill}
 use Rattle.cept_redraw.specs.Resolved.{defines}
 use Rattle.cept_redraw.proofs.AlteredRows.{is_altered-put, pen-same}
 use Rattle.cept_redraw.proofs.FollowedRows.{row_from-followed}

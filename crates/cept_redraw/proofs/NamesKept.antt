@@ -1,31 +1,36 @@
 -- Names of rows that are kept: one row named anew, rows forgotten, and what is known of all of them.
-use Rattle.std.proofs.Common.{◌≡◌, ◌≢◌, ℕ, ◌+◌, ◌-◌, ◌*◌, ◌≤◌, ◌<◌, ◌&&◌, Bool, true, false, List, [], get_or, length, set}
-use Rattle.std.proofs.Common.{Option, Some, None}
+use Rattle.std.proofs.Common.{◌≡◌, ◌≢◌, ℕ, ◌+◌, ◌-◌, ◌*◌, ◌≤◌, ◌<◌, ◌&&◌, cond, Bool, true, false, List, [], get_or}
+use Rattle.std.proofs.Common.{Option, Some, None, length, set}
 use Rattle.std.proofs.Common.{inl, inr, zero, suc, refl, sym, ap, subst, ◌∙◌, arith}
-use Rattle.std.proofs.lemmas.Bool.{and_parts, cases_eq, cases_lt, true≢false}
+use Rattle.std.specs.Prelude.{nat_lt}
+use Rattle.std.proofs.lemmas.Bool.{and_parts, cases_Bool, cases_eq, cases_lt, true≢false}
 use Rattle.std.proofs.lemmas.List.{get_or-set_other, get_or-set_same, length-set}
 use Rattle.cept_codes.specs.declared.attribute.Pen.{Pen}
 use Rattle.cept_codes.specs.declared.cell.Cell.{Cell}
 use Rattle.cept_codes.specs.declared.look.Look.{Look}
+use Rattle.cept_codes.specs.declared.look.Part.{Part}
 use Rattle.cept_codes.specs.Cell.{blank_cell}
 use Rattle.cept_codes.specs.Look.{blank_look}
 use Rattle.cept_codes.specs.Place.{Place, OnScreen, number}
 use Rattle.cept_codes.specs.Table.{entry, value_at, IsTable}
 use Rattle.cept_codes.proofs.Laws.{entry_below, entry_from, number-lt, same_lists}
-use Rattle.cept_profile.specs.Look.{looks_of, part_of}
-use Rattle.cept_profile.specs.Names.{names_at}
-use Rattle.cept_profile.specs.NamesFromAbove.{names_from_above, names_in_row, own_names}
+use Rattle.cept_profile.specs.Edges.{edges_of_core, is_last}
+use Rattle.cept_profile.specs.Look.{looks_of, own_size, part_of, parts_of}
+use Rattle.cept_profile.specs.Names.{Names, names_at}
+use Rattle.cept_profile.specs.NamesFromAbove.{names_by, names_from_above, names_in_row, own_names}
 use Rattle.cept_profile.specs.PageParts.{row_pen_in}
 use Rattle.cept_profile.specs.RowsFromAbove.{looks_in}
 use Rattle.cept_profile.specs.Serial.{row_in}
 use Rattle.cept_profile.specs.State.{Core}
-use Rattle.cept_profile.specs.Tiling.{column_entry}
-use Rattle.cept_profile.proofs.Laws.{names_at-covered, part_of-seen}
+use Rattle.cept_profile.specs.Tiling.{IsTiledAt, column_entry, covers_below, is_covered_from_left, part_at}
+use Rattle.cept_profile.proofs.Laws.{names_at-covered, part_of-seen, tiled_parts}
 use Rattle.cept_redraw.specs.declared.followed_rows.Followed.{Followed}
-use Rattle.cept_redraw.specs.Due.{row_from}
+use Rattle.cept_redraw.specs.inside.Due.{row_from}
 use Rattle.cept_redraw.specs.Marks.{is_marked, IsFirstFrom}
-use Rattle.cept_redraw.specs.Named.{AreAllKnown, AreJustRemembered, AreNamed, AreRemembered, IsStill, IsUnmarkedBelow, NamesOfRows}
-use Rattle.cept_redraw.specs.Named.{is_known, names_beneath, row_named}
+use Rattle.cept_redraw.specs.Named.{AreNamed}
+use Rattle.cept_redraw.specs.inside.Named.{AreAllKnown, AreJustRemembered, AreRemembered, CoverAlike, IsStill}
+use Rattle.cept_redraw.specs.Named.{NamesOfRows, is_known, names_beneath, row_named}
+use Rattle.cept_redraw.specs.inside.Named.{IsUnmarkedBelow}
 use Rattle.cept_rows.specs.declared.naming.RowNames.{RowNames}
 use Rattle.cept_rows.specs.KeptNames.{names_kept}
 
@@ -80,15 +85,62 @@ beneath-same above k m r c high ec er es el =
     ∙ beneath-by above (looks_in (looks_of k) r) (get_or k.page.cells (r - 1) []) (row_pen_in k.page.row_pens r)
     k.page.screen_pen m r c high ec er es el
 
+-- ---- a row beneath one that covers it
+
+-- a place that isn't covered from above shows an upper part
+upper_part : (k : Core) (r c : ℕ) → OnScreen r c → covers_below (part_at (parts_of k) (r - 1) c) ≡ false
+    → (part_at (parts_of k) r c).dy ≡ 0
+upper_part k r c on free =
+    let is : IsTiledAt (part_at (parts_of k) (r - 1)) (part_at (parts_of k) r) (own_size k r c)
+    (is_last (edges_of_core k) r) c = (tiled_parts k).places r c on in
+    elim (cases_Bool (is_covered_from_left (part_at (parts_of k) (r - 1) (c - 1)) (part_at (parts_of k) r (c - 1)))) [
+      | inl covered ↦ ap (λ (p : Part). p.dy) (is.from_left free covered)
+      | inr whole ↦ ap (λ (p : Part). p.dy) (is.origin free whole)
+    ]
+
+names_by-upper : (p : Part) (a b left own : Names) → p.dy ≡ 0 → names_by p a left own ≡ names_by p b left own
+names_by-upper p a b left own upper =
+    ap (λ n. cond (nat_lt 0 n) a (cond (nat_lt 0 p.dx) left own)) upper
+    ∙ sym (ap (λ n. cond (nat_lt 0 n) b (cond (nat_lt 0 p.dx) left own)) upper)
+
+-- it names the same beneath rows that name the same wherever they cover it
+pub beneath-covered : (k : Core) (a b : RowNames) (row c : ℕ) → 1 ≤ row → row + 1 ≤ 24 → c ≤ 40
+    → CoverAlike (looks_in (looks_of k) row) a b → names_beneath a k (row + 1) c ≡ names_beneath b k (row + 1) c
+unfolding names_from_above
+beneath-covered k a b row zero low high right same = refl
+beneath-covered k a b row (suc c) low high right same =
+    let left = beneath-covered k a b row c low high (omega (arith, right)) same in
+    let p : Part = part_at (parts_of k) (row + 1) (suc c) in
+    let back : row + 1 - 1 ≡ row = omega arith in
+    elim (cases_Bool (covers_below (part_at (parts_of k) row (suc c)))) [
+      | inl covered ↦
+          let above = same (suc c) (omega arith) right
+          (ap (λ q. covers_below q) (part_of-seen k row (suc c) (omega (arith, high))) ∙ covered) in
+          λ i. names_by p (above i) (left i) (own_names k (row + 1) (suc c))
+      | inr free ↦
+          let on : OnScreen (row + 1) (suc c) = record {
+            from_top = omega arith;
+            to_bottom = high;
+            from_left = omega arith;
+            to_right = right;
+          } in
+          let upper = upper_part k (row + 1) (suc c) on
+          (ap (λ q. covers_below (part_at (parts_of k) q (suc c))) back ∙ free) in
+          names_by-upper p (names_kept a (suc c)) (names_kept b (suc c)) (names_beneath a k (row + 1) c)
+          (own_names k (row + 1) (suc c)) upper
+          ∙ ap (λ n. names_by p (names_kept b (suc c)) n (own_names k (row + 1) (suc c))) left
+    ]
+
 -- ---- one row named anew
 
--- the names of row r are these, and those of the row below it are known where they stay the same
+-- the names of row r are these, and those of the row below it are known where it names the same beneath them
 pub AreNamed-more : (names : NamesOfRows) (k : Core) → AreNamed names k → (row : ℕ) → 1 ≤ row → row ≤ 24
     → (fresh : RowNames)
     → ((c : ℕ) → OnScreen row c → names_kept fresh c ≡ names_beneath (row_named names (row - 1)) k row c)
     → (known : List Bool) → length known ≡ 24
     → ((r : ℕ) → 1 ≤ r → r ≤ 24 → r ≢ row → entry false 1 known r ≡ true → is_known names r ≡ true)
-    → (row + 1 ≤ 24 → entry false 1 known (row + 1) ≡ true → fresh ≡ row_named names row)
+    → (row + 1 ≤ 24 → entry false 1 known (row + 1) ≡ true → (c : ℕ) → c ≤ 40
+    → names_beneath fresh k (row + 1) c ≡ names_beneath (row_named names row) k (row + 1) c)
     → (next : NamesOfRows) → next ≡ record { above = names.above; rows = set names.rows (row - 1) fresh; known = known }
     → AreNamed next k
 AreNamed-more names k are row low high fresh made known long others below next e =
@@ -106,18 +158,26 @@ AreNamed-more names k are row low high fresh made known long others below next e
         ≡ row_named names r
     there r apart = set-there names.above fresh names.rows row r low apart
 
-    -- the row below one that stays the same
-    same_above : (r : ℕ) → 1 ≤ r → r ≤ 24 → entry false 1 known r ≡ true → r ≢ row
-        → row_named (record { above = names.above; rows = set names.rows (row - 1) fresh; known = known }) (r - 1)
-        ≡ row_named names (r - 1)
-    same_above r lr hr so apart =
+    -- a row whose names stay known names the same beneath what is kept now
+    same_beneath : (r c : ℕ) → OnScreen r c → entry false 1 known r ≡ true
+        → names_beneath (row_named (record {
+          above = names.above;
+          rows = set names.rows (row - 1) fresh;
+          known = known;
+        }) (r - 1)) k r c
+        ≡ names_beneath (row_named names (r - 1)) k r c
+    same_beneath r c on so =
         elim (cases_eq (r - 1) row) [
           | inl is ↦
-              let next_row : r ≡ row + 1 = omega (arith, is, lr) in
-              ap (row_named (record { above = names.above; rows = set names.rows (row - 1) fresh; known = known })) is ∙ here
-              ∙ below (omega (arith, next_row, hr)) (ap (λ n. entry false 1 known n) (sym next_row) ∙ so)
-              ∙ ap (row_named names) (sym is)
-          | inr away ↦ there (r - 1) away
+              let next_row : r ≡ row + 1 = omega (arith, is, on.from_top) in
+              ap (λ (n : RowNames). names_beneath n k r c)
+              (ap (row_named (record { above = names.above; rows = set names.rows (row - 1) fresh; known = known })) is
+              ∙ here)
+              ∙ ap (λ n. names_beneath fresh k n c) next_row
+              ∙ below (omega (arith, next_row, on.to_bottom)) (ap (λ n. entry false 1 known n) (sym next_row) ∙ so) c
+              on.to_right
+              ∙ sym (λ i. names_beneath (row_named names (is i)) k (next_row i) c)
+          | inr away ↦ ap (λ (n : RowNames). names_beneath n k r c) (there (r - 1) away)
         ]
 
     by_row : (r c : ℕ) → OnScreen r c → entry false 1 known r ≡ true
@@ -144,8 +204,7 @@ AreNamed-more names k are row low high fresh made known long others below next e
           | inr apart ↦
               ap (λ (n : RowNames). names_kept n c) (there r apart)
               ∙ are.known r c on (others r on.from_top on.to_bottom apart so)
-              ∙ ap (λ (n : RowNames). names_beneath n k r c)
-              (sym (same_above r on.from_top on.to_bottom so apart))
+              ∙ sym (same_beneath r c on so)
         ]
 
 -- ---- rows forgotten
@@ -244,12 +303,14 @@ AreNamed-last above rows known was e k are row at en low high last fresh made =
     (record { above = above; rows = set rows at fresh; known = set known at true })
     (λ i. record { above = (e i).above; rows = set (e i).rows (en i) fresh; known = set known at true })
 
--- one that isn't the last: whether the names of the row below are known depends on whether it names the same
+-- one that isn't the last: whether the names of the row below are known depends on whether it names the same beneath it
 pub AreNamed-above : (above : RowNames) (rows : List RowNames) (known : List Bool) (was : NamesOfRows)
     → (let names : NamesOfRows = record { above = above; rows = rows; known = known } in names) ≡ was
     → (k : Core) → AreNamed was k → (row at : ℕ) → at ≡ row - 1 → 1 ≤ row → row < 24 → (fresh : RowNames)
     → ((c : ℕ) → OnScreen row c → names_kept fresh c ≡ names_beneath (row_named was (row - 1)) k row c)
-    → (same : Bool) → (same ≡ true → fresh ≡ row_named was row)
+    → (same : Bool)
+    → (same ≡ true → (c : ℕ) → c ≤ 40
+    → names_beneath fresh k (row + 1) c ≡ names_beneath (row_named was row) k (row + 1) c)
     → AreNamed (record {
       above = above;
       rows = set rows at fresh;

@@ -16,7 +16,8 @@ use Rattle.cept_profile.specs.Valid.{IsValidPage}
 use Rattle.cept_page.specs.MarkedRows.{StandsAlone}
 use Rattle.cept_page.specs.Drawn.{IsDrawn}
 use Rattle.cept_page.proofs.Laws.{page_after-one}
-use Rattle.cept_redraw.specs.Kept.{IsRefreshed, core_on, look_alone, OthersStay}
+use Rattle.cept_redraw.specs.Kept.{core_on}
+use Rattle.cept_redraw.specs.inside.Kept.{IsRefreshed, look_alone, OthersStay}
 use Rattle.cept_redraw.proofs.AloneRows.{IsPutAlone, look-alone}
 use Rattle.cept_redraw.proofs.Refreshed.{Outside, IsRefreshed-alike, IsRefreshed-looks}
 

@@ -43,9 +43,11 @@ use Rattle.cept_profile.specs.Valid.{IsValidPage}
 use Rattle.cept_profile.proofs.Laws.{in_plain, look-unreached, names_at-itself, part_of-seen, serial_attributes-suc, unmarked}
 use Rattle.cept_page.specs.Parts.{cell_at}
 use Rattle.cept_page.specs.MarkedRows.{HasNone, IsSingleRow, StandsAlone}
-use Rattle.cept_redraw.specs.Kept.{AreEdges, AreLooksOn, core_on, look_alone}
-use Rattle.cept_redraw.specs.Named.{AreAllKnown, AreNamedOn, NamesOfRows, row_named}
-use Rattle.cept_redraw.specs.Redefined.{OtherPlacesStay, redefines_place}
+use Rattle.cept_redraw.specs.Kept.{AreEdges, AreLooksOn, core_on}
+use Rattle.cept_redraw.specs.inside.Kept.{look_alone}
+use Rattle.cept_redraw.specs.Named.{AreNamedOn, NamesOfRows, row_named}
+use Rattle.cept_redraw.specs.inside.Named.{AreAllKnown}
+use Rattle.cept_redraw.specs.inside.Redefined.{OtherPlacesStay, redefines_place}
 use Rattle.cept_redraw.specs.Resolved.{one_else}
 use Rattle.cept_redraw.proofs.AloneRows.{covers_nothing-in, look-alone}
 use Rattle.cept_redraw.proofs.NamesKept.{all_named}

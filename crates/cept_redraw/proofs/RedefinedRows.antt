@@ -31,7 +31,7 @@ use Rattle.cept_profile.specs.State.{Core, Page, page_after}
 use Rattle.cept_profile.specs.Valid.{IsValidPage}
 use Rattle.cept_profile.proofs.Laws.{is_reached-by, is_redefined-unreached, is_written-still, look-unreached}
 use Rattle.cept_profile.proofs.Laws.{row_before-still}
-use Rattle.cept_redraw.specs.Due.{at_rest, is_due, rows_due, OtherRowsStay}
+use Rattle.cept_redraw.specs.inside.Due.{at_rest, is_due, rows_due, OtherRowsStay}
 use Rattle.cept_redraw.specs.Kept.{AreLooksOn, core_on}
 use Rattle.cept_redraw.specs.Named.{AreNamed, AreNamedOn, NamesOfRows, names_beneath, row_named}
 use Rattle.cept_redraw.specs.Resolved.{defines, may_resolve, one_else, rows_resolved_by}

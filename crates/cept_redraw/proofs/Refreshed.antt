@@ -19,7 +19,7 @@ use Rattle.cept_profile.specs.Cells.{is_at}
 use Rattle.cept_profile.specs.Changes.{look_at, differences, grid_with_paint}
 use Rattle.cept_profile.specs.RowsFromAbove.{looks_in}
 use Rattle.cept_profile.specs.Tiling.{column_entry}
-use Rattle.cept_redraw.specs.Kept.{HasMarkedRow, IsRefreshed, is_other_look, IsRefreshedRow}
+use Rattle.cept_redraw.specs.inside.Kept.{HasMarkedRow, IsRefreshed, is_other_look, IsRefreshedRow}
 use Rattle.cept_redraw.specs.Marks.{is_marked, no_marks}
 use Rattle.cept_redraw.proofs.RowsOfLooks.{column_entry-at, look_seen-at}
 use Rattle.cept_redraw.proofs.Unmarked.{length-no_marks, is_marked-no_marks}

@@ -16,11 +16,12 @@ use Rattle.cept_profile.specs.Tiling.{column_entry}
 use Rattle.cept_profile.specs.Valid.{IsValidPage}
 use Rattle.cept_page.specs.MarkedRows.{StandsAlone}
 use Rattle.cept_redraw.specs.declared.followed_rows.Followed.{Followed}
-use Rattle.cept_redraw.specs.Due.{is_due}
-use Rattle.cept_redraw.specs.Kept.{IsRefreshedRow, core_on, look_alone}
-use Rattle.cept_redraw.specs.Marks.{HasFlags}
+use Rattle.cept_redraw.specs.inside.Due.{is_due}
+use Rattle.cept_redraw.specs.Kept.{core_on}
+use Rattle.cept_redraw.specs.inside.Kept.{IsRefreshedRow, look_alone}
+use Rattle.cept_redraw.specs.inside.Marks.{HasFlags}
 use Rattle.cept_redraw.specs.Named.{NamesOfRows, row_named}
-use Rattle.cept_redraw.specs.Redefined.{OtherPlacesStay, is_place_redefined, places_resolved}
+use Rattle.cept_redraw.specs.inside.Redefined.{OtherPlacesStay, is_place_redefined, places_resolved}
 use Rattle.cept_redraw.proofs.AloneRows.{covers_nothing-in, look-alone}
 use Rattle.cept_redraw.proofs.MarkedDifferences.{HasMarkedRow-flags, uncovered}
 use Rattle.cept_redraw.proofs.Refreshed.{IsRefreshed-row, IsRefreshedRow-made}

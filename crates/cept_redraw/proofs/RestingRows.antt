@@ -10,7 +10,8 @@ use Rattle.cept_profile.specs.Look.{look, looks_of}
 use Rattle.cept_profile.specs.RowsFromAbove.{is_covered_otherwise}
 use Rattle.cept_profile.specs.State.{Core}
 use Rattle.cept_redraw.specs.declared.followed_rows.Followed.{Followed}
-use Rattle.cept_redraw.specs.Due.{at_rest, followed, freed, is_covered_from, is_due, row_from, rows_due, OtherRowsStay}
+use Rattle.cept_redraw.specs.inside.Due.{at_rest, followed, freed, is_covered_from, is_due, row_from, rows_due}
+use Rattle.cept_redraw.specs.inside.Due.{OtherRowsStay}
 use Rattle.cept_redraw.proofs.FollowedRows.{followed-rest}
 use Rattle.cept_redraw.proofs.RowsDue.{same_count}
 

@@ -26,8 +26,8 @@ use Rattle.cept_profile.proofs.Laws.{is_reached-by, look-unreached}
 use Rattle.cept_page.specs.declared.page.Pens.{Pens}
 use Rattle.cept_page.specs.Parts.{pens_of}
 use Rattle.cept_redraw.specs.declared.followed_rows.Followed.{Followed}
-use Rattle.cept_redraw.specs.Due.{followed, has_others, is_altered, is_altered_from, is_covered_from, is_due}
-use Rattle.cept_redraw.specs.Due.{row_from, rows_due}
+use Rattle.cept_redraw.specs.inside.Due.{followed, has_others, is_altered, is_altered_from, is_covered_from, is_due}
+use Rattle.cept_redraw.specs.inside.Due.{row_from, rows_due}
 use Rattle.cept_redraw.specs.Resolved.{are_same_edges, defines, is_same_area, may_resolve, mixes, one_else}
 use Rattle.cept_redraw.specs.Resolved.{rows_resolved_by}
 use Rattle.cept_redraw.specs.Kept.{core_on}

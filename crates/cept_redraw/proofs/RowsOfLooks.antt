@@ -19,7 +19,7 @@ use Rattle.cept_codes.proofs.Laws.{entry_from}
 use Rattle.cept_profile.specs.Look.{part_of}
 use Rattle.cept_profile.specs.RowsFromAbove.{blank_looks, is_covered_otherwise, is_other_covering, look_seen, looks_in}
 use Rattle.cept_profile.specs.Tiling.{column_entry, covers_below}
-use Rattle.cept_redraw.specs.Kept.{is_other_above}
+use Rattle.cept_redraw.specs.inside.Kept.{is_other_above}
 
 -- ---- rows read
 

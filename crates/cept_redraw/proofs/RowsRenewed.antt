@@ -21,8 +21,8 @@ use Rattle.cept_profile.specs.Look.{look, looks_of}
 use Rattle.cept_profile.specs.MovedRows.{row_before}
 use Rattle.cept_profile.specs.State.{Core}
 use Rattle.cept_redraw.specs.declared.followed_rows.Followed.{Followed}
-use Rattle.cept_redraw.specs.Due.{followed, is_covered_from, is_due, row_from, rows_due, OtherRowsStay}
-use Rattle.cept_redraw.specs.Kept.{OthersStay}
+use Rattle.cept_redraw.specs.inside.Due.{followed, is_covered_from, is_due, row_from, rows_due, OtherRowsStay}
+use Rattle.cept_redraw.specs.inside.Kept.{OthersStay}
 use Rattle.cept_redraw.specs.Renewed.{is_renewed_from, look_otherwise, rows_renewed}
 use Rattle.cept_redraw.proofs.FollowedRows.{row_from-followed}
 use Rattle.cept_redraw.proofs.RowsDue.{fewer, same_count}

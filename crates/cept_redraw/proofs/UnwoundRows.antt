@@ -24,7 +24,7 @@ use Rattle.cept_profile.specs.Valid.{IsValidPage}
 use Rattle.cept_profile.proofs.Laws.{covering-same, look_in_row-alike, looks_in-same, size_in_row-alike}
 use Rattle.cept_delta.specs.Noted.{IsRowUnnoted, notes_row, notes_screen}
 use Rattle.cept_delta.proofs.Laws.{cell_stays, pen_stays, entry_none, unnoted}
-use Rattle.cept_redraw.specs.Due.{at_rest, is_due, rows_due, OtherRowsStay}
+use Rattle.cept_redraw.specs.inside.Due.{at_rest, is_due, rows_due, OtherRowsStay}
 use Rattle.cept_redraw.specs.Kept.{AreEdges, AreLooksOn, core_on}
 use Rattle.cept_redraw.specs.Restored.{is_unwound, rows_unwound}
 use Rattle.cept_redraw.proofs.RestingRows.{due-rest, row_from-rest}

@@ -16,8 +16,8 @@ use Rattle.cept_profile.specs.State.{Core}
 use Rattle.cept_profile.specs.Tiling.{column_entry}
 use Rattle.cept_profile.proofs.Laws.{looks_in-from_above}
 use Rattle.cept_rows.specs.RowsByCell.{FollowsToTheRight, IsCoveredAlike}
-use Rattle.cept_redraw.specs.Due.{at_rest, is_due, FollowsBeside, OtherRowsStay}
-use Rattle.cept_redraw.specs.Kept.{row_beneath, IsRefreshedRow, IsRightOf, is_other_above}
+use Rattle.cept_redraw.specs.inside.Due.{at_rest, is_due, FollowsBeside, OtherRowsStay}
+use Rattle.cept_redraw.specs.inside.Kept.{row_beneath, IsRefreshedRow, IsRightOf, is_other_above}
 use Rattle.cept_redraw.specs.Marks.{no_marks}
 use Rattle.cept_redraw.proofs.LeftOfColumns.{column_of}
 use Rattle.cept_redraw.proofs.RestingRows.{due-rest, row_from-rest}

@@ -19,9 +19,10 @@ use Rattle.cept_profile.specs.State.{Core, Page, page_after}
 use Rattle.cept_profile.specs.Valid.{IsValidPage}
 use Rattle.cept_page.specs.Parts.{pens_of}
 use Rattle.cept_redraw.specs.declared.followed_rows.Followed.{Followed}
-use Rattle.cept_redraw.specs.Due.{came_from, followed, is_altered, is_covered_from, is_due, row_from, rows_due}
-use Rattle.cept_redraw.specs.Due.{OtherRowsStay}
-use Rattle.cept_redraw.specs.Kept.{IsRefreshed, core_on, is_other_above, row_beneath, AreEdges, AreLooksOn, IsRefreshedRow}
+use Rattle.cept_redraw.specs.inside.Due.{came_from, followed, is_altered, is_covered_from, is_due, row_from, rows_due}
+use Rattle.cept_redraw.specs.inside.Due.{OtherRowsStay}
+use Rattle.cept_redraw.specs.Kept.{core_on, AreEdges, AreLooksOn}
+use Rattle.cept_redraw.specs.inside.Kept.{IsRefreshed, is_other_above, row_beneath, IsRefreshedRow}
 use Rattle.cept_redraw.specs.Marks.{no_marks}
 use Rattle.cept_redraw.proofs.Refreshed.{IsRefreshed-looks, IsRefreshed-marks, IsRefreshed-none, IsRefreshed-row}
 use Rattle.cept_redraw.proofs.Refreshed.{IsRefreshed-row_kept}

@@ -1,10 +1,8 @@
-pub mod Due
 pub mod Kept
 pub mod Marks
 pub mod Named
-pub mod Passed
 pub mod Picture
-pub mod Redefined
 pub mod Renewed
 pub mod Resolved
 pub mod Restored
+pub mod inside

@@ -1,5 +1,5 @@
 -- Marks: a flag for each place of the screen, in reading order (marks are this profile's own).
-use Rattle.std.specs.Prelude.{ℕ, ◌≡◌, ◌≤◌, ◌<◌, ◌+◌, ◌||◌, Bool, true, false, List, length, replicate, slice_index_or}
+use Rattle.std.specs.Prelude.{ℕ, ◌≡◌, ◌≤◌, ◌<◌, Bool, true, false, List, replicate, slice_index_or}
 use Rattle.cept_codes.specs.Place.{Place, OnScreen, number}
 
 -- the place with this number in reading order is marked
@@ -23,10 +23,3 @@ pub record IsFirstFrom (marks : List Bool) (from : ℕ) (place : Place) : Type 0
   pub at_least : from ≤ number place.row place.column
   pub marked : is_marked marks (number place.row place.column) ≡ true
   pub first : (n : ℕ) → from ≤ n → n < number place.row place.column → is_marked marks n ≡ false
-
--- the places are marked besides that are flagged in a row, from that with this number on, and no others
-pub record HasFlags (flags : List Bool) (first : ℕ) (before marks : List Bool) : Type 0 where
-  pub places : length marks ≡ 960
-  pub row : (i : ℕ) → i < 40 → is_marked marks (first + i) ≡ (is_marked before (first + i) || slice_index_or flags i false)
-  pub above : (n : ℕ) → n < first → is_marked marks n ≡ is_marked before n
-  pub below : (n : ℕ) → first + 40 ≤ n → is_marked marks n ≡ is_marked before n

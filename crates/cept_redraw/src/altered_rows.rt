@@ -8,7 +8,7 @@ ghost use Rattle.cept_profile.specs.PageParts.{row_pen_in};
 ghost use Rattle.cept_profile.specs.Reach.{just_one};
 ghost use Rattle.cept_profile.specs.Valid.{IsValidPage};
 ghost use Rattle.cept_page.specs.Parts.{pens_of};
-ghost use Rattle.cept_redraw.specs.Due.{AreCompared, followed, has_others, is_altered, is_altered_from};
+ghost use Rattle.cept_redraw.specs.inside.Due.{AreCompared, followed, has_others, is_altered, is_altered_from};
 ghost use Rattle.cept_redraw.specs.Resolved.{defines};
 
 use crate::followed_rows::{Followed, one_defines};

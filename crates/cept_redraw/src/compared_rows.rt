@@ -1,5 +1,5 @@
 ghost use Rattle.std.specs.Prelude.{◌≡◌, ◌≤◌, ◌+◌, false};
-ghost use Rattle.cept_redraw.specs.Kept.{HasMarkedRow, IsLeftOf, IsRightOf, is_other_above};
+ghost use Rattle.cept_redraw.specs.inside.Kept.{HasMarkedRow, IsLeftOf, IsRightOf, is_other_above};
 
 use crate::marks::Marks;
 use cept_codes::{Column, Row};

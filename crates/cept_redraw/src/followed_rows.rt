@@ -2,7 +2,8 @@ ghost use Rattle.std.specs.Prelude.{◌≡◌, ◌≤◌, ◌<◌, ◌+◌, ◌-
 ghost use Rattle.std.specs.List.{AllByRecursion, list_any};
 ghost use Rattle.cept_codes.specs.Stroke.{IsValidStroke};
 ghost use Rattle.cept_codes.specs.Table.{entry, list_by_index};
-ghost use Rattle.cept_redraw.specs.Due.{followed, followed_after, freed, row_from, written_if};
+ghost use Rattle.cept_redraw.specs.inside.Due.{followed, followed_after, freed, just_writes, one_does_more, row_from};
+ghost use Rattle.cept_redraw.specs.inside.Due.{written_if};
 ghost use Rattle.cept_redraw.specs.Resolved.{defines, one_else};
 
 use cept_codes::{Row, Stroke};
@@ -98,6 +99,18 @@ fn write_rows(rows: &mut [Followed; 24])
     }
 }
 
+/// For each row from the top, whether a stroke writes in it.
+pub(crate) fn rows_written(rows: &[Followed; 24]) -> [bool; 24]
+    requires { length rows.now ≡ 24 }
+    ensures { result ≡ list_by_index 1 24 (λ r. (entry freed 1 rows.now r).written) }
+{
+    let mut written = [false; 24];
+    for i in 0..24usize {
+        written[i] = rows[i].written;
+    }
+    written
+}
+
 /// Whether one of the rows came of another.
 pub(crate) fn one_moved(rows: &[Followed; 24]) -> bool
     requires rows { length rows.now ≡ 24 }
@@ -119,6 +132,25 @@ fn is_moved(from: Option<Row>, row: Row) -> bool
         Some(from) => from != row,
         None => false,
     }
+}
+
+/// Whether one of the strokes may do more than write in one row.
+pub(crate) fn one_does_more(strokes: &[Stroke]) -> bool
+    ensures { result ≡ one_does_more strokes.now }
+{
+    for stroke in strokes {
+        if !just_writes(stroke) {
+            return true;
+        }
+    }
+    false
+}
+
+/// Whether a stroke does nothing else.
+fn just_writes(stroke: &Stroke) -> bool
+    ensures { result ≡ just_writes stroke.now }
+{
+    matches!(stroke, Stroke::Put(_, _) | Stroke::Erase(_, _))
 }
 
 /// Whether one of the strokes defines nothing.

@@ -6,14 +6,17 @@ ghost use Rattle.cept_profile.specs.State.{Core};
 ghost use Rattle.cept_profile.specs.Valid.{IsValidPage};
 ghost use Rattle.cept_redraw.specs.Kept.{core_on};
 ghost use Rattle.cept_redraw.specs.Marks.{is_marked};
-ghost use Rattle.cept_redraw.specs.Named.{AreAllKnown, AreJustRemembered, AreNamed, IsStill, IsUnmarkedBelow};
+ghost use Rattle.cept_redraw.specs.Named.{AreNamed};
+ghost use Rattle.cept_redraw.specs.inside.Named.{AreAllKnown, AreJustRemembered, CoverAlike, IsLeft, IsStill};
 ghost use Rattle.cept_redraw.specs.Named.{is_known, row_named};
+ghost use Rattle.cept_redraw.specs.inside.Named.{IsUnmarkedBelow};
+ghost use Rattle.cept_rows.specs.KeptNames.{names_kept};
 
 use crate::followed_rows::Followed;
 use crate::kept_rows::KeptRows;
 use crate::marks::Marks;
 use crate::resolved_rows::name_row;
-use cept_codes::Row;
+use cept_codes::{Column, Row};
 use cept_page::Page;
 use cept_rows::{RowLooks, RowNames};
 use std::marker::Model;
@@ -82,8 +85,8 @@ impl KeptNames {
         }
     }
 
-    /// Names a row with these looks. What the row below it names is forgotten, where these aren't
-    /// the names that stood above it.
+    /// Names a row with these looks. What the row below it names is forgotten, where what covers it
+    /// doesn't name the same as before.
     fn name(&mut self, row: Row, page: &Page, looks: &RowLooks)
         requires valid { IsValidPage page.now }
         ensures named { (k : Core) → looks.now ≡ looks_in (looks_of (core_on k page.now)) row
@@ -93,7 +96,7 @@ impl KeptNames {
     {
         let at = row.index();
         let names = name_row(page, row, self.above(row), looks);
-        let same = is_same(&names, &self.rows[at]);
+        let same = is_same_below(looks, &names, &self.rows[at]);
         self.rows[at] = names;
         self.known[at] = true;
         if at < 23 {
@@ -132,7 +135,7 @@ impl KeptNames {
         for number in 1..25u8 {
             let row = Row::numbered(number);
             let at = row.index();
-            let stays = !flags[at] & is_still(rows[at].from, row) & !is_marked_in(marks, row);
+            let stays = is_left(flags[at], rows[at].from, row, marks);
             self.known[at] = self.known[at] & stays;
         }
     }
@@ -145,11 +148,38 @@ impl KeptNames {
     }
 }
 
-/// Whether two rows name the same.
-fn is_same(names: &RowNames, others: &RowNames) -> bool
-    ensures { result ≡ true → names.now ≡ others.now }
+/// Whether two rows with these looks name the same wherever they cover the row below.
+fn is_same_below(looks: &RowLooks, names: &RowNames, others: &RowNames) -> bool
+    ensures { result ≡ true → CoverAlike looks.now names.now others.now }
 {
-    *names == *others
+    if looks.covers_nothing() || *names == *others {
+        return true;
+    }
+    for number in 1..41u8 {
+        let column = Column::numbered(number);
+        if looks.covers_below(column) && !is_same_in(column, names, others) {
+            return false;
+        }
+    }
+    true
+}
+
+/// Whether two rows name the same in a column.
+fn is_same_in(column: Column, names: &RowNames, others: &RowNames) -> bool
+    ensures { result ≡ true → names_kept names.now column ≡ names_kept others.now column }
+{
+    let k = column.index();
+    names.fore[k] == others.fore[k]
+        && names.back[k] == others.back[k]
+        && names.code[k] == others.code[k]
+}
+
+/// Whether a row isn't flagged, came of itself, and no place of it is marked.
+fn is_left(flag: bool, from: Option<Row>, row: Row, marks: &Marks) -> bool
+    ensures left { result ≡ true → IsLeft flag from marks.now row }
+    ensures always { IsLeft flag from marks.now row → result ≡ true }
+{
+    !flag && is_still(from, row) && !marks.has_row(row)
 }
 
 /// Whether a row came of itself.
@@ -159,17 +189,6 @@ fn is_still(from: Option<Row>, row: Row) -> bool
 {
     match from {
         Some(from) => from == row,
-        None => false,
-    }
-}
-
-/// Whether a place of a row is marked.
-fn is_marked_in(marks: &Marks, row: Row) -> bool
-    ensures none { result ≡ false → (c : ℕ) → OnScreen row c → is_marked marks.now (number row c) ≡ false }
-    ensures one { ((c : ℕ) → OnScreen row c → is_marked marks.now (number row c) ≡ false) → result ≡ false }
-{
-    match marks.next_from(40 * (u16::from(row.number()) - 1)) {
-        Some(place) => place.in_row() == row,
         None => false,
     }
 }

@@ -5,7 +5,7 @@ ghost use Rattle.cept_codes.specs.Table.{list_by_index, row_of, table, IsTable};
 ghost use Rattle.cept_profile.specs.Changes.{look_at, grid_with_paint};
 ghost use Rattle.cept_profile.specs.RowsFromAbove.{looks_in};
 ghost use Rattle.cept_profile.specs.Tiling.{column_entry};
-ghost use Rattle.cept_redraw.specs.Kept.{is_other_look};
+ghost use Rattle.cept_redraw.specs.inside.Kept.{is_other_look};
 ghost use Rattle.cept_rows.specs.Flagged.{look_after, looks_differ};
 ghost use Rattle.cept_rows.specs.Source.{look_by_itself};
 

@@ -1,8 +1,9 @@
-ghost use Rattle.std.specs.Prelude.{◌≡◌, ℕ, ◌≤◌, ◌<◌, ◌+◌, ◌*◌, ◌-◌, Bool, true, false, length, slice_set, take, drop};
-ghost use Rattle.std.specs.Prelude.{count_by, IsNone, IfSome, ◌↔◌};
+ghost use Rattle.std.specs.Prelude.{◌≡◌, ℕ, ◌≤◌, ◌<◌, ◌+◌, ◌*◌, ◌-◌, ◌||◌, Bool, true, false, length, slice_set};
+ghost use Rattle.std.specs.Prelude.{take, drop, count_by, IsNone, IfSome, ◌↔◌};
 ghost use Rattle.cept_codes.specs.Place.{number, OnScreen};
 ghost use Rattle.cept_codes.specs.Table.{entry};
-ghost use Rattle.cept_redraw.specs.Marks.{is_marked, no_marks, AreWithin, HasFlags, IsFirstFrom};
+ghost use Rattle.cept_redraw.specs.Marks.{is_marked, no_marks, AreWithin, IsFirstFrom};
+ghost use Rattle.cept_redraw.specs.inside.Marks.{HasFlags};
 
 use cept_codes::{Pos, Row};
 use std::marker::Model;
@@ -105,6 +106,18 @@ impl Marks {
         None
     }
 
+    /// Whether a place of a row is marked.
+    pub(crate) fn has_row(&self, row: Row) -> bool
+        ensures none { result ≡ false → (c : ℕ) → OnScreen row c → is_marked self.now (number row c) ≡ false }
+        ensures one { ((c : ℕ) → OnScreen row c → is_marked self.now (number row c) ≡ false) → result ≡ false }
+    {
+        let first = 40 * row.index();
+        if self.end <= first || first + 40 <= self.first {
+            return false;
+        }
+        has_one(&self.flags[first..first + 40])
+    }
+
     /// The flags of a row, from the left.
     pub fn row_flags(&self, row: Row) -> &[bool]
         ensures flags { result.now ≡ take 40 (drop (number row 1) self.now) }
@@ -173,7 +186,8 @@ impl Marks {
 // Without an end before the last one, so that several are asked at once.
 fn has_one(flags: &[bool]) -> bool
     requires { length flags.now ≡ 40 }
-    ensures { result ≡ false → (c : ℕ) → 1 ≤ c → c ≤ 40 → entry false 1 flags.now c ≡ false }
+    ensures none { result ≡ false → (c : ℕ) → 1 ≤ c → c ≤ 40 → entry false 1 flags.now c ≡ false }
+    ensures one { ((c : ℕ) → 1 ≤ c → c ≤ 40 → entry false 1 flags.now c ≡ false) → result ≡ false }
 {
     let mut one = false;
     for i in 0..40usize {
@@ -183,15 +197,34 @@ fn has_one(flags: &[bool]) -> bool
 }
 
 /// Sets the flags of a row besides, whose first place has this number.
+// All are read before one is written, so that several are set at once.
 fn add_flags(marks: &mut [bool; 960], first: usize, flags: &[bool; 40])
     requires places { length marks.old ≡ 960 }
     requires columns { length flags.now ≡ 40 }
     requires within { first + 40 ≤ 960 }
     ensures { HasFlags flags.now first marks.old marks.new }
 {
+    let row = with_flags(marks, first, flags);
     for i in 0..40usize {
-        marks[first + i] = marks[first + i] | flags[i];
+        marks[first + i] = row[i];
     }
+}
+
+/// The flags of a row whose first place has this number, with those that are set besides.
+#[inline(always)]
+fn with_flags(marks: &[bool; 960], first: usize, flags: &[bool; 40]) -> [bool; 40]
+    requires places { length marks.now ≡ 960 }
+    requires columns { length flags.now ≡ 40 }
+    requires within { first + 40 ≤ 960 }
+    ensures columns { length result ≡ 40 }
+    ensures flags { (i : ℕ) → i < 40 → is_marked result i
+        ≡ (is_marked marks.now (first + i) || is_marked flags.now i) }
+{
+    let mut row = [false; 40];
+    for i in 0..40usize {
+        row[i] = marks[first + i] | flags[i];
+    }
+    row
 }
 
 /// How many of these flags are set.

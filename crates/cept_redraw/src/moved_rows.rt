@@ -3,10 +3,10 @@ ghost use Rattle.std.specs.Prelude.{if◌then◌else◌};
 ghost use Rattle.cept_codes.specs.Stroke.{IsRow};
 ghost use Rattle.cept_codes.specs.Table.{entry};
 ghost use Rattle.cept_profile.specs.RowsFromAbove.{looks_in};
-ghost use Rattle.cept_redraw.specs.Due.{came_from, row_from};
-ghost use Rattle.cept_redraw.specs.Kept.{is_other_above};
-ghost use Rattle.cept_redraw.specs.Passed.{looks_back, stood_in, GoDownByOne, HasTaken, NoneLooksBack};
-ghost use Rattle.cept_redraw.specs.Picture.{AreLooksRefreshed, MayBeRefreshed};
+ghost use Rattle.cept_redraw.specs.inside.Due.{came_from, row_from};
+ghost use Rattle.cept_redraw.specs.inside.Kept.{is_other_above};
+ghost use Rattle.cept_redraw.specs.inside.Passed.{looks_back, stood_in, GoDownByOne, HasTaken, NoneLooksBack};
+ghost use Rattle.cept_redraw.specs.inside.Picture.{AreLooksRefreshed, MayBeRefreshed};
 
 use crate::compared_rows::{covers_otherwise, mark_differences};
 use crate::followed_rows::Followed;

@@ -2,7 +2,7 @@
 
 ghost use Rattle.std.specs.Prelude.{◌≡◌, ◌≤◌, ◌+◌, ◌-◌, ℕ};
 ghost use Rattle.cept_profile.specs.RowsFromAbove.{blank_looks, looks_in};
-ghost use Rattle.cept_redraw.specs.Passed.{stood_in};
+ghost use Rattle.cept_redraw.specs.inside.Passed.{stood_in};
 
 use crate::kept_rows::KeptRows;
 use cept_codes::Row;

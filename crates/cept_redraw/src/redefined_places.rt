@@ -8,11 +8,12 @@ ghost use Rattle.cept_profile.specs.Names.{pattern_shown};
 ghost use Rattle.cept_profile.specs.RowsFromAbove.{looks_in};
 ghost use Rattle.cept_profile.specs.Tiling.{column_entry};
 ghost use Rattle.cept_profile.specs.Valid.{IsValidPage};
-ghost use Rattle.cept_redraw.specs.Due.{at_rest};
-ghost use Rattle.cept_redraw.specs.Kept.{IsRefreshedRow, look_alone};
+ghost use Rattle.cept_redraw.specs.inside.Due.{at_rest};
+ghost use Rattle.cept_redraw.specs.inside.Kept.{IsRefreshedRow, look_alone};
 ghost use Rattle.cept_redraw.specs.Named.{row_named};
-ghost use Rattle.cept_redraw.specs.Picture.{AreLooksRefreshed, HasSameRest, MayBeRefreshed};
-ghost use Rattle.cept_redraw.specs.Redefined.{OtherPlacesStay, is_place_redefined, places_resolved, redefines_place};
+ghost use Rattle.cept_redraw.specs.inside.Picture.{AreLooksRefreshed, HasSameRest, MayBeRefreshed};
+ghost use Rattle.cept_redraw.specs.inside.Redefined.{OtherPlacesStay, is_place_redefined, places_resolved};
+ghost use Rattle.cept_redraw.specs.inside.Redefined.{redefines_place};
 ghost use Rattle.cept_rows.specs.KeptNames.{names_kept};
 
 use crate::kept_rows::KeptRows;

@@ -8,8 +8,9 @@ ghost use Rattle.cept_profile.specs.Reach.{is_redefined, redefines};
 ghost use Rattle.cept_profile.specs.State.{Core};
 ghost use Rattle.cept_profile.specs.Valid.{IsValidPage};
 ghost use Rattle.cept_redraw.specs.Kept.{core_on};
-ghost use Rattle.cept_redraw.specs.Named.{AreAllKnown, AreNamed};
-ghost use Rattle.cept_redraw.specs.Redefined.{IsNamedRow, is_ink_in};
+ghost use Rattle.cept_redraw.specs.Named.{AreNamed};
+ghost use Rattle.cept_redraw.specs.inside.Named.{AreAllKnown};
+ghost use Rattle.cept_redraw.specs.inside.Redefined.{IsNamedRow, is_ink_in};
 
 use crate::kept_names::KeptNames;
 use crate::kept_rows::KeptRows;

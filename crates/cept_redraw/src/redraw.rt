@@ -2,27 +2,36 @@
 //! others. The cases stand at the head of the crate.
 
 ghost use Rattle.std.specs.Prelude.{◌≡◌, ◌≢◌, ◌≤◌, ◌+◌, ◌==◌, ℕ, false, ◌∷◌, [], IfSome, if◌then◌else◌};
+ghost use Rattle.std.specs.Prelude.{option_map};
+ghost use Rattle.std.specs.List.{AllByRecursion};
 ghost use Rattle.cept_codes.specs.declared.cell.Cell.{Cell};
 ghost use Rattle.cept_codes.specs.Place.{OnScreen};
+ghost use Rattle.cept_codes.specs.Stroke.{IsValidStroke};
 ghost use Rattle.cept_codes.specs.Table.{list_by_index};
 ghost use Rattle.cept_profile.specs.Changes.{differences, grid_with_paint, look_at};
 ghost use Rattle.cept_profile.specs.Edges.{edges_of};
 ghost use Rattle.cept_profile.specs.Look.{looks_of};
-ghost use Rattle.cept_profile.specs.State.{Core};
+ghost use Rattle.cept_profile.specs.NotedStrokes.{with_strokes};
+ghost use Rattle.cept_profile.specs.State.{Core, page_after};
 ghost use Rattle.cept_profile.specs.Valid.{IsValidPage};
+ghost use Rattle.cept_page.specs.Behind.{page_behind};
 ghost use Rattle.cept_page.specs.Parts.{pens_of};
 ghost use Rattle.cept_page.specs.MarkedRows.{StandsAlone};
-ghost use Rattle.cept_redraw.specs.Due.{at_rest, followed, is_altered, rows_due};
-ghost use Rattle.cept_redraw.specs.Kept.{OthersStay, core_on, look_alone, is_other_look};
+ghost use Rattle.cept_redraw.specs.inside.Due.{at_rest, followed, is_altered, rows_due};
+ghost use Rattle.cept_redraw.specs.Kept.{core_on};
+ghost use Rattle.cept_redraw.specs.inside.Kept.{OthersStay, look_alone, is_other_look};
 ghost use Rattle.cept_redraw.specs.Marks.{no_marks};
-ghost use Rattle.cept_redraw.specs.Named.{AreAllKnown, AreJustRemembered, IsStill, IsUnmarkedBelow};
+ghost use Rattle.cept_redraw.specs.inside.Named.{AreAllKnown, AreJustRemembered, IsStill, IsUnmarkedBelow};
 ghost use Rattle.cept_redraw.specs.Picture.{AreDrawable, AreTicksOf, IsKeptOn, IsNotedAlong, IsRedrawn};
-ghost use Rattle.cept_redraw.specs.Picture.{IsRedrawnAlong, IsRefreshedOn, MayBeRedrawn, MayBeRefreshedDown};
-ghost use Rattle.cept_redraw.specs.Picture.{just_row};
+ghost use Rattle.cept_redraw.specs.Picture.{IsRedrawnAlong, MayBeRedrawn};
+ghost use Rattle.cept_redraw.specs.inside.Picture.{IsRefreshedOn, MayBeRefreshedDown};
+ghost use Rattle.cept_redraw.specs.inside.Picture.{just_row};
 ghost use Rattle.cept_redraw.specs.Resolved.{one_else};
 
 use crate::altered_rows::{only_put, rows_altered};
-use crate::followed_rows::{follow_rows, one_else, one_moved};
+use crate::followed_rows::{
+    Followed, follow_rows, one_does_more, one_else, one_moved, rows_written,
+};
 use crate::kept_rows::KeptRows;
 use crate::marks::Marks;
 use crate::picture::Picture;
@@ -157,10 +166,8 @@ impl Picture {
             (is_altered strokes.now (pens_of self.old.page) before.now (pens_of self.new.page) after.now))
             (list_by_index 1 24 (followed strokes.now)) marks.new r) }
     {
-        let was = self.page.pens();
-        self.page.draw_all(strokes, noter);
         let rows = follow_rows(strokes);
-        let altered = rows_altered(strokes, &rows, &was, before, &self.page, after);
+        let altered = draw_altering(strokes, &rows, before, &mut self.page, after, noter);
         if one_moved(&rows) {
             self.move_rows(&rows, &altered, after, marks, steps);
         } else {
@@ -238,6 +245,35 @@ impl Picture {
             marks.mark(place);
         }
     }
+}
+
+/// Draws the strokes on a page, and answers for each row from the top whether they alter it. The page has
+/// these edges before and those after; the rows are followed.
+// Attributes are compared only where a stroke may set some.
+fn draw_altering<N: Noter>(
+    strokes: &[Stroke],
+    rows: &[Followed; 24],
+    before: &Edges,
+    page: &mut Page,
+    after: &Edges,
+    noter: &mut N,
+) -> [bool; 24]
+    requires each { AllByRecursion IsValidStroke strokes.now }
+    requires rows { rows.now ≡ list_by_index 1 24 (followed strokes.now) }
+    requires valid { IsValidPage (page_after page.old strokes.now) }
+    ensures drawn { page.new ≡ page_after page.old strokes.now }
+    ensures unwound { page_behind (N.noted noter.new) page.new ≡ page_behind (N.noted noter.old) page.old }
+    ensures noted { N.noted noter.new ≡ option_map (with_strokes page.old strokes.now) (N.noted noter.old) }
+    ensures altered { result ≡ list_by_index 1 24
+        (is_altered strokes.now (pens_of page.old) before.now (pens_of page.new) after.now) }
+{
+    if before.is_same(after) && !one_does_more(strokes) {
+        page.draw_all(strokes, noter);
+        return rows_written(rows);
+    }
+    let was = page.pens();
+    page.draw_all(strokes, noter);
+    rows_altered(strokes, rows, &was, before, page, after)
 }
 
 /// The last column of a row in which a cell may look otherwise by itself, where one is put in this column,

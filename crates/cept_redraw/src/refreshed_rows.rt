@@ -6,10 +6,10 @@ ghost use Rattle.cept_codes.specs.Look.{blank_look};
 ghost use Rattle.cept_profile.specs.RowsFromAbove.{looks_in};
 ghost use Rattle.cept_profile.specs.Tiling.{column_entry};
 ghost use Rattle.cept_profile.specs.Valid.{IsValidPage};
-ghost use Rattle.cept_redraw.specs.Due.{at_rest};
-ghost use Rattle.cept_redraw.specs.Kept.{is_other_above, row_beneath, IsLeftOf, IsRefreshedRow, IsRightOf};
-ghost use Rattle.cept_redraw.specs.Picture.{AreLooksRefreshed, IsRowRenewed, MayBeRefreshed, MayBeRefreshedDown};
-ghost use Rattle.cept_redraw.specs.Picture.{just_row};
+ghost use Rattle.cept_redraw.specs.inside.Due.{at_rest};
+ghost use Rattle.cept_redraw.specs.inside.Kept.{is_other_above, row_beneath, IsLeftOf, IsRefreshedRow, IsRightOf};
+ghost use Rattle.cept_redraw.specs.inside.Picture.{AreLooksRefreshed, IsRowRenewed, MayBeRefreshed, MayBeRefreshedDown};
+ghost use Rattle.cept_redraw.specs.inside.Picture.{just_row};
 ghost use Rattle.cept_rows.specs.RowsByCell.{FollowsToTheRight};
 
 use crate::compared_rows::mark_differences_between;

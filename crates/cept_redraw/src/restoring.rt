@@ -1,10 +1,13 @@
-ghost use Rattle.std.specs.Prelude.{◌≡◌, ◌≤◌, ◌+◌, [], length};
+ghost use Rattle.std.specs.Prelude.{◌≡◌, ◌≤◌, ◌+◌, [], true, length};
 ghost use Rattle.cept_codes.specs.Table.{list_by_index};
 ghost use Rattle.cept_delta.specs.Exchanged.{page_exchanged};
 ghost use Rattle.cept_delta.specs.Noted.{notes_screen};
-ghost use Rattle.cept_redraw.specs.Due.{at_rest};
+ghost use Rattle.cept_profile.specs.Edges.{is_last};
+ghost use Rattle.cept_profile.specs.Reach.{just_one};
+ghost use Rattle.cept_redraw.specs.inside.Due.{at_rest};
 ghost use Rattle.cept_redraw.specs.Named.{AreNamedOn};
-ghost use Rattle.cept_redraw.specs.Picture.{AreOthersKept, IsRefreshedOn, IsRestored, MayBeRestored};
+ghost use Rattle.cept_redraw.specs.Picture.{IsRestored, MayBeRestored};
+ghost use Rattle.cept_redraw.specs.inside.Picture.{AreOthersKept, IsRefreshedOn};
 ghost use Rattle.cept_redraw.specs.Renewed.{rows_renewed};
 ghost use Rattle.cept_redraw.specs.Restored.{is_unwound};
 
@@ -86,20 +89,38 @@ fn rows_unwound(delta: &Delta, before: &Edges, after: &Edges) -> [bool; 24]
     ensures { result ≡ list_by_index 1 24 (is_unwound delta.now before.now after.now) }
 {
     let screen = delta.notes_screen();
+    let same = before.is_same(after);
     let mut rows = [false; 24];
     for i in 0..24u8 {
-        rows[usize::from(i)] = is_unwound(delta, screen, before, after, i + 1);
+        rows[usize::from(i)] = is_unwound(delta, screen, before, after, same, i + 1);
     }
     rows
 }
 
-/// Whether a row may, where it is known whether something is noted by which any row may look.
+/// Whether a row may, where it is known whether something is noted by which any row may look, and
+/// perhaps that the edges are the same.
 #[tactic(auto, unfolding(crate::specs::Restored::is_unwound))]
-fn is_unwound(delta: &Delta, screen: bool, before: &Edges, after: &Edges, row: u8) -> bool
+fn is_unwound(
+    delta: &Delta,
+    screen: bool,
+    before: &Edges,
+    after: &Edges,
+    same: bool,
+    row: u8,
+) -> bool
     requires from_top { 1 ≤ row }
     requires to_bottom { row ≤ 24 }
     requires screen { screen ≡ notes_screen delta.now }
+    requires same { same ≡ true → before.now ≡ after.now }
     ensures { result ≡ is_unwound delta.now before.now after.now row }
 {
-    delta.notes_row(row) || screen || is_last_under_one(before, row, after, row)
+    delta.notes_row(row) || screen || is_last_under_other(before, after, same, row)
+}
+
+/// Whether a row is last under just one of two edges, where it may be known that these are the same.
+fn is_last_under_other(before: &Edges, after: &Edges, same: bool, row: u8) -> bool
+    requires { same ≡ true → before.now ≡ after.now }
+    ensures { result ≡ just_one (is_last before.now row) (is_last after.now row) }
+{
+    !same && is_last_under_one(before, row, after, row)
 }

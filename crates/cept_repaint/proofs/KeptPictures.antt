@@ -19,7 +19,8 @@ use Rattle.cept_page.specs.Behind.{page_behind}
 use Rattle.cept_redraw.specs.declared.picture.Picture.{Picture}
 use Rattle.cept_redraw.specs.Picture.{AreDrawable, AreTicksOf, IsKeptOn, IsNotedAlong, IsRedrawn, IsRestored}
 use Rattle.cept_redraw.specs.Restored.{rows_unwound}
-use Rattle.cept_repaint.specs.Applied.{IsPutBack, IsWritten}
+use Rattle.cept_repaint.specs.Applied.{IsWritten}
+use Rattle.cept_repaint.specs.inside.Applied.{IsPutBack}
 use Rattle.cept_repaint.specs.Kept.{state_of_parts, IsKept}
 use Rattle.cept_repaint.proofs.KeptAfter.{AreEdges-state, AreLooksOn-state, AreNamed-drawn, AreNamedOn-state}
 use Rattle.cept_repaint.proofs.KeptAfter.{IsKept-state_after, looks_of-drawn, marks-kept, renewed-of, resolved-of}

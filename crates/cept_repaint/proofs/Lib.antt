@@ -1,4 +1,5 @@
 mod AppliedCommands
+mod ArrayRows
 mod KeptAfter
 mod KeptPictures
 mod LooksSeen

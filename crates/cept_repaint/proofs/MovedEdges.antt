@@ -6,7 +6,7 @@ use Rattle.cept_codes.specs.declared.command.Command.TheVariants as commands
 use Rattle.cept_profile.specs.Control.{ControlState, control_after, control_after_service, state_for_effect}
 use Rattle.cept_profile.specs.Edges.{edges_of}
 use Rattle.cept_profile.specs.Working.{Working}
-use Rattle.cept_repaint.specs.MovedEdges.{may_move_edges}
+use Rattle.cept_repaint.specs.inside.MovedEdges.{may_move_edges}
 
 after_service : (s : ControlState) (kept : Option Working) → edges_of (control_after_service s kept) ≡ edges_of s
 after_service s None = refl

@@ -5,7 +5,7 @@ use Rattle.cept_profile.specs.Control.{ControlState}
 use Rattle.cept_profile.specs.OldValues.{OldValues, first_noted, page_unwound, unwound, with_control}
 use Rattle.cept_profile.specs.State.{Page, State}
 use Rattle.cept_page.specs.Behind.{PageBehind, page_behind}
-use Rattle.cept_repaint.specs.StateBehind.{state_behind}
+use Rattle.cept_repaint.specs.inside.StateBehind.{state_behind}
 
 abbrev behind_with : Page → Option ControlState → PageBehind
 behind_with p k = record { page = p; control = k }

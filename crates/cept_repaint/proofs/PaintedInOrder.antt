@@ -9,7 +9,7 @@ use Rattle.cept_profile.specs.Changes.{look_at, marked_looks, marked_looks_below
 use Rattle.cept_profile.proofs.Laws.{grid_with_paints-append, marked_looks_below-none, marked_looks_below-next}
 use Rattle.cept_profile.proofs.Laws.{marked_looks_below-unmarked, marked_looks_below-whole}
 use Rattle.cept_redraw.specs.Marks.{is_marked, IsFirstFrom}
-use Rattle.cept_repaint.specs.Applied.{PaintsAll}
+use Rattle.cept_repaint.specs.inside.Applied.{PaintsAll}
 use Rattle.cept_repaint.specs.GlassState.{GlassState, Lists, Paints}
 
 -- the first marked place from `from` on comes next

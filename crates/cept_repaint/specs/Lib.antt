@@ -1,10 +1,10 @@
 pub mod Applied
+pub mod ArrayGlass
 pub mod GlassState
 pub mod GridGlass
 pub mod InTurn
 pub mod Kept
-pub mod MovedEdges
-pub mod StateBehind
 pub mod Tape
 pub mod TapeGlass
 pub mod ValidGrid
+pub mod inside

@@ -2,6 +2,7 @@
 //! and paints them on a glass. It knows no bytes and keeps no history.
 #![tactic(auto)]
 
+mod array_glass;
 mod glass;
 mod grid_glass;
 mod moved_edges;
@@ -9,6 +10,7 @@ mod painting;
 mod screen;
 mod tape_glass;
 
+pub use array_glass::ArrayGlass;
 pub use cept_delta::Delta;
 pub use cept_redraw::Marks;
 pub use glass::Glass;

@@ -1,5 +1,5 @@
 ghost use Rattle.std.specs.Prelude.{◌≡◌};
-ghost use Rattle.cept_repaint.specs.MovedEdges.{may_move_edges};
+ghost use Rattle.cept_repaint.specs.inside.MovedEdges.{may_move_edges};
 
 use cept_codes::Command;
 

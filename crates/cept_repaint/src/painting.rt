@@ -2,7 +2,7 @@ ghost use Rattle.std.specs.Prelude.{◌+◌};
 ghost use Rattle.cept_profile.specs.Changes.{marked_looks};
 ghost use Rattle.cept_profile.specs.Look.{looks_of};
 ghost use Rattle.cept_profile.specs.State.{core_of};
-ghost use Rattle.cept_repaint.specs.Applied.{PaintsAll};
+ghost use Rattle.cept_repaint.specs.inside.Applied.{PaintsAll};
 
 use crate::glass::Glass;
 use crate::screen::Screen;

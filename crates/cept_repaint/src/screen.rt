@@ -20,11 +20,12 @@ ghost use Rattle.cept_page.specs.Parts.{cell_at};
 ghost use Rattle.cept_redraw.specs.Marks.{no_marks};
 ghost use Rattle.cept_redraw.specs.Picture.{IsNotedAlong};
 ghost use Rattle.cept_redraw.specs.Renewed.{rows_renewed};
-ghost use Rattle.cept_repaint.specs.Applied.{GoesOn, IsApplied, IsPutBack, IsRepainted, IsWritten, IsWrittenAlong};
+ghost use Rattle.cept_repaint.specs.Applied.{GoesOn, IsApplied, IsRepainted, IsWritten};
+ghost use Rattle.cept_repaint.specs.inside.Applied.{IsPutBack, IsWrittenAlong};
 ghost use Rattle.cept_repaint.specs.Applied.{rows_restored};
 ghost use Rattle.cept_repaint.specs.Kept.{state_of_parts};
-ghost use Rattle.cept_repaint.specs.MovedEdges.{may_move_edges};
-ghost use Rattle.cept_repaint.specs.StateBehind.{state_behind};
+ghost use Rattle.cept_repaint.specs.inside.MovedEdges.{may_move_edges};
+ghost use Rattle.cept_repaint.specs.inside.StateBehind.{state_behind};
 
 use crate::glass::Glass;
 use crate::moved_edges::may_move_edges;

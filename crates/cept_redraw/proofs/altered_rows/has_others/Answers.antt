@@ -5,7 +5,7 @@ use Rattle.cept_codes.proofs.Laws.{entry_from}
 use Rattle.cept_profile.specs.Edges.{is_last}
 use Rattle.cept_profile.specs.Reach.{just_one}
 use Rattle.cept_profile.specs.PageParts.{row_pen_in}
-use Rattle.cept_redraw.specs.Due.{has_others}
+use Rattle.cept_redraw.specs.inside.Due.{has_others}
 use Rattle.cept_redraw.proofs.altered_rows.has_others.Goals as goal
 
 pub returns : goal.returns

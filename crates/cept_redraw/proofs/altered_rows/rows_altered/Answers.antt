@@ -5,7 +5,7 @@ use Rattle.cept_codes.proofs.Laws.{HasMadeEntries-all, HasMadeEntries-more, entr
 use Rattle.cept_codes.proofs.Laws.{length-list_by_index}
 use Rattle.cept_page.specs.Parts.{pens_of}
 use Rattle.cept_redraw.specs.declared.followed_rows.Followed.{Followed}
-use Rattle.cept_redraw.specs.Due.{followed, freed, is_altered, is_altered_from}
+use Rattle.cept_redraw.specs.inside.Due.{followed, freed, is_altered, is_altered_from}
 use Rattle.cept_redraw.proofs.altered_rows.rows_altered.Goals as goal
 
 pub loop-i-init : goal.loop-i-init

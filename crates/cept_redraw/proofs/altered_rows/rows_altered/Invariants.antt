@@ -1,7 +1,7 @@
 use Rattle.std.proofs.Common.{false}
 use Rattle.cept_codes.specs.Table.{HasMadeEntries}
 use Rattle.cept_page.specs.Parts.{pens_of}
-use Rattle.cept_redraw.specs.Due.{is_altered}
+use Rattle.cept_redraw.specs.inside.Due.{is_altered}
 use Rattle.cept_redraw.proofs.altered_rows.rows_altered.Given as goal
 
 abbrev pub invariant-loop-i : goal.invariant-loop-i

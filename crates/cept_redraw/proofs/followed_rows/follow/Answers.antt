@@ -2,7 +2,7 @@ use Rattle.std.proofs.Common.{◌∙◌, List, ap, arith}
 use Rattle.cept_codes.specs.Table.{entry}
 use Rattle.cept_codes.proofs.Laws.{entry-list_by_index}
 use Rattle.cept_redraw.specs.declared.followed_rows.Followed.{Followed}
-use Rattle.cept_redraw.specs.Due.{freed}
+use Rattle.cept_redraw.specs.inside.Due.{freed}
 use Rattle.cept_redraw.proofs.FollowedRows.{moved-followed}
 use Rattle.cept_redraw.proofs.followed_rows.follow.Goals as goal
 

@@ -1,5 +1,5 @@
 use Rattle.std.proofs.Common.{◌≡◌, ◌≤◌, ◌<◌, ◌+◌, ℕ, Some}
-use Rattle.cept_redraw.specs.Due.{row_from}
+use Rattle.cept_redraw.specs.inside.Due.{row_from}
 use Rattle.cept_redraw.proofs.followed_rows.one_moved.Given as goal
 
 abbrev pub invariant-loop-i : goal.invariant-loop-i

@@ -2,7 +2,7 @@ use Rattle.std.proofs.Common.{◌-◌, [], false, Some, sym, replicate, arith, �
 use Rattle.std.proofs.lemmas.List.{get_or-replicate, length-replicate}
 use Rattle.cept_codes.proofs.Laws.{HasMadeEntries-all, HasMadeEntries-more, entry_from}
 use Rattle.cept_redraw.specs.declared.followed_rows.Followed.{Followed}
-use Rattle.cept_redraw.specs.Due.{followed, freed}
+use Rattle.cept_redraw.specs.inside.Due.{followed, freed}
 use Rattle.cept_redraw.proofs.FollowedRows.{followed-rest}
 use Rattle.cept_redraw.proofs.followed_rows.rows_at_rest.Goals as goal
 

@@ -1,6 +1,6 @@
 use Rattle.std.proofs.Common.{true}
 use Rattle.cept_codes.specs.Table.{HasMadeEntries, entry}
-use Rattle.cept_redraw.specs.Due.{freed, written_if}
+use Rattle.cept_redraw.specs.inside.Due.{freed, written_if}
 use Rattle.cept_redraw.proofs.followed_rows.write_rows.Given as goal
 
 abbrev pub invariant-loop-i : goal.invariant-loop-i

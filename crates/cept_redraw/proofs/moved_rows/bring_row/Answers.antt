@@ -2,8 +2,8 @@ use Rattle.std.proofs.Common.{◌≡◌, ◌-◌, List, set, sym, ap, subst, ◌
 use Rattle.std.proofs.lemmas.Bool.{true≢false}
 use Rattle.cept_codes.specs.declared.look.Look.{Look}
 use Rattle.cept_profile.specs.RowsFromAbove.{looks_in}
-use Rattle.cept_redraw.specs.Kept.{HasMarkedRow}
-use Rattle.cept_redraw.specs.Passed.{stood_in}
+use Rattle.cept_redraw.specs.inside.Kept.{HasMarkedRow}
+use Rattle.cept_redraw.specs.inside.Passed.{stood_in}
 use Rattle.cept_redraw.proofs.MovedRows.{stood_in-below}
 use Rattle.cept_redraw.proofs.moved_rows.bring_row.Goals as goal
 use Rattle.cept_redraw.proofs.moved_rows.bring_row.Goals.{then-back, else-back}

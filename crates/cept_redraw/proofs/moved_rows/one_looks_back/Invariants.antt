@@ -1,6 +1,6 @@
 use Rattle.std.proofs.Common.{◌≡◌, ℕ, ◌≤◌, ◌<◌, false}
-use Rattle.cept_redraw.specs.Due.{row_from}
-use Rattle.cept_redraw.specs.Passed.{came_above, looks_back}
+use Rattle.cept_redraw.specs.inside.Due.{row_from}
+use Rattle.cept_redraw.specs.inside.Passed.{came_above, looks_back}
 use Rattle.cept_redraw.proofs.moved_rows.one_looks_back.Given as goal
 
 abbrev pub invariant-loop-row : goal.invariant-loop-row

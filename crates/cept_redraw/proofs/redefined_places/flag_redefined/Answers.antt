@@ -6,7 +6,7 @@ use Rattle.cept_profile.specs.Names.{pattern_shown}
 use Rattle.cept_profile.specs.Tiling.{column_entry}
 use Rattle.cept_rows.specs.KeptNames.{names_kept}
 use Rattle.cept_rows.specs.Planes.{has_inks}
-use Rattle.cept_redraw.specs.Redefined.{redefines_place}
+use Rattle.cept_redraw.specs.inside.Redefined.{redefines_place}
 use Rattle.cept_redraw.proofs.FlaggedPlaces.{all_flagged, both_flagged, none_defined}
 use Rattle.cept_redraw.proofs.redefined_places.flag_redefined.Goals as goal
 

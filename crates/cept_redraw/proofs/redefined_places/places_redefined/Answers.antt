@@ -4,7 +4,7 @@ use Rattle.cept_codes.proofs.Laws.{length-list_by_index}
 use Rattle.cept_profile.specs.Names.{pattern_shown}
 use Rattle.cept_profile.specs.Tiling.{column_entry}
 use Rattle.cept_rows.specs.KeptNames.{names_kept}
-use Rattle.cept_redraw.specs.Redefined.{redefines_place}
+use Rattle.cept_redraw.specs.inside.Redefined.{redefines_place}
 use Rattle.cept_redraw.proofs.FlaggedPlaces.{flagged_first, flagged_more}
 use Rattle.cept_redraw.proofs.ValidStrokes.{valid_item}
 use Rattle.cept_redraw.proofs.redefined_places.places_redefined.Goals as goal

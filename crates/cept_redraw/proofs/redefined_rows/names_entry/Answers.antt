@@ -1,6 +1,6 @@
 use Rattle.std.proofs.Common.{◌&&◌, ◌||◌, leb, sym, ◌∙◌}
 use Rattle.std.specs.Prelude.{nat_lt}
-use Rattle.cept_redraw.specs.Redefined.{is_ink_in}
+use Rattle.cept_redraw.specs.inside.Redefined.{is_ink_in}
 use Rattle.cept_redraw.proofs.NamedRows.{entry_named, grouped, inks_asked, inks_unasked, named_plainly}
 use Rattle.cept_redraw.proofs.redefined_rows.names_entry.Goals as goal
 

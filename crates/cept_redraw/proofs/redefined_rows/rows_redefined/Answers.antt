@@ -6,7 +6,7 @@ use Rattle.cept_profile.specs.Reach.{is_redefined}
 use Rattle.cept_profile.specs.RowsFromAbove.{looks_in}
 use Rattle.cept_profile.specs.State.{Core}
 use Rattle.cept_redraw.specs.Kept.{core_on}
-use Rattle.cept_redraw.specs.Redefined.{IsNamedRow}
+use Rattle.cept_redraw.specs.inside.Redefined.{IsNamedRow}
 use Rattle.cept_redraw.proofs.NamesKept.{all_named}
 use Rattle.cept_rows.specs.declared.naming.RowNames.{RowNames}
 use Rattle.cept_rows.specs.KeptNames.{names_kept}

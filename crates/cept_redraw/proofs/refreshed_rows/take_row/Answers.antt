@@ -1,7 +1,7 @@
 use Rattle.std.proofs.Common.{List, ap, subst, ◌∙◌, sym}
 use Rattle.cept_codes.specs.declared.look.Look.{Look}
 use Rattle.cept_profile.specs.RowsFromAbove.{looks_in}
-use Rattle.cept_redraw.specs.Kept.{HasMarkedRow, is_other_above, IsLeftOf, IsRightOf}
+use Rattle.cept_redraw.specs.inside.Kept.{HasMarkedRow, is_other_above, IsLeftOf, IsRightOf}
 use Rattle.cept_redraw.proofs.Refreshed.{IsRefreshedRow-made}
 use Rattle.cept_redraw.proofs.RowsOfLooks.{looks_in-set}
 use Rattle.cept_redraw.proofs.refreshed_rows.take_row.Goals as goal

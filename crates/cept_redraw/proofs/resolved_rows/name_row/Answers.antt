@@ -1,7 +1,8 @@
 use Rattle.std.proofs.Common.{false, ap, refl, ◌∙◌}
 use Rattle.cept_rows.specs.KeptNames.{names_made, own_names}
 use Rattle.cept_rows.specs.Source.{Source}
-use Rattle.cept_redraw.specs.Kept.{core_on, source_of}
+use Rattle.cept_redraw.specs.Kept.{core_on}
+use Rattle.cept_redraw.specs.inside.Kept.{source_of}
 use Rattle.cept_redraw.proofs.NamesKept.{beneath-by}
 use Rattle.cept_redraw.proofs.resolved_rows.name_row.Goals as goal
 

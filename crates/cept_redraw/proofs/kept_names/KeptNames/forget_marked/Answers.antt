@@ -1,5 +1,5 @@
 use Rattle.std.proofs.Common.{◌≡◌, ◌≢◌, ◌*◌, refl, subst, arith}
-use Rattle.cept_redraw.specs.Named.{AreJustRemembered, IsUnmarkedBelow}
+use Rattle.cept_redraw.specs.inside.Named.{AreJustRemembered, IsUnmarkedBelow}
 use Rattle.cept_redraw.proofs.NamesKept.{forgotten-all, forgotten-first, forgotten-more}
 use Rattle.cept_redraw.proofs.kept_names.KeptNames.forget_marked.Goals as goal
 

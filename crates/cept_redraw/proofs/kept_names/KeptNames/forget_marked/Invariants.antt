@@ -1,5 +1,5 @@
 use Rattle.std.proofs.Common.{◌≢◌, ◌-◌, ◌≤◌}
-use Rattle.cept_redraw.specs.Named.{AreJustRemembered, IsUnmarkedBelow}
+use Rattle.cept_redraw.specs.inside.Named.{AreJustRemembered, IsUnmarkedBelow}
 use Rattle.cept_redraw.proofs.kept_names.KeptNames.forget_marked.Given as goal
 
 abbrev pub invariant-loop-place : goal.invariant-loop-place

@@ -1,48 +1,49 @@
-use Rattle.std.proofs.Common.{◌≡◌, ◌&&◌, not, true, false, inl, inr, get_or, sym, ap, subst, ◌∙◌, arith}
-use Rattle.std.proofs.lemmas.Bool.{and_parts, cases_eq, not-true}
+use Rattle.std.proofs.Common.{◌≡◌, true, false, inl, inr, get_or, sym, ap, subst, ◌∙◌, arith}
+use Rattle.std.proofs.lemmas.Bool.{cases_eq}
 use Rattle.std.proofs.lemmas.List.{get_or_default, length-set}
+use Rattle.cept_codes.specs.Table.{entry}
 use Rattle.cept_codes.proofs.Laws.{entry_from}
 use Rattle.cept_redraw.specs.declared.followed_rows.Followed.{Followed}
-use Rattle.cept_redraw.specs.Due.{freed}
-use Rattle.cept_redraw.specs.Named.{IsStill}
+use Rattle.cept_redraw.specs.inside.Due.{freed, row_from}
+use Rattle.cept_redraw.specs.inside.Named.{IsLeft, IsStill}
 use Rattle.cept_redraw.proofs.NamesKept.{known-kept, known-stays}
 use Rattle.cept_redraw.proofs.kept_names.KeptNames.forget_rows.Goals as goal
 
--- the row at hand, where it stays
-still : (c : goal.After-self-1)
-    → (not (get_or c.args.flags.now c.index-at.result false) && c.is_still.result && not c.is_marked_in.result) ≡ true
-    → IsStill c.args.flags.now c.args.rows.now c.args.marks.now c.numbered-row.result
-still c stays =
-    let first = and_parts (not (get_or c.args.flags.now c.index-at.result false) && c.is_still.result)
-    (not c.is_marked_in.result) stays in
-    let second = and_parts (not (get_or c.args.flags.now c.index-at.result false)) c.is_still.result first.0 in (
-      entry_from false 1 c.args.flags.now c.numbered-row.result c.index-at.ensures.in_range.0
-          ∙ ap (λ n. get_or c.args.flags.now n false) (sym c.index-at.ensures.index)
-          ∙ not-true (get_or c.args.flags.now c.index-at.result false) second.0,
-      ap (λ (f : Followed). f.from) (entry_from freed 1 c.args.rows.now c.numbered-row.result
-          c.index-at.ensures.in_range.0
-          ∙ ap (λ n. get_or c.args.rows.now n freed) (sym c.index-at.ensures.index)
-          ∙ get_or_default c.args.rows.now c.index-at.result freed c.index-rows-at.result
-          (omega (arith, c.index-at.ensures.below, c.requires.rows)))
-          ∙ c.is_still.ensures.still second.1,
-      c.is_marked_in.ensures.none (not-true c.is_marked_in.result first.1),
-    )
-
--- and it stays where it is still
-stays : (c : goal.After-self-1) → IsStill c.args.flags.now c.args.rows.now c.args.marks.now c.numbered-row.result
-    → (not (get_or c.args.flags.now c.index-at.result false) && c.is_still.result && not c.is_marked_in.result) ≡ true
-stays c is =
-    let flag : get_or c.args.flags.now c.index-at.result false ≡ false =
+-- the flag of the row at hand, and of which row it came
+flag_is : (c : goal.After-self-1)
+    → get_or c.args.flags.now c.index-at.result false ≡ entry false 1 c.args.flags.now c.numbered-row.result
+flag_is c =
     ap (λ n. get_or c.args.flags.now n false) c.index-at.ensures.index
-    ∙ sym (entry_from false 1 c.args.flags.now c.numbered-row.result c.index-at.ensures.in_range.0) ∙ is.0 in
-    let from = c.is_still.ensures.always
-    (sym (ap (λ (f : Followed). f.from) (entry_from freed 1 c.args.rows.now c.numbered-row.result
+    ∙ sym (entry_from false 1 c.args.flags.now c.numbered-row.result c.index-at.ensures.in_range.0)
+
+from_is : (c : goal.After-self-1)
+    → (get_or c.args.rows.now c.index-at.result c.index-rows-at.result).from
+    ≡ row_from c.args.rows.now c.numbered-row.result
+from_is c =
+    ap (λ (f : Followed). f.from) (sym (entry_from freed 1 c.args.rows.now c.numbered-row.result
     c.index-at.ensures.in_range.0
     ∙ ap (λ n. get_or c.args.rows.now n freed) (sym c.index-at.ensures.index)
     ∙ get_or_default c.args.rows.now c.index-at.result freed c.index-rows-at.result
-    (omega (arith, c.index-at.ensures.below, c.requires.rows)))) ∙ is.1) in
-    let mark = c.is_marked_in.ensures.one is.2 in
-    (λ i. not (flag i) && from i && not (mark i))
+    (omega (arith, c.index-at.ensures.below, c.requires.rows))))
+
+-- the row at hand, where it stays
+still : (c : goal.After-self-1) → c.is_left-stays.result ≡ true
+    → IsStill c.args.flags.now c.args.rows.now c.args.marks.now c.numbered-row.result
+still c stays =
+    subst (λ b. IsLeft b (row_from c.args.rows.now c.numbered-row.result) c.args.marks.now c.numbered-row.result)
+    (flag_is c)
+    (subst (λ f. IsLeft (get_or c.args.flags.now c.index-at.result false) f c.args.marks.now c.numbered-row.result)
+    (from_is c) (c.is_left-stays.ensures.left stays))
+
+-- and it stays where it is still
+stays : (c : goal.After-self-1) → IsStill c.args.flags.now c.args.rows.now c.args.marks.now c.numbered-row.result
+    → c.is_left-stays.result ≡ true
+stays c is =
+    c.is_left-stays.ensures.always
+    (subst (λ b. IsLeft b (get_or c.args.rows.now c.index-at.result c.index-rows-at.result).from c.args.marks.now
+    c.numbered-row.result) (sym (flag_is c))
+    (subst (λ f. IsLeft (entry false 1 c.args.flags.now c.numbered-row.result) f c.args.marks.now c.numbered-row.result)
+    (sym (from_is c)) is))
 
 pub loop-number-preserved : goal.loop-number-preserved
 loop-number-preserved c = record {

@@ -1,6 +1,6 @@
 use Rattle.std.proofs.Common.{◌≡◌, ℕ, ◌≤◌, ◌<◌, true, false, length}
 use Rattle.cept_codes.specs.Table.{entry}
-use Rattle.cept_redraw.specs.Named.{IsStill}
+use Rattle.cept_redraw.specs.inside.Named.{IsStill}
 use Rattle.cept_redraw.proofs.kept_names.KeptNames.forget_rows.Given as goal
 
 abbrev pub invariant-loop-number : goal.invariant-loop-number

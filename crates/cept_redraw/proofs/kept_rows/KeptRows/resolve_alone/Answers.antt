@@ -5,8 +5,8 @@ use Rattle.cept_codes.specs.Same.{same_look}
 use Rattle.cept_profile.specs.Changes.{look_at}
 use Rattle.cept_profile.specs.Tiling.{column_entry}
 use Rattle.cept_rows.specs.Source.{look_by_itself}
-use Rattle.cept_redraw.specs.Kept.{is_other_look}
-use Rattle.cept_redraw.proofs.LooksWritten.{painted_is, read_is}
+use Rattle.cept_redraw.specs.inside.Kept.{is_other_look}
+use Rattle.cept_redraw.proofs.LooksWritten.{OnScreen-parts, painted_is, read_is}
 use Rattle.cept_redraw.proofs.kept_rows.KeptRows.resolve_alone.Goals as goal
 
 pub returns-clause-looks : goal.returns-clause-looks
@@ -18,7 +18,7 @@ returns-clause-looks g c =
     ∙ ap (λ k. set row (c.in_column.result - 1) (look_by_itself c.args.source.now k)) c.in_column.ensures.column)
     ∙ painted_is c.self.invariant.0 c.self.view_is c.args.place
     (look_by_itself c.args.source.now c.args.place.column) c.index.result (c.in_column.result - 1) row _
-    c.in_column.ensures.on_screen (omega (arith, c.index.ensures, c.in_row.ensures))
+    (OnScreen-parts c.in_row.ensures.in_range c.in_column.ensures.in_range) (omega (arith, c.index.ensures, c.in_row.ensures))
     (omega (arith, c.in_column.ensures)) c.index_mut-kept.ensures.value
 
 pub returns-clause-differs : goal.returns-clause-differs
@@ -26,7 +26,10 @@ unfolding is_other_look
 returns-clause-differs g c =
     let read : column_entry blank_look c.index_mut-kept.result.now c.in_column.result ≡ look_at c.args.self.now c.args.place =
     read_is c.self.invariant.0 c.self.view_is c.args.place c.index.result c.in_column.result
-    c.index_mut-kept.result.now _ c.in_column.ensures.on_screen (omega (arith, c.index.ensures, c.in_row.ensures))
+    c.index_mut-kept.result.now _ (OnScreen-parts c.in_row.ensures.in_range c.in_column.ensures.in_range) (omega (arith, c.index.ensures, c.in_row.ensures))
     c.in_column.ensures.column c.index_mut-kept.ensures.value in
     c.resolve_alone.ensures.differs
     ∙ (λ i. not (same_look (read i) (look_by_itself c.args.source.now (c.in_column.ensures.column i))))
+
+pub returns-clause-on_screen : goal.returns-clause-on_screen
+returns-clause-on_screen g c = OnScreen-parts c.in_row.ensures.in_range c.in_column.ensures.in_range

@@ -14,7 +14,7 @@ loop-k-preserved c = λ n low high. elim (cases_lt n (40 * c.loop-k.k)) [
   | inr past ↦
       ap (λ (l : List Bool). is_marked l n) (sym c.self.view_is)
       ∙ row_unmarked c.self.inside.flags (40 * c.loop-k.k) (40 * c.loop-k.k + 40 - 40 * c.loop-k.k) (omega arith)
-      (c.has_one.ensures c.if-has_one.false) n past (omega (arith, high))
+      (c.has_one.ensures.none c.if-has_one.false) n past (omega (arith, high))
 ]
 
 pub returns-then-has_one-clause-before : goal.returns-then-has_one-clause-before

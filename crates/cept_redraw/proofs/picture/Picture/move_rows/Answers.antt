@@ -8,9 +8,10 @@ use Rattle.cept_profile.specs.Look.{looks_of}
 use Rattle.cept_profile.specs.RowsFromAbove.{looks_in}
 use Rattle.cept_profile.specs.State.{Core}
 use Rattle.cept_redraw.specs.declared.passed_rows.Passed.{Passed}
-use Rattle.cept_redraw.specs.Due.{came_from, is_covered_from, is_due, row_from}
-use Rattle.cept_redraw.specs.Kept.{HasMarkedRow, core_on, is_other_above, row_beneath}
-use Rattle.cept_redraw.specs.Passed.{stood_in, HavePassed}
+use Rattle.cept_redraw.specs.inside.Due.{came_from, is_covered_from, is_due, row_from}
+use Rattle.cept_redraw.specs.Kept.{core_on}
+use Rattle.cept_redraw.specs.inside.Kept.{HasMarkedRow, is_other_above, row_beneath}
+use Rattle.cept_redraw.specs.inside.Passed.{stood_in, HavePassed}
 use Rattle.cept_redraw.proofs.MovedRows.{HavePassed-more, MovedTo-as, MovedTo-cost, MovedTo-first, MovedTo-looks, MovedTo-marks}
 use Rattle.cept_redraw.proofs.MovedRows.{MovedTo-more, MovedTo-stood, RowMade-due, RowMade-undue, asked_covered, asked_stood}
 use Rattle.cept_redraw.proofs.MovedRows.{came_low, came_read, covered_is, moved_due, stood_is}

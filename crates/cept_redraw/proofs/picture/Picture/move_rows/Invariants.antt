@@ -2,7 +2,7 @@ use Rattle.std.proofs.Common.{◌≡◌, true}
 use Rattle.cept_profile.specs.Edges.{edges_of_core}
 use Rattle.cept_profile.specs.State.{Core}
 use Rattle.cept_redraw.specs.Kept.{core_on}
-use Rattle.cept_redraw.specs.Passed.{came_above, HavePassed}
+use Rattle.cept_redraw.specs.inside.Passed.{came_above, HavePassed}
 use Rattle.cept_redraw.proofs.MovedRows.{MovedTo}
 use Rattle.cept_redraw.proofs.picture.Picture.move_rows.Given as goal
 

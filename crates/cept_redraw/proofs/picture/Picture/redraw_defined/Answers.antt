@@ -5,9 +5,10 @@ use Rattle.cept_profile.specs.Reach.{is_redefined}
 use Rattle.cept_profile.specs.State.{Core, Page}
 use Rattle.cept_profile.specs.Valid.{IsValidPage}
 use Rattle.cept_page.specs.Behind.{page_behind}
-use Rattle.cept_redraw.specs.Due.{at_rest}
+use Rattle.cept_redraw.specs.inside.Due.{at_rest}
 use Rattle.cept_redraw.specs.Kept.{core_on}
-use Rattle.cept_redraw.specs.Named.{AreAllKnown, AreNamedOn, NamesOfRows}
+use Rattle.cept_redraw.specs.Named.{AreNamedOn, NamesOfRows}
+use Rattle.cept_redraw.specs.inside.Named.{AreAllKnown}
 use Rattle.cept_redraw.proofs.RedefinedPlaces.{OtherPlacesStay-defined}
 use Rattle.cept_redraw.proofs.RedefinedRows.{AreNamedOn-defined, OtherRowsStay-defined, came_defined, defined_cores}
 use Rattle.cept_redraw.proofs.RedefinedRows.{rows_due-defined}

@@ -7,10 +7,10 @@ use Rattle.cept_page.specs.Parts.{pens_of}
 use Rattle.cept_page.specs.Behind.{page_behind}
 use Rattle.cept_redraw.specs.declared.followed_rows.Followed.{Followed}
 use Rattle.cept_redraw.specs.declared.picture.Picture.{Picture}
-use Rattle.cept_redraw.specs.Due.{followed, is_altered, rows_due}
+use Rattle.cept_redraw.specs.inside.Due.{followed, is_altered, rows_due}
 use Rattle.cept_redraw.specs.Kept.{AreLooksOn, core_on}
-use Rattle.cept_redraw.specs.Named.{AreJustRemembered, AreNamedOn, IsStill, NamesOfRows}
-use Rattle.cept_redraw.proofs.AlteredRows.{altered-pens}
+use Rattle.cept_redraw.specs.Named.{AreNamedOn, NamesOfRows}
+use Rattle.cept_redraw.specs.inside.Named.{AreJustRemembered, IsStill}
 use Rattle.cept_redraw.proofs.FollowedRows.{came-followed, row_from-followed}
 use Rattle.cept_redraw.proofs.NamesAfter.{AreNamedOn-drawn}
 use Rattle.cept_redraw.proofs.RestingRows.{AreStill, OtherRowsStay-still, rows_due-still}
@@ -26,9 +26,9 @@ move_rows-requires-clause-came g c =
 
 pub move_rows-requires-clause-freed : goal.move_rows-requires-clause-freed
 move_rows-requires-clause-freed g c =
-    freed-altered c.rows_altered-altered.result c.follow_rows-rows.result c.args.strokes.now c.pens-was.result
-    c.args.before.now (pens_of c.draw_all.new.self) c.args.after.now c.rows_altered-altered.ensures
-    c.follow_rows-rows.ensures
+    freed-altered c.draw_altering-altered.result c.follow_rows-rows.result c.args.strokes.now
+    (pens_of c.args.self.now.page) c.args.before.now (pens_of c.draw_altering-altered.new.page) c.args.after.now
+    c.draw_altering-altered.ensures.altered c.follow_rows-rows.ensures
 
 pub move_rows-requires-clause-low : goal.move_rows-requires-clause-low
 move_rows-requires-clause-low g c r q low high came =
@@ -40,15 +40,16 @@ move_rows-requires-clause-may g c = record {
   none = c.requires.none;
   others =
       record {
-        valid = subst (λ (p : Page). IsValidPage p) (sym c.draw_all.ensures.drawn) c.requires.may.strokes.valid;
+        valid = subst (λ (p : Page). IsValidPage p) (sym c.draw_altering-altered.ensures.drawn)
+            c.requires.may.strokes.valid;
         of_core = c.requires.may.to;
         stay = λ k same.
-            OtherRowsStay-drawn c.args.self.now.page c.draw_all.new.self c.args.strokes.now c.args.before.now
-            c.args.after.now c.args.self.now.looks c.rows_altered-altered.result c.follow_rows-rows.result
+            OtherRowsStay-drawn c.args.self.now.page c.draw_altering-altered.new.page c.args.strokes.now
+            c.args.before.now c.args.after.now c.args.self.now.looks c.draw_altering-altered.result
+            c.follow_rows-rows.result
             c.requires.may.kept.valid c.requires.may.strokes.each c.requires.may.kept.of_core c.requires.may.kept.looks
-            c.draw_all.ensures.drawn
-            (altered-pens c.args.strokes.now c.pens-was.result c.args.self.now.page c.draw_all.new.self c.args.before.now
-            c.args.after.now c.rows_altered-altered.result c.rows_altered-altered.ensures c.pens-was.ensures.pens)
+            c.draw_altering-altered.ensures.drawn
+            c.draw_altering-altered.ensures.altered
             c.follow_rows-rows.ensures k same;
       };
 }
@@ -57,30 +58,30 @@ pub refresh_rows-requires-clause-may : goal.refresh_rows-requires-clause-may
 refresh_rows-requires-clause-may g c = record {
   none = c.requires.none;
   others =
-      let are : AreStill c.rows_altered-altered.result c.follow_rows-rows.result = record {
-        freed = freed-altered c.rows_altered-altered.result c.follow_rows-rows.result c.args.strokes.now
-            c.pens-was.result c.args.before.now (pens_of c.draw_all.new.self) c.args.after.now
-            c.rows_altered-altered.ensures c.follow_rows-rows.ensures;
+      let are : AreStill c.draw_altering-altered.result c.follow_rows-rows.result = record {
+        freed = freed-altered c.draw_altering-altered.result c.follow_rows-rows.result c.args.strokes.now
+            (pens_of c.args.self.now.page) c.args.before.now (pens_of c.draw_altering-altered.new.page)
+            c.args.after.now c.draw_altering-altered.ensures.altered c.follow_rows-rows.ensures;
         still = c.one_moved.ensures c.if-one_moved.false;
       } in
       record {
-        valid = subst (λ (p : Page). IsValidPage p) (sym c.draw_all.ensures.drawn) c.requires.may.strokes.valid;
+        valid = subst (λ (p : Page). IsValidPage p) (sym c.draw_altering-altered.ensures.drawn)
+            c.requires.may.strokes.valid;
         of_core = c.requires.may.to;
         stay = λ k same.
-            OtherRowsStay-still are c.args.self.now.looks (core_on k c.draw_all.new.self)
-            (OtherRowsStay-drawn c.args.self.now.page c.draw_all.new.self c.args.strokes.now c.args.before.now
-            c.args.after.now c.args.self.now.looks c.rows_altered-altered.result c.follow_rows-rows.result
+            OtherRowsStay-still are c.args.self.now.looks (core_on k c.draw_altering-altered.new.page)
+            (OtherRowsStay-drawn c.args.self.now.page c.draw_altering-altered.new.page c.args.strokes.now
+            c.args.before.now c.args.after.now c.args.self.now.looks c.draw_altering-altered.result
+            c.follow_rows-rows.result
             c.requires.may.kept.valid c.requires.may.strokes.each c.requires.may.kept.of_core c.requires.may.kept.looks
-            c.draw_all.ensures.drawn
-            (altered-pens c.args.strokes.now c.pens-was.result c.args.self.now.page c.draw_all.new.self
-            c.args.before.now c.args.after.now c.rows_altered-altered.result c.rows_altered-altered.ensures
-            c.pens-was.ensures.pens)
+            c.draw_altering-altered.ensures.drawn
+            c.draw_altering-altered.ensures.altered
             c.follow_rows-rows.ensures k same);
       };
 }
 
 -- the page is the one on which the strokes were drawn
-page_is : (g : given.Over) (c : goal.After-forget_rows g) → c.if-one_moved.self.page ≡ c.draw_all.new.self
+page_is : (g : given.Over) (c : goal.After-forget_rows g) → c.if-one_moved.self.page ≡ c.draw_altering-altered.new.page
 page_is g c =
     elim c.if-one_moved.branch [
       | then-one_moved w ↦ ap (λ (p : Picture). p.page) w.self-is ∙ w.move_rows.ensures.rest.page
@@ -121,27 +122,25 @@ marks_are g c =
 
 pub returns-clause-redrawn : goal.returns-clause-redrawn
 returns-clause-redrawn g c =
-    let valid : IsValidPage c.draw_all.new.self =
-    subst (λ (p : Page). IsValidPage p) (sym c.draw_all.ensures.drawn) c.requires.may.strokes.valid in
-    let looks : AreLooksOn c.if-one_moved.self.looks c.draw_all.new.self c.args.after.now =
+    let valid : IsValidPage c.draw_altering-altered.new.page =
+    subst (λ (p : Page). IsValidPage p) (sym c.draw_altering-altered.ensures.drawn) c.requires.may.strokes.valid in
+    let looks : AreLooksOn c.if-one_moved.self.looks c.draw_altering-altered.new.page c.args.after.now =
     subst (λ (p : Page). AreLooksOn c.if-one_moved.self.looks p c.args.after.now) (page_is g c) (looks_are g c) in
-    let altered = altered-pens c.args.strokes.now c.pens-was.result c.args.self.now.page c.draw_all.new.self
-    c.args.before.now c.args.after.now c.rows_altered-altered.result c.rows_altered-altered.ensures
-    c.pens-was.ensures.pens in
+    let altered = c.draw_altering-altered.ensures.altered in
     record {
-      page = page_is g c ∙ c.draw_all.ensures.drawn;
+      page = page_is g c ∙ c.draw_altering-altered.ensures.drawn;
       kept = record {
         valid = subst (λ (p : Page). IsValidPage p) (sym (page_is g c)) valid;
         of_core = c.requires.may.to;
         looks = looks_are g c;
         named = AreNamedOn-drawn c.args.self.now.page c.if-one_moved.self.page c.args.strokes.now c.args.before.now
             c.args.after.now c.args.self.now.looks c.if-one_moved.self.looks c.if-one_moved.self.names
-            c.forget_rows.new.self c.rows_altered-altered.result c.follow_rows-rows.result c.if-one_moved.marks
+            c.forget_rows.new.self c.draw_altering-altered.result c.follow_rows-rows.result c.if-one_moved.marks
             c.requires.may.kept.valid (subst (λ (p : Page). IsValidPage p) (sym (page_is g c)) valid)
             c.requires.may.strokes.each c.requires.may.kept.of_core
             (subst (λ (n : NamesOfRows). AreNamedOn n c.args.self.now.page c.args.before.now) (sym (names_are g c))
             c.requires.may.kept.named)
-            c.requires.may.kept.looks (looks_are g c) (page_is g c ∙ c.draw_all.ensures.drawn)
+            c.requires.may.kept.looks (looks_are g c) (page_is g c ∙ c.draw_altering-altered.ensures.drawn)
             (altered ∙ ap (λ (p : Page). list_by_index 1 24 (is_altered c.args.strokes.now
             (pens_of c.args.self.now.page) c.args.before.now (pens_of p) c.args.after.now)) (sym (page_is g c)))
             c.follow_rows-rows.ensures (marks_are g c) c.forget_rows.ensures.remembered;
@@ -151,16 +150,14 @@ returns-clause-redrawn g c =
 
 pub returns-clause-noted : goal.returns-clause-noted
 returns-clause-noted g c = record {
-  unwound = ap (λ (p : Page). page_behind (g.N.Noter.noted c.draw_all.new.noter) p) (page_is g c)
-      ∙ c.draw_all.ensures.unwound;
-  noted = c.draw_all.ensures.noted;
+  unwound = ap (λ (p : Page). page_behind (g.N.Noter.noted c.draw_altering-altered.new.noter) p) (page_is g c)
+      ∙ c.draw_altering-altered.ensures.unwound;
+  noted = c.draw_altering-altered.ensures.noted;
 }
 
 pub returns-clause-cost : goal.returns-clause-cost
 returns-clause-cost g c =
-    let altered = altered-pens c.args.strokes.now c.pens-was.result c.args.self.now.page c.draw_all.new.self
-    c.args.before.now c.args.after.now c.rows_altered-altered.result c.rows_altered-altered.ensures
-    c.pens-was.ensures.pens
+    let altered = c.draw_altering-altered.ensures.altered
     ∙ ap (λ (p : Page). list_by_index 1 24 (is_altered c.args.strokes.now (pens_of c.args.self.now.page)
     c.args.before.now (pens_of p) c.args.after.now)) (sym (page_is g c)) in
     elim c.if-one_moved.branch [
@@ -169,10 +166,11 @@ returns-clause-cost g c =
           ∙ (λ i. c.args.steps.now + rows_due (altered i) (c.follow_rows-rows.ensures i) c.args.self.now.looks
           (sym w.self-is i).looks)
       | else-one_moved w ↦
-          let are : AreStill c.rows_altered-altered.result c.follow_rows-rows.result = record {
-            freed = freed-altered c.rows_altered-altered.result c.follow_rows-rows.result c.args.strokes.now
-                c.pens-was.result c.args.before.now (pens_of c.draw_all.new.self) c.args.after.now
-                c.rows_altered-altered.ensures c.follow_rows-rows.ensures;
+          let are : AreStill c.draw_altering-altered.result c.follow_rows-rows.result = record {
+            freed = freed-altered c.draw_altering-altered.result c.follow_rows-rows.result c.args.strokes.now
+                (pens_of c.args.self.now.page) c.args.before.now (pens_of c.draw_altering-altered.new.page)
+                c.args.after.now
+                c.draw_altering-altered.ensures.altered c.follow_rows-rows.ensures;
             still = c.one_moved.ensures w.if-one_moved.false;
           } in
           w.steps-is ∙ w.refresh_rows.ensures.refreshed.cost
@@ -184,9 +182,7 @@ returns-clause-cost g c =
 -- of just the rows that are still the names stay known
 pub returns-clause-remembered : goal.returns-clause-remembered
 returns-clause-remembered g c =
-    let altered = altered-pens c.args.strokes.now c.pens-was.result c.args.self.now.page c.draw_all.new.self
-    c.args.before.now c.args.after.now c.rows_altered-altered.result c.rows_altered-altered.ensures
-    c.pens-was.ensures.pens
+    let altered = c.draw_altering-altered.ensures.altered
     ∙ ap (λ (p : Page). list_by_index 1 24 (is_altered c.args.strokes.now (pens_of c.args.self.now.page)
     c.args.before.now (pens_of p) c.args.after.now)) (sym (page_is g c)) in
     subst (λ (n : NamesOfRows). AreJustRemembered n c.forget_rows.new.self (λ r. IsStill (list_by_index 1 24

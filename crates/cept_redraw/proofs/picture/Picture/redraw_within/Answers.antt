@@ -8,7 +8,7 @@ use Rattle.cept_profile.specs.State.{Page, page_after}
 use Rattle.cept_profile.specs.Valid.{IsValidPage}
 use Rattle.cept_page.specs.MarkedRows.{IsPutAmongSigns}
 use Rattle.cept_page.specs.Behind.{page_behind}
-use Rattle.cept_redraw.specs.Due.{FollowsBeside, LeftStays}
+use Rattle.cept_redraw.specs.inside.Due.{FollowsBeside, LeftStays}
 use Rattle.cept_redraw.specs.Kept.{AreLooksOn, core_on}
 use Rattle.cept_redraw.specs.Named.{AreNamedOn}
 use Rattle.cept_redraw.specs.Picture.{AreTicksOf, IsKeptOn, IsRedrawn}

@@ -6,8 +6,9 @@ use Rattle.cept_profile.specs.Tiling.{column_entry}
 use Rattle.cept_profile.specs.Valid.{IsValidPage}
 use Rattle.cept_rows.specs.RowsByCell.{FollowsToTheRight}
 use Rattle.cept_codes.specs.Look.{blank_look}
-use Rattle.cept_redraw.specs.Due.{at_rest}
-use Rattle.cept_redraw.specs.Kept.{AreLooksOn, IsLeftOf, core_on, row_beneath}
+use Rattle.cept_redraw.specs.inside.Due.{at_rest}
+use Rattle.cept_redraw.specs.Kept.{AreLooksOn, core_on}
+use Rattle.cept_redraw.specs.inside.Kept.{IsLeftOf, row_beneath}
 use Rattle.cept_redraw.proofs.DrawnPictures.{HasSameRest-more, IsRefreshedRow-on}
 use Rattle.cept_redraw.proofs.LeftOfColumns.{left_is}
 use Rattle.cept_redraw.proofs.WalkedRows.{WalkedTo, WalkedTo-cost, WalkedTo-looks, WalkedTo-marks}

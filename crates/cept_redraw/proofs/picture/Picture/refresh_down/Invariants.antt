@@ -3,7 +3,7 @@ use Rattle.cept_profile.specs.Edges.{edges_of_core}
 use Rattle.cept_profile.specs.RowsFromAbove.{look_seen}
 use Rattle.cept_profile.specs.State.{Core}
 use Rattle.cept_redraw.specs.Kept.{core_on}
-use Rattle.cept_redraw.specs.Picture.{HasSameRest}
+use Rattle.cept_redraw.specs.inside.Picture.{HasSameRest}
 use Rattle.cept_redraw.proofs.WalkedDown.{WalkedDown}
 use Rattle.cept_redraw.proofs.picture.Picture.refresh_down.Given as goal
 

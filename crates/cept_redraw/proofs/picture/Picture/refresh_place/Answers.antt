@@ -2,7 +2,7 @@ use Rattle.std.proofs.Common.{◌≡◌, ℕ, true, false, refl, sym, ap, ◌∙
 use Rattle.cept_profile.specs.Changes.{grid_with_paint, look_at}
 use Rattle.cept_profile.specs.State.{Page}
 use Rattle.cept_rows.specs.Source.{Source, look_by_itself}
-use Rattle.cept_redraw.specs.Kept.{is_other_look, look_alone, source_of}
+use Rattle.cept_redraw.specs.inside.Kept.{is_other_look, look_alone, source_of}
 use Rattle.cept_redraw.proofs.OnePlace.{looks-refreshed}
 use Rattle.cept_redraw.proofs.Refreshed.{IsRefreshed-marks, IsRefreshed-place}
 use Rattle.cept_redraw.proofs.picture.Picture.refresh_place.Goals as goal

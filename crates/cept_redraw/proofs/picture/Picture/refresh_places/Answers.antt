@@ -1,7 +1,7 @@
 use Rattle.std.proofs.Common.{◌∙◌}
 use Rattle.cept_codes.specs.Table.{list_by_index}
 use Rattle.cept_redraw.specs.Named.{row_named}
-use Rattle.cept_redraw.specs.Redefined.{is_place_redefined}
+use Rattle.cept_redraw.specs.inside.Redefined.{is_place_redefined}
 use Rattle.cept_redraw.proofs.RefreshedPlaces.{IsRefreshedRow-places}
 use Rattle.cept_redraw.proofs.picture.Picture.refresh_places.Goals as goal
 

@@ -1,5 +1,6 @@
 use Rattle.std.proofs.Common.{subst}
-use Rattle.cept_redraw.specs.Named.{AreJustRemembered, IsUnmarkedBelow, NamesOfRows}
+use Rattle.cept_redraw.specs.Named.{NamesOfRows}
+use Rattle.cept_redraw.specs.inside.Named.{AreJustRemembered, IsUnmarkedBelow}
 use Rattle.std.specs.Prelude.{◌≢◌}
 use Rattle.cept_redraw.proofs.picture.Picture.refresh_put.Goals as goal
 

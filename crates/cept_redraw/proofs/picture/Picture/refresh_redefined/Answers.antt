@@ -8,10 +8,11 @@ use Rattle.cept_profile.specs.State.{Core, Page}
 use Rattle.cept_profile.specs.Valid.{IsValidPage}
 use Rattle.cept_page.specs.MarkedRows.{StandsAlone}
 use Rattle.cept_redraw.specs.declared.picture.Picture.{Picture}
-use Rattle.cept_redraw.specs.Due.{at_rest, is_due}
-use Rattle.cept_redraw.specs.Kept.{AreLooksOn, IsRefreshedRow, core_on}
+use Rattle.cept_redraw.specs.inside.Due.{at_rest, is_due}
+use Rattle.cept_redraw.specs.Kept.{AreLooksOn, core_on}
+use Rattle.cept_redraw.specs.inside.Kept.{IsRefreshedRow}
 use Rattle.cept_redraw.specs.Named.{NamesOfRows, row_named}
-use Rattle.cept_redraw.specs.Redefined.{places_resolved}
+use Rattle.cept_redraw.specs.inside.Redefined.{places_resolved}
 use Rattle.cept_redraw.proofs.DrawnPictures.{HasSameRest-as, HasSameRest-more, IsRefreshedRow-on}
 use Rattle.cept_redraw.proofs.RefreshedPlaces.{WalkedTo-places}
 use Rattle.cept_redraw.proofs.RestingRows.{due-rest, row_from-rest}

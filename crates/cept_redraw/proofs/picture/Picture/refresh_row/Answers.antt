@@ -1,7 +1,7 @@
 use Rattle.std.proofs.Common.{refl, ◌-◌, List, ap, subst, ◌∙◌, arith}
 use Rattle.cept_codes.specs.declared.look.Look.{Look}
 use Rattle.cept_profile.specs.RowsFromAbove.{looks_in}
-use Rattle.cept_redraw.specs.Kept.{row_beneath, IsRefreshedRow, is_other_above}
+use Rattle.cept_redraw.specs.inside.Kept.{row_beneath, IsRefreshedRow, is_other_above}
 use Rattle.cept_redraw.proofs.picture.Picture.refresh_row.Goals as goal
 
 pub take_row-requires-clause-left : goal.take_row-requires-clause-left

@@ -6,7 +6,7 @@ use Rattle.cept_profile.specs.RowsFromAbove.{looks_in}
 use Rattle.cept_profile.specs.Tiling.{column_entry}
 use Rattle.cept_rows.specs.RowsByCell.{FollowsToTheRight}
 use Rattle.cept_rows.specs.Source.{Source, row_made}
-use Rattle.cept_redraw.specs.Kept.{row_beneath, source_of, IsLeftOf, IsRefreshedRow, IsRightOf, is_other_above}
+use Rattle.cept_redraw.specs.inside.Kept.{row_beneath, source_of, IsLeftOf, IsRefreshedRow, IsRightOf, is_other_above}
 use Rattle.cept_redraw.proofs.RowsOfLooks.{look_seen-at}
 use Rattle.cept_redraw.proofs.picture.Picture.refresh_row_between.Goals as goal
 

@@ -6,7 +6,7 @@ use Rattle.cept_profile.specs.RowsFromAbove.{is_covered_otherwise, looks_in}
 use Rattle.cept_profile.specs.State.{Core, Page}
 use Rattle.cept_profile.specs.Valid.{IsValidPage}
 use Rattle.cept_redraw.specs.declared.picture.Picture.{Picture}
-use Rattle.cept_redraw.specs.Due.{at_rest, is_due}
+use Rattle.cept_redraw.specs.inside.Due.{at_rest, is_due}
 use Rattle.cept_redraw.specs.Kept.{AreLooksOn, core_on}
 use Rattle.cept_redraw.proofs.DrawnPictures.{HasSameRest-as, HasSameRest-more, IsRefreshedRow-on}
 use Rattle.cept_redraw.proofs.RestingRows.{due-rest, row_from-rest}

@@ -1,9 +1,9 @@
 use Rattle.std.proofs.Common.{◌≡◌}
 use Rattle.cept_profile.specs.Edges.{edges_of_core}
 use Rattle.cept_profile.specs.State.{Core}
-use Rattle.cept_redraw.specs.Due.{at_rest}
+use Rattle.cept_redraw.specs.inside.Due.{at_rest}
 use Rattle.cept_redraw.specs.Kept.{core_on}
-use Rattle.cept_redraw.specs.Picture.{HasSameRest}
+use Rattle.cept_redraw.specs.inside.Picture.{HasSameRest}
 use Rattle.cept_redraw.proofs.WalkedRows.{WalkedTo}
 use Rattle.cept_redraw.proofs.picture.Picture.refresh_rows.Given as goal
 

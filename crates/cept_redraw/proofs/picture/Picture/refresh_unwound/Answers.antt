@@ -1,6 +1,6 @@
 use Rattle.std.proofs.Common.{[], arith, refl, subst, sym}
 use Rattle.cept_profile.specs.State.{Page}
-use Rattle.cept_redraw.specs.Due.{at_rest, OtherRowsStay}
+use Rattle.cept_redraw.specs.inside.Due.{at_rest, OtherRowsStay}
 use Rattle.cept_redraw.specs.Kept.{core_on}
 use Rattle.cept_redraw.proofs.RowsRenewed.{rows_renewed-due}
 use Rattle.cept_redraw.proofs.picture.Picture.refresh_unwound.Goals as goal

@@ -1,9 +1,10 @@
 -- Rows that are due to be resolved after strokes (this project's own): those that are altered of themselves, and those
--- that are covered from above otherwise than before. Private clauses alone cite this file.
+-- that are covered from above otherwise than before.
 use Rattle.std.specs.Prelude.{ℕ, ◌+◌, ◌-◌, ◌≡◌, ◌<◌, ◌≤◌, ◌||◌, Bool, true, false, not, List, [], length, Option, Some, None}
 use Rattle.std.specs.List.{count_by, list_any, range_with_len}
 use Rattle.cept_codes.specs.declared.look.Look.{Look}
 use Rattle.cept_codes.specs.declared.stroke.Stroke.{Stroke}
+use Rattle.cept_codes.specs.declared.stroke.Stroke.TheVariants as strokes
 use Rattle.cept_codes.specs.Look.{blank_look}
 use Rattle.cept_codes.specs.Place.{OnScreen}
 use Rattle.cept_codes.specs.Same.{same_pen}
@@ -54,6 +55,17 @@ came_from None r = r
 came_from (Some q) r = q
 
 -- ---- rows that are altered of themselves
+
+-- the stroke writes in one row and does nothing else
+abbrev pub just_writes : Stroke → Bool
+just_writes (strokes.Put place cell) = true
+just_writes (strokes.Erase row from) = true
+-- any other may do more
+just_writes _ = false
+
+-- one of the strokes may do more
+unfoldable pub one_does_more : List Stroke → Bool
+one_does_more strokes = list_any (λ stroke. not (just_writes stroke)) strokes
 
 -- row r has other attributes than row q before, or the screen has, or just one of the two rows is last
 unfoldable pub has_others : Pens → Edges → ℕ → Pens → Edges → ℕ → Bool

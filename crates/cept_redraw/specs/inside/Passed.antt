@@ -1,13 +1,13 @@
 -- Rows as they stood before rows moved, found by a walk from the top: from its row on they still stand in what is kept,
--- and the two above it stand apart (this project's own). Private clauses alone cite this file.
+-- and the two above it stand apart (this project's own).
 use Rattle.std.specs.Prelude.{ℕ, ◌≡◌, ◌≤◌, ◌+◌, ◌-◌, ◌==◌, ◌||◌, ◌&&◌, not, Bool, true, false, List, Option, Some, None}
 use Rattle.std.specs.Prelude.{nat_le, nat_lt, slice_set, if◌then◌else◌}
 use Rattle.cept_codes.specs.declared.look.Look.{Look}
 use Rattle.cept_profile.specs.RowsFromAbove.{looks_in}
 use Rattle.cept_redraw.specs.declared.followed_rows.Followed.{Followed}
 use Rattle.cept_redraw.specs.declared.passed_rows.Passed.{Passed}
-use Rattle.cept_redraw.specs.Due.{came_from, row_from}
-use Rattle.cept_redraw.specs.Kept.{HasMarkedRow}
+use Rattle.cept_redraw.specs.inside.Due.{came_from, row_from}
+use Rattle.cept_redraw.specs.inside.Kept.{HasMarkedRow}
 
 -- what stood in row q, as it is found at row r
 abbrev pub stood_in : Passed → List (List Look) → ℕ → ℕ → List Look

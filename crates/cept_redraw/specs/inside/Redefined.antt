@@ -1,5 +1,4 @@
--- What the names of a row and its looks tell of what strokes define anew (this project's own). Private clauses alone
--- cite this file.
+-- What the names of a row and its looks tell of what strokes define anew (this project's own).
 use Rattle.std.specs.Prelude.{ℕ, ◌≡◌, ◌≤◌, ◌==◌, ◌||◌, Bool, true, false, List, Option, is_some, if◌then◌else◌}
 use Rattle.std.specs.List.{list_any, range_with_len}
 use Rattle.cept_codes.specs.declared.look.Look.{Look}
@@ -17,7 +16,7 @@ use Rattle.cept_profile.specs.State.{Core, Page}
 use Rattle.cept_profile.specs.Tiling.{column_entry, covers_below}
 use Rattle.cept_profile.specs.Valid.{IsValidPage}
 use Rattle.cept_page.specs.MarkedRows.{StandsAlone}
-use Rattle.cept_redraw.specs.Kept.{look_alone}
+use Rattle.cept_redraw.specs.inside.Kept.{look_alone}
 use Rattle.cept_redraw.specs.Named.{NamesOfRows, row_named}
 use Rattle.cept_rows.specs.declared.naming.RowNames.{RowNames}
 use Rattle.cept_rows.specs.KeptNames.{names_kept}

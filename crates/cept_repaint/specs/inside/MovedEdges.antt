@@ -1,4 +1,4 @@
--- Commands that may change which rows are last (this project's own). Private clauses alone cite this file.
+-- Commands that may change which rows are last (this project's own).
 use Rattle.std.specs.Prelude.{Bool, true, false}
 use Rattle.cept_codes.specs.declared.command.Command.{Command}
 use Rattle.cept_codes.specs.declared.command.Command.TheVariants as commands
