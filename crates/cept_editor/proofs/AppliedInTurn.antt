@@ -18,9 +18,10 @@ use Rattle.cept_profile.specs.Valid.{AllValid}
 use Rattle.cept_repaint.specs.Applied.{IsApplied, IsRepainted, rows_renewed_by}
 use Rattle.cept_repaint.specs.GlassState.{GlassState, Lists}
 use Rattle.cept_report.specs.Text.{change_lines}
-use Rattle.cept_editor.specs.Applying.{AppliesOne, HasApplied}
+use Rattle.cept_editor.specs.inside.Applying.{AppliesOne, HasApplied}
 use Rattle.cept_repaint.specs.InTurn.{state_after_all, rows_in_reach_of_all}
-use Rattle.cept_editor.specs.Applying.{AppliesAll, MarksLast, ResolvesRenewed}
+use Rattle.cept_editor.specs.Applying.{MarksLast, ResolvesRenewed}
+use Rattle.cept_editor.specs.inside.Applying.{AppliesAll}
 use Rattle.cept_repaint.specs.InTurn.{rows_renewed_by_all}
 use Rattle.cept_editor.specs.Events.{Event, event_changes, report}
 use Rattle.cept_editor.specs.Made.{Output, output_of, IsMade, AreMade}

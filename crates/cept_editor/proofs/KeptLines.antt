@@ -12,7 +12,8 @@ use Rattle.cept_editor.specs.declared.script.ScriptFault.{ScriptFault}
 use Rattle.cept_editor.specs.declared.script.ScriptFault.TheVariants as faults
 use Rattle.cept_editor.specs.Fault.{SaysFault}
 use Rattle.cept_editor.specs.Meaning.{Step, line_meaning}
-use Rattle.cept_editor.specs.Places.{EndsAt, IsPlacedOrder, step_at, edit_at, HasKept, IsUnkept, HasOrders}
+use Rattle.cept_editor.specs.Places.{IsPlacedOrder, step_at, edit_at}
+use Rattle.cept_editor.specs.inside.Places.{EndsAt, HasKept, IsUnkept, HasOrders}
 use Rattle.cept_editor.proofs.ValidOrders.{order_valid}
 use Rattle.cept_words.specs.Faults.{Fault, fault_or, fault_from}
 use Rattle.cept_editor.specs.Script.{EditLine, edit_of, edits_from, edits, first_fault}

@@ -17,5 +17,6 @@ mod AppliedInTurn
 mod LinesMade
 mod EditsKept
 mod StatesInTurn
+mod LinesByStates
 mod ScriptsByLines
 pub mod Laws

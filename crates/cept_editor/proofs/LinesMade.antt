@@ -13,7 +13,8 @@ use Rattle.cept_repaint.specs.Applied.{IsRepainted}
 use Rattle.cept_report.specs.Text.{change_lines}
 use Rattle.cept_undo.specs.Past.{most_kept}
 use Rattle.cept_editor.specs.declared.editor.Done.TheVariants as answers
-use Rattle.cept_editor.specs.Applying.{AppliesAll, editor_after_turn}
+use Rattle.cept_editor.specs.Applying.{editor_after_turn}
+use Rattle.cept_editor.specs.inside.Applying.{AppliesAll}
 use Rattle.cept_editor.specs.Events.{Event}
 use Rattle.cept_editor.specs.Kept.{KeptEdits, finds_nothing, kept_after, remaining, EditorState, StandsAfter}
 use Rattle.cept_editor.specs.Made.{Output, IsMade, AreMade, AreCutOff}

@@ -12,9 +12,11 @@ use Rattle.cept_words.specs.Cut.{IsCut}
 use Rattle.cept_words.specs.Lines.{words}
 use Rattle.cept_words.specs.Words.{words_after, bytes_after}
 use Rattle.cept_editor.specs.Meaning.{Edit, HasCommand, is_sign, text_commands, step_by, step_of_words}
-use Rattle.cept_editor.specs.Order.{raw_bytes, order_step, step_meant, AreSoundDigits, IsSoundOrder}
-use Rattle.cept_editor.specs.Order.{IsPlainOrder}
-use Rattle.cept_editor.specs.Places.{LiesIn, bytes_at, EndsAt, step_at, placed_step, IsPlacedOrder}
+use Rattle.cept_editor.specs.Order.{raw_bytes, order_step, AreSoundDigits, IsSoundOrder}
+use Rattle.cept_editor.specs.inside.Order.{step_meant}
+use Rattle.cept_editor.specs.inside.Order.{IsPlainOrder}
+use Rattle.cept_editor.specs.Places.{LiesIn, bytes_at, step_at, IsPlacedOrder}
+use Rattle.cept_editor.specs.inside.Places.{EndsAt, placed_step}
 use Rattle.cept_editor.specs.Table.{row_of}
 
 -- ---- an order without bytes

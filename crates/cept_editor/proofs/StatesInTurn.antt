@@ -77,7 +77,7 @@ HasMade-cut commands old new past future = record {
 
 -- ---- one line more
 
-state_after_all-state : (history commands : List Command) → AllValid history → AllByRecursion IsValidCommand commands
+pub state_after_all-state : (history commands : List Command) → AllValid history → AllByRecursion IsValidCommand commands
     → state_after_all (state history) commands ≡ state (history ++ commands)
 unfolding state_after_all
 state_after_all-state history [] valid good = ap state (sym (append-nil history))

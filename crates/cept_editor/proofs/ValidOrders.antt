@@ -13,7 +13,8 @@ use Rattle.cept_editor.specs.declared.places.OrderLine.{OrderLine}
 use Rattle.cept_editor.specs.declared.places.Span.{Span}
 use Rattle.cept_editor.specs.Meaning.{Step, IsValidStep, is_sign}
 use Rattle.cept_editor.specs.Order.{order_step, IsSoundOrder}
-use Rattle.cept_editor.specs.Places.{step_at, IsPlacedOrder, HasKept}
+use Rattle.cept_editor.specs.Places.{step_at, IsPlacedOrder}
+use Rattle.cept_editor.specs.inside.Places.{HasKept}
 
 pub signs_valid : (text : List ℕ) → list_all is_sign text ≡ true → AllByRecursion IsValidCommand (map Graphic text)
 signs_valid [] e = tt

@@ -1,22 +1,20 @@
 -- Commands that are applied to a screen one after the other, what they cost, and which marks they leave (this project's
 -- own).
-use Rattle.std.specs.Prelude.{◌≡◌, ◌≢◌, ℕ, ◌+◌, ◌≤◌, Bool, false, List, [], ◌∷◌, ◌++◌, length, take, drop}
+use Rattle.std.specs.Prelude.{◌≡◌, ◌≢◌, ℕ, ◌+◌, ◌≤◌, Bool, false, List, [], ◌∷◌, ◌++◌, take, drop}
 use Rattle.std.specs.Prelude.{Result, IsOk, OnOk, OnErr}
 use Rattle.cept_codes.specs.declared.command.Command.{Command}
+use Rattle.cept_codes.specs.declared.look.Look.{Look}
+use Rattle.cept_codes.specs.Place.{Place}
 use Rattle.cept_outside.specs.Causes.{HasCause}
 use Rattle.cept_outside.specs.SinkState.{SinkState}
 use Rattle.cept_profile.specs.Changes.{changes_between, differences}
 use Rattle.cept_profile.specs.Look.{looks_of}
-use Rattle.cept_profile.specs.State.{State, state, core_of}
-use Rattle.cept_profile.specs.Valid.{AllValid}
+use Rattle.cept_profile.specs.State.{State, state_after, core_of}
 use Rattle.cept_redraw.specs.Renewed.{rows_renewed}
-use Rattle.cept_repaint.specs.Applied.{IsApplied}
 use Rattle.cept_repaint.specs.InTurn.{rows_in_reach_of_all, rows_renewed_by_all, state_after_all}
 use Rattle.cept_undo.specs.Past.{most_kept, nearest, handed_on}
 use Rattle.cept_editor.specs.Kept.{EditorState}
-use Rattle.cept_editor.specs.Made.{Output, IsMade, AreMade, AreCutOff}
 use Rattle.cept_editor.specs.Meaning.{Step, TurnKind, Turn, TakeBack, MakeAgain, Edit}
-use Rattle.cept_editor.specs.Stepping.{event_from, edit_events}
 
 -- how many rows an edit line may resolve: those that its commands may, and all 24 at a turn
 abbrev pub rows_of_step : State → Step → ℕ
@@ -54,6 +52,18 @@ unfoldable pub editor_after_steps : EditorState → List Step → EditorState
 editor_after_steps e [] = e
 editor_after_steps e (step ∷ more) = editor_after_steps (editor_after_step e step) more
 
+-- what commands change, one after the other: of each the places whose look it changes, with their looks after it
+unfoldable pub changes_in_turn : State → List Command → List (Place × Look)
+changes_in_turn s [] = []
+changes_in_turn s (c ∷ cs) =
+    changes_between (looks_of (core_of s)) (looks_of (core_of (state_after s c))) ++ changes_in_turn (state_after s c) cs
+
+-- what an edit line changes
+abbrev pub changes_of_step : EditorState → Step → List (Place × Look)
+changes_of_step e (Edit commands) = changes_in_turn e.screen commands
+changes_of_step e (Turn turn) =
+    changes_between (looks_of (core_of e.screen)) (looks_of (core_of (editor_after_turn e turn).screen))
+
 -- what an edit line made of an editor, whatever it stands after
 pub record HasMade {X E : Type 0} (step : Step) (old : EditorState) (result : Result X E) (new : EditorState) : Type 0 where
   -- all of it, where the sink didn't fail
@@ -64,47 +74,10 @@ pub record HasMade {X E : Type 0} (step : Step) (old : EditorState) (result : Re
   pub past : new.past ≡ (editor_after_step old step).past
   pub future : new.future ≡ (editor_after_step old step).future
 
--- ---- one command
-
--- a command was applied, after whatever commands: what it changes was painted, and then its lines were put where they are
--- listed, or a part of them
-pub record AppliesOne {X E : Type 0} (listed : Bool) (line : ℕ) (command : Command) (old : State) (before : Output)
-    (result : Result X E) (new : State) (after : Output) (marks : List Bool) (from to : ℕ) : Type 0 where
-  pub applied : IsApplied old command new marks before.glass after.glass from to
-  pub made : (history : List Command) → AllValid history → old ≡ state history
-      → IsMade (event_from listed line history (history ++ command ∷ [])) before result after
-
 -- where lines are listed, a fault of the sink is answered where it rose; where they aren't, nothing is put
 pub record PutsListed {X E : Type 0} (listed : Bool) (before : SinkState) (result : Result X E) (after : SinkState) : Type 0 where
   pub cause : HasCause before.faults after.faults result
   pub quiet : listed ≡ false → IsOk result × (after ≡ before)
-
--- what is listed still goes to the same sink, and the marks are still kept in the same place
-pub record HoldsSame {S M : Type 0} (old_sink : S) (old_marks : M) (new_sink : S) (new_marks : M) : Type 0 where
-  pub sink : new_sink ≡ old_sink
-  pub marks : new_marks ≡ old_marks
-
--- ---- several commands
-
--- commands were applied after others
-pub record HasApplied (listed : Bool) (line : ℕ) (history commands : List Command) (before : Output) (new : State)
-    (after : Output) : Type 0 where
-  pub is : new ≡ state (history ++ commands)
-  pub made : AreMade (edit_events listed line history commands) before after
-
--- the sink failed at one of them: the others after it weren't applied
-pub record HasStopped (listed : Bool) (line : ℕ) (history commands : List Command) (before : Output) (new : State)
-    (after : Output) : Type 0 where
-  pub off : AreCutOff (edit_events listed line history commands) before after
-  pub is : new ≡ state (history ++ take (length off.done + 1) commands)
-
--- one or the other, after whatever commands
-pub record AppliesAll {X E : Type 0} (listed : Bool) (line : ℕ) (commands : List Command) (old : State)
-    (before : Output) (result : Result X E) (new : State) (after : Output) : Type 0 where
-  pub applied : OnOk result ((history : List Command) → AllValid history → old ≡ state history
-      → HasApplied listed line history commands before new after)
-  pub stopped : OnErr result ((history : List Command) → AllValid history → old ≡ state history
-      → HasStopped listed line history commands before new after)
 
 -- ---- marks
 

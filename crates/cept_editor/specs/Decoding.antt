@@ -1,5 +1,5 @@
--- What is left of the commands of hexadecimal digits (this project's own). Private clauses alone cite this file.
-use Rattle.std.specs.Prelude.{ℕ, ◌≡◌, ◌+◌, ◌*◌, ◌-◌, ◌<◌, ◌≤◌, ◌^◌, false, List, [], ◌++◌, length, drop}
+-- What is left of the commands of hexadecimal digits (this project's own).
+use Rattle.std.specs.Prelude.{ℕ, ◌≡◌, ◌+◌, ◌-◌, ◌<◌, ◌≤◌, ◌^◌, false, List, [], ◌++◌, length, drop}
 use Rattle.std.specs.Prelude.{Option, Some, None, IsSome, map, if◌then◌else◌}
 use Rattle.std.specs.Option.{option_to_list}
 use Rattle.cept_codes.specs.declared.command.Command.{Command}
@@ -24,10 +24,6 @@ pub record IsDecoding (d : Decoding) : Type 0 where
   pub few : d.parser.place + length d.digits.now < 2 ^ 31
   pub handed : d.handed ≤ length d.items.items
   pub items : length d.items.items ≤ 2
-
--- how much is left to do
-abbrev pub decoding_size : Decoding → ℕ
-decoding_size d = 4 * length d.digits.now + (length d.items.items - d.handed) + (if d.ended then 0 else 4)
 
 -- the commands that are left, if digits are
 abbrev pub decoding_commands : Option Decoding → List Command

@@ -1,4 +1,6 @@
--- The step of an edit (this project's own).
+-- The step of an edit, and what a line means that was read (this project's own).
+use Rattle.std.specs.Prelude.{Option, Some, None, Result, Ok, Err}
+use Rattle.cept_codes.specs.declared.line_reason.LineReason.{LineReason}
 use Rattle.cept_editor.specs.declared.commands.Edit.{Edit}
 use Rattle.cept_editor.specs.declared.commands.Edit.TheVariants as edits
 use Rattle.cept_editor.specs.Meaning.{Step, Turn, Edit as EditOf}
@@ -7,3 +9,9 @@ use Rattle.cept_editor.specs.Meaning.{Step, Turn, Edit as EditOf}
 abbrev pub edit_step : Edit → Step
 edit_step (edits.Turn turn) = Turn turn
 edit_step (edits.Commands commands) = EditOf commands
+
+-- what was read of a line: nothing, the step of its edit, or the reason for which it is outside the grammar
+abbrev pub meaning_read : Result (Option Edit) LineReason → Result (Option Step) LineReason
+meaning_read (Ok None) = Ok None
+meaning_read (Ok (Some edit)) = Ok (Some (edit_step edit))
+meaning_read (Err reason) = Err reason

@@ -11,3 +11,4 @@ pub mod Made
 pub mod Kept
 pub mod Stepping
 pub mod Applying
+pub mod inside

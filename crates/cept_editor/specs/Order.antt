@@ -1,13 +1,12 @@
--- Commands in brief, orders, and what a parser goes on to say (this project's own). Private clauses alone cite this file.
-use Rattle.std.specs.Prelude.{ℕ, ◌≡◌, ◌-◌, ◌<◌, ◌≤◌, ◌^◌, true, List, [], ◌∷◌, ◌++◌, length, Result, Ok, Err}
-use Rattle.std.specs.Prelude.{false, IsSome, IfOk}
+-- Commands in brief, orders, and what a parser goes on to say (this project's own).
+use Rattle.std.specs.Prelude.{ℕ, ◌≡◌, ◌-◌, ◌<◌, ◌^◌, true, List, [], ◌∷◌, ◌++◌, length}
+use Rattle.std.specs.Prelude.{false, IsSome}
 use Rattle.std.specs.Option.{unwrap_or}
 use Rattle.std.specs.List.{AllByRecursion, list_all}
 use Rattle.cept_codes.specs.Command.{IsValidCommand}
 use Rattle.cept_codes.specs.declared.command.Command.{Command}
 use Rattle.cept_codes.specs.declared.command.Command.TheVariants as commands
 use Rattle.cept_codes.specs.declared.item.Item.{Item}
-use Rattle.cept_codes.specs.declared.line_reason.LineReason.{LineReason}
 use Rattle.cept_parser.specs.Context.{start_context}
 use Rattle.cept_parser.specs.Items.{closing_items, commands_of, commands as commands_of_bytes}
 use Rattle.cept_parser.specs.State.{ParserState, reading_with, parser_after, pending_reading}
@@ -55,10 +54,6 @@ order_step bytes (orders.One brief) = Edit (command_of brief ∷ [])
 order_step bytes (orders.Text span) = Edit (text_commands bytes)
 order_step bytes (orders.Raw span) = Edit (commands_of_bytes (raw_bytes bytes))
 
--- the place of bytes that end there in a script
-abbrev pub place_before : ℕ → List ℕ → Span
-place_before end bytes = record { start = end - length bytes; end = end }
-
 -- a parser before the first byte
 abbrev pub start_state : ParserState
 start_state = record { place = 0; context = start_context; pending = []; finished = false }
@@ -83,34 +78,3 @@ IsSoundOrder bytes place (orders.One brief) = IsValidCommand (command_of brief)
 IsSoundOrder bytes place (orders.Text span) = (span ≡ place) × (list_all is_sign bytes ≡ true)
 IsSoundOrder bytes place (orders.Raw span) =
     (span ≡ place) × AreSoundDigits bytes × HasCommand (order_step bytes (orders.Raw span))
-
--- an order without bytes, whose command is valid if it has one
-abbrev pub IsPlainOrder : Order → Type 0
-IsPlainOrder (orders.Turn turn) = Unit {0}
-IsPlainOrder (orders.One brief) = IsValidCommand (command_of brief)
-IsPlainOrder (orders.Text span) = ⊥
-IsPlainOrder (orders.Raw span) = ⊥
-
--- few bytes, which end there in a script
-pub record StandsBefore (end : ℕ) (bytes : List ℕ) : Type 0 where
-  pub few : length bytes < 2 ^ 31
-  pub within : length bytes ≤ end
-
--- what a value decides, or the reason for which there is none
-abbrev pub decided : {A : Type 0} → Result A LineReason → (A → Result Step LineReason) → Result Step LineReason
-decided (Ok a) decide = decide a
-decided (Err reason) decide = Err reason
-
--- what an order of a line means, where these bytes stand at its place, or its reason
-abbrev pub step_meant : List ℕ → Result Order LineReason → Result Step LineReason
-step_meant bytes (Ok order) = Ok (order_step bytes order)
-step_meant bytes (Err reason) = Err reason
-
--- what was read is an order without bytes, or a reason, and means this
-abbrev pub ReadsPlain : List ℕ → Result Order LineReason → Result Step LineReason → Type 0
-ReadsPlain bytes result meaning = (step_meant bytes result ≡ meaning) × IfOk result IsPlainOrder
-
--- what was read is an order whose bytes are these and end there in a script, if it has any, or a reason, and means this
-abbrev pub ReadsPlaced : ℕ → List ℕ → Result Order LineReason → Result Step LineReason → Type 0
-ReadsPlaced end bytes result meaning =
-    (step_meant bytes result ≡ meaning) × IfOk result (IsSoundOrder bytes (place_before end bytes))

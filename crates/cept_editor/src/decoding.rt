@@ -1,7 +1,8 @@
 ghost use Rattle.std.specs.Prelude.{◌≡◌, ◌≤◌, ◌<◌, ◌∷◌, [], length, true, false, MatchOption};
 ghost use Rattle.cept_editor.specs.Order.{AreSoundDigits, raw_bytes};
 ghost use Rattle.cept_parser.specs.Items.{commands};
-ghost use Rattle.cept_editor.specs.Decoding.{IsDecoding, commands_left, decoding_size};
+ghost use Rattle.cept_editor.specs.Decoding.{IsDecoding, commands_left};
+ghost use Rattle.cept_editor.specs.inside.Decoding.{decoding_size};
 
 use crate::digits::byte_of;
 use arrayvec::ArrayVec;

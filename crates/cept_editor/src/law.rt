@@ -14,15 +14,16 @@ ghost use Rattle.cept_profile.specs.Valid.{AllValid};
 ghost use Rattle.cept_repaint.specs.GlassState.{GlassState};
 ghost use Rattle.cept_undo.specs.Past.{most_kept};
 ghost use Rattle.cept_words.specs.Lines.{lines};
-ghost use Rattle.cept_editor.specs.Applying.{editor_after_steps};
+ghost use Rattle.cept_editor.specs.Applying.{changes_of_step, editor_after_step, editor_after_steps};
 ghost use Rattle.cept_editor.specs.Events.{Event, event_changes, report, paints};
 ghost use Rattle.cept_editor.specs.Kept.{KeptEdits, none_kept, kept_after, kept, remaining};
 ghost use Rattle.cept_editor.specs.Kept.{states_before, states_again, EditorState, StandsAfter};
 ghost use Rattle.cept_editor.specs.Kept.{editor_after};
 ghost use Rattle.cept_editor.specs.Made.{Output, AreStill, ArePainted, IsMade, AreMade, AreCutOff};
-ghost use Rattle.cept_editor.specs.Meaning.{IsValidStep, Step, line_meaning};
+ghost use Rattle.cept_editor.specs.Meaning.{HasCommand, IsValidStep, Step, Turn, TurnKind};
+ghost use Rattle.cept_editor.specs.Meaning.{line_meaning};
 ghost use Rattle.cept_editor.specs.Script.{IsFirstFault, edit_of, edits, first_fault, numbered_line};
-ghost use Rattle.cept_editor.specs.Stepping.{line_events};
+ghost use Rattle.cept_editor.specs.Stepping.{line_events, states_ahead};
 
 /// The texts of events stand in their order, and so do their changes.
 pub fn texts_and_changes_in_order()
@@ -122,6 +123,19 @@ pub fn edit_lines_lead_to_what_remains()
     ensures { (editor : EditorState) (page : List Command) (steps : List Step) → AllValid page
         → AllByRecursion IsValidStep steps → editor.screen ≡ state page → editor.past ≡ []
         → editor.future ≡ [] → editor_after_steps editor steps ≡ editor_after page (kept steps) }
+{}
+
+/// Where an editor stands after an edit line, and what the line's events change, by the states of the
+/// editor alone.
+pub fn edit_lines_by_their_states()
+    ensures stands { (old : EditorState) (page : List Command) (k : KeptEdits) (step : Step)
+        → StandsAfter old page k → IsValidStep step → HasCommand step
+        → StandsAfter (editor_after_step old step) page (kept_after k step) }
+    ensures paints { (listed : Bool) (line : ℕ) (old : EditorState) (page : List Command)
+        (k : KeptEdits) (step : Step) → StandsAfter old page k → IsValidStep step
+        → paints (line_events listed line page k step) ≡ changes_of_step old step }
+    ensures idle { (editor : EditorState) (turn : TurnKind) → states_ahead editor turn ≡ []
+        → editor_after_step editor (Turn turn) ≡ editor }
 {}
 
 /// What the events of an edit line change, painted over the grid before it, gives the grid after

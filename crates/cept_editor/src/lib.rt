@@ -20,10 +20,11 @@ mod turn;
 pub use commands::{Commands, Edit};
 pub use editor::{Done, Editor};
 pub use law::{
-    changes_of_a_line_lead_to_its_end, each_event_is_shown, edit_lines_go_on,
-    edit_lines_lead_to_what_remains, events_are_made_in_turn, events_are_painted_in_turn,
-    one_more_event_is_made, one_more_text_is_put, scripts_are_told_by_their_lines,
-    texts_and_changes_in_order,
+    changes_of_a_line_lead_to_its_end, each_event_is_shown, edit_lines_by_their_states,
+    edit_lines_go_on, edit_lines_lead_to_what_remains, events_are_made_in_turn,
+    events_are_painted_in_turn, one_more_event_is_made, one_more_text_is_put,
+    scripts_are_told_by_their_lines, texts_and_changes_in_order,
 };
+pub use line::read_line;
 pub use script::{Script, ScriptFault};
 pub use turn::Turn;

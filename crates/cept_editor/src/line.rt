@@ -1,9 +1,12 @@
-ghost use Rattle.std.specs.Prelude.{◌≡◌, ℕ, List, IfOk, IfSome};
+ghost use Rattle.std.specs.Prelude.{◌≡◌, ◌<◌, ◌^◌, ℕ, List, IfOk, IfSome, length};
 ghost use Rattle.cept_words.specs.Lines.{words};
-ghost use Rattle.cept_editor.specs.Meaning.{line_meaning, step_of_words};
-ghost use Rattle.cept_editor.specs.Order.{StandsBefore};
-ghost use Rattle.cept_editor.specs.Places.{EndsAt, placed_step, placed_line, IsPlacedOrder};
+ghost use Rattle.cept_editor.specs.Edit.{edit_step, meaning_read};
+ghost use Rattle.cept_editor.specs.Meaning.{line_meaning, step_of_words, HasCommand, IsValidStep};
+ghost use Rattle.cept_editor.specs.inside.Order.{StandsBefore};
+ghost use Rattle.cept_editor.specs.Places.{IsPlacedOrder};
+ghost use Rattle.cept_editor.specs.inside.Places.{EndsAt, placed_step, placed_line};
 
+use crate::commands::Edit;
 use crate::order::Order;
 use crate::table::order_of;
 use cept_codes::LineReason;
@@ -36,6 +39,25 @@ pub(crate) fn line_order(line: &[u8], end: u32) -> Result<Option<Order>, LineRea
     }
     match words_order(line, end) {
         Ok(order) => Ok(Some(order)),
+        Err(reason) => Err(reason),
+    }
+}
+
+/// Reads a line of a script, without its end: its edit, none where it is empty or begins with 2/3.
+/// Takes no memory.
+///
+/// # Errors
+///
+/// The first reason for which the line is outside the grammar.
+pub fn read_line(line: &[u8]) -> Result<Option<Edit<'_>>, LineReason>
+    requires { length line.now < 2 ^ 31 }
+    ensures meaning { meaning_read result ≡ line_meaning line.now }
+    ensures valid { IfOk result (λ edit. IfSome edit (λ e. IsValidStep (edit_step e))) }
+    ensures some { IfOk result (λ edit. IfSome edit (λ e. HasCommand (edit_step e))) }
+{
+    match line_order(line, line.len() as u32) {
+        Ok(None) => Ok(None),
+        Ok(Some(order)) => Ok(Some(Edit::of(order, line))),
         Err(reason) => Err(reason),
     }
 }

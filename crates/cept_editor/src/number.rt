@@ -3,7 +3,7 @@ ghost use Rattle.cept_codes.specs.declared.command.Command.{Command};
 ghost use Rattle.cept_parser.specs.Bytes.{is_between};
 ghost use Rattle.cept_words.specs.Words.{words_after};
 ghost use Rattle.cept_editor.specs.Meaning.{one, two, four, ranged};
-ghost use Rattle.cept_editor.specs.Order.{decided};
+ghost use Rattle.cept_editor.specs.inside.Order.{decided};
 
 use cept_codes::LineReason;
 use cept_words::{four_words, number, one_word, two_words};

@@ -6,7 +6,7 @@ ghost use Rattle.cept_codes.specs.declared.command.Command.TheVariants as comman
 ghost use Rattle.cept_parser.specs.Bytes.{is_between};
 ghost use Rattle.cept_words.specs.Words.{words_after, bytes_after};
 ghost use Rattle.cept_editor.specs.Meaning.{one, two, four};
-ghost use Rattle.cept_editor.specs.Order.{ReadsPlain};
+ghost use Rattle.cept_editor.specs.inside.Order.{ReadsPlain};
 ghost use Rattle.cept_editor.specs.Table.{is_place, is_c1, is_screen_c1, is_colour, is_area};
 ghost use Rattle.cept_editor.specs.Table.{entry_command};
 

@@ -4,8 +4,9 @@ ghost use Rattle.cept_codes.specs.Command.{IsValidCommand};
 ghost use Rattle.cept_words.specs.Words.{words_after, bytes_after};
 ghost use Rattle.cept_editor.specs.Meaning.{Turn as TurnOf, Edit, ranged, alone, is_sign};
 ghost use Rattle.cept_editor.specs.Meaning.{text, raw, bytes_step, hex_bytes};
-ghost use Rattle.cept_editor.specs.Order.{command_of, order_step, step_meant, IsPlainOrder};
-ghost use Rattle.cept_editor.specs.Order.{ReadsPlaced, ReadsPlain, StandsBefore};
+ghost use Rattle.cept_editor.specs.Order.{command_of, order_step};
+ghost use Rattle.cept_editor.specs.inside.Order.{step_meant, IsPlainOrder};
+ghost use Rattle.cept_editor.specs.inside.Order.{ReadsPlaced, ReadsPlain, StandsBefore};
 
 use crate::brief::Brief;
 use crate::digits::{are_digits, has_refusal};

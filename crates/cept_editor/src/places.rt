@@ -1,5 +1,5 @@
 ghost use Rattle.std.specs.Prelude.{◌≡◌, ◌≤◌, length};
-ghost use Rattle.cept_editor.specs.Order.{place_before};
+ghost use Rattle.cept_editor.specs.inside.Order.{place_before};
 ghost use Rattle.cept_editor.specs.Places.{LiesIn, bytes_at};
 
 use crate::order::Order;

@@ -2,7 +2,7 @@ ghost use Rattle.std.specs.Prelude.{◌≡◌, ◌≤◌, ◌<◌, ◌^◌, ℕ,
 ghost use Rattle.std.specs.Prelude.{slice_index_or};
 ghost use Rattle.cept_editor.specs.Fault.{SaysFault};
 ghost use Rattle.cept_editor.specs.Meaning.{line_meaning, IsValidStep, HasCommand};
-ghost use Rattle.cept_editor.specs.Places.{EndsAt, HasKept, IsUnkept, HasOrders};
+ghost use Rattle.cept_editor.specs.inside.Places.{EndsAt, HasKept, IsUnkept, HasOrders};
 ghost use Rattle.cept_editor.specs.Edit.{edit_step};
 ghost use Rattle.cept_editor.specs.Script.{EditLine, edits, first_fault, AreValidEdits};
 

@@ -1,7 +1,7 @@
 //! The words with which lines begin: what each asks for.
 ghost use Rattle.cept_words.specs.Words.{words_after, bytes_after};
 ghost use Rattle.cept_editor.specs.Meaning.{step_by};
-ghost use Rattle.cept_editor.specs.Order.{ReadsPlaced, StandsBefore};
+ghost use Rattle.cept_editor.specs.inside.Order.{ReadsPlaced, StandsBefore};
 ghost use Rattle.cept_editor.specs.Table.{row_of};
 
 use crate::brief::Brief;

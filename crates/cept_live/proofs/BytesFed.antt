@@ -13,7 +13,8 @@ use Rattle.cept_redraw.specs.Marks.{no_marks}
 use Rattle.cept_live.specs.declared.notice.Notice.{Notice}
 use Rattle.cept_live.specs.Notices.{Saying, notice_of, sayings_after}
 use Rattle.cept_live.specs.Live.{live_start}
-use Rattle.cept_live.specs.Live.{Ends, Feeds, FeedsNothing, HasFed, IsPhase, LiveState, Stands, TakesItems, TakesNoMore, Tells}
+use Rattle.cept_live.specs.Live.{Ends, Feeds, FeedsNothing, HasFed, IsPhase, LiveState, Stands, TakesNoMore, Tells}
+use Rattle.cept_live.specs.inside.Live.{TakesItems}
 use Rattle.cept_live.specs.Live.{TellsAll}
 use Rattle.cept_live.specs.Renewed.{marked_with}
 use Rattle.cept_live.specs.Shown.{Begins}
@@ -21,25 +22,27 @@ use Rattle.cept_live.proofs.SayingsTold.{length-marked_with, Tells-none, Tells-a
 use Rattle.cept_live.proofs.ItemsTaken.{sayings_after-append, sayings_after-none}
 
 -- before the first byte
-length-no_marks : length no_marks ≡ 960
+pub length-no_marks : length no_marks ≡ 960
 unfolding no_marks
 length-no_marks = length-replicate 960 false
 
 pub HasFed-none : (live : LiveState) → Leads [] live.parser → live.screen ≡ state [] → live.phase ≡ None
-    → live.renewed ≡ no_marks → HasFed live []
+    → live.renewed ≡ no_marks → live.past ≡ [] → live.future ≡ [] → HasFed live []
 unfolding reading_within
-HasFed-none live leads is phase renewed = record {
+HasFed-none live leads is phase renewed past future = record {
   parser = leads;
   screen = record { valid = tt; is = is };
   phase = subst IsPhase (sym phase) (λ k e. absurd (let no : None ≡ Some k = e in cc));
   places = ap (λ (m : List Bool). length m) renewed ∙ length-no_marks;
+  past = past;
+  future = future;
 }
 
 -- as a new decoder stands
 pub live_start-is : (live : LiveState) → Leads [] live.parser → live.screen ≡ state [] → live.phase ≡ None
-    → live.renewed ≡ no_marks → live ≡ live_start
+    → live.renewed ≡ no_marks → live.past ≡ [] → live.future ≡ [] → live ≡ live_start
 unfolding reading_within
-live_start-is live leads screen phase renewed = λ i. record {
+live_start-is live leads screen phase renewed past future = λ i. record {
   parser = record {
     place = leads.place i;
     context = leads.context i;
@@ -49,6 +52,8 @@ live_start-is live leads screen phase renewed = λ i. record {
   screen = screen i;
   phase = phase i;
   renewed = renewed i;
+  past = past i;
+  future = future i;
 }
 
 -- the items that bytes close are taken
@@ -56,11 +61,14 @@ pub fed : (old new : LiveState) (more : List ℕ) (closed : List Item) (list now
     → new.parser.place ≡ old.parser.place + length more
     → ((b : List ℕ) → Leads b old.parser → items (b ++ more) ≡ items b ++ closed)
     → ((b : List ℕ) → Leads b old.parser → Leads (b ++ more) new.parser)
-    → new.phase ≡ old.phase → TakesItems old.screen old.renewed closed list from new.screen new.renewed to now
+    → new.phase ≡ old.phase → new.past ≡ old.past → new.future ≡ old.future
+    → TakesItems old.screen old.renewed closed list from new.screen new.renewed to now
     → Feeds old more list from new to now
-fed old new more closed list now from to place split leads phase taken = record {
+fed old new more closed list now from to place split leads phase past future taken = record {
   place = place;
   phase = phase;
+  past = past;
+  future = future;
   room = taken.room;
   feeds = λ b has. record {
     parser = leads b has.parser;
@@ -68,6 +76,8 @@ fed old new more closed list now from to place split leads phase taken = record 
     phase = subst IsPhase (sym phase) has.phase;
     places = ap (λ (m : List Bool). length m) (taken.marks_are (items b) has.screen)
         ∙ length-marked_with old.renewed (sayings_after (items b) closed) ∙ has.places;
+    past = past ∙ has.past;
+    future = future ∙ has.future;
   };
   tells = λ b has. record {
     closed = closed;
@@ -82,6 +92,8 @@ pub Feeds-none : (live : LiveState) (list : List Notice) (from : ℕ) → Feeds 
 Feeds-none live list from = record {
   place = omega arith;
   phase = refl;
+  past = refl;
+  future = refl;
   room = refl;
   feeds = λ b has. subst (HasFed live) (sym (append-nil b)) has;
   tells = λ b has. record {
@@ -99,6 +111,8 @@ pub Feeds-append : (old mid new : LiveState) (xs ys : List ℕ) (list between no
 Feeds-append old mid new xs ys list between now from at to first second = record {
   place = omega (arith, first.place, second.place, length-append xs ys);
   phase = second.phase ∙ first.phase;
+  past = second.past ∙ first.past;
+  future = second.future ∙ first.future;
   room = second.room ∙ first.room;
   feeds = λ b has. subst (HasFed new) (append_assoc b xs ys) (second.feeds (b ++ xs) (first.feeds b has));
   tells = λ b has.
@@ -202,20 +216,24 @@ HasFed-begun old new before phase to list now bytes begins has =
       screen = has.screen;
       phase = λ k e. let same : phase ≡ k = cc in subst (λ n. n < 6) same begins.valid;
       places = length-no_marks;
+      past = has.past;
+      future = has.future;
     })
 
 -- the items that the end closes are taken
 pub ended : (old new : LiveState) (closed : List Item) (list now : List Notice) (from to : ℕ)
     → old.parser.finished ≡ false → from + 1920 ≤ length list → new.parser.finished ≡ true → new.parser.place ≡ old.parser.place
     → ((b : List ℕ) → Leads b old.parser → closed_items b ≡ items b ++ closed)
-    → new.phase ≡ old.phase → TakesItems old.screen old.renewed closed list from new.screen new.renewed to now
-    → Ends old list from new to now
-ended old new closed list now from to running enough finished place split phase taken = record {
+    → new.phase ≡ old.phase → new.past ≡ old.past → new.future ≡ old.future
+    → TakesItems old.screen old.renewed closed list from new.screen new.renewed to now → Ends old list from new to now
+ended old new closed list now from to running enough finished place split phase past future taken = record {
   running = running;
   enough = enough;
   finished = finished;
   place = place;
   phase = phase;
+  past = past;
+  future = future;
   room = taken.room;
   stands = λ b has. subst (Stands new.screen) (sym (split b has.parser)) (taken.stands (items b) has.screen);
   tells = λ b has. record {

@@ -1,7 +1,7 @@
 -- A display that is kept as it is told shows what is shown.
-use Rattle.std.proofs.Common.{◌≡◌, ℕ, ◌+◌, ◌/◌, ◌%◌, ◌<◌, Bool, true, false, ◌||◌, cond, eqb, Option, Some, None, List, [], ◌∷◌, ◌++◌}
+use Rattle.std.proofs.Common.{◌≡◌, ℕ, zero, suc, ◌+◌, ◌/◌, ◌%◌, ◌<◌, ◌≤◌, Bool, true, false, ◌||◌, cond, eqb, Option, Some, None, List, [], ◌∷◌, ◌++◌}
 use Rattle.std.proofs.Common.{length, map, set, refl, sym, ◌∙◌, ap, arith, inl, inr, eq-eqb, append-nil, append_assoc}
-use Rattle.std.proofs.lemmas.Bool.{and_from, and_parts, cases_eq, eqb-true, false_from_ne_true}
+use Rattle.std.proofs.lemmas.Bool.{and_from, and_parts, cases_eq, eqb-true, false_from_ne_true, true≢false}
 use Rattle.std.proofs.lemmas.Grind.{flat_map-append}
 use Rattle.std.proofs.lemmas.List.{append_cancel_left, get_or-replicate, get_or-set_other, get_or-set_same, length-set}
 use Rattle.std.specs.List.{filter, range_with_len}
@@ -14,6 +14,11 @@ use Rattle.cept_codes.specs.Look.{blank_look}
 use Rattle.cept_codes.specs.Place.{OnScreen, Place, number, place_of}
 use Rattle.cept_codes.specs.Table.{IsTable, table, value_at}
 use Rattle.cept_codes.proofs.Laws.{IsTable-table, number-lt, number-place_of, place_of-number, same_table, same_tables, table-value_at, value_at-table}
+use Rattle.cept_editor.specs.Events.{paints}
+use Rattle.cept_editor.specs.Kept.{EditorState, KeptEdits, StandsAfter}
+use Rattle.cept_editor.specs.Meaning.{Step}
+use Rattle.cept_editor.specs.Stepping.{line_events}
+use Rattle.cept_editor.proofs.Laws.{line_shown}
 use Rattle.cept_flash.specs.Phases.{frame, look_at_phase}
 use Rattle.cept_parser.specs.Items.{closed_items, command_said, commands_of, items}
 use Rattle.cept_profile.specs.Cells.{is_at}
@@ -23,10 +28,12 @@ use Rattle.cept_profile.specs.State.{State, core_of, state}
 use Rattle.cept_profile.proofs.Laws.{grid-none, grid_with_paints-append, grid_with_paints-changes_between}
 use Rattle.cept_redraw.specs.Marks.{is_marked, no_marks}
 use Rattle.cept_live.specs.declared.notice.Notice.{Notice}
+use Rattle.cept_live.specs.EditLines.{MakesLine, editor_of, sayings_once}
 use Rattle.cept_live.specs.Live.{LiveState, live_start, Stands, HasFed, TellsItems, Feeds, Ends}
 use Rattle.cept_live.specs.Notices.{change_sayings, item_sayings, said_sayings, sayings_after}
 use Rattle.cept_live.specs.Renewed.{marked_with}
 use Rattle.cept_live.specs.Shown.{Begins, look_said, look_shown, looks_said, shown, shown_of}
+use Rattle.cept_live.proofs.BytesFed.{length-no_marks}
 use Rattle.cept_live.proofs.ItemsTaken.{commands_of-more}
 use Rattle.cept_live.proofs.SayingsTold.{length-marked_with, marked_with-append}
 
@@ -180,11 +187,105 @@ shown-changes g h is_g is_h phase marks places at =
     shown-painted g h is_g is_h phase marks places at
     (filter (λ n. is_marked (differences g h) n) (range_with_len 0 960)) (grid_with_paints-changes_between g h is_g is_h)
 
--- ---- items
+-- ---- what a line changes
 
 looks_said-changes : (at : ℕ) (xs : List (Place × Look)) → looks_said (change_sayings at xs) ≡ xs
 looks_said-changes at [] = refl
 looks_said-changes at (x ∷ xs) = ap (λ l. x ∷ l) (looks_said-changes at xs)
+
+or_true : (b : Bool) → (b || true) ≡ true
+or_true true = refl
+or_true false = refl
+
+-- a marked place stays marked
+stays-marked : (marks : List Bool) (at : ℕ) (xs : List (Place × Look)) (k : ℕ) → length marks ≡ 960 → k < 960
+    → is_marked marks k ≡ true → is_marked (marked_with marks (change_sayings at xs)) k ≡ true
+unfolding marked_with
+stays-marked marks at [] k places below is = is
+stays-marked marks at (x ∷ xs) k places below is =
+    let n = number x.0.row x.0.column in
+    stays-marked (set marks n true) at xs k (length-set marks n true ∙ places) below
+    (set-marked marks n k places below ∙ ap (λ b. eqb n k || b) is ∙ or_true (eqb n k))
+
+-- the place of a change has its number
+numbered-at : (p : Place) (r c : ℕ) → is_at p r c ≡ true → number p.row p.column ≡ number r c
+numbered-at p r c here =
+    let both = and_parts (eqb p.row r) (eqb p.column c) here in
+    (λ i. number (eqb-true p.row r both.0 i) (eqb-true p.column c both.1 i))
+
+-- a place that changes don't mark keeps its look
+unmarked-same : (g : List (List Look)) (marks : List Bool) (at : ℕ) (xs : List (Place × Look)) (r c : ℕ) → OnScreen r c
+    → length marks ≡ 960 → is_marked (marked_with marks (change_sayings at xs)) (number r c) ≡ false
+    → value_at blank_look (grid_with_paints g xs) r c ≡ value_at blank_look g r c
+unfolding marked_with grid_with_paints
+unmarked-same g marks at [] r c on places none = refl
+unmarked-same g marks at (x ∷ xs) r c on places none =
+    let n = number x.0.row x.0.column in
+    let k = number r c in
+    let longer = length-set marks n true ∙ places in
+    unmarked-same (grid_with_paint g x.0 x.1) (set marks n true) at xs r c on longer none
+    ∙ value_at-table (λ a b. cond (is_at x.0 a b) x.1 (value_at blank_look g a b)) blank_look r c on
+    ∙ ap (λ b. cond b x.1 (value_at blank_look g r c)) (false_from_ne_true (is_at x.0 r c) (λ here.
+    true≢false (sym (stays-marked (set marks n true) at xs k longer (number-lt r c on)
+    (set-marked marks n k places (number-lt r c on)
+    ∙ ap (λ b. b || is_marked marks k) (eq-eqb n k (numbered-at x.0 r c here)))) ∙ none)))
+
+-- a number that is chosen among others is one of them
+has-kept : (b : Bool) (a k : ℕ) (rest : List ℕ) → has rest k ≡ true → has (cond b (a ∷ rest) rest) k ≡ true
+has-kept true a k rest is = ap (λ e. eqb a k || e) is ∙ or_true (eqb a k)
+has-kept false a k rest is = is
+
+has-filtered : (p : ℕ → Bool) (a n k : ℕ) → a ≤ k → k < a + n → p k ≡ true → has (filter p (range_with_len a n)) k ≡ true
+has-filtered p a zero k least below is = absurd (omega (arith, least, below))
+has-filtered p a (suc n) k least below is =
+    let rest = filter p (range_with_len (a + 1) n) in
+    elim (cases_eq a k) [
+      | inl same ↦ ap (λ b. has (cond b (a ∷ rest) rest) k) (ap p same ∙ is) ∙ ap (λ b. b || has rest k) (eq-eqb a k same)
+      | inr other ↦ has-kept (p a) a k rest
+          (has-filtered p (a + 1) n k (omega (arith, least, other)) (omega (arith, below)) is)
+    ]
+
+-- the places of changes that lead from one grid to another, each once with its look there
+once-gives : (g h : List (List Look)) (changes : List (Place × Look)) → IsTable g → IsTable h → grid_with_paints g changes ≡ h
+    → grid_with_paints g (map (entry h)
+    (filter (λ n. is_marked (marked_with no_marks (change_sayings 0 changes)) n) (range_with_len 0 960))) ≡ h
+once-gives g h changes is_g is_h gives =
+    let marks = marked_with no_marks (change_sayings 0 changes) in
+    let ns = filter (λ n. is_marked marks n) (range_with_len 0 960) in
+    same_tables _ _ blank_look (IsTable-grid_with_paints g (map (entry h) ns) is_g) is_h (λ r c on.
+    let k = number r c in
+    painted-at g h ns r c on
+    ∙ chosen (has ns k) (value_at blank_look h r c) (value_at blank_look g r c) (λ none.
+    sym (unmarked-same g no_marks 0 changes r c on length-no_marks (false_from_ne_true (is_marked marks k) (λ is.
+    true≢false (sym (has-filtered (λ n. is_marked marks n) 0 960 k (omega arith) (number-lt r c on) is) ∙ none))))
+    ∙ ap (λ (t : List (List Look)). value_at blank_look t r c) gives))
+  where
+    chosen : (b : Bool) (new old : Look) → (b ≡ false → old ≡ new) → cond b new old ≡ new
+    chosen true new old is = refl
+    chosen false new old is = is refl
+
+-- a line was made
+pub line-shown : (step : Step) (old new : LiveState) (list now : List Notice) (to : ℕ) (page : List Command) (k : KeptEdits)
+    → MakesLine step old list new to now → StandsAfter (editor_of old) page k → length old.renewed ≡ 960
+    → shown new ≡ grid_with_paints (shown old) (looks_said (sayings_once old.parser.place
+    (paints (line_events false 0 page k step)) (looks_of (core_of new.screen))))
+unfolding marked_looks
+line-shown step old new list now to page k made stands places =
+    let g = looks_of (core_of old.screen) in
+    let h = looks_of (core_of new.screen) in
+    let changes = paints (line_events false 0 page k step) in
+    let ns = filter (λ n. is_marked (marked_with no_marks (change_sayings 0 changes)) n) (range_with_len 0 960) in
+    let gives : grid_with_paints g changes ≡ h =
+    ap (λ (s : State). grid_with_paints (looks_of (core_of s)) changes) (ap (λ (e : EditorState). e.screen) stands.is)
+    ∙ line_shown false 0 page k step
+    ∙ ap (λ (s : State). looks_of (core_of s)) (sym (ap (λ (e : EditorState). e.screen) (made.stands page k stands).is)) in
+    ap (λ (o : Option ℕ). shown_of h o new.renewed) made.phase
+    ∙ ap (λ (m : List Bool). shown_of h old.phase m) (made.tells page k stands).marks_are
+    ∙ shown-painted g h (IsTable-table _) (IsTable-table _) old.phase old.renewed places old.parser.place ns
+    (once-gives g h changes (IsTable-table _) (IsTable-table _) gives)
+    ∙ ap (grid_with_paints (shown old)) (sym (looks_said-changes old.parser.place (map (entry h) ns)))
+
+-- ---- items
 
 said-shown : (item : Item) (before : List Command) (s : Said) (phase : Option ℕ) (marks : List Bool) → length marks ≡ 960
     → shown_of (grid (before ++ command_said s)) phase (marked_with marks (said_sayings item before s))

@@ -18,7 +18,8 @@ use Rattle.cept_profile.specs.Valid.{AllValid}
 use Rattle.cept_repaint.specs.Applied.{GoesOn, IsWritten}
 use Rattle.cept_live.specs.declared.notice.Notice.{Notice}
 use Rattle.cept_live.specs.Notices.{Saying, Refusal, change_sayings, said_sayings, item_sayings, sayings_after}
-use Rattle.cept_live.specs.Live.{Stands, Tells, TakesItems}
+use Rattle.cept_live.specs.Live.{Stands, Tells}
+use Rattle.cept_live.specs.inside.Live.{TakesItems}
 use Rattle.cept_live.specs.Renewed.{marked_with}
 use Rattle.cept_live.proofs.SayingsTold.{Tells-none, Tells-append, TellsMarked}
 use Rattle.cept_live.proofs.SayingsTold.{marked_with-none, marked_with-append, marked_with-more}

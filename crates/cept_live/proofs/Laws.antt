@@ -5,3 +5,4 @@ pub use Rattle.cept_live.proofs.DisplaysKept.{begun-phase, begun-shown, ended-sh
 pub use Rattle.cept_live.proofs.DisplaysKept.{shown-unflashed}
 pub use Rattle.cept_live.proofs.ItemsTaken.{commands_of-more, sayings_after-append, sayings_after-none, sayings_after-one}
 pub use Rattle.cept_live.proofs.LinesOfItems.{lines_of-changes, lines_of-command, lines_of-item, lines_of-items, lines_of-refusal}
+pub use Rattle.cept_live.proofs.LinesKept.{StandsAfter-ended, edited, made-by}

@@ -2,6 +2,8 @@ mod BytesFed
 mod DisplaysKept
 mod ItemsTaken
 pub mod Laws
+mod LinesKept
+mod LinesMade
 mod LinesOfItems
 mod PagesRead
 mod PhasesTold

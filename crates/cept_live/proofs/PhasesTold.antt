@@ -18,7 +18,7 @@ use Rattle.cept_live.specs.Notices.{Change, Saying, change_sayings, notice_of}
 use Rattle.cept_live.specs.declared.flashing.Before.{Before}
 use Rattle.cept_live.specs.declared.flashing.Before.TheVariants as befores
 use Rattle.cept_live.specs.Shown.{look_shown, shown_of}
-use Rattle.cept_live.specs.Turning.{look_before, looks_before}
+use Rattle.cept_live.specs.inside.Turning.{look_before, looks_before}
 use Rattle.cept_live.proofs.SayingsTold.{Tells-more, Tells-none, sayings_below, sayings_below-all, sayings_below-next, sayings_below-none}
 use Rattle.cept_live.proofs.SayingsTold.{sayings_below-unmarked}
 

@@ -137,6 +137,18 @@ marked-next list now from to at renewed after marks g low p first room so_far =
           ∙ sym (marked_with-more renewed (sayings_below at marks g low) (Change at p (look_at g p)));
     })
 
+-- the same in marks alone
+pub marks-none : (at : ℕ) (old marks : List Bool) (g : List (List Look)) → old ≡ marked_with old (sayings_below at marks g 0)
+marks-none at old marks g = sym (marked_with-none old) ∙ ap (marked_with old) (sym (sayings_below-none at marks g))
+
+pub marks-next : (at : ℕ) (old after marks : List Bool) (g : List (List Look)) (low : ℕ) (p : Place) → IsFirstFrom marks low p
+    → after ≡ marked_with old (sayings_below at marks g low)
+    → set after (number p.row p.column) true ≡ marked_with old (sayings_below at marks g (number p.row p.column + 1))
+marks-next at old after marks g low p first so_far =
+    ap (λ (m : List Bool). set m (number p.row p.column) true) so_far
+    ∙ sym (marked_with-more old (sayings_below at marks g low) (Change at p (look_at g p)))
+    ∙ ap (marked_with old) (sym (sayings_below-place at marks g low p first))
+
 -- no further place is marked
 pub sayings_below-all : (at : ℕ) (marks : List Bool) (g : List (List Look)) (low : ℕ) → low ≤ 960
     → ((n : ℕ) → low ≤ n → is_marked marks n ≡ false)

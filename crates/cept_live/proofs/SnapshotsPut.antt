@@ -1,11 +1,13 @@
 -- A snapshot put in two parts.
-use Rattle.std.proofs.Common.{ℕ, ◌+◌, Err, List, Ok, Result, ◌++◌, length, take, ◌∙◌, subst, arith}
+use Rattle.std.proofs.Common.{◌≡◌, ℕ, ◌+◌, Err, List, [], Ok, Result, ◌++◌, length, take, ◌∙◌, refl, subst, arith}
 use Rattle.std.proofs.Common.{length-append}
 use Rattle.std.proofs.Math.Seq.{take-append-add}
 use Rattle.std.proofs.lemmas.List.{take-append-le}
 use Rattle.cept_outside.specs.Causes.{Rose}
 use Rattle.cept_outside.specs.SinkState.{PutsText, SinkState}
 use Rattle.cept_outside.proofs.Laws.{Gains-append}
+use Rattle.cept_live.specs.Live.{LiveState}
+use Rattle.cept_live.specs.Snapshots.{snapshot_head, snapshot_of}
 
 -- the first of two texts was put in part
 pub PutsText-first_failed : {X Y E : Type 0} {e f : E} (s u : SinkState) (first more : List ℕ)
@@ -45,3 +47,8 @@ PutsText-join (Err e) s t u first more a b =
         stays = tt;
       };
     }
+
+-- edits aren't told
+pub snapshot_of-unedited : (live : LiveState) → snapshot_of (record live { past = []; future = [] }) ≡ snapshot_of live
+unfolding snapshot_head
+snapshot_of-unedited live = refl

@@ -1,4 +1,7 @@
-pub mod Inside
+pub mod Fields
+pub mod Colours
+pub mod EditLines
+pub mod Editing
 pub mod Lines
 pub mod Live
 pub mod Notices
@@ -7,5 +10,5 @@ pub mod Renewed
 pub mod Shown
 pub mod Snapshots
 pub mod States
-pub mod Turning
 pub mod Written
+pub mod inside

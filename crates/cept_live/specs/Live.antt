@@ -1,5 +1,6 @@
 -- A live decoder (this project's own): what it is after the bytes fed so far, whatever pieces they came in.
-use Rattle.std.specs.Prelude.{◌≡◌, ℕ, ◌+◌, ◌*◌, ◌^◌, ◌≤◌, ◌<◌, ◌⊎◌, Bool, true, false, Option, None, List, [], ◌++◌, length, map, take, drop}
+use Rattle.std.specs.Prelude.{◌≡◌, ℕ, ◌+◌, ◌^◌, ◌≤◌, ◌<◌, ◌⊎◌, Bool, true, false, Option, None, List, [], ◌++◌, length}
+use Rattle.std.specs.Prelude.{map, take, drop}
 use Rattle.std.specs.Option.{ForSome}
 use Rattle.cept_codes.specs.declared.item.Item.{Item}
 use Rattle.cept_parser.specs.Context.{start_context}
@@ -12,13 +13,16 @@ use Rattle.cept_live.specs.declared.notice.Notice.{Notice}
 use Rattle.cept_live.specs.Notices.{Saying, notice_of, sayings_after}
 use Rattle.cept_live.specs.Renewed.{marked_with}
 
--- the parser of its bytes, the screen of its commands, the phase of flashing, if it flashes, and the places that items changed
--- since the phase began
+-- the parser of its bytes, the screen of its commands, the phase of flashing, if it flashes, the places that items and lines
+-- changed since the phase began, the states that taking edits back leads to, the latest first, and those that making them again
+-- leads to, the nearest first
 pub record LiveState : Type 0 where
   pub parser : ParserState
   pub screen : State
   pub phase : Option ℕ
   pub renewed : List Bool
+  pub past : List State
+  pub future : List State
 
 -- no phase, or one of the six
 abbrev pub IsPhase : Option ℕ → Type 0
@@ -30,19 +34,28 @@ parser_start = record { place = 0; context = start_context; pending = []; finish
 
 -- a decoder before the first byte
 abbrev pub live_start : LiveState
-live_start = record { parser = parser_start; screen = state []; phase = None; renewed = no_marks }
+live_start = record {
+  parser = parser_start;
+  screen = state [];
+  phase = None;
+  renewed = no_marks;
+  past = [];
+  future = [];
+}
 
 -- a screen stands after these items
 pub record Stands (screen : State) (seen : List Item) : Type 0 where
   pub valid : AllValid (commands_of seen)
   pub is : screen ≡ state (commands_of seen)
 
--- these bytes were fed
+-- these bytes were fed, and no line was made
 pub record HasFed (live : LiveState) (bytes : List ℕ) : Type 0 where
   pub parser : Leads bytes live.parser
   pub screen : Stands live.screen (items bytes)
   pub phase : IsPhase live.phase
   pub places : length live.renewed ≡ 960
+  pub past : live.past ≡ []
+  pub future : live.future ≡ []
 
 -- in a list of notices these sayings are told from one place on, up to another, and nothing else is changed
 pub record Tells (list : List Notice) (from : ℕ) (more : List Saying) (to : ℕ) (now : List Notice) : Type 0 where
@@ -50,15 +63,6 @@ pub record Tells (list : List Notice) (from : ℕ) (more : List Saying) (to : �
   pub front : take to now ≡ take from list ++ map notice_of more
   pub rest : drop to now ≡ drop to list
   pub room : length now ≡ length list
-
--- items were taken by a screen, what they say is told, and its places are marked
-pub record TakesItems (old : State) (marks : List Bool) (more : List Item) (list : List Notice) (from : ℕ) (new : State)
-    (marked : List Bool) (to : ℕ) (now : List Notice) : Type 0 where
-  pub most : to ≤ from + 960 * length more
-  pub room : length now ≡ length list
-  pub stands : (seen : List Item) → Stands old seen → Stands new (seen ++ more)
-  pub tells : (seen : List Item) → Stands old seen → Tells list from (sayings_after seen more) to now
-  pub marks_are : (seen : List Item) → Stands old seen → marked ≡ marked_with marks (sayings_after seen more)
 
 -- after these items others came; what they say is told, and its places are marked
 pub record TellsItems (before after : List Item) (marks : List Bool) (list : List Notice) (from : ℕ) (marked : List Bool)
@@ -73,6 +77,8 @@ pub record Feeds (old : LiveState) (more : List ℕ) (list : List Notice) (from 
     (now : List Notice) : Type 0 where
   pub place : new.parser.place ≡ old.parser.place + length more
   pub phase : new.phase ≡ old.phase
+  pub past : new.past ≡ old.past
+  pub future : new.future ≡ old.future
   pub room : length now ≡ length list
   pub feeds : (bytes : List ℕ) → HasFed old bytes → HasFed new (bytes ++ more)
   pub tells : (bytes : List ℕ) → HasFed old bytes
@@ -86,6 +92,8 @@ pub record Ends (old : LiveState) (list : List Notice) (from : ℕ) (new : LiveS
   pub finished : new.parser.finished ≡ true
   pub place : new.parser.place ≡ old.parser.place
   pub phase : new.phase ≡ old.phase
+  pub past : new.past ≡ old.past
+  pub future : new.future ≡ old.future
   pub room : length now ≡ length list
   pub stands : (bytes : List ℕ) → HasFed old bytes → Stands new.screen (closed_items bytes)
   pub tells : (bytes : List ℕ) → HasFed old bytes

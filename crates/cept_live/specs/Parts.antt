@@ -1,24 +1,12 @@
 -- What is read from a snapshot (this project's own): the value that has these numbers, and some value where none has.
--- Private clauses alone cite this file.
-use Rattle.std.specs.Prelude.{◌≡◌, ℕ, ◌==◌, Option, Some, None, map, nat_lt, if◌then◌else◌}
+--
+use Rattle.std.specs.Prelude.{◌≡◌, ℕ, Option, Some, None, map, nat_lt, if◌then◌else◌}
 use Rattle.cept_control.specs.Bytes.{control_bytes}
 use Rattle.cept_control.specs.Numbers.{bit, number_or}
-use Rattle.cept_parser.specs.declared.context.ColourKind.{ColourKind}
-use Rattle.cept_parser.specs.declared.context.ColourKind.TheVariants as kinds
-use Rattle.cept_parser.specs.declared.context.Mode.{Mode}
-use Rattle.cept_parser.specs.declared.context.Mode.TheVariants as modes
 use Rattle.cept_profile.specs.State.{core_of}
 use Rattle.cept_writer.specs.CompactCommands.{page_text}
 use Rattle.cept_live.specs.declared.parts.Parts.{Parts}
 use Rattle.cept_live.specs.Live.{LiveState}
-
-abbrev pub mode_by : ℕ → ℕ → Mode
-mode_by number place =
-    if number == 1 then modes.TableRun place else if number == 2 then modes.DclutRun place
-    else if number == 3 then modes.DrcsRun place else if number == 4 then modes.Skip else modes.Text
-
-abbrev pub kind_by : ℕ → ColourKind
-kind_by number = if number == 1 then kinds.LookUpTable else kinds.ColourTable
 
 -- one of the six phases, or none
 abbrev pub phase_by : ℕ → Option ℕ

@@ -10,7 +10,7 @@ ghost use Rattle.cept_profile.specs.State.{core_of};
 ghost use Rattle.cept_redraw.specs.Marks.{is_marked};
 ghost use Rattle.cept_live.specs.Live.{Tells};
 ghost use Rattle.cept_live.specs.Notices.{change_sayings};
-ghost use Rattle.cept_live.specs.Turning.{look_before, looks_before};
+ghost use Rattle.cept_live.specs.inside.Turning.{look_before, looks_before};
 
 use crate::notice::Notice;
 use cept_codes::{Look, Pos};

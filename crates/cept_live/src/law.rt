@@ -1,5 +1,5 @@
 //! Laws of what is told. The functions do nothing: their contracts are the laws.
-ghost use Rattle.std.specs.Prelude.{◌≡◌, ℕ, Some, None, List, ◌++◌, take};
+ghost use Rattle.std.specs.Prelude.{◌≡◌, ℕ, Some, None, List, [], ◌++◌, false, length, take};
 ghost use Rattle.cept_codes.specs.declared.command.Command.{Command};
 ghost use Rattle.cept_codes.specs.declared.item.Item.{Item};
 ghost use Rattle.cept_codes.specs.declared.item.Reason.{Reason};
@@ -7,14 +7,21 @@ ghost use Rattle.cept_codes.specs.declared.item.Said.TheVariants as said;
 ghost use Rattle.cept_codes.specs.declared.look.Look.{Look};
 ghost use Rattle.cept_codes.specs.Look.{blank_look};
 ghost use Rattle.cept_codes.specs.Table.{IsTable, table};
+ghost use Rattle.cept_editor.specs.Applying.{editor_after_step};
+ghost use Rattle.cept_editor.specs.Events.{paints};
+ghost use Rattle.cept_editor.specs.Kept.{KeptEdits, StandsAfter, editor_after, kept, none_kept};
+ghost use Rattle.cept_editor.specs.Meaning.{Step};
+ghost use Rattle.cept_editor.specs.Stepping.{line_events};
 ghost use Rattle.cept_flash.specs.Phases.{frame};
-ghost use Rattle.cept_parser.specs.Items.{closed_items, commands_of, items};
+ghost use Rattle.cept_parser.specs.Items.{closed_items, commands, commands_of, items};
 ghost use Rattle.cept_profile.specs.Changes.{changes, changes_between, grid_with_paints};
 ghost use Rattle.cept_profile.specs.Look.{looks_of};
 ghost use Rattle.cept_profile.specs.State.{core_of};
 ghost use Rattle.cept_redraw.specs.Marks.{no_marks};
 ghost use Rattle.cept_report.specs.Text.{change_lines, refusal_line};
 ghost use Rattle.cept_live.specs.declared.notice.Notice.{Notice};
+ghost use Rattle.cept_live.specs.EditLines.{AreStepsOf, IsStepOf, MakesLine, editor_of};
+ghost use Rattle.cept_live.specs.EditLines.{sayings_once};
 ghost use Rattle.cept_live.specs.Lines.{lines_after, lines_of};
 ghost use Rattle.cept_live.specs.Live.{Ends, Feeds, HasFed, LiveState, TellsAll, live_start};
 ghost use Rattle.cept_live.specs.Notices.{item_sayings, sayings_after};
@@ -34,7 +41,7 @@ pub fn lines_of_sayings()
 {}
 
 /// A display that is blank at first, and shows each notice as it comes, shows what is said to be
-/// shown: of bytes, of the end of the page, and of a phase that begins over what was shown before it
+/// shown: of bytes, of the end of the page, of a line, and of a phase that begins over what was shown before it
 /// begins, as over a display that was blanked. Then all places show their looks at that phase.
 pub fn displays_show_what_is_told()
     ensures start { shown live_start ≡ table (λ _ _. blank_look) }
@@ -55,6 +62,11 @@ pub fn displays_show_what_is_told()
     ensures phase { (old new : LiveState) (before : List (List Look)) (phase to : ℕ)
         (list now : List Notice) → Begins old before phase list new to now
         → shown new ≡ frame (looks_of (core_of old.screen)) phase }
+    ensures line { (step : Step) (old new : LiveState) (list now : List Notice) (to : ℕ)
+        (page : List Command) (k : KeptEdits) → MakesLine step old list new to now
+        → StandsAfter (editor_of old) page k → length old.renewed ≡ 960 → shown new
+        ≡ grid_with_paints (shown old) (looks_said (sayings_once old.parser.place
+        (paints (line_events false 0 page k step)) (looks_of (core_of new.screen)))) }
     ensures kept { (live : LiveState) (phase : ℕ) → live.phase ≡ Some phase
         → live.renewed ≡ no_marks → shown live ≡ frame (looks_of (core_of live.screen)) phase }
 {}
@@ -72,4 +84,18 @@ pub fn pieces_tell_the_same()
     ensures phases { (old new : LiveState) (before : List (List Look)) (phase to : ℕ)
         (list now : List Notice) (bytes : List ℕ) → Begins old before phase list new to now
         → HasFed old bytes → HasFed new bytes }
+{}
+
+/// A page that was fed whole, and lines of a script made after its end one by one, make the editor that
+/// the word `edit` makes of them: the same screen, the same states before the last edits, and the same
+/// after those taken back.
+pub fn lines_make_an_editor()
+    ensures start { (old new : LiveState) (list now : List Notice) (from to : ℕ) (bytes : List ℕ)
+        → Ends old list from new to now → HasFed old bytes
+        → StandsAfter (editor_of new) (commands bytes) none_kept }
+    ensures line { (step : Step) (old new : LiveState) → IsStepOf step old new
+        → editor_of new ≡ editor_after_step (editor_of old) step }
+    ensures all { (old mid new : LiveState) (list now : List Notice) (from to : ℕ) (bytes : List ℕ)
+        (steps : List Step) → HasFed old bytes → Ends old list from mid to now
+        → AreStepsOf steps mid new → editor_of new ≡ editor_after (commands bytes) (kept steps) }
 {}

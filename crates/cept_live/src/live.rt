@@ -1,24 +1,31 @@
 //! A decoder that keeps its place between pieces of a page.
 ghost use Rattle.std.specs.Prelude.{◌≡◌, ℕ, ◌+◌, ◌*◌, ◌^◌, ◌<◌, ◌≤◌, ◌⊎◌, ◌∷◌, [], length, take};
 ghost use Rattle.std.specs.Prelude.{true, false, List, IfOk, IfSome, IsNone, Some};
+ghost use Rattle.std.specs.List.{AllByRecursion};
+ghost use Rattle.cept_codes.specs.Command.{IsValidCommand};
 ghost use Rattle.cept_codes.specs.Look.{blank_look};
 ghost use Rattle.cept_codes.specs.Table.{table};
+ghost use Rattle.cept_editor.specs.Meaning.{Edit as EditOf, Turn as TurnOf};
 ghost use Rattle.cept_outside.specs.Ledger.{IsBlankOf};
 ghost use Rattle.cept_profile.specs.Changes.{look_at};
 ghost use Rattle.cept_profile.specs.Look.{looks_of};
 ghost use Rattle.cept_profile.specs.State.{core_of};
 ghost use Rattle.cept_writer.specs.CompactCommands.{page_text};
 
+use crate::colours::ColourEntries;
+use crate::edits::Editing;
 use crate::flashing::{Before, Turning};
+use crate::lines::{LONGEST_LINE, Lined, ROOM_FOR_A_LINE};
 use crate::notice::Notice;
 use crate::parts::{Parts, marks_of, parts_of};
 use crate::restore::screen_of;
 use crate::snapshot::put_snapshot;
 use crate::state::DecoderState;
-use crate::tell::{Display, take_items};
+use crate::tell::{Display, take_items, tell_marked};
 use crate::writing::{Text, has_bytes, put_front};
 use cept_codes::{NoMemory, Pos};
 use cept_control::Control;
+use cept_editor::{Commands, Edit, Turn, read_line};
 use cept_flash::next_phase;
 use cept_outside::{Sink, Steps, WriteFault};
 use cept_parser::{Closed, Parser};
@@ -41,8 +48,9 @@ pub struct Fed {
     pub notices: usize,
 }
 
-/// A decoder, the display of its commands, and the phase of flashing that it shows. All its memory is
-/// taken at the start.
+/// A decoder, the display of its commands, and the phase of flashing that it shows. After the page has
+/// ended it is edited, line by line. All its memory is taken at the start, but for what edits need,
+/// which is taken at the first one.
 #[derive(Drop)]
 pub struct Live {
     parser: Parser,
@@ -50,11 +58,13 @@ pub struct Live {
     closed: Closed,
     ended: bool,
     phase: Option<u8>,
+    edits: Option<Editing>,
 }
 
 impl Model for Live {
+    ghost use Rattle.cept_live.specs.Editing.{future_of, past_of};
     ghost use Rattle.cept_live.specs.Live.{LiveState};
-    ghost use Rattle.cept_live.specs.Inside.{IsInStep};
+    ghost use Rattle.cept_live.specs.Fields.{IsInStep};
 
     ghost Value = { LiveState };
 
@@ -63,12 +73,16 @@ impl Model for Live {
       screen = l.display.screen;
       phase = l.phase;
       renewed = l.display.renewed;
+      past = past_of l.edits l.display.screen;
+      future = future_of l.edits l.display.screen;
     } };
 
-    ghost invariant = { λ l. IsInStep l.parser l.phase l.ended };
+    ghost invariant = { λ l. IsInStep l.parser l.display.screen l.phase l.ended l.edits };
 }
 
 impl Live {
+    ghost use Rattle.cept_live.specs.Colours.{colour_entries};
+    ghost use Rattle.cept_live.specs.EditLines.{LineDone, StepDone};
     ghost use Rattle.cept_live.specs.Live.{Ends, Feeds, FeedsAll, HasFed, IsPhase, LiveState, Stays};
     ghost use Rattle.cept_live.specs.Live.{TakesNoMore, live_start};
     ghost use Rattle.cept_live.specs.Notices.{change_notice};
@@ -76,7 +90,7 @@ impl Live {
     ghost use Rattle.cept_live.specs.Shown.{Begins, phase_after, shown};
     ghost use Rattle.cept_live.specs.Snapshots.{snapshot_of};
     ghost use Rattle.cept_live.specs.States.{state_record};
-    ghost use Rattle.cept_live.specs.Turning.{looks_before};
+    ghost use Rattle.cept_live.specs.inside.Turning.{looks_before};
     ghost use Rattle.cept_live.specs.Written.{Writes};
 
     /// A decoder before the first byte.
@@ -94,6 +108,7 @@ impl Live {
             closed: Closed::new(),
             ended: false,
             phase: None,
+            edits: None,
         })
     }
 
@@ -197,6 +212,115 @@ impl Live {
         }
         let blank = Blank::new(1);
         Some(self.end_by::<Brand>(list, blank))
+    }
+
+    /// Makes an edit of these commands, or takes no memory for it.
+    fn edit_by<L: Ledger>(
+        &mut self,
+        alloc: Global,
+        commands: Commands<'_>,
+        list: &mut [Notice],
+        blank: Blank,
+    ) -> Lined
+        requires ended { self.old.parser.finished ≡ true }
+        requires room { 960 ≤ length list.old }
+        requires valid { AllByRecursion IsValidCommand commands }
+        requires some { 0 < length commands }
+        requires blank { IsBlankOf L.name L.parts blank.name blank.parts }
+        ensures { StepDone (EditOf commands.entry) self.old list.old result self.new list.new }
+    {
+        let Ok(mut editing) = Editing::of(self.edits.take(), alloc, &self.display.screen) else {
+            return Lined::NoMemory;
+        };
+        let mut steps = Steps::<L>::new(blank);
+        let mut changed = Marks::new();
+        let Display {
+            screen,
+            marks,
+            renewed,
+        } = &mut self.display;
+        editing.make(screen, commands, marks, &mut changed, &mut steps);
+        let notices = tell_marked(self.parser.place(), &changed, screen, renewed, list, 0);
+        self.edits = Some(editing);
+        Lined::Made(notices)
+    }
+
+    /// Takes the last kept edit back, or makes the last undone one again.
+    fn turn_by<L: Ledger>(&mut self, turn: Turn, list: &mut [Notice], blank: Blank) -> Lined
+        requires ended { self.old.parser.finished ≡ true }
+        requires room { 960 ≤ length list.old }
+        requires blank { IsBlankOf L.name L.parts blank.name blank.parts }
+        ensures { StepDone (TurnOf turn) self.old list.old result self.new list.new }
+    {
+        let Some(mut editing) = self.edits.take() else {
+            return Lined::Nothing;
+        };
+        let mut steps = Steps::<L>::new(blank);
+        let mut changed = Marks::new();
+        let Display {
+            screen,
+            marks,
+            renewed,
+        } = &mut self.display;
+        let turned = editing.turn(screen, turn, marks, &mut changed, &mut steps);
+        self.edits = Some(editing);
+        if !turned {
+            return Lined::Nothing;
+        }
+        let notices = tell_marked(self.parser.place(), &changed, screen, renewed, list, 0);
+        Lined::Made(notices)
+    }
+
+    /// Makes one line of a script, without its end, after the page has ended: an edit, an undo or a
+    /// redo. Tells each place that a command of it changes once, in reading order, with its look after
+    /// the line, from the start of the list on. Memory is taken at the first edit alone.
+    pub fn line(&mut self, alloc: Global, line: &[u8], list: &mut [Notice]) -> Lined
+        ensures { LineDone line.now self.old list.old result self.new list.new }
+    {
+        if !self.has_ended() || list.len() < ROOM_FOR_A_LINE {
+            return Lined::Early;
+        }
+        if line.len() > LONGEST_LINE {
+            return Lined::TooLong;
+        }
+        let blank = Blank::new(1);
+        match read_line(line) {
+            Ok(None) => Lined::Nothing,
+            Ok(Some(Edit::Turn(turn))) => self.turn_by::<Brand>(turn, list, blank),
+            Ok(Some(Edit::Commands(commands))) => {
+                self.edit_by::<Brand>(alloc, commands, list, blank)
+            }
+            Err(reason) => Lined::Bad(reason),
+        }
+    }
+
+    /// How many edits can be taken back.
+    pub fn kept(&self) -> u32
+        ensures edits { result ≡ length self.now.past }
+        ensures at_most_64 { result ≤ 64 }
+    {
+        match &self.edits {
+            Some(editing) => editing.kept(&self.display.screen),
+            None => 0,
+        }
+    }
+
+    /// How many edits were taken back and can be made again.
+    pub fn undone(&self) -> u32
+        ensures edits { result ≡ length self.now.future }
+        ensures at_most_64 { result ≤ 64 }
+    {
+        match &self.edits {
+            Some(editing) => editing.undone(&self.display.screen),
+            None => 0,
+        }
+    }
+
+    /// The colours in force.
+    pub fn colours(&self) -> ColourEntries
+        ensures { result ≡ colour_entries self.now.screen.page }
+    {
+        ColourEntries::of(&self.display.screen)
     }
 
     /// The look at a place as it was fed, as a notice after the bytes fed so far.
@@ -326,6 +450,7 @@ impl Live {
             closed: Closed::new(),
             ended: false,
             phase: parts.phase,
+            edits: None,
         }))
     }
 

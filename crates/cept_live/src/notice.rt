@@ -106,7 +106,7 @@ fn reason_number(reason: Reason) -> u8
     }
 }
 
-fn colour_of(paint: Paint) -> Colour
+pub(crate) fn colour_of(paint: Paint) -> Colour
     ensures { result ≡ colour_of paint }
 {
     match paint {

@@ -5,7 +5,8 @@ ghost use Rattle.std.specs.Prelude.{length, map};
 ghost use Rattle.cept_control.specs.Numbers.{bit};
 ghost use Rattle.cept_parser.specs.declared.context.Context.{Context};
 ghost use Rattle.cept_live.specs.Live.{IsPhase, LiveState};
-ghost use Rattle.cept_live.specs.Parts.{HasParts, kind_by, mode_by, phase_by};
+ghost use Rattle.cept_live.specs.Parts.{HasParts, phase_by};
+ghost use Rattle.cept_live.specs.inside.Parts.{kind_by, mode_by};
 ghost use Rattle.cept_live.specs.Snapshots.{context_bytes, number_bytes, part, snapshot_of};
 
 use cept_codes::{Form, Pos};

@@ -159,6 +159,8 @@ fn head_of(parser: &Parser, screen: &Screen, phase: Option<u8>, renewed: &Marks)
       screen = screen.now;
       phase = phase;
       renewed = renewed.now;
+      past = [];
+      future = [];
     }) }
 {
     let context = parser.context();
@@ -190,6 +192,8 @@ pub fn put_snapshot<T: Sink>(
       screen = screen.now;
       phase = phase;
       renewed = renewed.now;
+      past = [];
+      future = [];
     })) result (T.state sink.new) }
 {
     let head = head_of(parser, screen, phase, renewed);

@@ -5,7 +5,8 @@ ghost use Rattle.cept_codes.specs.Command.{IsValidSaid};
 ghost use Rattle.cept_profile.specs.Changes.{marked_looks};
 ghost use Rattle.cept_profile.specs.Look.{looks_of};
 ghost use Rattle.cept_profile.specs.State.{core_of};
-ghost use Rattle.cept_live.specs.Live.{Tells, TakesItems};
+ghost use Rattle.cept_live.specs.Live.{Tells};
+ghost use Rattle.cept_live.specs.inside.Live.{TakesItems};
 ghost use Rattle.cept_live.specs.Notices.{Saying, Refusal, change_sayings};
 ghost use Rattle.cept_live.specs.Renewed.{marked_with};
 
@@ -26,7 +27,7 @@ pub(crate) struct Display {
 
 /// Tells each marked place with its look, from a place of the list on, and marks it as renewed.
 /// Answers where they end.
-fn tell_marked(
+pub(crate) fn tell_marked(
     at: u64,
     marks: &Marks,
     screen: &Screen,

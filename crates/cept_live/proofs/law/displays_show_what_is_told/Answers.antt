@@ -1,4 +1,5 @@
-use Rattle.cept_live.proofs.DisplaysKept.{begun-phase, begun-shown, ended-shown, fed-shown, shown-kept, shown-start, shown-unflashed}
+use Rattle.cept_live.proofs.DisplaysKept.{begun-phase, begun-shown, ended-shown, fed-shown, line-shown, shown-kept}
+use Rattle.cept_live.proofs.DisplaysKept.{shown-start, shown-unflashed}
 use Rattle.cept_live.proofs.law.displays_show_what_is_told.Goals as goal
 
 pub returns-clause-start : goal.returns-clause-start
@@ -21,3 +22,6 @@ returns-clause-unflashed c = shown-unflashed
 
 pub returns-clause-kept : goal.returns-clause-kept
 returns-clause-kept c = shown-kept
+
+pub returns-clause-line : goal.returns-clause-line
+returns-clause-line c = line-shown

@@ -1,4 +1,4 @@
-use Rattle.std.proofs.Common.{◌∙◌}
+use Rattle.std.proofs.Common.{[], ◌∙◌}
 use Rattle.cept_profile.specs.State.{core_of}
 use Rattle.cept_writer.specs.CompactCommands.{page_text}
 use Rattle.cept_live.specs.Live.{LiveState}
@@ -13,6 +13,8 @@ returns g c =
       screen = c.args.screen.now;
       phase = c.args.phase;
       renewed = c.args.renewed.now;
+      past = [];
+      future = [];
     } in
     PutsText-join _ _ _ _ (snapshot_head live) (page_text (core_of c.args.screen.now))
     (rw (c.as_slice.ensures.value ∙ c.head_of-head.ensures) at c.in_ok-put_all.ensures.puts) c.write_page.ensures

@@ -2,7 +2,7 @@ use Rattle.std.proofs.Common.{◌≤◌, ◌+◌, ◌*◌, take, drop}
 use Rattle.std.specs.List.{AllByRecursion}
 use Rattle.cept_codes.specs.Command.{IsValidSaid}
 use Rattle.cept_codes.specs.declared.item.Item.{Item}
-use Rattle.cept_live.specs.Live.{TakesItems}
+use Rattle.cept_live.specs.inside.Live.{TakesItems}
 use Rattle.cept_live.proofs.tell.take_items.Given as goal
 
 abbrev pub invariant-loop-item : goal.invariant-loop-item

@@ -1,6 +1,7 @@
 -- no command was handed on yet
 use Rattle.std.proofs.Common.{◌≡◌}
-use Rattle.cept_editor.specs.Decoding.{IsDecoding, commands_left, decoding_size}
+use Rattle.cept_editor.specs.Decoding.{IsDecoding, commands_left}
+use Rattle.cept_editor.specs.inside.Decoding.{decoding_size}
 use Rattle.cept_editor.proofs.decoding.Decoding.next.Given as goal
 
 abbrev pub invariant-loop-self : goal.invariant-loop-self

@@ -7,7 +7,7 @@ use Rattle.cept_codes.specs.declared.look.Look.{Look}
 use Rattle.cept_profile.specs.Changes.{differences, look_at}
 use Rattle.cept_profile.specs.Look.{looks_of}
 use Rattle.cept_profile.specs.State.{core_of}
-use Rattle.cept_live.specs.Turning.{looks_before}
+use Rattle.cept_live.specs.inside.Turning.{looks_before}
 use Rattle.cept_live.proofs.PhasesTold.{length-differences, marked-here, turned-all, turned-left, turned-none, turned-told}
 use Rattle.cept_live.proofs.flashing.Turning.tell.Goals as goal
 use Rattle.cept_live.proofs.flashing.Turning.tell.Goals.{in-Some, in_default}

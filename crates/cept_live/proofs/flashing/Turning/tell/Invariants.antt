@@ -4,7 +4,7 @@ use Rattle.cept_profile.specs.Changes.{differences}
 use Rattle.cept_profile.specs.Look.{looks_of}
 use Rattle.cept_profile.specs.State.{core_of}
 use Rattle.cept_live.specs.Live.{Tells}
-use Rattle.cept_live.specs.Turning.{looks_before}
+use Rattle.cept_live.specs.inside.Turning.{looks_before}
 use Rattle.cept_live.proofs.SayingsTold.{sayings_below}
 use Rattle.cept_live.proofs.flashing.Turning.tell.Given as goal
 

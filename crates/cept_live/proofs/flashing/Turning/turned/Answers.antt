@@ -7,7 +7,7 @@ use Rattle.cept_profile.specs.Changes.{differences, look_at}
 use Rattle.cept_profile.specs.Look.{looks_of}
 use Rattle.cept_profile.specs.State.{core_of}
 use Rattle.cept_redraw.specs.Marks.{is_marked}
-use Rattle.cept_live.specs.Turning.{look_before, looks_before}
+use Rattle.cept_live.specs.inside.Turning.{look_before, looks_before}
 use Rattle.cept_live.proofs.PhasesTold.{look_at-frame, turned-at}
 use Rattle.cept_live.proofs.flashing.Turning.turned.Goals as goal
 use Rattle.cept_live.proofs.flashing.Turning.turned.Goals.{After-differ}

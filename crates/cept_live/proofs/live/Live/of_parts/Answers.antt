@@ -20,4 +20,4 @@ returns-clause-back c = λ live bytes fed parts.
     (ap (λ (s : State). page_text (core_of s)) (sym fed.screen.is) ∙ sym parts.page)
     (control ∙ ap (λ (s : State). s.control) fed.screen.is) in cc) in
     ap (λ l. Some l) (live_back live _ _ _ _ reads (screen ∙ sym fed.screen.is)
-    (parts.phase ∙ phase_back live.phase fed.phase) (c.marks_of.ensures live.renewed (sym parts.renewed) fed.places))
+    (parts.phase ∙ phase_back live.phase fed.phase) (c.marks_of.ensures live.renewed (sym parts.renewed) fed.places) fed.past fed.future)

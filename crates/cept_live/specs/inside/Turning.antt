@@ -1,4 +1,4 @@
--- What is shown before a phase of flashing begins (this project's own). Private clauses alone cite this file.
+-- What is shown before a phase of flashing begins (this project's own).
 use Rattle.std.specs.Prelude.{Bool, List}
 use Rattle.cept_codes.specs.declared.look.Look.{Look}
 use Rattle.cept_codes.specs.Look.{blank_look}

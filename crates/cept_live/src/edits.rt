@@ -1,0 +1,193 @@
+//! Makes edits on a screen, takes them back and makes them again, and marks the places that they change.
+ghost use Rattle.std.specs.Prelude.{◌≡◌, ◌≤◌, ◌↔◌, ℕ, List, [], false, length, IfOk, IfSome, OnErr, IsNone};
+ghost use Rattle.cept_codes.specs.declared.look.Look.{Look};
+ghost use Rattle.cept_editor.specs.Applying.{changes_in_turn, editor_after_step, editor_after_turn};
+ghost use Rattle.cept_editor.specs.Meaning.{Edit as EditOf};
+ghost use Rattle.cept_editor.specs.Stepping.{states_ahead};
+ghost use Rattle.cept_profile.specs.Changes.{changes_between, differences, marked_looks};
+ghost use Rattle.cept_profile.specs.Look.{looks_of};
+ghost use Rattle.cept_profile.specs.State.{core_of};
+ghost use Rattle.cept_repaint.specs.InTurn.{state_after_all};
+ghost use Rattle.cept_undo.specs.Past.{IsBetweenEdits, IsWithinEdit, StaysBegun, future, past};
+ghost use Rattle.cept_live.specs.Editing.{future_of, past_of};
+ghost use Rattle.cept_live.specs.inside.Editing.{editor_with};
+ghost use Rattle.cept_live.specs.Notices.{change_sayings};
+ghost use Rattle.cept_live.specs.Renewed.{marked_with};
+
+use cept_codes::NoMemory;
+use cept_editor::{Commands, Turn};
+use cept_outside::Steps;
+use cept_repaint::{GridGlass, Marks, Screen};
+use cept_undo::{Redone, Undo, Undone};
+use std::alloc::Global;
+use std::sync::ledger::Ledger;
+
+/// The last edits of a screen, as they are taken back and made again. What they paint goes to a glass
+/// at which nobody looks: what they change is marked.
+#[derive(Drop)]
+pub(crate) struct Editing {
+    undo: Undo,
+    glass: GridGlass,
+}
+
+/// Marks in `all` the places besides that are marked.
+fn add_marks(marks: &Marks, all: &mut Marks)
+    ensures { (at : ℕ) (g : List (List Look))
+        → all.new ≡ marked_with all.old (change_sayings at (marked_looks marks.now g)) }
+{
+    let mut number = 0u16;
+    while let Some(place) = marks.next_from(number) {
+        all.mark(place);
+        number = place.number() + 1;
+    }
+}
+
+/// Applies the commands of the edit that is begun one after the other, and marks in `changed` the
+/// places besides that each changes.
+fn apply_commands<L: Ledger>(
+    editing: &mut Editing,
+    screen: &mut Screen,
+    mut commands: Commands<'_>,
+    marks: &mut Marks,
+    changed: &mut Marks,
+    steps: &mut Steps<L>,
+)
+    requires within { IsWithinEdit editing.old.undo screen.old }
+    requires none_undone { future editing.old.undo screen.old ≡ [] }
+    ensures edit { StaysBegun editing.old.undo screen.old editing.new.undo screen.new }
+    ensures state { screen.new ≡ state_after_all screen.old commands.entry }
+    ensures changed { changed.new ≡ marked_with changed.old
+        (change_sayings 0 (changes_in_turn screen.old commands.entry)) }
+{
+    while let Some(command) = commands.next() {
+        editing
+            .undo
+            .apply(screen, command, &mut editing.glass, marks, steps);
+        add_marks(marks, changed);
+    }
+}
+
+impl Editing {
+    /// No edit is kept, and none is undone.
+    fn new(alloc: Global, screen: &Screen) -> Result<Editing, NoMemory>
+        ensures past { IfOk result (λ e. past e.undo screen.now ≡ []) }
+        ensures future { IfOk result (λ e. future e.undo screen.now ≡ []) }
+        ensures between { IfOk result (λ e. IsBetweenEdits e.undo screen.now) }
+    {
+        // That the state is valid is known to the prover by its control.
+        let _control = screen.control();
+        Ok(Editing {
+            undo: Undo::new(alloc)?,
+            glass: GridGlass::new(alloc)?,
+        })
+    }
+
+    /// The edits of a screen that are there, or none at its first edit.
+    pub(crate) fn of(
+        edits: Option<Editing>,
+        alloc: Global,
+        screen: &Screen,
+    ) -> Result<Editing, NoMemory>
+        requires { IfSome edits (λ e. IsBetweenEdits e.undo screen.now) }
+        ensures past { IfOk result (λ e. past e.undo screen.now ≡ past_of edits screen.now) }
+        ensures future { IfOk result (λ e. future e.undo screen.now ≡ future_of edits screen.now) }
+        ensures between { IfOk result (λ e. IsBetweenEdits e.undo screen.now) }
+        ensures first { OnErr result (IsNone edits) }
+    {
+        match edits {
+            Some(editing) => Ok(editing),
+            None => Editing::new(alloc, screen),
+        }
+    }
+
+    /// Makes an edit of these commands, and keeps it. Marks in `changed` the places besides that they
+    /// change.
+    pub(crate) fn make<L: Ledger>(
+        &mut self,
+        screen: &mut Screen,
+        commands: Commands<'_>,
+        marks: &mut Marks,
+        changed: &mut Marks,
+        steps: &mut Steps<L>,
+    )
+        requires { IsBetweenEdits self.old.undo screen.old }
+        ensures between { IsBetweenEdits self.new.undo screen.new }
+        ensures made { editor_with self.new.undo screen.new
+            ≡ editor_after_step (editor_with self.old.undo screen.old) (EditOf commands.entry) }
+        ensures changed { changed.new ≡ marked_with changed.old
+            (change_sayings 0 (changes_in_turn screen.old commands.entry)) }
+    {
+        self.undo.begin(screen);
+        apply_commands(self, screen, commands, marks, changed, steps);
+        self.undo.commit();
+    }
+
+    /// Takes the last kept edit back, or makes the last undone one again, and marks the places that
+    /// look otherwise then. Answers whether there was one.
+    fn turn_screen<L: Ledger>(
+        &mut self,
+        screen: &mut Screen,
+        turn: Turn,
+        marks: &mut Marks,
+        steps: &mut Steps<L>,
+    ) -> bool
+        requires { IsBetweenEdits self.old.undo screen.old }
+        ensures between { IsBetweenEdits self.new.undo screen.new }
+        ensures turned { editor_with self.new.undo screen.new
+            ≡ editor_after_turn (editor_with self.old.undo screen.old) turn }
+        ensures nothing { (result ≡ false)
+            ↔ (states_ahead (editor_with self.old.undo screen.old) turn ≡ []) }
+        ensures marks { marks.new
+            ≡ differences (looks_of (core_of screen.old)) (looks_of (core_of screen.new)) }
+    {
+        match turn {
+            Turn::TakeBack => match self.undo.undo(screen, &mut self.glass, marks, steps) {
+                Undone::Undone => true,
+                Undone::Nothing => false,
+            },
+            Turn::MakeAgain => match self.undo.redo(screen, &mut self.glass, marks, steps) {
+                Redone::Redone => true,
+                Redone::Nothing => false,
+            },
+        }
+    }
+
+    /// The same, and marks these places in `changed` besides.
+    pub(crate) fn turn<L: Ledger>(
+        &mut self,
+        screen: &mut Screen,
+        turn: Turn,
+        marks: &mut Marks,
+        changed: &mut Marks,
+        steps: &mut Steps<L>,
+    ) -> bool
+        requires { IsBetweenEdits self.old.undo screen.old }
+        ensures between { IsBetweenEdits self.new.undo screen.new }
+        ensures turned { editor_with self.new.undo screen.new
+            ≡ editor_after_turn (editor_with self.old.undo screen.old) turn }
+        ensures nothing { (result ≡ false)
+            ↔ (states_ahead (editor_with self.old.undo screen.old) turn ≡ []) }
+        ensures changed { changed.new ≡ marked_with changed.old (change_sayings 0
+            (changes_between (looks_of (core_of screen.old)) (looks_of (core_of screen.new)))) }
+    {
+        let turned = self.turn_screen(screen, turn, marks, steps);
+        add_marks(marks, changed);
+        turned
+    }
+
+    /// How many edits can be taken back.
+    pub(crate) fn kept(&self, screen: &Screen) -> u32
+        ensures past { result ≡ length (past self.now.undo screen.now) }
+        ensures at_most_64 { result ≤ 64 }
+    {
+        self.undo.kept()
+    }
+
+    /// How many edits were taken back and can be made again.
+    pub(crate) fn undone(&self, screen: &Screen) -> u32
+        ensures future { result ≡ length (future self.now.undo screen.now) }
+        ensures at_most_64 { result ≤ 64 }
+    {
+        self.undo.undone()
+    }
+}
