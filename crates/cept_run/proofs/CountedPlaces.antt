@@ -10,7 +10,7 @@ use Rattle.cept_codes.specs.Place.{Place}
 use Rattle.cept_editor.specs.Events.{Event, event_changes, paints}
 use Rattle.cept_editor.proofs.Laws.{paints-append, paints-one, paints-none}
 use Rattle.cept_profile.specs.Changes.{changes}
-use Rattle.cept_run.specs.Words.{is_counted}
+use Rattle.cept_run.specs.Words.{is_counted, is_painted}
 use Rattle.cept_run.specs.declared.words.Asked.{Asked}
 use Rattle.cept_run.specs.Events.{history, item_event, item_events, painted_at}
 use Rattle.cept_run.specs.Reporting.{counted_of}
@@ -44,7 +44,7 @@ counted-none asked = ap (λ (es : List Event). counted_of asked (length (paints 
 
 -- at a command that is applied
 pub counted-command : (asked : Asked) (items : List Item) (i : Item) (command : Command)
-    → asked.painting ≡ true → i.what ≡ said.Command command
+    → is_painted asked.way ≡ true → i.what ≡ said.Command command
     → counted_of asked (painted_at asked (items ++ i ∷ []))
     ≡ counted_of asked (painted_at asked items) + counted_of asked (length (changes (history asked items) command))
 counted-command asked items i command painting is =
@@ -65,6 +65,6 @@ pub counted-refused : (asked : Asked) (items : List Item) (i : Item) (reason : R
     → counted_of asked (painted_at asked (items ++ i ∷ [])) ≡ counted_of asked (painted_at asked items)
 counted-refused asked items i reason is = unchanged asked items i (refused_changes asked items i reason is)
 
-pub counted-idle : (asked : Asked) (items : List Item) (i : Item) → asked.painting ≡ false
+pub counted-idle : (asked : Asked) (items : List Item) (i : Item) → is_painted asked.way ≡ false
     → counted_of asked (painted_at asked (items ++ i ∷ [])) ≡ counted_of asked (painted_at asked items)
 counted-idle asked items i idle = unchanged asked items i (checked_changes asked items i idle)

@@ -19,6 +19,7 @@ use Rattle.cept_run.specs.Events.{history, item_events, script_events, edited_ev
 use Rattle.cept_run.specs.Events.{Sequel, Edits, Figures, nothing_more, sequel_events, remaining_after}
 use Rattle.cept_run.specs.Reporting.{Plan, sequel_if_any, sequel_of, ReporterState, painted_easel, easel_at, screen_of}
 use Rattle.cept_run.specs.Reporting.{HasReported, HasMadeLines, MakesLines, remaining_at_end, HasEdited, EditsOn, HasDrawn, Draws}
+use Rattle.cept_run.specs.Words.{is_painted}
 use Rattle.cept_run.proofs.EditedLines.{edited_events-none, kept_of-none}
 use Rattle.cept_run.proofs.ReportedItems.{screen_painted, editor_painted, drawing_painted, not_idle}
 use Rattle.cept_run.proofs.SilentEvents.{silent_drawing}
@@ -26,8 +27,8 @@ use Rattle.cept_run.proofs.SilentEvents.{silent_drawing}
 -- ---- what is asked for, by what commands are applied to
 
 module _ (plan : Plan) (h : List Command) where
-  nothing_asked : easels.Nothing ≡ easel_at plan h → plan.asked.painting ≡ false
-  nothing_asked e = by_flag plan.asked.painting e
+  nothing_asked : easels.Nothing ≡ easel_at plan h → is_painted plan.asked.way ≡ false
+  nothing_asked e = by_flag (is_painted plan.asked.way) e
     where
       by_flag : (b : Bool) → easels.Nothing ≡ cond b (painted_easel plan.sequel h) easels.Nothing → b ≡ false
       by_flag true f = absurd (not_idle plan.sequel h f)
@@ -37,7 +38,7 @@ module _ (plan : Plan) (h : List Command) where
   unasked e = ap (λ b. cond b (sequel_if_any plan.sequel) nothing_more) (nothing_asked e)
 
   alone : (screen : State) → easels.Screen screen ≡ easel_at plan h → sequel_of plan ≡ nothing_more
-  alone screen e = by_flag plan.asked.painting e
+  alone screen e = by_flag (is_painted plan.asked.way) e
     where
       by_flag : (b : Bool) → easels.Screen screen ≡ cond b (painted_easel plan.sequel h) easels.Nothing
           → cond b (sequel_if_any plan.sequel) nothing_more ≡ nothing_more
@@ -45,13 +46,13 @@ module _ (plan : Plan) (h : List Command) where
       by_flag false f = refl
 
   with_editor : (editor : EditorState) (lines : List EditLine) → easels.Editor editor lines ≡ easel_at plan h
-      → (plan.asked.painting ≡ true) × (sequel_of plan ≡ Edits lines)
+      → (is_painted plan.asked.way ≡ true) × (sequel_of plan ≡ Edits lines)
       × (editor ≡ record { screen = state h; past = []; future = [] })
-  with_editor editor lines e = by_flag plan.asked.painting refl e
+  with_editor editor lines e = by_flag (is_painted plan.asked.way) refl e
     where
-      by_flag : (b : Bool) → plan.asked.painting ≡ b
+      by_flag : (b : Bool) → is_painted plan.asked.way ≡ b
           → easels.Editor editor lines ≡ cond b (painted_easel plan.sequel h) easels.Nothing
-          → (plan.asked.painting ≡ true) × (sequel_of plan ≡ Edits lines)
+          → (is_painted plan.asked.way ≡ true) × (sequel_of plan ≡ Edits lines)
           × (editor ≡ record { screen = state h; past = []; future = [] })
       by_flag true is f =
           let there = editor_painted plan.sequel editor lines h f in
@@ -59,19 +60,19 @@ module _ (plan : Plan) (h : List Command) where
       by_flag false is f = cc
 
   with_drawing : (screen : State) (figures : List Figure) → easels.Drawing screen figures ≡ easel_at plan h
-      → (plan.asked.painting ≡ true) × (sequel_of plan ≡ Figures figures) × (screen ≡ state h)
-  with_drawing screen figures e = by_flag plan.asked.painting refl e
+      → (is_painted plan.asked.way ≡ true) × (sequel_of plan ≡ Figures figures) × (screen ≡ state h)
+  with_drawing screen figures e = by_flag (is_painted plan.asked.way) refl e
     where
-      by_flag : (b : Bool) → plan.asked.painting ≡ b
+      by_flag : (b : Bool) → is_painted plan.asked.way ≡ b
           → easels.Drawing screen figures ≡ cond b (painted_easel plan.sequel h) easels.Nothing
-          → (plan.asked.painting ≡ true) × (sequel_of plan ≡ Figures figures) × (screen ≡ state h)
+          → (is_painted plan.asked.way ≡ true) × (sequel_of plan ≡ Figures figures) × (screen ≡ state h)
       by_flag true is f =
           let there = drawing_painted plan.sequel screen figures h f in
           (is, ap (λ c. cond c (sequel_if_any plan.sequel) nothing_more) is ∙ ap sequel_if_any there.0, there.1)
       by_flag false is f = cc
 
-  screen_there : screen_of (easel_at plan h) ≡ cond plan.asked.painting (Some (state h)) None
-  screen_there = by_flag plan.asked.painting
+  screen_there : screen_of (easel_at plan h) ≡ cond (is_painted plan.asked.way) (Some (state h)) None
+  screen_there = by_flag (is_painted plan.asked.way)
     where
       on_painted : (sequel : Option Sequel) → screen_of (painted_easel sequel h) ≡ Some (state h)
       on_painted None = refl
@@ -95,7 +96,7 @@ unedited plan reporter reported start now none has =
       stands = record {
         asked_is = has.stands.asked_is;
         screen = ap screen_of has.stands.easel ∙ screen_there plan h
-            ∙ ap (λ (c : List Command). cond plan.asked.painting (Some (state c)) None) same;
+            ∙ ap (λ (c : List Command). cond (is_painted plan.asked.way) (Some (state c)) None) same;
         items = has.stands.items;
         refused = has.stands.refused;
         painted = has.stands.painted;
@@ -143,7 +144,7 @@ module _ (old : ReporterState) (editor new : EditorState) (lines : List EditLine
   abbrev page : List Command
   page = history plan.asked reported
 
-  abbrev there : (plan.asked.painting ≡ true) × (sequel_of plan ≡ Edits lines)
+  abbrev there : (is_painted plan.asked.way ≡ true) × (sequel_of plan ≡ Edits lines)
       × (editor ≡ record { screen = state page; past = []; future = [] })
   there = with_editor plan page editor lines (sym at ∙ has.stands.easel)
 

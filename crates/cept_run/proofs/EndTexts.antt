@@ -11,6 +11,7 @@ use Rattle.cept_run.specs.declared.words.Asked.{Asked}
 use Rattle.cept_run.specs.declared.words.End.{End}
 use Rattle.cept_run.specs.Events.{counts_text, painted_end, text_at_end, refused_count}
 use Rattle.cept_run.specs.Reporting.{Plan, ReporterState, StandsAtEnd, remaining_at_end, screen_of}
+use Rattle.cept_run.specs.Words.{is_painted}
 
 -- the end that is asked for is this one
 pub end_as : {X E : Type 0} (one other : End) (asked : Asked) (shown : List (List Look)) (page : List ℕ)
@@ -27,16 +28,16 @@ module _ (plan : Plan) (reporter : ReporterState) (page : List ℕ)
 
   -- there is a screen where commands are painted
   pub screen_is : (screen : State) → Some screen ≡ screen_of reporter.easel
-      → (plan.asked.painting ≡ true) × (screen ≡ state all)
-  screen_is screen is = by_flag plan.asked.painting refl (is ∙ stands.screen)
+      → (is_painted plan.asked.way ≡ true) × (screen ≡ state all)
+  screen_is screen is = by_flag (is_painted plan.asked.way) refl (is ∙ stands.screen)
     where
-      by_flag : (b : Bool) → plan.asked.painting ≡ b → Some screen ≡ cond b (Some (state all)) None
-          → (plan.asked.painting ≡ true) × (screen ≡ state all)
+      by_flag : (b : Bool) → is_painted plan.asked.way ≡ b → Some screen ≡ cond b (Some (state all)) None
+          → (is_painted plan.asked.way ≡ true) × (screen ≡ state all)
       by_flag true p e = (p, same_Some screen (state all) e)
       by_flag false p e = absurd (none-some screen (sym e))
 
-  pub no_screen : None ≡ screen_of reporter.easel → plan.asked.painting ≡ false
-  no_screen is = by_flag plan.asked.painting (is ∙ stands.screen)
+  pub no_screen : None ≡ screen_of reporter.easel → is_painted plan.asked.way ≡ false
+  no_screen is = by_flag (is_painted plan.asked.way) (is ∙ stands.screen)
     where
       by_flag : (b : Bool) → None ≡ cond b (Some (state all)) None → b ≡ false
       by_flag true e = absurd (none-some (state all) e)
@@ -44,20 +45,20 @@ module _ (plan : Plan) (reporter : ReporterState) (page : List ℕ)
 
   -- so the text at the end is one or the other
   pub painted_text : {X E : Type 0} (shown : List (List Look)) (s t : SinkState) (result : Result X E)
-      → plan.asked.painting ≡ true → PutsText s (painted_end plan.asked.end plan.asked shown page all) result t
+      → is_painted plan.asked.way ≡ true → PutsText s (painted_end plan.asked.end plan.asked shown page all) result t
       → PutsText s (text_at_end plan.asked shown page all) result t
   painted_text shown s t result is puts =
       subst (λ b. PutsText s (cond b (painted_end plan.asked.end plan.asked shown page all)
-      (counts_text plan.asked (length (closed_items page)) (refused_count (closed_items page)))) result t) (sym is) puts
+      (counts_text plan.asked.way (length (closed_items page)) (refused_count (closed_items page)))) result t) (sym is) puts
 
   pub counted_text : {X E : Type 0} (shown : List (List Look)) (s t : SinkState) (result : Result X E)
-      → plan.asked.painting ≡ false
-      → PutsText s (counts_text reporter.asked reporter.items reporter.refused) result t
+      → is_painted plan.asked.way ≡ false
+      → PutsText s (counts_text reporter.asked.way reporter.items reporter.refused) result t
       → PutsText s (text_at_end plan.asked shown page all) result t
   counted_text shown s t result is puts =
       subst (λ b. PutsText s (cond b (painted_end plan.asked.end plan.asked shown page all)
-      (counts_text plan.asked (length (closed_items page)) (refused_count (closed_items page)))) result t) (sym is)
-      (subst (λ (a : Asked). PutsText s (counts_text a (length (closed_items page)) (refused_count (closed_items page)))
+      (counts_text plan.asked.way (length (closed_items page)) (refused_count (closed_items page)))) result t) (sym is)
+      (subst (λ (a : Asked). PutsText s (counts_text a.way (length (closed_items page)) (refused_count (closed_items page)))
       result t) stands.asked_is
-      (subst (λ n. PutsText s (counts_text reporter.asked n (refused_count (closed_items page))) result t) stands.items
-      (subst (λ n. PutsText s (counts_text reporter.asked reporter.items n) result t) stands.refused puts)))
+      (subst (λ n. PutsText s (counts_text reporter.asked.way n (refused_count (closed_items page))) result t) stands.items
+      (subst (λ n. PutsText s (counts_text reporter.asked.way reporter.items n) result t) stands.refused puts)))

@@ -32,7 +32,8 @@ use Rattle.cept_run.specs.Page.{PageUnput, PageStops, PutsEnd, KeepsShelf}
 use Rattle.cept_run.specs.Reporting.{Plan, sequel_if_any, sequel_of, remaining_at_end}
 use Rattle.cept_run.specs.Run.{Restores, EndsWhole, IsReportCut, HasStopper, Ends}
 use Rattle.cept_run.specs.Run.{RunsCourse, status_of, status_at_end}
-use Rattle.cept_run.specs.ScriptReading.{ScriptKnown}
+use Rattle.cept_run.specs.inside.ScriptReading.{ScriptKnown}
+use Rattle.cept_run.specs.Words.{is_painted}
 use Rattle.cept_run.proofs.EditedLines.{edited_events-none}
 use Rattle.cept_run.proofs.EventsOfItems.{item_events-append, events_after}
 use Rattle.cept_run.proofs.PagesInPieces.{KeepsFiles-more, nil_from_length}
@@ -150,7 +151,7 @@ module _ (plan : Plan) (grammar : Grammar) (name : List ℕ) (script : Source) (
     among_names chosen (inr is) = inr (inl is)
 
     runs_course : (status : Status) → Ends course before after status
-        → (asked.painting ≡ false → after.glass ≡ before.glass)
+        → (is_painted asked.way ≡ false → after.glass ≡ before.glass)
         → EndsPut status before.sink after.sink → before.sink.faults ≤ after.sink.faults
         → RunsCourse course before after status
     runs_course status ends idle puts later = record {
@@ -344,11 +345,11 @@ module _ (plan : Plan) (grammar : Grammar) (name : List ℕ) (script : Source) (
       page_is : HasBytes before.shelf (File name) bytes
       page_is given gives = read given (left_of_given given gives)
 
-      unscripted : asked.painting ≡ false → sequel_of plan ≡ nothing_more
+      unscripted : is_painted asked.way ≡ false → sequel_of plan ≡ nothing_more
       unscripted idle = ap (λ b. cond b (sequel_if_any plan.sequel) nothing_more) idle
 
       -- without painting nothing is changed
-      still_edited : asked.painting ≡ false → AreStill (edited asked grammar bytes told)
+      still_edited : is_painted asked.way ≡ false → AreStill (edited asked grammar bytes told)
       still_edited idle =
           subst (λ (s : Sequel). AreStill (edited_events asked (closed_items bytes) s)) lines_are
           (subst (λ (s : Sequel). AreStill (edited_events asked (closed_items bytes) s)) (sym (unscripted idle))
@@ -389,7 +390,7 @@ module _ (plan : Plan) (grammar : Grammar) (name : List ℕ) (script : Source) (
         abbrev end_put : List ℕ
         end_put = text_at_end asked after.glass.grid bytes (all asked grammar bytes told)
 
-        idle_run : asked.painting ≡ false → after.glass ≡ before.glass
+        idle_run : is_painted asked.way ≡ false → after.glass ≡ before.glass
         idle_run idle = made.painted.untouched (still_edited idle)
 
         whole_end : (refused : Bool) → refused ≡ has_refusal (closed_items bytes) → PutsWhole end_put sink after.sink

@@ -12,6 +12,7 @@ use Rattle.cept_parser.specs.Items.{commands_of, command_said, is_refusal}
 use Rattle.cept_run.specs.declared.words.Asked.{Asked}
 use Rattle.cept_editor.specs.Events.{Event}
 use Rattle.cept_run.specs.Events.{history, item_event, item_events, refused_count}
+use Rattle.cept_run.specs.Words.{is_painted}
 
 -- ---- items that come after others
 
@@ -87,15 +88,15 @@ commands_of-more (j ∷ is) i = ap (λ t. command_said j.what ++ t) (commands_of
 
 -- nothing was applied before the first item
 pub history-none : (asked : Asked) → history asked [] ≡ []
-history-none asked = nothing asked.painting
+history-none asked = nothing (is_painted asked.way)
   where
     nothing : (b : Bool) → cond b (commands_of []) [] ≡ []
     nothing true = refl
     nothing false = refl
 
 history-more : (asked : Asked) (items : List Item) (i : Item)
-    → history asked (items ++ i ∷ []) ≡ history asked items ++ cond asked.painting (command_said i.what) []
-history-more asked items i = by_flag asked.painting
+    → history asked (items ++ i ∷ []) ≡ history asked items ++ cond (is_painted asked.way) (command_said i.what) []
+history-more asked items i = by_flag (is_painted asked.way)
   where
     by_flag : (b : Bool) → cond b (commands_of (items ++ i ∷ [])) []
         ≡ cond b (commands_of items) [] ++ cond b (command_said i.what) []
@@ -104,7 +105,7 @@ history-more asked items i = by_flag asked.painting
 
 -- a command is applied
 pub history-command : (asked : Asked) (items : List Item) (i : Item) (command : Command)
-    → asked.painting ≡ true → i.what ≡ said.Command command
+    → is_painted asked.way ≡ true → i.what ≡ said.Command command
     → history asked (items ++ i ∷ []) ≡ history asked items ++ command ∷ []
 history-command asked items i command painting is =
     history-more asked items i
@@ -116,14 +117,14 @@ pub history-refused : (asked : Asked) (items : List Item) (i : Item) (reason : R
     → i.what ≡ said.Refused reason → history asked (items ++ i ∷ []) ≡ history asked items
 history-refused asked items i reason is =
     history-more asked items i
-    ∙ ap (λ s. history asked items ++ cond asked.painting (command_said s) []) is
-    ∙ nothing asked.painting
+    ∙ ap (λ s. history asked items ++ cond (is_painted asked.way) (command_said s) []) is
+    ∙ nothing (is_painted asked.way)
   where
     nothing : (b : Bool) → history asked items ++ cond b [] [] ≡ history asked items
     nothing true = append-nil _
     nothing false = append-nil _
 
 -- without painting nothing is applied
-pub history-idle : (asked : Asked) (items : List Item) → asked.painting ≡ false
+pub history-idle : (asked : Asked) (items : List Item) → is_painted asked.way ≡ false
     → history asked items ≡ []
 history-idle asked items idle = ap (λ b. cond b (commands_of items) []) idle

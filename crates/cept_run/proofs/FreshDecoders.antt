@@ -15,7 +15,7 @@ use Rattle.cept_run.specs.declared.words.ScriptAction.TheVariants as scripts
 use Rattle.cept_run.specs.Events.{Sequel, Edits, Figures, nothing_more}
 use Rattle.cept_run.specs.Reporting.{Plan, sequel_if_any, sequel_of, ReporterState, painted_easel, easel_at, sequel_at, plan_in}
 use Rattle.cept_run.specs.Reporting.{DecoderState, HasRead, HasBlink}
-use Rattle.cept_run.specs.Words.{asked_of_page, asked_of_script}
+use Rattle.cept_run.specs.Words.{asked_of_page, asked_of_script, is_painted}
 
 -- without a script
 abbrev pub alone : Asked → Plan
@@ -34,14 +34,14 @@ plan_is r asked sequel p q = λ i. record { asked = p i; sequel = q i }
 pub plan_alone : (r : ReporterState) (asked : Asked) (easel : Easel) → r.asked ≡ asked → r.easel ≡ easel
     → easel ≡ easel_at (alone asked) [] → plan_in r ≡ alone asked
 plan_alone r asked easel same at is =
-    plan_is r asked None same (ap sequel_at (at ∙ is) ∙ by_flag asked.painting)
+    plan_is r asked None same (ap sequel_at (at ∙ is) ∙ by_flag (is_painted asked.way))
   where
     by_flag : (b : Bool) → sequel_at (cond b (painted_easel None []) easels.Nothing) ≡ None
     by_flag true = refl
     by_flag false = refl
 
 pub nothing_alone : (asked : Asked) → sequel_of (alone asked) ≡ nothing_more
-nothing_alone asked = by_flag asked.painting
+nothing_alone asked = by_flag (is_painted asked.way)
   where
     by_flag : (b : Bool) → cond b (sequel_if_any None) nothing_more ≡ nothing_more
     by_flag true = refl
@@ -58,7 +58,7 @@ page_blink pages.Write = tt
 
 -- ---- a page and a script
 
-pub script_paints : (action : ScriptAction) → (asked_of_script action).painting ≡ true
+pub script_paints : (action : ScriptAction) → is_painted (asked_of_script action).way ≡ true
 script_paints scripts.Trace = refl
 script_paints scripts.Edit = refl
 
@@ -67,7 +67,7 @@ pub script_blink : (action : ScriptAction) → HasBlink (asked_of_script action)
 script_blink scripts.Trace = tt
 script_blink scripts.Edit = tt
 
-pub easel_edited : (asked : Asked) (editor : EditorState) (lines : List EditLine) → asked.painting ≡ true
+pub easel_edited : (asked : Asked) (editor : EditorState) (lines : List EditLine) → is_painted asked.way ≡ true
     → editor ≡ record { screen = state []; past = []; future = [] }
     → easels.Editor editor lines ≡ easel_at (followed asked (Edits lines)) []
 easel_edited asked editor lines painting is =
@@ -76,7 +76,7 @@ easel_edited asked editor lines painting is =
 
 -- ---- a page and a drawing
 
-pub easel_drawn : (asked : Asked) (screen : State) (figures : List Figure) → asked.painting ≡ true → screen ≡ state []
+pub easel_drawn : (asked : Asked) (screen : State) (figures : List Figure) → is_painted asked.way ≡ true → screen ≡ state []
     → easels.Drawing screen figures ≡ easel_at (followed asked (Figures figures)) []
 easel_drawn asked screen figures painting is =
     ap (λ (s : State). easels.Drawing s figures) is
@@ -88,7 +88,7 @@ pub plan_followed : (r : ReporterState) (asked : Asked) (easel : Easel) (sequel 
     → r.easel ≡ easel → sequel_at easel ≡ Some sequel → plan_in r ≡ followed asked sequel
 plan_followed r asked easel sequel same at is = plan_is r asked (Some sequel) same (ap sequel_at at ∙ is)
 
-pub sequel_followed : (asked : Asked) (sequel : Sequel) → asked.painting ≡ true
+pub sequel_followed : (asked : Asked) (sequel : Sequel) → is_painted asked.way ≡ true
     → sequel_of (followed asked sequel) ≡ sequel
 sequel_followed asked sequel painting = ap (λ b. cond b sequel nothing_more) painting
 

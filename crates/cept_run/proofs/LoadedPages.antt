@@ -28,6 +28,7 @@ use Rattle.cept_run.specs.Outside.{Outside, output, PutsWhole, PutsUnflushed, Pu
 use Rattle.cept_run.specs.Page.{PutsEnd}
 use Rattle.cept_run.specs.Reporting.{Plan, sequel_of, remaining_at_end}
 use Rattle.cept_run.specs.Run.{Restores, EndsWhole, IsReportCut, Ends, RunsCourse, status_at_end}
+use Rattle.cept_run.specs.Words.{is_painted}
 use Rattle.cept_run.proofs.EditedLines.{edited_events-none}
 use Rattle.cept_run.proofs.PaintedItems.{chained-one, each_shown, still_idle}
 use Rattle.cept_run.proofs.ReportedRuns.{put_cut, all, edited, the_end, the_run, whole_report, cut_at_end}
@@ -142,7 +143,7 @@ module _ (plan : Plan) (page : List ℕ) (before after : Outside) (shelf : after
   shown_run = the_run asked Scripts page [] after.glass.grid
 
   runs_loaded : (status : Status) → Ends loaded before after status
-      → (asked.painting ≡ false → after.glass ≡ before.glass)
+      → (is_painted asked.way ≡ false → after.glass ≡ before.glass)
       → EndsPut status before.sink after.sink → before.sink.faults ≤ after.sink.faults
       → RunsCourse loaded before after status
   runs_loaded status ends idle puts later = record {
@@ -223,7 +224,7 @@ module _ (plan : Plan) (page : List ℕ) (before after : Outside) (shelf : after
     made = subst (λ (s : Sequel). AreMade (edited_events asked (closed_items page) s) (output before)
         (output_of sink after.glass)) no_lines made_all
 
-    idle_run : asked.painting ≡ false → after.glass ≡ before.glass
+    idle_run : is_painted asked.way ≡ false → after.glass ≡ before.glass
     idle_run idle = made_all.painted.untouched
         (subst AreStill (sym edited_is) (still_idle asked (closed_items page) idle))
 

@@ -12,6 +12,7 @@ use Rattle.cept_profile.specs.Changes.{changes_between, changes, grid_with_paint
 use Rattle.cept_profile.specs.Look.{grid}
 use Rattle.cept_run.specs.declared.words.Asked.{Asked}
 use Rattle.cept_run.specs.Events.{history, item_event, item_events}
+use Rattle.cept_run.specs.Words.{is_painted}
 use Rattle.cept_run.proofs.EventsOfItems.{events_after, item_events-after, history-none, history-command}
 use Rattle.cept_run.proofs.EventsOfItems.{history-refused, history-idle}
 
@@ -88,7 +89,7 @@ blank_painted asked items =
     chained_shown [] (history asked items) (item_events asked items) (item_events-chained asked items)
 
 -- without painting nothing is changed
-still_after : (asked : Asked) (earlier items : List Item) → asked.painting ≡ false
+still_after : (asked : Asked) (earlier items : List Item) → is_painted asked.way ≡ false
     → AreStill (events_after asked earlier items)
 unfolding events_after
 still_after asked earlier [] idle = tt
@@ -97,14 +98,14 @@ still_after asked earlier (i ∷ is) idle = (
   still_after asked (earlier ++ i ∷ []) is idle,
 )
 
-pub still_idle : (asked : Asked) (items : List Item) → asked.painting ≡ false → AreStill (item_events asked items)
+pub still_idle : (asked : Asked) (items : List Item) → is_painted asked.way ≡ false → AreStill (item_events asked items)
 still_idle asked items idle =
     subst AreStill (sym (item_events-after asked items)) (still_after asked [] items idle)
 
 -- ---- what one item changes
 
 pub applied_changes : (asked : Asked) (items : List Item) (i : Item) (command : Command)
-    → asked.painting ≡ true → i.what ≡ said.Command command
+    → is_painted asked.way ≡ true → i.what ≡ said.Command command
     → event_changes (item_event asked items i) ≡ changes (history asked items) command
 applied_changes asked items i command painting is =
     ap (λ h. changes_between (grid (history asked items)) (grid h)) (history-command asked items i command painting is)
@@ -119,7 +120,7 @@ pub refused_changes : (asked : Asked) (items : List Item) (i : Item) (reason : R
     → i.what ≡ said.Refused reason → event_changes (item_event asked items i) ≡ []
 refused_changes asked items i reason is = unchanged asked items i (history-refused asked items i reason is)
 
-pub checked_changes : (asked : Asked) (items : List Item) (i : Item) → asked.painting ≡ false
+pub checked_changes : (asked : Asked) (items : List Item) (i : Item) → is_painted asked.way ≡ false
     → event_changes (item_event asked items i) ≡ []
 checked_changes asked items i idle =
     unchanged asked items i (history-idle asked (items ++ i ∷ []) idle ∙ sym (history-idle asked items idle))

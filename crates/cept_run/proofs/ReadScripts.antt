@@ -15,8 +15,10 @@ use Rattle.cept_run.specs.declared.page.Stop.TheVariants as stops
 use Rattle.cept_run.specs.Course.{Grammar, first_fault_in, sequel_in}
 use Rattle.cept_run.specs.Events.{Sequel}
 use Rattle.cept_run.specs.Page.{KeepsShelf}
-use Rattle.cept_run.specs.ScriptReading.{TakenWhole, TakingStops, FileWhole, FileStops, ScriptBad, Refuses, StopsAt}
-use Rattle.cept_run.specs.ScriptReading.{ScriptStops, ScriptEnds, SelectsScript, as_script_fault}
+use Rattle.cept_run.specs.ScriptReading.{ScriptBad}
+use Rattle.cept_run.specs.inside.ScriptReading.{TakenWhole, TakingStops, FileWhole, FileStops, Refuses, StopsAt}
+use Rattle.cept_run.specs.ScriptReading.{ScriptStops, ScriptEnds, SelectsScript}
+use Rattle.cept_run.specs.inside.ScriptReading.{as_script_fault}
 use Rattle.cept_run.specs.Run.{fault_text}
 use Rattle.cept_run.proofs.PagesInPieces.{KeepsFiles-more}
 use Rattle.cept_run.proofs.Selections.{selected_is, given_left}

@@ -23,7 +23,7 @@ use Rattle.cept_profile.specs.Valid.{AllValid}
 use Rattle.cept_repaint.specs.Applied.{IsApplied}
 use Rattle.cept_repaint.specs.GlassState.{GlassState, Lists}
 use Rattle.cept_listing.specs.Listing.{item_line}
-use Rattle.cept_report.specs.Text.{change_lines}
+use Rattle.cept_report.specs.Text.{change_lines, refusal_line}
 use Rattle.cept_editor.specs.Events.{Event, paints}
 use Rattle.cept_editor.specs.Kept.{EditorState}
 use Rattle.cept_editor.specs.Script.{EditLine}
@@ -34,16 +34,21 @@ use Rattle.cept_editor.proofs.Laws.{AreCutOff-longer}
 use Rattle.cept_run.specs.declared.easel.Easel.{Easel}
 use Rattle.cept_run.specs.declared.easel.Easel.TheVariants as easels
 use Rattle.cept_run.specs.declared.words.Asked.{Asked}
-use Rattle.cept_run.specs.Events.{history, event_between, text_of_said, item_event, item_events, refused_count}
-use Rattle.cept_run.specs.Events.{painted_at, Sequel, Edits, Figures}
+use Rattle.cept_run.specs.Events.{history, event_between, listed_text, text_of_said, item_event, item_events, refused_count}
+use Rattle.cept_run.specs.Events.{named_text, painted_at, Sequel, Edits, Figures}
 use Rattle.cept_parser.specs.Items.{items, closed_items, reading_within, is_refusal}
 use Rattle.cept_parser.specs.State.{Leads}
 use Rattle.cept_run.specs.Reporting.{DecoderState, HasRead, ReadsOn, ReadsToEnd}
-use Rattle.cept_run.specs.Reporting.{Plan, ReporterState, painted_easel, easel_at, screen_of, sequel_at, Stands, HasReported, Applies}
+use Rattle.cept_run.specs.Reporting.{Plan, ReporterState, painted_easel, easel_at, screen_of, sequel_at, Stands}
+use Rattle.cept_run.specs.Reporting.{HasReported}
+use Rattle.cept_run.specs.inside.Reporting.{Applies}
 use Rattle.cept_run.specs.Reporting.{AppliesOn, IsAppliedAfter}
-use Rattle.cept_run.specs.Reporting.{ReportsOn, command_event, item_text, refusal_text, counted_of}
+use Rattle.cept_run.specs.Reporting.{ReportsOn, counted_of}
+use Rattle.cept_run.specs.inside.Reporting.{IsListedAlone, command_event, is_quiet, refusal_text}
 use Rattle.cept_run.proofs.EventsOfItems.{history-none, history-command, history-refused, history-idle, item_events-more}
-use Rattle.cept_run.specs.Words.{is_counted}
+use Rattle.cept_run.specs.declared.words.Way.{Way}
+use Rattle.cept_run.specs.declared.words.Way.TheVariants as ways
+use Rattle.cept_run.specs.Words.{is_counted, is_painted, lists_changes}
 use Rattle.cept_run.proofs.MarkedCount.{changes_counted}
 use Rattle.cept_run.proofs.CountedPlaces.{counted-none, counted-command, counted-refused, counted-idle}
 use Rattle.cept_run.proofs.EventsOfItems.{item_events-none, item_events-append, events_after, refused_count-more}
@@ -116,12 +121,27 @@ reports_on old new i before after (Err f) counted stands made = record {
 -- ---- where commands are painted, and where they aren't
 
 -- without painting nothing is applied
-idle_easel : (plan : Plan) (h : List Command) → plan.asked.painting ≡ false → easel_at plan h ≡ easels.Nothing
+idle_easel : (plan : Plan) (h : List Command) → is_painted plan.asked.way ≡ false → easel_at plan h ≡ easels.Nothing
 idle_easel plan h p = ap (λ b. cond b (painted_easel plan.sequel h) easels.Nothing) p
 
-painted_at_plan : (plan : Plan) (h : List Command) → plan.asked.painting ≡ true
+painted_at_plan : (plan : Plan) (h : List Command) → is_painted plan.asked.way ≡ true
     → easel_at plan h ≡ painted_easel plan.sequel h
 painted_at_plan plan h p = ap (λ b. cond b (painted_easel plan.sequel h) easels.Nothing) p
+
+-- what is listed of an item, where commands are painted and where they aren't
+painted_lines : (way : Way) (i : Item) (xs : List (Place × Look)) → is_painted way ≡ true
+    → listed_text way i xs ≡ cond (lists_changes way) (change_lines i.at xs) []
+painted_lines ways.Count i xs p = cc
+painted_lines ways.List i xs p = cc
+painted_lines ways.Paint i xs p = refl
+painted_lines ways.PaintAndList i xs p = refl
+
+unpainted_lines : (way : Way) (i : Item) (xs : List (Place × Look)) → is_painted way ≡ false
+    → listed_text way i [] ≡ listed_text way i xs
+unpainted_lines ways.Count i xs p = refl
+unpainted_lines ways.List i xs p = refl
+unpainted_lines ways.Paint i xs p = cc
+unpainted_lines ways.PaintAndList i xs p = cc
 
 -- ---- a command more
 
@@ -145,10 +165,10 @@ refused_as items i what is =
 
 module _ {X E : Type 0} (old new : ReporterState) (i : Item) (command : Command) (before after : Output)
     (result : Result X E) (is : i.what ≡ said.Command command) (valid : IsValidCommand command)
-    (paints : old.asked.painting ≡ true)
-    (applies : Applies (counted_one old) i.at command before result new after) where
-  plan_paints : (plan : Plan) (earlier : List Item) → Stands plan old earlier → plan.asked.painting ≡ true
-  plan_paints plan earlier stands = ap (λ (a : Asked). a.painting) (sym stands.asked_is) ∙ paints
+    (paints : is_painted old.asked.way ≡ true)
+    (applies : Applies (counted_one old) i command before result new after) where
+  plan_paints : (plan : Plan) (earlier : List Item) → Stands plan old earlier → is_painted plan.asked.way ≡ true
+  plan_paints plan earlier stands = ap (λ (a : Asked). is_painted a.way) (sym stands.asked_is) ∙ paints
 
   painted_before : (plan : Plan) (earlier : List Item) (stands : Stands plan old earlier)
       → old.easel ≡ painted_easel plan.sequel (history plan.asked earlier)
@@ -189,11 +209,8 @@ module _ {X E : Type 0} (old new : ReporterState) (i : Item) (command : Command)
         after = h ++ command ∷ [];
         text = text_of_said plan.asked i s (changes_between (grid h) (grid (h ++ command ∷ [])));
       }) is
-      ∙ ap (λ b. record {
-        before = h;
-        after = h ++ command ∷ [];
-        text = cond plan.asked.listed (cond b (change_lines i.at (changes h command)) (item_line i)) [];
-      }) p in
+      ∙ ap (λ (t : List ℕ). record { before = h; after = h ++ command ∷ []; text = t })
+      (painted_lines plan.asked.way i (changes h command) p) in
       subst (λ (e : Event). IsMade e before result after) (sym event)
       (subst (λ (a : Asked). IsMade (command_event a i.at h command) before result after) stands.asked_is
       (applies.made plan.sequel h stands.valid paints (painted_before plan earlier stands)))
@@ -204,10 +221,10 @@ module _ {X E : Type 0} (old new : ReporterState) (i : Item) (command : Command)
 -- ---- a command more that isn't applied
 
 module _ {X E : Type 0} (old : ReporterState) (i : Item) (command : Command) (sink now : SinkState) (glass : GlassState)
-    (result : Result X E) (is : i.what ≡ said.Command command) (idle : old.asked.painting ≡ false)
-    (puts : PutsText sink (item_text old.asked i) result now) where
-  plan_idle : (plan : Plan) (earlier : List Item) → Stands plan old earlier → plan.asked.painting ≡ false
-  plan_idle plan earlier stands = ap (λ (a : Asked). a.painting) (sym stands.asked_is) ∙ idle
+    (result : Result X E) (is : i.what ≡ said.Command command) (idle : is_painted old.asked.way ≡ false)
+    (puts : PutsText sink (listed_text old.asked.way i []) result now) where
+  plan_idle : (plan : Plan) (earlier : List Item) → Stands plan old earlier → is_painted plan.asked.way ≡ false
+  plan_idle plan earlier stands = ap (λ (a : Asked). is_painted a.way) (sym stands.asked_is) ∙ idle
 
   listed_stands : (plan : Plan) (earlier : List Item) → Stands plan old earlier
       → Stands plan (counted_one old) (earlier ++ i ∷ [])
@@ -230,10 +247,9 @@ module _ {X E : Type 0} (old : ReporterState) (i : Item) (command : Command) (si
       let p = plan_idle plan earlier stands in
       let before = history plan.asked earlier in
       let after = history plan.asked (earlier ++ i ∷ []) in
-      let text : item_text old.asked i ≡ (item_event plan.asked earlier i).text =
-      ap (λ (a : Asked). item_text a i) stands.asked_is
-      ∙ ap (λ b. cond plan.asked.listed (cond b (change_lines i.at (changes_between (grid before) (grid after)))
-      (item_line i)) []) (sym p)
+      let text : listed_text old.asked.way i [] ≡ (item_event plan.asked earlier i).text =
+      ap (λ (a : Asked). listed_text a.way i []) stands.asked_is
+      ∙ unpainted_lines plan.asked.way i (changes_between (grid before) (grid after)) p
       ∙ ap (λ w. text_of_said plan.asked i w (changes_between (grid before) (grid after))) (sym is) in
       record {
         puts = subst (λ (t : List ℕ). PutsText sink t result now) text puts;
@@ -244,6 +260,83 @@ module _ {X E : Type 0} (old : ReporterState) (i : Item) (command : Command) (si
   pub listed_more : ReportsOn old (i ∷ []) (output_of sink glass) result (counted_one old) (output_of now glass)
   listed_more = reports_on old (counted_one old) i (output_of sink glass) (output_of now glass) result (omega arith)
       listed_stands listed_made
+
+-- nothing was put
+pub PutsText-nothing : {X E : Type 0} {x : X} (s : SinkState) → PutsText {E = E} s [] (Ok x) s
+PutsText-nothing s = record {
+  whole = Gains-nil s;
+  part = tt;
+  cause = record { later = omega arith; failed = tt; stays = refl };
+}
+
+-- the same of a command that is counted alone
+quiet_lines : (way : Way) (i : Item) → is_quiet way ≡ true → (is_painted way ≡ false) × ([] ≡ listed_text way i [])
+quiet_lines ways.Count i q = (refl, refl)
+quiet_lines ways.List i q = cc
+quiet_lines ways.Paint i q = cc
+quiet_lines ways.PaintAndList i q = cc
+
+pub quiet_more : {X E : Type 0} (old : ReporterState) (i : Item) (command : Command) (sink : SinkState) (glass : GlassState)
+    (x : X) → i.what ≡ said.Command command → is_quiet old.asked.way ≡ true
+    → ReportsOn {E = E} old (i ∷ []) (output_of sink glass) (Ok x) (counted_one old) (output_of sink glass)
+quiet_more {X} {E} old i command sink glass x is quiet =
+    let none = quiet_lines old.asked.way i quiet in
+    listed_more old i command sink sink glass (Ok x) is none.0
+    (subst (λ (t : List ℕ). PutsText {E = E} sink t (Ok x) sink) none.1 (PutsText-nothing sink))
+
+-- there a refusal has a line of its own
+quiet_name : (way : Way) (i : Item) (reason : Reason) → is_quiet way ≡ true
+    → refusal_line i.at i.len reason ≡ named_text way i reason
+quiet_name ways.Count i reason q = refl
+quiet_name ways.List i reason q = cc
+quiet_name ways.Paint i reason q = cc
+quiet_name ways.PaintAndList i reason q = cc
+
+pub quiet_refusal : {X E : Type 0} (asked : Asked) (i : Item) (reason : Reason) (sink now : SinkState) (result : Result X E)
+    → is_quiet asked.way ≡ true
+    → PutsText sink (cond asked.refusals (refusal_line i.at i.len reason) []) result now
+    → PutsText sink (refusal_text asked i reason) result now
+quiet_refusal asked i reason sink now result quiet =
+    subst (λ (t : List ℕ). PutsText sink (cond asked.refusals t []) result now) (quiet_name asked.way i reason quiet)
+
+-- and of one that isn't
+loud_lines : (way : Way) (i : Item) → is_quiet way ≡ false → is_painted way ≡ false → item_line i ≡ listed_text way i []
+loud_lines ways.Count i q p = cc
+loud_lines ways.List i q p = refl
+loud_lines ways.Paint i q p = cc
+loud_lines ways.PaintAndList i q p = cc
+
+pub loud_more : {X E : Type 0} (old new : ReporterState) (i : Item) (command : Command) (sink now : SinkState)
+    (glass shown : GlassState) (result : Result X E) → i.what ≡ said.Command command → IsValidCommand command
+    → is_quiet old.asked.way ≡ false
+    → Applies (counted_one old) i command (output_of sink glass) result new (output_of now shown)
+    → ReportsOn old (i ∷ []) (output_of sink glass) result new (output_of now shown)
+loud_more old new i command sink now glass shown result is valid loud applies = by_flag (is_painted old.asked.way) refl
+  where
+    listed : is_painted old.asked.way ≡ false → (plan : Plan) (earlier : List Item) → Stands plan old earlier
+        → IsListedAlone (counted_one old) i (output_of sink glass) result new (output_of now shown)
+    listed idle plan earlier stands =
+        applies.listed (stands.easel ∙ idle_easel plan (history plan.asked earlier)
+        (ap (λ (a : Asked). is_painted a.way) (sym stands.asked_is) ∙ idle))
+
+    text : is_painted old.asked.way ≡ false → PutsText sink (item_line i) result now
+        → PutsText sink (listed_text old.asked.way i []) result now
+    text idle puts = subst (λ (t : List ℕ). PutsText sink t result now) (loud_lines old.asked.way i loud idle) puts
+
+    by_flag : (b : Bool) → is_painted old.asked.way ≡ b
+        → ReportsOn old (i ∷ []) (output_of sink glass) result new (output_of now shown)
+    by_flag true p =
+        command_more old new i command (output_of sink glass) (output_of now shown) result is valid p applies
+    by_flag false p =
+        reports_on old new i (output_of sink glass) (output_of now shown) result (omega (arith, applies.items))
+        (λ plan earlier stands.
+        let l = listed p plan earlier stands in
+        subst (λ (r : ReporterState). Stands plan r (earlier ++ i ∷ [])) (sym l.stays)
+        (listed_stands old i command sink now glass result is p (text p l.puts) plan earlier stands))
+        (λ plan earlier stands.
+        let l = listed p plan earlier stands in
+        subst (λ (s : GlassState). IsMade (item_event plan.asked earlier i) (output_of sink glass) result (output_of now s))
+        (sym l.unpainted) (listed_made old i command sink now glass result is p (text p l.puts) plan earlier stands))
 
 -- ---- a refusal more
 
@@ -405,13 +498,13 @@ with_easel old easel painted = record {
   painted = painted;
 }
 
-module _ (old : ReporterState) (easel : Easel) (place : ℕ) (command : Command) (marks : List Bool)
+module _ (old : ReporterState) (easel : Easel) (item : Item) (command : Command) (marks : List Bool)
     (sink : SinkState) (glass shown : GlassState)
     (applies : AppliesOn old.easel command glass easel marks shown) where
   -- there is a screen
   module _ {X E : Type 0} (screen : State) (now : SinkState) (result : Result X E) (count : ℕ)
       (at : screen_of easel ≡ Some screen)
-      (puts : PutsText sink (cond old.asked.listed (change_lines place (marked_looks marks (looks_of (core_of screen)))) [])
+      (puts : PutsText sink (cond (lists_changes old.asked.way) (change_lines item.at (marked_looks marks (looks_of (core_of screen)))) [])
       result now)
       (count_is : count ≡ cond (is_counted old.asked.end) (count_by (λ b. b) marks) 0) (few : count ≤ 960) where
     -- the screen is that after the command
@@ -430,13 +523,13 @@ module _ (old : ReporterState) (easel : Easel) (place : ℕ) (command : Command)
         listed_are = ap (λ m. marked_looks m (looks_of (core_of screen))) is.marked
             ∙ ap (λ (s : State). marked_looks (differences (grid h) (grid (h ++ command ∷ []))) (looks_of (core_of s))) screen_is
 
-        event_made : IsMade (command_event old.asked place h command) (output_of sink glass) result (output_of now shown)
+        event_made : IsMade (command_event old.asked item.at h command) (output_of sink glass) result (output_of now shown)
         event_made =
-            let painted : changes h command ≡ paints (command_event old.asked place h command ∷ []) =
-            sym (paints-one (command_event old.asked place h command)) in
+            let painted : changes h command ≡ paints (command_event old.asked item.at h command ∷ []) =
+            sym (paints-one (command_event old.asked item.at h command)) in
             record {
               puts = subst (λ (t : List ℕ). PutsText sink t result now)
-                  (ap (λ (xs : List (Place × Look)). cond old.asked.listed (change_lines place xs) []) listed_are) puts;
+                  (ap (λ (xs : List (Place × Look)). cond (lists_changes old.asked.way) (change_lines item.at xs) []) listed_are) puts;
               painted = record {
                 listed = subst (λ (xs : List (Place × Look)). Lists glass.paints xs shown.paints) painted is.told;
                 over = is.shown ∙ ap (grid_with_paints glass.grid) painted;
@@ -449,7 +542,7 @@ module _ (old : ReporterState) (easel : Easel) (place : ℕ) (command : Command)
             ∙ ap (λ m. cond (is_counted old.asked.end) (count_by (λ b. b) m) 0) is.marked
             ∙ ap (λ n. cond (is_counted old.asked.end) n 0) (changes_counted (grid h) (grid (h ++ command ∷ []))))
 
-    pub applied_painted : Applies old place command (output_of sink glass) result
+    pub applied_painted : Applies old item command (output_of sink glass) result
         (with_easel old easel (old.painted + count)) (output_of now shown)
     applied_painted = record {
       asked = refl;
@@ -459,13 +552,14 @@ module _ (old : ReporterState) (easel : Easel) (place : ℕ) (command : Command)
       made = λ sequel h valid painting e. event_made sequel h (applies.painted sequel h valid e);
       painted = λ sequel h valid painting e. counted sequel h (applies.painted sequel h valid e);
       few = omega (arith, few);
+      listed = λ none. absurd (none-some screen (sym (ap screen_of (applies.idle none).0) ∙ at));
     }
 
   -- there is none
-  pub applied_idle : {X E : Type 0} (x : X) → screen_of easel ≡ None
-      → Applies {E = E} old place command (output_of sink glass) (Ok x) (with_easel old easel old.painted)
-      (output_of sink shown)
-  applied_idle x none = record {
+  pub applied_idle : {X E : Type 0} (now : SinkState) (result : Result X E) → screen_of easel ≡ None
+      → PutsText sink (item_line item) result now
+      → Applies old item command (output_of sink glass) result (with_easel old easel old.painted) (output_of now shown)
+  applied_idle now result none puts = record {
     asked = refl;
     items = refl;
     refused = refl;
@@ -473,6 +567,11 @@ module _ (old : ReporterState) (easel : Easel) (place : ℕ) (command : Command)
     made = λ sequel h valid painting e. absurd (with_screen sequel h (applies.painted sequel h valid e));
     painted = λ sequel h valid painting e. absurd (with_screen sequel h (applies.painted sequel h valid e));
     few = omega arith;
+    listed = λ idle. record {
+      puts = puts;
+      unpainted = (applies.idle idle).1;
+      stays = ap (λ (e : Easel). with_easel old e old.painted) ((applies.idle idle).0 ∙ sym idle);
+    };
   }
     where
       with_screen : (sequel : Option Sequel) (h : List Command)
@@ -481,14 +580,6 @@ module _ (old : ReporterState) (easel : Easel) (place : ℕ) (command : Command)
       with_screen (Some (Edits lines)) h is = none-some (state (h ++ command ∷ [])) (sym none ∙ ap screen_of is.easel_is)
       with_screen (Some (Figures figures)) h is =
           none-some (state (h ++ command ∷ [])) (sym none ∙ ap screen_of is.easel_is)
-
--- nothing was put
-pub PutsText-nothing : {X E : Type 0} {x : X} (s : SinkState) → PutsText {E = E} s [] (Ok x) s
-PutsText-nothing s = record {
-  whole = Gains-nil s;
-  part = tt;
-  cause = record { later = omega arith; failed = tt; stays = refl };
-}
 
 -- ---- lists that are gone through
 

@@ -23,6 +23,9 @@ use Rattle.cept_run.specs.Course.{Source, Grammar, sequel_in, is_page, puts_page
 use Rattle.cept_run.specs.declared.words.End.{End}
 use Rattle.cept_run.specs.declared.words.End.TheVariants as ends
 use Rattle.cept_run.specs.Run.{Restores, ReportsWhole}
+use Rattle.cept_run.specs.declared.words.Way.{Way}
+use Rattle.cept_run.specs.declared.words.Way.TheVariants as ways
+use Rattle.cept_run.specs.Words.{is_painted, lists_changes}
 use Rattle.std.proofs.lemmas.Bool.{and_parts}
 use Rattle.cept_run.proofs.EditedLines.{edited_events-chained}
 use Rattle.cept_run.proofs.FrontsPut.{either_front}
@@ -39,9 +42,8 @@ put_cut events before after off = record { part = report off.done ++ take off.si
 
 -- nothing is put but the page
 pub record PutsPage (asked : Asked) : Type 0 where
-  pub painting : asked.painting ≡ true
+  pub way : asked.way ≡ ways.Paint
   pub end : is_page asked.end ≡ true
-  pub listed : asked.listed ≡ false
   pub refusals : asked.refusals ≡ false
   pub edits_listed : asked.edits_listed ≡ false
 
@@ -50,16 +52,21 @@ unset : (b : Bool) → not b ≡ true → b ≡ false
 unset true e = cc
 unset false e = refl
 
+painted_alone : (way : Way) → is_painted way ≡ true → lists_changes way ≡ false → way ≡ ways.Paint
+painted_alone ways.Count p l = cc
+painted_alone ways.List p l = cc
+painted_alone ways.Paint p l = refl
+painted_alone ways.PaintAndList p l = cc
+
 puts_page_by : (asked : Asked) → puts_page asked ≡ true → PutsPage asked
 puts_page_by asked is =
     let four = and_parts _ (not asked.edits_listed) is in
     let three = and_parts _ (not asked.refusals) four.0 in
-    let two = and_parts _ (not asked.listed) three.0 in
-    let one = and_parts asked.painting (is_page asked.end) two.0 in
+    let two = and_parts _ (not (lists_changes asked.way)) three.0 in
+    let one = and_parts (is_painted asked.way) (is_page asked.end) two.0 in
     record {
-      painting = one.0;
+      way = painted_alone asked.way one.0 (unset (lists_changes asked.way) two.1);
       end = one.1;
-      listed = unset asked.listed two.1;
       refusals = unset asked.refusals three.1;
       edits_listed = unset asked.edits_listed four.1;
     }
@@ -77,8 +84,8 @@ page_end (ends.Phases turns) asked shown page commands e = cc
 written_text : (asked : Asked) (shown : List (List Look)) (page : List ℕ) (commands : List Command)
     → PutsPage asked → text_at_end asked shown page commands ≡ page_text (core commands)
 written_text asked shown page commands puts =
-    ap (λ b. cond b (painted_end asked.end asked shown page commands)
-    (counts_text asked (length (closed_items page)) (refused_count (closed_items page)))) puts.painting
+    ap (λ (w : Way). cond (is_painted w) (painted_end asked.end asked shown page commands)
+    (counts_text w (length (closed_items page)) (refused_count (closed_items page)))) puts.way
     ∙ page_end asked.end asked shown page commands puts.end
 
 -- ---- a page, and what a script or a drawing says is done after it
@@ -126,7 +133,7 @@ module _ (asked : Asked) (grammar : Grammar) (bytes script : List ℕ) where
     whole_text writes =
         report-append edited (last ∷ [])
         ∙ ap (λ t. t ++ report (last ∷ []))
-        (silent_edits asked (closed_items bytes) sequel writes.listed writes.refusals writes.edits_listed)
+        (silent_edits asked (closed_items bytes) sequel writes.way writes.refusals writes.edits_listed)
         ∙ report-one last ∙ written_text asked after.glass.grid bytes all writes
 
     whole_is : report (the_run after.glass.grid) ≡ report edited ++ report (last ∷ [])

@@ -16,6 +16,8 @@ use Rattle.cept_plot.specs.declared.figure.Figure.{Figure}
 use Rattle.cept_editor.proofs.Laws.{report-append, report-one, report-none}
 use Rattle.cept_run.specs.declared.words.Asked.{Asked}
 use Rattle.cept_run.specs.Events.{listed_text, named_text}
+use Rattle.cept_run.specs.declared.words.Way.{Way}
+use Rattle.cept_run.specs.declared.words.Way.TheVariants as ways
 use Rattle.cept_run.specs.Events.{history, text_of_said, item_event, item_events, events_of_line}
 use Rattle.cept_run.specs.Events.{edited_events, kept_of, Sequel, Edits, Figures, drawing_commands, sequel_events}
 use Rattle.cept_run.proofs.EventsOfItems.{events_after, item_events-after}
@@ -30,12 +32,12 @@ silent_more : (xs ys : List Event) → report xs ≡ [] → report ys ≡ [] →
 silent_more xs ys first second = report-append xs ys ∙ ap (λ t. t ++ report ys) first ∙ second
 
 -- neither changes nor refusals are listed
-silent_said : (asked : Asked) (item : Item) (what : Said) (xs : List (Place × Look)) → asked.listed ≡ false
+silent_said : (asked : Asked) (item : Item) (what : Said) (xs : List (Place × Look)) → asked.way ≡ ways.Paint
     → asked.refusals ≡ false → text_of_said asked item what xs ≡ []
-silent_said asked item (said.Command command) xs c r = ap (λ b. cond b (listed_text asked item xs) []) c
-silent_said asked item (said.Refused reason) xs c r = ap (λ b. cond b (named_text asked item reason) []) r
+silent_said asked item (said.Command command) xs c r = ap (λ (w : Way). listed_text w item xs) c
+silent_said asked item (said.Refused reason) xs c r = ap (λ b. cond b (named_text asked.way item reason) []) r
 
-silent_items_after : (asked : Asked) (earlier items : List Item) → asked.listed ≡ false
+silent_items_after : (asked : Asked) (earlier items : List Item) → asked.way ≡ ways.Paint
     → asked.refusals ≡ false → report (events_after asked earlier items) ≡ []
 unfolding events_after
 silent_items_after asked earlier [] c r = report-none
@@ -90,7 +92,7 @@ silent_sequel listed page (Edits lines) t =
 silent_sequel listed page (Figures figures) t = silent_drawing listed page figures
 
 -- nothing is listed and named, so that nothing is put before the end
-pub silent_edits : (asked : Asked) (items : List Item) (sequel : Sequel) → asked.listed ≡ false
+pub silent_edits : (asked : Asked) (items : List Item) (sequel : Sequel) → asked.way ≡ ways.Paint
     → asked.refusals ≡ false → asked.edits_listed ≡ false → report (edited_events asked items sequel) ≡ []
 silent_edits asked items sequel c r t =
     silent_more (item_events asked items) (sequel_events asked.edits_listed (history asked items) sequel)

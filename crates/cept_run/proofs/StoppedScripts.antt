@@ -21,7 +21,9 @@ use Rattle.cept_run.specs.Events.{Sequel, Edits, nothing_more}
 use Rattle.cept_run.specs.Outside.{Outside, outside_of}
 use Rattle.cept_run.specs.Run.{fault_text, HasBadLine, PutsAtMost, Ends, RunsCourse}
 use Rattle.cept_run.specs.Run.{status_of}
-use Rattle.cept_run.specs.ScriptReading.{ScriptBad, ScriptWhole, ScriptStops, SelectsScript, ScriptKnown}
+use Rattle.cept_run.specs.ScriptReading.{ScriptBad, ScriptWhole, ScriptStops, SelectsScript}
+use Rattle.cept_run.specs.inside.ScriptReading.{ScriptKnown}
+use Rattle.cept_run.specs.Words.{is_painted}
 use Rattle.cept_run.proofs.ReportedFronts.{reports_nothing}
 use Rattle.cept_run.proofs.Selections.{put_either, EndsPut, put_unless, room_kept}
 
@@ -85,7 +87,7 @@ selected_so_long name shelf sound long chosen is (inl none) =
 selected_so_long name shelf sound long chosen is (inr some) = some
 
 module _ (asked : Asked) (grammar : Grammar) (page name : List ℕ) (before : Outside) (shelf : ShelfState)
-    (sink : SinkState) (painting : asked.painting ≡ true) (differs : name ≢ page)
+    (sink : SinkState) (painting : is_painted asked.way ≡ true) (differs : name ≢ page)
     (selects : SelectsScript name before.shelf shelf) where
   abbrev course : Course
   course = reporting asked grammar (File page) (File name)

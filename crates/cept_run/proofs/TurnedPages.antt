@@ -29,7 +29,7 @@ use Rattle.cept_run.specs.Page.{KeepsShelf}
 use Rattle.cept_run.specs.Run.{EndsWhole, IsReportCut, IsUnreadable, IsEndOpen, Ends, ReportsFront, RunsCourse}
 use Rattle.cept_run.specs.Run.{status_at_end}
 use Rattle.cept_run.specs.Turned.{turned, turned_front, readable_front, can_end_there}
-use Rattle.cept_run.specs.Turning.{TurnsWhole, TurnsPart, TurnsCut, TurnsNot, PageTurned}
+use Rattle.cept_run.specs.inside.Turning.{TurnsWhole, TurnsPart, TurnsCut, TurnsNot, PageTurned}
 use Rattle.cept_run.proofs.PagesInPieces.{KeepsFiles-more, nil_from_length}
 use Rattle.cept_run.proofs.PaintedItems.{chained-one, each_shown}
 use Rattle.cept_run.proofs.FrontsPut.{cut_front, either_front}

@@ -14,7 +14,7 @@ use Rattle.cept_outside.specs.ShelfState.{ShelfState}
 use Rattle.cept_run.specs.declared.turning.Path.{Path}
 use Rattle.cept_run.specs.declared.words.BytesAction.{BytesAction}
 use Rattle.cept_run.specs.Turned.{turned_front, readable_front}
-use Rattle.cept_run.specs.Turning.{Turns, IsAfter, HasTurned, TurnsPart, PieceTurned, EndTurned, PageTurned}
+use Rattle.cept_run.specs.inside.Turning.{Turns, IsAfter, HasTurned, TurnsPart, PieceTurned, EndTurned, PageTurned}
 use Rattle.cept_run.specs.declared.page.Stop.{Stop}
 use Rattle.cept_run.specs.declared.page.Stop.TheVariants as stops
 use Rattle.std.proofs.Math.Seq.{take-append-add}

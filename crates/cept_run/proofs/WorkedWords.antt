@@ -7,7 +7,8 @@ use Rattle.cept_run.specs.declared.words.PageAction.TheVariants.{Cells, Changes,
 use Rattle.cept_run.specs.declared.words.ScriptAction.TheVariants.{Edit, Trace}
 use Rattle.cept_run.specs.Words.{Bytes, Drawing, Flash, Number, Page, Request, Script, request_of}
 use Rattle.cept_run.specs.Words.{asked_of_page, asked_of_phases, asked_of_script, asked_to_draw, asked_to_load}
-use Rattle.cept_run.specs.Words.{is_counted, lists_items, number_of}
+use Rattle.cept_run.specs.declared.words.Way.TheVariants as ways
+use Rattle.cept_run.specs.Words.{is_counted, is_painted, lists_changes, number_of}
 
 -- ---- words
 
@@ -101,32 +102,35 @@ turns = refl
 -- of a page: the changed cells and the refused items; the refused items and counts, or all items, and nothing is
 -- painted; the screen; its cells; the page
 of_pages : map asked_of_page (Changes ∷ Check ∷ ListItems ∷ Show ∷ Cells ∷ Write ∷ []) ≡
-    record { painting = true; listed = true; refusals = true; edits_listed = false; end = ends.Nothing }
-    ∷ record { painting = false; listed = false; refusals = true; edits_listed = false; end = ends.Nothing }
-    ∷ record { painting = false; listed = true; refusals = true; edits_listed = false; end = ends.Nothing }
-    ∷ record { painting = true; listed = false; refusals = false; edits_listed = false; end = ends.Screen }
-    ∷ record { painting = true; listed = false; refusals = false; edits_listed = false; end = ends.Cells }
-    ∷ record { painting = true; listed = false; refusals = false; edits_listed = false; end = ends.Page } ∷ []
+    record { way = ways.PaintAndList; refusals = true; edits_listed = false; end = ends.Nothing }
+    ∷ record { way = ways.Count; refusals = true; edits_listed = false; end = ends.Nothing }
+    ∷ record { way = ways.List; refusals = true; edits_listed = false; end = ends.Nothing }
+    ∷ record { way = ways.Paint; refusals = false; edits_listed = false; end = ends.Screen }
+    ∷ record { way = ways.Paint; refusals = false; edits_listed = false; end = ends.Cells }
+    ∷ record { way = ways.Paint; refusals = false; edits_listed = false; end = ends.Page } ∷ []
 of_pages = refl
 
 -- of a page and a script: the refused items and the changed cells of each edit; the page
 of_scripts : map asked_of_script (Trace ∷ Edit ∷ []) ≡
-    record { painting = true; listed = false; refusals = true; edits_listed = true; end = ends.Nothing }
-    ∷ record { painting = true; listed = false; refusals = false; edits_listed = false; end = ends.Page } ∷ []
+    record { way = ways.Paint; refusals = true; edits_listed = true; end = ends.Nothing }
+    ∷ record { way = ways.Paint; refusals = false; edits_listed = false; end = ends.Page } ∷ []
 of_scripts = refl
 
 -- of a generated page the counts, of a page through turns its phases, of a page with a drawing the page
 of_others : asked_to_load ∷ asked_of_phases 0 ∷ asked_of_phases 600 ∷ asked_to_draw ∷ [] ≡
-    record { painting = true; listed = false; refusals = false; edits_listed = false; end = ends.Counts }
-    ∷ record { painting = true; listed = false; refusals = false; edits_listed = false; end = ends.Phases 0 }
-    ∷ record { painting = true; listed = false; refusals = false; edits_listed = false; end = ends.Phases 600 }
-    ∷ record { painting = true; listed = false; refusals = false; edits_listed = false; end = ends.Page } ∷ []
+    record { way = ways.Paint; refusals = false; edits_listed = false; end = ends.Counts }
+    ∷ record { way = ways.Paint; refusals = false; edits_listed = false; end = ends.Phases 0 }
+    ∷ record { way = ways.Paint; refusals = false; edits_listed = false; end = ends.Phases 600 }
+    ∷ record { way = ways.Paint; refusals = false; edits_listed = false; end = ends.Page } ∷ []
 of_others = refl
 
--- items are listed of a page that isn't painted, where something is listed at all
-items_listed : map (λ action. lists_items (asked_of_page action)) (Changes ∷ Check ∷ ListItems ∷ Show ∷ Write ∷ [])
-    ≡ false ∷ false ∷ true ∷ false ∷ false ∷ []
-items_listed = refl
+-- commands are painted but where items are counted or listed, and what they change is listed under one way
+painted : map is_painted (ways.Count ∷ ways.List ∷ ways.Paint ∷ ways.PaintAndList ∷ []) ≡ false ∷ false ∷ true ∷ true ∷ []
+painted = refl
+
+changes_listed : map lists_changes (ways.Count ∷ ways.List ∷ ways.Paint ∷ ways.PaintAndList ∷ [])
+    ≡ false ∷ false ∷ false ∷ true ∷ []
+changes_listed = refl
 
 -- painted cells are counted for the counts alone
 counted : map is_counted (ends.Nothing ∷ ends.Screen ∷ ends.Cells ∷ ends.Page ∷ ends.Counts ∷ ends.Phases 1 ∷ [])

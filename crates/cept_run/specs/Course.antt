@@ -19,7 +19,7 @@ use Rattle.cept_run.specs.declared.words.NumberAction.TheVariants as numbers
 use Rattle.cept_run.specs.Events.{history, item_events, run_events, remaining_of, Sequel, Edits, Figures}
 use Rattle.cept_run.specs.Turned.{turned, turned_front, readable_front, can_end_there}
 use Rattle.cept_run.specs.Words.{Request, Page, Bytes, Script, Number, Flash, Drawing, asked_of_page, asked_of_script}
-use Rattle.cept_run.specs.Words.{asked_to_load, asked_of_phases, asked_to_draw}
+use Rattle.cept_run.specs.Words.{asked_to_load, asked_of_phases, asked_to_draw, is_painted, lists_changes}
 
 -- ---- what is read
 
@@ -98,7 +98,7 @@ is_page _ = false
 -- nothing is put but the page, at the end
 abbrev pub puts_page : Asked → Bool
 puts_page asked =
-    asked.painting && is_page asked.end && not asked.listed && not asked.refusals && not asked.edits_listed
+    is_painted asked.way && is_page asked.end && not (lists_changes asked.way) && not asked.refusals && not asked.edits_listed
 
 -- items are reported, and then what a script or a drawing says is done
 abbrev pub reporting : Asked → Grammar → Source → Source → Course
@@ -113,7 +113,7 @@ reporting asked grammar page script = record {
   readable_front = λ bytes. bytes;
   can_end = λ bytes. true;
   judged = true;
-  painting = asked.painting;
+  painting = is_painted asked.way;
   written = puts_page asked;
 }
 

@@ -31,26 +31,31 @@ use Rattle.cept_editor.specs.Stepping.{edit_events, line_events}
 use Rattle.cept_run.specs.declared.words.Asked.{Asked}
 use Rattle.cept_run.specs.declared.words.End.{End}
 use Rattle.cept_run.specs.declared.words.End.TheVariants as ends
-use Rattle.cept_run.specs.Words.{lists_items}
+use Rattle.cept_run.specs.declared.words.Way.{Way}
+use Rattle.cept_run.specs.declared.words.Way.TheVariants as ways
+use Rattle.cept_run.specs.Words.{is_painted}
 
 -- ---- items
 
 -- the commands that are applied of items
 abbrev pub history : Asked → List Item → List Command
-history asked items = if asked.painting then commands_of items else []
+history asked items = if is_painted asked.way then commands_of items else []
 
--- what is listed of a command that changes these places: where they are painted a line for each, else the item's own
-abbrev pub listed_text : Asked → Item → List (Place × Look) → List ℕ
-listed_text asked item changes = if asked.painting then change_lines item.at changes else item_line item
+-- what is listed of an item whose command changes these places: its own line, or a line for each place
+abbrev pub listed_text : Way → Item → List (Place × Look) → List ℕ
+listed_text ways.List item changes = item_line item
+listed_text ways.PaintAndList item changes = change_lines item.at changes
+listed_text _ item changes = []
 
 -- how a refused item is named: among others in a line like theirs, else in one of its own
-abbrev pub named_text : Asked → Item → Reason → List ℕ
-named_text asked item reason = if lists_items asked then item_line item else refusal_line item.at item.len reason
+abbrev pub named_text : Way → Item → Reason → List ℕ
+named_text ways.List item reason = item_line item
+named_text _ item reason = refusal_line item.at item.len reason
 
 -- what is put of an item that changes these places
 abbrev pub text_of_said : Asked → Item → Said → List (Place × Look) → List ℕ
-text_of_said asked item (said.Command command) changes = if asked.listed then listed_text asked item changes else []
-text_of_said asked item (said.Refused reason) changes = if asked.refusals then named_text asked item reason else []
+text_of_said asked item (said.Command command) changes = listed_text asked.way item changes
+text_of_said asked item (said.Refused reason) changes = if asked.refusals then named_text asked.way item reason else []
 
 -- an item that comes with these commands before it and these after it
 abbrev pub event_between : Asked → Item → List Command → List Command → Event
@@ -98,15 +103,17 @@ painted_end ends.Counts asked shown page commands =
     load_line (length page) (length (closed_items page)) (painted_at asked (closed_items page))
 painted_end (ends.Phases turns) asked shown page commands = phase_lines (grid commands) turns
 
--- what is put at the end of a page that wasn't painted: the counts of its items, where these weren't listed
-abbrev pub counts_text : Asked → ℕ → ℕ → List ℕ
-counts_text asked items refused = if asked.listed then [] else check_line items refused
+-- what is put at the end of a page that wasn't painted: how many items there are and how many are refused, where these
+-- are counted
+abbrev pub counts_text : Way → ℕ → ℕ → List ℕ
+counts_text ways.Count items refused = check_line items refused
+counts_text _ items refused = []
 
 -- what is put at the end of a page
 abbrev pub text_at_end : Asked → List (List Look) → List ℕ → List Command → List ℕ
 text_at_end asked shown page commands =
-    if asked.painting then painted_end asked.end asked shown page commands
-    else counts_text asked (length (closed_items page)) (refused_count (closed_items page))
+    if is_painted asked.way then painted_end asked.end asked shown page commands
+    else counts_text asked.way (length (closed_items page)) (refused_count (closed_items page))
 
 -- the end of a page, where these commands remain and the glass shows this grid: it changes nothing
 abbrev pub end_event : Asked → List (List Look) → List ℕ → List Command → Event

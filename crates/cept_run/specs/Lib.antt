@@ -6,5 +6,5 @@ pub mod Course
 pub mod Run
 pub mod Reporting
 pub mod Page
-pub mod Turning
 pub mod ScriptReading
+pub mod inside

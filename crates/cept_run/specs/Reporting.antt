@@ -1,10 +1,9 @@
 -- What stands while a page is reported, and from which items to which it goes on. This project's own. Private clauses
 -- alone cite this file.
-use Rattle.std.specs.Prelude.{◌≡◌, ℕ, ◌+◌, ◌≤◌, Bool, true, false, List, [], ◌∷◌, ◌++◌, length, Option, Some, None}
+use Rattle.std.specs.Prelude.{◌≡◌, ℕ, ◌+◌, ◌≤◌, Bool, false, List, [], ◌∷◌, ◌++◌, length, Option, Some, None}
 use Rattle.std.specs.Prelude.{if◌then◌else◌, Result, OnOk, OnErr, IsSome}
 use Rattle.cept_codes.specs.declared.command.Command.{Command}
 use Rattle.cept_codes.specs.declared.item.Item.{Item}
-use Rattle.cept_codes.specs.declared.item.Reason.{Reason}
 use Rattle.cept_flash.specs.Flashing.{FlashingGrid}
 use Rattle.cept_parser.specs.Items.{items, closed_items}
 use Rattle.cept_parser.specs.State.{ParserState, Leads}
@@ -13,11 +12,8 @@ use Rattle.cept_profile.specs.Look.{grid}
 use Rattle.cept_profile.specs.State.{State, state}
 use Rattle.cept_profile.specs.Valid.{AllValid}
 use Rattle.cept_repaint.specs.GlassState.{GlassState, Lists}
-use Rattle.cept_listing.specs.Listing.{item_line}
-use Rattle.cept_report.specs.Text.{change_lines}
-use Rattle.cept_editor.specs.Events.{Event}
 use Rattle.cept_editor.specs.Kept.{KeptEdits, none_kept, kept_after, EditorState, StandsAfter}
-use Rattle.cept_editor.specs.Made.{Output, ArePainted, IsMade, AreMade, AreCutOff}
+use Rattle.cept_editor.specs.Made.{Output, ArePainted, AreMade, AreCutOff}
 use Rattle.cept_editor.specs.Script.{EditLine}
 use Rattle.cept_editor.specs.Stepping.{line_events}
 use Rattle.cept_plot.specs.declared.figure.Figure.{Figure}
@@ -26,10 +22,11 @@ use Rattle.cept_run.specs.declared.easel.Easel.TheVariants as easels
 use Rattle.cept_run.specs.declared.words.Asked.{Asked}
 use Rattle.cept_run.specs.declared.words.End.{End}
 use Rattle.cept_run.specs.declared.words.End.TheVariants as ends
-use Rattle.cept_run.specs.Words.{is_counted}
-use Rattle.cept_run.specs.Events.{history, item_events, refused_count, painted_at, kept_of, script_events, edited_events}
-use Rattle.cept_run.specs.Events.{named_text}
-use Rattle.cept_run.specs.Events.{Sequel, Edits, Figures, nothing_more, drawing_commands, sequel_events, remaining_after}
+use Rattle.cept_run.specs.Words.{is_counted, is_painted}
+use Rattle.cept_run.specs.Events.{history, item_events, refused_count, painted_at, kept_of, script_events}
+use Rattle.cept_run.specs.Events.{edited_events}
+use Rattle.cept_run.specs.Events.{Sequel, Edits, Figures, nothing_more, drawing_commands, sequel_events}
+use Rattle.cept_run.specs.Events.{remaining_after}
 
 -- ---- the reporter of items
 
@@ -50,7 +47,7 @@ sequel_if_any (Some sequel) = sequel
 
 -- what is done after it: where nothing is painted, nothing
 abbrev pub sequel_of : Plan → Sequel
-sequel_of plan = if plan.asked.painting then sequel_if_any plan.sequel else nothing_more
+sequel_of plan = if is_painted plan.asked.way then sequel_if_any plan.sequel else nothing_more
 
 -- what is asked for, what commands are applied to, how many items there were and were refused, and how many places were
 -- painted, where these are counted
@@ -71,7 +68,7 @@ painted_easel (Some (Figures figures)) commands = easels.Drawing (state commands
 
 -- what commands are applied to, after these
 abbrev pub easel_at : Plan → List Command → Easel
-easel_at plan commands = if plan.asked.painting then painted_easel plan.sequel commands else easels.Nothing
+easel_at plan commands = if is_painted plan.asked.way then painted_easel plan.sequel commands else easels.Nothing
 
 -- the screen, where there is one
 abbrev pub screen_of : Easel → Option State
@@ -111,23 +108,6 @@ pub record HasReported (plan : Plan) (reporter : ReporterState) (reported : List
   pub made : AreMade (item_events plan.asked reported) start now
   pub stays : now.sink.faults ≡ start.sink.faults
 
--- what is put of refused bytes
-abbrev pub refusal_text : Asked → Item → Reason → List ℕ
-refusal_text asked item reason =
-    if asked.refusals then named_text asked item reason else []
-
--- what is put of an item whose command isn't applied
-abbrev pub item_text : Asked → Item → List ℕ
-item_text asked item = if asked.listed then item_line item else []
-
--- a command at this place, after these
-abbrev pub command_event : Asked → ℕ → List Command → Command → Event
-command_event asked place earlier command = record {
-  before = earlier;
-  after = earlier ++ command ∷ [];
-  text = if asked.listed then change_lines place (changes earlier command) else [];
-}
-
 -- a command was applied after these, where they are painted
 pub record IsAppliedAfter (sequel : Option Sequel) (earlier : List Command) (command : Command) (before : GlassState)
     (easel : Easel) (marks : List Bool) (after : GlassState) : Type 0 where
@@ -142,23 +122,6 @@ pub record AppliesOn (old : Easel) (command : Command) (before : GlassState) (ne
   pub painted : (sequel : Option Sequel) (earlier : List Command) → AllValid earlier
       → old ≡ painted_easel sequel earlier → IsAppliedAfter sequel earlier command before new marks after
   pub idle : old ≡ easels.Nothing → (new ≡ easels.Nothing) × (after ≡ before)
-
--- it applies a command: where commands are painted, the command's event is made; else nothing happens
-pub record Applies {X E : Type 0} (old : ReporterState) (place : ℕ) (command : Command) (before : Output)
-    (result : Result X E) (new : ReporterState) (after : Output) : Type 0 where
-  pub asked : new.asked ≡ old.asked
-  pub items : new.items ≡ old.items
-  pub refused : new.refused ≡ old.refused
-  pub easel : (sequel : Option Sequel) (earlier : List Command) → AllValid earlier
-      → old.asked.painting ≡ true → old.easel ≡ painted_easel sequel earlier
-      → new.easel ≡ painted_easel sequel (earlier ++ command ∷ [])
-  pub made : (sequel : Option Sequel) (earlier : List Command) → AllValid earlier
-      → old.asked.painting ≡ true → old.easel ≡ painted_easel sequel earlier
-      → IsMade (command_event old.asked place earlier command) before result after
-  pub painted : (sequel : Option Sequel) (earlier : List Command) → AllValid earlier
-      → old.asked.painting ≡ true → old.easel ≡ painted_easel sequel earlier
-      → new.painted ≡ old.painted + counted_of old.asked (length (changes earlier command))
-  pub few : new.painted ≤ old.painted + 960
 
 -- it goes on by these items: all are reported, or the sink failed at one
 pub record ReportsOn {X E : Type 0} (old : ReporterState) (more : List Item) (before : Output) (result : Result X E)
@@ -222,7 +185,7 @@ remaining_at_end plan reported = remaining_after (history plan.asked reported) (
 pub record StandsAtEnd (plan : Plan) (reporter : ReporterState) (reported : List Item) : Type 0 where
   pub asked_is : reporter.asked ≡ plan.asked
   pub screen : screen_of reporter.easel
-      ≡ (if plan.asked.painting then Some (state (remaining_at_end plan reported)) else None)
+      ≡ (if is_painted plan.asked.way then Some (state (remaining_at_end plan reported)) else None)
   pub items : reporter.items ≡ length reported
   pub refused : reporter.refused ≡ refused_count reported
   pub painted : reporter.painted ≡ counted_of plan.asked (painted_at plan.asked reported)

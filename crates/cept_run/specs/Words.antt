@@ -1,5 +1,5 @@
 -- The words of the program: which of them are a request, and what a request asks for. This project's own.
-use Rattle.std.specs.Prelude.{◌≢◌, ℕ, ◌^◌, Bool, true, false, not, ◌&&◌, List, [], ◌∷◌, Option, Some, None, codes}
+use Rattle.std.specs.Prelude.{◌≢◌, ℕ, ◌^◌, Bool, true, false, ◌&&◌, List, [], ◌∷◌, Option, Some, None, codes}
 use Rattle.std.specs.Prelude.{if◌then◌else◌, length, nat_lt, nat_le}
 use Rattle.std.specs.Char.{is_ascii_digit}
 use Rattle.std.specs.List.{list_all}
@@ -19,6 +19,8 @@ use Rattle.cept_run.specs.declared.words.Request.{Request as NamedRequest}
 use Rattle.cept_run.specs.declared.words.Request.TheVariants as named
 use Rattle.cept_run.specs.declared.words.ScriptAction.{ScriptAction}
 use Rattle.cept_run.specs.declared.words.ScriptAction.TheVariants as scripts
+use Rattle.cept_run.specs.declared.words.Way.{Way}
+use Rattle.cept_run.specs.declared.words.Way.TheVariants as ways
 use Rattle.cept_run.specs.declared.words.Word.{Word}
 use Rattle.cept_run.specs.declared.words.Word.TheVariants as words
 
@@ -43,12 +45,6 @@ request_by (named.Script action page script) = Script action page.now script.now
 request_by (named.Number action number) = Number action number
 request_by (named.Flash page turns) = Flash page.now turns
 request_by (named.Drawing page drawing) = Drawing page.now drawing.now
-
--- it reads items, and so takes a glass, which `check` leaves blank; the others put bytes alone
-abbrev pub takes_glass : Request → Bool
-takes_glass (Bytes action page) = false
-takes_glass (Number numbers.Generate number) = false
-takes_glass _ = true
 
 -- the table of the first words
 abbrev pub word_of : List ℕ → Option Word
@@ -140,8 +136,7 @@ HasTwoNames (Drawing page drawing) = drawing ≢ page
 -- a page that is painted, and of which nothing is put
 abbrev pub painted_alone : Asked
 painted_alone = record {
-  painting = true;
-  listed = false;
+  way = ways.Paint;
   refusals = false;
   edits_listed = false;
   end = ends.Nothing;
@@ -149,9 +144,9 @@ painted_alone = record {
 
 -- of a page
 abbrev pub asked_of_page : PageAction → Asked
-asked_of_page pages.Changes = record painted_alone { listed = true; refusals = true }
-asked_of_page pages.Check = record painted_alone { painting = false; refusals = true }
-asked_of_page pages.List = record painted_alone { painting = false; listed = true; refusals = true }
+asked_of_page pages.Changes = record painted_alone { way = ways.PaintAndList; refusals = true }
+asked_of_page pages.Check = record painted_alone { way = ways.Count; refusals = true }
+asked_of_page pages.List = record painted_alone { way = ways.List; refusals = true }
 asked_of_page pages.Show = record painted_alone { end = ends.Screen }
 asked_of_page pages.Cells = record painted_alone { end = ends.Cells }
 asked_of_page pages.Write = record painted_alone { end = ends.Page }
@@ -173,9 +168,16 @@ asked_to_draw = record painted_alone { end = ends.Page }
 abbrev pub asked_of_phases : ℕ → Asked
 asked_of_phases turns = record painted_alone { end = ends.Phases turns }
 
--- what is listed are the items themselves, where their changes aren't painted
-abbrev pub lists_items : Asked → Bool
-lists_items asked = asked.listed && not asked.painting
+-- commands are applied and painted
+abbrev pub is_painted : Way → Bool
+is_painted ways.Count = false
+is_painted ways.List = false
+is_painted _ = true
+
+-- and what each changes is listed
+abbrev pub lists_changes : Way → Bool
+lists_changes ways.PaintAndList = true
+lists_changes _ = false
 
 -- painted cells are counted where the count is put at the end
 abbrev pub is_counted : End → Bool

@@ -4,7 +4,9 @@ ghost use Rattle.std.specs.Prelude.{◌≡◌, [], IfOk, IsOk, None, false, if�
 ghost use Rattle.std.specs.Option.{option_map};
 ghost use Rattle.cept_codes.specs.Command.{IsValidCommand};
 ghost use Rattle.cept_run.specs.Reporting.{painted_easel, screen_of, AppliesOn};
+ghost use Rattle.cept_run.specs.Words.{is_painted};
 
+use crate::words::Way;
 use cept_codes::{Command, NoMemory};
 use cept_editor::{Editor, Script};
 use cept_outside::Steps;
@@ -28,12 +30,12 @@ pub enum Easel {
 
 impl Easel {
     /// A screen before the first command, where commands are painted. Else it takes no memory.
-    pub fn new(alloc: Global, painting: bool) -> Result<Easel, NoMemory>
+    pub fn new(alloc: Global, way: Way) -> Result<Easel, NoMemory>
         ensures start { IfOk result (λ easel. easel
-            ≡ (if painting then painted_easel None [] else Easel.Nothing)) }
-        ensures memory { painting ≡ false → IsOk result }
+            ≡ (if is_painted way then painted_easel None [] else Easel.Nothing)) }
+        ensures memory { is_painted way ≡ false → IsOk result }
     {
-        if painting {
+        if way.is_painted() {
             Ok(Easel::Screen(Screen::new(alloc)?))
         } else {
             Ok(Easel::Nothing)

@@ -24,7 +24,7 @@ ghost use Rattle.cept_run.specs.Events.{Sequel, Figures, history, item_event, it
 ghost use Rattle.cept_run.specs.Events.{remaining_after, run_events};
 ghost use Rattle.cept_run.specs.Outside.{Outside};
 ghost use Rattle.cept_run.specs.Run.{Runs, ReportsFront};
-ghost use Rattle.cept_run.specs.Words.{Request, request_of};
+ghost use Rattle.cept_run.specs.Words.{Request, is_painted, request_of};
 
 /// The events of some items and one more are those of the items and then that of the one, as it is
 /// after them. A command that is applied comes after the commands before it, and changes what it
@@ -35,13 +35,13 @@ pub fn each_item_after_those_before_it()
         → item_events asked (items ++ item ∷ [])
         ≡ item_events asked items ++ item_event asked items item ∷ [] }
     ensures applied { (asked : Asked) (items : List Item) (item : Item) (command : Command)
-        → asked.painting ≡ true → item.what ≡ said.Command command
+        → is_painted asked.way ≡ true → item.what ≡ said.Command command
         → event_changes (item_event asked items item)
         ≡ changes (history asked items) command }
     ensures refused { (asked : Asked) (items : List Item) (item : Item) (reason : Reason)
         → item.what ≡ said.Refused reason → event_changes (item_event asked items item) ≡ [] }
     ensures idle { (asked : Asked) (items : List Item) (item : Item)
-        → asked.painting ≡ false → event_changes (item_event asked items item) ≡ [] }
+        → is_painted asked.way ≡ false → event_changes (item_event asked items item) ≡ [] }
 {}
 
 /// A blank glass with the paints of items over it shows their meaning.

@@ -7,13 +7,15 @@ ghost use Rattle.std.specs.List.{AllByRecursion};
 ghost use Rattle.cept_codes.specs.Command.{IsValidCommand, IsValidItem, IsValidSaid};
 ghost use Rattle.cept_parser.specs.Items.{closed_items};
 ghost use Rattle.cept_outside.specs.SinkState.{PutsText};
+ghost use Rattle.cept_listing.specs.Listing.{item_line};
+ghost use Rattle.cept_report.specs.Text.{refusal_line};
 ghost use Rattle.cept_profile.specs.State.{state};
 ghost use Rattle.cept_run.specs.Events.{counts_text, painted_end, text_at_end};
 ghost use Rattle.cept_editor.specs.Made.{output_of};
 
 use crate::easel::Easel;
 use crate::edits::{draw, make_lines};
-use crate::words::{Asked, End};
+use crate::words::{Asked, End, Way};
 use cept_codes::{Command, Item, Reason, Said};
 use cept_flash::Blink;
 use cept_listing::put_item;
@@ -66,9 +68,23 @@ fn count_marked(counting: bool, marks: &Marks) -> u64
     if counting { u64::from(marks.len()) } else { 0 }
 }
 
+/// Puts the line of an item.
+// Apart, since the line is made on the stack, and its room would be the loop's.
+#[inline(never)]
+fn list_item<T: Sink>(item: &Item, sink: &mut T) -> Result<(), WriteFault>
+    requires { IsValidItem item.now }
+    ensures { PutsText (T.state sink.old) (item_line item.now) result (T.state sink.new) }
+{
+    put_item(sink, item)
+}
+
 impl Reporter {
-    ghost use Rattle.cept_run.specs.Reporting.{Plan, StandsAtEnd, Applies, ReportsOn, EditsOn};
-    ghost use Rattle.cept_run.specs.Reporting.{item_text, refusal_text, remaining_at_end, HasBlink};
+    ghost use Rattle.cept_run.specs.Reporting.{Plan, StandsAtEnd, ReportsOn, EditsOn};
+    ghost use Rattle.cept_run.specs.inside.Reporting.{Applies};
+    ghost use Rattle.cept_run.specs.Reporting.{remaining_at_end, HasBlink};
+    ghost use Rattle.cept_run.specs.inside.Reporting.{is_quiet, refusal_text};
+    ghost use Rattle.std.specs.Prelude.{true};
+    ghost use Rattle.cept_repaint.specs.GlassState.{GlassState};
 
     /// A reporter before the first item, of what is asked for, with what commands are applied to.
     pub fn new(asked: Asked, easel: Easel) -> Reporter
@@ -91,30 +107,37 @@ impl Reporter {
     }
 
     /// Applies a command of the page, paints what it changes, counts the painted places and puts
-    /// their lines, where that is asked for.
+    /// their lines, where that is asked for. Where there is no screen it puts the item's line.
     // In place, since most commands are attributes, which need little.
     #[inline(always)]
     fn apply<T: Sink, G: Glass, L: Ledger>(
         &mut self,
-        place: u64,
+        item: &Item,
         command: &Command,
         sink: &mut T,
         glass: &mut G,
         steps: &mut Steps<L>,
     ) -> Result<(), WriteFault>
+        requires item { IsValidItem item.now }
         requires valid { IsValidCommand command.now }
         requires few { self.old.items < 2 ^ 54 }
         requires counted { self.old.painted + 960 ≤ 960 * self.old.items }
-        ensures { Applies self.old place command.now
+        ensures { Applies self.old item.now command.now
             (output_of (T.state sink.old) (G.state glass.old)) result self.new
             (output_of (T.state sink.new) (G.state glass.new)) }
     {
         self.easel.apply(command, glass, &mut self.marks, steps);
         let Some(screen) = self.easel.screen() else {
-            return Ok(());
+            return list_item(item, sink);
         };
         self.painted += count_marked(self.asked.end.is_counted(), &self.marks);
-        put_changes_if(self.asked.listed, sink, place, &self.marks, screen)
+        put_changes_if(
+            self.asked.way.lists_changes(),
+            sink,
+            item.at,
+            &self.marks,
+            screen,
+        )
     }
 
     /// Names refused bytes, where that is asked for.
@@ -131,23 +154,30 @@ impl Reporter {
     {
         if !self.asked.refusals {
             Ok(())
-        } else if self.asked.lists_items() {
-            put_item(sink, item)
         } else {
-            put_refusal(sink, item.at, item.len, reason)
+            match self.asked.way {
+                Way::List => put_item(sink, item),
+                _ => put_refusal(sink, item.at, item.len, reason),
+            }
         }
     }
 
-    /// Puts the line of an item whose command isn't applied, where that is asked for.
-    // In place, since `check` asks for none.
-    #[inline(always)]
-    fn list_item<T: Sink>(&self, item: &Item, sink: &mut T) -> Result<(), WriteFault>
-        requires valid { IsValidItem item.now }
-        ensures { PutsText (T.state sink.old) (item_text self.now.asked item.now) result
+    /// Names refused bytes in a line of their own, where that is asked for.
+    // By values, since where items are counted alone nothing else asks where an item stands.
+    #[inline(never)]
+    fn name_alone<T: Sink>(
+        &self,
+        at: u64,
+        len: u8,
+        reason: Reason,
+        sink: &mut T,
+    ) -> Result<(), WriteFault>
+        ensures { PutsText (T.state sink.old)
+            (if self.now.asked.refusals then refusal_line at len reason else []) result
             (T.state sink.new) }
     {
-        if self.asked.listed {
-            put_item(sink, item)
+        if self.asked.refusals {
+            put_refusal(sink, at, len, reason)
         } else {
             Ok(())
         }
@@ -171,10 +201,10 @@ impl Reporter {
         self.items += 1;
         match &item.what {
             Said::Command(command) => {
-                if self.asked.painting {
-                    self.apply(item.at, command, sink, glass, steps)
+                if self.asked.way.is_quiet() {
+                    Ok(())
                 } else {
-                    self.list_item(item, sink)
+                    self.apply(item, command, sink, glass, steps)
                 }
             }
             Said::Refused(reason) => {
@@ -182,6 +212,40 @@ impl Reporter {
                 self.name_refusal(item, *reason, sink)
             }
         }
+    }
+
+    /// Counts an item, and names it where it is refused and that is asked for.
+    #[inline(always)]
+    fn count_item<T: Sink>(&mut self, item: &Item, sink: &mut T) -> Result<(), WriteFault>
+        requires quiet { is_quiet self.old.asked.way ≡ true }
+        requires few { self.old.items + 1 < 2 ^ 54 }
+        ensures reports { (glass : GlassState) → ReportsOn self.old (item.now ∷ [])
+            (output_of (T.state sink.old) glass) result self.new (output_of (T.state sink.new) glass) }
+        ensures asked { self.new.asked ≡ self.old.asked }
+    {
+        self.items += 1;
+        match &item.what {
+            Said::Command(_) => Ok(()),
+            Said::Refused(reason) => {
+                self.refused += 1;
+                self.name_alone(item.at, item.len, *reason, sink)
+            }
+        }
+    }
+
+    /// The same of items one after the other.
+    // A loop of its own, which asks once what is done with items, and hands none on.
+    #[inline(always)]
+    fn count_items<T: Sink>(&mut self, items: &[Item], sink: &mut T) -> Result<(), WriteFault>
+        requires quiet { is_quiet self.old.asked.way ≡ true }
+        requires few { self.old.items + length items.now < 2 ^ 54 }
+        ensures { (glass : GlassState) → ReportsOn self.old items.now
+            (output_of (T.state sink.old) glass) result self.new (output_of (T.state sink.new) glass) }
+    {
+        for item in items {
+            self.count_item(item, sink)?;
+        }
+        Ok(())
     }
 
     /// Reports items one after the other.
@@ -200,6 +264,9 @@ impl Reporter {
             (output_of (T.state sink.old) (G.state glass.old)) result self.new
             (output_of (T.state sink.new) (G.state glass.new)) }
     {
+        if self.asked.way.is_quiet() {
+            return self.count_items(items, sink);
+        }
         for item in items {
             self.report_item(item, sink, glass, steps)?;
         }
@@ -262,16 +329,15 @@ impl Reporter {
         }
     }
 
-    /// Puts how many items there were and were refused, where they weren't listed.
+    /// Puts how many items there were and were refused, where they were counted alone.
     fn put_counts<T: Sink>(&self, sink: &mut T) -> Result<(), WriteFault>
         ensures { PutsText (T.state sink.old)
-            (counts_text self.now.asked self.now.items self.now.refused) result
+            (counts_text self.now.asked.way self.now.items self.now.refused) result
             (T.state sink.new) }
     {
-        if self.asked.listed {
-            Ok(())
-        } else {
-            put_check(sink, self.items, self.refused)
+        match self.asked.way {
+            Way::Count => put_check(sink, self.items, self.refused),
+            _ => Ok(()),
         }
     }
 

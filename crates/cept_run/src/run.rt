@@ -1,4 +1,4 @@
-ghost use Rattle.std.specs.Prelude.{◌≡◌, ◌≢◌, ◌^◌, ◌<◌, ◌≤◌, [], List, None, Some, IfSome, true, ℕ};
+ghost use Rattle.std.specs.Prelude.{◌≡◌, ◌≢◌, ◌^◌, ◌<◌, ◌≤◌, [], List, None, Some, ℕ};
 ghost use Rattle.std.specs.Prelude.{map, string_bytes, length};
 ghost use Rattle.cept_editor.specs.Made.{Output};
 ghost use Rattle.cept_generator.specs.Generated.{generated};
@@ -7,7 +7,6 @@ ghost use Rattle.cept_outside.specs.QuietShelf.{quiet_shelf_state};
 ghost use Rattle.cept_outside.specs.QuietSink.{quiet_sink_state};
 ghost use Rattle.cept_outside.specs.ShelfState.{ShelfState};
 ghost use Rattle.cept_parser.specs.Items.{closed_items};
-ghost use Rattle.cept_repaint.specs.GlassState.{GlassState};
 ghost use Rattle.cept_run.specs.Course.{Source, File, Given, Grammar, Scripts, reporting};
 ghost use Rattle.cept_run.specs.Course.{course_of, sequel_in};
 ghost use Rattle.cept_run.specs.Events.{text_at_end, has_refusal, nothing_more};
@@ -17,8 +16,8 @@ ghost use Rattle.cept_run.specs.Reporting.{Plan, StandsAtEnd, HasRead, plan_in, 
 ghost use Rattle.cept_run.specs.Reporting.{HasBlink, remaining_at_end};
 ghost use Rattle.cept_run.specs.Run.{Runs, RunsCourse, Asks, IsShortScript};
 ghost use Rattle.cept_run.specs.Run.{status_number, status_of, status_at_end};
-ghost use Rattle.cept_run.specs.ScriptReading.{ScriptKnown};
-ghost use Rattle.cept_run.specs.Words.{Request as Asked, HasTwoNames, Page, Script as OfScript, takes_glass};
+ghost use Rattle.cept_run.specs.inside.ScriptReading.{ScriptKnown};
+ghost use Rattle.cept_run.specs.Words.{Request as Asked, HasTwoNames, Page, Script as OfScript};
 ghost use Rattle.cept_run.specs.Words.{Flash, Number, Drawing as OfDrawing, request_by, request_of};
 
 use crate::decoder::Decoder;
@@ -203,7 +202,7 @@ fn report_page<F: Shelf, T: Sink, G: Glass>(
         (status_at_end result) }
 {
     let asked = action.asked();
-    let easel = Easel::new(alloc, asked.painting)?;
+    let easel = Easel::new(alloc, asked.way)?;
     let mut decoder = Decoder::new(asked, easel);
     // No step is counted: the ledger is a blank one.
     let blank = Blank::new(1);
@@ -299,7 +298,7 @@ fn report_phases<F: Shelf, T: Sink, G: Glass>(
 {
     let mut blink = Some(Blink::new(alloc)?);
     let asked = asked_of_phases(turns);
-    let easel = Easel::new(alloc, asked.painting)?;
+    let easel = Easel::new(alloc, asked.way)?;
     let mut decoder = Decoder::new(asked, easel);
     // No step is counted: the ledger is a blank one.
     let blank = Blank::new(1);
@@ -358,7 +357,7 @@ fn load<T: Sink, G: Glass>(
         (outside_of shelf (T.state sink.old) (G.state glass.old))
         (outside_of shelf (T.state sink.new) (G.state glass.new)) (status_at_end result) }
 {
-    let easel = Easel::new(alloc, LOADED.painting)?;
+    let easel = Easel::new(alloc, LOADED.way)?;
     let mut decoder = Decoder::new(LOADED, easel);
     // No step is counted: the ledger is a blank one.
     let blank = Blank::new(1);
@@ -427,34 +426,6 @@ pub fn run_request<F: Shelf, T: Sink, G: Glass>(
         (outside_of (F.state shelf.new) (T.state sink.new) (G.state glass.new)) result }
 {
     Status::at_end(report_request(alloc, request, shelf, sink, glass))
-}
-
-/// Runs the program on a request that reads no items, which takes no glass: it does all that `run` does
-/// over whatever glass. Any other request it leaves, and answers nothing.
-pub fn run_without_glass<F: Shelf, T: Sink>(
-    request: Request<'_>,
-    shelf: &mut F,
-    sink: &mut T,
-) -> Option<Status>
-    ensures runs { IfSome result (λ status. (words : List (List ℕ)) (glass : GlassState)
-        → request_of words ≡ Some (request_by request.entry)
-        → Runs words (outside_of (F.state shelf.old) (T.state sink.old) glass)
-        (outside_of (F.state shelf.new) (T.state sink.new) glass) status) }
-    ensures left { result ≡ None → (takes_glass (request_by request.entry) ≡ true)
-        × (F.state shelf.new ≡ F.state shelf.old) × (T.state sink.new ≡ T.state sink.old) }
-{
-    // A law: a generated page is short.
-    generated_pages_are_short();
-    match request {
-        Request::Bytes(action, page) => {
-            Some(Status::at_end(put_bytes(action, page, shelf, sink)))
-        }
-        Request::Number(action, number) => match action {
-            NumberAction::Generate => Some(Status::at_end(put_generated(number, sink))),
-            NumberAction::Load => None,
-        },
-        _ => None,
-    }
 }
 
 /// Runs the program on its words, those after the program's name, over a shelf, a sink and a glass.

@@ -5,8 +5,10 @@ ghost use Rattle.cept_run.specs.Course.{Scripts, Drawings};
 ghost use Rattle.cept_run.specs.Events.{Edits, Figures};
 ghost use Rattle.cept_run.specs.Page.{KeepsShelf};
 ghost use Rattle.cept_report.specs.Text.{script_fault_line};
-ghost use Rattle.cept_run.specs.ScriptReading.{TakenWhole, TakingStops, Refuses, StopsAt, ScriptEnds};
-ghost use Rattle.cept_run.specs.ScriptReading.{FileWhole, FileStops, SelectsScript, as_script_fault};
+ghost use Rattle.cept_run.specs.ScriptReading.{ScriptEnds};
+ghost use Rattle.cept_run.specs.inside.ScriptReading.{TakenWhole, TakingStops, Refuses, StopsAt};
+ghost use Rattle.cept_run.specs.ScriptReading.{SelectsScript};
+ghost use Rattle.cept_run.specs.inside.ScriptReading.{FileWhole, FileStops, as_script_fault};
 
 use crate::page::Stop;
 use cept_codes::LineReason;

@@ -12,7 +12,7 @@ ghost use Rattle.cept_run.specs.Outside.{outside_of};
 ghost use Rattle.cept_run.specs.Page.{KeepsShelf};
 ghost use Rattle.cept_run.specs.Run.{RunsCourse, status_at_end};
 ghost use Rattle.cept_run.specs.Words.{Bytes};
-ghost use Rattle.cept_run.specs.Turning.{IsAfter, Turns, HasTurned, PieceTurned, EndTurned, PageTurned};
+ghost use Rattle.cept_run.specs.inside.Turning.{IsAfter, Turns, HasTurned, PieceTurned, EndTurned, PageTurned};
 ghost use Rattle.cept_run.specs.Turned.{turned, turned_front, can_end_there};
 ghost use Rattle.cept_run.specs.declared.words.BytesAction.TheVariants.{Seven as InSeven, Eight as InEight};
 

@@ -8,7 +8,8 @@ ghost use Rattle.cept_run.specs.Words.{asked_of_page, asked_of_phases, asked_of_
 ghost use Rattle.cept_run.specs.Words.{asked_to_draw, asked_to_load, flash_request, number_of};
 ghost use Rattle.cept_run.specs.Words.{drawing_request, turns_of};
 ghost use Rattle.cept_run.specs.Words.{bytes_request, is_counted, request_by, request_of, page_request};
-ghost use Rattle.cept_run.specs.Words.{lists_items, script_request};
+ghost use Rattle.cept_run.specs.inside.Reporting.{is_quiet};
+ghost use Rattle.cept_run.specs.Words.{is_painted, lists_changes, script_request};
 ghost use Rattle.cept_run.specs.Words.{number_request, word_of, HasTwoNames};
 
 /// What is asked for of a page.
@@ -84,14 +85,50 @@ impl End {
     }
 }
 
-/// What is done with a page on the way.
+/// What is done with the items of a page.
+#[derive(Clone, Copy, Debug, PartialEq, Eq)]
+pub enum Way {
+    /// They are counted, and the counts put at the end.
+    Count,
+    /// They are listed.
+    List,
+    /// Their commands are applied and painted.
+    Paint,
+    /// The same, and what each command changes is listed.
+    PaintAndList,
+}
+
+impl Way {
+    /// Whether commands are applied and painted.
+    #[inline(always)]
+    pub fn is_painted(self) -> bool
+        ensures { result ≡ is_painted self }
+    {
+        matches!(self, Way::Paint | Way::PaintAndList)
+    }
+
+    /// Whether commands are counted alone.
+    #[inline(always)]
+    pub(crate) fn is_quiet(self) -> bool
+        ensures { result ≡ is_quiet self }
+    {
+        matches!(self, Way::Count)
+    }
+
+    /// Whether what each command changes is listed.
+    #[inline(always)]
+    pub fn lists_changes(self) -> bool
+        ensures { result ≡ lists_changes self }
+    {
+        matches!(self, Way::PaintAndList)
+    }
+}
+
+/// What is done with a page.
 #[derive(Clone, Copy, Debug, PartialEq, Eq)]
 pub struct Asked {
-    /// Its commands are applied and painted. Else its items are listed, or they are counted and the
-    /// counts put at the end.
-    pub painting: bool,
-    /// What its commands change is listed, or where they aren't painted its items.
-    pub listed: bool,
+    /// What is done with its items.
+    pub way: Way,
     /// Its refused items are named.
     pub refusals: bool,
     /// The changes of each edit are listed.
@@ -102,22 +139,11 @@ pub struct Asked {
 
 /// A page that is painted, and of which something is put at the end alone.
 const PAINTED: Asked = Asked {
-    painting: true,
-    listed: false,
+    way: Way::Paint,
     refusals: false,
     edits_listed: false,
     end: End::Nothing,
 };
-
-impl Asked {
-    /// Whether its items are listed.
-    #[inline(always)]
-    pub fn lists_items(self) -> bool
-        ensures { result ≡ lists_items self }
-    {
-        self.listed && !self.painting
-    }
-}
 
 impl PageAction {
     /// What it asks for.
@@ -126,18 +152,17 @@ impl PageAction {
     {
         match self {
             PageAction::Changes => Asked {
-                listed: true,
+                way: Way::PaintAndList,
                 refusals: true,
                 ..PAINTED
             },
             PageAction::Check => Asked {
-                painting: false,
+                way: Way::Count,
                 refusals: true,
                 ..PAINTED
             },
             PageAction::List => Asked {
-                painting: false,
-                listed: true,
+                way: Way::List,
                 refusals: true,
                 ..PAINTED
             },
@@ -178,8 +203,7 @@ impl ScriptAction {
 
 /// What is asked for where a generated page is loaded.
 pub const LOADED: Asked = Asked {
-    painting: true,
-    listed: false,
+    way: Way::Paint,
     refusals: false,
     edits_listed: false,
     end: End::Counts,
@@ -187,8 +211,7 @@ pub const LOADED: Asked = Asked {
 
 /// What is asked for of a page and a drawing.
 pub const DRAWN: Asked = Asked {
-    painting: true,
-    listed: false,
+    way: Way::Paint,
     refusals: false,
     edits_listed: false,
     end: End::Page,

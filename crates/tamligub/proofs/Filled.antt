@@ -1,8 +1,8 @@
--- A run over a shelf of two files and a slice, as a call.
+-- A run over a shelf of two files and a slice, as a call, and what is no run.
 use Rattle.std.proofs.Common.{◌≡◌, inl, inr, ℕ, ◌<◌, Bool, true, false, cond, List, [], ◌∷◌, ◌++◌, Some, None, codes}
 use Rattle.std.proofs.Common.{option_map, is_some, length, take, drop, refl, sym, ap, subst, ◌∙◌, arith, length-take}
 use Rattle.std.proofs.Common.{take-append-drop, bytes_eq}
-use Rattle.std.proofs.lemmas.Option.{same_Some}
+use Rattle.std.proofs.lemmas.Option.{none-some, same_Some}
 use Rattle.cept_outside.specs.ShelfState.{ShelfState, bytes_under, empty_shelf}
 use Rattle.cept_outside.specs.SinkState.{SinkState, empty_sink}
 use Rattle.cept_outside.specs.SliceSink.{IsFilled}
@@ -11,10 +11,10 @@ use Rattle.cept_outside.specs.declared.slice_shelf.SliceFile.{SliceFile}
 use Rattle.cept_profile.specs.Look.{grid}
 use Rattle.cept_run.specs.Outside.{Outside}
 use Rattle.cept_run.specs.Run.{Runs}
-use Rattle.cept_run.specs.Words.{Request, request_of, takes_glass}
 use Rattle.cept_run.specs.declared.run.Status.{Status}
 use Rattle.cept_run.specs.declared.run.Status.TheVariants as statuses
-use Rattle.tamligub.specs.Called.{Calls, Holding, PutsNone, RunsOn, file_in}
+use Rattle.cept_run.specs.Words.{request_of}
+use Rattle.tamligub.specs.Called.{Holding, HasRun, RunsOn, file_in}
 use Rattle.tamligub.specs.Words.{words_for}
 
 -- ---- the shelf
@@ -60,6 +60,18 @@ module _ (first second : SliceFile) (first_is : first.name.now ≡ codes "page")
         runs = runs;
       }
 
+-- ---- words that are no request
+
+-- such words end with status 2, and nothing is touched
+pub runs_unasked : (words : List (List ℕ)) (before : Outside) → request_of words ≡ None
+    → Runs words before before statuses.Usage
+runs_unasked words before none = record {
+  usage = ((λ e. none), (λ e. refl));
+  untouched = λ e. refl;
+  request = λ request asked. absurd (none-some request (sym none ∙ asked));
+  completes = λ request page asks few short shelf sink. absurd (none-some request (sym none ∙ asks.asked));
+}
+
 -- ---- the slice
 
 module _ (old new : List ℕ) (put : ℕ) (end : SinkState) (filled : IsFilled old new put)
@@ -77,8 +89,8 @@ module _ (old new : List ℕ) (put : ℕ) (end : SinkState) (filled : IsFilled o
   pub has_run : (word : List ℕ) (given number : ℕ) (page script : List ℕ) (status : Status) (start mid : SinkState)
       (answer : Status) → start ≡ empty_sink (length old) → end ≡ mid → status ≡ answer
       → RunsOn word given number page script start mid answer → (0 < end.faults → put ≡ length old)
-      → Calls word given number page script old new put status
-  has_run word given number page script status start mid answer fresh same is runs full = inl (record {
+      → HasRun word given number page script old new put status
+  has_run word given number page script status start mid answer fresh same is runs full = record {
     end = end;
     runs = subst (λ (s : SinkState). RunsOn word given number page script s end status) fresh
         (subst (λ (e : SinkState). RunsOn word given number page script start e status) (sym same)
@@ -88,31 +100,4 @@ module _ (old new : List ℕ) (put : ℕ) (end : SinkState) (filled : IsFilled o
     full = λ some. long ∙ full some;
     within = omega (arith, long, filled.within, filled.room);
     holding = held;
-  })
-
-  -- where nothing was put into the slice
-  puts_none : end ≡ empty_sink (length old) → PutsNone old new put
-  puts_none same =
-      let nothing : take put new ≡ [] = same_Some (take put new) [] (sym bytes ∙ ap (λ (s : SinkState). s.bytes) same) in
-      let none : put ≡ 0 = sym long ∙ ap length nothing in
-      record {
-        stays = held.front ∙ ap (λ t. t ++ drop (length t) old) nothing;
-        none = none;
-      }
-
-  pub has_not_run : (word : List ℕ) (given number : ℕ) (page script : List ℕ) (status : Status) (request : Request)
-      → status ≡ statuses.NoMemory → request_of (words_for word given number) ≡ Some request
-      → takes_glass request ≡ true → end ≡ empty_sink (length old) → Calls word given number page script old new put status
-  has_not_run word given number page script status request memory asked glass same = inr (inl (record {
-    memory = memory;
-    request = request;
-    asked = asked;
-    glass = glass;
-    unput = puts_none same;
-  }))
-
-  pub no_request : (word : List ℕ) (given number : ℕ) (page script : List ℕ) (status : Status)
-      → status ≡ statuses.Usage → request_of (words_for word given number) ≡ None → end ≡ empty_sink (length old)
-      → Calls word given number page script old new put status
-  no_request word given number page script status usage unasked same =
-      inr (inr (record { usage = usage; unasked = unasked; unput = puts_none same }))
+  }

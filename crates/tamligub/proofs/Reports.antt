@@ -14,7 +14,7 @@ use Rattle.cept_run.specs.Run.{EndsWhole, EndsAtWriteFault, IsReportCut, IsFault
 use Rattle.cept_run.specs.Run.{TouchesShelf, fault_text, report_of, status_number}
 use Rattle.cept_run.specs.declared.run.Status.{Status}
 use Rattle.cept_run.specs.declared.run.Status.TheVariants as statuses
-use Rattle.tamligub.specs.Called.{Holding, HasRun, Calls, Supplies, IsSupplied, IsReported, Reported, IsMissed}
+use Rattle.tamligub.specs.Called.{Holding, HasRun, Supplies, IsSupplied, IsReported, Reported, IsMissed}
 use Rattle.tamligub.specs.Called.{IsFront, IsCutOff, IsFrontReported, FrontReported, IsFaultReported, FaultReported}
 
 -- a source has the bytes that the call supplies
@@ -161,10 +161,8 @@ module _ (word : List ℕ) (given number : ℕ) (page script old new : List ℕ)
 -- ---- the room
 
 pub put_within : (word : List ℕ) (given number : ℕ) (page script old new : List ℕ) (put : ℕ) (status : Status)
-    → Calls word given number page script old new put status → put ≤ length old
-put_within word given number page script old new put status (inl run) = omega (arith, run.holding.count, run.within)
-put_within word given number page script old new put status (inr (inl not)) = omega (arith, not.unput.none)
-put_within word given number page script old new put status (inr (inr nothing)) = omega (arith, nothing.unput.none)
+    → HasRun word given number page script old new put status → put ≤ length old
+put_within word given number page script old new put status run = omega (arith, run.holding.count, run.within)
 
 -- ---- a line outside the grammar, a file that isn't there
 
@@ -223,45 +221,29 @@ module _ (word : List ℕ) (given number : ℕ) (page script old new : List ℕ)
 
 -- what a call does, by what is asked for
 pub reported : (word : List ℕ) (given number : ℕ) (page script old new : List ℕ) (put answer : ℕ) (status : Status)
-    → answer ≡ status_number status → Calls word given number page script old new put status
+    → answer ≡ status_number status → HasRun word given number page script old new put status
     → Reported word given number page script old new put answer
-reported word given number page script old new put answer status is (inl run) request read lines asks page_is lines_are low =
+reported word given number page script old new put answer status is run request read lines asks page_is lines_are low =
     by_status word given number page script old new put answer status run (course_of request) read lines page_is lines_are
     status is (run.runs.runs.request request asks).ends low
-reported word given number page script old new put answer status is (inr (inl not)) request read lines asks page_is lines_are low =
-    let six = is ∙ ap status_number not.memory in absurd (omega (arith, six, low))
-reported word given number page script old new put answer status is (inr (inr nothing)) request read lines asks page_is lines_are low =
-    let two = is ∙ ap status_number nothing.usage in absurd (omega (arith, two, low))
 
 pub front_reported : (word : List ℕ) (given number : ℕ) (page script old new : List ℕ) (put answer : ℕ) (status : Status)
-    → answer ≡ status_number status → Calls word given number page script old new put status
+    → answer ≡ status_number status → HasRun word given number page script old new put status
     → FrontReported word given number page script old new put answer
-front_reported word given number page script old new put answer status is (inl run) request read lines asks page_is lines_are five =
+front_reported word given number page script old new put answer status is run request read lines asks page_is lines_are five =
     front_by word given number page script old new put answer status run (course_of request) read lines page_is lines_are
     status is (run.runs.runs.request request asks) five
-front_reported word given number page script old new put answer status is (inr (inl not)) request read lines asks page_is lines_are five =
-    let six = is ∙ ap status_number not.memory in absurd (omega (arith, six, five))
-front_reported word given number page script old new put answer status is (inr (inr nothing)) request read lines asks page_is lines_are five =
-    let two = is ∙ ap status_number nothing.usage in absurd (omega (arith, two, five))
 
 pub fault_reported : (word : List ℕ) (given number : ℕ) (page script old new : List ℕ) (put answer : ℕ) (status : Status)
-    → answer ≡ status_number status → Calls word given number page script old new put status
+    → answer ≡ status_number status → HasRun word given number page script old new put status
     → FaultReported word given number page script old new put answer
-fault_reported word given number page script old new put answer status is (inl run) request lines asks lines_are three =
+fault_reported word given number page script old new put answer status is run request lines asks lines_are three =
     fault_by word given number page script old new put answer status run (course_of request) status lines lines_are is
     (run.runs.runs.request request asks).ends three
-fault_reported word given number page script old new put answer status is (inr (inl not)) request lines asks lines_are three =
-    let six = is ∙ ap status_number not.memory in absurd (omega (arith, six, three))
-fault_reported word given number page script old new put answer status is (inr (inr nothing)) request lines asks lines_are three =
-    let two = is ∙ ap status_number nothing.usage in absurd (omega (arith, two, three))
 
 pub is_missed : (word : List ℕ) (given number : ℕ) (page script old new : List ℕ) (put answer : ℕ) (status : Status)
-    → answer ≡ status_number status → Calls word given number page script old new put status
+    → answer ≡ status_number status → HasRun word given number page script old new put status
     → IsMissed word given number answer
-is_missed word given number page script old new put answer status is (inl run) request asks four page_there script_there =
+is_missed word given number page script old new put answer status is run request asks four page_there script_there =
     missed_by word given number page script old new put answer status run (course_of request) status is
     (run.runs.runs.request request asks) four page_there script_there
-is_missed word given number page script old new put answer status is (inr (inl not)) request asks four page_there script_there =
-    let six = is ∙ ap status_number not.memory in absurd (omega (arith, six, four))
-is_missed word given number page script old new put answer status is (inr (inr nothing)) request asks four page_there script_there =
-    let two = is ∙ ap status_number nothing.usage in absurd (omega (arith, two, four))

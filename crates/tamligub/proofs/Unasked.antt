@@ -5,12 +5,11 @@ use Rattle.std.proofs.lemmas.Option.{same_Some}
 use Rattle.cept_outside.specs.SinkState.{SinkState}
 use Rattle.cept_run.specs.Outside.{Outside}
 use Rattle.cept_run.specs.Run.{Ends, Runs, status_number}
-use Rattle.cept_run.specs.Words.{Request, Page, Bytes, Script, Number, Flash, Drawing, request_of, takes_glass}
+use Rattle.cept_run.specs.Words.{Request, request_of}
 use Rattle.cept_run.specs.Course.{course_of}
-use Rattle.cept_run.specs.declared.words.NumberAction.TheVariants as numbers
 use Rattle.cept_run.specs.declared.run.Status.{Status}
 use Rattle.cept_run.specs.declared.run.Status.TheVariants as statuses
-use Rattle.tamligub.specs.Called.{Calls, Holding, HasRun, MemoryTaken, NothingPut, PutsNone, UsageAnswered}
+use Rattle.tamligub.specs.Called.{Holding, HasRun, MemoryTaken, NothingPut, PutsNone, UsageAnswered}
 use Rattle.tamligub.specs.Words.{words_for}
 
 -- the status with a number
@@ -37,47 +36,25 @@ memory_by statuses.TooLong e = cc
 memory_by statuses.NotSeven e = cc
 
 pub usage_answered : (word : List ℕ) (given number : ℕ) (page script old new : List ℕ) (put answer : ℕ) (status : Status)
-    → answer ≡ status_number status → Calls word given number page script old new put status
+    → answer ≡ status_number status → HasRun word given number page script old new put status
     → UsageAnswered word given number answer
-usage_answered word given number page script old new put answer status is (inl run) = (
+usage_answered word given number page script old new put answer status is run = (
   (λ two. run.runs.runs.usage.0 (usage_by status (sym is ∙ two))),
   (λ none. is ∙ ap status_number (run.runs.runs.usage.1 none)),
 )
-usage_answered word given number page script old new put answer status is (inr (inl not)) =
-    let six = is ∙ ap status_number not.memory in (
-      (λ two. absurd (omega (arith, six, two))),
-      (λ none. let no = sym none ∙ not.asked in cc),
-    )
-usage_answered word given number page script old new put answer status is (inr (inr nothing)) =
-    ((λ two. nothing.unasked), (λ none. is ∙ ap status_number nothing.usage))
-
--- what paints takes a glass
-painting_takes : (request : Request) → (course_of request).painting ≡ true → takes_glass request ≡ true
-painting_takes (Page action page) e = refl
-painting_takes (Bytes action page) e = cc
-painting_takes (Script action page script) e = refl
-painting_takes (Number numbers.Generate number) e = cc
-painting_takes (Number numbers.Load number) e = refl
-painting_takes (Flash page turns) e = refl
-painting_takes (Drawing page drawing) e = refl
 
 without_memory : (words : List (List ℕ)) (before after : Outside) (status : Status) (request : Request)
     → request_of words ≡ Some request → Runs words before after status → status ≡ statuses.NoMemory
-    → takes_glass request ≡ true
+    → (course_of request).painting ≡ true
 without_memory words before after status request asks runs is =
-    painting_takes request
     (subst (λ (s : Status). Ends (course_of request) before after s) is (runs.request request asks).ends).memory
 
 pub memory_taken : (word : List ℕ) (given number : ℕ) (page script old new : List ℕ) (put answer : ℕ) (status : Status)
-    → answer ≡ status_number status → Calls word given number page script old new put status
+    → answer ≡ status_number status → HasRun word given number page script old new put status
     → MemoryTaken word given number answer
-memory_taken word given number page script old new put answer status is (inl run) request asks six =
+memory_taken word given number page script old new put answer status is run request asks six =
     without_memory (words_for word given number) run.runs.before run.runs.after status request asks run.runs.runs
     (memory_by status (sym is ∙ six))
-memory_taken word given number page script old new put answer status is (inr (inl not)) request asks six =
-    subst (λ (r : Request). takes_glass r ≡ true) (same_Some not.request request (sym not.asked ∙ asks)) not.glass
-memory_taken word given number page script old new put answer status is (inr (inr nothing)) request asks six =
-    let two = is ∙ ap status_number nothing.usage in absurd (omega (arith, two, six))
 
 -- of no text nothing stands in the slice
 none_held : (text old new : List ℕ) (put : ℕ) → text ≡ [] → Holding text old new put → PutsNone old new put
@@ -102,15 +79,13 @@ unput_by words before after (Some request) is runs = (runs.request request is).e
 unput_by words before after None is runs = ap (λ (o : Outside). o.sink) (runs.untouched (runs.usage.1 is))
 
 pub nothing_put : (word : List ℕ) (given number : ℕ) (page script old new : List ℕ) (put answer : ℕ) (status : Status)
-    → answer ≡ status_number status → Calls word given number page script old new put status
+    → answer ≡ status_number status → HasRun word given number page script old new put status
     → NothingPut old new put answer
-nothing_put word given number page script old new put answer status is (inl run) (inl two) =
+nothing_put word given number page script old new put answer status is run (inl two) =
     unput_run word given number page script old new put status run
     (ap (λ (o : Outside). o.sink) (run.runs.runs.untouched (usage_by status (sym is ∙ two))))
-nothing_put word given number page script old new put answer status is (inl run) (inr six) =
+nothing_put word given number page script old new put answer status is run (inr six) =
     let on = run.runs in
     unput_run word given number page script old new put status run
     (unput_by (words_for word given number) on.before on.after (request_of (words_for word given number)) refl
     (subst (λ (s : Status). Runs (words_for word given number) on.before on.after s) (memory_by status (sym is ∙ six)) on.runs))
-nothing_put word given number page script old new put answer status is (inr (inl not)) either = not.unput
-nothing_put word given number page script old new put answer status is (inr (inr nothing)) either = nothing.unput

@@ -1,6 +1,6 @@
 -- Worked tables of calls, by computing: what is given after a word, the fourteen words, the two files, and the statuses. Whether
 -- a word is text isn't computed, so that each word stands here for itself.
-use Rattle.std.proofs.Common.{◌≡◌, ℕ, List, [], ◌∷◌, codes, map, Option, Some, None, true, false, refl}
+use Rattle.std.proofs.Common.{◌≡◌, ℕ, List, [], ◌∷◌, codes, map, Option, Some, None, refl}
 use Rattle.std.specs.Fmt.{digits}
 use Rattle.cept_run.specs.declared.run.Status.TheVariants as statuses
 use Rattle.cept_run.specs.declared.words.BytesAction.TheVariants.{Eight, Seven}
@@ -8,7 +8,7 @@ use Rattle.cept_run.specs.declared.words.NumberAction.TheVariants.{Generate, Loa
 use Rattle.cept_run.specs.declared.words.PageAction.TheVariants.{Cells, Changes, Check, List as ListItems, Show, Write}
 use Rattle.cept_run.specs.declared.words.ScriptAction.TheVariants.{Edit, Trace}
 use Rattle.cept_run.specs.Run.{status_number}
-use Rattle.cept_run.specs.Words.{Bytes, Drawing, Flash, Number, Page, Request, Script, request_of, takes_glass}
+use Rattle.cept_run.specs.Words.{Bytes, Drawing, Flash, Number, Page, Request, Script, request_of}
 use Rattle.tamligub.specs.Called.{file_in}
 use Rattle.tamligub.specs.Words.{words_after}
 
@@ -65,11 +65,3 @@ numbers : map status_number (statuses.Done ∷ statuses.Refusals ∷ statuses.Us
     ∷ statuses.WriteFault ∷ statuses.NoMemory ∷ statuses.TooLong ∷ statuses.NotSeven ∷ [])
     ≡ 0 ∷ 1 ∷ 2 ∷ 3 ∷ 4 ∷ 5 ∷ 6 ∷ 7 ∷ 8 ∷ []
 numbers = refl
-
--- three words take no glass
-glass : map takes_glass (
-    Page Changes page ∷ Page Check page ∷ Page Show page ∷ Page Cells page ∷ Page Write page ∷ Bytes Seven page
-    ∷ Bytes Eight page ∷ Script Trace page script ∷ Script Edit page script ∷ Drawing page script ∷ Number Generate 7
-    ∷ Number Load 7 ∷ Flash page 7 ∷ [])
-    ≡ true ∷ true ∷ true ∷ true ∷ true ∷ false ∷ false ∷ true ∷ true ∷ true ∷ false ∷ true ∷ true ∷ []
-glass = refl

@@ -11,9 +11,8 @@ use Rattle.cept_run.specs.Course.{Course, Source, File, Given, course_of}
 use Rattle.cept_run.specs.Events.{has_refusal}
 use Rattle.cept_run.specs.Outside.{Outside}
 use Rattle.cept_run.specs.Run.{Runs, fault_text, report_of, status_number}
-use Rattle.cept_run.specs.Words.{Request, request_of, takes_glass}
+use Rattle.cept_run.specs.Words.{Request, request_of}
 use Rattle.cept_run.specs.declared.run.Status.{Status}
-use Rattle.cept_run.specs.declared.run.Status.TheVariants as statuses
 use Rattle.tamligub.specs.Words.{words_for}
 
 -- ---- the run
@@ -57,36 +56,11 @@ pub record HasRun (word : List ℕ) (given number : ℕ) (page script old new : 
     pub within : length text ≤ length old
     pub holding : Holding text old new put
 
--- nothing is put into the slice
-pub record PutsNone (old new : List ℕ) (put : ℕ) : Type 0 where
-  pub stays : new ≡ old
-  pub none : put ≡ 0
-
--- the words are a request that takes a glass, and there was no memory for one
-pub record HasNotRun (words : List (List ℕ)) (old new : List ℕ) (put : ℕ) (status : Status) : Type 0 where
-  pub memory : status ≡ statuses.NoMemory
-  pub request : Request
-  pub asked : request_of words ≡ Some request
-  pub glass : takes_glass request ≡ true
-  pub unput : PutsNone old new put
-
--- the words are no request
-pub record IsNoRequest (words : List (List ℕ)) (old new : List ℕ) (put : ℕ) (status : Status) : Type 0 where
-  pub usage : status ≡ statuses.Usage
-  pub unasked : request_of words ≡ None
-  pub unput : PutsNone old new put
-
--- what a call did
-abbrev pub Calls : List ℕ → ℕ → ℕ → List ℕ → List ℕ → List ℕ → List ℕ → ℕ → Status → Type 0
-Calls word given number page script old new put status =
-    HasRun word given number page script old new put status
-    ⊎ HasNotRun (words_for word given number) old new put status ⊎ IsNoRequest (words_for word given number) old new put status
-
 -- the same, by the number that it answers
 pub record Called (word : List ℕ) (given number : ℕ) (page script old new : List ℕ) (put answer : ℕ) : Type 0 where
   pub status : Status
   pub is : answer ≡ status_number status
-  pub calls : Calls word given number page script old new put status
+  pub run : HasRun word given number page script old new put status
 
 -- ---- what stands in the slice
 
@@ -155,14 +129,19 @@ FaultReported word given number page script old new put answer = (request : Requ
 abbrev pub UsageAnswered : List ℕ → ℕ → ℕ → ℕ → Type 0
 UsageAnswered word given number answer = (answer ≡ 2) ↔ (request_of (words_for word given number) ≡ None)
 
+-- nothing is put into the slice
+pub record PutsNone (old new : List ℕ) (put : ℕ) : Type 0 where
+  pub stays : new ≡ old
+  pub none : put ≡ 0
+
 -- where the words are no request, or there is no memory, nothing is put
 abbrev pub NothingPut : List ℕ → List ℕ → ℕ → ℕ → Type 0
 NothingPut old new put answer = (answer ≡ 2) ⊎ (answer ≡ 6) → PutsNone old new put
 
--- there was no memory only where the words take a glass
+-- there was no memory only where the words paint
 abbrev pub MemoryTaken : List ℕ → ℕ → ℕ → ℕ → Type 0
 MemoryTaken word given number answer = (request : Request)
-    → request_of (words_for word given number) ≡ Some request → answer ≡ 6 → takes_glass request ≡ true
+    → request_of (words_for word given number) ≡ Some request → answer ≡ 6 → (course_of request).painting ≡ true
 
 -- a file that the words ask for isn't one that the call supplies
 abbrev pub IsMissed : List ℕ → ℕ → ℕ → ℕ → Type 0

@@ -1,5 +1,6 @@
 pub mod Words
 pub mod Called
 pub mod Decoders
+pub mod EditLines
 pub mod Owned
 pub mod Told

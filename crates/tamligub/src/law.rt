@@ -1,15 +1,20 @@
 //! Laws of what is told. The functions do nothing: their contracts are the laws.
-ghost use Rattle.std.specs.Prelude.{◌≡◌, ℕ, List, [], ◌++◌, take};
+ghost use Rattle.std.specs.Prelude.{◌≡◌, ℕ, List, [], ◌++◌, map, take};
 ghost use Rattle.cept_codes.specs.declared.look.Look.{Look};
 ghost use Rattle.cept_parser.specs.Items.{closed_items};
 ghost use Rattle.cept_editor.specs.Events.{report};
+ghost use Rattle.cept_editor.specs.Script.{edits};
 ghost use Rattle.cept_live.specs.declared.notice.Notice.{Notice};
+ghost use Rattle.cept_live.specs.EditLines.{AreStepsOf};
 ghost use Rattle.cept_live.specs.Lines.{lines_of};
 ghost use Rattle.cept_live.specs.Live.{Ends, HasFed, LiveState, TellsAll};
 ghost use Rattle.cept_live.specs.Notices.{Saying, notice_of, sayings_after};
 ghost use Rattle.cept_run.specs.declared.words.PageAction.TheVariants as pages;
-ghost use Rattle.cept_run.specs.Events.{nothing_more, run_events};
-ghost use Rattle.cept_run.specs.Words.{asked_of_page};
+ghost use Rattle.cept_profile.specs.State.{state};
+ghost use Rattle.cept_run.specs.declared.words.ScriptAction.TheVariants as scripts;
+ghost use Rattle.cept_run.specs.Events.{Edits, end_event, nothing_more, remaining_of, run_events};
+ghost use Rattle.cept_run.specs.Words.{asked_of_page, asked_of_script};
+ghost use Rattle.tamligub.specs.Decoders.{page_of};
 ghost use Rattle.tamligub.specs.Told.{lines_in, saying_in};
 
 /// A notice says, by its numbers alone, all that it was made of.
@@ -28,4 +33,19 @@ pub fn what_is_told_is_the_report()
         (notices other after : List Notice) (to : ℕ) → HasFed old [] → TellsAll old page notices
         → HasFed mid page → Ends mid other 0 new to after → lines_in (notices ++ take to after)
         ≡ report (run_events (asked_of_page pages.Changes) page nothing_more shown) }
+{}
+
+/// A page that was fed whole, and the lines of a script made after its end one by one, leave what the
+/// word `edit` leaves of both: the screen of the commands that remain, and the page that it puts at its
+/// end.
+pub fn what_lines_make_is_the_edit()
+    ensures screen { (page script : List ℕ) (old mid new : LiveState) (list now : List Notice)
+        (from to : ℕ) → HasFed old page → Ends old list from mid to now
+        → AreStepsOf (map (λ line. line.step) (edits script)) mid new → new.screen
+        ≡ state (remaining_of (asked_of_script scripts.Edit) page (Edits (edits script))) }
+    ensures page { (page script : List ℕ) (old mid new : LiveState) (list now : List Notice)
+        (from to : ℕ) (shown : List (List Look)) → HasFed old page → Ends old list from mid to now
+        → AreStepsOf (map (λ line. line.step) (edits script)) mid new → page_of new
+        ≡ (end_event (asked_of_script scripts.Edit) shown page
+        (remaining_of (asked_of_script scripts.Edit) page (Edits (edits script)))).text }
 {}

@@ -1,5 +1,6 @@
 //! The program for C and for the web: as one function over a word, a page and a script in slices, with room
-//! for the text, that keeps nothing between calls; and as a decoder that is fed bytes as they come.
+//! for the text, that keeps nothing between calls; and as a decoder that is fed bytes as they come, and then
+//! edited line by line.
 #![tactic(auto)]
 
 mod answer;
@@ -7,6 +8,7 @@ mod block;
 mod calling;
 mod handle;
 mod law;
+mod lines;
 mod live;
 #[cfg(test)]
 mod live_tests;
@@ -21,7 +23,7 @@ ghost use Rattle.tamligub.specs.Called.{Called, FaultReported, FrontReported, Is
 ghost use Rattle.tamligub.specs.Called.{MemoryTaken, NothingPut, UsageAnswered};
 
 use crate::calling::Call;
-pub use law::{notices_are_read_back, what_is_told_is_the_report};
+pub use law::{notices_are_read_back, what_is_told_is_the_report, what_lines_make_is_the_edit};
 use std::alloc::Global;
 
 /// Runs the program on a word and what is given after it: 0 nothing, 1 the page, 2 the page and the

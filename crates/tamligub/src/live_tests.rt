@@ -1,4 +1,5 @@
 use crate::handle::Decoder;
+use crate::lines::{tamligub_kept, tamligub_line, tamligub_undone};
 use crate::live::{
     tamligub_close, tamligub_feed, tamligub_finish, tamligub_flash_start, tamligub_flash_turn,
     tamligub_look, tamligub_open, tamligub_state, tamligub_write,
@@ -216,6 +217,60 @@ fn is_brought_back(rt: HostRuntime) -> Result<(), Fail> {
     );
     assert_eq!(rt; [fed.0, fed.1, state.fed, put], [2, 1, 6, 0]);
     assert_eq!(rt; told, [1, 3, 4, 0, 0x58, 1, 1, 15, 0]);
+    Ok(())
+}
+
+/// A page of one sign, and lines of a script after its end: a text, which is taken back, a line outside
+/// the grammar, one that begins with 2/3, and a second undo, which finds nothing.
+#[test]
+fn is_edited(rt: HostRuntime) -> Result<(), Fail> {
+    let alloc = rt.alloc();
+    let mut list = Vec::from_elem(alloc, NO_NOTICE, 1920)?;
+    let mut decoder = Decoder::closed();
+    let (mut count, mut reason) = (99, 99);
+    let opened = tamligub_open(alloc, &mut decoder);
+    let _fed = feed_each(alloc, &mut decoder, b"A", list.as_mut_slice());
+    let mut answers = [99u32; 6];
+    let mut counts = [99u64; 6];
+    let lines = [
+        b"up".as_slice(),
+        b"text BC",
+        b"no",
+        b"# no",
+        b"undo",
+        b"undo",
+    ];
+    let early = tamligub_line(
+        alloc,
+        &mut decoder,
+        b"up",
+        list.as_mut_slice(),
+        &mut count,
+        &mut reason,
+    );
+    let ended = tamligub_finish(alloc, &mut decoder, list.as_mut_slice(), &mut count);
+    for k in 0..6usize {
+        answers[k] = tamligub_line(
+            alloc,
+            &mut decoder,
+            lines[k],
+            list.as_mut_slice(),
+            &mut counts[k],
+            &mut reason,
+        );
+    }
+    let told = numbers(&list.first().copied().unwrap_or(NO_NOTICE));
+    let edits = [
+        tamligub_kept(alloc, &mut decoder),
+        tamligub_undone(alloc, &mut decoder),
+    ];
+    tamligub_close(alloc, &mut decoder);
+    decoder.into_nothing();
+    assert_eq!(rt; [opened, early, ended], [0, 1, 0]);
+    assert_eq!(rt; answers, [0, 0, 3, 2, 0, 2]);
+    assert_eq!(rt; counts, [0, 2, 0, 0, 2, 0]);
+    assert_eq!(rt; edits, [1, 1]);
+    assert_eq!(rt; told[0], 1);
     Ok(())
 }
 

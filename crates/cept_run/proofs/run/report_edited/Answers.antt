@@ -7,7 +7,7 @@ use Rattle.cept_run.specs.Events.{Edits}
 use Rattle.cept_run.specs.Outside.{outside_of}
 use Rattle.cept_run.specs.Reporting.{HasBlink, sequel_of}
 use Rattle.cept_run.specs.Run.{RunsCourse, status_at_end}
-use Rattle.cept_run.specs.Words.{asked_of_script}
+use Rattle.cept_run.specs.Words.{asked_of_script, is_painted}
 use Rattle.cept_run.proofs.FreshDecoders.{script_paints, easel_edited, plan_followed, sequel_followed, fresh_by}
 use Rattle.cept_run.proofs.FreshDecoders.{followed, script_blink}
 use Rattle.cept_run.proofs.StoppedScripts.{script_read, ends_at_script}
@@ -24,7 +24,7 @@ pub report_stored-requires-clause-fresh : goal.report_stored-requires-clause-fre
 report_stored-requires-clause-fresh g c = λ start.
     let asked = c.asked.result in
     let lines = c.in_ok-script.script in
-    let painting = ap (λ (a : Asked). a.painting) c.asked.ensures ∙ script_paints c.args.action in
+    let painting = ap (λ (a : Asked). is_painted a.way) c.asked.ensures ∙ script_paints c.args.action in
     fresh_by _ (followed asked (Edits lines)) start (plan_followed c.new-decoder.result.reporter asked _ (Edits lines)
     c.new-decoder.ensures.asked c.new-decoder.ensures.easel refl)
     (c.new-decoder.ensures.read (followed asked (Edits lines)) refl
@@ -39,7 +39,7 @@ pub returns : goal.returns
 returns g c =
     let asked = c.asked.result in
     let lines = c.in_ok-script.script in
-    let painting = ap (λ (a : Asked). a.painting) c.asked.ensures ∙ script_paints c.args.action in
+    let painting = ap (λ (a : Asked). is_painted a.way) c.asked.ensures ∙ script_paints c.args.action in
     let plan = plan_followed c.new-decoder.result.reporter asked _ (Edits lines) c.new-decoder.ensures.asked
     c.new-decoder.ensures.easel refl in
     let ends = c.in_ok-script.ensures.ends in

@@ -2,7 +2,7 @@ use Rattle.std.proofs.Common.{ap}
 use Rattle.std.proofs.lemmas.Result.{err_from_is_err_and}
 use Rattle.cept_run.specs.Course.{Drawings}
 use Rattle.cept_run.specs.Events.{Figures}
-use Rattle.cept_run.specs.ScriptReading.{as_script_fault}
+use Rattle.cept_run.specs.inside.ScriptReading.{as_script_fault}
 use Rattle.cept_run.proofs.ReadScripts.{script_unread, script_good, script_faulty, drawing_faulty}
 use Rattle.cept_run.proofs.script.read_drawing.Goals as goal
 

@@ -1,17 +1,18 @@
-use Rattle.std.proofs.Common.{subst}
+use Rattle.std.proofs.Common.{sym, subst, ◌∙◌}
 use Rattle.cept_codes.specs.Command.{IsValidSaid}
-use Rattle.cept_run.proofs.ReportedItems.{command_more, listed_more, refusal_more}
+use Rattle.cept_run.proofs.ReportedItems.{loud_more, quiet_more, refusal_more}
 use Rattle.cept_run.proofs.reporter.Reporter.report_item.Goals as goal
 
-pub returns-then-self : goal.returns-then-self
-returns-then-self g c =
-    rw (← c.self.view_is) (command_more _ c.apply.new.self c.args.item.now c.in-Command.command _ _ c.apply.result
-    c.in-Command.is (subst IsValidSaid c.in-Command.is c.requires.valid) c.if-self.true c.apply.ensures)
+pub returns-then-is_quiet : goal.returns-then-is_quiet
+returns-then-is_quiet g c =
+    rw (← c.self.view_is) (quiet_more _ c.args.item.now c.in-Command.command _ _ _ c.in-Command.is
+    (sym c.is_quiet.ensures ∙ c.if-is_quiet.true))
 
-pub returns-else-self : goal.returns-else-self
-returns-else-self g c =
-    rw (← c.self.view_is) (listed_more _ c.args.item.now c.in-Command.command _ _ _ c.list_item.result c.in-Command.is
-    c.if-self.false c.list_item.ensures)
+pub returns-else-is_quiet : goal.returns-else-is_quiet
+returns-else-is_quiet g c =
+    rw (← c.self.view_is) (loud_more _ c.apply.new.self c.args.item.now c.in-Command.command _ _ _ _ c.apply.result
+    c.in-Command.is (subst IsValidSaid c.in-Command.is c.requires.valid) (sym c.is_quiet.ensures ∙ c.if-is_quiet.false)
+    c.apply.ensures)
 
 pub returns-in-Refused : goal.returns-in-Refused
 returns-in-Refused g c =

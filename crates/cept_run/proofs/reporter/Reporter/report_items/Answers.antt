@@ -54,3 +54,6 @@ returns g c = record {
       (c.loop-item.invariant.reported plan earlier start has);
   cut = tt;
 }
+
+pub returns-then-is_quiet : goal.returns-then-is_quiet
+returns-then-is_quiet g c = c.count_items.ensures (g.G.Glass.state c.args.glass.now)

@@ -1,0 +1,65 @@
+-- What private clauses say beside `Reporting` (this project's own).
+use Rattle.std.specs.Prelude.{◌≡◌, ℕ, ◌+◌, ◌≤◌, Bool, true, false, List, [], ◌∷◌, ◌++◌, length, Option}
+use Rattle.std.specs.Prelude.{if◌then◌else◌, Result}
+use Rattle.cept_codes.specs.declared.command.Command.{Command}
+use Rattle.cept_codes.specs.declared.item.Item.{Item}
+use Rattle.cept_codes.specs.declared.item.Reason.{Reason}
+use Rattle.cept_outside.specs.SinkState.{PutsText}
+use Rattle.cept_parser.specs.Items.{items}
+use Rattle.cept_profile.specs.Changes.{changes}
+use Rattle.cept_profile.specs.Valid.{AllValid}
+use Rattle.cept_listing.specs.Listing.{item_line}
+use Rattle.cept_report.specs.Text.{change_lines}
+use Rattle.cept_editor.specs.Events.{Event}
+use Rattle.cept_editor.specs.Made.{Output, IsMade}
+use Rattle.cept_run.specs.declared.easel.Easel.TheVariants as easels
+use Rattle.cept_run.specs.declared.words.Asked.{Asked}
+use Rattle.cept_run.specs.declared.words.Way.{Way}
+use Rattle.cept_run.specs.declared.words.Way.TheVariants as ways
+use Rattle.cept_run.specs.Words.{is_painted, lists_changes}
+use Rattle.cept_run.specs.Events.{named_text}
+use Rattle.cept_run.specs.Events.{Sequel}
+use Rattle.cept_run.specs.Reporting.{ReporterState, painted_easel, counted_of}
+
+-- what is put of refused bytes
+abbrev pub refusal_text : Asked → Item → Reason → List ℕ
+refusal_text asked item reason =
+    if asked.refusals then named_text asked.way item reason else []
+
+-- nothing is done with commands but that they are counted
+abbrev pub is_quiet : Way → Bool
+is_quiet ways.Count = true
+is_quiet _ = false
+
+-- a command at this place, after these
+abbrev pub command_event : Asked → ℕ → List Command → Command → Event
+command_event asked place earlier command = record {
+  before = earlier;
+  after = earlier ++ command ∷ [];
+  text = if lists_changes asked.way then change_lines place (changes earlier command) else [];
+}
+
+-- an item's line was put, or the sink failed; nothing else happened
+pub record IsListedAlone {X E : Type 0} (old : ReporterState) (item : Item) (before : Output) (result : Result X E)
+    (new : ReporterState) (after : Output) : Type 0 where
+  pub puts : PutsText before.sink (item_line item) result after.sink
+  pub unpainted : after.glass ≡ before.glass
+  pub stays : new ≡ old
+
+-- it applies the command of an item: where commands are painted, the command's event is made; else the item is listed
+pub record Applies {X E : Type 0} (old : ReporterState) (item : Item) (command : Command) (before : Output)
+    (result : Result X E) (new : ReporterState) (after : Output) : Type 0 where
+  pub asked : new.asked ≡ old.asked
+  pub items : new.items ≡ old.items
+  pub refused : new.refused ≡ old.refused
+  pub easel : (sequel : Option Sequel) (earlier : List Command) → AllValid earlier
+      → is_painted old.asked.way ≡ true → old.easel ≡ painted_easel sequel earlier
+      → new.easel ≡ painted_easel sequel (earlier ++ command ∷ [])
+  pub made : (sequel : Option Sequel) (earlier : List Command) → AllValid earlier
+      → is_painted old.asked.way ≡ true → old.easel ≡ painted_easel sequel earlier
+      → IsMade (command_event old.asked item.at earlier command) before result after
+  pub painted : (sequel : Option Sequel) (earlier : List Command) → AllValid earlier
+      → is_painted old.asked.way ≡ true → old.easel ≡ painted_easel sequel earlier
+      → new.painted ≡ old.painted + counted_of old.asked (length (changes earlier command))
+  pub few : new.painted ≤ old.painted + 960
+  pub listed : old.easel ≡ easels.Nothing → IsListedAlone old item before result new after
