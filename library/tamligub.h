@@ -1,5 +1,5 @@
 /* A decoder and page editor for Bildschirmtext (videotex, CEPT profile 1): the whole program as one function, and a decoder that is fed
- * bytes as they come. Link libtamligub.a, or libtamligub.so.1 as a shared library, and nothing but a C library.
+ * bytes as they come and then edited line by line. Link libtamligub.a, or libtamligub.so.1 as a shared library, and nothing but a C library.
  *
  * A page is a stored page as bytes, as it came over the line. A script is a text of lines, each an edit of the page, such as
  * "at 1 2" or "text XY", or "undo" or "redo". A drawing is a text of lines, each a figure, such as "line 0 0 79 71"; it is handed in as
@@ -44,7 +44,7 @@ enum {
     TAMLIGUB_BAD_SCRIPT = 3, /* a line of the script can't be read; the text says which */
     TAMLIGUB_UNREAD = 4,     /* a number is given where the word takes a page or a script */
     TAMLIGUB_NO_ROOM = 5,    /* the text is longer than `room`: its front was written */
-    TAMLIGUB_NO_MEMORY = 6,  /* there is no memory for a screen or a script; never of `gen`, `seven`, `eight` and wrong words; no text */
+    TAMLIGUB_NO_MEMORY = 6,  /* there is no memory for a screen or a script; never of `check`, `list`, `gen`, `seven`, `eight`; no text */
     TAMLIGUB_TOO_LONG = 7,   /* the page has more than 2^24 bytes, or the script more than 2^20 */
     TAMLIGUB_NOT_SEVEN = 8   /* `eight`: the page isn't in seven bits */
 };
@@ -60,8 +60,8 @@ enum {
  *
  * No pointer may be null, not even where the length is 0. `out` and `put` may overlap neither each other nor anything else that is
  * handed in; word, page and script may. What is handed in is read during the call alone, and nothing is kept between calls. Several
- * threads may call at once. `gen`, `seven` and `eight` take no memory. The other words take it by malloc, and give all of it back; none is
- * taken for the page or the text. */
+ * threads may call at once. `check`, `list`, `gen`, `seven` and `eight` take no memory. The other words take it by malloc, and give all of
+ * it back; none is taken for the page or the text. */
 uint32_t tamligub_run(const uint8_t *word, size_t word_length, uint32_t given, uint32_t number,
                       const uint8_t *page, size_t page_length, const uint8_t *script, size_t script_length,
                       uint8_t *out, size_t room, uint64_t *put);
@@ -80,7 +80,7 @@ uint32_t tamligub_run(const uint8_t *word, size_t word_length, uint32_t given, u
  * - The room for notices is that for a byte, or for a phase of flashing, or more. Where it is less nothing is done.
  *
  * A decoder takes all its memory by malloc when it is opened, about 240 KB; after that only tamligub_write and tamligub_snapshot take
- * some, and give it back.
+ * some, and give it back, and the first edit takes about 2.7 MB, which are given back when the decoder is closed.
  * Where a call answers 1 no more was done than that `notices` is 0. */
 
 /* A decoder, where one is open: begin with = {0}. */
@@ -90,8 +90,8 @@ typedef struct {
 } tamligub_decoder;
 
 /* For how many notices there must be room: one byte, or the end of the page, ends two items at most, each of which changes 960 places at
- * most; a phase of flashing changes 960 at most. */
-enum { TAMLIGUB_ROOM_FOR_A_BYTE = 1920, TAMLIGUB_ROOM_FOR_A_PHASE = 960 };
+ * most; a phase of flashing changes 960 at most, and so does a line of a script. */
+enum { TAMLIGUB_ROOM_FOR_A_BYTE = 1920, TAMLIGUB_ROOM_FOR_A_PHASE = 960, TAMLIGUB_ROOM_FOR_A_LINE = 960 };
 
 /* By how many bytes a snapshot is longer than the page as bytes, at most. */
 enum { TAMLIGUB_BESIDE_A_PAGE = 1141 };
@@ -116,9 +116,9 @@ typedef struct {
     tamligub_colour colours[16];
 } tamligub_pattern;
 
-/* What an item says. Kind 1: a place looks otherwise now. Kind 2: bytes are refused. What is said of the other kind alone is 0. */
+/* What an item or a line says. Kind 1: a place looks otherwise now. Kind 2: bytes are refused. What is said of the other kind alone is 0. */
 typedef struct {
-    uint64_t at;                   /* how many bytes stand before the item */
+    uint64_t at;                   /* how many bytes stand before the item; of a line all bytes of the page */
     uint8_t kind;
     uint8_t length, reason;        /* 2: how many bytes, and why: 1 to 7, as in cept_tool(1) */
     uint8_t row, column;           /* 1: 1 to 24 from the top, 1 to 40 from the left */
@@ -154,6 +154,12 @@ typedef struct {
     tamligub_pen pen;
 } tamligub_decoder_state;
 
+/* The colours of the 32 entries of the colour table, and the entries, 0 to 31, that the four of the DCLUT name. */
+typedef struct {
+    tamligub_colour entries[32];
+    uint8_t dclut[4];
+} tamligub_colour_entries;
+
 /* Opens a decoder before the first byte; one that is open is closed first. Answers 0, or 6 where there is no memory: none is open then. */
 uint32_t tamligub_open(tamligub_decoder *decoder);
 
@@ -173,6 +179,28 @@ uint32_t tamligub_look(tamligub_decoder *decoder, uint8_t row, uint8_t column, t
 
 /* Writes in `state` where the decoder stands. Answers 0; or 1 where none is open. */
 uint32_t tamligub_state(tamligub_decoder *decoder, tamligub_decoder_state *state);
+
+/* Writes in `colours` the colours in force. Answers 0; or 1 where none is open. */
+uint32_t tamligub_colours(tamligub_decoder *decoder, tamligub_colour_entries *colours);
+
+/* Makes a line of a script, as the word `edit` does, after the page has ended: `line` is its bytes without the end of the line, such as
+ * "at 1 2" or "undo". Writes at the front of `list` each place that a command of the line changes, once, in reading order, with its look
+ * after the line; of an edit of one command, an undo and a redo these are the places that the word `trace` lists. Writes their number in
+ * `notices`, and 0 in `reason`. Up to 64 edits can be taken back. From then on all calls tell of the page as it is edited. Answers
+ *   0  the line was made
+ *   1  no decoder is open, the page has not ended, or `room` is below TAMLIGUB_ROOM_FOR_A_LINE
+ *   2  there is nothing to make: the line is empty or begins with "#", or it is an undo and no edit can be taken back, or a redo and
+ *      none can be made again
+ *   3  the line is outside the grammar of scripts: `reason` says why, 1 to 6, in the order of cept_tool(1)
+ *   6  there is no memory for the first edit
+ *   7  the line has more than 2^20 bytes
+ * But for 0 all stays, and `notices` is 0. */
+uint32_t tamligub_line(tamligub_decoder *decoder, const uint8_t *line, size_t length, tamligub_notice *list, size_t room,
+                       uint64_t *notices, uint32_t *reason);
+
+/* How many edits can be taken back, and how many were taken back and can be made again: 0 to 64; none where no decoder is open. */
+uint32_t tamligub_kept(tamligub_decoder *decoder);
+uint32_t tamligub_undone(tamligub_decoder *decoder);
 
 /* Writes the page as bytes, as the word `write` does, at the front of `out`, which has room for `room` of them, and their number in `put`.
  * Answers 0; 1 where no decoder is open; 5 where there is no room for all of them; 6 where there is no memory. In the last three cases

@@ -4,24 +4,34 @@
 // handed in stands after the module's own memory, for which the memory is grown first. Where the text doesn't fit (status 5) it asks
 // again with more room.
 //
-// new Decoder(module) is a decoder that is fed bytes as they come, and so is new Decoder(instance), of which one instance may have many:
+// new Decoder(module) is a decoder that is fed bytes as they come and then edited; so is new Decoder(instance), and one instance may have
+// many:
 //
 //   feed(bytes)         the notices of what these bytes say, in an array
+//   skim(bytes)         feeds bytes, and tells nothing
 //   finish()            those of the end of the page
+//   line(text)          those of a line of a script that is made after the end, null where there is nothing to make
+//   make(text)          makes a line, and tells only whether there was something to make
+//   kept(), undone()    how many edits can be taken back, and how many can be made again
 //   look(row, column)   how a place looks, as a notice
 //   state()             what the decoder keeps beside the page
+//   colours()           the colours in force: of the 32 entries, and which of them the four of the DCLUT name
 //   write()             the page as bytes
 //   snapshot()          all of its state as bytes; Decoder.restored(module or instance, bytes) is a decoder in that state
 //   flashStart()        the places seen at the start of flashing; flashTurn(): those that the next turn changes
 //   close()             gives its memory back
 //
-// Notices and states are objects with the fields of tamligub.h; where there is no pattern it is null. What can't be done is thrown.
+// Notices, states and colours are objects with the fields of tamligub.h; where there is no pattern it is null. What can't be done is
+// thrown; a line outside the grammar as a BadLine with its reason, 1 to 6.
 "use strict";
 
 const PAGE_OF_MEMORY = 65536;
 const NO_TEXT = 1;
+const NO_LINE = 2;
+const BAD_LINE = 3;
 const NO_ROOM = 5;
 const NO_MEMORY = 6;
+const TOO_LONG = 7;
 const MOST_ROOM = 1 << 29;
 
 // What is given: nothing, a page, a page and a script, a number, a page and a number.
@@ -65,14 +75,20 @@ const BYTES_AT_ONCE = 4096;
 const SIZE_OF_HANDLE = 16;
 const SIZE_OF_NOTICE = 184;
 const SIZE_OF_STATE = 40;
+const SIZE_OF_RECORD = 136;
 const PATTERN = 2;
 
 function fieldsAt(view, at, names) {
     return Object.fromEntries(names.map((name, number) => [name, view.getUint8(at + number)]));
 }
 
+// A call may tell of all places: what is read of each stands here field by field, which takes a tenth of the time.
 function colourAt(view, at) {
-    return fieldsAt(view, at, ["red", "green", "blue", "behind"]);
+    return { red: view.getUint8(at), green: view.getUint8(at + 1), blue: view.getUint8(at + 2), behind: view.getUint8(at + 3) };
+}
+
+function signAt(view, at) {
+    return { kind: view.getUint8(at), set: view.getUint8(at + 1), code: view.getUint8(at + 2), accent: view.getUint8(at + 3) };
 }
 
 function patternAt(view, at) {
@@ -82,15 +98,25 @@ function patternAt(view, at) {
 }
 
 function noticeAt(view, at) {
-    const sign = fieldsAt(view, at + 13, ["kind", "set", "code", "accent"]);
+    const sign = signAt(view, at + 13);
     return {
-        at: Number(view.getBigUint64(at, true)),
-        ...fieldsAt(view, at + 8, ["kind", "length", "reason", "row", "column"]),
+        at: view.getUint32(at, true) + 4294967296 * view.getUint32(at + 4, true),
+        kind: view.getUint8(at + 8),
+        length: view.getUint8(at + 9),
+        reason: view.getUint8(at + 10),
+        row: view.getUint8(at + 11),
+        column: view.getUint8(at + 12),
         sign,
-        ...fieldsAt(view, at + 17, ["dy", "dx", "w", "h"]),
+        dy: view.getUint8(at + 17),
+        dx: view.getUint8(at + 18),
+        w: view.getUint8(at + 19),
+        h: view.getUint8(at + 20),
         fore: colourAt(view, at + 21),
         back: colourAt(view, at + 25),
-        ...fieldsAt(view, at + 29, ["flash", "conceal", "lined", "boxed"]),
+        flash: view.getUint8(at + 29),
+        conceal: view.getUint8(at + 30),
+        lined: view.getUint8(at + 31),
+        boxed: view.getUint8(at + 32),
         pattern: sign.kind === PATTERN ? patternAt(view, at + 40) : null,
     };
 }
@@ -105,14 +131,33 @@ function stateAt(view, at) {
     };
 }
 
+function coloursAt(view, at) {
+    return {
+        entries: Array.from({ length: 32 }, (_, number) => colourAt(view, at + 4 * number)),
+        dclut: Array.from({ length: 4 }, (_, number) => view.getUint8(at + 128 + number)),
+    };
+}
+
+// A line outside the grammar of scripts, and why: 1 UnknownWord, 2 WrongCount, 3 BadNumber, 4 BadText, 5 BadHex, 6 BadBytes.
+class BadLine extends Error {
+    constructor(reason) {
+        super(`the line is outside the grammar of scripts, for reason ${reason}`);
+        this.name = "BadLine";
+        this.reason = reason;
+    }
+}
+
 // What the decoders of an instance share: room for what one call hands in and out, and places for what the module keeps of each.
 class Shared {
     constructor(instance) {
         this.wasm = instance.exports;
-        this.number = this.grown(8 + SIZE_OF_STATE + BYTES_AT_ONCE + ROOM * SIZE_OF_NOTICE);
-        this.record = this.number + 8;
-        this.bytes = this.record + SIZE_OF_STATE;
+        this.number = this.grown(16 + SIZE_OF_RECORD + BYTES_AT_ONCE + ROOM * SIZE_OF_NOTICE);
+        this.reason = this.number + 8;
+        this.record = this.number + 16;
+        this.bytes = this.record + SIZE_OF_RECORD;
         this.list = this.bytes + BYTES_AT_ONCE;
+        this.line = this.bytes;
+        this.longest = BYTES_AT_ONCE;
         this.out = this.list;
         this.room = ROOM * SIZE_OF_NOTICE;
         this.handles = [];
@@ -135,6 +180,15 @@ class Shared {
     makeRoom() {
         this.out = this.grown(2 * this.room);
         this.room *= 2;
+    }
+
+    // A line as the module finds it.
+    handIn(line) {
+        if (line.length > this.longest) {
+            this.line = this.grown(2 * line.length);
+            this.longest = 2 * line.length;
+        }
+        new Uint8Array(this.wasm.memory.buffer).set(line, this.line);
     }
 
     view() {
@@ -181,22 +235,63 @@ class Decoder {
         return this.shared.notices();
     }
 
-    feed(bytes) {
+    // Feeds bytes in pieces; after each of them what they say stands in the list.
+    feedIn(bytes, after) {
         const { wasm, bytes: at, list, number } = this.shared;
-        let said = [];
         while (bytes.length > 0) {
             const piece = bytes.subarray(0, BYTES_AT_ONCE);
             new Uint8Array(wasm.memory.buffer).set(piece, at);
             const taken = Number(this.call("tamligub_feed", ...[at, piece.length, list, ROOM, number].map(BigInt)));
             if (taken === 0) throw new Error("the decoder takes no more bytes");
-            said = said.concat(this.shared.notices());
+            after();
             bytes = bytes.subarray(taken);
         }
+    }
+
+    feed(bytes) {
+        let said = [];
+        this.feedIn(bytes, () => {
+            said = said.concat(this.shared.notices());
+        });
         return said;
+    }
+
+    skim(bytes) {
+        this.feedIn(bytes, () => {});
     }
 
     finish() {
         return this.noticesOf("tamligub_finish", "the page has ended");
+    }
+
+    // Makes a line of a script, as text or as bytes, without its end; answers whether there was something to make.
+    make(text) {
+        const { shared } = this, line = typeof text === "string" ? new TextEncoder().encode(text) : text;
+        shared.handIn(line);
+        const places = [shared.line, line.length, shared.list, ROOM, shared.number, shared.reason].map(BigInt);
+        const answer = this.call("tamligub_line", ...places);
+        if (answer === 0 || answer === NO_LINE) return answer === 0;
+        if (answer === BAD_LINE) throw new BadLine(shared.view().getUint32(shared.reason, true));
+        if (answer === NO_MEMORY) throw new Error("there is no memory for an edit");
+        throw new Error(answer === TOO_LONG ? "the line is too long" : "the page has not ended");
+    }
+
+    line(text) {
+        return this.make(text) ? this.shared.notices() : null;
+    }
+
+    kept() {
+        return this.call("tamligub_kept");
+    }
+
+    undone() {
+        return this.call("tamligub_undone");
+    }
+
+    colours() {
+        const { record } = this.shared;
+        this.call("tamligub_colours", BigInt(record));
+        return coloursAt(this.shared.view(), record);
     }
 
     look(row, column) {
@@ -259,4 +354,4 @@ class Decoder {
     }
 }
 
-if (typeof exports !== "undefined") Object.assign(exports, { run, Decoder });
+if (typeof exports !== "undefined") Object.assign(exports, { run, Decoder, BadLine });

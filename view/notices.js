@@ -4,31 +4,47 @@
 /** @typedef {import("./types.js").Notice} Notice */
 
 const STEADY = "S";
-/** @type {(number: number | bigint, digits: number) => string} */
+// By the numbers of notices.
+const FLASHES = "SFIR123";
+/** @type {(number: bigint, digits: number) => string} */
 const hex = (number, digits) => number.toString(16).toUpperCase().padStart(digits, "0");
+const DIGITS = "0123456789ABCDEF";
 /** @param {Colour} it */
-const colour = (it) => (it.behind ? "---" : hex(it.red * 256 + it.green * 16 + it.blue, 3));
+export const colourText = (it) => (it.behind ? "---" : DIGITS[it.red] + DIGITS[it.green] + DIGITS[it.blue]);
+/** @param {number} code */
+const codeText = (code) => DIGITS[code >> 4] + DIGITS[code & 15];
 
 /** @param {NonNullable<Notice["pattern"]>} pattern */
 function patternText({ w, h, planes, inks, bits, colours }) {
   const words = bits.slice(0, Math.ceil((w * h * planes) / 64)).map((digits) => hex(digits, 16));
-  return `%${w}x${h}x${planes}/${words.join("")}${inks ? "/" : ""}${colours.slice(0, inks).map(colour).join("")}`;
+  return `%${w}x${h}x${planes}/${words.join("")}${inks ? "/" : ""}${colours.slice(0, inks).map(colourText).join("")}`;
 }
 
 /** @param {Notice} notice */
 function shapeText({ sign, pattern }) {
   if (!sign.kind) return "-";
-  return pattern ? patternText(pattern) : "PSMND"[sign.set] + hex(sign.code, 2) + (sign.accent ? `+${hex(sign.accent, 2)}` : "");
+  return pattern ? patternText(pattern) : "PSMND"[sign.set] + codeText(sign.code) + (sign.accent ? `+${codeText(sign.accent)}` : "");
+}
+
+/**
+ * @param {Notice} it
+ * @param {string} flash
+ */
+function textOf(it, flash) {
+  const flags = (it.conceal ? "c" : "-") + (it.lined ? "l" : "-") + (it.boxed ? "b" : "-");
+  return `${shapeText(it)} ${it.h}${it.w}.${it.dy}${it.dx} ${colourText(it.fore)} ${colourText(it.back)} ${flash}${flags}`;
 }
 
 /**
  * The text of the look that a notice tells, as the program writes it; of one that flashes as it is seen.
  * @param {Notice} it
  */
-export function lookText(it) {
-  const flags = (it.conceal ? "c" : "-") + (it.lined ? "l" : "-") + (it.boxed ? "b" : "-");
-  return `${shapeText(it)} ${it.h}${it.w}.${it.dy}${it.dx} ${colour(it.fore)} ${colour(it.back)} ${STEADY}${flags}`;
-}
+export const lookText = (it) => textOf(it, STEADY);
+/**
+ * The same, with how it flashes.
+ * @param {Notice} it
+ */
+export const flashingText = (it) => textOf(it, FLASHES[it.flash]);
 
 // The bytes of keys: two of them begin and end a request.
 /** @type {Record<string, number>} */

@@ -44,9 +44,9 @@ export interface Pattern {
     readonly colours: readonly Colour[];
 }
 
-/** What an item says. Kind 1: a place looks otherwise now. Kind 2: bytes are refused. What is said of the other kind alone is 0. */
+/** What an item or a line says. Kind 1: a place looks otherwise now. Kind 2: bytes are refused. What is said of the other kind alone is 0. */
 export interface Notice {
-    /** How many bytes stand before the item. */
+    /** How many bytes stand before the item; of a line all bytes of the page. */
     readonly at: number;
     readonly kind: 1 | 2;
     /** Of kind 2: how many bytes, and why, 1 to 7. */
@@ -107,24 +107,46 @@ export interface State {
     readonly pen: Pen;
 }
 
+/** The colours in force: of the 32 entries of the colour table, and the entries that the four of the DCLUT name. */
+export interface Colours {
+    readonly entries: readonly Colour[];
+    readonly dclut: readonly number[];
+}
+
+/** A line outside the grammar of scripts: 1 UnknownWord, 2 WrongCount, 3 BadNumber, 4 BadText, 5 BadHex, 6 BadBytes. */
+export class BadLine extends Error {
+    readonly reason: number;
+}
+
 /** The module: by default the one of this package, else of its bytes, a Response, or what stands at a place. */
 export function load(source?: WebAssembly.Module | BufferSource | Response | URL | string): Promise<WebAssembly.Module>;
 
 /** Runs the program on a word, such as "show" or "changes", and what is given after it. Nothing is kept between calls. */
 export function run(module: WebAssembly.Module, word: string, given?: Given): Answer;
 
-/** A decoder that is fed bytes as they come. Many of them may live in one instance. What can't be done is thrown. */
+/** A decoder that is fed bytes as they come, and then edited line by line. Many of them may live in one instance. What can't be done is thrown. */
 export class Decoder {
     constructor(host: WebAssembly.Module | WebAssembly.Instance);
     /** A decoder in the state that a snapshot has. */
     static restored(host: WebAssembly.Module | WebAssembly.Instance, snapshot: Uint8Array): Decoder;
     /** Feeds bytes, and answers what their items change or refuse, in order. */
     feed(bytes: Uint8Array): Notice[];
+    /** Feeds bytes, and tells nothing of them. */
+    skim(bytes: Uint8Array): void;
     /** Ends the page, and answers what its end says. */
     finish(): Notice[];
+    /** Makes a line of a script, as text or as bytes without its end, after the end of the page: each place that it changes, once, with its
+     * look after it; null where there is nothing to make, of an empty line, a comment, or an undo or redo that finds no edit. */
+    line(text: string | Uint8Array): Notice[] | null;
+    /** Makes a line, and tells only whether there was something to make. */
+    make(text: string | Uint8Array): boolean;
+    /** How many edits can be taken back, and how many were and can be made again, 0 to 64. */
+    kept(): number;
+    undone(): number;
     /** How a place looks: row 1 to 24, column 1 to 40. */
     look(row: number, column: number): Notice;
     state(): State;
+    colours(): Colours;
     /** The page as bytes, which bring it back. */
     write(): Uint8Array;
     /** All of the state as bytes, those under way included. */

@@ -127,7 +127,7 @@ static void put_lines(Text *text, const tamligub_notice *list, uint64_t notices,
 }
 
 /* Numbers that are drawn from a seed. */
-static uint64_t drawn(uint64_t *seed, uint64_t below)
+static inline uint64_t drawn(uint64_t *seed, uint64_t below)
 {
     *seed = *seed * 6364136223846793005ULL + 1442695040888963407ULL;
     return (*seed >> 33) % below;

@@ -48,7 +48,6 @@ def media(tab, **features):
     tab.call("Emulation.setEmulatedMedia", features=[{"name": name, "value": value} for name, value in features.items()])
     for name, value in features.items():
         tab.until(f"window.matchMedia('({name}: {value})').matches")
-    tab.value(FRAMES)
 
 
 def operated(tab):

@@ -2,7 +2,7 @@
 import assert from "node:assert";
 import { test } from "node:test";
 import { Decoder, asked, module, pages, stored } from "./stub.js";
-import { bytesOfKeys, lookText } from "../notices.js";
+import { bytesOfKeys, flashingText, lookText } from "../notices.js";
 
 const PLACE = 1;
 const BLANK = "- 11.00 FFF 000 S---";
@@ -33,6 +33,8 @@ test("looks are written part by part", () => {
     flash: 1, conceal: 1, lined: 0, boxed: 1, pattern: null,
   };
   assert.strictEqual(lookText(it), "P61+48 21.10 F0A --- Sc-b");
+  const flashing = [0, 1, 2, 3, 4, 5, 6].map((flash) => flashingText({ ...it, flash }).slice(-4));
+  assert.deepStrictEqual(flashing, ["Sc-b", "Fc-b", "Ic-b", "Rc-b", "1c-b", "2c-b", "3c-b"]);
   const pattern = { w: 6, h: 6, planes: 2, inks: 4, bits: [0xfffn, 1n, 9n], colours: [paint(0, 0, 0), paint(15, 0, 0), paint(0, 15, 0), paint(0, 0, 0, 1)] };
   const drawn = { ...it, sign: { kind: 2, set: 4, code: 0x21, accent: 0 }, conceal: 0, lined: 1, boxed: 0, pattern };
   assert.strictEqual(lookText(drawn), "%6x6x2/0000000000000FFF0000000000000001/000F000F0--- 21.10 F0A --- S-l-");

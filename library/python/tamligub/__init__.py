@@ -18,13 +18,13 @@ threads run at once, and a decoder stays on its thread.
 from .binding import Missing
 from .decoder import Decoder
 from .faults import BadScript, Closed, NoSnapshot, NotSeven, TooLong
-from .looks import COLUMNS, REASONS, ROWS, Change, Colour, Look, Pattern, Pen, Refusal, Sign, State
+from .looks import COLUMNS, LINE_REASONS, REASONS, ROWS, Change, Colour, Colours, Look, Pattern, Pen, Refusal, Sign, State
 from .records import LAYOUT, Notices
 from .words import Check, changes, check, edit, eight, generated, plot, seven, show, write
 
 __version__ = "0.1"
 __all__ = [
-    "COLUMNS", "LAYOUT", "REASONS", "ROWS", "BadScript", "Change", "Check", "Closed", "Colour", "Decoder", "Look", "Missing", "NoSnapshot",
-    "NotSeven", "Notices", "Pattern", "Pen", "Refusal", "Sign", "State", "TooLong", "changes", "check", "edit", "eight", "generated",
-    "plot", "seven", "show", "write",
+    "COLUMNS", "LAYOUT", "LINE_REASONS", "REASONS", "ROWS", "BadScript", "Change", "Check", "Closed", "Colour", "Colours", "Decoder", "Look",
+    "Missing", "NoSnapshot", "NotSeven", "Notices", "Pattern", "Pen", "Refusal", "Sign", "State", "TooLong", "changes", "check", "edit",
+    "eight", "generated", "plot", "seven", "show", "write",
 ]

@@ -19,8 +19,12 @@ NOTHING, PAGE, PAGE_AND_SCRIPT, NUMBER, PAGE_AND_NUMBER = range(5)
 DONE, REFUSALS, USAGE, BAD_SCRIPT, UNREAD, NO_ROOM, NO_MEMORY, TOO_LONG, NOT_SEVEN = range(9)
 ROOM_FOR_A_BYTE: Final = 1920
 ROOM_FOR_A_PHASE: Final = 960
+ROOM_FOR_A_LINE: Final = 960
+# What a line answers beside 0, 6 and 7: it can't be made now, there is nothing to make, or it is outside the grammar.
+EARLY, NO_LINE, BAD_LINE = 1, 2, 3
 SIZE_OF_NOTICE: Final = 184
 SIZE_OF_STATE: Final = 40
+SIZE_OF_COLOURS: Final = 132
 # In bytes: the room that a text is first given, for each byte of the page too, and the most that a call uses.
 LEAST_ROOM, ROOM_FOR_EACH, MOST_FIRST, MOST_ROOM = 2**18, 192, 2**26, 2**32 - 1
 
@@ -52,6 +56,10 @@ FUNCTIONS: Final = {
     "tamligub_finish": (WORD, HANDLE, BYTES, SIZE, COUNT),
     "tamligub_look": (WORD, HANDLE, ctypes.c_uint8, ctypes.c_uint8, BYTES),
     "tamligub_state": (WORD, HANDLE, BYTES),
+    "tamligub_colours": (WORD, HANDLE, BYTES),
+    "tamligub_line": (WORD, HANDLE, BYTES, SIZE, BYTES, SIZE, COUNT, ctypes.POINTER(WORD)),
+    "tamligub_kept": (WORD, HANDLE),
+    "tamligub_undone": (WORD, HANDLE),
     "tamligub_write": (WORD, HANDLE, BYTES, SIZE, COUNT),
     "tamligub_snapshot": (WORD, HANDLE, BYTES, SIZE, COUNT),
     "tamligub_restore": (WORD, HANDLE, BYTES, SIZE),

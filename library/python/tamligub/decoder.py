@@ -1,4 +1,4 @@
-"""A decoder that is fed bytes as they come."""
+"""A decoder that is fed bytes as they come, and then edited line by line."""
 from __future__ import annotations
 
 import ctypes
@@ -7,8 +7,8 @@ from types import TracebackType
 from typing import Final
 
 from . import binding, words
-from .faults import Closed, NoSnapshot
-from .looks import COLUMNS, HEAD, ROWS, Look, State, look_of, state_of
+from .faults import BadScript, Closed, NoSnapshot, TooLong
+from .looks import COLUMNS, HEAD, LINE_REASONS, ROWS, Colours, Look, State, colours_of, look_of, state_of
 from .records import Notices
 
 # So many notices there is room for in one call.
@@ -21,6 +21,7 @@ class Room(threading.local):
     def __init__(self) -> None:
         self.list = ctypes.create_string_buffer(ROOM * binding.SIZE_OF_NOTICE)
         self.count = ctypes.c_uint64()
+        self.reason = ctypes.c_uint32()
 
     def records(self) -> bytes:
         """The records that the last call wrote."""
@@ -94,6 +95,51 @@ class Decoder:
     def finish(self) -> Notices:
         """Ends the page, and answers what its end says. `Closed` where it had ended before."""
         return self._noticed("tamligub_finish", "the page has ended")
+
+    def line(self, line: str | bytes) -> Notices | None:
+        """Makes a line of a script, such as "at 1 2" or "undo", after the page has ended. Answers each place that it changes, once, with its
+        look after it, or None where there is nothing to make: of an empty line, of a comment, and of an undo and a redo that find no edit.
+        `BadScript` where the line is outside the grammar, `Closed` before the end of the page.
+
+        >>> decoder = Decoder()
+        >>> _ = decoder.finish()
+        >>> [str(one) for one in decoder.line("text A")]
+        ['0 1 1 P41 11.00 FFF 000 S---']
+        >>> len(decoder.line("undo")), decoder.line("undo"), decoder.kept(), decoder.undone()
+        (1, None, 0, 1)
+        """
+        handle, held = self._own(), line.encode() if isinstance(line, str) else bytes(line)
+        start, count, reason = binding.address(held), shared.count, shared.reason
+        answer = self._calls.tamligub_line(handle, start, len(held), shared.list, ROOM, count, reason)
+        if answer == binding.BAD_LINE:
+            raise BadScript(1, reason.value, LINE_REASONS[reason.value - 1])
+        if answer == binding.NO_MEMORY:
+            raise MemoryError("there is no memory for an edit")
+        if answer == binding.TOO_LONG:
+            raise TooLong("the line is too long")
+        if answer == binding.EARLY:
+            raise Closed("the page has not ended")
+        return None if answer == binding.NO_LINE else Notices(shared.records())
+
+    def kept(self) -> int:
+        """How many edits can be taken back, 0 to 64."""
+        kept: int = self._calls.tamligub_kept(self._own())
+        return kept
+
+    def undone(self) -> int:
+        """How many edits were taken back and can be made again, 0 to 64."""
+        undone: int = self._calls.tamligub_undone(self._own())
+        return undone
+
+    def colours(self) -> Colours:
+        """The colours in force.
+
+        >>> colours = Decoder().colours()
+        >>> str(colours.entries[1]), colours.dclut
+        ('F00', (0, 1, 2, 3))
+        """
+        self._calls.tamligub_colours(self._own(), shared.list)
+        return colours_of(ctypes.string_at(shared.list, binding.SIZE_OF_COLOURS))
 
     def flash_start(self) -> Notices:
         """Begins the first of six phases of flashing over a blank display: a change for each place that isn't blank."""

@@ -11,6 +11,7 @@ COLUMNS: Final = 40
 SETS: Final = "PSMND"
 FLASHES: Final = "SFIR123"
 REASONS: Final = ("UnassignedControl", "UnknownEscape", "UnknownCsi", "UnknownUnit", "BadParameter", "Interrupted", "Truncated")
+LINE_REASONS: Final = ("UnknownWord", "WrongCount", "BadNumber", "BadText", "BadHex", "BadBytes")
 CHANGE: Final = 1
 NOTHING, SIGN, PATTERN = range(3)
 UNSET: Final = 255
@@ -180,6 +181,14 @@ class State:
     pen: Pen
 
 
+@dataclass(frozen=True, slots=True)
+class Colours:
+    """The colours in force: those of the 32 entries of the colour table, and the entries that the four of the DCLUT name."""
+
+    entries: tuple[Colour, ...]
+    dclut: tuple[int, ...]
+
+
 # The fields of a record before its look; those of the look up to its pattern; those of the pattern.
 HEAD: Final = struct.Struct("<QBBBBB")
 LOOK: Final = struct.Struct("<4B4B4s4s4B7x9Q4B64s4x")
@@ -243,3 +252,8 @@ def state_of(record: bytes) -> State:
         fed, pending, ended == 1, row, column, rows, wrap == 1, first, last, implicit == 1, revision, c1 == 1, sets, left, right, single, accent,
         table, protect == 1, pen_of(tuple(rest[10:])),
     )
+
+
+def colours_of(record: bytes) -> Colours:
+    """The colours in force of their record."""
+    return Colours(tuple(colour_of(record[at : at + 4]) for at in range(0, 128, 4)), tuple(record[128:132]))
