@@ -2,8 +2,7 @@
 // become one line of the script, with the chosen pen, and what that line shows is seen before it is kept.
 import { COLUMNS, readCells } from "./shared.js";
 import { speak, word } from "./words.js";
-import { BadLine } from "./ask.js";
-import { Making } from "./making.js";
+import { BadLine } from "./faults.js";
 import { inGrammar, raw, sameBytes } from "./lines.js";
 import { button, group, inLine, make, part, rove } from "./controls.js";
 
@@ -257,9 +256,9 @@ export class Drawing {
    */
   preview(line, wanted) {
     const { sheet, asker } = this.needs;
-    const [page, script] = sheet.standing(sheet.good);
-    const course = asker.trace(page, `${script}${line}\n`, sheet.known);
-    const grid = new Making(sheet.before(), course).end();
+    const { cells, numbers, count } = asker.trace(sheet.edited(), `${line}\n`, sheet.known);
+    const grid = sheet.making.end().slice();
+    for (let at = 0; at < count; at++) grid[cells[at]] = numbers[at];
     const other = wanted.filter(({ cell, shape }) => shapeOf(sheet.known.list[grid[cell]]) !== shape);
     const places = other.slice(0, 8).map(({ cell }) => placeOf(cell).join("/")).join(", ");
     this.fault(other.length ? word("drawCovered", { places }) : "");

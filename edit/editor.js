@@ -1,8 +1,8 @@
 // Joins the parts: the sheet, the screen, writing, the tools, the script and what is kept.
 import { COLUMNS, PHASES, ROWS, Screen, TALL, lastGrid, paintStill, readFlash, readTrace, run, unicodeOf } from "./shared.js";
 import { setLanguage, word } from "./words.js";
-import { AskFault, Asker } from "./ask.js";
-import { raw } from "./lines.js";
+import { AskFault } from "./faults.js";
+import { Asker } from "./ask.js";
 import { Sheet } from "./sheet.js";
 import { joinTabs, make, part, say } from "./controls.js";
 import { Typing } from "./typing.js";
@@ -12,7 +12,9 @@ import { Drawing, POINTS_TALL, POINTS_WIDE } from "./drawing.js";
 import { PatternEditor } from "./pattern.js";
 import { ColourPanel, Whole } from "./whole.js";
 import { ScriptPane } from "./script.js";
-import { Keep } from "./keep.js";
+import { Cuts } from "./cuts.js";
+import { Listing } from "./listing.js";
+import { Keep, savedOf } from "./keep.js";
 
 const PHASE_TIME = 1000 / PHASES;
 const PAUSE = 250;
@@ -26,11 +28,6 @@ const WRITES_ON = "#pen button, #mosaic button, #draw button, #undo, #redo";
 const NAMES = {
   "000": "black", F00: "red", "0F0": "green", FF0: "yellow", "00F": "blue", F0F: "magenta", "0FF": "cyan", FFF: "white", "---": "picture",
 };
-const ENTRIES = Array.from({ length: 32 }, (_, entry) => entry);
-// On a cleared screen in a break of the service: a sign on a ground of an entry, in normal polarity.
-const [CLEARED, AT_FIRST] = ["raw 1F2F40580C", [0x1b, 0x22, 0x41, 0x1f, 0x41, 0x41, 0x9c, 0x9b]];
-/** @param {number} entry */
-const groundLine = (entry) => raw(...AT_FIRST, 0x30 + (entry >> 3), 0x40, 0x90 + (entry & 7), 0x41 + entry);
 
 class Editor {
   /**
@@ -48,11 +45,12 @@ class Editor {
     this.pointed = -1;
     /** @type {Uint32Array[]} */
     this.phases = [];
-    // Clocks: of the flash, and of the pause after a change.
-    this.flashing = this.waiting = 0;
+    // Clocks: of the flash, of the pause after a change, and of what is done once the screen is painted.
+    this.flashing = this.waiting = this.later = 0;
+    this.storesPage = false;
     this.ratio = 0;
-    /** @type {{ script: string | null, page: Uint8Array | null, paints: string[] }} */
-    this.asked = { script: null, page: null, paints: [] };
+    // The paints that the panels show.
+    this.inks = "";
     /** @type {import("./types.js").Tell} */
     const tell = (happening) => this.happened(happening);
     const ready = () => this.ready();
@@ -67,7 +65,9 @@ class Editor {
     this.pattern = new PatternEditor({ sheet, asker }, tell);
     this.panel = new Whole({ sheet, at: () => typing.at(), ...named }, tell);
     this.colours = new ColourPanel(named, tell);
-    this.keep = new Keep({ sheet, asker, ready, whole: () => this.whole(), still: () => this.still() }, tell);
+    this.listing = new Listing({ sheet, asker }, tell);
+    this.cuts = new Cuts({ sheet, asker });
+    this.keep = new Keep({ sheet, asker, cuts: this.cuts, ready, still: () => this.still() }, tell);
     /** @type {import("./types.js").Look[]} */
     this.seen = [];
     this.screen.looks = this.seen;
@@ -92,9 +92,16 @@ class Editor {
       case "chosen":
         this.typing.end();
         return this.moved();
-      case "seen": return this.paint();
+      case "seen":
+        this.listing.toEnd();
+        return this.paint();
+      case "stepped":
+        this.script.toEnd();
+        this.script.speak();
+        return this.paint();
       case "pointed": return this.outline();
-      case "taken": return this.open(happening.page, happening.script);
+      case "cut": return this.cut(happening);
+      case "taken": return this.open(happening.page, happening.script, happening.cuts);
       case "named": return this.show();
       default: return this.tell(happening.text, happening.isFault);
     }
@@ -120,16 +127,38 @@ class Editor {
   /**
    * @param {Uint8Array} page
    * @param {string} script
+   * @param {import("./cuts.js").Stored[]} cuts
    */
-  open(page, script) {
+  open(page, script, cuts) {
     this.sheet.open(page, script);
-    this.asked.script = null;
-    this.screen.looks = this.seen = [];
-    this.screen.forget();
+    this.cuts.take(cuts);
     this.typing.reset();
     this.drawing.forget();
+    this.isOther();
+  }
+
+  // Another stored page is there.
+  isOther() {
+    this.screen.looks = this.seen = [];
+    this.screen.forget();
     this.script.forget();
+    this.listing.forget();
     this.showRefusals();
+  }
+
+  /**
+   * Cuts the stored page after some items, and makes lines of those behind.
+   * @param {{ items: import("./items.js").PageItems, count: number, makesLines: boolean }} cut
+   */
+  cut({ items, count, makesLines }) {
+    if (!this.ready()) return;
+    this.typing.leave();
+    const made = makesLines ? this.cuts.makeLines(items, count) : null;
+    if (!makesLines) this.cuts.cut(items, count, this.sheet.script());
+    this.isOther();
+    this.changed(false, true);
+    if (makesLines) this.tell(made ? word("linesMade", made) : word("linesOther"));
+    else this.tell(word("cutDone", { bytes: this.sheet.page.length }));
   }
 
   /**
@@ -154,9 +183,11 @@ class Editor {
   turn(by) {
     if (!this.ready()) return;
     this.typing.end();
-    const done = this.sheet.turn(by);
+    const isCut = this.cuts.turn(by);
+    const done = isCut || this.sheet.turn(by);
+    if (isCut) this.isOther();
     if (done) this.typing.arrive(null);
-    this.changed();
+    this.changed(false, isCut);
     if (!done) this.tell(word(by === "undo" ? "noUndo" : "noRedo"));
   }
 
@@ -169,25 +200,37 @@ class Editor {
   }
 
   /**
-   * After each change of the script.
+   * After each change of the script, and of the stored page.
    * @param {boolean} [typed]
+   * @param {boolean} [isCut]
    */
-  changed(typed = false) {
+  changed(typed = false, isCut = false) {
     this.script.toEnd();
+    this.listing.toEnd();
     this.tell("");
-    this.keep.store(false);
+    this.storesPage = this.storesPage || isCut;
     this.drawing.again();
     this.show(typed);
   }
 
   /** @param {boolean} [typed] */
   show(typed = false) {
-    if (typed || this.sheet.lines.length < LONG_SCRIPT) this.script.show(typed);
+    if (typed) this.script.show(true);
+    this.later = this.later || window.setTimeout(() => this.painted(), 0);
     say("name", this.keep.isUnsaved() ? word("changed", { name: this.keep.shownName() }) : this.keep.shownName());
     part("name").title = this.keep.isUnsaved() ? word("isChanged") : "";
     document.title = `${part("name").textContent} – Tamligub, ${word("editor")}`;
     this.paint();
     this.tellPlace();
+  }
+
+  // Once the screen is painted: keeps page and script in the storage, and lays a script out that isn't long.
+  painted() {
+    clearTimeout(this.later);
+    this.later = 0;
+    this.keep.store(this.storesPage);
+    this.storesPage = false;
+    if (this.sheet.lines.length < LONG_SCRIPT) this.script.show();
   }
 
   // After each motion of the caret.
@@ -196,9 +239,22 @@ class Editor {
     this.tellPlace();
   }
 
-  // The grid that is to be seen: of a drawing that is tried, of a line that was stepped to, or of the end.
+  // Whether the screen is shown as it was before the end.
+  isStepping() {
+    return this.script.step !== null || this.listing.step !== null;
+  }
+
+  // Shows the end again.
+  toEnd() {
+    if (!this.isStepping()) return;
+    this.listing.toEnd();
+    this.script.go(Infinity);
+  }
+
+  // The grid that is to be seen: of a drawing that is tried, of an item or a line that was stepped to, or of the end.
   grid() {
     if (this.drawing.drawn) return this.drawing.drawn.grid;
+    if (this.listing.step !== null) return this.listing.grid(this.listing.step);
     return this.script.step === null ? this.sheet.making.end() : this.sheet.making.after(this.script.step);
   }
 
@@ -222,7 +278,7 @@ class Editor {
   }
 
   outline() {
-    this.screen.outline(this.script.outlined(), this.pointed);
+    this.screen.outline(this.listing.step === null ? this.script.outlined() : this.listing.outlined(), this.pointed);
   }
 
   placeCaret() {
@@ -238,19 +294,21 @@ class Editor {
       caret.style[side] = `${box[at]}px`;
       if (at < 2 && !draws) typing.style[side] = `${box[at]}px`;
     });
-    caret.hidden = this.script.step !== null;
+    caret.hidden = this.isStepping();
   }
 
   // The place of the caret, or the look of the cell that is pointed at.
   tellPlace() {
     const { row, column } = this.typing;
+    this.listing.mark(this.pointed, this.typing.cell());
     if (this.pointed < 0) {
       say("where", word("whereTyping", { row, column }));
       return;
     }
     const look = this.lookOf(this.pointed);
     const place = word("where", { row: Math.floor(this.pointed / COLUMNS) + 1, column: (this.pointed % COLUMNS) + 1 });
-    const line = this.sheet.making.lineOf(this.pointed, this.script.step === null ? Infinity : this.script.step);
+    const lines = this.script.step === null ? Infinity : this.script.step;
+    const line = this.listing.step === null ? this.sheet.making.lineOf(this.pointed, lines) : 0;
     say("where", `${place}: ${look.text}${line ? ` (${word("madeBy", { line })})` : ""}`);
   }
 
@@ -278,15 +336,15 @@ class Editor {
     clearTimeout(this.waiting);
     this.waiting = 0;
     if (this.sheet.lines.length >= LONG_SCRIPT && document.activeElement !== part("script")) this.script.show();
-    const page = this.sheet.isUnsure() ? this.whole() : this.sheet.edited();
+    const page = this.sheet.edited();
     const { items, refused } = this.asker.check(page);
     const same = this.showsSame(page);
     const said = word("report", { bytes: page.length, items, refused });
     say("report-page", `${said} ${word(this.sheet.fault ? "reportBad" : same ? "reportSame" : "reportOther")}`);
     part("report-page").dataset.same = String(same && !this.sheet.fault);
-    const before = String(this.asked.paints);
-    if (String(this.paints()) !== before) this.speakPanels();
+    if (String(this.paints()) !== this.inks) this.speakPanels();
     else this.pattern.mark();
+    this.panel.show();
     this.flash();
   }
 
@@ -300,28 +358,9 @@ class Editor {
     return grid.every((number, cell) => number === shown[cell]);
   }
 
-  // What `edit` puts for the stored page and the whole script, which is kept. Should it show something else, that is shown.
-  whole() {
-    const page = this.sheet.editedWhole();
-    if (!this.showsSame(page)) {
-      this.sheet.runWhole();
-      this.show();
-      this.tell(word("otherBytes"), true);
-    }
-    return page;
-  }
-
-  /**
-   * The paints of the 32 entries, as the program says them.
-   * @returns {string[]}
-   */
+  // The paints of the 32 entries, as the program says them.
   paints() {
-    if (this.asked.script !== this.sheet.script() || this.asked.page !== this.sheet.page) {
-      const [page, script] = this.sheet.standing(this.sheet.good);
-      const looks = this.asker.lastLooks(page, script, [CLEARED, ...ENTRIES.map(groundLine)]).slice(1);
-      this.asked = { script: this.sheet.script(), page: this.sheet.page, paints: looks.map((look) => (look ? look.back : "---")) };
-    }
-    return this.asked.paints;
+    return this.sheet.live.paints();
   }
 
   /**
@@ -344,7 +383,7 @@ class Editor {
   flash() {
     this.stopFlash();
     const flashes = this.grid().some((number) => this.sheet.known.list[number].flash !== "S");
-    if (!part("flash").checked || !flashes || this.script.step !== null || this.drawing.drawn) return;
+    if (!part("flash").checked || !flashes || this.isStepping() || this.drawing.drawn) return;
     this.phases = readFlash(this.asker.flash(this.sheet.edited()), this.sheet.known);
     let phase = 0;
     const turn = () => {
@@ -369,6 +408,7 @@ class Editor {
   }
 
   speakPanels() {
+    this.inks = String(this.paints());
     this.pen.show();
     this.mosaic.speak();
     this.drawing.speak();
@@ -383,6 +423,7 @@ class Editor {
     part("script").placeholder = word("scriptHint");
     this.speakPanels();
     this.showRefusals();
+    this.listing.speak();
     this.show();
   }
 
@@ -442,7 +483,7 @@ function joinScreen(editor) {
   box.addEventListener("pointerdown", (/** @type {PointerEvent} */ event) => {
     event.preventDefault();
     part("typing").focus({ preventScroll: true });
-    if (editor.script.step !== null) editor.script.go(Infinity);
+    editor.toEnd();
     if (drawing.drawing()) {
       box.setPointerCapture(event.pointerId);
       drawing.down(pointAt(event));
@@ -531,10 +572,12 @@ async function begin() {
   joinScreen(editor);
   joinControls(editor);
   const kept = await editor.keep.stored();
-  if (kept) editor.keep.take(kept.name, kept.page, kept.script, kept.saved);
-  else editor.keep.take("", new Uint8Array(), "", "");
+  editor.keep.take(kept || savedOf("", new Uint8Array(), ""));
   editor.speak(language);
   window.addEventListener("resize", () => editor.lay());
+  window.addEventListener("pagehide", () => {
+    if (editor.later) editor.painted();
+  });
   part("typing").focus();
   if (kept) editor.tell(word("restored", { name: editor.keep.shownName() }));
   // For tests, which look into it.

@@ -1,16 +1,17 @@
 // What is opened and what is kept: files, and what the browser's storage has.
 import { TABLES, word } from "./words.js";
 import { STATUS } from "./statuses.js";
-import { AskFault, textOf } from "./ask.js";
+import { textOf } from "./ask.js";
+import { AskFault } from "./faults.js";
 import { Store, toLetters } from "./store.js";
 import { part } from "./controls.js";
 
 /** @typedef {import("./types.js").Tell} Tell */
 
 /**
- * The script, the program, whether lines can be added, the page as the program puts it for all of the script, and a picture of it.
+ * The script, the program, the cuts of the page, whether lines can be added, and a picture of the page.
  * @typedef {{
- *   sheet: import("./sheet.js").Sheet, asker: import("./ask.js").Asker, ready: () => boolean, whole: () => Uint8Array,
+ *   sheet: import("./sheet.js").Sheet, asker: import("./ask.js").Asker, cuts: import("./cuts.js").Cuts, ready: () => boolean,
  *   still: () => HTMLCanvasElement,
  * }} Needs
  */
@@ -50,6 +51,15 @@ export function documentOf([head, tail], data) {
   return head + JSON.stringify([data]).replace(/[\u007f-\uffff<]/g, escaped) + tail;
 }
 
+/**
+ * What is kept of a page that is new, or was opened with a script.
+ * @param {string} name
+ * @param {Uint8Array} page
+ * @param {string} script
+ * @returns {import("./store.js").Kept}
+ */
+export const savedOf = (name, page, script) => ({ name, page, cuts: [], script, saved: script, isOther: false });
+
 export class Keep {
   /**
    * @param {Needs} needs
@@ -60,14 +70,22 @@ export class Keep {
     this.tell = tell;
     this.files = new Store(() => localStorage, navigator.locks);
     this.name = "";
+    // The script that was saved last, and the stored page that stood under it; null where that isn't known.
     this.saved = "";
+    /** @type {Uint8Array | null} */
+    this.savedPage = null;
     this.stores = true;
     this.join();
   }
 
   // Whether something would be lost.
   isUnsaved() {
-    return this.needs.sheet.script() !== this.saved;
+    return this.needs.sheet.script() !== this.saved || this.isOther();
+  }
+
+  // Whether the stored page is another than the one of which the script was saved.
+  isOther() {
+    return this.needs.sheet.page !== this.savedPage;
   }
 
   shownName() {
@@ -83,12 +101,14 @@ export class Keep {
   }
 
   /**
-   * Keeps the script in the storage, and the page where it is another.
+   * Keeps the script in the storage, and the page with its cuts where it is another.
    * @param {boolean} pageToo
    */
   store(pageToo) {
-    const { sheet } = this.needs;
-    if (this.files.put({ name: this.name, page: sheet.page, script: sheet.script(), saved: this.saved }, pageToo)) return;
+    const { sheet, cuts } = this.needs;
+    const { name, saved } = this;
+    const kept = { name, page: sheet.page, cuts: cuts.stored(), script: sheet.script(), saved, isOther: this.isOther() };
+    if (this.files.put(kept, pageToo)) return;
     if (this.stores) this.say(word("notKept"));
     this.stores = false;
   }
@@ -100,15 +120,13 @@ export class Keep {
 
   /**
    * Takes a page that is new, or was opened, or comes from the storage.
-   * @param {string} name
-   * @param {Uint8Array} page
-   * @param {string} script
-   * @param {string} saved
+   * @param {import("./store.js").Kept} kept
    */
-  take(name, page, script, saved) {
-    this.tell({ kind: "taken", page, script });
+  take({ name, page, cuts, script, saved, isOther }) {
+    this.tell({ kind: "taken", page, script, cuts });
     this.name = name;
     this.saved = saved;
+    this.savedPage = isOther ? null : page;
     this.store(true);
     this.tell({ kind: "named" });
   }
@@ -129,7 +147,7 @@ export class Keep {
   // The page as the program puts it for the stored page and the whole script.
   keepPage() {
     if (!this.needs.ready()) return;
-    this.download(".btx", this.needs.whole());
+    this.download(".btx", this.needs.sheet.edited());
     this.settle();
   }
 
@@ -140,6 +158,7 @@ export class Keep {
 
   settle() {
     this.saved = this.needs.sheet.script();
+    this.savedPage = this.needs.sheet.page;
     this.store(false);
     this.tell({ kind: "named" });
   }
@@ -151,8 +170,8 @@ export class Keep {
   // One file with the viewer and the page in it, as `btx html` writes it.
   keepHtml() {
     if (!this.needs.ready()) return;
-    const { asker } = this.needs;
-    const page = this.needs.whole();
+    const { asker, sheet } = this.needs;
+    const page = sheet.edited();
     /** @type {(name: string, more?: import("./types.js").Things) => string} */
     const text = (name, more) => textOf(asker.put(name, { page, ...more }));
     const flash = text("flash", { number: TURNS });
@@ -187,7 +206,7 @@ export class Keep {
   }
 
   async blank() {
-    if (await this.mayLeave()) this.take("", new Uint8Array(), "", "");
+    if (await this.mayLeave()) this.take(savedOf("", new Uint8Array(), ""));
   }
 
   /**
@@ -201,7 +220,7 @@ export class Keep {
     try {
       const bytes = page ? new Uint8Array(await page.arrayBuffer()) : this.needs.sheet.page;
       const text = script ? (await script.text()).replace(/\r\n?/g, "\n") : "";
-      this.take(page ? page.name : this.name || named.name, bytes, text, text);
+      this.take(savedOf(page ? page.name : this.name || named.name, bytes, text));
     } catch (fault) {
       this.say(this.endOf(fault, named.name), true);
     }

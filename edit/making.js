@@ -1,42 +1,62 @@
-// How a script makes its screen: the looks of all cells after each of its lines, as `trace` tells them.
+// How a script makes its screen: which cells each of its lines changed, and how they look after it, as the decoder told it.
 
-/** @typedef {import("./types.js").Trace} Trace */
+/** @typedef {import("./types.js").Step} Step */
+
+/**
+ * What a line did: the word of an undo or a redo, or null for an edit; the cells that it changed with their looks, and the looks that these
+ * had before. Of a line that did nothing there is none.
+ * @typedef {Step & { word: string | null, before: number[] }} Done
+ */
+
+const WORDS = ["undo", "redo"];
 
 export class Making {
   /**
-   * The grid before the lines, their course, how many lines of the script stand before them, and how those made the grid.
-   * @param {Uint32Array} base
-   * @param {Trace} course
-   * @param {number} [offset]
-   * @param {Making | null} [before]
+   * The grid before the first line.
+   * @param {Uint32Array} first
    */
-  constructor(base, course, offset = 0, before = null) {
-    this.base = base;
-    this.course = course;
-    this.offset = offset;
-    this.before = before;
-    /** @type {number[]} */
-    this.nothings = [...(before ? before.nothings : []), ...course.nothings.map((line) => line + offset)];
+  constructor(first) {
+    // The grid after the last line.
+    this.grid = first.slice();
+    /**
+     * What each line did, or null.
+     * @type {(Done | null)[]}
+     */
+    this.done = [];
+    /**
+     * The numbers of the lines that undo or make again and had nothing to.
+     * @type {number[]}
+     */
+    this.nothings = [];
+  }
+
+  // How many lines there are.
+  get count() {
+    return this.done.length;
   }
 
   /**
-   * The first and the next change line of a line of the script, which is one of this course.
-   * @param {number} line
-   * @returns {[number, number]}
+   * Takes what one line more of the program's grammar did, or null.
+   * @param {string} line
+   * @param {Step | null} step
    */
-  span(line) {
-    const { moments, count } = this.course;
-    let [low, high] = [0, moments.length];
-    while (low < high) {
-      const middle = (low + high) >> 1;
-      if (moments[middle].place < line - this.offset) low = middle + 1;
-      else high = middle;
-    }
-    const found = low < moments.length && moments[low].place === line - this.offset;
-    const end = found ? low + 1 : low;
-    /** @type {(at: number) => number} */
-    const first = (at) => (at < moments.length ? moments[at].first : count);
-    return [first(low), first(end)];
+  add(line, step) {
+    const word = WORDS.includes(line) ? line : null;
+    if (!step && word) this.nothings.push(this.count + 1);
+    this.done.push(step && { ...step, word, before: step.cells.map((cell) => this.grid[cell]) });
+    if (step) step.cells.forEach((cell, at) => { this.grid[cell] = step.numbers[at]; });
+  }
+
+  // What the last line did, or null.
+  last() {
+    return this.done[this.count - 1] || null;
+  }
+
+  // Leaves out the last line.
+  drop() {
+    const done = this.done.pop();
+    if (done) done.cells.forEach((cell, at) => { this.grid[cell] = done.before[at]; });
+    if (this.nothings[this.nothings.length - 1] > this.count) this.nothings.pop();
   }
 
   /**
@@ -45,9 +65,8 @@ export class Making {
    * @returns {number[]}
    */
   cellsOf(line) {
-    if (line <= this.offset) return this.before ? this.before.cellsOf(line) : [];
-    const [from, to] = this.span(line);
-    return [...new Set(this.course.cells.subarray(from, to))];
+    const done = this.done[line - 1];
+    return done ? done.cells : [];
   }
 
   /**
@@ -57,14 +76,12 @@ export class Making {
    * @returns {number}
    */
   lineOf(cell, lines) {
-    if (this.before && lines <= this.offset) return this.before.lineOf(cell, lines);
-    const { cells, moments } = this.course;
-    let [, change] = this.span(lines);
-    do change--;
-    while (change >= 0 && cells[change] !== cell);
-    if (change < 0) return this.before ? this.before.lineOf(cell, this.offset) : 0;
-    const at = moments.findIndex((moment) => moment.first > change);
-    return moments[(at < 0 ? moments.length : at) - 1].place + this.offset;
+    let line = Math.min(lines, this.count);
+    for (; line > 0; line--) {
+      const done = this.done[line - 1];
+      if (done && done.cells.includes(cell)) break;
+    }
+    return line;
   }
 
   /**
@@ -73,14 +90,35 @@ export class Making {
    * @returns {Uint32Array}
    */
   after(lines) {
-    if (lines < this.offset && this.before) return this.before.after(lines);
-    const grid = this.base.slice();
-    const [, to] = this.span(lines);
-    for (let line = 0; line < to; line++) grid[this.course.cells[line]] = this.course.numbers[line];
+    const grid = this.grid.slice();
+    for (let line = this.count; line > lines; line--) {
+      const done = this.done[line - 1];
+      if (done) done.cells.forEach((cell, at) => { grid[cell] = done.before[at]; });
+    }
     return grid;
   }
 
+  // The grid after the last line.
   end() {
-    return this.after(Infinity);
+    return this.grid;
+  }
+
+  /**
+   * The places in the script of the edits that are kept, and of those that were taken back and can be made again, the next one last.
+   * @returns {{ kept: number[], undone: number[] }}
+   */
+  edits() {
+    /** @type {[number[], number[]]} */
+    const [kept, undone] = [[], []];
+    this.done.forEach((done, index) => {
+      if (!done) return;
+      if (done.word === "undo") undone.push(...kept.splice(-1));
+      else if (done.word === "redo") kept.push(...undone.splice(-1));
+      else {
+        kept.push(index);
+        undone.length = 0;
+      }
+    });
+    return { kept, undone };
   }
 }

@@ -24,8 +24,8 @@ const BLACK_AND_WHITE = ["000", "FFF"];
 const blankField = () => new Array(WIDEST * HIGHEST).fill(0);
 /** @param {number} code */
 const hexOf = (code) => `${code >> 4}/${code & 15}`;
-// On a cleared screen in a break of the service: a sign of the downloaded set at the first place, plain.
-const [CLEARED, AT_FIRST] = ["raw 1F2F40580C", [0x1f, 0x41, 0x41, 0x1b, 0x28, 0x20, 0x40]];
+// A screen without cells, under control defaults; and a sign of the downloaded set at its first place.
+const [WIPED, AT_FIRST] = ["raw 1F2F440C", [0x1f, 0x41, 0x41, 0x1b, 0x28, 0x20, 0x40]];
 /** @param {number} code */
 const showLine = (code) => raw(...AT_FIRST, code);
 
@@ -146,12 +146,12 @@ export class PatternEditor {
   }
 
   /**
-   * The looks that the program gives to lines on a screen that was cleared before.
+   * The looks that the program gives to lines on the page as it would be kept, without its cells.
    * @param {string[]} lines
    */
   ask(lines) {
     const { sheet, asker } = this.needs;
-    return asker.lastLooks(...sheet.standing(sheet.good), [CLEARED, ...lines]);
+    return asker.lastLooks(sheet.edited(), [WIPED, ...lines]);
   }
 
   // The line that defines the pattern.

@@ -49,9 +49,8 @@ export class Pen {
    * @returns {{ set: string[], lines: string[] }}
    */
   lines() {
-    const { sheet } = this.needs;
-    const set = sheet.said(/^(serial|parallel)$/, "parallel") === this.set ? [] : [this.set];
-    return { set, lines: this.set === "serial" ? [] : this.chosenLines(sheet.said(/^table \d$/, "table 0")) };
+    const { set, table } = this.needs.sheet.inForce();
+    return { set: set === this.set ? [] : [this.set], lines: this.set === "serial" ? [] : this.chosenLines(table) };
   }
 
   // The same as bytes, in which each colour has its table before it.
@@ -76,8 +75,7 @@ export class Pen {
    * @param {number} first
    */
   mark(number, first) {
-    const known = this.needs.sheet.said(/^table \d$/, "table 0");
-    this.tell({ kind: "mark", lines: [...tableLines(this.table, known), `c1 ${first + number}`] });
+    this.tell({ kind: "mark", lines: [...tableLines(this.table, this.needs.sheet.inForce().table), `c1 ${first + number}`] });
   }
 
   /**

@@ -200,10 +200,10 @@ export class ScriptPane {
     const typed = () => this.tell({ kind: "typed", text: field.value });
     /** @type {ReturnType<typeof setTimeout> | undefined} */
     let waiting;
-    // Where a run takes long the text is seen first, and run after a pause.
+    // Where making all anew may take long the text is seen first, and made after a pause.
     field.addEventListener("input", () => {
       clearTimeout(waiting);
-      if (sheet.isSlow()) waiting = setTimeout(typed, PAUSE);
+      if (sheet.isLong()) waiting = setTimeout(typed, PAUSE);
       else typed();
     });
     field.addEventListener("scroll", () => this.bands());

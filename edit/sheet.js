@@ -1,29 +1,22 @@
-// The state of the editor: a stored page, a script, and nothing else. What they show is asked of the program at each change.
-//
-// A long page or a long script needs no rerun at each key: `edit` puts what page and script have come to as bytes, which stand in the
-// place of both from then on, and only the lines after these run. The next action begins with a line that sets control back to its start
-// there, so that page and lines before it, and the bytes, lead to the same. An undo that reaches back past that line is answered with
-// `nothing`, and then the whole script runs again; so it does after a change by hand of what stands before.
-import { Looks, lastGrid, readTrace } from "./shared.js";
-import { BadLine } from "./ask.js";
+// The state of the editor: a stored page, a script, and nothing else. The script's lines are made one by one on the page under way, and how
+// each changed the screen is kept. Where other lines take the place of some, those are taken back before; what can't be taken back is made
+// anew from the stored page.
+import { Looks } from "./shared.js";
+import { AskFault, BadLine } from "./faults.js";
 import { Making } from "./making.js";
 import { inGrammar, sameBytes } from "./lines.js";
+import { STATUS } from "./statuses.js";
 
 /** @typedef {import("./ask.js").Asker} Asker */
+/** @typedef {import("./making.js").Done} Done */
 /** @typedef {import("./types.js").Check} Check */
-/** @typedef {import("./types.js").Trace} Trace */
-
-/**
- * What stands for the first lines of a script and its page: what `edit` put for them, how many lines they are, and how these made the
- * screen.
- * @typedef {{ page: Uint8Array, count: number, making: Making | null }} Base
- */
 
 // Control defaults with the parallel set.
 const START = "raw 1F2F44";
-const [LONG_PAGE, MANY_LINES] = [4096, 200];
-/** @type {Trace} */
-const NOTHING = { cells: new Uint16Array(), numbers: new Uint32Array(), count: 0, looks: [], moments: [], refusals: [], nothings: [] };
+// The bytes of the longest script.
+const LONGEST = 2 ** 20;
+// Page and script of so many signs are made anew within the time of a frame.
+const SHORT = 20000;
 
 /**
  * @param {string} line
@@ -36,50 +29,10 @@ export const isEdit = (line) => /^[^#]/.test(inGrammar(line));
  */
 const textOf = (lines) => lines.map((line) => `${line}\n`).join("");
 /**
- * The same as the program takes it.
- * @param {string[]} lines
- * @returns {string}
+ * Whether a text has more bytes than a script may have.
+ * @param {string} text
  */
-const grammarOf = (lines) => textOf(lines.map(inGrammar));
-
-/**
- * Whether each line of these that isn't undone stands after one that sets control back: whatever control was before, they do the same.
- * @param {string[]} lines
- * @returns {boolean}
- */
-function areAnew(lines) {
-  let [kept, undone] = [0, 0];
-  for (const line of lines.map(inGrammar).filter(isEdit)) {
-    if (line === "undo" || line === "redo") {
-      const by = line === "undo" ? Math.min(1, kept) : -Math.min(1, undone);
-      [kept, undone] = [kept - by, undone + by];
-    } else if (kept || line === START) [kept, undone] = [kept + 1, 0];
-    else return false;
-  }
-  return true;
-}
-
-/**
- * The numbers of the edit lines that are kept after some lines, and of those that are undone, the last one at the end. The lines at
- * which the program says that nothing was taken back or made again do nothing here either.
- * @param {string[]} lines
- * @param {number[]} nothings
- * @returns {{ kept: number[], undone: number[] }}
- */
-function keptOf(lines, nothings) {
-  /** @type {[number[], number[]]} */
-  const [kept, undone] = [[], []];
-  lines.map(inGrammar).forEach((line, index) => {
-    if (!isEdit(line) || nothings.includes(index + 1)) return;
-    if (line === "undo") undone.push(...kept.splice(-1));
-    else if (line === "redo") kept.push(...undone.splice(-1));
-    else {
-      kept.push(index);
-      undone.length = 0;
-    }
-  });
-  return { kept, undone };
-}
+const isTooLong = (text) => text.length > LONGEST || (3 * text.length > LONGEST && new TextEncoder().encode(text).length > LONGEST);
 
 export class Sheet {
   /** @param {Asker} asker */
@@ -88,23 +41,21 @@ export class Sheet {
     this.page = new Uint8Array();
     /** @type {string[]} */
     this.lines = [];
+    this.text = "";
     /** @type {import("./types.js").Looks} */
     this.known = new Looks();
-    // The page as `edit` puts it, its refusals, and its screen.
-    this.written = new Uint8Array();
+    // What is refused in the page, and its screen.
     /** @type {Check} */
     this.check = { refusals: [], items: 0, refused: 0 };
     this.first = new Uint32Array();
-    /** @type {Base | null} */
-    this.base = null;
-    this.byHand = false;
+    // The page under way, with the lines up to the first bad one, and how these made the screen.
+    this.live = asker.live(this.page, this.known);
+    this.making = new Making(this.first);
+    // Whether what the page under way could make again isn't what the script could, and by how many edits it can take back less.
+    this.isAside = false;
+    this.less = 0;
     /** @type {BadLine | null} */
     this.fault = null;
-    // The lines up to the first bad one, how they made the screen, and the cell where the program would write next, or -1.
-    /** @type {string[]} */
-    this.good = [];
-    this.making = new Making(this.first, NOTHING);
-    this.at = -1;
     /** @type {{ text: string, page: Uint8Array, bytes: Uint8Array } | null} */
     this.memory = null;
     this.open(this.page, "");
@@ -116,11 +67,12 @@ export class Sheet {
    * @param {string} script
    */
   open(page, script) {
-    const known = new Looks();
-    this.written = this.asker.edit(page, "");
-    this.check = this.asker.check(page);
-    this.first = lastGrid(readTrace(this.asker.changes(this.written), known));
-    [this.page, this.known, this.lines, this.base] = [page, known, [], null];
+    const [check, known] = [this.asker.check(page), new Looks()];
+    const live = this.asker.live(page, known);
+    this.live.close();
+    [this.page, this.check, this.known, this.live, this.first] = [page, check, known, live, live.grid()];
+    this.making = new Making(this.first);
+    [this.isAside, this.less, this.lines, this.text] = [false, 0, [], ""];
     this.setScript(script);
   }
 
@@ -131,98 +83,98 @@ export class Sheet {
   setScript(script) {
     const lines = script.split("\n");
     if (lines[lines.length - 1] === "") lines.pop();
-    if (!this.base || !this.isBefore(this.base.count, lines)) this.base = this.baseOfPage(lines);
-    this.lines = lines;
-    this.byHand = this.base !== null && lines.length > 0;
-    this.run();
-  }
-
-  // Runs all from the stored page.
-  runWhole() {
-    this.base = null;
-    this.run();
-  }
-
-  // Whether lines that were written by hand ran on bytes and not on the stored page. They could end a service's break in which the page
-  // ended, of which the bytes know nothing; lines of actions don't. It is asked once.
-  isUnsure() {
-    const is = this.byHand && this.base !== null;
-    this.byHand = false;
-    return is;
+    let same = 0;
+    while (same < lines.length && lines[same] === this.lines[same]) same++;
+    this.change(same, lines.slice(same));
   }
 
   /**
-   * Whether other lines begin with the same ones, so many, and go on anew.
+   * Puts other lines in the place of those after the first so many.
+   * @param {number} from
+   * @param {string[]} lines
+   */
+  change(from, lines) {
+    const all = [...this.lines.slice(0, from), ...lines];
+    const gone = textOf(this.lines.slice(from)).length;
+    const text = this.text.slice(0, this.text.length - gone) + textOf(lines);
+    if (isTooLong(text)) throw new AskFault("edit", STATUS.TOO_LONG);
+    this.back(from);
+    [this.lines, this.text] = [all, text];
+    this.goOn();
+  }
+
+  // Makes the lines that aren't made yet, up to the first bad one.
+  goOn() {
+    this.fault = null;
+    while (this.fault === null && this.making.count < this.lines.length) this.makeNext();
+  }
+
+  makeNext() {
+    const line = inGrammar(this.lines[this.making.count]);
+    if ((line === "redo" && this.isAside) || (line === "undo" && this.less && !this.live.kept())) this.makeAnew();
+    try {
+      this.making.add(line, this.live.line(line));
+    } catch (fault) {
+      if (!(fault instanceof BadLine)) throw fault;
+      this.fault = fault.after(this.making.count);
+      return;
+    }
+    const done = this.making.last();
+    if (!done || done.word) return;
+    [this.isAside, this.less] = [false, Math.max(0, this.less - 1)];
+  }
+
+  /**
+   * Goes back to the first so many lines.
    * @param {number} count
-   * @param {string[]} lines
    */
-  isBefore(count, lines) {
-    return areAnew(lines.slice(count)) && this.lines.slice(0, count).every((line, index) => line === lines[index]);
+  back(count) {
+    let near = true;
+    while (this.making.count > count) {
+      near = near && this.takeBack(this.making.last());
+      this.making.drop();
+    }
+    if (!near) this.makeAnew();
   }
 
   /**
-   * The bytes that `edit` puts for a long page alone, where a script begins anew.
-   * @param {string[]} lines
-   * @returns {Base | null}
+   * Takes back what the last line did: an edit that was made again too by an undo, and an undo by a redo. Answers whether that can be.
+   * @param {Done | null} done
    */
-  baseOfPage(lines) {
-    if (this.page.length <= LONG_PAGE || !areAnew(lines)) return null;
-    return { page: this.written, count: 0, making: null };
+  takeBack(done) {
+    if (!done) return true;
+    const word = done.word === "undo" ? "redo" : "undo";
+    if (word === "redo" ? this.isAside : !this.live.kept()) return false;
+    this.live.line(word);
+    if (!done.word) [this.isAside, this.less] = [true, this.less + 1];
+    return true;
   }
 
-  // Whether a run takes long: that of a long page for which nothing stands.
-  isSlow() {
-    return this.page.length > LONG_PAGE && this.base === null;
+  // Makes the lines that were made anew, from the stored page.
+  makeAnew() {
+    this.live.close();
+    this.live = this.asker.live(this.page, this.known);
+    this.live.makeAgain(this.good.map(inGrammar));
+    [this.isAside, this.less] = [false, 0];
+  }
+
+  // The lines that are made: all up to the first bad one.
+  get good() {
+    return this.lines.slice(0, this.making.count);
+  }
+
+  // Whether making all anew may take longer than a frame.
+  isLong() {
+    return this.page.length + this.text.length > SHORT;
   }
 
   script() {
-    return textOf(this.lines);
+    return this.text;
   }
 
-  /**
-   * Page and lines that stand for all that has been: the stored page and the whole script, or what `edit` put and the lines after.
-   * @param {string[]} lines
-   * @returns {[Uint8Array, string]}
-   */
-  standing(lines) {
-    return this.base ? [this.base.page, grammarOf(lines.slice(this.base.count))] : [this.page, grammarOf(lines)];
-  }
-
-  // Asks what each line changes and where the next sign would be. Of a script with a bad line the lines before it are asked.
-  run() {
-    this.fault = null;
-    for (let good = this.lines; ;) {
-      try {
-        this.ran(good);
-        return;
-      } catch (fault) {
-        if (!(fault instanceof BadLine)) throw fault;
-        this.fault = fault.after(this.base ? this.base.count : 0);
-        good = good.slice(0, this.fault.line - 1);
-      }
-    }
-  }
-
-  /** @param {string[]} lines */
-  ran(lines) {
-    const { course, at } = this.asker.traceTo(...this.standing(lines), this.known);
-    // Before the bytes there is no past; before a script there is none either.
-    if (this.base && this.base.count && course.nothings.length) {
-      this.base = this.baseOfPage(lines);
-      this.ran(lines);
-      return;
-    }
-    const { making, count } = this.base || { making: null, count: 0 };
-    this.making = new Making(this.before(), course, count, making);
-    [this.good, this.at] = [lines, at];
-  }
-
-  /**
-   * The grid before the lines that run.
-   * @returns {Uint32Array}
-   */
-  before() {
-    return this.base && this.base.making ? this.base.making.end() : this.first;
+  // The cell where the program would write next.
+  get at() {
+    return this.live.state().at;
   }
 
   /**
@@ -232,38 +184,27 @@ export class Sheet {
   edited() {
     const text = textOf(this.good);
     if (!this.memory || this.memory.text !== text || this.memory.page !== this.page) {
-      this.memory = { text, page: this.page, bytes: this.asker.edit(...this.standing(this.good)) };
+      this.memory = { text, page: this.page, bytes: this.asker.edit(this.page, textOf(this.good.map(inGrammar))) };
     }
     return this.memory.bytes;
   }
 
-  // The same, of the stored page and the whole script.
-  editedWhole() {
-    return this.asker.edit(this.page, grammarOf(this.good));
-  }
-
   // The numbers of the lines whose edits are kept.
   kept() {
-    return keptOf(this.lines, this.making.nothings).kept;
+    return this.making.edits().kept;
   }
 
-  // Whether lines that are added begin with the one that sets control back: the first on a page that was there, or after what stands
-  // for lines, and one from which on less is to run again.
+  // Whether lines that are added begin with the one that sets control back: the first on a page that was there.
   needsStart() {
-    const first = this.base ? this.base.count : 0;
-    const isUnknown = this.page.length > 0 || this.base !== null;
-    return (isUnknown && !this.kept().some((index) => index >= first)) || this.isLong();
+    return this.page.length > 0 && !this.kept().length;
   }
 
-  isLong() {
-    const since = this.lines.length - (this.base ? this.base.count : 0);
-    return since > MANY_LINES || (!this.base && this.page.length > LONG_PAGE);
-  }
-
-  // Makes the place from which on lines run.
-  rest() {
-    const page = this.edited();
-    this.base = { page, count: this.lines.length, making: this.making };
+  /**
+   * The C1 set and the line of the table in force where the next action begins; null before one that begins by setting control back.
+   * @returns {{ set: string | null, table: string | null }}
+   */
+  inForce() {
+    return this.needsStart() ? { set: null, table: null } : this.live.state();
   }
 
   /**
@@ -272,48 +213,18 @@ export class Sheet {
    */
   add(lines) {
     const paragraph = this.lines.length && this.lines[this.lines.length - 1] !== "" ? [""] : [];
-    const start = this.needsStart() ? [START] : [];
-    if (start.length && this.isLong()) this.rest();
-    this.lines = [...this.lines, ...paragraph, ...start, ...lines];
-    this.run();
+    this.change(this.lines.length, [...paragraph, ...(this.needsStart() ? [START] : []), ...lines]);
     return this.lines.length - lines.length;
   }
 
   /**
-   * Puts other lines in the place of the last ones.
-   * @param {number} from
-   * @param {string[]} lines
-   */
-  change(from, lines) {
-    this.lines = [...this.lines.slice(0, from), ...lines];
-    if (this.base && from < this.base.count) this.base = null;
-    this.run();
-  }
-
-  /**
-   * What kept lines said last of something, by the words of such lines; null where that isn't known.
-   * @param {RegExp} words
-   * @param {string} atStart
-   * @returns {string | null}
-   */
-  said(words, atStart) {
-    for (const index of this.kept().reverse()) {
-      const line = inGrammar(this.lines[index]);
-      if (words.test(line)) return line;
-      if (line === START) return atStart;
-      if (line.startsWith("raw 1F2F") || line.startsWith("raw 1B22")) return null;
-    }
-    return this.page.length ? null : atStart;
-  }
-
-  /**
-   * The first line of the action that a line belongs to.
+   * The first line of the action that a line belongs to, and the line after its last.
    * @param {number} index
+   * @returns {[number, number]}
    */
   actionOf(index) {
-    let first = index;
-    while (first > 0 && this.lines[first - 1] !== "") first--;
-    return first;
+    const end = this.lines.indexOf("", index);
+    return [this.lines.lastIndexOf("", index) + 1, end < 0 ? this.lines.length : end];
   }
 
   /**
@@ -322,23 +233,22 @@ export class Sheet {
    * @param {"undo" | "redo"} word
    */
   turn(word) {
-    const { kept, undone } = keptOf(this.lines, this.making.nothings);
-    const stack = word === "undo" ? kept : undone;
+    const { kept, undone } = this.making.edits();
+    const stack = (word === "undo" ? kept : undone).reverse();
     if (!stack.length) return false;
-    const action = this.actionOf(stack[stack.length - 1]);
-    const count = stack.length - stack.findIndex((_, at) => stack.slice(at).every((line) => this.actionOf(line) === action));
-    const from = this.lines.length;
-    const paragraph = from && this.lines[from - 1] !== "" ? [""] : [];
-    this.change(from, [...paragraph, ...Array(count).fill(word)]);
-    const nothings = this.making.nothings.filter((line) => line > from).length;
-    if (nothings === count) this.change(from, []);
-    else if (nothings) this.change(this.lines.length - nothings, []);
-    return nothings < count;
+    const [first, end] = this.actionOf(stack[0]);
+    const other = stack.findIndex((index) => index < first || index >= end);
+    const count = other < 0 ? stack.length : other;
+    if (word === "undo" ? this.less && this.live.kept() < count : this.isAside) this.makeAnew();
+    const most = Math.min(count, word === "undo" ? this.live.kept() : this.live.undone());
+    const paragraph = this.lines[this.lines.length - 1] !== "" ? [""] : [];
+    if (most) this.change(this.lines.length, [...paragraph, ...Array(most).fill(word)]);
+    return most > 0;
   }
 
   // The lines of kept edits, with the comments and the empty lines of their actions.
   tidied() {
-    const kept = new Set(keptOf(this.lines, this.making.nothings).kept);
+    const kept = new Set(this.kept());
     /** @type {string[]} */
     const left = [];
     /** @type {{ line: string, index: number }[]} */
@@ -359,9 +269,9 @@ export class Sheet {
 
   // Takes undone edits and what undid them out of the script. Answers whether the program puts the same page for it; else it stays.
   tidy() {
-    const [before, page] = [this.script(), this.editedWhole()];
+    const [before, page] = [this.script(), this.edited()];
     this.setScript(this.tidied());
-    const same = this.fault === null && sameBytes(this.editedWhole(), page);
+    const same = this.fault === null && sameBytes(this.edited(), page);
     if (!same) this.setScript(before);
     return same;
   }

@@ -8,8 +8,9 @@ const pageName = (editor) => `tamligub.editor.${editor}.page`;
 const scriptName = (editor) => `tamligub.editor.${editor}.script`;
 
 /**
- * What an editor has: the name of a page with its bytes, a script, and the script that was saved last.
- * @typedef {{ name: string, page: Uint8Array, script: string, saved: string }} Kept
+ * What an editor has: the name of a page with its bytes and the cuts that were made in it; a script, the script that was saved last, and whether
+ * that was saved of another stored page.
+ * @typedef {{ name: string, page: Uint8Array, cuts: import("./cuts.js").Stored[], script: string, saved: string, isOther: boolean }} Kept
  */
 
 /**
@@ -46,10 +47,13 @@ export class Store {
    * @param {Kept} kept
    * @param {boolean} pageToo
    */
-  put({ name, page, script, saved }, pageToo) {
+  put({ name, page, cuts, script, saved, isOther }, pageToo) {
     try {
-      if (pageToo) this.storage().setItem(pageName(this.id), JSON.stringify({ name, page: toLetters(page) }));
-      this.storage().setItem(scriptName(this.id), JSON.stringify({ script, saved, time: Date.now() }));
+      if (pageToo) {
+        const before = cuts.map((cut) => ({ ...cut, page: toLetters(cut.page) }));
+        this.storage().setItem(pageName(this.id), JSON.stringify({ name, page: toLetters(page), cuts: before }));
+      }
+      this.storage().setItem(scriptName(this.id), JSON.stringify({ script, saved, isOther, time: Date.now() }));
       return true;
     } catch (fault) {
       return false;
@@ -63,9 +67,11 @@ export class Store {
    */
   of(id) {
     try {
-      const { name, page } = JSON.parse(this.storage().getItem(pageName(id)) || "");
-      const { script, saved, time } = JSON.parse(this.storage().getItem(scriptName(id)) || "");
-      return script === saved ? null : { id, name, page: fromLetters(page), script, saved, time };
+      const { name, page, cuts = [] } = JSON.parse(this.storage().getItem(pageName(id)) || "");
+      const { script, saved, isOther = false, time } = JSON.parse(this.storage().getItem(scriptName(id)) || "");
+      if (script === saved && !isOther) return null;
+      const before = cuts.map((/** @type {any} */ cut) => ({ ...cut, page: fromLetters(cut.page) }));
+      return { id, name, page: fromLetters(page), cuts: before, script, saved, isOther, time };
     } catch (fault) {
       return null;
     }

@@ -13,20 +13,28 @@
  * @typedef {import("../view/types.js").Check} Check
  * @typedef {import("../view/types.js").Things} Things
  * @typedef {import("../view/types.js").Runs} Run
+ * @typedef {import("../view/types.js").Notice} Notice
  * @typedef {import("../view/text.js").Looks} Looks
  * @typedef {import("../view/screen.js").Screen} Screen
  * @typedef {import("../view/paint.js").Painter} Painter
  */
 
 /**
+ * What a line of a script does: the cells that it changes, and the numbers of their looks after it.
+ * @typedef {{ cells: number[], numbers: number[] }} Step
+ */
+
+/**
  * What a part tells the editor, by its kind: an action to add (`act`); lines or signs that belong at the caret (`mark`, `write`); that the
  * script was changed at the caret (`changed`), by hand (`typed`), or is to be tidied (`tidy`); that the caret moved (`moved`), and that
- * where it is should be told (`arrived`); that another pen was chosen (`chosen`); that the screen shows something else (`seen`), or other
- * cells are to be outlined (`pointed`); that a page was taken (`taken`), or its name or what is kept of it is another (`named`); and words
- * to be shown (`said`).
+ * where it is should be told (`arrived`); that another pen was chosen (`chosen`); that the screen shows something else (`seen`), or what it was after an
+ * item (`stepped`), or other
+ * cells are to be outlined (`pointed`); that the page is to be cut after some items (`cut`); that a page was taken (`taken`), or its name or
+ * what is kept of it is another (`named`); and words to be shown (`said`).
  * @typedef {{ kind: "act" | "mark", lines: string[] } | { kind: "write", signs: Sign[] } | { kind: "typed", text: string }
- *   | { kind: "said", text: string, isFault?: boolean } | { kind: "taken", page: Uint8Array, script: string }
- *   | { kind: "changed" | "tidy" | "moved" | "arrived" | "chosen" | "seen" | "pointed" | "named" }} Happening
+ *   | { kind: "said", text: string, isFault?: boolean } | { kind: "taken", page: Uint8Array, script: string, cuts: import("./cuts.js").Stored[] }
+ *   | { kind: "cut", items: import("./items.js").PageItems, count: number, makesLines: boolean }
+ *   | { kind: "changed" | "tidy" | "moved" | "arrived" | "chosen" | "seen" | "stepped" | "pointed" | "named" }} Happening
  */
 
 /** @typedef {(happening: Happening) => void} Tell */

@@ -93,8 +93,8 @@ export class Typing {
    */
   arrive(said) {
     const { at } = this.needs.sheet;
-    if (at >= 0) [this.row, this.column] = [Math.floor(at / COLUMNS) + 1, (at % COLUMNS) + 1];
-    this.said = at >= 0 ? said : null;
+    [this.row, this.column] = [Math.floor(at / COLUMNS) + 1, (at % COLUMNS) + 1];
+    this.said = said;
   }
 
   /**

@@ -33,6 +33,12 @@ export class Whole {
   constructor(needs, tell) {
     this.needs = needs;
     this.tell = tell;
+    /**
+     * The fields of the area's first and last row.
+     * @type {HTMLInputElement[]}
+     */
+    this.ends = [];
+    this.rows = "";
     const attributes = [this.attributes("rowPart", "row"), this.attributes("screenPart", "screen")];
     part("sheet").append(...attributes, inLine(this.area(), this.format(), this.revision()), this.writing());
   }
@@ -50,8 +56,7 @@ export class Whole {
     const attribute = choice("attribute", [["", "attribute"], ...names.map((name) => /** @type {const} */ ([name, name]))], () => {});
     const [back, fore] = [colours("back"), colours("fore")];
     const set = () => {
-      const known = this.needs.sheet.said(/^table \d$/, "table 0");
-      const lines = colourLines(kind, [[entryOf(back), BACK], [entryOf(fore), FORE]], known);
+      const lines = colourLines(kind, [[entryOf(back), BACK], [entryOf(fore), FORE]], this.needs.sheet.inForce().table);
       if (attribute.value) lines.push(`${kind} ${WHOLE[attribute.value]}`);
       if (lines.length) this.act(lines, kind);
       for (const select of [back, fore, attribute]) select.value = "";
@@ -70,6 +75,7 @@ export class Whole {
 
   area() {
     const [from, to] = [numbers("areaFrom", 1, ROWS, 5), numbers("areaTo", 1, ROWS, 20)];
+    this.ends = [from, to];
     const rows = () => {
       const ends = [numberIn(from), numberIn(to)];
       return `${Math.min(...ends)} ${Math.max(...ends)}`;
@@ -102,8 +108,20 @@ export class Whole {
       marks("repeat", () => `repeat ${numberIn(times)}`), times, marks("protect", () => "protect"), marks("unprotect", () => "unprotect"));
   }
 
+  // Shows the area that is there, once it is another, and which of the modes are in force.
+  show() {
+    const { first, last, implicit, revision, protect } = this.needs.sheet.live.state();
+    const rows = [first, last].join();
+    if (first && rows !== this.rows) this.ends.forEach((field, at) => { field.value = String(at ? last : first); });
+    this.rows = rows;
+    const modes = { implicit: implicit === 1, explicit: implicit === 0, revision1: revision === 1, revision2: revision === 2,
+      protect: protect === 1, unprotect: protect === 0 };
+    for (const [key, is] of Object.entries(modes)) part("sheet").querySelector(`[data-word=${key}]`).setAttribute("aria-pressed", String(is));
+  }
+
   speak() {
     speak(part("sheet"));
+    this.show();
     for (const select of part("sheet").querySelectorAll("[data-kind]")) {
       for (const option of [...select.options].slice(1)) option.textContent = this.needs.entryName(Number(option.value));
     }

@@ -291,6 +291,8 @@ def rows_screen_area_format_and_colours_are_lines(hand):
         hand.click(f'#sheet [data-word="revision{number}"]')
         assert hand.lines()[-1] == f"revision {number}", hand.lines()
         hand.is_true()
+        hand.settle()
+        assert hand.tab.value("[1, 2].filter((number) => document.querySelector(`#sheet [data-word=revision${number}]`).ariaPressed === 'true')") == [number]
     hand.click('#sheet [data-word="protect"]')
     hand.cell(9, 3)
     hand.type("bleibt")
@@ -470,6 +472,105 @@ def lines_are_stepped_and_pointed_at(hand):
         assert str(len(changed[number])) in hand.text("script-line") or len(changed[number]) == 1, hand.text("script-line")
     hand.hover(5, 5)
     assert hand.outlined() == set()
+
+
+def items_of(hand, path):
+    """The lines of `list`, and where the bytes of each item end."""
+    lines = hand.put("list", path).decode().splitlines()
+    return lines, [sum(map(int, line.split(" ", 2)[:2])) for line in lines]
+
+
+CHOSEN = "document.querySelector('#items [aria-selected=true]').textContent"
+MADE = "(document.querySelector('#items [aria-current=true]') || {}).textContent"
+
+
+def the_items_of_a_page_are_stepped_and_marked(hand):
+    """The screen after each is that of the bytes up to its end; the one that made a cell is marked, and none where a line of the script did."""
+    stored = read(page("title"))
+    hand.fresh(page("title"))
+    still(hand)
+    lines, ends = items_of(hand, page("title"))
+    hand.click("#items-part summary")
+    hand.tab.until(f"Tamligub.part('items-count').textContent.endsWith(' {len(lines)} Elemente')")
+    hand.tab.value("Tamligub.part('items').focus()")
+    for number in range(1, 13):
+        hand.key("ArrowDown")
+        assert hand.tab.value(CHOSEN) == lines[number - 1] == hand.tab.value(MADE), hand.tab.value(CHOSEN)
+        assert hand.looks() == hand.looks_of(hand.written("part.btx", stored[: ends[number - 1]])), f"after item {number} something else is shown"
+    hand.key("ArrowUp")
+    assert hand.tab.value(CHOSEN) == lines[10] and lines[10] in hand.text("items-words"), hand.text("items-words")
+    hand.key("Home")
+    assert hand.looks() == [BLANK] * 960, "before the first item the screen isn't blank"
+    hand.key("End")
+    assert hand.looks() == hand.looks_of(page("title")) and hand.tab.value(CHOSEN) == lines[-1], hand.tab.value(CHOSEN)
+    made = {}
+    for line in hand.put("changes", page("title")).decode().splitlines():
+        place, row, column, _ = line.split(" ", 3)
+        made[int(row), int(column)] = next(line for line in lines if line.startswith(f"{place} "))
+    for row, column in list(made)[:: max(1, len(made) // 9)]:
+        hand.cell(row, column)
+        assert hand.tab.value(MADE) == made[row, column], f"row {row}, column {column}: {hand.tab.value(MADE)}"
+    row, column = min(made)
+    hand.cell(row, column)
+    hand.type("x")
+    hand.cell(row, column)
+    assert hand.tab.value(MADE) is None, hand.tab.value(MADE)
+    hand.is_true(stored)
+
+
+def a_page_is_cut_and_made_lines(hand):
+    """After an item the page ends, or lines of the script do the same as those behind; both are undone and made again, and outlast a crash."""
+    stored = read(page("title"))
+    lines, ends = items_of(hand, page("title"))
+    number = len(lines) // 2
+
+    def choose(at):
+        hand.tab.value(f"Tamligub.part('items-part').open = true, Tamligub.editor.listing.go({at})")
+
+    hand.fresh(page("title"))
+    still(hand)
+    hand.cell(24, 3)
+    hand.type("dazu")
+    script, shown = hand.script(), hand.looks()
+    choose(number)
+    hand.click("#lines-here")
+    made = [line for line in hand.script()[: -len(script)].split("\n") if line]
+    assert len(made) > 3 and any(line.startswith("at ") for line in made) and hand.script().endswith("\n\n" + script), hand.script()
+    assert hand.looks() == shown and str(len(made)) in hand.text("note"), hand.text("note")
+    kept = hand.tab.value("Tamligub.editor.sheet.page.length")
+    assert kept <= ends[number - 1] and hand.tab.value("Tamligub.editor.keep.isUnsaved()"), kept
+    whole = hand.is_true(stored[:kept])
+    assert hand.looks_of(hand.written("whole.btx", whole)) == shown, "kept is something else"
+    # A line of the old page is changed where it was made.
+    other = hand.script().replace(made[-1] + "\n", "", 1)
+    hand.write_script(other)
+    hand.is_true(stored[:kept])
+    hand.write_script("\n".join(made) + "\n\n" + script)
+    hand.tab.value("Tamligub.part('typing').focus()")
+    hand.key("z", held=CONTROL)
+    assert hand.script() == script and hand.tab.value("Tamligub.editor.sheet.page.length") == len(stored), hand.script()
+    hand.is_true(stored)
+    hand.key("y", held=CONTROL)
+    assert hand.tab.value("Tamligub.editor.sheet.page.length") == kept and hand.looks() == shown, hand.script()
+    hand.is_true(stored[:kept])
+    # The page ends after an item, and the script goes on there.
+    hand.fresh(page("title"))
+    still(hand)
+    choose(number)
+    hand.click("#cut-here")
+    assert hand.script() == "" and hand.looks() == hand.looks_of(hand.written("cut.btx", stored[: ends[number - 1]])), "the cut shows something else"
+    assert hand.text("name").endswith("●"), "a page that was cut is saved"
+    hand.cell(24, 3)
+    hand.type("neu")
+    hand.is_true(stored[: ends[number - 1]])
+    hand.crash()
+    still(hand)
+    assert hand.lines()[-1] == "text neu"
+    hand.is_true(stored[: ends[number - 1]])
+    for _ in range(2):
+        hand.key("z", held=CONTROL)
+    assert hand.script() == "" and hand.looks() == hand.looks_of(page("title")), "a cut isn't undone after a crash"
+    hand.is_true(stored)
 
 
 def a_crash_loses_nothing(hand):
@@ -772,6 +873,8 @@ def each_panel_serves_a_person_without_a_mouse(hand):
     """Names, contrast, the way of the focus, and twice as large, over a page with refused items and a script with a bad line; and the help."""
     hand.fresh(page("refused"), hand.written("bad.txt", b"at 3 4\ntext abc\nno such line\n"))
     assert hand.text("script-fault"), "the bad line isn't told"
+    hand.tab.value("Tamligub.part('items-part').open = true")
+    hand.tab.until("document.querySelectorAll('#items [role=option]').length > 3")
     for panel in PANELS:
         hand.tab_of(panel)
         access.all_is_named(hand.tab, 25)
@@ -833,8 +936,8 @@ def random_actions_show_what_the_program_says(hand):
         hand.is_true(stored)
 
 
-def lines_that_end_a_break_of_the_page_are_run_from_it(hand):
-    """A long page that ends in a service's break: bytes know nothing of what the service kept, so a line by hand that ends it is told."""
+def lines_end_a_break_of_the_page(hand):
+    """A long page that ends in a service's break: a line by hand ends it, and what the service kept comes back."""
     stored = b"\x1f\x45\x45" + bytes(0x21 + at % 94 for at in range(5000)) + b"\x1f\x2f\x40\x58"
     hand.fresh(hand.written("break.btx", stored))
     hand.settle()
@@ -842,7 +945,7 @@ def lines_that_end_a_break_of_the_page_are_run_from_it(hand):
     hand.type("a")
     hand.fill("#script", hand.script() + "raw 1F2F4F\ntext B\n")
     hand.settle()
-    assert "Von Anfang an" in hand.text("fault"), hand.text("fault")
+    assert hand.tab.value("Tamligub.part('report-page').dataset.same") == "true", hand.text("report-page")
     hand.is_true(stored)
     hand.cell(4, 4)
     hand.type("c")
@@ -863,9 +966,10 @@ CASES = (
     scripts_are_typed, signs_are_composed, each_attribute_is_a_line, serial_attributes_are_markers,
     rows_screen_area_format_and_colours_are_lines,
     patterns_have_inks, drawings_are_seen_before_they_are_kept, without_plot_only_drawing_is_absent, a_bad_line_is_told,
-    lines_are_stepped_and_pointed_at, a_crash_loses_nothing, an_unsaved_page_is_asked_about, refused_items_are_told, what_is_kept,
+    lines_are_stepped_and_pointed_at, the_items_of_a_page_are_stepped_and_marked, a_page_is_cut_and_made_lines,
+    a_crash_loses_nothing, an_unsaved_page_is_asked_about, refused_items_are_told, what_is_kept,
     what_flashes_is_that_of_flash, letters_of_the_browsers_font_take_the_place_of_dots, tidying_takes_undone_lines_out,
     the_keyboard_alone_does_all, every_control_has_a_name_in_both_languages, it_fits_small_screens, a_finger_places_the_caret,
     each_panel_serves_a_person_without_a_mouse, with_less_motion_nothing_moves,
-    random_actions_show_what_the_program_says, lines_that_end_a_break_of_the_page_are_run_from_it, no_other_script_runs,
+    random_actions_show_what_the_program_says, lines_end_a_break_of_the_page, no_other_script_runs,
 )

@@ -2,4 +2,5 @@
 import { createRequire } from "node:module";
 
 globalThis.window = globalThis;
-globalThis.Tamligub = { run: createRequire(import.meta.url)("../../library/tamligub.js").run };
+const { run, Decoder } = createRequire(import.meta.url)("../../library/tamligub.js");
+globalThis.Tamligub = { run, Decoder };

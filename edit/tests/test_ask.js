@@ -2,11 +2,12 @@
 import assert from "node:assert";
 import { test } from "node:test";
 import "./scripts.js";
-import { AskFault, Asker, BadLine, bytesOf, textOf } from "../ask.js";
+import { Asker, bytesOf, textOf } from "../ask.js";
+import { AskFault, BadLine } from "../faults.js";
 import { figureOf, lineOf } from "../drawing.js";
 import * as shared from "../shared.js";
 
-const { CELLS, Looks } = shared;
+const { CELLS } = shared;
 const USAGE = { status: 2, text: bytesOf("usage") };
 // An asker over a program that answers words as they are given here, and what it was called with.
 function over(answers) {
@@ -43,20 +44,11 @@ test("statuses 0 and 1 are answers, 3 is a bad line, and the others have none", 
 
 const look = (letter) => `P${letter.charCodeAt(0).toString(16).toUpperCase()} 11.00 FFF 000 S---`;
 
-test("the place where the program would write next is the cell of one line more, which is no part of the course", () => {
-  const { asker, calls } = over({ trace: put(`1 2 3 ${look("A")}\n2 1 1 ${look("B")}\n2 2 4 ${look("?")}\n`) });
-  const { course, at } = asker.traceTo(page, "text A\n", new Looks());
-  assert.deepStrictEqual([at, course.count, course.moments.length], [40 + 3, 1, 1]);
-  assert.deepStrictEqual(calls()[0].script.split("\n").length, 3);
-  const none = over({ trace: put(`1 2 3 ${look("A")}\n`) }).asker.traceTo(page, "text A\n", new Looks());
-  assert.deepStrictEqual([none.at, none.course.count], [-1, 1]);
-});
-
-test("of lines after a script the last look that each changes is told", () => {
-  const { asker, calls } = over({ trace: put(`1 1 1 ${look("A")}\n3 1 1 ${look("B")}\n3 1 2 ${look("C")}\n5 1 1 ${look("D")}\n`) });
-  const looks = asker.lastLooks(page, "text A\n# note\n", ["one", "two", "three"]);
+test("of lines on a page the last look that each changes is told", () => {
+  const { asker, calls } = over({ trace: put(`1 1 1 ${look("B")}\n1 1 2 ${look("C")}\n3 1 1 ${look("D")}\n`) });
+  const looks = asker.lastLooks(page, ["one", "two", "three"]);
   assert.deepStrictEqual(looks.map((one) => one && String.fromCharCode(one.code)), ["C", null, "D"]);
-  assert.strictEqual(calls()[0].script, "text A\n# note\none\ntwo\nthree\n");
+  assert.strictEqual(calls()[0].script, "one\ntwo\nthree\n");
 });
 
 test("flash is asked for each phase and the first again", () => {

@@ -4,6 +4,7 @@ import { readFileSync, readdirSync } from "node:fs";
 import { test } from "node:test";
 import { asked, sheetOf } from "./program.js";
 import { POINTS_TALL, POINTS_WIDE } from "../drawing.js";
+import { REASONS } from "../live.js";
 import { MARKERS, PEN, WHOLE, bytesOfLine } from "../lines.js";
 import { STATUS } from "../statuses.js";
 import { TABLES } from "../words.js";
@@ -31,7 +32,9 @@ test("statuses are those of the header", () => {
 
 test("each reason for which a line is refused has words, and no other", () => {
   const names = [...MANUAL.matchAll(/^\d\|([A-Z][A-Za-z]+)\|/gm)].map((found) => found[1]);
-  const reasons = names.slice(names.indexOf("UnknownWord"), names.indexOf("BadBytes") + 1).sort();
+  const numbered = names.slice(names.indexOf("UnknownWord"), names.indexOf("BadBytes") + 1);
+  assert.deepStrictEqual(REASONS, numbered);
+  const reasons = numbered.slice().sort();
   assert.strictEqual(reasons.length, 6);
   for (const table of Object.values(TABLES)) assert.deepStrictEqual(Object.keys(table).filter((key) => /^[A-Z]/.test(key)).sort(), reasons);
 });

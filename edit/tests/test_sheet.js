@@ -57,10 +57,10 @@ asked("after another action nothing is made again", () => {
   sheet.add(["text A"]);
   sheet.turn("undo");
   sheet.add(["text B"]);
-  const [before, making] = [sheet.script(), sheet.making];
+  const [script, before] = [sheet.script(), sheet.making.count];
   assert.strictEqual(sheet.turn("redo"), false);
-  assert.strictEqual(sheet.script(), before);
-  assert.strictEqual(sheet.making, making, "the program is asked for nothing");
+  assert.strictEqual(sheet.script(), script);
+  assert.strictEqual(sheet.making.count, before, "a line is made");
 });
 
 asked("tidying leaves out what was undone, with its notes, and the page stays", () => {
@@ -84,21 +84,20 @@ asked("a bad line is told with its number, and the lines before it are shown", (
   assert.strictEqual(sheet.fault, null);
 });
 
-asked("what kept lines said last is known until something may have said otherwise", () => {
+asked("the set and the table in force are asked of the page under way", () => {
   const sheet = sheetOf();
-  const table = () => sheet.said(/^table \d$/, "table 0");
-  assert.strictEqual(table(), "table 0");
+  const { set, table } = sheet.inForce();
+  assert.deepStrictEqual([set, table], ["parallel", "table 0"]);
   sheet.add(["table 2", "text A"]);
-  assert.strictEqual(table(), "table 2");
-  sheet.add(["table 3"]);
+  sheet.add(["table 3", "serial"]);
+  assert.deepStrictEqual([sheet.inForce().set, sheet.inForce().table], ["serial", "table 3"]);
   sheet.turn("undo");
-  assert.strictEqual(table(), "table 2");
-  sheet.add(["raw 1F2F43"]);
-  assert.strictEqual(table(), null);
+  assert.deepStrictEqual([sheet.inForce().set, sheet.inForce().table], ["parallel", "table 2"]);
+  // Before an action that begins by setting control back neither is said to be in force.
   const other = sheetOf(PAGE);
-  assert.strictEqual(other.said(/^table \d$/, "table 0"), null);
+  assert.deepStrictEqual(other.inForce(), { set: null, table: null });
   other.add(["text A"]);
-  assert.strictEqual(other.said(/^table \d$/, "table 0"), "table 0");
+  assert.deepStrictEqual([other.inForce().set, other.inForce().table], ["parallel", "table 0"]);
 });
 
 asked("other lines take the place of the last ones", () => {
@@ -108,28 +107,88 @@ asked("other lines take the place of the last ones", () => {
   assert.deepStrictEqual([sheet.lines, rowOf(sheet, 1)], [["at 1 1", "text AB"], "AB"]);
 });
 
-asked("of a long script only the lines since bytes stood for it run, and the page is that of the whole", () => {
+asked("undo goes as far as the program keeps edits, and lines of a long script stay", () => {
   const sheet = sheetOf();
-  // Three lines each, and two of the first: only after the 68th action there are more than 200.
-  for (let at = 0; at < 72; at++) sheet.add([`at ${1 + (at % 24)} 1`, `text Zeile ${at}`]);
-  assert.strictEqual(sheet.base.count, 68 * 3 - 1);
-  assert.strictEqual(sheet.lines.filter((line) => line === START).length, 1);
-  assert.strictEqual(rowOf(sheet, 24), "Zeile 71");
+  // Two edits each; the last 64 edits are kept, so those of 32 actions.
+  for (let at = 0; at < 40; at++) sheet.add([`at ${1 + (at % 24)} 1`, `text Zeile ${at}`]);
+  let count = 0;
+  while (sheet.turn("undo")) count++;
+  assert.deepStrictEqual([count, sheet.kept().length, rowOf(sheet, 8)], [32, 16, "Zeile 7"]);
   isTrue(sheet);
-  // Behind the lines that run an undo is told by the whole script: row 24 had the 47th before, and row 15 has the 62nd.
-  for (let at = 71; at > 62; at--) assert.ok(sheet.turn("undo"), String(at));
-  assert.strictEqual(sheet.base, null);
-  assert.deepStrictEqual([rowOf(sheet, 24), rowOf(sheet, 15), rowOf(sheet, 16)], ["Zeile 47", "Zeile 62", "Zeile 39"]);
+  for (; count > 0; count--) assert.ok(sheet.turn("redo"));
+  assert.strictEqual(sheet.turn("redo"), false);
+  assert.deepStrictEqual([sheet.kept().length, rowOf(sheet, 16)], [80, "Zeile 39"]);
   isTrue(sheet);
 });
 
-asked("lines that were typed on bytes are asked about once", () => {
-  const page = Uint8Array.from({ length: 5000 }, (_, at) => 0x21 + (at % 94));
-  const sheet = sheetOf(page);
-  sheet.setScript(`${START}\nat 1 1\ntext A\n`);
-  assert.deepStrictEqual([sheet.base !== null, sheet.isUnsure(), sheet.isUnsure()], [true, true, false]);
+asked("what was taken out of the script can't be made again, and what was undone before it can", () => {
+  const sheet = sheetOf();
+  sheet.add(["at 1 1", "text A"]);
+  sheet.add(["at 2 1", "text B"]);
+  sheet.turn("undo");
+  const before = sheet.lines.length;
+  sheet.add(["at 3 1", "text C"]);
+  sheet.change(before, []);
+  assert.deepStrictEqual([rowOf(sheet, 1), rowOf(sheet, 2), rowOf(sheet, 3)], ["A", "", ""]);
   isTrue(sheet);
-  // Lines that go on from where the page ended run on the page itself.
-  sheet.setScript("text A\n");
-  assert.deepStrictEqual([sheet.base, sheet.isUnsure(), sheet.isSlow()], [null, false, true]);
+  assert.ok(sheet.turn("redo"));
+  assert.deepStrictEqual([rowOf(sheet, 1), rowOf(sheet, 2), rowOf(sheet, 3)], ["A", "B", ""]);
+  isTrue(sheet);
+});
+
+asked("what edits were dropped for can be undone once these are gone", () => {
+  const sheet = sheetOf();
+  const lines = Array.from({ length: 70 }, (_, at) => `text ${at % 10}`);
+  sheet.setScript(`${lines.join("\n")}\n`);
+  // Ten edits more, which push ten others out, and are taken out again: 64 can be undone.
+  sheet.add(Array(10).fill("text x"));
+  sheet.change(70, []);
+  sheet.add(Array(64).fill("undo"));
+  assert.deepStrictEqual(sheet.making.nothings, []);
+  isTrue(sheet);
+  sheet.add(["undo"]);
+  assert.deepStrictEqual(sheet.making.nothings, [sheet.lines.length]);
+});
+
+asked("undos that are taken out of the script are made again, and lines before them too", () => {
+  const sheet = sheetOf();
+  sheet.setScript("at 1 1\ntext A\nundo\nundo\nredo\ntext B\n");
+  isTrue(sheet);
+  sheet.setScript("at 1 1\ntext A\n");
+  assert.strictEqual(rowOf(sheet, 1), "A");
+  isTrue(sheet);
+  sheet.setScript("at 1 1\ntext A\nundo\n");
+  sheet.setScript("at 1 1\ntext A\nundo\nredo\n");
+  sheet.setScript("at 1 1\ntext A\n");
+  assert.deepStrictEqual([rowOf(sheet, 1), sheet.kept()], ["A", [0, 1]]);
+  isTrue(sheet);
+});
+
+asked("a script in any form by hand shows what the whole shows", () => {
+  const words = ["at 3 4", "text AB", "text ", "c1 1", "c1 13", "undo", "redo", "undo", "redo", "", "# note", "row 17", "clear", "return", "down", "repeat 5"];
+  let seed = 7;
+  const drawn = (most) => {
+    seed = (Math.imul(seed, 1103515245) + 12345) >>> 0;
+    return (seed >>> 16) % most;
+  };
+  const sheet = sheetOf(PAGE);
+  let lines = [];
+  for (let round = 0; round < 60; round++) {
+    const from = drawn(3) ? lines.length - drawn(Math.min(8, lines.length + 1)) : drawn(lines.length + 1);
+    const more = Array.from({ length: drawn(6) }, () => words[drawn(words.length)]);
+    lines = [...lines.slice(0, from), ...more, ...(drawn(4) ? [] : lines.slice(from + 1))];
+    sheet.setScript(lines.map((line) => `${line}\n`).join(""));
+    const good = sheet.good.map((line) => `${line}\n`).join("");
+    const page = asker().edit(sheet.page, good);
+    assert.deepStrictEqual(sheet.making.end(), lastGrid(readTrace(asker().changes(page), sheet.known)), sheet.script());
+    const nothings = readTrace(new TextDecoder().decode(asker().put("trace", { page: sheet.page, script: new TextEncoder().encode(good) })), sheet.known);
+    assert.deepStrictEqual(sheet.making.nothings, nothings.nothings, sheet.script());
+  }
+});
+
+asked("a script that is too long is refused, and the one before stays", () => {
+  const sheet = sheetOf(bytes(), "text A\n");
+  assert.throws(() => sheet.setScript("#".repeat(2 ** 20)), { status: 7 });
+  assert.throws(() => sheet.setScript("ä".repeat(2 ** 19)), { status: 7 });
+  assert.deepStrictEqual([sheet.script(), rowOf(sheet, 1)], ["text A\n", "A"]);
 });

@@ -32,7 +32,7 @@ class Locks {
   }
 }
 
-const KEPT = { name: "boat.btx", page: Uint8Array.of(0, 0x41, 0xff), script: "at 1 1\ntext A\n", saved: "" };
+const KEPT = { name: "boat.btx", page: Uint8Array.of(0, 0x41, 0xff), cuts: [], script: "at 1 1\ntext A\n", saved: "", isOther: false };
 
 // An editor that begins over a storage; of one that ended only what the storage has is left.
 async function begun(storage) {
@@ -53,8 +53,8 @@ test("what was left unsaved is taken by the next editor, which goes on in its pl
   assert.strictEqual(first.taken, null);
   assert.ok(first.store.put(KEPT, true));
   const second = await begun(storage);
-  const { name, page, script, saved } = second.taken;
-  assert.deepStrictEqual({ name, page, script, saved }, KEPT);
+  const { name, page, cuts, script, saved, isOther } = second.taken;
+  assert.deepStrictEqual({ name, page, cuts, script, saved, isOther }, KEPT);
   assert.strictEqual(second.store.id, first.store.id);
 });
 
@@ -65,6 +65,14 @@ test("a script is kept without its page anew", async () => {
   store.put({ ...KEPT, page: Uint8Array.of(1), script: "at 2 2\n" }, false);
   const { page, script } = (await begun(storage)).taken;
   assert.deepStrictEqual([page, script], [KEPT.page, "at 2 2\n"]);
+});
+
+test("the cuts of a page are kept with it, and a page that was cut is unsaved whatever its script", async () => {
+  const storage = new Memory();
+  const cuts = [{ page: Uint8Array.of(0, 0x41, 0xff, 0x42), script: "at 2 2\n", kept: "at 2 2" }];
+  (await begun(storage)).store.put({ ...KEPT, cuts, saved: KEPT.script, isOther: true }, true);
+  const { taken } = await begun(storage);
+  assert.deepStrictEqual([taken.cuts, taken.isOther, taken.script], [cuts, true, KEPT.script]);
 });
 
 test("what was saved isn't taken, and goes", async () => {
