@@ -224,13 +224,14 @@ class Npm(stand.Case):
         for name, text in npm.scripts().items():
             self.assertNotIn("typeof exports", text)
             self.assertIn("class Decoder {", text)
-            self.assertIn("export { Decoder, load, run };" if name.endswith(".mjs") else "module.exports = { Decoder, load, run };", text)
+            names = "{ BadLine, Decoder, load, run };"
+            self.assertIn(f"export {names}" if name.endswith(".mjs") else f"module.exports = {names}", text)
 
     def test_the_types_name_all_calls(self):
         with open(os.path.join(npm.SOURCE, "tamligub.d.ts"), encoding="utf-8") as file:
             types = file.read()
         body = re.search(r"^class Decoder \{\n(.*?)^\}$", npm.text_of(npm.SCRIPT), re.MULTILINE | re.DOTALL)[1]
-        own = {"call", "noticesOf", "textOf"}
+        own = {"call", "feedIn", "noticesOf", "textOf"}
         for call in set(re.findall(r"^    (?:static )?(\w+)\(", body, re.MULTILINE)) - own:
             self.assertRegex(types, rf"\b{call}\(")
 

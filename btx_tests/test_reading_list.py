@@ -23,7 +23,10 @@ class ReadingList(stand.Case):
     def test_readme_tells_how_long_it_is(self):
         with open(os.path.join(stand.ROOT, "README.md"), encoding="utf-8") as file:
             text = " ".join(file.read().split())
-        for words, found in (((), r"order to read, (\d+) of ([\d,]+) lines"), (("changes",), r"for `changes` (\d+) of ([\d,]+) lines")):
+        for words, found in (
+            ((), r"order to read, (\d+) of ([\d,]+) lines"), (("changes",), r"for `changes` (\d+) of ([\d,]+) lines"),
+            (("--covered",), r"`--covered` lists, (\d+) of ([\d,]+) lines"),
+        ):
             told = re.search(found, text)
             self.assertEqual((int(told[1]), int(told[2].replace(",", ""))), listed(*words)[1], words)
 
@@ -38,9 +41,22 @@ class ReadingList(stand.Case):
         for word in WORDS:
             part = names(listed(word)[0])
             self.assertTrue(part < whole, word)
-            for crate, by in (("writer", "write edit plot"), ("plot", "plot"), ("flash", "flash"), ("seven", "seven eight"), ("generator", "gen load")):
+            for crate, by in (("plot", "plot"), ("flash", "flash"), ("seven", "seven eight"), ("generator", "gen load")):
                 there = any(file.startswith(f"crates/cept_{crate}/") for file, _ in part)
                 self.assertEqual(there, word in by.split(), (word, crate))
+
+    def test_how_a_written_page_is_made_stands_apart(self):
+        """Definitions of exact bytes of which the clause of `run` also says what they bring: of the words that write a page, and of no other."""
+        believed, covered = names(listed()[0]), names(listed("--covered")[0])
+        self.assertFalse(believed & covered)
+        self.assertFalse(any(file.startswith("crates/cept_writer/") for file, _ in believed))
+        self.assertTrue({("crates/cept_writer/specs/CompactCommands.antt", "page_text"), ("crates/cept_parser/specs/Spelling.antt", "spellings")} <= covered)
+        for word in WORDS:
+            self.assertEqual(names(listed(word, "--covered")[0]), covered if word in ("write", "edit", "plot") else set(), word)
+
+    def test_what_private_clauses_alone_cite_stands_inside(self):
+        run = subprocess.run([os.path.join(stand.ROOT, "docs", "reading_list"), "--private"], stdout=subprocess.PIPE, check=True)
+        self.assertEqual(run.stdout, b"")
 
     def test_definitions_stand_before_those_that_are_made_of_them(self):
         text = subprocess.run([os.path.join(stand.ROOT, "docs", "reading_list"), "--lines"], stdout=subprocess.PIPE, check=True).stdout.decode()
