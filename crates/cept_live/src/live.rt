@@ -82,7 +82,7 @@ impl Model for Live {
 
 impl Live {
     ghost use Rattle.cept_live.specs.Colours.{colour_entries};
-    ghost use Rattle.cept_live.specs.EditLines.{LineDone, StepDone};
+    ghost use Rattle.cept_live.specs.EditLines.{LineDone, StepDone, editor_of};
     ghost use Rattle.cept_live.specs.Live.{Ends, Feeds, FeedsAll, HasFed, IsPhase, LiveState, Stays};
     ghost use Rattle.cept_live.specs.Live.{TakesNoMore, live_start};
     ghost use Rattle.cept_live.specs.Notices.{change_notice};
@@ -296,7 +296,7 @@ impl Live {
 
     /// How many edits can be taken back.
     pub fn kept(&self) -> u32
-        ensures edits { result ≡ length self.now.past }
+        ensures edits { result ≡ length (editor_of self.now).past }
         ensures at_most_64 { result ≤ 64 }
     {
         match &self.edits {
@@ -307,7 +307,7 @@ impl Live {
 
     /// How many edits were taken back and can be made again.
     pub fn undone(&self) -> u32
-        ensures edits { result ≡ length self.now.future }
+        ensures edits { result ≡ length (editor_of self.now).future }
         ensures at_most_64 { result ≤ 64 }
     {
         match &self.edits {
