@@ -81,8 +81,10 @@ class Documents(stand.Case):
 
     def test_the_parts_that_stand_elsewhere(self):
         """A decoder in C is the example's, the display in Rattle that of the tests, and what flashes is called as there."""
-        code, = blocks("docs/EMBEDDING.md", "c")
+        code, lines = blocks("docs/EMBEDDING.md", "c")
         self.assertIn(code, text_of("library/example_feed.c"))
+        for call in re.findall(r"tamligub_\w+\(&?decoder, ", lines):
+            self.assertIn(call.replace("&", ""), text_of("library/tests/lines.c"))
         whole, flashing = blocks("docs/EMBEDDING.md", "rust")
         display = re.search(r"impl<G: Glass> Glass for Terminal<G> \{.*?\n\}\n", whole, re.DOTALL)[0]
         self.assertIn(display, text_of("crates/cept_run_tests/src/glasses.rt"))
