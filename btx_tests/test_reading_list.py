@@ -25,7 +25,7 @@ class ReadingList(stand.Case):
             text = " ".join(file.read().split())
         for words, found in (
             ((), r"order to read, (\d+) of ([\d,]+) lines"), (("changes",), r"for `changes` (\d+) of ([\d,]+) lines"),
-            (("--covered",), r"`--covered` lists, (\d+) of ([\d,]+) lines"),
+            (("--covered",), r"--covered` lists, (\d+) of ([\d,]+) lines"),
         ):
             told = re.search(found, text)
             self.assertEqual((int(told[1]), int(told[2].replace(",", ""))), listed(*words)[1], words)
