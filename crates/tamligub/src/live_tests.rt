@@ -220,8 +220,8 @@ fn is_brought_back(rt: HostRuntime) -> Result<(), Fail> {
     Ok(())
 }
 
-/// A page of one sign, and lines of a script after its end: a text, which is taken back, a line outside
-/// the grammar, one that begins with 2/3, and a second undo, which finds nothing.
+/// A page of one sign, and lines of a script after its end: two that begin with 2/3, a text, which is
+/// taken back, a line outside the grammar, and a second undo, which finds nothing.
 #[test]
 fn is_edited(rt: HostRuntime) -> Result<(), Fail> {
     let alloc = rt.alloc();
@@ -233,7 +233,7 @@ fn is_edited(rt: HostRuntime) -> Result<(), Fail> {
     let mut answers = [99u32; 6];
     let mut counts = [99u64; 6];
     let lines = [
-        b"up".as_slice(),
+        b"# up".as_slice(),
         b"text BC",
         b"no",
         b"# no",
@@ -267,9 +267,9 @@ fn is_edited(rt: HostRuntime) -> Result<(), Fail> {
     tamligub_close(alloc, &mut decoder);
     decoder.into_nothing();
     assert_eq!(rt; [opened, early, ended], [0, 1, 0]);
-    assert_eq!(rt; answers, [0, 0, 3, 2, 0, 2]);
+    assert_eq!(rt; answers, [2, 0, 3, 2, 0, 2]);
     assert_eq!(rt; counts, [0, 2, 0, 0, 2, 0]);
-    assert_eq!(rt; edits, [1, 1]);
+    assert_eq!(rt; edits, [0, 1]);
     assert_eq!(rt; told[0], 1);
     Ok(())
 }
