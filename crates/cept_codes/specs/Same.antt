@@ -138,7 +138,7 @@ same_shape = shape_comparison.eq
 abbrev pub same_part : Part → Part → Bool
 same_part = part_comparison.eq
 
--- on looks
+-- on looks: whether they are the same (law `looks_compare_by_their_fields`)
 abbrev pub same_look : Look → Look → Bool
 same_look = look_comparison.eq
 

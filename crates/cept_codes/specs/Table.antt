@@ -21,7 +21,7 @@ row_of f = map f (range_with_len 1 40)
 unfoldable pub table : {X : Type 0} → (ℕ → ℕ → X) → List (List X)
 table f = map (λ r. row_of (f r)) (range_with_len 1 24)
 
--- what stands in this row and column, from 1 each, and the default past the last
+-- what stands in this row and column, from 1 each, and the default past the last; row and column 0 are never asked
 abbrev pub value_at : {X : Type 0} → X → List (List X) → ℕ → ℕ → X
 value_at default t r c = slice_index_or (slice_index_or t (r - 1) []) (c - 1) default
 

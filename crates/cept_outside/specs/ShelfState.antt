@@ -16,7 +16,7 @@ pub record ShelfState : Type 0 where
   pub taken : ℕ
   -- a take since the selection answered that nothing is left
   pub ended : Bool
-  -- how many selections missed their file: a count that never falls
+  -- how many selections missed their file, where the shelf counts them: a number that never falls
   pub missed : ℕ
   -- the count of faults, which never falls: no call fails where it doesn't rise
   pub faults : ℕ

@@ -7,7 +7,7 @@ use Rattle.cept_profile.specs.OldValues.{OldValues, unwound}
 use Rattle.cept_profile.specs.State.{State}
 use Rattle.cept_profile.specs.Valid.{IsValidState}
 
--- how many edits are kept at most, and undone and kept together
+-- how many edits can be taken back at most, and how many taken back and made again together
 abbrev pub most_kept : ℕ
 most_kept = 64
 
