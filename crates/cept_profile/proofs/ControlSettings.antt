@@ -32,7 +32,7 @@ use Rattle.cept_profile.specs.Valid.{AllValid}
 use Rattle.cept_profile.specs.Writing.{control_after_copies, working_after_repeat, working_after_read, graphic_result}
 use Rattle.cept_profile.specs.Writing.{columns_of_sign, control_with_result}
 use Rattle.cept_profile.proofs.CopiesOfSigns.{control_with-control_after_copies}
-use Rattle.cept_profile.specs.Control.{area_without, control_after_service, kept_first}
+use Rattle.cept_profile.specs.Control.{area_without, control_after_service}
 use Rattle.cept_profile.specs.ControlSettings.{area_back, is_area}
 use Rattle.cept_profile.proofs.CellsByStrokes.{by_bool}
 use Rattle.cept_profile.proofs.OneMoreState.{AllByRecursion-reverse}
@@ -311,7 +311,7 @@ IsTold-break : (s : ControlState) (row : ℕ) (earlier : List Command) → IsTol
     → IsValidCommand (commands.ServiceBreak row) → (kept : Option Working) → s.kept ≡ kept → (runs : Bool)
     → is_running earlier ≡ runs
     → Brings (control_effect s (commands.ServiceBreak row)) (commands.ServiceBreak row ∷ earlier)
-    (kept_first kept s.working)
+    (Some (unwrap_or kept s.working))
 IsTold-break s row earlier is valid None none true running =
     absurd (subst (Brings s earlier) none (is.running running))
 IsTold-break s row earlier is valid None none false idle =

@@ -15,8 +15,8 @@ use Rattle.cept_profile.specs.Look.{attributes_of, is_double, is_double_set, loo
 use Rattle.cept_profile.specs.Look.{look_of_origin, looks_of, own_look, own_size, sets_double_size, shape_in, shape_of}
 use Rattle.cept_profile.specs.Look.{size_in_row}
 use Rattle.cept_profile.specs.PageParts.{paint_in}
-use Rattle.cept_profile.specs.Serial.{Sizing, acts, column_in_force, held_sign, is_marker, own_attributes}
-use Rattle.cept_profile.specs.Serial.{own_attributes_of, serial_attributes, size_said, value_found}
+use Rattle.cept_profile.specs.Serial.{acts, column_in_force, held_sign, is_marker, own_attributes}
+use Rattle.cept_profile.specs.Serial.{own_attributes_of, said, serial_attributes, size_said, value_found}
 use Rattle.cept_profile.specs.State.{Core}
 use Rattle.cept_profile.proofs.MarkersInForce.{IsGreatest, column_in_force-greatest, held_sign-alike}
 use Rattle.cept_profile.proofs.MarkersInForce.{serial_attributes-alike, serial_attributes-unmarked}
@@ -98,7 +98,7 @@ single-said w plain = refl
 -- so does what is found among such
 single-found : (row : ℕ → What) (c : ℕ) (found : Option ℕ) → ((d : ℕ) → 1 ≤ d → d ≤ c
     → sets_double_size (row d) ≡ false)
-    → IsGreatest (acts row Sizing c) c found → is_double_set (value_found (λ d. size_said (row d)) found) ≡ false
+    → IsGreatest (acts row (said size_said) c) c found → is_double_set (value_found (λ d. size_said (row d)) found) ≡ false
 single-found row c None plain greatest = refl
 single-found row c (Some d) plain greatest = single-said (row d) (plain d greatest.0 greatest.1)
 
@@ -108,8 +108,8 @@ serial-single : (row : ℕ → What) (pen screen : Pen) (c : ℕ) → ((d : ℕ)
     → (serial_attributes row pen screen c).size ≡ sizes.Normal
 unfolding serial_attributes
 serial-single row pen screen c plain in_row on_screen =
-    single-first (value_found (λ d. size_said (row d)) (column_in_force row Sizing c)) pen.size screen.size
-    (single-found row c (column_in_force row Sizing c) plain (column_in_force-greatest row Sizing c)) in_row on_screen
+    single-first (value_found (λ d. size_said (row d)) (column_in_force row (said size_said) c)) pen.size screen.size
+    (single-found row c (column_in_force row (said size_said) c) plain (column_in_force-greatest row (said size_said) c)) in_row on_screen
 
 own-single : (row : ℕ → What) (pen screen : Pen) (c : ℕ) (w : What) → sets_double_size w ≡ false
     → is_double_set pen.size ≡ false → is_double_set screen.size ≡ false

@@ -3,7 +3,6 @@ use Rattle.std.proofs.Common.{◌≡◌, ℕ, ◌≤◌, ◌<◌, zero, suc, Boo
 use Rattle.std.proofs.Common.{IfSome, eqb, ltb, refl, sym, ◌∙◌, ap, subst, inl, inr, arith, rules}
 use Rattle.std.proofs.lemmas.Bool.{cases_eq, cases_lt, cond_both}
 use Rattle.std.proofs.lemmas.Bool.Decides.{nat_tests}
-use Rattle.cept_profile.specs.Serial.{Class}
 use Rattle.cept_codes.specs.declared.attribute.Full.{Full}
 use Rattle.cept_codes.specs.declared.attribute.Pen.{Pen}
 use Rattle.cept_codes.specs.declared.cell.Marker.{Marker}
@@ -15,7 +14,7 @@ use Rattle.cept_codes.specs.Attribute.{IsValidFull, IsValidPen, IsEntry, unset_p
 use Rattle.cept_codes.specs.Cell.{IsValidMarker, IsValidWhat}
 use Rattle.cept_codes.specs.Glyph.{IsValidGlyph}
 use Rattle.cept_profile.specs.Attributes.{cascade, first_value}
-use Rattle.cept_profile.specs.Serial.{acts, acts_there, held_sign, column_in_force, is_marker, is_of, is_mosaic, mosaic_of}
+use Rattle.cept_profile.specs.Serial.{acts, acts_there, held_sign, column_in_force, is_marker, is_mosaic, mosaic_of}
 use Rattle.cept_profile.specs.Serial.{nearest_column, serial_attributes}
 use Rattle.cept_profile.specs.Influence.{Influence, influence_after, influence, held_sign_in, influence_in, kept_sign_after, full_after}
 use Rattle.cept_profile.proofs.OneMoreCell.{influence-start, influence-suc, serial_attributes-suc, held_sign-suc, unmarked}
@@ -45,7 +44,7 @@ nearest_column-greatest p (suc c) =
     (λ hit. (omega arith, omega arith, hit, λ e low high. absurd (omega arith)))
     (λ miss. one_less p c (nearest_column p c) miss (nearest_column-greatest p c))
 
-pub column_in_force-greatest : (row : ℕ → What) (class : Class) (c : ℕ)
+pub column_in_force-greatest : (row : ℕ → What) (class : What → Bool) (c : ℕ)
     → IsGreatest (acts row class c) c (column_in_force row class c)
 unfolding column_in_force
 column_in_force-greatest row class c = nearest_column-greatest (acts row class c) c
@@ -55,26 +54,26 @@ and-false true = refl
 and-false false = refl
 
 -- to the right of a column no marker acts at it
-none_beyond : (row : ℕ → What) (class : Class) (c d : ℕ) → c < d → acts row class c d ≡ false
+none_beyond : (row : ℕ → What) (class : What → Bool) (c d : ℕ) → c < d → acts row class c d ≡ false
 none_beyond row class c d past =
     let right : ltb d c ≡ false = grind (arith, nat_tests) in
     let other : eqb d c ≡ false = grind (arith, nat_tests) in
-    rw (right, other) (and-false (is_of class (row d)))
+    rw (right, other) (and-false (class (row d)))
 
-none_anywhere : (row : ℕ → What) (class : Class) (c d : ℕ) → (d ≤ c → acts row class c d ≡ false)
+none_anywhere : (row : ℕ → What) (class : What → Bool) (c d : ℕ) → (d ≤ c → acts row class c d ≡ false)
     → acts row class c d ≡ false
 none_anywhere row class c d within =
     elim (cases_lt c d) [ inl past ↦ none_beyond row class c d past | inr up_to ↦ within (omega arith) ]
 
 -- the column found is the greatest of all
-greatest_of_all : (row : ℕ → What) (class : Class) (c : ℕ) (found : Option ℕ) → IsGreatest (acts row class c) c found
+greatest_of_all : (row : ℕ → What) (class : What → Bool) (c : ℕ) (found : Option ℕ) → IsGreatest (acts row class c) c found
     → MatchOption found ((d : ℕ) → 1 ≤ d → acts row class c d ≡ false)
     (λ d. (1 ≤ d) × (d ≤ c) × (acts row class c d ≡ true) × ((e : ℕ) → d < e → acts row class c e ≡ false))
 greatest_of_all row class c None none = λ d low. none_anywhere row class c d (none d low)
 greatest_of_all row class c (Some d) is =
     (is.0, is.1, is.2, λ e past. none_anywhere row class c e (is.3 e past))
 
-pub marker_in_force : (row : ℕ → What) (class : Class) (c : ℕ)
+pub marker_in_force : (row : ℕ → What) (class : What → Bool) (c : ℕ)
     → MatchOption (column_in_force row class c) ((d : ℕ) → 1 ≤ d → acts row class c d ≡ false)
     (λ d. (1 ≤ d) × (d ≤ c) × (acts row class c d ≡ true) × ((e : ℕ) → d < e → acts row class c e ≡ false))
 marker_in_force row class c =

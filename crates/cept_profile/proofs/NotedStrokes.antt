@@ -26,7 +26,8 @@ use Rattle.cept_profile.specs.OldValues.{DifferWhereNoted, OldValues, first_note
 use Rattle.cept_profile.specs.OldValues.{old_dclut, old_paint, old_pattern, old_row_pen, page_unwound, unwound, with_control}
 use Rattle.cept_profile.specs.PageParts.{dclut_after, dclut_in, dclut_list_after, paint_after, paint_in, paints_after}
 use Rattle.cept_profile.specs.PageParts.{pattern_after, pattern_in, patterns_after, row_pen_after, row_pen_in}
-use Rattle.cept_profile.specs.PageParts.{part_after_all, pen_of_row, row_pens_after, screen_pen_after}
+use Rattle.cept_profile.specs.PageParts.{part_after_all, row_pens_after, screen_pen_after}
+use Rattle.cept_profile.proofs.CarriedRows.{pen_of_row, row_pen_after-from}
 use Rattle.cept_profile.specs.Pens.{pen_with}
 use Rattle.cept_profile.specs.MovedRows.{moved_rows}
 use Rattle.cept_profile.proofs.RowsMoved.{moves_none}
@@ -180,7 +181,8 @@ row_pen_stays p strokes.Wipe old r low high none =
     absurd (cc (entry_not_noted 1 24 (λ q. true) (row_pen_in p.row_pens) (old_row_pen old) r low (omega (arith, high))
     none))
 row_pen_stays p (strokes.Carry first last way) old r low high none =
-    ap (λ (row : Option ℕ). pen_of_row row (row_pen_in p.row_pens))
+    row_pen_after-from first last r way (row_pen_in p.row_pens)
+    ∙ ap (λ (row : Option ℕ). pen_of_row row (row_pen_in p.row_pens))
     (moves_none (moved_rows (strokes.Carry first last way)) r
     (entry_not_noted 1 24 (moves (strokes.Carry first last way)) (row_pen_in p.row_pens) (old_row_pen old) r low
     (omega (arith, high)) none))

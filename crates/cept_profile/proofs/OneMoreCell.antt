@@ -3,7 +3,6 @@ use Rattle.std.proofs.Common.{◌≡◌, ◌==◌, eqb, ℕ, ◌≤◌, ◌<◌,
 use Rattle.std.proofs.Common.{cond, nat_lt, Option, Some, None, refl, sym, ◌∙◌, ap, arith}
 use Rattle.std.proofs.lemmas.Bool.{lt-ltb, le-ltb, cond_both}
 use Rattle.std.proofs.lemmas.Bool.Decides.{nat_tests}
-use Rattle.cept_profile.specs.Serial.{Class, Fore, Back, Hold, Flashing, Concealing, Lining, Boxing, Sizing}
 use Rattle.cept_codes.specs.declared.attribute.Flash.TheVariants as flashes
 use Rattle.cept_codes.specs.declared.attribute.Pen.{Pen}
 use Rattle.cept_codes.specs.declared.attribute.Size.TheVariants as sizes
@@ -12,9 +11,9 @@ use Rattle.cept_codes.specs.declared.cell.What.{What}
 use Rattle.cept_codes.specs.declared.cell.What.TheVariants as whats
 use Rattle.cept_codes.specs.Attribute.{unset_pen}
 use Rattle.cept_profile.specs.Attributes.{cascade, first_value}
-use Rattle.cept_profile.specs.Serial.{is_of, is_marker, acts_there, nearest_column, column_in_force, fore_at}
+use Rattle.cept_profile.specs.Serial.{said, is_marker, acts_there, nearest_column, column_in_force, fore_at}
 use Rattle.cept_profile.specs.Serial.{pen_of, value_found, serial_attributes, is_holding, kept_sign, held_sign}
-use Rattle.cept_profile.specs.Serial.{lies_after, mosaic_of, fore_said}
+use Rattle.cept_profile.specs.Serial.{lies_after, mosaic_of, fore_said, back_said, hold_said, flash_said, conceal_said, lined_said, boxed_said, size_said}
 use Rattle.cept_profile.specs.Influence.{Influence, nearest_marker, influence, influence_after}
 use Rattle.cept_profile.specs.Influence.{influence_in, held_sign_in}
 
@@ -32,29 +31,29 @@ and-true true = refl
 and-true false = refl
 
 -- in the next column a marker that acts there is in force, else the nearest of those before it
-column_in_force-suc : (row : ℕ → What) (class : Class) (c : ℕ)
-    → column_in_force row class (suc c) ≡ cond (is_of class (row (suc c))
+column_in_force-suc : (row : ℕ → What) (class : What → Bool) (c : ℕ)
+    → column_in_force row class (suc c) ≡ cond (class (row (suc c))
     && acts_there (row (suc c))) (Some (suc c)) (nearest_marker row c class)
 unfolding column_in_force
 column_in_force-suc row class c =
     let here : eqb (suc c) (suc c) ≡ true = grind (arith, nat_tests) in
     rw (le-ltb (suc c) (suc c) (omega arith), here)
-    (ap (λ o. cond (is_of class (row (suc c)) && acts_there (row (suc c))) (Some (suc c)) o)
+    (ap (λ o. cond (class (row (suc c)) && acts_there (row (suc c))) (Some (suc c)) o)
     (nearest_column-alike
-    (λ d. is_of class (row d) && (nat_lt d (suc c) || (d == suc c && acts_there (row d))))
-    (λ d. is_of class (row d))
+    (λ d. class (row d) && (nat_lt d (suc c) || (d == suc c && acts_there (row d))))
+    (λ d. class (row d))
     c
-    (λ d h. let below : d < suc c = omega arith in rw (lt-ltb d (suc c) below) (and-true (is_of class (row d))))))
+    (λ d h. let below : d < suc c = omega arith in rw (lt-ltb d (suc c) below) (and-true (class (row d))))))
 
 -- ---- attributes
 
 -- the columns that are found in the next column, where a marker there counts or not
-abbrev found : (ℕ → What) → Bool → ℕ → Class → Option ℕ
-found row counts c class = cond (is_of class (row (suc c)) && counts) (Some (suc c)) (nearest_marker row c class)
+abbrev found : (ℕ → What) → Bool → ℕ → (What → Bool) → Option ℕ
+found row counts c class = cond (class (row (suc c)) && counts) (Some (suc c)) (nearest_marker row c class)
 
 fore_here : (row : ℕ → What) (pen screen : Pen) (c : ℕ) (w : What) → row (suc c) ≡ w
-    → first_value (value_found (λ d. fore_said (row d)) (found row (acts_there w) c Fore)) pen.fore screen.fore 7
-    ≡ first_value (value_found (λ d. fore_said (row d)) (nearest_marker row c Fore)) pen.fore screen.fore 7
+    → first_value (value_found (λ d. fore_said (row d)) (found row (acts_there w) c (said fore_said))) pen.fore screen.fore 7
+    ≡ first_value (value_found (λ d. fore_said (row d)) (nearest_marker row c (said fore_said))) pen.fore screen.fore 7
 fore_here row pen screen c (whats.Marker (markers.Alpha x)) e = rw e refl
 fore_here row pen screen c (whats.Marker (markers.Mosaic x)) e = rw e refl
 fore_here row pen screen c (whats.Marker m) e = rw e refl
@@ -64,7 +63,7 @@ fore_here row pen screen c w e = rw e refl
 fore_at-suc : (row : ℕ → What) (pen screen : Pen) (c : ℕ)
     → fore_at row pen screen (suc c) ≡ (influence row pen screen c).full.fore
 unfolding influence
-fore_at-suc row pen screen c = rw (column_in_force-suc row Fore c) (fore_here row pen screen c (row (suc c)) refl)
+fore_at-suc row pen screen c = rw (column_in_force-suc row (said fore_said) c) (fore_here row pen screen c (row (suc c)) refl)
 
 full_by : (row : ℕ → What) (pen screen : Pen) (c : ℕ) (w : What) → row (suc c) ≡ w
     → (influence row pen screen (suc c)).full ≡ (influence_after w (influence row pen screen c)).full
@@ -109,11 +108,11 @@ holding_by : (row : ℕ → What) (pen screen : Pen) (c : ℕ) (w : What) → ro
     → is_holding row (suc c) ≡ (influence_in w (influence row pen screen c)).hold
 unfolding is_holding influence
 holding_by row pen screen c (whats.Marker (markers.Flash flashes.Steady)) e =
-    rw (column_in_force-suc row Hold c) (simp e)
-holding_by row pen screen c (whats.Marker (markers.Size sizes.Normal)) e = rw (column_in_force-suc row Hold c) (simp e)
-holding_by row pen screen c (whats.Marker (markers.Conceal true)) e = rw (column_in_force-suc row Hold c) (simp e)
-holding_by row pen screen c (whats.Marker m) e = rw (column_in_force-suc row Hold c) (simp e)
-holding_by row pen screen c w e = rw (column_in_force-suc row Hold c) (simp e)
+    rw (column_in_force-suc row (said hold_said) c) (simp e)
+holding_by row pen screen c (whats.Marker (markers.Size sizes.Normal)) e = rw (column_in_force-suc row (said hold_said) c) (simp e)
+holding_by row pen screen c (whats.Marker (markers.Conceal true)) e = rw (column_in_force-suc row (said hold_said) c) (simp e)
+holding_by row pen screen c (whats.Marker m) e = rw (column_in_force-suc row (said hold_said) c) (simp e)
+holding_by row pen screen c w e = rw (column_in_force-suc row (said hold_said) c) (simp e)
 
 -- ---- the kept sign
 
@@ -141,7 +140,7 @@ kept_by row c (whats.Marker (markers.Size x)) s e k =
     simp e (nothing_said (λ d. not (is_marker (row d))) (λ d. cond (nat_lt d (suc c)) None (mosaic_of (row d))) c
     (λ d h. let below : d < suc c = omega arith in rw (lt-ltb d (suc c) below) refl))
 kept_by row c (whats.Marker m) s e k = rw k (simp e)
-kept_by row c w s e k = simp e (rw (nothing_past (λ d. is_of Sizing (row d)) c (suc c) (omega arith)) refl)
+kept_by row c w s e k = simp e (rw (nothing_past (λ d. said size_said (row d)) c (suc c) (omega arith)) refl)
 
 kept_sign-suc : (row : ℕ → What) (pen screen : Pen) (c : ℕ)
     → (influence row pen screen (suc c)).kept_sign ≡ (influence_after (row (suc c)) (influence row pen screen c)).kept_sign
@@ -166,13 +165,13 @@ pub serial_attributes-suc : (row : ℕ → What) (pen screen : Pen) (c : ℕ)
 unfolding serial_attributes
 serial_attributes-suc row pen screen c =
     rw (
-      column_in_force-suc row Fore c,
-      column_in_force-suc row Back c,
-      column_in_force-suc row Flashing c,
-      column_in_force-suc row Concealing c,
-      column_in_force-suc row Lining c,
-      column_in_force-suc row Boxing c,
-      column_in_force-suc row Sizing c,
+      column_in_force-suc row (said fore_said) c,
+      column_in_force-suc row (said (back_said 0)) c,
+      column_in_force-suc row (said flash_said) c,
+      column_in_force-suc row (said conceal_said) c,
+      column_in_force-suc row (said lined_said) c,
+      column_in_force-suc row (said boxed_said) c,
+      column_in_force-suc row (said size_said) c,
     )
     (rw (← influence-suc row pen screen c) (serial_by row pen screen c (row (suc c)) refl))
 

@@ -18,74 +18,21 @@ use Rattle.cept_profile.specs.PageParts.{row_pen_back, screen_pen_back, paint_ba
 use Rattle.cept_profile.specs.PageParts.{screen_pen_after, paint_after, dclut_after, list_of_rows, list_of_colours}
 use Rattle.cept_profile.specs.PageParts.{list_of_dclut, row_pen_in, paint_in, dclut_in, row_pens_after, paints_after}
 use Rattle.cept_profile.specs.PageParts.{dclut_list_after, list_of_codes, part_after_all, pattern_after, pattern_back}
-use Rattle.cept_profile.specs.PageParts.{attributes_row_before, pattern_in, patterns_after, pen_of_row, row_class_back}
-use Rattle.cept_profile.specs.Pens.{pen_with, fore_in, back_in, flash_in, conceal_in, lined_in, boxed_in, size_in}
-use Rattle.cept_profile.specs.Pens.{invert_in}
+use Rattle.cept_profile.specs.PageParts.{pattern_in, patterns_after}
+use Rattle.cept_profile.specs.MovedRows.{moved_rows, row_before_move}
+use Rattle.cept_profile.proofs.CarriedRows.{pen_of_row, row_pen_after-from}
+use Rattle.cept_profile.specs.Pens.{pen_with}
 use Rattle.cept_profile.proofs.RowsMoved.{row_before_one-on}
-
--- ---- an attribute says of each class what a pen with it has
-
--- each class by what an attribute says of it, where it counts, else as in the pen
-abbrev pub pen_said : Bool → Attr → Pen → Pen
-pen_said counts attr p = record {
-  fore = unwrap_or (cond counts (fore_in attr) None) p.fore;
-  back = unwrap_or (cond counts (back_in attr) None) p.back;
-  flash = unwrap_or (cond counts (flash_in attr) None) p.flash;
-  conceal = unwrap_or (cond counts (conceal_in attr) None) p.conceal;
-  lined = unwrap_or (cond counts (lined_in attr) None) p.lined;
-  boxed = unwrap_or (cond counts (boxed_in attr) None) p.boxed;
-  size = unwrap_or (cond counts (size_in attr) None) p.size;
-  invert = unwrap_or (cond counts (invert_in attr) None) p.invert;
-}
-
-pub pen_said-pen_with : (attr : Attr) (p : Pen) → pen_said true attr p ≡ pen_with attr p
-pen_said-pen_with (attrs.Fore e) p = refl
-pen_said-pen_with (attrs.Back e) p = refl
-pen_said-pen_with attrs.NoBack p = refl
-pen_said-pen_with (attrs.Flash f) p = refl
-pen_said-pen_with (attrs.Conceal b) p = refl
-pen_said-pen_with (attrs.Lined b) p = refl
-pen_said-pen_with (attrs.Boxed b) p = refl
-pen_said-pen_with (attrs.Size s) p = refl
-pen_said-pen_with (attrs.Invert b) p = refl
-
-pub pen_said-cond : (counts : Bool) (attr : Attr) (p : Pen) → pen_said counts attr p ≡ cond counts (pen_with attr p) p
-pen_said-cond true attr p = pen_said-pen_with attr p
-pen_said-cond false attr p = refl
 
 -- ---- one more stroke, entry by entry
 
--- what is asked of the attributes of a row, or of none
-abbrev pub pen_back_of : List Stroke → Option ℕ → Pen
-pen_back_of strokes row = record {
-  fore = row_class_back fore_in strokes row;
-  back = row_class_back back_in strokes row;
-  flash = row_class_back flash_in strokes row;
-  conceal = row_class_back conceal_in strokes row;
-  lined = row_class_back lined_in strokes row;
-  boxed = row_class_back boxed_in strokes row;
-  size = row_class_back size_in strokes row;
-  invert = row_class_back invert_in strokes row;
-}
-
-pen_back_of-row : (earlier : List Stroke) (row : Option ℕ) → pen_back_of earlier row
-    ≡ pen_of_row row (row_pen_back earlier)
-pen_back_of-row [] None = refl
-pen_back_of-row (stroke ∷ earlier) None = refl
-pen_back_of-row earlier (Some r) = refl
-
 pub row_pen_back-more : (stroke : Stroke) (earlier : List Stroke) (r : ℕ) → row_pen_back (stroke ∷ earlier) r
     ≡ row_pen_after stroke (row_pen_back earlier) r
-row_pen_back-more (strokes.RowAttr row attr) earlier r = pen_said-cond (eqb row r) attr (row_pen_back earlier r)
-row_pen_back-more strokes.Wipe earlier r = refl
-row_pen_back-more (strokes.Carry first last way) earlier r =
-    pen_back_of-row earlier (attributes_row_before (strokes.Carry first last way) r)
-row_pen_back-more _ earlier r = refl
+row_pen_back-more stroke earlier r = refl
 
 pub screen_pen_back-more : (stroke : Stroke) (earlier : List Stroke) → screen_pen_back (stroke ∷ earlier)
     ≡ screen_pen_after (screen_pen_back earlier) stroke
-screen_pen_back-more (strokes.ScreenAttr attr) earlier = pen_said-pen_with attr (screen_pen_back earlier)
-screen_pen_back-more _ earlier = refl
+screen_pen_back-more stroke earlier = refl
 
 -- what is said of an entry by its number, where it counts
 said-cond : {X : Type 0} (counts : Bool) (x was : X) → unwrap_or (cond counts (Some x) None) was
@@ -124,8 +71,10 @@ row_pen_after-same (strokes.RowAttr row attr) was other valid same r low high =
     ap (λ (p : Pen). cond (eqb row r) (pen_with attr p) p) (same r low high)
 row_pen_after-same strokes.Wipe was other valid same r low high = refl
 row_pen_after-same (strokes.Carry first last way) was other valid same r low high =
-    pen_of_row-same (attributes_row_before (strokes.Carry first last way) r) was other (λ q is.
+    row_pen_after-from first last r way was
+    ∙ pen_of_row-same (row_before_move (moved_rows (strokes.Carry first last way)) r) was other (λ q is.
     let on : IsRow q = row_before_one-on (strokes.Carry first last way) r q valid low high is in same q on.0 on.1)
+    ∙ sym (row_pen_after-from first last r way other)
 row_pen_after-same _ was other valid same r low high = same r low high
 
 paint_after-same : (stroke : Stroke) (was other : ℕ → Paint) (i : ℕ) → was i ≡ other i

@@ -1,6 +1,6 @@
 -- Valid control: the initial state is valid, and every valid command keeps it valid.
 use Rattle.std.proofs.Common.{◌≡◌, ◌⊎◌, ℕ, ◌+◌, ◌-◌, ◌≤◌, ◌&&◌, zero, suc, Bool, false, min, cond, eqb, leb, rules}
-use Rattle.std.proofs.Common.{Option, Some, None, inl, inr, refl, subst, arith}
+use Rattle.std.proofs.Common.{Option, Some, None, unwrap_or, inl, inr, refl, subst, arith}
 use Rattle.std.specs.Prelude.{IfSome}
 use Rattle.std.proofs.lemmas.Bool.{cond_both, eqb-false, leb-true}
 use Rattle.std.proofs.lemmas.Bool.Decides.{nat_tests}
@@ -25,10 +25,10 @@ use Rattle.cept_codes.specs.Command.{IsArea, IsGraphic, IsValidCommand}
 use Rattle.cept_codes.specs.Glyph.{IsCodeOf, IsValidGlyph}
 use Rattle.cept_codes.specs.Place.{OnScreen}
 use Rattle.cept_profile.specs.Control.{Working, ControlState, initial_control, initial_sets, initial_working}
-use Rattle.cept_profile.specs.Control.{control_with, working_at, working_with_sets, with_c1, with_table}
+use Rattle.cept_profile.specs.Control.{control_with, working_at, working_with_sets, with_c1}
 use Rattle.cept_profile.specs.Control.{working_without_run, working_without_pen, working_without_accent, finds_accent}
-use Rattle.cept_profile.specs.Control.{control_after_service, kept_first, working_by_default}
-use Rattle.cept_profile.specs.Control.{area_without, state_for_effect, control_effect, control_after, with_protect}
+use Rattle.cept_profile.specs.Control.{control_after_service, working_by_default}
+use Rattle.cept_profile.specs.Control.{area_without, state_for_effect, control_effect, control_after}
 use Rattle.cept_profile.specs.Markers.{marker_of, run_after, step_after, working_after_any_marker, working_after_marker}
 use Rattle.cept_profile.specs.Motions.{is_first_of, is_last_of, row_below, row_above, scrolling_area, working_ahead}
 use Rattle.cept_profile.specs.Motions.{working_back}
@@ -297,7 +297,7 @@ IsWithin-with_c1 : (rows : ℕ) (set : C1Set) (w : Working) → IsWithin rows w 
 IsWithin-with_c1 rows set w is = assumption
 
 -- with another colour table
-IsWithin-with_table : (rows k : ℕ) (w : Working) → IsWithin rows w → k ≤ 3 → IsWithin rows (with_table k w)
+IsWithin-with_table : (rows k : ℕ) (w : Working) → IsWithin rows w → k ≤ 3 → IsWithin rows (record w { table = k })
 IsWithin-with_table rows k w is low = assumption
 
 -- ---- signs and accents
@@ -429,7 +429,7 @@ IsArea-without first last (Some area) is =
     cond_both (eqb area.0 first && eqb area.1 last) None (Some area)
     (λ (kept : Option (ℕ × ℕ)). IfSome kept (λ a. IsArea a.0 a.1)) (λ e. tt) (λ e. is)
 
-IsWithin-with_protect : (rows : ℕ) (on : Bool) (w : Working) → IsWithin rows w → IsWithin rows (with_protect on w)
+IsWithin-with_protect : (rows : ℕ) (on : Bool) (w : Working) → IsWithin rows w → IsWithin rows (record w { protect = on })
 IsWithin-with_protect rows on w is = assumption
 
 -- defaults at a place of the format
@@ -438,7 +438,7 @@ IsWithin-by_default rows set w is = search rules
 
 -- what a service keeps
 IsValidWorking-kept_first : (kept : Option Working) (w : Working) → IfSome kept IsValidWorking → IsValidWorking w
-    → IfSome (kept_first kept w) IsValidWorking
+    → IfSome (Some (unwrap_or kept w)) IsValidWorking
 IsValidWorking-kept_first None w was is = is
 IsValidWorking-kept_first (Some k) w was is = was
 

@@ -22,7 +22,9 @@ use Rattle.cept_profile.specs.PageParts.{row_pen_after, screen_pen_after, paint_
 use Rattle.cept_profile.specs.PageParts.{list_of_colours, list_of_dclut, row_pen_in, paint_in, dclut_in, row_pens_after}
 use Rattle.cept_profile.specs.PageParts.{paints_after, dclut_list_after, list_of_codes, part_after_all, pattern_after}
 use Rattle.cept_profile.specs.MovedRows.{moved_rows}
-use Rattle.cept_profile.specs.PageParts.{attributes_row_before, pattern_in, patterns_after, pen_of_row}
+use Rattle.cept_profile.specs.PageParts.{pattern_in, patterns_after}
+use Rattle.cept_profile.specs.MovedRows.{row_before_move}
+use Rattle.cept_profile.proofs.CarriedRows.{pen_of_row, row_pen_after-from}
 use Rattle.cept_profile.specs.Pens.{pen_with}
 use Rattle.cept_profile.proofs.RowsMoved.{moves_none, row_before_one-on}
 use Rattle.cept_profile.proofs.ValidAttributes.{IsValidAttr-row}
@@ -106,8 +108,9 @@ IsRowPen-row_pen_after rows (strokes.RowAttr row attr) was is safe r top bottom 
     (λ e. IsRowPen-pen_with attr (was r) safe.2 (is r top bottom)) (λ e. is r top bottom)
 IsRowPen-row_pen_after rows strokes.Wipe was is safe r top bottom = IsRowPen-unset_pen
 IsRowPen-row_pen_after rows (strokes.Carry first last way) was is safe r top bottom =
-    met_by_row IsRowPen (attributes_row_before (strokes.Carry first last way) r) was IsRowPen-unset_pen (λ q from.
-    let on : IsRow q = row_before_one-on (strokes.Carry first last way) r q safe.0 top bottom from in is q on.0 on.1)
+    subst IsRowPen (sym (row_pen_after-from first last r way was))
+    (met_by_row IsRowPen (row_before_move (moved_rows (strokes.Carry first last way)) r) was IsRowPen-unset_pen (λ q from.
+    let on : IsRow q = row_before_one-on (strokes.Carry first last way) r q safe.0 top bottom from in is q on.0 on.1))
 IsRowPen-row_pen_after rows _ was is safe r top bottom = is r top bottom
 
 -- the row of an attribute is one of the format, and so are the rows that are carried
@@ -118,7 +121,8 @@ unset-row_pen_after rows (strokes.RowAttr row attr) was r past is safe =
     (λ e. let same = eqb-true row r e in absurd (omega (arith, safe.0))) (λ e. is)
 unset-row_pen_after rows strokes.Wipe was r past is safe = refl
 unset-row_pen_after rows (strokes.Carry first last way) was r past is safe =
-    ap (λ (row : Option ℕ). pen_of_row row was)
+    row_pen_after-from first last r way was
+    ∙ ap (λ (row : Option ℕ). pen_of_row row was)
     (moves_none (moved_rows (strokes.Carry first last way)) r
     (and_right (leb first r) (leb r last) (lt-leb r last (omega (arith, past, safe.1)))))
     ∙ is

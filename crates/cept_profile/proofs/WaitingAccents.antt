@@ -1,5 +1,5 @@
 -- Accents and single shifts: how long they wait.
-use Rattle.std.proofs.Common.{◌≡◌, ℕ, ◌+◌, ◌-◌, zero, suc, false, cond, eqb, leb, Option, Some, None, refl, sym, ap}
+use Rattle.std.proofs.Common.{◌≡◌, ℕ, ◌+◌, ◌-◌, zero, suc, false, cond, eqb, leb, Option, Some, None, unwrap_or, refl, sym, ap}
 use Rattle.std.proofs.lemmas.Bool.{cond_both, false≢true}
 use Rattle.cept_codes.specs.declared.cell.Marker.{Marker}
 use Rattle.cept_codes.specs.declared.command.C1Set.{C1Set}
@@ -10,7 +10,7 @@ use Rattle.cept_codes.specs.declared.glyph.Glyph.{Glyph}
 use Rattle.cept_codes.specs.declared.glyph.Read.{Read}
 use Rattle.cept_codes.specs.declared.glyph.Read.TheVariants as reads
 use Rattle.cept_profile.specs.Control.{Working, ControlState, working_at, working_without_accent, leaves_accent}
-use Rattle.cept_profile.specs.Control.{state_for_effect, control_after, control_after_service, kept_first}
+use Rattle.cept_profile.specs.Control.{state_for_effect, control_after, control_after_service}
 use Rattle.cept_profile.specs.Markers.{marker_of, working_after_any_marker}
 use Rattle.cept_profile.specs.Motions.{row_below, row_above, working_ahead, working_back}
 use Rattle.cept_profile.specs.Pens.{working_after_code, working_after_flash, working_after_reveal}
@@ -97,7 +97,7 @@ accent-dropped s _ drops ended = refl
 -- a break of the service keeps it, and the end brings it back
 pub accent-kept : (s : ControlState) (row : ℕ) → s.kept ≡ None
     → (control_after s (commands.ServiceBreak row)).kept ≡ Some s.working
-accent-kept s row none = ap (λ (kept : Option Working). kept_first kept s.working) none
+accent-kept s row none = ap (λ (kept : Option Working). Some (unwrap_or kept s.working)) none
 
 pub accent-back : (s : ControlState) (w : Working) → s.kept ≡ Some w
     → (control_after s commands.ServiceEnd).working.accent ≡ w.accent

@@ -1,8 +1,8 @@
 -- Worked cases: rows of markers and signs, by computing.
 use Rattle.cept_profile.proofs.WhatComputes.{computing}
-use Rattle.std.proofs.Common.{◌≡◌, ℕ, ◌-◌, Bool, true, false, Option, Some, None, List, [], ◌∷◌, map, refl}
+use Rattle.std.proofs.Common.{◌≡◌, ℕ, ◌-◌, Bool, true, false, Option, Some, None, List, [], ◌∷◌, filter, map, refl}
 use Rattle.std.proofs.Common.{slice_index_or}
-use Rattle.std.specs.List.{range_with_len}
+use Rattle.std.specs.List.{enumerate_from, range_with_len}
 use Rattle.cept_codes.specs.declared.attribute.Flash.{Flash}
 use Rattle.cept_codes.specs.declared.attribute.Flash.TheVariants as flashes
 use Rattle.cept_codes.specs.declared.attribute.Full.{Full}
@@ -15,8 +15,8 @@ use Rattle.cept_codes.specs.declared.glyph.Glyph.{Glyph}
 use Rattle.cept_codes.specs.declared.glyph.SetId.{SetId}
 use Rattle.cept_codes.specs.declared.glyph.SetId.TheVariants as sets
 use Rattle.cept_codes.specs.Attribute.{unset_pen}
-use Rattle.cept_profile.specs.Serial.{Fore, Back, Hold, Flashing, Concealing, Lining, Boxing, Sizing}
-use Rattle.cept_profile.specs.Serial.{class_of, acts_at_once, serial_attributes, own_attributes}
+use Rattle.cept_profile.specs.Serial.{said, fore_said, back_said, hold_said, flash_said, conceal_said, lined_said, boxed_said}
+use Rattle.cept_profile.specs.Serial.{size_said, acts_at_once, serial_attributes, own_attributes}
 use Rattle.cept_profile.specs.Serial.{held_sign}
 
 -- a row that begins with these, and is blank after them
@@ -73,9 +73,19 @@ kinds = markers.Alpha 1 ∷ markers.Mosaic 1 ∷ markers.BlackBack ∷ markers.N
     ∷ markers.Lined true ∷ markers.Boxed false ∷ markers.Boxed true ∷ markers.Size sizes.Normal
     ∷ markers.Size sizes.High ∷ markers.Size sizes.Wide ∷ markers.Size sizes.Both ∷ []
 
-pub classes : map class_of kinds
-    ≡ Fore ∷ Fore ∷ Back ∷ Back ∷ Hold ∷ Hold ∷ Flashing ∷ Flashing ∷ Flashing ∷ Flashing ∷ Flashing ∷ Flashing
-    ∷ Flashing ∷ Concealing ∷ Concealing ∷ Lining ∷ Lining ∷ Boxing ∷ Boxing ∷ Sizing ∷ Sizing ∷ Sizing ∷ Sizing ∷ []
+-- foreground, background, hold, flash, concealing, lining, box and size
+abbrev pub each_class : List (What → Bool)
+each_class = said fore_said ∷ said (back_said 0) ∷ said hold_said ∷ said flash_said ∷ said conceal_said ∷ said lined_said
+    ∷ said boxed_said ∷ said size_said ∷ []
+
+-- the classes of a marker, by their place in that list
+abbrev pub classes_of : Marker → List ℕ
+classes_of m = map (λ numbered. numbered.0) (filter (λ numbered. numbered.1 (mark m)) (enumerate_from 0 each_class))
+
+pub classes : map classes_of kinds
+    ≡ (0 ∷ []) ∷ (0 ∷ []) ∷ (1 ∷ []) ∷ (1 ∷ []) ∷ (2 ∷ []) ∷ (2 ∷ []) ∷ (3 ∷ []) ∷ (3 ∷ []) ∷ (3 ∷ []) ∷ (3 ∷ [])
+    ∷ (3 ∷ []) ∷ (3 ∷ []) ∷ (3 ∷ []) ∷ (4 ∷ []) ∷ (4 ∷ []) ∷ (5 ∷ []) ∷ (5 ∷ []) ∷ (6 ∷ []) ∷ (6 ∷ []) ∷ (7 ∷ [])
+    ∷ (7 ∷ []) ∷ (7 ∷ []) ∷ (7 ∷ []) ∷ []
 classes = refl
 
 pub at_once : map acts_at_once kinds

@@ -1,7 +1,7 @@
 -- Control: what each command makes of the state of the decoder beside the page (T/CD 6-1, the C0 control functions;
 -- code extension after ISO 2022). What ends a mosaic run, unsets the pen or drops an accent, that the row of a position
 -- is cut to the format, colour tables, and what formats, defaults and services keep are this profile's own.
-use Rattle.std.specs.Prelude.{ℕ, Bool, true, false, ◌==◌, ◌&&◌, Option, Some, None, List, [], ◌∷◌, reverse, min, if◌then◌else◌}
+use Rattle.std.specs.Prelude.{ℕ, Bool, true, false, ◌==◌, ◌&&◌, Option, Some, None, List, [], ◌∷◌, reverse, min, if◌then◌else◌, unwrap_or}
 use Rattle.cept_codes.specs.declared.command.Command.{Command}
 use Rattle.cept_codes.specs.declared.command.Command.TheVariants as commands
 use Rattle.cept_codes.specs.declared.command.C1Set.TheVariants as c1sets
@@ -15,8 +15,6 @@ pub use Rattle.cept_profile.specs.Working.{
   working_at,
   working_with_sets,
   with_c1,
-  with_table,
-  with_protect,
   working_without_run,
 }
 pub use Rattle.cept_profile.specs.Working.{working_by_default, working_without_pen, working_without_accent}
@@ -39,11 +37,6 @@ abbrev pub state_for_effect : ControlState → Command → ControlState
 state_for_effect s command = control_with s (if finds_accent command then s.working
     else working_without_accent s.working)
 
--- what a service keeps: the state before its first break
-abbrev pub kept_first : Option Working → Working → Option Working
-kept_first None w = Some w
-kept_first (Some kept) w = Some kept
-
 -- the state after a service: what it kept comes back, its row cut to the format, and nothing is kept
 abbrev pub control_after_service : ControlState → Option Working → ControlState
 control_after_service s None = s
@@ -55,7 +48,7 @@ abbrev pub area_without : ℕ → ℕ → Option (ℕ × ℕ) → Option (ℕ ×
 area_without first last None = None
 area_without first last (Some area) = if area.0 == first && area.1 == last then None else Some area
 
--- the state after a command that takes effect in this state
+-- the state after a command that takes effect in this state; a service keeps the state before its first break
 abbrev pub control_effect : ControlState → Command → ControlState
 control_effect s commands.Back = control_with s (working_without_run (working_back s s.working))
 control_effect s commands.Forward = control_with s (working_without_run (working_ahead s 1 s.working))
@@ -81,8 +74,8 @@ control_effect s (commands.C1 n) = control_with s (working_after_code s.working.
 control_effect s (commands.FlashMode k) = control_with s (working_after_flash s.working.c1 k s)
 control_effect s commands.StopConceal = control_with s (working_after_reveal s.working.c1 s)
 control_effect s (commands.DesignateC1 set) = control_with s (working_without_run (with_c1 set s.working))
-control_effect s (commands.Table k) = control_with s (with_table k s.working)
-control_effect s (commands.Protect on) = control_with s (with_protect on s.working)
+control_effect s (commands.Table k) = control_with s (record s.working { table = k })
+control_effect s (commands.Protect on) = control_with s (record s.working { protect = on })
 control_effect s (commands.Implicit on) = record s { implicit = on }
 control_effect s (commands.Revision revision) = record s { revision = revision }
 control_effect s (commands.AreaCreate first last) = record s { area = Some (first, last) }
@@ -93,28 +86,11 @@ control_effect s (commands.ControlDefaults set) = control_with s (working_by_def
 control_effect s (commands.FullDefaults set) = record initial_control { working = with_c1 set initial_working }
 control_effect s (commands.ServiceBreak row) = record s {
   working = working_at (min row s.rows) 1 (working_by_default c1sets.Parallel s.working);
-  kept = kept_first s.kept s.working;
+  kept = Some (unwrap_or s.kept s.working);
 }
 control_effect s commands.ServiceEnd = control_after_service s s.kept
--- these leave control as it is
-control_effect s commands.Nul = s
-control_effect s commands.Skipped = s
-control_effect s commands.CursorOn = s
-control_effect s commands.CursorOff = s
-control_effect s commands.Cancel = s
-control_effect s (commands.Marked on) = s
-control_effect s (commands.ColourHeader dclut) = s
-control_effect s (commands.ColourStart i) = s
-control_effect s (commands.DrcsStart code) = s
-control_effect s (commands.FullScreen n) = s
-control_effect s (commands.FullRow n) = s
-control_effect s commands.ColourDefaults = s
-control_effect s (commands.Entry i colour) = s
-control_effect s (commands.Dclut i entry) = s
-control_effect s (commands.DrcsHeader delete form) = s
-control_effect s (commands.DrcsPattern code pattern) = s
-control_effect s commands.ScrollUp = s
-control_effect s commands.ScrollDown = s
+-- all others leave control as it is
+control_effect s _ = s
 
 -- the state after one more command
 abbrev pub control_after : ControlState → Command → ControlState

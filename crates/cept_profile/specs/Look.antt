@@ -46,10 +46,9 @@ shape_of_sign defined g = if g.code == 0x20 && g.accent == 0 then shapes.Space e
 
 -- the shape of what stands in a cell
 abbrev pub shape_of : Definitions → What → Shape
-shape_of defined whats.Blank = shapes.Space
 shape_of defined (whats.Serial g) = shape_of_sign defined g
 shape_of defined (whats.Parallel g pen) = shape_of_sign defined g
-shape_of defined (whats.Marker m) = shapes.Space
+shape_of defined _ = shapes.Space
 
 -- the attributes of what stands in a cell, in a row without markers: a sign that took a pen has its own, then come
 -- those of the row and those of the screen

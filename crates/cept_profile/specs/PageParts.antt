@@ -1,5 +1,5 @@
 -- Attributes of rows and of the screen, colour entries (in four tables of eight: ETS 300 072), the DCLUT and the
--- downloaded patterns; which there are, and what sets and unsets each, is this profile's own. Each is what the last
+-- downloaded patterns; which there are, and what sets and unsets each, is this profile's own. An entry is what the last
 -- stroke says that says anything of it, else its value at the start.
 use Rattle.std.specs.Prelude.{ℕ, Option, Some, None, unwrap_or, List, [], ◌∷◌, ◌==◌, if◌then◌else◌}
 use Rattle.cept_codes.specs.declared.attribute.Attr.{Attr}
@@ -13,9 +13,8 @@ use Rattle.cept_codes.specs.Look.{black_paint}
 pub use Rattle.cept_codes.specs.PatternTable.{list_of_codes, pattern_in}
 use Rattle.cept_codes.specs.Table.{entry, list_by_index}
 use Rattle.cept_profile.specs.Colours.{default_paint}
-use Rattle.cept_profile.specs.MovedRows.{moved_rows, row_before_move}
-use Rattle.cept_profile.specs.Pens.{pen_with, fore_in, back_in, flash_in, conceal_in, lined_in, boxed_in, size_in}
-use Rattle.cept_profile.specs.Pens.{invert_in}
+use Rattle.cept_profile.specs.Cells.{shifted}
+use Rattle.cept_profile.specs.Pens.{pen_with}
 
 -- ---- by looking back over the strokes, the last first
 
@@ -24,25 +23,30 @@ abbrev pub stroke_said : {X : Type 0} → (Stroke → Option X) → X → List S
 stroke_said says first [] = first
 stroke_said says first (stroke ∷ earlier) = unwrap_or (says stroke) (stroke_said says first earlier)
 
--- of which row the attributes that row r has after a stroke came, or none where they came free: of the row itself, also
--- where a shift moves its cells; where rows are carried, of the row of which its cells came
-abbrev pub attributes_row_before : Stroke → ℕ → Option ℕ
-attributes_row_before (strokes.Carry first last way) r =
-    row_before_move (moved_rows (strokes.Carry first last way)) r
-attributes_row_before _ r = Some r
+-- the attributes of row r after a stroke, by those before it
+abbrev pub row_pen_after : Stroke → (ℕ → Pen) → ℕ → Pen
+row_pen_after (strokes.RowAttr row attr) was r = if row == r then pen_with attr (was r) else was r
+row_pen_after strokes.Wipe was r = unset_pen
+-- rows that are carried take them along, as their cells
+row_pen_after (strokes.Carry first last way) was r = shifted way first last unset_pen was r
+-- any other sets and unsets none, also where a shift moves the cells
+row_pen_after _ was r = was r
 
--- what a stroke says of a class of the attributes of row r: an attribute of that row sets it, or unsets the background,
--- and a wipe unsets it
-abbrev pub row_said : {X : Type 0} → (Attr → Option (Option X)) → ℕ → Stroke → Option (Option X)
-row_said class r (strokes.RowAttr row attr) = if row == r then class attr else None
-row_said class r strokes.Wipe = Some None
-row_said class r _ = None
+-- the attributes of the screen after a stroke, by those before it
+abbrev pub screen_pen_after : Pen → Stroke → Pen
+screen_pen_after was (strokes.ScreenAttr attr) = pen_with attr was
+screen_pen_after was strokes.ScreenClear = unset_pen
+screen_pen_after was _ = was
 
--- what a stroke says of a class of the attributes of the screen
-abbrev pub screen_said : {X : Type 0} → (Attr → Option (Option X)) → Stroke → Option (Option X)
-screen_said class (strokes.ScreenAttr attr) = class attr
-screen_said class strokes.ScreenClear = Some None
-screen_said class _ = None
+-- the attributes of row r after the strokes, the last first: unset at first
+abbrev pub row_pen_back : List Stroke → ℕ → Pen
+row_pen_back [] r = unset_pen
+row_pen_back (stroke ∷ earlier) r = row_pen_after stroke (row_pen_back earlier) r
+
+-- the attributes of the screen after the strokes, the last first: unset at first
+abbrev pub screen_pen_back : List Stroke → Pen
+screen_pen_back [] = unset_pen
+screen_pen_back (stroke ∷ earlier) = screen_pen_after (screen_pen_back earlier) stroke
 
 -- what a stroke says of the colour entry i: the defaults give each its own
 abbrev pub paint_said : ℕ → Stroke → Option Paint
@@ -67,40 +71,6 @@ abbrev pub format_said : Stroke → Option ℕ
 format_said (strokes.Format rows) = Some rows
 format_said _ = None
 
--- a class of the attributes of a row after the strokes, which is followed back to the row of which they came: what the
--- last stroke says that says anything of the row where it then stands; unset at first, and where they came free
-abbrev pub row_class_back : {X : Type 0} → (Attr → Option (Option X)) → List Stroke → Option ℕ → Option X
-row_class_back class [] row = None
-row_class_back class (stroke ∷ earlier) None = None
-row_class_back class (stroke ∷ earlier) (Some r) =
-    unwrap_or (row_said class r stroke) (row_class_back class earlier (attributes_row_before stroke r))
-
--- the attributes of row r after the strokes
-abbrev pub row_pen_back : List Stroke → ℕ → Pen
-row_pen_back strokes r = record {
-  fore = row_class_back fore_in strokes (Some r);
-  back = row_class_back back_in strokes (Some r);
-  flash = row_class_back flash_in strokes (Some r);
-  conceal = row_class_back conceal_in strokes (Some r);
-  lined = row_class_back lined_in strokes (Some r);
-  boxed = row_class_back boxed_in strokes (Some r);
-  size = row_class_back size_in strokes (Some r);
-  invert = row_class_back invert_in strokes (Some r);
-}
-
--- the attributes of the screen after the strokes
-abbrev pub screen_pen_back : List Stroke → Pen
-screen_pen_back strokes = record {
-  fore = stroke_said (screen_said fore_in) None strokes;
-  back = stroke_said (screen_said back_in) None strokes;
-  flash = stroke_said (screen_said flash_in) None strokes;
-  conceal = stroke_said (screen_said conceal_in) None strokes;
-  lined = stroke_said (screen_said lined_in) None strokes;
-  boxed = stroke_said (screen_said boxed_in) None strokes;
-  size = stroke_said (screen_said size_in) None strokes;
-  invert = stroke_said (screen_said invert_in) None strokes;
-}
-
 -- the paint of the colour entry i after the strokes
 abbrev pub paint_back : List Stroke → ℕ → Paint
 paint_back strokes i = stroke_said (paint_said i) (default_paint i) strokes
@@ -118,24 +88,6 @@ abbrev pub format_back : List Stroke → ℕ
 format_back strokes = stroke_said format_said 24 strokes
 
 -- ---- one more stroke
-
--- the attributes of this row, none set where they came free
-abbrev pub pen_of_row : Option ℕ → (ℕ → Pen) → Pen
-pen_of_row None was = unset_pen
-pen_of_row (Some r) was = was r
-
--- the attributes of row r after a stroke, by those before it
-abbrev pub row_pen_after : Stroke → (ℕ → Pen) → ℕ → Pen
-row_pen_after (strokes.RowAttr row attr) was r = if row == r then pen_with attr (was r) else was r
-row_pen_after strokes.Wipe was r = unset_pen
--- any other sets and unsets none
-row_pen_after stroke was r = pen_of_row (attributes_row_before stroke r) was
-
--- the attributes of the screen
-abbrev pub screen_pen_after : Pen → Stroke → Pen
-screen_pen_after was (strokes.ScreenAttr attr) = pen_with attr was
-screen_pen_after was strokes.ScreenClear = unset_pen
-screen_pen_after was _ = was
 
 -- the paint of the colour entry i
 abbrev pub paint_after : Stroke → (ℕ → Paint) → ℕ → Paint

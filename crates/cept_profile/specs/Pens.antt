@@ -139,22 +139,15 @@ working_after_code c1sets.Parallel n s =
 working_after_code c1sets.Serial n s =
     record (working_after_any_marker s (marker_of s.working.table n)) { fast = fast_after_code n s.working.fast }
 
--- the fast flash of the next number in the circle 1, 2, 3, which begins with 1
-abbrev pub next_fast : ℕ → ℕ
-next_fast fast = if fast == 3 then 1 else fast + 1
-
--- the one before, which begins with 3
-abbrev pub fast_before : ℕ → ℕ
-fast_before fast = if nat_le fast 1 then 3 else fast - 1
-
--- the fast flash that a flash mode leaves in force, 0 for none: 2, 3 and 4 name one, 5 takes the next, 6 the one before
+-- the fast flash that a flash mode leaves in force, 0 for none: 2, 3 and 4 name one; 5 takes the next in the circle 1, 2,
+-- 3, of none the first, and 6 the one before, of none the last
 abbrev pub fast_after : ℕ → ℕ → ℕ
 fast_after mode fast =
     if mode == 2 then 1 else
     if mode == 3 then 2 else
     if mode == 4 then 3 else
-    if mode == 5 then next_fast fast else
-    if mode == 6 then fast_before fast else
+    if mode == 5 then (if fast == 3 then 1 else fast + 1) else
+    if mode == 6 then (if nat_le fast 1 then 3 else fast - 1) else
     0
 
 -- the fast flash of this number
@@ -205,14 +198,6 @@ strokes_of_code c1sets.Serial n s = strokes_of_any_marker s (marker_of s.working
 abbrev pub strokes_of_flash : C1Set → ℕ → ControlState → List Stroke
 strokes_of_flash c1sets.Parallel mode s = []
 strokes_of_flash c1sets.Serial mode s = strokes_of_marker s (markers.Flash (flash_of mode s.working.fast))
-
--- of a C1 code for the whole screen: its parallel meaning, whatever the C1 set is
-abbrev pub strokes_of_screen : ControlState → ℕ → List Stroke
-strokes_of_screen s n = strokes_of_attribute (attribute_of s.working.table n)
-
--- of a C1 code for the active row
-abbrev pub strokes_of_row : ControlState → ℕ → List Stroke
-strokes_of_row s n = strokes_of_row_attribute s.working.row (attribute_of s.working.table n)
 
 -- of the end of concealing
 abbrev pub strokes_of_reveal : C1Set → ControlState → List Stroke

@@ -3,7 +3,7 @@
 -- 1; column 0 and what is past the row are never asked.
 use Rattle.std.specs.Prelude.{ℕ, zero, suc, ◌-◌, List, slice_index_or, Bool, true, false, not, ◌&&◌, ◌||◌}
 use Rattle.std.specs.Prelude.{if◌then◌else◌, Option, Some, None, unwrap_or}
-use Rattle.std.specs.Prelude.{nat_lt, ◌==◌}
+use Rattle.std.specs.Prelude.{nat_lt, ◌==◌, is_some}
 use Rattle.cept_codes.specs.declared.attribute.Flash.{Flash}
 use Rattle.cept_codes.specs.declared.attribute.Flash.TheVariants as flashes
 use Rattle.cept_codes.specs.declared.attribute.Full.{Full}
@@ -23,43 +23,6 @@ use Rattle.cept_profile.specs.Attributes.{cascade, first_value}
 
 -- ---- markers
 
--- the classes of markers: one marker of each is in force at a cell, or none
-pub data Class : Type 0 where
-  Fore : Class
-  Back : Class
-  Hold : Class
-  Flashing : Class
-  Concealing : Class
-  Lining : Class
-  Boxing : Class
-  Sizing : Class
-
--- the classes are the same
-abbrev pub same_class : Class → Class → Bool
-same_class Fore Fore = true
-same_class Back Back = true
-same_class Hold Hold = true
-same_class Flashing Flashing = true
-same_class Concealing Concealing = true
-same_class Lining Lining = true
-same_class Boxing Boxing = true
-same_class Sizing Sizing = true
-same_class _ _ = false
-
--- the class of a marker
-abbrev pub class_of : Marker → Class
-class_of (markers.Alpha e) = Fore
-class_of (markers.Mosaic e) = Fore
-class_of markers.BlackBack = Back
-class_of markers.NewBack = Back
-class_of markers.Hold = Hold
-class_of markers.Release = Hold
-class_of (markers.Flash f) = Flashing
-class_of (markers.Conceal b) = Concealing
-class_of (markers.Lined b) = Lining
-class_of (markers.Boxed b) = Boxing
-class_of (markers.Size s) = Sizing
-
 -- it acts from its own cell; all others act from the next
 abbrev pub acts_at_once : Marker → Bool
 acts_at_once (markers.Flash flashes.Steady) = true
@@ -69,11 +32,6 @@ acts_at_once markers.BlackBack = true
 acts_at_once markers.NewBack = true
 acts_at_once markers.Hold = true
 acts_at_once _ = false
-
--- a marker of this class stands there
-abbrev pub is_of : Class → What → Bool
-is_of class (whats.Marker m) = same_class class (class_of m)
-is_of class _ = false
 
 -- a marker stands there
 abbrev pub is_marker : What → Bool
@@ -85,23 +43,9 @@ abbrev pub acts_there : What → Bool
 acts_there (whats.Marker m) = acts_at_once m
 acts_there _ = false
 
--- ---- looking back
+-- ---- what a marker says of each class of attributes, and of hold
 
--- the greatest column up to this one of which something is so
-abbrev pub nearest_column : (ℕ → Bool) → ℕ → Option ℕ
-nearest_column is_so zero = None
-nearest_column is_so (suc c) = if is_so (suc c) then Some (suc c) else nearest_column is_so c
-
--- a marker of a class in column d acts at column c: it stands left of it, or in it and acts there
-abbrev pub acts : (ℕ → What) → Class → ℕ → ℕ → Bool
-acts row class c d = is_of class (row d) && (nat_lt d c || (d == c && acts_there (row d)))
-
--- the column of the marker in force: the greatest in which one of its class acts
-unfoldable pub column_in_force : (ℕ → What) → Class → ℕ → Option ℕ
-column_in_force row class c = nearest_column (acts row class c) c
-
--- ---- what a marker says of its class
-
+-- the foreground: an alpha or a mosaic colour
 abbrev pub fore_said : What → Option ℕ
 fore_said (whats.Marker (markers.Alpha e)) = Some e
 fore_said (whats.Marker (markers.Mosaic e)) = Some e
@@ -138,6 +82,27 @@ back_said fore (whats.Marker markers.BlackBack) = Some 0
 back_said fore (whats.Marker markers.NewBack) = Some fore
 back_said fore _ = None
 
+-- a marker of a class stands there: it says something of it
+abbrev pub said : {X : Type 0} → (What → Option X) → What → Bool
+said says what = is_some (says what)
+
+-- ---- looking back
+
+-- the greatest column up to this one of which something is so
+abbrev pub nearest_column : (ℕ → Bool) → ℕ → Option ℕ
+nearest_column is_so zero = None
+nearest_column is_so (suc c) = if is_so (suc c) then Some (suc c) else nearest_column is_so c
+
+-- a marker of a class in column d acts at column c: it stands left of it, or in it and acts there
+abbrev pub acts : (ℕ → What) → (What → Bool) → ℕ → ℕ → Bool
+acts row class c d = class (row d) && (nat_lt d c || (d == c && acts_there (row d)))
+
+-- the column of the marker in force: the greatest in which one of its class acts
+unfoldable pub column_in_force : (ℕ → What) → (What → Bool) → ℕ → Option ℕ
+column_in_force row class c = nearest_column (acts row class c) c
+
+-- ---- what is in force
+
 -- what is said in the column that was found
 abbrev pub value_found : {X : Type 0} → (ℕ → Option X) → Option ℕ → Option X
 value_found says None = None
@@ -148,18 +113,18 @@ value_found says (Some d) = says d
 -- the foreground in force
 abbrev pub fore_at : (ℕ → What) → Pen → Pen → ℕ → ℕ
 fore_at row pen screen c =
-    first_value (value_found (λ d. fore_said (row d)) (column_in_force row Fore c)) pen.fore screen.fore 7
+    first_value (value_found (λ d. fore_said (row d)) (column_in_force row (said fore_said) c)) pen.fore screen.fore 7
 
 -- the pen that markers make, each class by the column that is found for it; no marker inverts
-abbrev pub pen_of : (ℕ → What) → (ℕ → ℕ) → (Class → Option ℕ) → Pen
+abbrev pub pen_of : (ℕ → What) → (ℕ → ℕ) → ((What → Bool) → Option ℕ) → Pen
 pen_of row fore column = record {
-  fore = value_found (λ d. fore_said (row d)) (column Fore);
-  back = value_found (λ d. back_said (fore d) (row d)) (column Back);
-  flash = value_found (λ d. flash_said (row d)) (column Flashing);
-  conceal = value_found (λ d. conceal_said (row d)) (column Concealing);
-  lined = value_found (λ d. lined_said (row d)) (column Lining);
-  boxed = value_found (λ d. boxed_said (row d)) (column Boxing);
-  size = value_found (λ d. size_said (row d)) (column Sizing);
+  fore = value_found (λ d. fore_said (row d)) (column (said fore_said));
+  back = value_found (λ d. back_said (fore d) (row d)) (column (said (back_said 0)));
+  flash = value_found (λ d. flash_said (row d)) (column (said flash_said));
+  conceal = value_found (λ d. conceal_said (row d)) (column (said conceal_said));
+  lined = value_found (λ d. lined_said (row d)) (column (said lined_said));
+  boxed = value_found (λ d. boxed_said (row d)) (column (said boxed_said));
+  size = value_found (λ d. size_said (row d)) (column (said size_said));
   invert = None;
 }
 
@@ -182,7 +147,7 @@ own_attributes row pen screen c = own_attributes_of (row c) pen screen (serial_a
 
 -- hold is in force; by default it is not
 unfoldable pub is_holding : (ℕ → What) → ℕ → Bool
-is_holding row c = unwrap_or (value_found (λ d. hold_said (row d)) (column_in_force row Hold c)) false
+is_holding row c = unwrap_or (value_found (λ d. hold_said (row d)) (column_in_force row (said hold_said) c)) false
 
 -- the two mosaic sets
 abbrev pub is_mosaic : SetId → Bool
@@ -202,7 +167,7 @@ lies_after d (Some e) = nat_lt d e
 
 -- a size marker stands right of column d, up to column c
 abbrev pub is_sized_since : (ℕ → What) → ℕ → ℕ → Bool
-is_sized_since row d c = lies_after d (nearest_column (λ e. is_of Sizing (row e)) c)
+is_sized_since row d c = lies_after d (nearest_column (λ e. said size_said (row e)) c)
 
 -- the sign that markers at this column hold: that of the nearest cell without a marker, written serially from a mosaic
 -- set, with no size marker since

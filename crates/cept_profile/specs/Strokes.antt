@@ -13,12 +13,14 @@ use Rattle.cept_profile.specs.Pens.{
   strokes_of_code,
   strokes_of_flash,
   strokes_of_reveal,
-  strokes_of_row,
-  strokes_of_screen,
+  strokes_of_attribute,
+  strokes_of_row_attribute,
+  attribute_of,
 }
 use Rattle.cept_profile.specs.Writing.{strokes_of_read, strokes_of_repeat, graphic_result}
 
--- the strokes of a command that takes effect in this state
+-- the strokes of a command that takes effect in this state. An attribute of the screen or of a row has its parallel
+-- meaning, whatever the C1 set is
 abbrev pub strokes_when : ControlState → Command → List Stroke
 strokes_when s commands.Back = back_strokes s
 strokes_when s commands.Forward = on_strokes s 1
@@ -31,8 +33,8 @@ strokes_when s commands.Cancel = strokes.Erase s.working.row s.working.column �
 strokes_when s (commands.C1 n) = strokes_of_code s.working.c1 n s
 strokes_when s (commands.FlashMode k) = strokes_of_flash s.working.c1 k s
 strokes_when s commands.StopConceal = strokes_of_reveal s.working.c1 s
-strokes_when s (commands.FullScreen n) = strokes_of_screen s n
-strokes_when s (commands.FullRow n) = strokes_of_row s n
+strokes_when s (commands.FullScreen n) = strokes_of_attribute (attribute_of s.working.table n)
+strokes_when s (commands.FullRow n) = strokes_of_row_attribute s.working.row (attribute_of s.working.table n)
 strokes_when s commands.ColourDefaults = strokes.ColourDefaults ∷ []
 strokes_when s (commands.Entry i colour) = strokes.Colour i (paints.Ink colour) ∷ []
 strokes_when s (commands.Dclut i entry) = strokes.Dclut i entry ∷ []
@@ -43,32 +45,8 @@ strokes_when s commands.ScrollDown = strokes_of_scroll s ways.Down (area_in_forc
 strokes_when s (commands.Format rows wrap) = strokes.Format rows ∷ strokes.Wipe ∷ []
 strokes_when s (commands.FullDefaults set) =
     strokes.Format 24 ∷ strokes.Wipe ∷ strokes.ScreenClear ∷ strokes.ColourDefaults ∷ strokes.DrcsClear ∷ []
--- these make no strokes
-strokes_when s commands.Nul = []
-strokes_when s commands.Skipped = []
-strokes_when s commands.Return = []
-strokes_when s commands.Home = []
-strokes_when s commands.CursorOn = []
-strokes_when s commands.CursorOff = []
-strokes_when s (commands.LockLeft g) = []
-strokes_when s (commands.LockRight g) = []
-strokes_when s (commands.Single g) = []
-strokes_when s (commands.Position r c) = []
-strokes_when s (commands.DesignateC1 set) = []
-strokes_when s (commands.Designate g set) = []
-strokes_when s (commands.Table k) = []
-strokes_when s (commands.Implicit on) = []
-strokes_when s (commands.Protect on) = []
-strokes_when s (commands.Marked on) = []
-strokes_when s (commands.AreaCreate first last) = []
-strokes_when s (commands.AreaDelete first last) = []
-strokes_when s (commands.ColourHeader dclut) = []
-strokes_when s (commands.ColourStart i) = []
-strokes_when s (commands.DrcsStart code) = []
-strokes_when s (commands.ServiceBreak row) = []
-strokes_when s commands.ServiceEnd = []
-strokes_when s (commands.ControlDefaults set) = []
-strokes_when s (commands.Revision revision) = []
+-- all others make none
+strokes_when s _ = []
 
 -- the strokes of one more command
 abbrev pub strokes_of : ControlState → Command → List Stroke

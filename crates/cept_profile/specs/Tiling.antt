@@ -30,17 +30,15 @@ use Rattle.cept_codes.specs.Table.{IsTable, row_of}
 
 -- twice as high
 abbrev pub is_high : Size → Bool
-is_high sizes.Normal = false
 is_high sizes.High = true
-is_high sizes.Wide = false
 is_high sizes.Both = true
+is_high _ = false
 
 -- twice as wide
 abbrev pub is_wide : Size → Bool
-is_wide sizes.Normal = false
-is_wide sizes.High = false
 is_wide sizes.Wide = true
 is_wide sizes.Both = true
+is_wide _ = false
 
 -- how many columns a sign of this size takes
 abbrev pub columns_of_size : Size → ℕ

@@ -78,23 +78,15 @@ working_with_sets sets w = record w { sets = sets }
 abbrev pub with_c1 : C1Set → Working → Working
 with_c1 set w = record w { c1 = set }
 
--- the state with another colour table
-abbrev pub with_table : ℕ → Working → Working
-with_table k w = record w { table = k }
-
--- the state in which written cells become protected, or don't
-abbrev pub with_protect : Bool → Working → Working
-with_protect on w = record w { protect = on }
-
 -- defaults: all but the position is as at the start, under this C1 set
 abbrev pub working_by_default : C1Set → Working → Working
 working_by_default set w = record initial_working { row = w.row; column = w.column; c1 = set }
 
--- the mosaic run is over
+-- the mosaic run is over, and signs move on by one column again
 abbrev pub working_without_run : Working → Working
 working_without_run w = record w { run = false; step = 1 }
 
--- no class of the pen is set
+-- no class of the pen is set, and no fast flash is in force
 abbrev pub working_without_pen : Working → Working
 working_without_pen w = record w { pen = unset_pen; fast = 0 }
 

@@ -19,7 +19,7 @@ use Rattle.cept_profile.specs.Colours.{default_paint, default_paints}
 use Rattle.cept_profile.specs.PageParts.{dclut_after, dclut_back, dclut_in, paint_after, paint_back, paint_in, pattern_after}
 use Rattle.cept_profile.specs.PageParts.{pattern_back, pattern_in, row_pen_after, row_pen_back, row_pen_in, screen_pen_after}
 use Rattle.cept_profile.specs.PageParts.{screen_pen_back}
-use Rattle.cept_profile.specs.Pens.{back_in, boxed_in, conceal_in, flash_in, fore_in, invert_in, lined_in, pen_with, size_in}
+use Rattle.cept_profile.specs.Pens.{pen_with}
 use Rattle.cept_writer.specs.AttributeCommands.{attributes_of, pen_with_all}
 use Rattle.cept_writer.specs.PageCommands.{is_default_dclut}
 use Rattle.cept_writer.proofs.PageDrawn.{dclut_strokes, entries_strokes, entry_strokes, pattern_strokes, patterns_strokes}
@@ -193,41 +193,12 @@ patterns_made patterns d low high =
 
 -- ---- attributes
 
--- each class by what an attribute says of it, where it counts, else as in the pen
-abbrev pen_said : Bool → Attr → Pen → Pen
-pen_said counts attr p = record {
-  fore = unwrap_or (cond counts (fore_in attr) None) p.fore;
-  back = unwrap_or (cond counts (back_in attr) None) p.back;
-  flash = unwrap_or (cond counts (flash_in attr) None) p.flash;
-  conceal = unwrap_or (cond counts (conceal_in attr) None) p.conceal;
-  lined = unwrap_or (cond counts (lined_in attr) None) p.lined;
-  boxed = unwrap_or (cond counts (boxed_in attr) None) p.boxed;
-  size = unwrap_or (cond counts (size_in attr) None) p.size;
-  invert = unwrap_or (cond counts (invert_in attr) None) p.invert;
-}
-
-pen_said-pen_with : (attr : Attr) (p : Pen) → pen_said true attr p ≡ pen_with attr p
-pen_said-pen_with (attrs.Fore e) p = refl
-pen_said-pen_with (attrs.Back e) p = refl
-pen_said-pen_with attrs.NoBack p = refl
-pen_said-pen_with (attrs.Flash f) p = refl
-pen_said-pen_with (attrs.Conceal b) p = refl
-pen_said-pen_with (attrs.Lined b) p = refl
-pen_said-pen_with (attrs.Boxed b) p = refl
-pen_said-pen_with (attrs.Size s) p = refl
-pen_said-pen_with (attrs.Invert b) p = refl
-
-pen_said-cond : (counts : Bool) (attr : Attr) (p : Pen) → pen_said counts attr p ≡ cond counts (pen_with attr p) p
-pen_said-cond true attr p = pen_said-pen_with attr p
-pen_said-cond false attr p = refl
-
 abbrev pub screen_step : Stroke → Pen → Pen
 screen_step s x = screen_pen_after x s
 
 pub screen_more : (s : Stroke) (earlier : List Stroke)
     → screen_pen_back (s ∷ earlier) ≡ screen_step s (screen_pen_back earlier)
-screen_more (strokes.ScreenAttr attr) earlier = pen_said-pen_with attr (screen_pen_back earlier)
-screen_more _ earlier = refl
+screen_more s earlier = refl
 
 pub screen_left : IsKeptByOthers screen_step Screen
 screen_left (strokes.ScreenAttr attr) x own reset other = elim (own refl) [ ]
@@ -251,7 +222,6 @@ row_step r s x = row_pen_after s (λ _. x) r
 
 pub row_more : (r : ℕ) (s : Stroke) (earlier : List Stroke) → IsWritten s
     → row_pen_back (s ∷ earlier) r ≡ row_step r s (row_pen_back earlier r)
-row_more r (strokes.RowAttr row attr) earlier written = pen_said-cond (eqb row r) attr (row_pen_back earlier r)
 row_more r strokes.Wipe earlier written = refl
 row_more r (strokes.Carry first last way) earlier written = elim (written refl) [ ]
 row_more r _ earlier written = refl

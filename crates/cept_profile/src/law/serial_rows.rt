@@ -8,14 +8,14 @@ ghost use Rattle.cept_codes.specs.Attribute.{IsValidFull, IsValidPen, unset_pen}
 ghost use Rattle.cept_codes.specs.Cell.{IsValidWhat};
 ghost use Rattle.cept_codes.specs.Glyph.{IsValidGlyph};
 ghost use Rattle.cept_profile.specs.Attributes.{cascade};
-ghost use Rattle.cept_profile.specs.Serial.{Class, acts, column_in_force, held_sign, is_marker};
+ghost use Rattle.cept_profile.specs.Serial.{acts, column_in_force, held_sign, is_marker};
 ghost use Rattle.cept_profile.specs.Serial.{serial_attributes};
 ghost use Rattle.cept_profile.specs.Influence.{influence_after, influence, held_sign_in, influence_in};
 
 /// The marker in force stands in the greatest column in which one of the class acts at the cell;
 /// there is none where none does.
 pub fn the_nearest_marker_is_in_force()
-    ensures { (row : ℕ → What) (class : Class) (c : ℕ)
+    ensures { (row : ℕ → What) (class : What → Bool) (c : ℕ)
         → MatchOption (column_in_force row class c) ((d : ℕ) → 1 ≤ d
         → acts row class c d ≡ false) (λ d. (1 ≤ d) × (d ≤ c) × (acts row class c d ≡ true)
         × ((e : ℕ) → d < e → acts row class c e ≡ false)) }
