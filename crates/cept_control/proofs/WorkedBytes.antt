@@ -45,6 +45,20 @@ busy_told : working_bytes busy
     ≡ 19 ∷ 40 ∷ 0 ∷ 4 ∷ 0 ∷ 2 ∷ 1 ∷ 1 ∷ 3 ∷ 2 ∷ 72 ∷ 3 ∷ 90 ∷ 0 ∷ 31 ∷ 8 ∷ 6 ∷ 1 ∷ 0 ∷ 1 ∷ 2 ∷ 0 ∷ 3 ∷ 1 ∷ 2 ∷ 3 ∷ 1 ∷ []
 busy_told = refl
 
+abbrev apart : Working
+apart = record busy {
+  pen = record busy.pen { conceal = Some true; lined = Some true; boxed = Some false; invert = Some false };
+  fast = 1;
+  run = true;
+  table = 2;
+  protect = false;
+}
+
+-- each field at its own place
+apart_told : working_bytes apart
+    ≡ 19 ∷ 40 ∷ 0 ∷ 4 ∷ 0 ∷ 2 ∷ 1 ∷ 1 ∷ 3 ∷ 2 ∷ 72 ∷ 3 ∷ 90 ∷ 0 ∷ 31 ∷ 8 ∷ 6 ∷ 1 ∷ 1 ∷ 0 ∷ 2 ∷ 0 ∷ 1 ∷ 1 ∷ 2 ∷ 2 ∷ 0 ∷ []
+apart_told = refl
+
 -- ---- whole states
 
 -- 24 rows with wrap, no area, no implicit scrolling, the first revision, and nothing kept

@@ -1,5 +1,5 @@
 -- Worked cases of an exchange of old values, by computing: what is noted then, and what comes back by it.
-use Rattle.std.proofs.Common.{◌≡◌, ℕ, List, [], ◌∷◌, Some, None, false, refl}
+use Rattle.std.proofs.Common.{◌≡◌, ℕ, List, [], ◌∷◌, Some, None, true, false, refl}
 use Rattle.cept_codes.specs.declared.cell.Cell.{Cell}
 use Rattle.cept_codes.specs.declared.cell.What.TheVariants.{Serial}
 use Rattle.cept_codes.specs.declared.glyph.SetId.TheVariants.{P}
@@ -13,6 +13,7 @@ use Rattle.cept_profile.specs.OldValues.{OldValues, no_old_values, old_cell, old
 use Rattle.cept_profile.specs.PageParts.{dclut_in, part_after_all}
 use Rattle.cept_profile.specs.State.{Page, blank_page, page_after}
 use Rattle.cept_delta.specs.Exchanged.{page_exchanged}
+use Rattle.cept_delta.specs.Noted.{notes_row, notes_screen}
 
 abbrev cell_of : ℕ → Cell
 cell_of code = record { what = Serial (record { set = P; code = code; accent = 0 }); protected = false }
@@ -54,3 +55,17 @@ new_values_lead_on = refl
 pub new_entries_lead_on : dclut_in (page_unwound before exchanged_once).dclut 2 ≡ 9
 unfolding table row_of list_by_index cells_after_all part_after_all with_strokes
 new_entries_lead_on = refl
+
+-- by a sign that was written no other row may look otherwise; by an entry of the DCLUT any may
+pub signs_note_no_screen : notes_screen (with_strokes before (put 0x42 ∷ []) no_old_values) ≡ false
+unfolding table row_of list_by_index cells_after_all part_after_all with_strokes notes_screen
+signs_note_no_screen = refl
+
+pub entries_note_the_screen : notes_screen noted ≡ true
+unfolding table row_of list_by_index cells_after_all part_after_all with_strokes notes_screen
+entries_note_the_screen = refl
+
+-- just the row is noted in which a sign was put
+pub one_row_is_noted : notes_row noted 1 ∷ notes_row noted 2 ∷ [] ≡ true ∷ false ∷ []
+unfolding notes_row table row_of list_by_index cells_after_all part_after_all with_strokes
+one_row_is_noted = refl
