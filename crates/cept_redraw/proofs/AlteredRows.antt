@@ -25,8 +25,7 @@ use Rattle.cept_profile.specs.State.{Page, page_after}
 use Rattle.cept_page.specs.declared.page.Pens.{Pens}
 use Rattle.cept_page.specs.Parts.{pens_of}
 use Rattle.cept_redraw.specs.declared.followed_rows.Followed.{Followed}
-use Rattle.cept_redraw.specs.inside.Due.{followed, freed, has_others, is_altered, is_altered_from, just_writes}
-use Rattle.cept_redraw.specs.inside.Due.{one_does_more}
+use Rattle.cept_redraw.specs.inside.Due.{does_more, followed, freed, has_others, is_altered, is_altered_from}
 use Rattle.cept_redraw.specs.Resolved.{defines}
 use mathlib.Core.Bool.{beq}
 
@@ -114,7 +113,7 @@ record IsJustWriting (x : Stroke) : Type 0 where
   pens : (was : ℕ → Pen) (r : ℕ) → row_pen_after x was r ≡ was r
   screen : (was : Pen) → screen_pen_after was x ≡ was
 
-IsJustWriting-at : (x : Stroke) → not (just_writes x) ≡ false → IsJustWriting x
+IsJustWriting-at : (x : Stroke) → does_more x ≡ false → IsJustWriting x
 IsJustWriting-at (strokes.Put place cell) just = record {
   moved = refl;
   defined = refl;
@@ -140,41 +139,40 @@ IsJustWriting-at (strokes.Drcs code pattern) just = absurd (true≢false just)
 IsJustWriting-at strokes.DrcsClear just = absurd (true≢false just)
 IsJustWriting-at (strokes.Format rows) just = absurd (true≢false just)
 
-came_of-written : (xs : List Stroke) → one_does_more xs ≡ false → (r : ℕ) → row_before xs r ≡ Some r
-unfolding row_before one_does_more
+came_of-written : (xs : List Stroke) → list_any does_more xs ≡ false → (r : ℕ) → row_before xs r ≡ Some r
+unfolding row_before
 came_of-written [] just r = refl
 came_of-written (x ∷ xs) just r =
-    let parts = or_parts (not (just_writes x)) (one_does_more xs) just in
+    let parts = or_parts (does_more x) (list_any does_more xs) just in
     ap (option_and_then (row_before_move (moved_rows x))) (came_of-written xs parts.1 r)
     ∙ ap (λ moved. row_before_move moved r) (IsJustWriting-at x parts.0).moved
 
-none_defined : (xs : List Stroke) → one_does_more xs ≡ false → list_any defines xs ≡ false
-unfolding one_does_more
+none_defined : (xs : List Stroke) → list_any does_more xs ≡ false → list_any defines xs ≡ false
 none_defined [] just = refl
 none_defined (x ∷ xs) just =
-    let parts = or_parts (not (just_writes x)) (one_does_more xs) just in
+    let parts = or_parts (does_more x) (list_any does_more xs) just in
     or_from (defines x) (list_any defines xs) (IsJustWriting-at x parts.0).defined (none_defined xs parts.1)
 
-pens-written : (pens : List Pen) (xs : List Stroke) → one_does_more xs ≡ false → (r : ℕ) → 1 ≤ r → r ≤ 24
+pens-written : (pens : List Pen) (xs : List Stroke) → list_any does_more xs ≡ false → (r : ℕ) → 1 ≤ r → r ≤ 24
     → row_pen_in (part_after_all row_pens_after pens xs) r ≡ row_pen_in pens r
-unfolding part_after_all one_does_more
+unfolding part_after_all
 pens-written pens [] just r low high = refl
 pens-written pens (x ∷ xs) just r low high =
-    let parts = or_parts (not (just_writes x)) (one_does_more xs) just in
+    let parts = or_parts (does_more x) (list_any does_more xs) just in
     pens-written (row_pens_after pens x) xs parts.1 r low high
     ∙ entry-list_by_index unset_pen 1 24 (row_pen_after x (row_pen_in pens)) r low (omega (arith, high))
     ∙ (IsJustWriting-at x parts.0).pens (row_pen_in pens) r
 
-screen-written : (pen : Pen) (xs : List Stroke) → one_does_more xs ≡ false
+screen-written : (pen : Pen) (xs : List Stroke) → list_any does_more xs ≡ false
     → part_after_all screen_pen_after pen xs ≡ pen
-unfolding part_after_all one_does_more
+unfolding part_after_all
 screen-written pen [] just = refl
 screen-written pen (x ∷ xs) just =
-    let parts = or_parts (not (just_writes x)) (one_does_more xs) just in
+    let parts = or_parts (does_more x) (list_any does_more xs) just in
     screen-written (screen_pen_after pen x) xs parts.1 ∙ (IsJustWriting-at x parts.0).screen pen
 
 -- where the edges stay they alter just the rows in which they write
-is_altered-written : (p : Page) (xs : List Stroke) (edges : Edges) → one_does_more xs ≡ false → (r : ℕ) → 1 ≤ r → r ≤ 24
+is_altered-written : (p : Page) (xs : List Stroke) (edges : Edges) → list_any does_more xs ≡ false → (r : ℕ) → 1 ≤ r → r ≤ 24
     → is_altered xs (pens_of p) edges (pens_of (page_after p xs)) edges r ≡ is_written xs r
 unfolding is_altered has_others
 is_altered-written p xs edges just r low high =
@@ -189,7 +187,7 @@ is_altered-written p xs edges just r low high =
     ∙ or_false_of (is_written xs r || false) ∙ or_false_of (is_written xs r)
 
 pub altered-written : (p q : Page) (xs : List Stroke) (before after : Edges) (rows : List Followed) (flags : List Bool)
-    → before ≡ after → one_does_more xs ≡ false → q ≡ page_after p xs → rows ≡ list_by_index 1 24 (followed xs)
+    → before ≡ after → list_any does_more xs ≡ false → q ≡ page_after p xs → rows ≡ list_by_index 1 24 (followed xs)
     → flags ≡ list_by_index 1 24 (λ r. (entry freed 1 rows r).written)
     → flags ≡ list_by_index 1 24 (is_altered xs (pens_of p) before (pens_of q) after)
 altered-written p q xs before after rows flags same just drawn are e =

@@ -35,9 +35,8 @@ use Rattle.cept_page.specs.MarkedRows.{IsPutAmongSigns}
 use Rattle.cept_page.proofs.Laws.{page_after-put}
 use Rattle.cept_redraw.specs.inside.Due.{FollowsBeside}
 use Rattle.cept_redraw.specs.Kept.{core_on}
-use Rattle.cept_redraw.specs.inside.Kept.{contents_in}
 use Rattle.cept_redraw.proofs.AloneRows.{cell_elsewhere}
-use Rattle.cept_redraw.proofs.LeftOfColumns.{look_is, row_beneath-from}
+use Rattle.cept_redraw.proofs.LeftOfColumns.{contents_in, look_is, row_beneath-from}
 
 -- ---- cells by themselves
 

@@ -20,6 +20,7 @@ use Rattle.cept_profile.specs.Edges.{edges_of_core, is_last}
 use Rattle.cept_profile.specs.Look.{look, look_in_row, looks_of, size_in_row}
 use Rattle.cept_profile.specs.PageParts.{row_pen_in}
 use Rattle.cept_profile.specs.RowsFromAbove.{look_from, looks_in, row_from_above}
+use Rattle.cept_profile.specs.Serial.{row_in}
 use Rattle.cept_profile.specs.State.{Core, Page, definitions_of, page_after}
 use Rattle.cept_profile.specs.Tiling.{column_entry}
 use Rattle.cept_page.proofs.Laws.{page_after-put}
@@ -28,9 +29,13 @@ use Rattle.cept_redraw.specs.declared.followed_rows.Followed.{Followed}
 use Rattle.cept_redraw.specs.inside.Due.{LeftStays}
 use Rattle.cept_rows.specs.Source.{Source, place_made, row_made}
 use Rattle.cept_redraw.specs.Kept.{core_on}
-use Rattle.cept_redraw.specs.inside.Kept.{contents_in, row_beneath, source_of, IsLeftOf}
+use Rattle.cept_redraw.specs.inside.Kept.{row_beneath, source_of, IsLeftOf}
 use Rattle.cept_redraw.proofs.RowsOfLooks.{column_entry-at, length-looks_in, look_seen-at}
 use Rattle.cept_redraw.proofs.WalkedRows.{WalkedTo, above_is, beneath_is}
+
+-- what stands in each column of row r of a page
+abbrev pub contents_in : Page → ℕ → ℕ → What
+contents_in p r = row_in (source_of p r false).cells
 
 -- a row that is made of a function of the column
 pub column_of : (f : ℕ → Look) (c : ℕ) → 1 ≤ c → c ≤ 40 → column_entry blank_look (row_of f) c ≡ f c
@@ -71,7 +76,7 @@ row_beneath-from above p r last c high = row_made-from (source_of p r last) abov
 -- so where a walk comes to the row, it looks so already
 pub left_is : {flags : List Bool} {rows : List Followed} {k : Core} {was now : List (List Look)} {former marks : List Bool}
     {covered : Bool} {start steps row : ℕ} → WalkedTo flags rows k was now former marks covered start steps row
-    → 1 ≤ row → row ≤ 24 → (from : ℕ) → from ≤ 40
+    → 1 ≤ row → row ≤ 24 → (from : ℕ) → ((c : ℕ) → 1 ≤ c → c < from → c ≤ 40)
     → ((c : ℕ) → OnScreen row c → c < from → value_at blank_look was row c ≡ look k row c) → (last : Bool)
     → last ≡ is_last (edges_of_core k) row
     → IsLeftOf from (looks_in now row) (row_beneath (looks_in now (row - 1)) k.page row last)
@@ -81,7 +86,7 @@ left_is {k = k} {was = was} {now = now} {former = former} {marks = marks} {row =
       from_top = top;
       to_bottom = bottom;
       from_left = low;
-      to_right = omega (arith, below, within);
+      to_right = within c low below;
     } in
     look_seen-at now row c m.refreshed.is on ∙ m.refreshed.below row c on (omega (arith, on)) ∙ stays c on below
     ∙ sym (column_of (look k row) c low on.to_right)

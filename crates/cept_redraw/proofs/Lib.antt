@@ -27,3 +27,4 @@ mod UnwoundRows
 mod ValidStrokes
 mod WalkedDown
 mod WalkedRows
+mod WorkedRows

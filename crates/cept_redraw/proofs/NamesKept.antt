@@ -28,7 +28,7 @@ use Rattle.cept_redraw.specs.declared.followed_rows.Followed.{Followed}
 use Rattle.cept_redraw.specs.inside.Due.{row_from}
 use Rattle.cept_redraw.specs.Marks.{is_marked, IsFirstFrom}
 use Rattle.cept_redraw.specs.Named.{AreNamed}
-use Rattle.cept_redraw.specs.inside.Named.{AreAllKnown, AreJustRemembered, AreRemembered, CoverAlike, IsStill}
+use Rattle.cept_redraw.specs.inside.Named.{AreAllKnown, AreJustRemembered, AreRemembered, IsStill}
 use Rattle.cept_redraw.specs.Named.{NamesOfRows, is_known, names_beneath, row_named}
 use Rattle.cept_redraw.specs.inside.Named.{IsUnmarkedBelow}
 use Rattle.cept_rows.specs.declared.naming.RowNames.{RowNames}
@@ -105,7 +105,9 @@ names_by-upper p a b left own upper =
 
 -- it names the same beneath rows that name the same wherever they cover it
 pub beneath-covered : (k : Core) (a b : RowNames) (row c : ℕ) → 1 ≤ row → row + 1 ≤ 24 → c ≤ 40
-    → CoverAlike (looks_in (looks_of k) row) a b → names_beneath a k (row + 1) c ≡ names_beneath b k (row + 1) c
+    → ((d : ℕ) → 1 ≤ d → d ≤ 40 → covers_below (part_of (column_entry blank_look (looks_in (looks_of k) row) d)) ≡ true
+    → names_kept a d ≡ names_kept b d)
+    → names_beneath a k (row + 1) c ≡ names_beneath b k (row + 1) c
 unfolding names_from_above
 beneath-covered k a b row zero low high right same = refl
 beneath-covered k a b row (suc c) low high right same =

@@ -1,5 +1,5 @@
 -- The looks that are kept of a page (this project's own): the look at each place, and what it is for looks to be refreshed.
-use Rattle.std.specs.Prelude.{◌≡◌, ◌-◌, List}
+use Rattle.std.specs.Prelude.{◌≡◌, List}
 use Rattle.cept_codes.specs.declared.look.Look.{Look}
 use Rattle.cept_profile.specs.Edges.{Edges, edges_of_core}
 use Rattle.cept_profile.specs.Look.{looks_of}

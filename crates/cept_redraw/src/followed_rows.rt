@@ -2,8 +2,7 @@ ghost use Rattle.std.specs.Prelude.{◌≡◌, ◌≤◌, ◌<◌, ◌+◌, ◌-
 ghost use Rattle.std.specs.List.{AllByRecursion, list_any};
 ghost use Rattle.cept_codes.specs.Stroke.{IsValidStroke};
 ghost use Rattle.cept_codes.specs.Table.{entry, list_by_index};
-ghost use Rattle.cept_redraw.specs.inside.Due.{followed, followed_after, freed, just_writes, one_does_more, row_from};
-ghost use Rattle.cept_redraw.specs.inside.Due.{written_if};
+ghost use Rattle.cept_redraw.specs.inside.Due.{does_more, followed, followed_after, freed, row_from, written_if};
 ghost use Rattle.cept_redraw.specs.Resolved.{defines, one_else};
 
 use cept_codes::{Row, Stroke};
@@ -136,21 +135,21 @@ fn is_moved(from: Option<Row>, row: Row) -> bool
 
 /// Whether one of the strokes may do more than write in one row.
 pub(crate) fn one_does_more(strokes: &[Stroke]) -> bool
-    ensures { result ≡ one_does_more strokes.now }
+    ensures { result ≡ list_any does_more strokes.now }
 {
     for stroke in strokes {
-        if !just_writes(stroke) {
+        if does_more(stroke) {
             return true;
         }
     }
     false
 }
 
-/// Whether a stroke does nothing else.
-fn just_writes(stroke: &Stroke) -> bool
-    ensures { result ≡ just_writes stroke.now }
+/// Whether a stroke may.
+fn does_more(stroke: &Stroke) -> bool
+    ensures { result ≡ does_more stroke.now }
 {
-    matches!(stroke, Stroke::Put(_, _) | Stroke::Erase(_, _))
+    !matches!(stroke, Stroke::Put(_, _) | Stroke::Erase(_, _))
 }
 
 /// Whether one of the strokes defines nothing.

@@ -1,13 +1,15 @@
-ghost use Rattle.std.specs.Prelude.{◌≡◌, ◌≢◌, ◌≤◌, ◌<◌, ◌-◌, ℕ, true, false, Some, length};
+ghost use Rattle.std.specs.Prelude.{◌≡◌, ◌≢◌, ◌≤◌, ◌<◌, ◌-◌, ◌↔◌, ℕ, true, false, Some, length};
+ghost use Rattle.cept_codes.specs.Look.{blank_look};
 ghost use Rattle.cept_codes.specs.Place.{OnScreen, number};
-ghost use Rattle.cept_profile.specs.Look.{looks_of};
+ghost use Rattle.cept_profile.specs.Look.{looks_of, part_of};
 ghost use Rattle.cept_profile.specs.RowsFromAbove.{looks_in};
 ghost use Rattle.cept_profile.specs.State.{Core};
+ghost use Rattle.cept_profile.specs.Tiling.{column_entry, covers_below};
 ghost use Rattle.cept_profile.specs.Valid.{IsValidPage};
 ghost use Rattle.cept_redraw.specs.Kept.{core_on};
 ghost use Rattle.cept_redraw.specs.Marks.{is_marked};
 ghost use Rattle.cept_redraw.specs.Named.{AreNamed};
-ghost use Rattle.cept_redraw.specs.inside.Named.{AreAllKnown, AreJustRemembered, CoverAlike, IsLeft, IsStill};
+ghost use Rattle.cept_redraw.specs.inside.Named.{AreAllKnown, AreJustRemembered, IsStill};
 ghost use Rattle.cept_redraw.specs.Named.{is_known, row_named};
 ghost use Rattle.cept_redraw.specs.inside.Named.{IsUnmarkedBelow};
 ghost use Rattle.cept_rows.specs.KeptNames.{names_kept};
@@ -150,7 +152,9 @@ impl KeptNames {
 
 /// Whether two rows with these looks name the same wherever they cover the row below.
 fn is_same_below(looks: &RowLooks, names: &RowNames, others: &RowNames) -> bool
-    ensures { result ≡ true → CoverAlike looks.now names.now others.now }
+    ensures { result ≡ true → (c : ℕ) → 1 ≤ c → c ≤ 40
+        → covers_below (part_of (column_entry blank_look looks.now c)) ≡ true
+        → names_kept names.now c ≡ names_kept others.now c }
 {
     if looks.covers_nothing() || *names == *others {
         return true;
@@ -176,16 +180,15 @@ fn is_same_in(column: Column, names: &RowNames, others: &RowNames) -> bool
 
 /// Whether a row isn't flagged, came of itself, and no place of it is marked.
 fn is_left(flag: bool, from: Option<Row>, row: Row, marks: &Marks) -> bool
-    ensures left { result ≡ true → IsLeft flag from marks.now row }
-    ensures always { IsLeft flag from marks.now row → result ≡ true }
+    ensures { (result ≡ true) ↔ ((flag ≡ false) × (from ≡ Some row)
+        × ((c : ℕ) → OnScreen row c → is_marked marks.now (number row c) ≡ false)) }
 {
     !flag && is_still(from, row) && !marks.has_row(row)
 }
 
 /// Whether a row came of itself.
 fn is_still(from: Option<Row>, row: Row) -> bool
-    ensures still { result ≡ true → from ≡ Some row }
-    ensures always { from ≡ Some row → result ≡ true }
+    ensures { (result ≡ true) ↔ (from ≡ Some row) }
 {
     match from {
         Some(from) => from == row,

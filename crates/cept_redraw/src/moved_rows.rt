@@ -53,8 +53,8 @@ impl Picture {
         for row in 1..25u8 {
             let here = Row::numbered(row);
             let at = usize::from(row) - 1;
-            let from = came_from(rows[at].from, row);
-            if flags[at] || is_covered(from, above, covered, passed, looks, row) {
+            let from = came_from(rows[at].from, here);
+            if flags[at] || is_covered(from, above, covered, passed, looks, here) {
                 resolve_row(
                     page,
                     here,
@@ -63,13 +63,13 @@ impl Picture {
                     fresh,
                     steps,
                 );
-                covered = covers_otherwise(passed.stood(looks, row, from), fresh);
+                covered = covers_otherwise(passed.stood(looks, here, from.number()), fresh);
                 take_anew(here, fresh, back, looks, passed, marks);
             } else {
                 covered = false;
                 bring_row(here, from, back, fresh, looks, passed, marks);
             }
-            above = from;
+            above = from.number();
         }
     }
 }
@@ -86,7 +86,7 @@ fn one_looks_back(rows: &[Followed; 24]) -> bool
         if looks_back(rows[at].from, row, above) {
             return true;
         }
-        above = came_from(rows[at].from, row);
+        above = came_from(rows[at].from, Row::numbered(row)).number();
     }
     false
 }
@@ -102,14 +102,11 @@ fn looks_back(from: Option<Row>, row: u8, above: u8) -> bool
 }
 
 /// The row of which one came, or itself where it was freed.
-fn came_from(from: Option<Row>, row: u8) -> u8
-    requires from_top { 1 ≤ row }
-    requires to_bottom { row ≤ 24 }
-    ensures row { result ≡ came_from from row }
-    ensures on_screen { IsRow result }
+fn came_from(from: Option<Row>, row: Row) -> Row
+    ensures { result ≡ came_from from row }
 {
     match from {
-        Some(from) => from.number(),
+        Some(from) => from,
         None => row,
     }
 }
@@ -117,21 +114,23 @@ fn came_from(from: Option<Row>, row: u8) -> u8
 /// Whether a row is covered otherwise than the row before was of which it came: as is known, where
 /// the row above came of the row above that one, else by the looks that stood above that one and are
 /// above it.
-fn is_covered(from: u8, above: u8, covered: bool, passed: &Passed, kept: &KeptRows, row: u8) -> bool
-    requires came { IsRow from }
-    requires low { row ≤ from + 1 }
-    requires from_top { 1 ≤ row }
-    requires to_bottom { row ≤ 24 }
+fn is_covered(
+    from: Row,
+    above: u8,
+    covered: bool,
+    passed: &Passed,
+    kept: &KeptRows,
+    row: Row,
+) -> bool
+    requires { row ≤ from + 1 }
     ensures { result ≡ (if from - 1 == above then covered else
         is_other_above (stood_in passed.now kept.now row (from - 1)) (looks_in kept.now (row - 1))) }
 {
-    if from - 1 == above {
+    let over = from.number() - 1;
+    if over == above {
         covered
     } else {
-        covers_otherwise(
-            passed.stood(kept, row, from - 1),
-            kept.above(Row::numbered(row)),
-        )
+        covers_otherwise(passed.stood(kept, row, over), kept.above(row))
     }
 }
 
@@ -157,28 +156,25 @@ fn take_anew(
 /// A row takes the looks that stood in the row of which it came, which is no further than one above it.
 fn bring_row(
     row: Row,
-    from: u8,
+    from: Row,
     back: bool,
     fresh: &mut RowLooks,
     kept: &mut KeptRows,
     passed: &mut Passed,
     marks: &mut Marks,
 )
-    requires came { IsRow from }
-    requires low { row ≤ from + 1 }
+    requires { row ≤ from + 1 }
     ensures { HasTaken (stood_in passed.old kept.old row from) row back kept.old kept.new passed.old passed.new
         marks.old marks.new }
 {
-    let number = row.number();
-    if from > number {
-        let source = Row::numbered(from);
-        mark_differences(row, kept.row(row), kept.row(source), marks);
+    if from.number() > row.number() {
+        mark_differences(row, kept.row(row), kept.row(from), marks);
         if back {
             passed.pass(kept.row(row));
         }
-        kept.copy_up(row, source);
+        kept.copy_up(row, from);
     } else {
-        fresh.copy_from(passed.stood(kept, number, from));
+        fresh.copy_from(passed.stood(kept, row, from.number()));
         take_anew(row, fresh, back, kept, passed, marks);
     }
 }

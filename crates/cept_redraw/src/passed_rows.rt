@@ -41,15 +41,15 @@ impl Passed {
     }
 
     /// The looks that stood in a row, where those that are kept stand as before from this row on.
-    pub(crate) fn stood<'x>(&'x self, kept: &'x KeptRows, row: u8, from: u8) -> &'x RowLooks
+    pub(crate) fn stood<'x>(&'x self, kept: &'x KeptRows, row: Row, from: u8) -> &'x RowLooks
         requires passed { row ≤ from + 2 }
-        requires from_top { 1 ≤ row }
         requires to_bottom { from ≤ 24 }
         ensures { result.now ≡ stood_in self.now kept.now row from }
     {
-        if from >= row {
+        let number = row.number();
+        if from >= number {
             kept.row(Row::numbered(from))
-        } else if from + 1 == row {
+        } else if from + 1 == number {
             &self.near
         } else {
             &self.far

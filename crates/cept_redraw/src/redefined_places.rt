@@ -53,7 +53,7 @@ impl Picture {
             if alone {
                 self.refresh_places(here, strokes, marks, steps);
             } else if flag | covered {
-                covered = self.refresh_row(row, edges.is_last(row), marks, steps);
+                covered = self.refresh_row(here, edges.is_last(row), marks, steps);
             }
         }
     }

@@ -51,7 +51,7 @@ impl Picture {
             let flag = flags[usize::from(row) - 1];
             if flag | covered {
                 let last = edges.is_last(row);
-                covered = self.refresh_row(row, last, marks, steps);
+                covered = self.refresh_row(Row::numbered(row), last, marks, steps);
             }
         }
     }
@@ -73,11 +73,12 @@ impl Picture {
             steps.new }
     {
         self.looks.whole_by_type();
-        let mut first = from;
+        let mut first = Column::numbered(from);
         let mut end = until;
         for at in row..25u8 {
             let last = edges.is_last(at);
-            let found = self.refresh_row_between(at, first, end, last, marks, steps);
+            let here = Row::numbered(at);
+            let found = self.refresh_row_between(here, first, end, last, marks, steps);
             if !found.covering {
                 return;
             }
@@ -90,27 +91,24 @@ impl Picture {
     /// which they differ from those before. Answers whether what covers the row below differs. One tick.
     pub(crate) fn refresh_row<L: Ledger>(
         &mut self,
-        row: u8,
+        row: Row,
         last: bool,
         marks: &mut Marks,
         steps: &mut Steps<L>,
     ) -> bool
-        requires from_top { 1 ≤ row }
-        requires to_bottom { row ≤ 24 }
-        requires valid { IsValidPage self.old.page }
+        requires { IsValidPage self.old.page }
         ensures { IsRowRenewed row last self.old self.new marks.old marks.new result steps.old steps.new }
     {
-        let at = Row::numbered(row);
         resolve_row(
             &self.page,
-            at,
-            self.looks.above(at),
+            row,
+            self.looks.above(row),
             last,
             &mut self.fresh,
             steps,
         );
         take_row(
-            at,
+            row,
             Column::numbered(1),
             40,
             &self.fresh,
@@ -123,17 +121,13 @@ impl Picture {
     /// place that follows one which does, or which covers nothing to its right before and after.
     fn refresh_row_between<L: Ledger>(
         &mut self,
-        row: u8,
-        from: u8,
+        row: Row,
+        from: Column,
         until: u8,
         last: bool,
         marks: &mut Marks,
         steps: &mut Steps<L>,
     ) -> Refreshed
-        requires from_top { 1 ≤ row }
-        requires to_bottom { row ≤ 24 }
-        requires from_left { 1 ≤ from }
-        requires to_right { from ≤ 40 }
         requires valid { IsValidPage self.old.page }
         requires left { IsLeftOf from (looks_in self.old.looks row)
             (row_beneath (looks_in self.old.looks (row - 1)) self.old.page row last) }
@@ -144,32 +138,31 @@ impl Picture {
         ensures to_right { result.end ≤ 40 }
         ensures stays { IsRightOf result.end (looks_in self.old.looks row) (looks_in self.new.looks row) }
     {
-        let at = Row::numbered(row);
-        let first = Column::numbered(from);
-        let source = row_source(&self.page, at).ending(last);
-        self.fresh.copy_from(self.looks.row(at));
+        // Tells the prover that the row is one.
+        let _number = row.number();
+        let source = row_source(&self.page, row).ending(last);
+        self.fresh.copy_from(self.looks.row(row));
         let end = resolve_between(
             &source,
-            first,
+            from,
             until,
-            self.looks.above(at),
+            self.looks.above(row),
             &mut self.fresh,
             steps,
         );
-        let covering = take_row(at, first, end, &self.fresh, &mut self.looks, marks);
+        let covering = take_row(row, from, end, &self.fresh, &mut self.looks, marks);
         Refreshed { covering, end }
     }
 }
 
 /// The column to the left of a column, or the first.
-fn to_the_left(column: u8) -> u8
-    requires from_left { 1 ≤ column }
-    requires to_right { column ≤ 40 }
-    ensures from_left { 1 ≤ result }
-    ensures to_right { result ≤ 40 }
-    ensures less { (c : ℕ) → 1 ≤ c → c < result → c + 1 < column }
+fn to_the_left(column: Column) -> Column
+    ensures { (c : ℕ) → 1 ≤ c → c < result → c + 1 < column }
 {
-    if column == 1 { 1 } else { column - 1 }
+    match column.left() {
+        Some(left) => left,
+        None => column,
+    }
 }
 
 /// Keeps these looks of a row, and marks the places at which they differ from those before, which are

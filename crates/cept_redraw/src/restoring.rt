@@ -14,6 +14,7 @@ ghost use Rattle.cept_redraw.specs.Restored.{is_unwound};
 use crate::altered_rows::is_last_under_one;
 use crate::marks::Marks;
 use crate::picture::Picture;
+use cept_codes::Row;
 use cept_control::Edges;
 use cept_delta::Delta;
 use cept_outside::Steps;
@@ -92,7 +93,7 @@ fn rows_unwound(delta: &Delta, before: &Edges, after: &Edges) -> [bool; 24]
     let same = before.is_same(after);
     let mut rows = [false; 24];
     for i in 0..24u8 {
-        rows[usize::from(i)] = is_unwound(delta, screen, before, after, same, i + 1);
+        rows[usize::from(i)] = is_unwound(delta, screen, before, after, same, Row::numbered(i + 1));
     }
     rows
 }
@@ -106,15 +107,14 @@ fn is_unwound(
     before: &Edges,
     after: &Edges,
     same: bool,
-    row: u8,
+    row: Row,
 ) -> bool
-    requires from_top { 1 ≤ row }
-    requires to_bottom { row ≤ 24 }
     requires screen { screen ≡ notes_screen delta.now }
     requires same { same ≡ true → before.now ≡ after.now }
     ensures { result ≡ is_unwound delta.now before.now after.now row }
 {
-    delta.notes_row(row) || screen || is_last_under_other(before, after, same, row)
+    let number = row.number();
+    delta.notes_row(number) || screen || is_last_under_other(before, after, same, number)
 }
 
 /// Whether a row is last under just one of two edges, where it may be known that these are the same.

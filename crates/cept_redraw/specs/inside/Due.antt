@@ -56,16 +56,11 @@ came_from (Some q) r = q
 
 -- ---- rows that are altered of themselves
 
--- the stroke writes in one row and does nothing else
-abbrev pub just_writes : Stroke → Bool
-just_writes (strokes.Put place cell) = true
-just_writes (strokes.Erase row from) = true
--- any other may do more
-just_writes _ = false
-
--- one of the strokes may do more
-unfoldable pub one_does_more : List Stroke → Bool
-one_does_more strokes = list_any (λ stroke. not (just_writes stroke)) strokes
+-- the stroke may do more than write in one row
+abbrev pub does_more : Stroke → Bool
+does_more (strokes.Put place cell) = false
+does_more (strokes.Erase row from) = false
+does_more _ = true
 
 -- row r has other attributes than row q before, or the screen has, or just one of the two rows is last
 unfoldable pub has_others : Pens → Edges → ℕ → Pens → Edges → ℕ → Bool

@@ -1,7 +1,6 @@
 -- What private clauses say beside `Kept` (this project's own).
 use Rattle.std.specs.Prelude.{ℕ, ◌≡◌, ◌<◌, ◌≤◌, ◌*◌, ◌-◌, ◌||◌, Bool, false, not, List, [], length, slice_index_or}
 use Rattle.std.specs.List.{list_any, range_with_len}
-use Rattle.cept_codes.specs.declared.cell.What.{What}
 use Rattle.cept_codes.specs.declared.look.Look.{Look}
 use Rattle.cept_codes.specs.Look.{blank_look}
 use Rattle.cept_codes.specs.Place.{Place, OnScreen, number}
@@ -11,7 +10,6 @@ use Rattle.cept_profile.specs.Cells.{is_at}
 use Rattle.cept_profile.specs.Look.{look}
 use Rattle.cept_profile.specs.PageParts.{row_pen_in}
 use Rattle.cept_profile.specs.RowsFromAbove.{is_other_covering}
-use Rattle.cept_profile.specs.Serial.{row_in}
 use Rattle.cept_profile.specs.State.{Core, Page, definitions_of}
 use Rattle.cept_profile.specs.Tiling.{column_entry}
 use Rattle.cept_redraw.specs.Marks.{is_marked}
@@ -26,10 +24,6 @@ source_of p r last = record {
   defined = definitions_of p;
   last = last;
 }
-
--- what stands in each column of row r of a page
-abbrev pub contents_in : Page → ℕ → ℕ → What
-contents_in p r = row_in (source_of p r false).cells
 
 -- the looks of row r of a page beneath these looks
 abbrev pub row_beneath : List Look → Page → ℕ → Bool → List Look

@@ -11,17 +11,16 @@ use Rattle.cept_redraw.proofs.moved_rows.bring_row.Goals.{then-back, else-back}
 pub returns-after-back : goal.returns-after-back
 returns-after-back c =
     let stands : looks_in c.args.kept.now c.args.from ≡ stood_in c.args.passed.now c.args.kept.now c.args.row c.args.from =
-    sym (stood_in-below c.args.passed.now c.args.kept.now c.args.row c.args.from (omega (arith, c.if-from-number.true, c.number-number.ensures))) in
+    sym (stood_in-below c.args.passed.now c.args.kept.now c.args.row c.args.from (omega (arith, c.if-number.true, c.number.ensures, c.number-2.ensures))) in
     record {
       kept = c.copy_up.ensures
-          ∙ ap (λ n. set c.args.kept.now (c.args.row - 1) (looks_in c.args.kept.now n)) c.numbered-source.ensures
           ∙ ap (set c.args.kept.now (c.args.row - 1)) stands;
       marked =
           subst (λ (l : List Look). HasMarkedRow l (stood_in c.args.passed.now c.args.kept.now c.args.row c.args.from)
           c.args.row 41 c.args.marks.now c.mark_differences.new.marks) c.row.ensures
           (subst (λ (l : List Look). HasMarkedRow c.row.result.now l c.args.row 41 c.args.marks.now
           c.mark_differences.new.marks)
-          (c.row-then-from-number.ensures ∙ ap (looks_in c.args.kept.now) c.numbered-source.ensures ∙ stands)
+          (c.row-then-number.ensures ∙ stands)
           c.mark_differences.ensures);
       near = λ so. elim c.if-back.branch [
         | then-back w ↦ ap (λ p. p.near) w.passed-is ∙ w.pass.ensures.near ∙ w.row-then-back.ensures

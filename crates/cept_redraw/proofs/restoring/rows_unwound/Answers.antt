@@ -1,4 +1,4 @@
-use Rattle.std.proofs.Common.{◌-◌, ◌+◌, ℕ, false, Bool, replicate, arith, ◌∙◌}
+use Rattle.std.proofs.Common.{◌-◌, ◌+◌, ℕ, false, Bool, replicate, ap, arith, ◌∙◌}
 use Rattle.std.proofs.lemmas.List.{get_or-replicate, length-replicate}
 use Rattle.cept_codes.proofs.Laws.{HasMadeEntries-all, HasMadeEntries-more, entry_from}
 use Rattle.cept_redraw.specs.Restored.{is_unwound}
@@ -17,7 +17,7 @@ loop-i-preserved c =
     let so : ℕ → Bool = is_unwound c.args.delta.now c.args.before.now c.args.after.now in
     HasMadeEntries-more false c.is_unwound.result 1 24 so (λ _. false) c.loop-i.rows c.loop-i.i
     c.from.result (c.loop-i.i + 1) c.loop-i.invariant c.loop-i-test.true c.from.ensures (omega arith)
-    c.is_unwound.ensures
+    (c.is_unwound.ensures ∙ ap so c.numbered.ensures)
 
 pub returns : goal.returns
 returns c = HasMadeEntries-all false 1 24 _ _ _ _ c.loop-i.invariant (omega arith)

@@ -1,13 +1,20 @@
-use Rattle.std.proofs.Common.{◌≡◌, true, false, inl, inr, get_or, sym, ap, subst, ◌∙◌, arith}
+use Rattle.std.proofs.Common.{◌≡◌, ℕ, Bool, true, false, List, Option, Some, inl, inr, get_or, sym, ap, subst, ◌∙◌, arith}
 use Rattle.std.proofs.lemmas.Bool.{cases_eq}
 use Rattle.std.proofs.lemmas.List.{get_or_default, length-set}
+use Rattle.cept_codes.specs.Place.{OnScreen, number}
 use Rattle.cept_codes.specs.Table.{entry}
 use Rattle.cept_codes.proofs.Laws.{entry_from}
 use Rattle.cept_redraw.specs.declared.followed_rows.Followed.{Followed}
 use Rattle.cept_redraw.specs.inside.Due.{freed, row_from}
-use Rattle.cept_redraw.specs.inside.Named.{IsLeft, IsStill}
+use Rattle.cept_redraw.specs.Marks.{is_marked}
+use Rattle.cept_redraw.specs.inside.Named.{IsStill}
 use Rattle.cept_redraw.proofs.NamesKept.{known-kept, known-stays}
 use Rattle.cept_redraw.proofs.kept_names.KeptNames.forget_rows.Goals as goal
+
+-- a row, flagged or not and come of this row, that stays
+abbrev IsLeft : Bool → Option ℕ → List Bool → ℕ → Type 0
+IsLeft flag from marks r =
+    (flag ≡ false) × (from ≡ Some r) × ((c : ℕ) → OnScreen r c → is_marked marks (number r c) ≡ false)
 
 -- the flag of the row at hand, and of which row it came
 flag_is : (c : goal.After-self-1)
@@ -33,13 +40,13 @@ still c stays =
     subst (λ b. IsLeft b (row_from c.args.rows.now c.numbered-row.result) c.args.marks.now c.numbered-row.result)
     (flag_is c)
     (subst (λ f. IsLeft (get_or c.args.flags.now c.index-at.result false) f c.args.marks.now c.numbered-row.result)
-    (from_is c) (c.is_left-stays.ensures.left stays))
+    (from_is c) (c.is_left-stays.ensures.0 stays))
 
 -- and it stays where it is still
 stays : (c : goal.After-self-1) → IsStill c.args.flags.now c.args.rows.now c.args.marks.now c.numbered-row.result
     → c.is_left-stays.result ≡ true
 stays c is =
-    c.is_left-stays.ensures.always
+    c.is_left-stays.ensures.1
     (subst (λ b. IsLeft b (get_or c.args.rows.now c.index-at.result c.index-rows-at.result).from c.args.marks.now
     c.numbered-row.result) (sym (flag_is c))
     (subst (λ f. IsLeft (entry false 1 c.args.flags.now c.numbered-row.result) f c.args.marks.now c.numbered-row.result)

@@ -13,8 +13,6 @@ invariant-loop-at g l = record {
   walked : (k : Core) → edges_of_core k ≡ l.edges
       → WalkedDown l.row (core_on k l.fn.self.page) l.fn.self.looks l.self.looks l.fn.marks l.marks l.fn.steps l.steps
       l.at;
-  from_left : 1 ≤ l.first;
-  to_right : l.first ≤ 40;
   left : (c : ℕ) → 1 ≤ c → c < l.first → c + l.at < l.from + l.row;
   until : l.at ≡ l.row → l.until ≤ l.end;
   above : (d : ℕ) → l.end ≤ d → look_seen l.fn.self.looks (l.at - 1) d ≡ look_seen l.self.looks (l.at - 1) d;

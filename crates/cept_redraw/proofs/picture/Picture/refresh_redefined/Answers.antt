@@ -10,6 +10,7 @@ use Rattle.cept_page.specs.MarkedRows.{StandsAlone}
 use Rattle.cept_redraw.specs.declared.picture.Picture.{Picture}
 use Rattle.cept_redraw.specs.inside.Due.{at_rest, is_due}
 use Rattle.cept_redraw.specs.Kept.{AreLooksOn, core_on}
+use Rattle.cept_redraw.specs.inside.Picture.{IsRowRenewed}
 use Rattle.cept_redraw.specs.inside.Kept.{IsRefreshedRow}
 use Rattle.cept_redraw.specs.Named.{NamesOfRows, row_named}
 use Rattle.cept_redraw.specs.inside.Redefined.{places_resolved}
@@ -35,8 +36,8 @@ pub refresh_places-requires-clause-valid : goal.refresh_places-requires-clause-v
 refresh_places-requires-clause-valid g c =
     subst (λ (p : Page). IsValidPage p) (sym c.loop-row.invariant.rest.page) c.requires.may.others.valid
 
-pub refresh_row-covered-requires-clause-valid : goal.refresh_row-covered-requires-clause-valid
-refresh_row-covered-requires-clause-valid g c =
+pub refresh_row-covered-requires : goal.refresh_row-covered-requires
+refresh_row-covered-requires g c =
     subst (λ (p : Page). IsValidPage p) (sym c.loop-row.invariant.rest.page) c.requires.may.others.valid
 
 -- whether the row is due, as it is asked
@@ -92,6 +93,9 @@ loop-row-preserved g c =
             resolved.ensures.tick)
         | else-alone+then-flag-covered w ↦
             let refreshed = w.refresh_row-covered in
+            let renewed = subst (λ n. IsRowRenewed n w.is_last.result c.loop-row.self refreshed.new.self
+            c.loop-row.marks refreshed.new.marks refreshed.result c.loop-row.steps refreshed.new.steps)
+            c.numbered-here.ensures refreshed.ensures in
             WalkedTo-as (ap (λ (p : Picture). p.looks) w.self-is) w.marks-is w.covered-is w.steps-is
             (WalkedTo-more (m.walked k same) c.whole_by_type.ensures c.loop-row.auto.row (omega arith)
             (sym (due g c k same) ∙ w.if-flag-covered.true)
@@ -99,8 +103,8 @@ loop-row-preserved g c =
             refreshed.new.self.looks refreshed.new.marks refreshed.result refreshed.new.steps
             (IsRefreshedRow-on (looks_in c.loop-row.self.looks (row - 1)) row w.is_last.result c.loop-row.self.looks
             refreshed.new.self.looks c.loop-row.marks refreshed.new.marks c.args.self.now.page c.loop-row.self.page
-            m.rest.page refreshed.ensures.refreshed)
-            refreshed.ensures.covering refreshed.ensures.tick)
+            m.rest.page renewed.refreshed)
+            renewed.covering renewed.tick)
         | else-alone+else-flag-covered w ↦
             WalkedTo-as (ap (λ (p : Picture). p.looks) w.self-is) w.marks-is w.covered-is w.steps-is
             (WalkedTo-kept (m.walked k same) c.whole_by_type.ensures c.loop-row.auto.row (omega arith)

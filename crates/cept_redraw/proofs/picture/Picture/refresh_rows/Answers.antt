@@ -8,6 +8,7 @@ use Rattle.cept_profile.specs.Valid.{IsValidPage}
 use Rattle.cept_redraw.specs.declared.picture.Picture.{Picture}
 use Rattle.cept_redraw.specs.inside.Due.{at_rest, is_due}
 use Rattle.cept_redraw.specs.Kept.{AreLooksOn, core_on}
+use Rattle.cept_redraw.specs.inside.Picture.{IsRowRenewed}
 use Rattle.cept_redraw.proofs.DrawnPictures.{HasSameRest-as, HasSameRest-more, IsRefreshedRow-on}
 use Rattle.cept_redraw.proofs.RestingRows.{due-rest, row_from-rest}
 use Rattle.cept_redraw.proofs.WalkedRows.{WalkedTo-as, WalkedTo-cost, WalkedTo-first, WalkedTo-kept, WalkedTo-looks}
@@ -24,8 +25,8 @@ loop-row-init g c = record {
       c.args.steps.now c.whole_by_type.ensures c.requires.may.none;
 }
 
-pub refresh_row-covered-requires-clause-valid : goal.refresh_row-covered-requires-clause-valid
-refresh_row-covered-requires-clause-valid g c =
+pub refresh_row-covered-requires : goal.refresh_row-covered-requires
+refresh_row-covered-requires g c =
     subst (λ (p : Page). IsValidPage p) (sym c.loop-row.invariant.rest.page) c.requires.may.others.valid
 
 -- whether the row is due, as it is asked
@@ -52,6 +53,9 @@ loop-row-preserved g c =
       walked = λ k same. elim c.if-flag-covered.branch [
         | then-flag-covered w ↦
             let refreshed = w.refresh_row-covered in
+            let renewed = subst (λ n. IsRowRenewed n w.is_last-last.result c.loop-row.self refreshed.new.self
+            c.loop-row.marks refreshed.new.marks refreshed.result c.loop-row.steps refreshed.new.steps) w.numbered.ensures
+            refreshed.ensures in
             WalkedTo-as (ap (λ (p : Picture). p.looks) w.self-is) w.marks-is w.covered-is w.steps-is
             (WalkedTo-more (m.walked k same) c.whole_by_type.ensures c.loop-row.auto.row (omega arith)
             (sym (due g c k same) ∙ w.if-flag-covered.true)
@@ -59,8 +63,8 @@ loop-row-preserved g c =
             refreshed.new.self.looks refreshed.new.marks refreshed.result refreshed.new.steps
             (IsRefreshedRow-on (looks_in c.loop-row.self.looks (row - 1)) row w.is_last-last.result c.loop-row.self.looks
             refreshed.new.self.looks c.loop-row.marks refreshed.new.marks c.args.self.now.page c.loop-row.self.page
-            m.rest.page refreshed.ensures.refreshed)
-            refreshed.ensures.covering refreshed.ensures.tick)
+            m.rest.page renewed.refreshed)
+            renewed.covering renewed.tick)
         | else-flag-covered w ↦
             WalkedTo-as (ap (λ (p : Picture). p.looks) w.self-is) w.marks-is w.covered-is w.steps-is
             (WalkedTo-kept (m.walked k same) c.whole_by_type.ensures c.loop-row.auto.row (omega arith)
