@@ -1,9 +1,16 @@
 -- Worked cases of kept edits, by computing.
-use Rattle.std.proofs.Common.{◌≡◌, List, [], ◌∷◌, ◌++◌, replicate, refl}
+use Rattle.std.proofs.Common.{◌≡◌, List, [], ◌∷◌, ◌++◌, true, false, codes, replicate, refl}
+use Rattle.std.specs.Fmt.{digits}
 use Rattle.cept_codes.specs.declared.command.Command.{Command}
 use Rattle.cept_codes.specs.declared.command.Command.TheVariants.{Graphic}
-use Rattle.cept_editor.specs.Kept.{none_kept, kept_after_all, kept}
-use Rattle.cept_editor.specs.Meaning.{Step, Turn, TakeBack, MakeAgain, Edit}
+use Rattle.cept_editor.specs.Applying.{rows_of_step}
+use Rattle.cept_editor.specs.Kept.{commands_of_edits, none_kept, kept_after_all, kept}
+use Rattle.cept_editor.specs.Meaning.{Step, Turn, TakeBack, MakeAgain, Edit, command_count}
+use Rattle.cept_editor.specs.Stepping.{edit_events, line_events}
+use Rattle.cept_profile.specs.Changes.{changes_between}
+use Rattle.cept_profile.specs.Look.{grid}
+use Rattle.cept_profile.specs.State.{State}
+use Rattle.cept_report.specs.Text.{change_lines}
 
 abbrev a : List Command
 a = Graphic 0x41 ∷ []
@@ -45,3 +52,29 @@ kept-of_65 : kept (replicate 65 (Edit a) ++ replicate 65 undo)
     ≡ record { edits = a ∷ []; count = 0; undone = replicate 64 a }
 unfolding kept_after_all
 kept-of_65 = refl
+
+-- the events of a line have its number, and each the commands before and after it
+events-of_two : line_events true 7 [] none_kept (Edit (a ++ b))
+    ≡ record { before = []; after = a; text = change_lines 7 (changes_between (grid []) (grid a)) }
+    ∷ record { before = a; after = a ++ b; text = change_lines 7 (changes_between (grid a) (grid (a ++ b))) } ∷ []
+unfolding edit_events commands_of_edits
+events-of_two = refl
+
+events-unlisted : line_events false 7 [] none_kept (Edit a) ≡ record { before = []; after = a; text = [] } ∷ []
+unfolding edit_events commands_of_edits
+events-unlisted = refl
+
+events-nothing : line_events true 12 [] none_kept undo ≡ record { before = []; after = []; text = codes "12 nothing\n" } ∷ []
+unfolding commands_of_edits digits
+events-nothing = refl
+
+-- what lines count, and what a turn may resolve
+count-of_edit : command_count (Edit (a ++ b)) ≡ 2
+count-of_edit = refl
+
+count-of_turn : command_count redo ≡ 1
+count-of_turn = refl
+
+module _ (s : State) where
+  rows-of_turn : rows_of_step s undo ≡ 24
+  rows-of_turn = refl
