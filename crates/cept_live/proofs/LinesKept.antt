@@ -1,12 +1,11 @@
 -- A page that was fed, and lines of a script made after it: the editor that they make.
-use Rattle.std.proofs.Common.{◌≡◌, ℕ, List, [], ◌∷◌, refl, sym, ap, subst, ◌∙◌}
+use Rattle.std.proofs.Common.{◌≡◌, ℕ, List, [], ◌∷◌, refl, sym, ap, ◌∙◌}
 use Rattle.std.specs.List.{AllByRecursion}
-use Rattle.cept_codes.specs.declared.command.Command.{Command}
 use Rattle.cept_editor.specs.Applying.{editor_after_step, editor_after_steps}
 use Rattle.cept_editor.specs.Kept.{EditorState, StandsAfter, editor_after, kept, none_kept}
 use Rattle.cept_editor.specs.Meaning.{Edit, IsValidStep, Step, Turn}
 use Rattle.cept_editor.proofs.Laws.{StandsAfter-start, editor_after-steps, idle_turn}
-use Rattle.cept_parser.specs.Items.{closed_items, commands, commands_of}
+use Rattle.cept_parser.specs.Items.{commands}
 use Rattle.cept_live.specs.declared.lines.Lined.{Lined}
 use Rattle.cept_live.specs.declared.lines.Lined.TheVariants as answers
 use Rattle.cept_live.specs.declared.notice.Notice.{Notice}

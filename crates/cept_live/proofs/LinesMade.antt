@@ -1,12 +1,12 @@
 -- Lines of a script made on a decoder whose page has ended.
-use Rattle.std.proofs.Common.{◌≡◌, ◌≢◌, ℕ, ◌≤◌, Bool, false, true, Option, Some, None, List, [], ◌∷◌, ◌++◌, length, refl, sym, ap, subst, ◌∙◌}
+use Rattle.std.proofs.Common.{◌≡◌, ◌≢◌, ℕ, ◌≤◌, Bool, false, true, Option, None, List, [], ◌∷◌, ◌++◌, length, sym, ap, subst, ◌∙◌}
 use Rattle.std.proofs.lemmas.List.{map-append}
 use Rattle.cept_codes.specs.declared.command.Command.{Command}
 use Rattle.cept_codes.specs.declared.look.Look.{Look}
 use Rattle.cept_codes.specs.Place.{Place}
 use Rattle.cept_editor.specs.Applying.{changes_in_turn, changes_of_step, editor_after_step}
 use Rattle.cept_editor.specs.Events.{paints}
-use Rattle.cept_editor.specs.Kept.{EditorState, KeptEdits, StandsAfter, kept_after}
+use Rattle.cept_editor.specs.Kept.{EditorState, StandsAfter, kept_after}
 use Rattle.cept_editor.specs.declared.turn.Turn.{Turn as TurnKind}
 use Rattle.cept_editor.specs.Meaning.{HasCommand, IsValidStep, Step, Turn}
 use Rattle.cept_editor.specs.Stepping.{line_events, states_ahead}
@@ -21,7 +21,7 @@ use Rattle.cept_live.specs.declared.edits.Editing.{Editing}
 use Rattle.cept_live.specs.declared.notice.Notice.{Notice}
 use Rattle.cept_live.specs.Editing.{future_of, past_of}
 use Rattle.cept_live.specs.inside.Editing.{editor_with}
-use Rattle.cept_live.specs.EditLines.{MakesLine, TellsOnce, editor_of, sayings_once}
+use Rattle.cept_live.specs.EditLines.{MakesLine, editor_of, sayings_once}
 use Rattle.cept_live.specs.Live.{LiveState, Tells}
 use Rattle.cept_live.specs.Notices.{Change, Saying, change_sayings}
 use Rattle.cept_live.specs.Renewed.{marked_with}

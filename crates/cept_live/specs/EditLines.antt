@@ -13,7 +13,7 @@ use Rattle.cept_editor.specs.Meaning.{Edit, IsValidStep, Step, Turn, line_meanin
 use Rattle.cept_editor.specs.Stepping.{line_events, states_ahead}
 use Rattle.cept_profile.specs.Changes.{marked_looks}
 use Rattle.cept_profile.specs.Look.{looks_of}
-use Rattle.cept_profile.specs.State.{core_of}
+use Rattle.cept_profile.specs.State.{State, core_of}
 use Rattle.cept_redraw.specs.Marks.{no_marks}
 use Rattle.cept_live.specs.declared.lines.Lined.{Lined}
 use Rattle.cept_live.specs.declared.lines.Lined.TheVariants as answers
@@ -21,6 +21,11 @@ use Rattle.cept_live.specs.declared.notice.Notice.{Notice}
 use Rattle.cept_live.specs.Live.{LiveState, Stays, Tells}
 use Rattle.cept_live.specs.Notices.{Saying, change_sayings}
 use Rattle.cept_live.specs.Renewed.{marked_with}
+
+-- so many states lie behind a page or ahead of it, 64 at most
+pub record Counts (number : ℕ) (states : List State) : Type 0 where
+  pub count : number ≡ length states
+  pub few : number ≤ 64
 
 -- the editor that a decoder is
 abbrev pub editor_of : LiveState → EditorState
@@ -79,16 +84,22 @@ MeaningDone (Ok None) old list answer new now = (answer ≡ answers.Nothing) × 
 MeaningDone (Ok (Some step)) old list answer new now = StepDone step old list answer new now
 MeaningDone (Err reason) old list answer new now = (answer ≡ answers.Bad reason) × Stays old list new now
 
--- no line can be made: the page has not ended, or the list has no room for what a line may change
+-- a line can be made: the page has ended, and the list has room for what a line may change
+pub record IsReady (old : LiveState) (list : List Notice) : Type 0 where
+  pub finished : old.parser.finished ≡ true
+  pub enough : 960 ≤ length list
+
+-- none can be made
 abbrev pub IsEarly : LiveState → List Notice → Type 0
 IsEarly old list = (old.parser.finished ≡ false) ⊎ (length list < 960)
 
--- what becomes of a line
-abbrev pub LineDone : List ℕ → LiveState → List Notice → Lined → LiveState → List Notice → Type 0
-LineDone line old list answer new now =
-    ((answer ≡ answers.Early) × (IsEarly old list × Stays old list new now))
-    ⊎ (((answer ≡ answers.TooLong) × ((2 ^ 20 < length line) × Stays old list new now))
-    ⊎ MeaningDone (line_meaning line) old list answer new now)
+-- what becomes of a line: while none can be made the same of every line; then of one that is too long; and of any other what
+-- becomes of its meaning
+pub record LineDone (line : List ℕ) (old : LiveState) (list : List Notice) (answer : Lined) (new : LiveState) (now : List Notice)
+    : Type 0 where
+  pub early : IsEarly old list → (answer ≡ answers.Early) × Stays old list new now
+  pub too_long : IsReady old list → 2 ^ 20 < length line → (answer ≡ answers.TooLong) × Stays old list new now
+  pub meant : IsReady old list → length line ≤ 2 ^ 20 → MeaningDone (line_meaning line) old list answer new now
 
 -- ---- lines one after the other
 

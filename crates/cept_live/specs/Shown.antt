@@ -1,6 +1,7 @@
 -- What a display shows that is kept as it is told (this project's own), and what the phases of flashing change on it: a place
 -- shows its look as it was fed, until a phase begins after that.
-use Rattle.std.specs.Prelude.{◌≡◌, ℕ, ◌≤◌, ◌<◌, Bool, Option, Some, None, List, [], ◌∷◌, length, if◌then◌else◌}
+use Rattle.std.specs.Prelude.{◌≡◌, ℕ, ◌≤◌, ◌<◌, Bool, Option, Some, None, IfSome, IsNone, List, [], ◌∷◌, length}
+use Rattle.std.specs.Prelude.{if◌then◌else◌}
 use Rattle.std.specs.List.{flat_map}
 use Rattle.cept_codes.specs.declared.look.Look.{Look}
 use Rattle.cept_codes.specs.Look.{blank_look}
@@ -12,7 +13,7 @@ use Rattle.cept_profile.specs.Look.{looks_of}
 use Rattle.cept_profile.specs.State.{core_of}
 use Rattle.cept_redraw.specs.Marks.{is_marked, no_marks}
 use Rattle.cept_live.specs.declared.notice.Notice.{Notice}
-use Rattle.cept_live.specs.Live.{LiveState, Tells}
+use Rattle.cept_live.specs.Live.{LiveState, Stays, Tells}
 use Rattle.cept_live.specs.Notices.{Saying, Change, Refusal, change_sayings}
 
 -- a look at a phase, but as it is where it was renewed since the phase began, or where nothing flashes
@@ -50,3 +51,10 @@ pub record Begins (old : LiveState) (before : List (List Look)) (phase : ℕ) (l
   pub live : new ≡ record old { phase = Some phase; renewed = no_marks }
   pub tells : Tells list 0 (change_sayings old.parser.place
       (changes_between before (frame (looks_of (core_of old.screen)) phase))) to now
+
+-- what becomes of a phase that is to begin: it begins, or the list has no room for what it may change, and nothing happens
+pub record PhaseDone (old : LiveState) (before : List (List Look)) (phase : ℕ) (list : List Notice) (notices : Option ℕ)
+    (new : LiveState) (now : List Notice) : Type 0 where
+  pub begins : IfSome notices (λ to. Begins old before phase list new to now)
+  pub cause : IsNone notices → length list < 960
+  pub stays : IsNone notices → Stays old list new now

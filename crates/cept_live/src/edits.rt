@@ -1,16 +1,16 @@
 //! Makes edits on a screen, takes them back and makes them again, and marks the places that they change.
-ghost use Rattle.std.specs.Prelude.{◌≡◌, ◌≤◌, ◌↔◌, ℕ, List, [], false, length, IfOk, IfSome, OnErr, IsNone};
+ghost use Rattle.std.specs.Prelude.{◌≡◌, ℕ, List, [], IfOk, IfSome, OnErr, IsNone};
 ghost use Rattle.cept_codes.specs.declared.look.Look.{Look};
-ghost use Rattle.cept_editor.specs.Applying.{changes_in_turn, editor_after_step, editor_after_turn};
+ghost use Rattle.cept_editor.specs.Applying.{changes_in_turn, editor_after_step};
 ghost use Rattle.cept_editor.specs.Meaning.{Edit as EditOf};
-ghost use Rattle.cept_editor.specs.Stepping.{states_ahead};
 ghost use Rattle.cept_profile.specs.Changes.{changes_between, differences, marked_looks};
 ghost use Rattle.cept_profile.specs.Look.{looks_of};
 ghost use Rattle.cept_profile.specs.State.{core_of};
 ghost use Rattle.cept_repaint.specs.InTurn.{state_after_all};
 ghost use Rattle.cept_undo.specs.Past.{IsBetweenEdits, IsWithinEdit, StaysBegun, future, past};
+ghost use Rattle.cept_live.specs.EditLines.{Counts};
 ghost use Rattle.cept_live.specs.Editing.{future_of, past_of};
-ghost use Rattle.cept_live.specs.inside.Editing.{editor_with};
+ghost use Rattle.cept_live.specs.inside.Editing.{HasTurned, editor_with};
 ghost use Rattle.cept_live.specs.Notices.{change_sayings};
 ghost use Rattle.cept_live.specs.Renewed.{marked_with};
 
@@ -68,21 +68,7 @@ fn apply_commands<L: Ledger>(
 }
 
 impl Editing {
-    /// No edit is kept, and none is undone.
-    fn new(alloc: Global, screen: &Screen) -> Result<Editing, NoMemory>
-        ensures past { IfOk result (λ e. past e.undo screen.now ≡ []) }
-        ensures future { IfOk result (λ e. future e.undo screen.now ≡ []) }
-        ensures between { IfOk result (λ e. IsBetweenEdits e.undo screen.now) }
-    {
-        // That the state is valid is known to the prover by its control.
-        let _control = screen.control();
-        Ok(Editing {
-            undo: Undo::new(alloc)?,
-            glass: GridGlass::new(alloc)?,
-        })
-    }
-
-    /// The edits of a screen that are there, or none at its first edit.
+    /// The edits of a screen that are there; at its first edit none is kept, and none is undone.
     pub(crate) fn of(
         edits: Option<Editing>,
         alloc: Global,
@@ -94,9 +80,14 @@ impl Editing {
         ensures between { IfOk result (λ e. IsBetweenEdits e.undo screen.now) }
         ensures first { OnErr result (IsNone edits) }
     {
+        // That the state is valid is known to the prover by its control.
+        let _control = screen.control();
         match edits {
             Some(editing) => Ok(editing),
-            None => Editing::new(alloc, screen),
+            None => Ok(Editing {
+                undo: Undo::new(alloc)?,
+                glass: GridGlass::new(alloc)?,
+            }),
         }
     }
 
@@ -132,11 +123,7 @@ impl Editing {
         steps: &mut Steps<L>,
     ) -> bool
         requires { IsBetweenEdits self.old.undo screen.old }
-        ensures between { IsBetweenEdits self.new.undo screen.new }
-        ensures turned { editor_with self.new.undo screen.new
-            ≡ editor_after_turn (editor_with self.old.undo screen.old) turn }
-        ensures nothing { (result ≡ false)
-            ↔ (states_ahead (editor_with self.old.undo screen.old) turn ≡ []) }
+        ensures turns { HasTurned self.old.undo screen.old turn result self.new.undo screen.new }
         ensures marks { marks.new
             ≡ differences (looks_of (core_of screen.old)) (looks_of (core_of screen.new)) }
     {
@@ -162,11 +149,7 @@ impl Editing {
         steps: &mut Steps<L>,
     ) -> bool
         requires { IsBetweenEdits self.old.undo screen.old }
-        ensures between { IsBetweenEdits self.new.undo screen.new }
-        ensures turned { editor_with self.new.undo screen.new
-            ≡ editor_after_turn (editor_with self.old.undo screen.old) turn }
-        ensures nothing { (result ≡ false)
-            ↔ (states_ahead (editor_with self.old.undo screen.old) turn ≡ []) }
+        ensures turns { HasTurned self.old.undo screen.old turn result self.new.undo screen.new }
         ensures changed { changed.new ≡ marked_with changed.old (change_sayings 0
             (changes_between (looks_of (core_of screen.old)) (looks_of (core_of screen.new)))) }
     {
@@ -177,16 +160,14 @@ impl Editing {
 
     /// How many edits can be taken back.
     pub(crate) fn kept(&self, screen: &Screen) -> u32
-        ensures past { result ≡ length (past self.now.undo screen.now) }
-        ensures at_most_64 { result ≤ 64 }
+        ensures { Counts result (past self.now.undo screen.now) }
     {
         self.undo.kept()
     }
 
     /// How many edits were taken back and can be made again.
     pub(crate) fn undone(&self, screen: &Screen) -> u32
-        ensures future { result ≡ length (future self.now.undo screen.now) }
-        ensures at_most_64 { result ≤ 64 }
+        ensures { Counts result (future self.now.undo screen.now) }
     {
         self.undo.undone()
     }

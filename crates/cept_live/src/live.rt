@@ -1,6 +1,6 @@
 //! A decoder that keeps its place between pieces of a page.
-ghost use Rattle.std.specs.Prelude.{◌≡◌, ℕ, ◌+◌, ◌*◌, ◌^◌, ◌<◌, ◌≤◌, ◌⊎◌, ◌∷◌, [], length, take};
-ghost use Rattle.std.specs.Prelude.{true, false, List, IfOk, IfSome, IsNone, Some};
+ghost use Rattle.std.specs.Prelude.{◌≡◌, ℕ, ◌+◌, ◌^◌, ◌<◌, ◌≤◌, ◌⊎◌, ◌∷◌, [], length, take};
+ghost use Rattle.std.specs.Prelude.{◌↔◌, true, false, List, IfOk, IfSome, IsNone, Some};
 ghost use Rattle.std.specs.List.{AllByRecursion};
 ghost use Rattle.cept_codes.specs.Command.{IsValidCommand};
 ghost use Rattle.cept_codes.specs.Look.{blank_look};
@@ -82,12 +82,12 @@ impl Model for Live {
 
 impl Live {
     ghost use Rattle.cept_live.specs.Colours.{colour_entries};
-    ghost use Rattle.cept_live.specs.EditLines.{LineDone, StepDone, editor_of};
+    ghost use Rattle.cept_live.specs.EditLines.{Counts, IsReady, LineDone, StepDone};
     ghost use Rattle.cept_live.specs.Live.{Ends, Feeds, FeedsAll, HasFed, IsPhase, LiveState, Stays};
     ghost use Rattle.cept_live.specs.Live.{TakesNoMore, live_start};
     ghost use Rattle.cept_live.specs.Notices.{change_notice};
     ghost use Rattle.cept_live.specs.Parts.{HasParts};
-    ghost use Rattle.cept_live.specs.Shown.{Begins, phase_after, shown};
+    ghost use Rattle.cept_live.specs.Shown.{Begins, PhaseDone, phase_after, shown};
     ghost use Rattle.cept_live.specs.Snapshots.{snapshot_of};
     ghost use Rattle.cept_live.specs.States.{state_record};
     ghost use Rattle.cept_live.specs.inside.Turning.{looks_before};
@@ -203,8 +203,8 @@ impl Live {
     pub fn finish(&mut self, list: &mut [Notice]) -> Option<usize>
         ensures ends { IfSome result (λ notices. Ends self.old list.old 0 self.new notices
             list.new) }
-        ensures causes { IsNone result → (self.old.parser.finished ≡ true)
-            ⊎ (length list.old < 1920) }
+        ensures causes { IsNone result ↔ ((self.old.parser.finished ≡ true)
+            ⊎ (length list.old < 1920)) }
         ensures stays { IsNone result → Stays self.old list.old self.new list.new }
     {
         if self.has_ended() || list.len() < ROOM_FOR_A_BYTE {
@@ -222,8 +222,7 @@ impl Live {
         list: &mut [Notice],
         blank: Blank,
     ) -> Lined
-        requires ended { self.old.parser.finished ≡ true }
-        requires room { 960 ≤ length list.old }
+        requires ready { IsReady self.old list.old }
         requires valid { AllByRecursion IsValidCommand commands }
         requires some { 0 < length commands }
         requires blank { IsBlankOf L.name L.parts blank.name blank.parts }
@@ -247,8 +246,7 @@ impl Live {
 
     /// Takes the last kept edit back, or makes the last undone one again.
     fn turn_by<L: Ledger>(&mut self, turn: Turn, list: &mut [Notice], blank: Blank) -> Lined
-        requires ended { self.old.parser.finished ≡ true }
-        requires room { 960 ≤ length list.old }
+        requires ready { IsReady self.old list.old }
         requires blank { IsBlankOf L.name L.parts blank.name blank.parts }
         ensures { StepDone (TurnOf turn) self.old list.old result self.new list.new }
     {
@@ -296,8 +294,7 @@ impl Live {
 
     /// How many edits can be taken back.
     pub fn kept(&self) -> u32
-        ensures edits { result ≡ length (editor_of self.now).past }
-        ensures at_most_64 { result ≤ 64 }
+        ensures { Counts result self.now.past }
     {
         match &self.edits {
             Some(editing) => editing.kept(&self.display.screen),
@@ -307,8 +304,7 @@ impl Live {
 
     /// How many edits were taken back and can be made again.
     pub fn undone(&self) -> u32
-        ensures edits { result ≡ length (editor_of self.now).future }
-        ensures at_most_64 { result ≤ 64 }
+        ensures { Counts result self.now.future }
     {
         match &self.edits {
             Some(editing) => editing.undone(&self.display.screen),
@@ -377,10 +373,7 @@ impl Live {
     /// at it, with their looks there, from the start of the list on. Answers how many; none where the
     /// list has room for fewer than 960: all stays then.
     pub fn flash_start(&mut self, list: &mut [Notice]) -> Option<usize>
-        ensures begins { IfSome result (λ notices. Begins self.old (table (λ _ _. blank_look)) 0
-            list.old self.new notices list.new) }
-        ensures cause { IsNone result → length list.old < 960 }
-        ensures stays { IsNone result → Stays self.old list.old self.new list.new }
+        ensures { PhaseDone self.old (table (λ _ _. blank_look)) 0 list.old result self.new list.new }
     {
         if list.len() < ROOM_FOR_A_PHASE {
             return None;
@@ -393,10 +386,8 @@ impl Live {
     /// from the start of the list on. Answers how many; none where the list has room for fewer than
     /// 960: all stays then.
     pub fn flash_turn(&mut self, list: &mut [Notice]) -> Option<usize>
-        ensures begins { IfSome result (λ notices. Begins self.old (shown self.old)
-            (phase_after self.old.phase) list.old self.new notices list.new) }
-        ensures cause { IsNone result → length list.old < 960 }
-        ensures stays { IsNone result → Stays self.old list.old self.new list.new }
+        ensures { PhaseDone self.old (shown self.old) (phase_after self.old.phase) list.old result
+            self.new list.new }
     {
         if list.len() < ROOM_FOR_A_PHASE {
             return None;
@@ -421,8 +412,9 @@ impl Live {
     }
 
     /// The decoder of the parts of a snapshot, none where no decoder has them.
+    // The stack of a call is that of one step at a time.
+    #[inline(never)]
     fn of_parts(alloc: Global, parts: &Parts<'_>) -> Result<Option<Live>, NoMemory>
-        requires short { length parts.now.page.now < 2 ^ 32 }
         requires phase { IsPhase parts.now.phase }
         ensures back { (live : LiveState) (bytes : List ℕ) → HasFed live bytes
             → HasParts live parts.now → IfOk result (λ found. found ≡ Some live) }
@@ -456,7 +448,7 @@ impl Live {
 
     /// The decoder whose snapshot these bytes are, none where they are no decoder's. It goes on where
     /// the other one stood: it is that one wherever bytes were fed to it and its page had not ended.
-    /// A text of 2^32 bytes or more finds no memory.
+    /// A text of 2^32 bytes or more is none's, or finds no memory.
     pub fn restored(alloc: Global, text: &[u8]) -> Result<Option<Live>, NoMemory>
         ensures back { (live : LiveState) (bytes : List ℕ) → HasFed live bytes
             → snapshot_of live ≡ text.now → IfOk result (λ found. found ≡ Some live) }
@@ -464,13 +456,10 @@ impl Live {
         ensures running { IfOk result (λ found. IfSome found
             (λ live. live.parser.finished ≡ false)) }
     {
-        let Ok(size) = u32::try_from(text.len()) else {
-            return Err(NoMemory);
-        };
         let Some(live) = Live::of_parts(alloc, &parts_of(text))? else {
             return Ok(None);
         };
-        if has_bytes(alloc, &live, text, size)? {
+        if has_bytes(alloc, &live, text)? {
             Ok(Some(live))
         } else {
             Ok(None)

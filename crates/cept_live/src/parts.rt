@@ -1,6 +1,6 @@
 //! The parts of a snapshot. Each is read from any bytes; whether they are those of a snapshot is for
 //! the caller to see.
-ghost use Rattle.std.specs.Prelude.{◌≡◌, ◌≤◌, ◌<◌, ◌+◌, ◌*◌, ◌^◌, ◌∷◌, ◌++◌, ℕ, Bool, List, []};
+ghost use Rattle.std.specs.Prelude.{◌≡◌, ◌<◌, ◌+◌, ◌*◌, ◌^◌, ◌∷◌, ◌++◌, ℕ, Bool, List, []};
 ghost use Rattle.std.specs.Prelude.{length, map};
 ghost use Rattle.cept_control.specs.Numbers.{bit};
 ghost use Rattle.cept_parser.specs.declared.context.Context.{Context};
@@ -27,18 +27,16 @@ pub struct Parts<'a> {
 
 /// The first bytes of a text, so many or all, and those after them.
 fn cut(text: &[u8], size: usize) -> (&[u8], &[u8])
-    ensures cut { (front rest : List ℕ) → front ++ rest ≡ text.now → length front ≡ size
+    ensures { (front rest : List ℕ) → front ++ rest ≡ text.now → length front ≡ size
         → (result.0.now ≡ front) × (result.1.now ≡ rest) }
-    ensures rest { length result.1.now ≤ length text.now }
 {
     text.split_at(size.min(text.len()))
 }
 
 /// The first byte of a text, 0 where there is none, and those after it.
 fn cut_byte(text: &[u8]) -> (u8, &[u8])
-    ensures cut { (first : ℕ) (rest : List ℕ) → first ∷ rest ≡ text.now
+    ensures { (first : ℕ) (rest : List ℕ) → first ∷ rest ≡ text.now
         → (result.0 ≡ first) × (result.1.now ≡ rest) }
-    ensures rest { length result.1.now ≤ length text.now }
 {
     match text.split_first() {
         Some((first, rest)) => (*first, rest),
@@ -48,9 +46,8 @@ fn cut_byte(text: &[u8]) -> (u8, &[u8])
 
 /// The first part of a text, whose number of bytes stands before it, and the bytes after it.
 fn cut_part(text: &[u8]) -> (&[u8], &[u8])
-    ensures cut { (front rest : List ℕ) → part front ++ rest ≡ text.now
+    ensures { (front rest : List ℕ) → part front ++ rest ≡ text.now
         → (result.0.now ≡ front) × (result.1.now ≡ rest) }
-    ensures rest { length result.1.now ≤ length text.now }
 {
     let (size, rest) = cut_byte(text);
     cut(rest, usize::from(size))
@@ -132,7 +129,6 @@ pub fn parts_of(text: &[u8]) -> Parts<'_>
     ensures snapshot { (live : LiveState) → snapshot_of live ≡ text.now
         → length live.renewed ≡ 960 → HasParts live result }
     ensures valid { IsPhase result.phase }
-    ensures short { length result.page.now ≤ length text.now }
 {
     let (_mark, rest) = cut(text, 4);
     let (place, rest) = cut(rest, 8);

@@ -68,11 +68,13 @@ fn read_into<L: Ledger>(page: &[u8], screen: &mut Screen, blank: Blank)
     apply_items(last.as_slice(), screen, &mut marks, &mut steps);
 }
 
-/// The screen after the bytes of a page.
+/// The screen after the bytes of a page. A page of 2^32 bytes or more finds no memory.
 pub fn read_page(alloc: Global, page: &[u8]) -> Result<Screen, NoMemory>
-    requires { length page.now < 2 ^ 32 }
     ensures { IfOk result (λ screen. Stands screen (closed_items page.now)) }
 {
+    let Ok(_size) = u32::try_from(page.len()) else {
+        return Err(NoMemory);
+    };
     let mut screen = Screen::new(alloc)?;
     let blank = Blank::new(1);
     read_into::<Brand>(page, &mut screen, blank);
@@ -81,8 +83,9 @@ pub fn read_page(alloc: Global, page: &[u8]) -> Result<Screen, NoMemory>
 
 /// The screen of a written page with this control, none where the page has other settings than
 /// control has.
+// The stack of a call is that of one step at a time.
+#[inline(never)]
 pub fn screen_of(alloc: Global, page: &[u8], control: &Control) -> Result<Option<Screen>, NoMemory>
-    requires { length page.now < 2 ^ 32 }
     ensures { (history : List Command) → AllValid history
         → page_text (core history) ≡ page.now → control.now ≡ (state history).control
         → IfOk result (λ found. found ≡ Some (state history)) }

@@ -1,6 +1,5 @@
 //! Texts written at the front of a slice, where there is room for all of them, and compared.
-ghost use Rattle.std.specs.Prelude.{◌≡◌, ◌≤◌, ◌-◌, ◌^◌, ◌++◌, ◌↔◌, ℕ, List, length, drop, min};
-ghost use Rattle.std.specs.Prelude.{IfOk, IsTrue, OnErr, OnOk};
+ghost use Rattle.std.specs.Prelude.{◌≡◌, ◌-◌, ◌^◌, ◌↔◌, ℕ, List, length, min, IfOk, IsTrue};
 ghost use Rattle.cept_outside.specs.PlainSink.{plain_sink_bytes};
 ghost use Rattle.cept_outside.specs.SinkState.{PutsText};
 ghost use Rattle.cept_live.specs.Written.{Writes};
@@ -52,19 +51,6 @@ fn sink_with<W: Text>(alloc: Global, text: &W, size: u32) -> Result<PlainSink, N
     Ok(sink)
 }
 
-/// Puts a text, which has so many bytes, at the front of `out`.
-fn put_text<W: Text>(alloc: Global, text: &W, size: u32, out: &mut [u8]) -> Result<(), NoMemory>
-    requires text { length (W.text text.now) ≡ size }
-    requires room { size ≤ length out.old }
-    ensures whole { OnOk result (out.new ≡ W.text text.now ++ drop size out.old) }
-    ensures stays { OnErr result (out.new ≡ out.old) }
-{
-    let sink = sink_with(alloc, text, size)?;
-    let bytes = sink.bytes();
-    out[..bytes.len()].copy_from_slice(bytes);
-    Ok(())
-}
-
 /// Puts a text at the front of `out`, where there is room for all of it, and answers how many bytes
 /// it has; `None` where it is longer than `out`, which stays.
 pub fn put_front<W: Text>(
@@ -78,23 +64,23 @@ pub fn put_front<W: Text>(
     if size > out.len() as u64 {
         return Ok(None);
     }
-    let Ok(room) = u32::try_from(size) else {
+    let Ok(size) = u32::try_from(size) else {
         return Err(NoMemory);
     };
-    put_text(alloc, text, room, out)?;
-    Ok(Some(room as usize))
+    let sink = sink_with(alloc, text, size)?;
+    let bytes = sink.bytes();
+    out[..bytes.len()].copy_from_slice(bytes);
+    Ok(Some(bytes.len()))
 }
 
-/// Whether a text has just these bytes, of which there are so many.
-pub fn has_bytes<W: Text>(
-    alloc: Global,
-    text: &W,
-    bytes: &[u8],
-    size: u32,
-) -> Result<bool, NoMemory>
-    requires { length bytes.now ≡ size }
+/// Whether a text has just these bytes. Of 2^32 bytes or more it finds no memory.
+#[inline(never)]
+pub fn has_bytes<W: Text>(alloc: Global, text: &W, bytes: &[u8]) -> Result<bool, NoMemory>
     ensures { IfOk result (λ same. IsTrue same ↔ (W.text text.now ≡ bytes.now)) }
 {
+    let Ok(size) = u32::try_from(bytes.len()) else {
+        return Err(NoMemory);
+    };
     if text_len(text) != u64::from(size) {
         return Ok(false);
     }

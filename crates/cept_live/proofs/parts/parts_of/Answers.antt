@@ -32,13 +32,13 @@ returns-clause-snapshot c = λ live is places.
     let context = context_bytes live.parser.context in
     let whole = in_turn snapshot_mark place context (part live.parser.pending) (part (control_bytes live.screen.control))
     (number_or 255 live.phase ∷ map bit live.renewed) (page_text (core_of live.screen)) ∙ is in
-    let one = c.cut.ensures.cut snapshot_mark (place ++ (context ++ after_context live)) whole refl in
-    let two = c.cut-2.ensures.cut place (context ++ after_context live) (sym one.1) refl in
-    let three = c.cut-3.ensures.cut context (after_context live) (sym two.1) refl in
-    let four = c.cut_part.ensures.cut live.parser.pending (after_pending live) (sym three.1) in
-    let five = c.cut_part-2.ensures.cut (control_bytes live.screen.control) (after_control live) (sym four.1) in
-    let six = c.cut_byte-phase.ensures.cut (number_or 255 live.phase) (after_phase live) (sym five.1) in
-    let seven = c.cut-4.ensures.cut (map bit live.renewed) (page_text (core_of live.screen)) (sym six.1)
+    let one = c.cut.ensures snapshot_mark (place ++ (context ++ after_context live)) whole refl in
+    let two = c.cut-2.ensures place (context ++ after_context live) (sym one.1) refl in
+    let three = c.cut-3.ensures context (after_context live) (sym two.1) refl in
+    let four = c.cut_part.ensures live.parser.pending (after_pending live) (sym three.1) in
+    let five = c.cut_part-2.ensures (control_bytes live.screen.control) (after_control live) (sym four.1) in
+    let six = c.cut_byte-phase.ensures (number_or 255 live.phase) (after_phase live) (sym five.1) in
+    let seven = c.cut-4.ensures (map bit live.renewed) (page_text (core_of live.screen)) (sym six.1)
     (length-map live.renewed bit ∙ places) in
     record {
       place = c.number_of.ensures live.parser.place (sym two.0);

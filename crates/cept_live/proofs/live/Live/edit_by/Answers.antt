@@ -16,7 +16,7 @@ returns g c =
     (c.in-Ok.ensures.past ∙ ap (λ e. past_of e screen) c.take.ensures.value)
     (c.in-Ok.ensures.future ∙ ap (λ e. future_of e screen) c.take.ensures.value) in
     rw (← c.self.view_is) (line-made (Edit c.args.commands) _ _ _ _ _ c.make.new.changed
-    (ap (λ (l : LiveState). l.parser.finished) c.self.view_is ∙ c.requires.ended) c.requires.room refl refl
+    (ap (λ (l : LiveState). l.parser.finished) c.self.view_is ∙ c.requires.ready.finished) c.requires.ready.enough refl refl
     (omega (arith, c.tell_marked-notices.ensures.most))
     (c.make.ensures.made ∙ ap (λ (e : EditorState). editor_after_step e (Edit c.args.commands)) before)
     (λ turn same. absurd cc) c.requires.valid c.requires.some

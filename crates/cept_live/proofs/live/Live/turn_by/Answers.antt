@@ -24,14 +24,14 @@ returns g c =
     } in
     let new : EditorState = editor_with c.turn-turned.new.self.undo c.turn-turned.new.screen in
     let made : new ≡ editor_after_step old (Turn c.args.turn) =
-    c.turn-turned.ensures.turned ∙ ap (λ (e : EditorState). editor_after_step e (Turn c.args.turn)) before in
+    c.turn-turned.ensures.turns.made ∙ ap (λ (e : EditorState). editor_after_step e (Turn c.args.turn)) before in
     rw (← c.self.view_is) (line-made (Turn c.args.turn) _ _ _ _ _ c.turn-turned.new.changed
-    (ap (λ (l : LiveState). l.parser.finished) c.self.view_is ∙ c.requires.ended) c.requires.room refl refl
+    (ap (λ (l : LiveState). l.parser.finished) c.self.view_is ∙ c.requires.ready.finished) c.requires.ready.enough refl refl
     (omega (arith, c.tell_marked-notices.ensures.most)) made
     (λ turn same none.
     let turn_is : c.args.turn ≡ turn = cc in
     true≢false (sym c.if-not-turned.false
-    ∙ c.turn-turned.ensures.nothing.1 (subst (λ (t : TurnKind). states_ahead (editor_with c.in-Some.editing.undo screen) t ≡ [])
+    ∙ c.turn-turned.ensures.turns.nothing.1 (subst (λ (t : TurnKind). states_ahead (editor_with c.in-Some.editing.undo screen) t ≡ [])
     (sym turn_is) (ap (λ (e : EditorState). states_ahead e turn) before ∙ none)))) tt tt
     (marks-turned c.args.turn old new _ c.turn-turned.new.changed made c.new-changed.ensures c.turn-turned.ensures.changed)
     (rw c.place.ensures at c.tell_marked-notices.ensures.tells) (rw c.place.ensures at c.tell_marked-notices.ensures.renews))
