@@ -11,60 +11,60 @@ use Rattle.cept_editor.specs.Events.{Event, event_changes, paints}
 use Rattle.cept_editor.proofs.Laws.{paints-append, paints-one, paints-none}
 use Rattle.cept_profile.specs.Changes.{changes}
 use Rattle.cept_run.specs.Words.{is_counted, is_painted}
-use Rattle.cept_run.specs.declared.words.Asked.{Asked}
-use Rattle.cept_run.specs.Events.{history, item_event, item_events, painted_at}
-use Rattle.cept_run.specs.Reporting.{counted_of}
+use Rattle.cept_run.specs.declared.words.ReportOptions.{ReportOptions}
+use Rattle.cept_run.specs.Events.{history, item_event, item_events, painted_count}
+use Rattle.cept_run.specs.Reporting.{counted_places}
 use Rattle.cept_run.proofs.EventsOfItems.{item_events-none, item_events-more}
 use Rattle.cept_run.proofs.PaintedItems.{applied_changes, refused_changes, checked_changes}
 
 -- the places of one item more
-painted_more : (asked : Asked) (items : List Item) (i : Item) → painted_at asked (items ++ i ∷ [])
-    ≡ painted_at asked items + length (event_changes (item_event asked items i))
-painted_more asked items i =
-    ap (λ (es : List Event). length (paints es)) (item_events-more asked items i)
-    ∙ ap length (paints-append (item_events asked items) (item_event asked items i ∷ []))
-    ∙ length-append (paints (item_events asked items)) (paints (item_event asked items i ∷ []))
-    ∙ ap (λ (xs : List (Place × Look)). painted_at asked items + length xs) (paints-one (item_event asked items i))
+painted_more : (options : ReportOptions) (items : List Item) (i : Item) → painted_count options (items ++ i ∷ [])
+    ≡ painted_count options items + length (event_changes (item_event options items i))
+painted_more options items i =
+    ap (λ (es : List Event). length (paints es)) (item_events-more options items i)
+    ∙ ap length (paints-append (item_events options items) (item_event options items i ∷ []))
+    ∙ length-append (paints (item_events options items)) (paints (item_event options items i ∷ []))
+    ∙ ap (λ (xs : List (Place × Look)). painted_count options items + length xs) (paints-one (item_event options items i))
 
-counted_sum : (asked : Asked) (a b : ℕ) → counted_of asked (a + b) ≡ counted_of asked a + counted_of asked b
-counted_sum asked a b = by_flag (is_counted asked.end)
+counted_sum : (options : ReportOptions) (a b : ℕ) → counted_places options (a + b) ≡ counted_places options a + counted_places options b
+counted_sum options a b = by_flag (is_counted options.end)
   where
     by_flag : (c : Bool) → cond c (a + b) 0 ≡ cond c a 0 + cond c b 0
     by_flag true = refl
     by_flag false = refl
 
 -- before the first item
-pub counted-none : (asked : Asked) → counted_of asked (painted_at asked []) ≡ 0
-counted-none asked = ap (λ (es : List Event). counted_of asked (length (paints es))) (item_events-none asked)
-    ∙ ap (λ (xs : List (Place × Look)). counted_of asked (length xs)) paints-none ∙ by_flag (is_counted asked.end) 0
+pub counted-none : (options : ReportOptions) → counted_places options (painted_count options []) ≡ 0
+counted-none options = ap (λ (es : List Event). counted_places options (length (paints es))) (item_events-none options)
+    ∙ ap (λ (xs : List (Place × Look)). counted_places options (length xs)) paints-none ∙ by_flag (is_counted options.end) 0
   where
     by_flag : (c : Bool) (n : ℕ) → cond c n n ≡ n
     by_flag true n = refl
     by_flag false n = refl
 
 -- at a command that is applied
-pub counted-command : (asked : Asked) (items : List Item) (i : Item) (command : Command)
-    → is_painted asked.way ≡ true → i.what ≡ said.Command command
-    → counted_of asked (painted_at asked (items ++ i ∷ []))
-    ≡ counted_of asked (painted_at asked items) + counted_of asked (length (changes (history asked items) command))
-counted-command asked items i command painting is =
-    ap (counted_of asked) (painted_more asked items i
-    ∙ ap (λ (xs : List (Place × Look)). painted_at asked items + length xs)
-    (applied_changes asked items i command painting is))
-    ∙ counted_sum asked (painted_at asked items) (length (changes (history asked items) command))
+pub counted-command : (options : ReportOptions) (items : List Item) (i : Item) (command : Command)
+    → is_painted options.way ≡ true → i.what ≡ said.Command command
+    → counted_places options (painted_count options (items ++ i ∷ []))
+    ≡ counted_places options (painted_count options items) + counted_places options (length (changes (history options items) command))
+counted-command options items i command painting is =
+    ap (counted_places options) (painted_more options items i
+    ∙ ap (λ (xs : List (Place × Look)). painted_count options items + length xs)
+    (applied_changes options items i command painting is))
+    ∙ counted_sum options (painted_count options items) (length (changes (history options items) command))
 
 -- at an item that changes nothing
-unchanged : (asked : Asked) (items : List Item) (i : Item) → event_changes (item_event asked items i) ≡ []
-    → counted_of asked (painted_at asked (items ++ i ∷ [])) ≡ counted_of asked (painted_at asked items)
-unchanged asked items i none =
-    ap (counted_of asked) (painted_more asked items i
-    ∙ ap (λ (xs : List (Place × Look)). painted_at asked items + length xs) none ∙ add-zero (painted_at asked items))
+unchanged : (options : ReportOptions) (items : List Item) (i : Item) → event_changes (item_event options items i) ≡ []
+    → counted_places options (painted_count options (items ++ i ∷ [])) ≡ counted_places options (painted_count options items)
+unchanged options items i none =
+    ap (counted_places options) (painted_more options items i
+    ∙ ap (λ (xs : List (Place × Look)). painted_count options items + length xs) none ∙ add-zero (painted_count options items))
 
-pub counted-refused : (asked : Asked) (items : List Item) (i : Item) (reason : Reason)
+pub counted-refused : (options : ReportOptions) (items : List Item) (i : Item) (reason : Reason)
     → i.what ≡ said.Refused reason
-    → counted_of asked (painted_at asked (items ++ i ∷ [])) ≡ counted_of asked (painted_at asked items)
-counted-refused asked items i reason is = unchanged asked items i (refused_changes asked items i reason is)
+    → counted_places options (painted_count options (items ++ i ∷ [])) ≡ counted_places options (painted_count options items)
+counted-refused options items i reason is = unchanged options items i (refused_changes options items i reason is)
 
-pub counted-idle : (asked : Asked) (items : List Item) (i : Item) → is_painted asked.way ≡ false
-    → counted_of asked (painted_at asked (items ++ i ∷ [])) ≡ counted_of asked (painted_at asked items)
-counted-idle asked items i idle = unchanged asked items i (checked_changes asked items i idle)
+pub counted-idle : (options : ReportOptions) (items : List Item) (i : Item) → is_painted options.way ≡ false
+    → counted_places options (painted_count options (items ++ i ∷ [])) ≡ counted_places options (painted_count options items)
+counted-idle options items i idle = unchanged options items i (checked_changes options items i idle)

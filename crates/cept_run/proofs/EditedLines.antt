@@ -14,7 +14,7 @@ use Rattle.cept_editor.specs.Meaning.{Step, Turn, Edit}
 use Rattle.cept_editor.specs.Script.{EditLine}
 use Rattle.cept_editor.specs.Stepping.{event_from, nothing_event, edit_events, line_events}
 use Rattle.cept_editor.proofs.Laws.{kept-none, kept-more, remaining-none}
-use Rattle.cept_run.specs.declared.words.Asked.{Asked}
+use Rattle.cept_run.specs.declared.words.ReportOptions.{ReportOptions}
 use Rattle.cept_run.specs.Events.{history, item_events, events_of_line, kept_of, script_events, edited_events}
 use Rattle.cept_run.specs.Events.{Sequel, Edits, Figures, nothing_more, drawing_commands, sequel_events, remaining_after}
 use Rattle.cept_run.proofs.PaintedItems.{AreChained, chained-append, item_events-chained}
@@ -99,11 +99,11 @@ pub script_events-none : (listed : Bool) (page : List Command) → script_events
 unfolding script_events
 script_events-none listed page = refl
 
-pub edited_events-none : (asked : Asked) (items : List Item)
-    → edited_events asked items nothing_more ≡ item_events asked items
-edited_events-none asked items =
-    ap (λ (es : List Event). item_events asked items ++ es) (script_events-none asked.edits_listed (history asked items))
-    ∙ append-nil (item_events asked items)
+pub edited_events-none : (options : ReportOptions) (items : List Item)
+    → edited_events options items nothing_more ≡ item_events options items
+edited_events-none options items =
+    ap (λ (es : List Event). item_events options items ++ es) (script_events-none options.edits_listed (history options items))
+    ∙ append-nil (item_events options items)
 
 -- ---- what they lead to
 
@@ -201,9 +201,9 @@ sequel_events-chained listed page (Edits lines) = script_events-chained listed p
 sequel_events-chained listed page (Figures figures) = edit_chained false 0 page (drawing_commands page figures)
 
 -- the events of a page and of what is done after it lead to what remains
-pub edited_events-chained : (asked : Asked) (items : List Item) (sequel : Sequel)
-    → AreChained [] (edited_events asked items sequel) (remaining_after (history asked items) sequel)
-edited_events-chained asked items sequel =
-    chained-append [] (history asked items) (remaining_after (history asked items) sequel)
-    (item_events asked items) (sequel_events asked.edits_listed (history asked items) sequel)
-    (item_events-chained asked items) (sequel_events-chained asked.edits_listed (history asked items) sequel)
+pub edited_events-chained : (options : ReportOptions) (items : List Item) (sequel : Sequel)
+    → AreChained [] (edited_events options items sequel) (remaining_after (history options items) sequel)
+edited_events-chained options items sequel =
+    chained-append [] (history options items) (remaining_after (history options items) sequel)
+    (item_events options items) (sequel_events options.edits_listed (history options items) sequel)
+    (item_events-chained options items) (sequel_events-chained options.edits_listed (history options items) sequel)

@@ -7,19 +7,19 @@ use Rattle.cept_codes.specs.declared.look.Look.{Look}
 use Rattle.cept_outside.specs.SinkState.{SinkState, PutsText}
 use Rattle.cept_parser.specs.Items.{closed_items}
 use Rattle.cept_profile.specs.State.{State, state}
-use Rattle.cept_run.specs.declared.words.Asked.{Asked}
+use Rattle.cept_run.specs.declared.words.ReportOptions.{ReportOptions}
 use Rattle.cept_run.specs.declared.words.End.{End}
 use Rattle.cept_run.specs.Events.{counts_text, painted_end, text_at_end, refused_count}
 use Rattle.cept_run.specs.Reporting.{Plan, ReporterState, StandsAtEnd, remaining_at_end, screen_of}
 use Rattle.cept_run.specs.Words.{is_painted}
 
 -- the end that is asked for is this one
-pub end_as : {X E : Type 0} (one other : End) (asked : Asked) (shown : List (List Look)) (page : List ℕ)
+pub end_as : {X E : Type 0} (one other : End) (options : ReportOptions) (shown : List (List Look)) (page : List ℕ)
     (commands : List Command) (s t : SinkState) (result : Result X E) → one ≡ other
-    → PutsText s (painted_end one asked shown page commands) result t
-    → PutsText s (painted_end other asked shown page commands) result t
-end_as one other asked shown page commands s t result is puts =
-    subst (λ (e : End). PutsText s (painted_end e asked shown page commands) result t) is puts
+    → PutsText s (painted_end one options shown page commands) result t
+    → PutsText s (painted_end other options shown page commands) result t
+end_as one other options shown page commands s t result is puts =
+    subst (λ (e : End). PutsText s (painted_end e options shown page commands) result t) is puts
 
 module _ (plan : Plan) (reporter : ReporterState) (page : List ℕ)
     (stands : StandsAtEnd plan reporter (closed_items page)) where
@@ -27,17 +27,17 @@ module _ (plan : Plan) (reporter : ReporterState) (page : List ℕ)
   all = remaining_at_end plan (closed_items page)
 
   -- there is a screen where commands are painted
-  pub screen_is : (screen : State) → Some screen ≡ screen_of reporter.easel
-      → (is_painted plan.asked.way ≡ true) × (screen ≡ state all)
-  screen_is screen is = by_flag (is_painted plan.asked.way) refl (is ∙ stands.screen)
+  pub screen_is : (screen : State) → Some screen ≡ screen_of reporter.target
+      → (is_painted plan.options.way ≡ true) × (screen ≡ state all)
+  screen_is screen is = by_flag (is_painted plan.options.way) refl (is ∙ stands.screen)
     where
-      by_flag : (b : Bool) → is_painted plan.asked.way ≡ b → Some screen ≡ cond b (Some (state all)) None
-          → (is_painted plan.asked.way ≡ true) × (screen ≡ state all)
+      by_flag : (b : Bool) → is_painted plan.options.way ≡ b → Some screen ≡ cond b (Some (state all)) None
+          → (is_painted plan.options.way ≡ true) × (screen ≡ state all)
       by_flag true p e = (p, same_Some screen (state all) e)
       by_flag false p e = absurd (none-some screen (sym e))
 
-  pub no_screen : None ≡ screen_of reporter.easel → is_painted plan.asked.way ≡ false
-  no_screen is = by_flag (is_painted plan.asked.way) (is ∙ stands.screen)
+  pub no_screen : None ≡ screen_of reporter.target → is_painted plan.options.way ≡ false
+  no_screen is = by_flag (is_painted plan.options.way) (is ∙ stands.screen)
     where
       by_flag : (b : Bool) → None ≡ cond b (Some (state all)) None → b ≡ false
       by_flag true e = absurd (none-some (state all) e)
@@ -45,20 +45,20 @@ module _ (plan : Plan) (reporter : ReporterState) (page : List ℕ)
 
   -- so the text at the end is one or the other
   pub painted_text : {X E : Type 0} (shown : List (List Look)) (s t : SinkState) (result : Result X E)
-      → is_painted plan.asked.way ≡ true → PutsText s (painted_end plan.asked.end plan.asked shown page all) result t
-      → PutsText s (text_at_end plan.asked shown page all) result t
+      → is_painted plan.options.way ≡ true → PutsText s (painted_end plan.options.end plan.options shown page all) result t
+      → PutsText s (text_at_end plan.options shown page all) result t
   painted_text shown s t result is puts =
-      subst (λ b. PutsText s (cond b (painted_end plan.asked.end plan.asked shown page all)
-      (counts_text plan.asked.way (length (closed_items page)) (refused_count (closed_items page)))) result t) (sym is) puts
+      subst (λ b. PutsText s (cond b (painted_end plan.options.end plan.options shown page all)
+      (counts_text plan.options.way (length (closed_items page)) (refused_count (closed_items page)))) result t) (sym is) puts
 
   pub counted_text : {X E : Type 0} (shown : List (List Look)) (s t : SinkState) (result : Result X E)
-      → is_painted plan.asked.way ≡ false
-      → PutsText s (counts_text reporter.asked.way reporter.items reporter.refused) result t
-      → PutsText s (text_at_end plan.asked shown page all) result t
+      → is_painted plan.options.way ≡ false
+      → PutsText s (counts_text reporter.options.way reporter.items reporter.refused) result t
+      → PutsText s (text_at_end plan.options shown page all) result t
   counted_text shown s t result is puts =
-      subst (λ b. PutsText s (cond b (painted_end plan.asked.end plan.asked shown page all)
-      (counts_text plan.asked.way (length (closed_items page)) (refused_count (closed_items page)))) result t) (sym is)
-      (subst (λ (a : Asked). PutsText s (counts_text a.way (length (closed_items page)) (refused_count (closed_items page)))
-      result t) stands.asked_is
-      (subst (λ n. PutsText s (counts_text reporter.asked.way n (refused_count (closed_items page))) result t) stands.items
-      (subst (λ n. PutsText s (counts_text reporter.asked.way reporter.items n) result t) stands.refused puts)))
+      subst (λ b. PutsText s (cond b (painted_end plan.options.end plan.options shown page all)
+      (counts_text plan.options.way (length (closed_items page)) (refused_count (closed_items page)))) result t) (sym is)
+      (subst (λ (a : ReportOptions). PutsText s (counts_text a.way (length (closed_items page)) (refused_count (closed_items page)))
+      result t) stands.options_are
+      (subst (λ n. PutsText s (counts_text reporter.options.way n (refused_count (closed_items page))) result t) stands.items
+      (subst (λ n. PutsText s (counts_text reporter.options.way reporter.items n) result t) stands.refused puts)))

@@ -1,5 +1,5 @@
 -- How a run ends by its page.
-use Rattle.std.proofs.Common.{◌≡◌, ◌⊎◌, inl, inr, ℕ, ◌^◌, ◌<◌, ◌≤◌, Bool, true, false, cond, List, [], ◌∷◌, ◌++◌, take}
+use Rattle.std.proofs.Common.{◌≡◌, ◌≢◌, ◌⊎◌, inl, inr, ℕ, ◌^◌, ◌<◌, ◌≤◌, Bool, true, false, cond, List, [], ◌∷◌, ◌++◌, take}
 use Rattle.std.proofs.Common.{Option, Some, None, IsSome, Result, Ok, Err, refl, sym, ◌∙◌, ap, subst, arith}
 use Rattle.std.proofs.Common.{append_assoc, append-nil, min, take-take, length}
 use Rattle.std.proofs.lemmas.Option.{none-some, same_Some}
@@ -11,7 +11,7 @@ use Rattle.cept_words.specs.Faults.{Fault}
 use Rattle.cept_editor.proofs.Laws.{AreCutOff-longer, cut_untouched}
 use Rattle.cept_outside.specs.Causes.{Rose, HasCause}
 use Rattle.cept_outside.specs.ShelfState.{ShelfState, Holds, Selects, IsSound}
-use Rattle.cept_outside.specs.SinkState.{SinkState, one_more}
+use Rattle.cept_outside.specs.SinkState.{SinkState}
 use Rattle.cept_outside.proofs.Laws.{HasPut-nothing}
 use Rattle.cept_parser.specs.Items.{items, closed_items}
 use Rattle.cept_codes.specs.declared.look.Look.{Look}
@@ -22,16 +22,17 @@ use Rattle.cept_run.specs.declared.page.Stop.{Stop}
 use Rattle.cept_run.specs.declared.page.Stop.TheVariants as stops
 use Rattle.cept_run.specs.declared.run.Status.{Status}
 use Rattle.cept_run.specs.declared.run.Status.TheVariants as statuses
-use Rattle.cept_run.specs.declared.words.Asked.{Asked}
-use Rattle.cept_run.specs.Course.{Course, Source, File, Gives, HasBytes, IsNamed, SelectsNoOther, Grammar}
-use Rattle.cept_run.specs.Course.{first_fault_in, sequel_in, reporting}
+use Rattle.cept_run.specs.declared.words.ReportOptions.{ReportOptions}
+use Rattle.cept_run.specs.Course.{Course, Source, File, Gives, HasBytes, SelectsNoOther, Grammar}
+use Rattle.cept_run.specs.Course.{first_fault_in, sequel_in, report_course}
 use Rattle.cept_run.specs.Events.{history, item_events, text_at_end, edited_events, sequel_events, Sequel, nothing_more}
 use Rattle.cept_run.specs.Events.{remaining_after, has_refusal}
 use Rattle.cept_run.specs.Outside.{Outside, outside_of, output, PutsWhole, PutsFront}
 use Rattle.cept_run.specs.Page.{PageUnput, PageStops, PutsEnd, KeepsShelf}
 use Rattle.cept_run.specs.Reporting.{Plan, sequel_if_any, sequel_of, remaining_at_end}
-use Rattle.cept_run.specs.Run.{Restores, EndsWhole, IsReportCut, HasStopper, Ends}
+use Rattle.cept_run.specs.Run.{Restores, EndsWhole, IsReportCut, Ends, ReportsFirst}
 use Rattle.cept_run.specs.Run.{RunsCourse, status_of, status_at_end}
+use Rattle.cept_run.specs.Taking.{AreLeft, TakesWhole}
 use Rattle.cept_run.specs.inside.ScriptReading.{ScriptKnown}
 use Rattle.cept_run.specs.Words.{is_painted}
 use Rattle.cept_run.proofs.EditedLines.{edited_events-none}
@@ -42,19 +43,19 @@ use Rattle.cept_run.proofs.ReportedFronts.{reports_front, reports_nothing, made_
 use Rattle.cept_run.proofs.ReportedRuns.{put_made, put_cut, all, edited, the_end, the_run, whole_report}
 use Rattle.cept_run.proofs.FrontsPut.{cut_front}
 use Rattle.cept_run.proofs.ReportedRuns.{cut_at_end, put_to_end, front_at_end}
-use Rattle.cept_run.proofs.Selections.{nothing_selected, selected_is, given_left, under_same, holds_still}
+use Rattle.cept_run.proofs.Selections.{selected_is, given_left, under_same}
 use Rattle.cept_run.proofs.Selections.{gives_still, EndsPut, put_unless, room_kept}
-use Rattle.cept_run.proofs.StoppedScripts.{selected_so_long, name_in}
+use Rattle.cept_run.proofs.StoppedScripts.{named_so_long, name_in}
 
 -- ---- the script was read
 
 module _ (plan : Plan) (grammar : Grammar) (name : List ℕ) (script : Source) (told : List ℕ) (before : Outside)
     (ready : ShelfState) (known : ScriptKnown grammar name script told before.shelf ready) where
-  abbrev asked : Asked
-  asked = plan.asked
+  abbrev options : ReportOptions
+  options = plan.options
 
   abbrev course : Course
-  course = reporting asked grammar (File name) script
+  course = report_course options grammar (File name) script
 
   -- the bytes of the script, where the shelf tells them
   told_are : (other bytes : List ℕ) → script ≡ File other → Gives before.shelf other bytes → told ≡ bytes
@@ -67,13 +68,14 @@ module _ (plan : Plan) (grammar : Grammar) (name : List ℕ) (script : Source) (
       none-some fault (sym known.good ∙ ap (first_fault_in grammar) (told_are other bytes named given) ∙ found)
 
   -- so it doesn't stop the run
-  no_stopper : HasStopper course before.shelf → ⊥
-  no_stopper stopper = by_stop stopper.stops
+  no_stopper : (other bytes : List ℕ) → script ≡ File other → Holds before.shelf other bytes
+      → (2 ^ 20 < length bytes) ⊎ IsSome (first_fault_in grammar bytes) → ⊥
+  no_stopper other bytes named holds = by_stop
     where
-      same : told ≡ stopper.script
-      same = told_are stopper.name stopper.script stopper.named (inl stopper.holds)
+      same : told ≡ bytes
+      same = told_are other bytes named (inl holds)
 
-      by_stop : (2 ^ 20 < length stopper.script) ⊎ IsSome (first_fault_in grammar stopper.script) → ⊥
+      by_stop : (2 ^ 20 < length bytes) ⊎ IsSome (first_fault_in grammar bytes) → ⊥
       by_stop (inl long) = absurd (omega (arith, long, known.few, ap length same))
       by_stop (inr some) =
           let no : false ≡ true = subst IsSome (ap (first_fault_in grammar) (sym same) ∙ known.good) some in
@@ -87,27 +89,33 @@ module _ (plan : Plan) (grammar : Grammar) (name : List ℕ) (script : Source) (
   ends_unselected shelf f selects cause = record {
     ends = record {
       read_fault = subst (λ n. Rose n shelf.faults) known.stays cause.failed;
+      unended = selects.ended;
       name = name;
       named = refl;
-      front = [];
-      counted = inl (selects.taken, λ chosen is. inl (selects.failed.chosen chosen is));
-      front_is = λ page holds is. ap (λ k. take k page) (sym selects.taken);
-      readable = refl;
-      reports = reports_nothing asked grammar (File name) script before (outside_of shelf before.sink before.glass) refl;
-      unended = selects.ended;
-      early = λ chosen is other. (refl, refl);
-      not_too_long = omega (arith, selects.taken);
-      script_not_too_long = λ other named is. omega (arith, selects.taken);
-      sink_stays = refl;
+      which = inl (record {
+        first = record {
+          named = refl;
+          front = [];
+          counted = sym selects.taken;
+          front_is = λ page given. ap (λ k. take k page) (sym selects.taken);
+          reports = reports_nothing options grammar (File name) script before (outside_of shelf before.sink before.glass) refl;
+          selected = λ chosen is. inl (selects.failed.chosen chosen is);
+        };
+        readable = refl;
+        few = omega (arith, selects.taken);
+        early = λ none. (refl, refl);
+      });
     };
     shelf = record {
-      script_first = λ stopper. absurd (no_stopper stopper);
+      script_first = λ other bytes named holds stops. absurd (no_stopper other bytes named holds stops);
       missed = λ there scripts. selects.missed_stays (subst IsSome (sym (under_same before.shelf ready name
           known.files)) there) ∙ known.missed scripts;
-      selects = λ touched chosen is. inl (selects.failed.chosen chosen is);
+      selects = λ touched. inl (λ chosen is. inl (selects.failed.chosen chosen is));
       files = KeepsFiles-more before.shelf ready shelf known.files selects.keeps;
       faults = omega (arith, known.stays, cause.later);
     };
+    shelf_stays = λ other. absurd (other refl);
+    sink_stays = λ other. refl;
     bad_script = λ other bytes fault named given found. absurd (no_fault other bytes fault named given found);
     unpainted = λ idle. refl;
     unflushed = λ early. HasPut-nothing before.sink;
@@ -123,9 +131,6 @@ module _ (plan : Plan) (grammar : Grammar) (name : List ℕ) (script : Source) (
     same_faults : mid.faults ≡ before.shelf.faults
     same_faults = selected ∙ known.stays
 
-    left_of_held : (page : List ℕ) → Holds before.shelf name page → mid.left ≡ Some page
-    left_of_held page holds = (selects.found page (holds_still before.shelf ready name page known.files holds)).1
-
     left_of_given : (page : List ℕ) → Gives before.shelf name page → mid.left ≡ Some page
     left_of_given page given = given_left ready mid name page x selects
         (gives_still before.shelf ready name page known.files given)
@@ -137,30 +142,21 @@ module _ (plan : Plan) (grammar : Grammar) (name : List ℕ) (script : Source) (
     selects_page : (other : List ℕ) → course.page ≡ File other → SelectsNoOther other after.shelf
     selects_page other named = subst (λ n. SelectsNoOther n after.shelf) (name_in name other named) page_or_none
 
-    -- the script isn't selected
-    script_unselected : (other : List ℕ) → script ≡ File other → after.shelf.selected ≡ Some (Some other) → ⊥
-    script_unselected other named is = by_name (page_or_none (Some other) is)
-      where
-        by_name : (Some other ≡ None) ⊎ (Some other ≡ Some name) → ⊥
-        by_name (inl e) = none-some other (sym e)
-        by_name (inr e) = known.differs other named (same_Some other name e)
-
-    among_names : (chosen : Option (List ℕ)) → (chosen ≡ None) ⊎ (chosen ≡ Some name)
-        → (chosen ≡ None) ⊎ (chosen ≡ Some name) ⊎ IsNamed script chosen
-    among_names chosen (inl none) = inl none
-    among_names chosen (inr is) = inr (inl is)
-
     runs_course : (status : Status) → Ends course before after status
-        → (is_painted asked.way ≡ false → after.glass ≡ before.glass)
+        → (status ≢ statuses.ReadFault → after.shelf.faults ≡ mid.faults)
+        → (status ≢ statuses.WriteFault → after.sink.faults ≡ before.sink.faults)
+        → (is_painted options.way ≡ false → after.glass ≡ before.glass)
         → EndsPut status before.sink after.sink → before.sink.faults ≤ after.sink.faults
         → RunsCourse course before after status
-    runs_course status ends idle puts later = record {
+    runs_course status ends shelf_stays sink_stays idle puts later = record {
       ends = ends;
+      shelf_stays = λ other. shelf_stays other ∙ same_faults;
+      sink_stays = sink_stays;
       shelf = record {
-        script_first = λ stopper. absurd (no_stopper stopper);
+        script_first = λ other bytes named holds stops. absurd (no_stopper other bytes named holds stops);
         missed = λ there scripts. keeps.missed ∙ selects.missed_stays (subst IsSome (sym (under_same before.shelf ready
             name known.files)) there) ∙ known.missed scripts;
-        selects = λ touched chosen is. among_names chosen (page_or_none chosen is);
+        selects = λ touched. inl page_or_none;
         files = KeepsFiles-more before.shelf ready after.shelf known.files
             (KeepsFiles-more ready mid after.shelf selects.keeps keeps.files);
         faults = omega (arith, same_faults, keeps.faults);
@@ -173,53 +169,68 @@ module _ (plan : Plan) (grammar : Grammar) (name : List ℕ) (script : Source) (
     }
 
     -- the front of the page was reported, and no fault of the sink was counted
-    runs_made : (status : Status) (bytes : List ℕ) → AreMade (item_events asked (items bytes)) (output before)
-        (output after) → after.sink.faults ≡ before.sink.faults → Ends course before after status
+    runs_made : (status : Status) (bytes : List ℕ) → AreMade (item_events options (items bytes)) (output before)
+        (output after) → after.sink.faults ≡ before.sink.faults
+        → (status ≢ statuses.ReadFault → after.shelf.faults ≡ mid.faults) → Ends course before after status
         → RunsCourse course before after status
-    runs_made status bytes made stays ends = runs_course status ends
-        (λ idle. made.painted.untouched (still_idle asked (items bytes) idle))
-        (inl (put_made (item_events asked (items bytes)) (output before) (output after) made))
+    runs_made status bytes made stays shelf_stays ends = runs_course status ends shelf_stays (λ other. stays)
+        (λ idle. made.painted.untouched (still_idle options (items bytes) idle))
+        (inl (put_made (item_events options (items bytes)) (output before) (output after) made))
         (omega (arith, stays))
+
+    -- the first bytes of the page are reported
+    abbrev first_reported : (size : ℕ) (front : List ℕ) → length front ≡ size
+        → ((page : List ℕ) → AreLeft mid page → front ≡ take size page)
+        → AreMade (item_events options (items front)) (output before) (output after)
+        → ReportsFirst course name size before after
+    first_reported size front counted are made = record {
+      named = refl;
+      front = front;
+      counted = counted;
+      front_is = λ page given. are page (left_of_given page given);
+      reports = reports_front options grammar (File name) script front before after made;
+      selected = page_or_none;
+    }
 
     -- the events of some items are cut off of those of the whole run, whatever the glass shows at its end
     cut_in_run : (shown : List (List Look)) (page : List ℕ) (front others : List Item)
-        → closed_items page ≡ front ++ others → AreCutOff (item_events asked front) (output before) (output after)
-        → AreCutOff (the_run asked grammar page told shown) (output before) (output after)
+        → closed_items page ≡ front ++ others → AreCutOff (item_events options front) (output before) (output after)
+        → AreCutOff (the_run options grammar page told shown) (output before) (output after)
     cut_in_run shown page front others is off =
-        let end = the_end asked grammar page told shown ∷ [] in
-        let script_part = sequel_events asked.edits_listed (history asked (closed_items page)) (sequel_in grammar told) in
-        AreCutOff-longer (item_events asked front) (events_after asked front others ++ (script_part ++ end))
-        (the_run asked grammar page told shown) (output before) (output after)
-        (append_assoc (item_events asked (closed_items page)) script_part end
-        ∙ ap (λ (l : List Item). item_events asked l ++ (script_part ++ end)) is
-        ∙ ap (λ (es : List Event). es ++ (script_part ++ end)) (item_events-append asked front others)
-        ∙ append_assoc (item_events asked front) (events_after asked front others) (script_part ++ end)) off
+        let end = the_end options grammar page told shown ∷ [] in
+        let script_part = sequel_events options.edits_listed (history options (closed_items page)) (sequel_in grammar told) in
+        AreCutOff-longer (item_events options front) (events_after options front others ++ (script_part ++ end))
+        (the_run options grammar page told shown) (output before) (output after)
+        (append_assoc (item_events options (closed_items page)) script_part end
+        ∙ ap (λ (l : List Item). item_events options l ++ (script_part ++ end)) is
+        ∙ ap (λ (es : List Event). es ++ (script_part ++ end)) (item_events-append options front others)
+        ∙ append_assoc (item_events options front) (events_after options front others) (script_part ++ end)) off
 
     -- the events of the run where the glass shows what remains
     abbrev meant_run : List ℕ → List Event
-    meant_run page = the_run asked grammar page told (grid (all asked grammar page told))
+    meant_run page = the_run options grammar page told (grid (all options grammar page told))
 
     -- so a front of the report was put
     front_in_run : (page : List ℕ) (front others : List Item) → closed_items page ≡ front ++ others
-        → AreCutOff (item_events asked front) (output before) (output after)
+        → AreCutOff (item_events options front) (output before) (output after)
         → PutsFront (report (meant_run page)) before.sink after.sink
     front_in_run page front others is off = cut_front (meant_run page) (output before) (output after)
-        (cut_in_run (grid (all asked grammar page told)) page front others is off)
+        (cut_in_run (grid (all options grammar page told)) page front others is off)
 
     -- the sink failed at an item
-    runs_cut : (reached : List Item) → AreCutOff (item_events asked reached) (output before) (output after)
+    runs_cut : (reached : List Item) → AreCutOff (item_events options reached) (output before) (output after)
         → after.shelf.faults ≡ mid.faults → IsReportCut course before after
         → RunsCourse course before after statuses.WriteFault
     runs_cut reached off stays cut = runs_course statuses.WriteFault
-        (record { write_fault = off.cause; cut = inl cut; shelf_stays = stays ∙ same_faults })
-        (λ idle. cut_untouched (item_events asked reached) (output before) (output after) (still_idle asked reached idle) off)
-        (inl (put_cut (item_events asked reached) (output before) (output after) off)) off.later
+        (record { write_fault = off.cause; cut = inl cut }) (λ other. stays) (λ other. absurd (other refl))
+        (λ idle. cut_untouched (item_events options reached) (output before) (output after) (still_idle options reached idle) off)
+        (inl (put_cut (item_events options reached) (output before) (output after) off)) off.later
 
     -- in the midst of the page: of the page that is told, or of the bytes that were taken
     front_cut : (left : Option (List ℕ)) → mid.left ≡ left
         → PageUnput plan (outside_of mid before.sink before.glass) after → IsReportCut course before after
     front_cut (Some page) is ends =
-        let known_bytes = ends.known page is in
+        let known_bytes = ends.takes.known page is in
         let there = ends.there page is in
         let size = min after.shelf.taken (2 ^ 24) in
         record {
@@ -235,10 +246,10 @@ module _ (plan : Plan) (grammar : Grammar) (name : List ℕ) (script : Source) (
             selects_page other named,
             inr (record {
               within = known_bytes.0;
-              cut = subst (λ (l : List Item). AreCutOff (item_events asked l) (output before) (output after))
+              cut = subst (λ (l : List Item). AreCutOff (item_events options l) (output before) (output after))
                   (ends.front_is ∙ ap (λ b. items (take size b)) known_bytes.1
                   ∙ ap items (take-take size after.shelf.taken page (omega arith))) ends.cut;
-              unended = ends.unended;
+              unended = ends.takes.unended;
             }),
           );
         }
@@ -254,143 +265,127 @@ module _ (plan : Plan) (grammar : Grammar) (name : List ℕ) (script : Source) (
       taken = λ other named. (
         selects_page other named,
         inr (record {
-          within = omega (arith, ends.taken);
-          cut = subst (λ (l : List Item). AreCutOff (item_events asked l) (output before) (output after)) ends.front_is
+          within = omega (arith, ends.takes.taken);
+          cut = subst (λ (l : List Item). AreCutOff (item_events options l) (output before) (output after)) ends.front_is
               ends.cut;
-          unended = ends.unended;
+          unended = ends.takes.unended;
         }),
       );
     }
 
     -- of a page that was read to its end
-    whole_cut : (bytes : List ℕ) → ((page : List ℕ) → mid.left ≡ Some page → bytes ≡ page)
-        → (after.shelf.taken ≡ length bytes) × (after.shelf.ended ≡ true) × (length bytes ≤ 2 ^ 24)
-        → AreCutOff (the_run asked grammar bytes told after.glass.grid) (output before) (output after)
-        ⊎ (AreMade (the_run asked grammar bytes told after.glass.grid) (output before) (output after)
+    whole_cut : (bytes : List ℕ) → TakesWhole (AreLeft mid) (2 ^ 24) bytes mid after.shelf
+        → AreCutOff (the_run options grammar bytes told after.glass.grid) (output before) (output after)
+        ⊎ (AreMade (the_run options grammar bytes told after.glass.grid) (output before) (output after)
         × (before.sink.always_flushes ≡ false))
         → (before.glass.grid ≡ grid [] → PutsFront (report (meant_run bytes)) before.sink after.sink)
         → IsReportCut course before after
-    whole_cut bytes read taken cut front = record {
+    whole_cut bytes takes cut front = record {
       page = bytes;
-      page_is = λ given gives. read given (left_of_given given gives);
+      page_is = λ given gives. takes.known given (left_of_given given gives);
       script = told;
       script_is = known.has;
       good = known.good;
       script_not_too_long = known.few;
       cut = cut;
       front = front;
-      taken = λ other named. (selects_page other named, inl taken);
+      taken = λ other named. (selects_page other named, inl (takes.taken, takes.few));
     }
 
     -- the reading stopped
     pub ends_stopped : (stop : Stop) → IsSound after.shelf
         → PageStops plan (outside_of mid before.sink before.glass) stop after
         → RunsCourse course before after (status_of stop)
-    ends_stopped stops.ReadFault sound_after ends = runs_made statuses.ReadFault ends.bytes ends.made ends.stays (record {
-      read_fault = subst (λ n. Rose n after.shelf.faults) same_faults ends.cause;
-      name = name;
-      named = refl;
-      front = ends.bytes;
-      counted = inl (ends.taken, page_or_none);
-      front_is = λ page holds is. ends.known page (left_of_held page holds);
-      readable = refl;
-      reports = reports_front asked grammar (File name) script ends.bytes before after ends.made;
-      unended = ends.unended;
-      early = λ chosen is other.
-          let none = nothing_selected chosen name (page_or_none chosen is) other in
-          made_nothing asked ends.bytes before after
-          (nil_from_length ends.bytes (sym ends.taken ∙ (sound_after.nothing (is ∙ ap Some none)).1)) ends.made
-          ends.stays;
-      not_too_long = omega (arith, ends.few, ends.taken);
-      script_not_too_long = λ other named is. absurd (script_unselected other named is);
-      sink_stays = ends.stays;
-    })
+    ends_stopped stops.ReadFault sound_after ends = runs_made statuses.ReadFault ends.bytes ends.made ends.stays
+        (λ other. absurd (other refl)) (record {
+          read_fault = subst (λ n. Rose n after.shelf.faults) same_faults ends.takes.cause;
+          unended = ends.takes.unended;
+          name = name;
+          named = refl;
+          which = inl (record {
+            first = first_reported after.shelf.taken ends.bytes (sym ends.taken) ends.known ends.made;
+            readable = refl;
+            few = ends.takes.few;
+            early = λ none. made_nothing options ends.bytes before after
+                (nil_from_length ends.bytes (sym ends.taken ∙ (sound_after.nothing none).1)) ends.made ends.stays;
+          });
+        })
     ends_stopped stops.WriteFault sound_after (inl ends) =
-        runs_cut ends.front ends.cut ends.stays (front_cut mid.left refl ends)
-    ends_stopped stops.WriteFault sound_after (inr ends) = runs_cut (closed_items ends.bytes) ends.cut ends.stays
-        (whole_cut ends.bytes ends.known (ends.taken, ends.ended, ends.few)
+        runs_cut ends.front ends.cut ends.takes.stays (front_cut mid.left refl ends)
+    ends_stopped stops.WriteFault sound_after (inr ends) = runs_cut (closed_items ends.bytes) ends.cut ends.takes.stays
+        (whole_cut ends.bytes ends.takes
         (inl (cut_in_run after.glass.grid ends.bytes (closed_items ends.bytes) []
         (sym (append-nil (closed_items ends.bytes))) ends.cut))
         (λ blank. front_in_run ends.bytes (closed_items ends.bytes) [] (sym (append-nil (closed_items ends.bytes)))
         ends.cut))
-    ends_stopped stops.TooLong sound_after ends = runs_made statuses.TooLong ends.bytes ends.made ends.sink_stays (record {
-      which = inl (record {
-        name = name;
-        named = refl;
-        too_long = ends.cause;
-        selected = λ chosen is. selected_so_long name after.shelf sound_after (omega (arith, ends.cause)) chosen is
-            (page_or_none chosen is);
-        longer = λ page given. (ends.known page (left_of_given page given)).0;
-        front = ends.bytes;
-        counted = ends.count;
-        front_is = λ page given. (ends.known page (left_of_given page given)).1;
-        readable = refl;
-        reports = reports_front asked grammar (File name) script ends.bytes before after ends.made;
-      });
-      shelf_stays = ends.shelf_stays ∙ same_faults;
-      sink_stays = ends.sink_stays;
-    })
+    ends_stopped stops.TooLong sound_after ends = runs_made statuses.TooLong ends.bytes ends.made ends.stays
+        (λ other. ends.takes.stays) (inl (record {
+          name = name;
+          too_long = ends.takes.cause;
+          selected = named_so_long after.shelf sound_after (omega (arith, ends.takes.cause));
+          longer = λ page given. ends.takes.longer page (left_of_given page given);
+          first = first_reported (2 ^ 24) ends.bytes ends.count ends.known ends.made;
+          readable = refl;
+        }))
     ends_stopped stops.Script sound_after ends = elim ends [ ]
     ends_stopped stops.NoMemory sound_after ends = elim ends [ ]
     ends_stopped stops.NotSeven sound_after ends = elim ends [ ]
 
     -- ---- the page was read to its end
 
-    module _ (bytes : List ℕ) (read : (page : List ℕ) → mid.left ≡ Some page → bytes ≡ page)
-        (taken : (after.shelf.taken ≡ length bytes) × (after.shelf.ended ≡ true)) (stays : after.shelf.faults ≡ mid.faults)
-        (few : length bytes ≤ 2 ^ 24) (lines_are : sequel_of plan ≡ sequel_in grammar told) where
+    module _ (bytes : List ℕ) (takes : TakesWhole (AreLeft mid) (2 ^ 24) bytes mid after.shelf)
+        (lines_are : sequel_of plan ≡ sequel_in grammar told) where
       abbrev shown_run : List Event
-      shown_run = the_run asked grammar bytes told after.glass.grid
+      shown_run = the_run options grammar bytes told after.glass.grid
 
       page_is : HasBytes before.shelf (File name) bytes
-      page_is given gives = read given (left_of_given given gives)
+      page_is given gives = takes.known given (left_of_given given gives)
 
-      unscripted : is_painted asked.way ≡ false → sequel_of plan ≡ nothing_more
+      unscripted : is_painted options.way ≡ false → sequel_of plan ≡ nothing_more
       unscripted idle = ap (λ b. cond b (sequel_if_any plan.sequel) nothing_more) idle
 
       -- without painting nothing is changed
-      still_edited : is_painted asked.way ≡ false → AreStill (edited asked grammar bytes told)
+      still_edited : is_painted options.way ≡ false → AreStill (edited options grammar bytes told)
       still_edited idle =
-          subst (λ (s : Sequel). AreStill (edited_events asked (closed_items bytes) s)) lines_are
-          (subst (λ (s : Sequel). AreStill (edited_events asked (closed_items bytes) s)) (sym (unscripted idle))
-          (subst AreStill (sym (edited_events-none asked (closed_items bytes))) (still_idle asked (closed_items bytes) idle)))
+          subst (λ (s : Sequel). AreStill (edited_events options (closed_items bytes) s)) lines_are
+          (subst (λ (s : Sequel). AreStill (edited_events options (closed_items bytes) s)) (sym (unscripted idle))
+          (subst AreStill (sym (edited_events-none options (closed_items bytes))) (still_idle options (closed_items bytes) idle)))
 
       -- the sink failed at an edit line
       pub ends_unedited : (stop : Stop) → stop ≡ stops.WriteFault
-          → AreCutOff (edited_events asked (closed_items bytes) (sequel_of plan)) (output before) (output after)
+          → AreCutOff (edited_events options (closed_items bytes) (sequel_of plan)) (output before) (output after)
           → RunsCourse course before after (status_of stop)
       ends_unedited stop is cut =
-          let off = subst (λ (s : Sequel). AreCutOff (edited_events asked (closed_items bytes) s) (output before)
+          let off = subst (λ (s : Sequel). AreCutOff (edited_events options (closed_items bytes) s) (output before)
           (output after)) lines_are cut in
           subst (λ (s : Stop). RunsCourse course before after (status_of s)) (sym is)
           (runs_course statuses.WriteFault (record {
             write_fault = off.cause;
-            cut = inl (whole_cut bytes read (taken.0, taken.1, few) (inl (AreCutOff-longer (edited asked grammar bytes told)
-                (the_end asked grammar bytes told after.glass.grid ∷ []) shown_run (output before) (output after) refl off))
+            cut = inl (whole_cut bytes takes (inl (AreCutOff-longer (edited options grammar bytes told)
+                (the_end options grammar bytes told after.glass.grid ∷ []) shown_run (output before) (output after) refl off))
                 (λ blank. cut_front (meant_run bytes) (output before) (output after)
-                (AreCutOff-longer (edited asked grammar bytes told)
-                (the_end asked grammar bytes told (grid (all asked grammar bytes told)) ∷ []) (meant_run bytes)
+                (AreCutOff-longer (edited options grammar bytes told)
+                (the_end options grammar bytes told (grid (all options grammar bytes told)) ∷ []) (meant_run bytes)
                 (output before) (output after) refl off)));
-            shelf_stays = stays ∙ same_faults;
-          }) (λ idle. cut_untouched (edited asked grammar bytes told) (output before) (output after) (still_edited idle) off)
-          (inl (put_cut (edited asked grammar bytes told) (output before) (output after) off)) off.later)
+          }) (λ other. takes.stays) (λ other. absurd (other refl)) (λ idle. cut_untouched (edited options grammar bytes told) (output before) (output after) (still_edited idle) off)
+          (inl (put_cut (edited options grammar bytes told) (output before) (output after) off)) off.later)
 
       module _ (sink : SinkState)
-          (made_all : AreMade (edited_events asked (closed_items bytes) (sequel_of plan)) (output before)
+          (made_all : AreMade (edited_events options (closed_items bytes) (sequel_of plan)) (output before)
           (output_of sink after.glass)) (sink_stays : sink.faults ≡ before.sink.faults)
           (restores : Restores (page_text (core (remaining_at_end plan (closed_items bytes))))
           (remaining_at_end plan (closed_items bytes))) where
-        all_is : remaining_at_end plan (closed_items bytes) ≡ all asked grammar bytes told
-        all_is = ap (remaining_after (history asked (closed_items bytes))) lines_are
+        all_is : remaining_at_end plan (closed_items bytes) ≡ all options grammar bytes told
+        all_is = ap (remaining_after (history options (closed_items bytes))) lines_are
 
-        made : AreMade (edited asked grammar bytes told) (output before) (output_of sink after.glass)
-        made = subst (λ (s : Sequel). AreMade (edited_events asked (closed_items bytes) s) (output before)
+        made : AreMade (edited options grammar bytes told) (output before) (output_of sink after.glass)
+        made = subst (λ (s : Sequel). AreMade (edited_events options (closed_items bytes) s) (output before)
             (output_of sink after.glass)) lines_are made_all
 
         abbrev end_put : List ℕ
-        end_put = text_at_end asked after.glass.grid bytes (all asked grammar bytes told)
+        end_put = text_at_end options after.glass.grid bytes (all options grammar bytes told)
 
-        idle_run : is_painted asked.way ≡ false → after.glass ≡ before.glass
+        idle_run : is_painted options.way ≡ false → after.glass ≡ before.glass
         idle_run idle = made.painted.untouched (still_edited idle)
 
         whole_end : (refused : Bool) → refused ≡ has_refusal (closed_items bytes) → PutsWhole end_put sink after.sink
@@ -400,42 +395,36 @@ module _ (plan : Plan) (grammar : Grammar) (name : List ℕ) (script : Source) (
           page_is = page_is;
           script = told;
           script_is = known.has;
-          reports = whole_report asked grammar bytes told before after sink made sink_stays (File name) script
+          reports = whole_report options grammar bytes told before after sink made sink_stays (File name) script
               (subst (λ (h : List Command). Restores (page_text (core h)) h) all_is restores) puts;
           refusals = is;
           readable = refl;
           can_end = refl;
           good = known.good;
-          page_not_too_long = few;
+          page_not_too_long = takes.few;
           script_not_too_long = known.few;
-          taken = λ other named. taken;
-          selected = selects_page;
-          flushed = puts.flushed;
-          flushes = puts.flushes ∙ ap one_more made.put.flushes;
-          shelf_stays = stays ∙ same_faults;
-          sink_stays = puts.stays ∙ sink_stays;
+          taken = λ other named. (takes.taken, selects_page other named);
         }
 
         by_end : (result : Result Bool Stop) → PutsEnd end_put (has_refusal (closed_items bytes)) sink result after.sink
             → RunsCourse course before after (status_at_end result)
-        by_end (Ok false) puts = runs_course statuses.Done (whole_end false puts.1 puts.0) idle_run
-            (inr (refl, puts.0.room ∙ made.put.room)) (omega (arith, puts.0.stays, sink_stays))
-        by_end (Ok true) puts = runs_course statuses.Refusals (whole_end true puts.1 puts.0) idle_run
-            (inr (refl, puts.0.room ∙ made.put.room)) (omega (arith, puts.0.stays, sink_stays))
+        by_end (Ok false) puts = runs_course statuses.Done (whole_end false puts.1 puts.0) (λ other. takes.stays)
+            (λ other. puts.0.stays ∙ sink_stays) idle_run (inr (refl, puts.0.room ∙ made.put.room)) (omega (arith, puts.0.stays, sink_stays))
+        by_end (Ok true) puts = runs_course statuses.Refusals (whole_end true puts.1 puts.0) (λ other. takes.stays)
+            (λ other. puts.0.stays ∙ sink_stays) idle_run (inr (refl, puts.0.room ∙ made.put.room)) (omega (arith, puts.0.stays, sink_stays))
         by_end (Err stop) puts =
             subst (λ (s : Stop). RunsCourse course before after (status_of s)) (sym puts.1)
             (runs_course statuses.WriteFault (record {
               write_fault = subst (λ n. Rose n after.sink.faults) sink_stays puts.0.cause;
-              cut = inl (whole_cut bytes read (taken.0, taken.1, few) (cut_at_end asked grammar bytes told before after sink made sink_stays puts.0)
-                  (front_at_end asked grammar bytes told before after sink made sink_stays puts.0));
-              shelf_stays = stays ∙ same_faults;
-            }) idle_run
-            (inl (put_to_end asked grammar bytes told before after sink made sink_stays puts.0))
+              cut = inl (whole_cut bytes takes (cut_at_end options grammar bytes told before after sink made sink_stays puts.0)
+                  (front_at_end options grammar bytes told before after sink made sink_stays puts.0));
+            }) (λ other. takes.stays) (λ other. absurd (other refl)) idle_run
+            (inl (put_to_end options grammar bytes told before after sink made sink_stays puts.0))
             (omega (arith, puts.0.later, sink_stays)))
 
         pub ends_put : (result : Result Bool Stop)
-            → PutsEnd (text_at_end asked after.glass.grid bytes (remaining_at_end plan (closed_items bytes)))
+            → PutsEnd (text_at_end options after.glass.grid bytes (remaining_at_end plan (closed_items bytes)))
             (has_refusal (closed_items bytes)) sink result after.sink → RunsCourse course before after (status_at_end result)
         ends_put result puts = by_end result
-            (subst (λ (h : List Command). PutsEnd (text_at_end asked after.glass.grid bytes h)
+            (subst (λ (h : List Command). PutsEnd (text_at_end options after.glass.grid bytes h)
             (has_refusal (closed_items bytes)) sink result after.sink) all_is puts)

@@ -9,68 +9,68 @@ use Rattle.cept_codes.specs.declared.item.Item.{Item}
 use Rattle.cept_codes.specs.declared.item.Reason.{Reason}
 use Rattle.cept_codes.specs.declared.item.Said.TheVariants as said
 use Rattle.cept_parser.specs.Items.{commands_of, command_said, is_refusal}
-use Rattle.cept_run.specs.declared.words.Asked.{Asked}
+use Rattle.cept_run.specs.declared.words.ReportOptions.{ReportOptions}
 use Rattle.cept_editor.specs.Events.{Event}
 use Rattle.cept_run.specs.Events.{history, item_event, item_events, refused_count}
 use Rattle.cept_run.specs.Words.{is_painted}
 
 -- ---- items that come after others
 
-unfoldable pub events_after : Asked → List Item → List Item → List Event
-events_after asked earlier [] = []
-events_after asked earlier (i ∷ is) = item_event asked earlier i ∷ events_after asked (earlier ++ i ∷ []) is
+unfoldable pub events_after : ReportOptions → List Item → List Item → List Event
+events_after options earlier [] = []
+events_after options earlier (i ∷ is) = item_event options earlier i ∷ events_after options (earlier ++ i ∷ []) is
 
-numbered_after : (asked : Asked) (earlier items whole : List Item) (n : ℕ) → whole ≡ earlier ++ items
+numbered_after : (options : ReportOptions) (earlier items whole : List Item) (n : ℕ) → whole ≡ earlier ++ items
     → n ≡ length earlier
-    → map (λ numbered. item_event asked (take numbered.0 whole) numbered.1) (enumerate_from n items)
-    ≡ events_after asked earlier items
+    → map (λ numbered. item_event options (take numbered.0 whole) numbered.1) (enumerate_from n items)
+    ≡ events_after options earlier items
 unfolding events_after
-numbered_after asked earlier [] whole n is counted = refl
-numbered_after asked earlier (i ∷ is) whole n e counted =
+numbered_after options earlier [] whole n is counted = refl
+numbered_after options earlier (i ∷ is) whole n e counted =
     let front : take n whole ≡ earlier =
     ap (λ k. take k whole) counted ∙ ap (take (length earlier)) e ∙ take-append_seam earlier (i ∷ is) in
-    ap (λ (xs : List Item). item_event asked xs i ∷ map (λ numbered. item_event asked (take numbered.0 whole)
+    ap (λ (xs : List Item). item_event options xs i ∷ map (λ numbered. item_event options (take numbered.0 whole)
     numbered.1) (enumerate_from (n + 1) is)) front
-    ∙ ap (λ (es : List Event). item_event asked earlier i ∷ es)
-    (numbered_after asked (earlier ++ i ∷ []) is whole (n + 1) (e ∙ sym (append_assoc earlier (i ∷ []) is))
+    ∙ ap (λ (es : List Event). item_event options earlier i ∷ es)
+    (numbered_after options (earlier ++ i ∷ []) is whole (n + 1) (e ∙ sym (append_assoc earlier (i ∷ []) is))
     (ap (λ k. k + 1) counted ∙ sym (length-append earlier (i ∷ []))))
 
-pub item_events-after : (asked : Asked) (items : List Item) → item_events asked items ≡ events_after asked [] items
+pub item_events-after : (options : ReportOptions) (items : List Item) → item_events options items ≡ events_after options [] items
 unfolding item_events
-item_events-after asked items = numbered_after asked [] items items 0 refl refl
+item_events-after options items = numbered_after options [] items items 0 refl refl
 
-events_after-append : (asked : Asked) (earlier xs ys : List Item)
-    → events_after asked earlier (xs ++ ys) ≡ events_after asked earlier xs ++ events_after asked (earlier ++ xs) ys
+events_after-append : (options : ReportOptions) (earlier xs ys : List Item)
+    → events_after options earlier (xs ++ ys) ≡ events_after options earlier xs ++ events_after options (earlier ++ xs) ys
 unfolding events_after
-events_after-append asked earlier [] ys = ap (λ (e : List Item). events_after asked e ys) (sym (append-nil earlier))
-events_after-append asked earlier (x ∷ xs) ys =
-    ap (λ (es : List Event). item_event asked earlier x ∷ es)
-    (events_after-append asked (earlier ++ x ∷ []) xs ys
-    ∙ ap (λ (e : List Item). events_after asked (earlier ++ x ∷ []) xs ++ events_after asked e ys)
+events_after-append options earlier [] ys = ap (λ (e : List Item). events_after options e ys) (sym (append-nil earlier))
+events_after-append options earlier (x ∷ xs) ys =
+    ap (λ (es : List Event). item_event options earlier x ∷ es)
+    (events_after-append options (earlier ++ x ∷ []) xs ys
+    ∙ ap (λ (e : List Item). events_after options (earlier ++ x ∷ []) xs ++ events_after options e ys)
     (append_assoc earlier (x ∷ []) xs))
 
 -- the events of items, and then those of others after them
-pub item_events-append : (asked : Asked) (xs ys : List Item)
-    → item_events asked (xs ++ ys) ≡ item_events asked xs ++ events_after asked xs ys
-item_events-append asked xs ys =
-    item_events-after asked (xs ++ ys) ∙ events_after-append asked [] xs ys
-    ∙ ap (λ (es : List Event). es ++ events_after asked xs ys) (sym (item_events-after asked xs))
+pub item_events-append : (options : ReportOptions) (xs ys : List Item)
+    → item_events options (xs ++ ys) ≡ item_events options xs ++ events_after options xs ys
+item_events-append options xs ys =
+    item_events-after options (xs ++ ys) ∙ events_after-append options [] xs ys
+    ∙ ap (λ (es : List Event). es ++ events_after options xs ys) (sym (item_events-after options xs))
 
-events_after-one : (asked : Asked) (earlier : List Item) (i : Item)
-    → events_after asked earlier (i ∷ []) ≡ item_event asked earlier i ∷ []
+events_after-one : (options : ReportOptions) (earlier : List Item) (i : Item)
+    → events_after options earlier (i ∷ []) ≡ item_event options earlier i ∷ []
 unfolding events_after
-events_after-one asked earlier i = refl
+events_after-one options earlier i = refl
 
 -- one item more
-pub item_events-more : (asked : Asked) (items : List Item) (i : Item)
-    → item_events asked (items ++ i ∷ []) ≡ item_events asked items ++ item_event asked items i ∷ []
-item_events-more asked items i =
-    item_events-append asked items (i ∷ [])
-    ∙ ap (λ (es : List Event). item_events asked items ++ es) (events_after-one asked items i)
+pub item_events-more : (options : ReportOptions) (items : List Item) (i : Item)
+    → item_events options (items ++ i ∷ []) ≡ item_events options items ++ item_event options items i ∷ []
+item_events-more options items i =
+    item_events-append options items (i ∷ [])
+    ∙ ap (λ (es : List Event). item_events options items ++ es) (events_after-one options items i)
 
-pub item_events-none : (asked : Asked) → item_events asked [] ≡ []
+pub item_events-none : (options : ReportOptions) → item_events options [] ≡ []
 unfolding item_events
-item_events-none asked = refl
+item_events-none options = refl
 
 -- ---- the commands and the refusals of one item more
 
@@ -87,16 +87,16 @@ commands_of-more (j ∷ is) i = ap (λ t. command_said j.what ++ t) (commands_of
     ∙ sym (append_assoc (command_said j.what) (commands_of is) (command_said i.what))
 
 -- nothing was applied before the first item
-pub history-none : (asked : Asked) → history asked [] ≡ []
-history-none asked = nothing (is_painted asked.way)
+pub history-none : (options : ReportOptions) → history options [] ≡ []
+history-none options = nothing (is_painted options.way)
   where
     nothing : (b : Bool) → cond b (commands_of []) [] ≡ []
     nothing true = refl
     nothing false = refl
 
-history-more : (asked : Asked) (items : List Item) (i : Item)
-    → history asked (items ++ i ∷ []) ≡ history asked items ++ cond (is_painted asked.way) (command_said i.what) []
-history-more asked items i = by_flag (is_painted asked.way)
+history-more : (options : ReportOptions) (items : List Item) (i : Item)
+    → history options (items ++ i ∷ []) ≡ history options items ++ cond (is_painted options.way) (command_said i.what) []
+history-more options items i = by_flag (is_painted options.way)
   where
     by_flag : (b : Bool) → cond b (commands_of (items ++ i ∷ [])) []
         ≡ cond b (commands_of items) [] ++ cond b (command_said i.what) []
@@ -104,27 +104,27 @@ history-more asked items i = by_flag (is_painted asked.way)
     by_flag false = refl
 
 -- a command is applied
-pub history-command : (asked : Asked) (items : List Item) (i : Item) (command : Command)
-    → is_painted asked.way ≡ true → i.what ≡ said.Command command
-    → history asked (items ++ i ∷ []) ≡ history asked items ++ command ∷ []
-history-command asked items i command painting is =
-    history-more asked items i
-    ∙ ap (λ b. history asked items ++ cond b (command_said i.what) []) painting
-    ∙ ap (λ s. history asked items ++ command_said s) is
+pub history-command : (options : ReportOptions) (items : List Item) (i : Item) (command : Command)
+    → is_painted options.way ≡ true → i.what ≡ said.Command command
+    → history options (items ++ i ∷ []) ≡ history options items ++ command ∷ []
+history-command options items i command painting is =
+    history-more options items i
+    ∙ ap (λ b. history options items ++ cond b (command_said i.what) []) painting
+    ∙ ap (λ s. history options items ++ command_said s) is
 
 -- a refusal leaves what was applied
-pub history-refused : (asked : Asked) (items : List Item) (i : Item) (reason : Reason)
-    → i.what ≡ said.Refused reason → history asked (items ++ i ∷ []) ≡ history asked items
-history-refused asked items i reason is =
-    history-more asked items i
-    ∙ ap (λ s. history asked items ++ cond (is_painted asked.way) (command_said s) []) is
-    ∙ nothing (is_painted asked.way)
+pub history-refused : (options : ReportOptions) (items : List Item) (i : Item) (reason : Reason)
+    → i.what ≡ said.Refused reason → history options (items ++ i ∷ []) ≡ history options items
+history-refused options items i reason is =
+    history-more options items i
+    ∙ ap (λ s. history options items ++ cond (is_painted options.way) (command_said s) []) is
+    ∙ nothing (is_painted options.way)
   where
-    nothing : (b : Bool) → history asked items ++ cond b [] [] ≡ history asked items
+    nothing : (b : Bool) → history options items ++ cond b [] [] ≡ history options items
     nothing true = append-nil _
     nothing false = append-nil _
 
 -- without painting nothing is applied
-pub history-idle : (asked : Asked) (items : List Item) → is_painted asked.way ≡ false
-    → history asked items ≡ []
-history-idle asked items idle = ap (λ b. cond b (commands_of items) []) idle
+pub history-idle : (options : ReportOptions) (items : List Item) → is_painted options.way ≡ false
+    → history options items ≡ []
+history-idle options items idle = ap (λ b. cond b (commands_of items) []) idle

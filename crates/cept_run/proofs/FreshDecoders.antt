@@ -5,50 +5,50 @@ use Rattle.cept_editor.specs.Made.{Output}
 use Rattle.cept_editor.specs.Script.{EditLine}
 use Rattle.cept_plot.specs.declared.figure.Figure.{Figure}
 use Rattle.cept_profile.specs.State.{State, state}
-use Rattle.cept_run.specs.declared.easel.Easel.{Easel}
-use Rattle.cept_run.specs.declared.easel.Easel.TheVariants as easels
-use Rattle.cept_run.specs.declared.words.Asked.{Asked}
+use Rattle.cept_run.specs.declared.target.Target.{Target}
+use Rattle.cept_run.specs.declared.target.Target.TheVariants as targets
+use Rattle.cept_run.specs.declared.words.ReportOptions.{ReportOptions}
 use Rattle.cept_run.specs.declared.words.PageAction.{PageAction}
 use Rattle.cept_run.specs.declared.words.PageAction.TheVariants as pages
 use Rattle.cept_run.specs.declared.words.ScriptAction.{ScriptAction}
 use Rattle.cept_run.specs.declared.words.ScriptAction.TheVariants as scripts
 use Rattle.cept_run.specs.Events.{Sequel, Edits, Figures, nothing_more}
-use Rattle.cept_run.specs.Reporting.{Plan, sequel_if_any, sequel_of, ReporterState, painted_easel, easel_at, sequel_at, plan_in}
+use Rattle.cept_run.specs.Reporting.{Plan, sequel_if_any, sequel_of, ReporterState, painted_target, target_at, sequel_at, plan_in}
 use Rattle.cept_run.specs.Reporting.{DecoderState, HasRead, HasBlink}
-use Rattle.cept_run.specs.Words.{asked_of_page, asked_of_script, is_painted}
+use Rattle.cept_run.specs.Words.{options_of_page, options_of_script, is_painted}
 
 -- without a script
-abbrev pub alone : Asked → Plan
-alone asked = record { asked = asked; sequel = None }
+abbrev pub alone : ReportOptions → Plan
+alone options = record { options = options; sequel = None }
 
 -- with one, or with a drawing, that says that this is done
-abbrev pub followed : Asked → Sequel → Plan
-followed asked sequel = record { asked = asked; sequel = Some sequel }
+abbrev pub followed : ReportOptions → Sequel → Plan
+followed options sequel = record { options = options; sequel = Some sequel }
 
-plan_is : (r : ReporterState) (asked : Asked) (sequel : Option Sequel) → r.asked ≡ asked
-    → sequel_at r.easel ≡ sequel → plan_in r ≡ record { asked = asked; sequel = sequel }
-plan_is r asked sequel p q = λ i. record { asked = p i; sequel = q i }
+plan_is : (r : ReporterState) (options : ReportOptions) (sequel : Option Sequel) → r.options ≡ options
+    → sequel_at r.target ≡ sequel → plan_in r ≡ record { options = options; sequel = sequel }
+plan_is r options sequel p q = λ i. record { options = p i; sequel = q i }
 
 -- ---- a page alone
 
-pub plan_alone : (r : ReporterState) (asked : Asked) (easel : Easel) → r.asked ≡ asked → r.easel ≡ easel
-    → easel ≡ easel_at (alone asked) [] → plan_in r ≡ alone asked
-plan_alone r asked easel same at is =
-    plan_is r asked None same (ap sequel_at (at ∙ is) ∙ by_flag (is_painted asked.way))
+pub plan_alone : (r : ReporterState) (options : ReportOptions) (target : Target) → r.options ≡ options → r.target ≡ target
+    → target ≡ target_at (alone options) [] → plan_in r ≡ alone options
+plan_alone r options target same at is =
+    plan_is r options None same (ap sequel_at (at ∙ is) ∙ by_flag (is_painted options.way))
   where
-    by_flag : (b : Bool) → sequel_at (cond b (painted_easel None []) easels.Nothing) ≡ None
+    by_flag : (b : Bool) → sequel_at (cond b (painted_target None []) targets.Nothing) ≡ None
     by_flag true = refl
     by_flag false = refl
 
-pub nothing_alone : (asked : Asked) → sequel_of (alone asked) ≡ nothing_more
-nothing_alone asked = by_flag (is_painted asked.way)
+pub nothing_alone : (options : ReportOptions) → sequel_of (alone options) ≡ nothing_more
+nothing_alone options = by_flag (is_painted options.way)
   where
     by_flag : (b : Bool) → cond b (sequel_if_any None) nothing_more ≡ nothing_more
     by_flag true = refl
     by_flag false = refl
 
 -- of a page alone nothing flashes
-pub page_blink : (action : PageAction) → HasBlink (asked_of_page action).end None
+pub page_blink : (action : PageAction) → HasBlink (options_of_page action).end None
 page_blink pages.Changes = tt
 page_blink pages.Check = tt
 page_blink pages.List = tt
@@ -58,39 +58,39 @@ page_blink pages.Write = tt
 
 -- ---- a page and a script
 
-pub script_paints : (action : ScriptAction) → is_painted (asked_of_script action).way ≡ true
+pub script_paints : (action : ScriptAction) → is_painted (options_of_script action).way ≡ true
 script_paints scripts.Trace = refl
 script_paints scripts.Edit = refl
 
 -- nor of a page and a script
-pub script_blink : (action : ScriptAction) → HasBlink (asked_of_script action).end None
+pub script_blink : (action : ScriptAction) → HasBlink (options_of_script action).end None
 script_blink scripts.Trace = tt
 script_blink scripts.Edit = tt
 
-pub easel_edited : (asked : Asked) (editor : EditorState) (lines : List EditLine) → is_painted asked.way ≡ true
+pub target_edited : (options : ReportOptions) (editor : EditorState) (lines : List EditLine) → is_painted options.way ≡ true
     → editor ≡ record { screen = state []; past = []; future = [] }
-    → easels.Editor editor lines ≡ easel_at (followed asked (Edits lines)) []
-easel_edited asked editor lines painting is =
-    ap (λ (e : EditorState). easels.Editor e lines) is
-    ∙ ap (λ b. cond b (painted_easel (Some (Edits lines)) []) easels.Nothing) (sym painting)
+    → targets.Editor editor lines ≡ target_at (followed options (Edits lines)) []
+target_edited options editor lines painting is =
+    ap (λ (e : EditorState). targets.Editor e lines) is
+    ∙ ap (λ b. cond b (painted_target (Some (Edits lines)) []) targets.Nothing) (sym painting)
 
 -- ---- a page and a drawing
 
-pub easel_drawn : (asked : Asked) (screen : State) (figures : List Figure) → is_painted asked.way ≡ true → screen ≡ state []
-    → easels.Drawing screen figures ≡ easel_at (followed asked (Figures figures)) []
-easel_drawn asked screen figures painting is =
-    ap (λ (s : State). easels.Drawing s figures) is
-    ∙ ap (λ b. cond b (painted_easel (Some (Figures figures)) []) easels.Nothing) (sym painting)
+pub target_drawn : (options : ReportOptions) (screen : State) (figures : List Figure) → is_painted options.way ≡ true → screen ≡ state []
+    → targets.Drawing screen figures ≡ target_at (followed options (Figures figures)) []
+target_drawn options screen figures painting is =
+    ap (λ (s : State). targets.Drawing s figures) is
+    ∙ ap (λ b. cond b (painted_target (Some (Figures figures)) []) targets.Nothing) (sym painting)
 
 -- ---- a page and what is done after it
 
-pub plan_followed : (r : ReporterState) (asked : Asked) (easel : Easel) (sequel : Sequel) → r.asked ≡ asked
-    → r.easel ≡ easel → sequel_at easel ≡ Some sequel → plan_in r ≡ followed asked sequel
-plan_followed r asked easel sequel same at is = plan_is r asked (Some sequel) same (ap sequel_at at ∙ is)
+pub plan_followed : (r : ReporterState) (options : ReportOptions) (target : Target) (sequel : Sequel) → r.options ≡ options
+    → r.target ≡ target → sequel_at target ≡ Some sequel → plan_in r ≡ followed options sequel
+plan_followed r options target sequel same at is = plan_is r options (Some sequel) same (ap sequel_at at ∙ is)
 
-pub sequel_followed : (asked : Asked) (sequel : Sequel) → is_painted asked.way ≡ true
-    → sequel_of (followed asked sequel) ≡ sequel
-sequel_followed asked sequel painting = ap (λ b. cond b sequel nothing_more) painting
+pub sequel_followed : (options : ReportOptions) (sequel : Sequel) → is_painted options.way ≡ true
+    → sequel_of (followed options sequel) ≡ sequel
+sequel_followed options sequel painting = ap (λ b. cond b sequel nothing_more) painting
 
 -- ---- by its own plan
 

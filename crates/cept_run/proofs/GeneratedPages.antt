@@ -127,8 +127,8 @@ module _ (plan : Plan) (page left rest piece : List ℕ) (count : ℕ) (decoder 
   -- the sink failed at an item of the piece: a law of reading says which items come after it
   pub cut_in_piece : (others : List Item) (after : Output)
       → items ((has.front ++ piece) ++ rest) ≡ items (has.front ++ piece) ++ others
-      → AreCutOff (item_events plan.asked (items (has.front ++ piece))) start after
-      → AreCutOff (item_events plan.asked (closed_items page)) start after
+      → AreCutOff (item_events plan.options (items (has.front ++ piece))) start after
+      → AreCutOff (item_events plan.options (closed_items page)) start after
   cut_in_piece others after law off =
       let more = more_items (has.front ++ piece) rest page others (sym read_split) law in
       cut_longer plan (items (has.front ++ piece)) more.0 (closed_items page) start after (sym more.1) off
@@ -149,7 +149,7 @@ module _ (plan : Plan) (page left : List ℕ) (count : ℕ) (decoder : DecoderSt
       has_reported_same plan new.reporter (closed_items has.front) (closed_items page) start after
       (ap closed_items all_read) reported
 
-  pub cut_at_last : (after : Output) → AreCutOff (item_events plan.asked (closed_items has.front)) start after
-      → AreCutOff (item_events plan.asked (closed_items page)) start after
+  pub cut_at_last : (after : Output) → AreCutOff (item_events plan.options (closed_items has.front)) start after
+      → AreCutOff (item_events plan.options (closed_items page)) start after
   cut_at_last after off = reads_as plan (closed_items has.front) (closed_items page) start after
       (ap closed_items all_read) off

@@ -24,8 +24,8 @@ pub mod GeneratedPages
 pub mod LoadedPages
 pub mod WholeRuns
 mod KnownPages
-mod TurnedPieces
-mod TurnedPages
+mod ConvertedPieces
+mod ConvertedPages
 pub mod PutEnds
 pub mod EndTexts
 pub mod Numbers

@@ -1,7 +1,6 @@
 -- How a run of a generated page ends.
-use Rattle.std.proofs.Common.{◌≡◌, inl, ℕ, ◌^◌, ◌≤◌, Bool, true, false, List, [], ◌∷◌, ◌++◌, Result, Ok, Err, refl, sym}
+use Rattle.std.proofs.Common.{◌≡◌, ◌≢◌, inl, ℕ, ◌^◌, ◌≤◌, Bool, true, false, List, [], ◌∷◌, ◌++◌, Result, Ok, Err, refl, sym}
 use Rattle.std.proofs.Common.{◌∙◌, ap, subst, arith, length, ◌⊎◌, inr}
-use Rattle.std.specs.Io.KnownBytes.{append_known}
 use Rattle.cept_codes.specs.declared.command.Command.{Command}
 use Rattle.cept_editor.specs.Events.{Event, report, paints}
 use Rattle.cept_editor.specs.Made.{AreStill, ArePainted, output_of, AreMade, AreCutOff}
@@ -9,7 +8,7 @@ use Rattle.cept_editor.proofs.Laws.{AreCutOff-longer, cut_untouched, report-one,
 use Rattle.cept_editor.proofs.Laws.{AreMade-end, AreCutOff-end}
 use Rattle.cept_outside.specs.Causes.{Rose}
 use Rattle.cept_outside.specs.ShelfState.{ShelfState}
-use Rattle.cept_outside.specs.SinkState.{SinkState, Gains, GainsPart, count_after, one_more}
+use Rattle.cept_outside.specs.SinkState.{SinkState, Gains, GainsPart}
 use Rattle.cept_profile.specs.Changes.{grid_with_paints}
 use Rattle.cept_repaint.specs.GlassState.{GlassState}
 use Rattle.cept_parser.specs.Items.{closed_items}
@@ -20,8 +19,8 @@ use Rattle.cept_run.specs.declared.page.Stop.{Stop}
 use Rattle.cept_run.specs.declared.page.Stop.TheVariants as stops
 use Rattle.cept_run.specs.declared.run.Status.{Status}
 use Rattle.cept_run.specs.declared.run.Status.TheVariants as statuses
-use Rattle.cept_run.specs.declared.words.Asked.{Asked}
-use Rattle.cept_run.specs.Course.{Course, Given, Scripts, sequel_in, reporting, putting, text_event}
+use Rattle.cept_run.specs.declared.words.ReportOptions.{ReportOptions}
+use Rattle.cept_run.specs.Course.{Course, Given, Scripts, sequel_in, report_course, plain_course, text_event}
 use Rattle.cept_run.specs.Events.{history, item_events, text_at_end, edited_events, has_refusal, Sequel, nothing_more}
 use Rattle.cept_run.specs.Events.{remaining_after}
 use Rattle.cept_run.specs.Outside.{Outside, output, PutsWhole, PutsUnflushed, PutsFront}
@@ -42,17 +41,19 @@ use Rattle.cept_run.proofs.StoppedScripts.{sequel-none, first_fault-none}
 module _ (page : List ℕ) (before after : Outside) (shelf : after.shelf ≡ before.shelf) (short : length page ≤ 2 ^ 24)
     (same : after.glass ≡ before.glass) where
   abbrev bare : Course
-  bare = putting page
+  bare = plain_course (Given page)
 
   abbrev event : Event
   event = text_event page
 
   runs_bare : (status : Status) → Ends bare before after status
-      → EndsPut status before.sink after.sink → before.sink.faults ≤ after.sink.faults
+      → (status ≢ statuses.WriteFault → after.sink.faults ≡ before.sink.faults) → EndsPut status before.sink after.sink → before.sink.faults ≤ after.sink.faults
       → RunsCourse bare before after status
-  runs_bare status ends puts later = record {
+  runs_bare status ends stays puts later = record {
     ends = ends;
     shelf = shelf;
+    shelf_stays = λ other. ap (λ (s : ShelfState). s.faults) shelf;
+    sink_stays = stays;
     bad_script = λ name script fault named given found. cc;
     unpainted = λ idle. same;
     unflushed = put_unless status before.sink after.sink puts;
@@ -67,8 +68,7 @@ module _ (page : List ℕ) (before after : Outside) (shelf : after.shelf ≡ bef
     script = [];
     script_is = refl;
     reports = record {
-      put = puts.put ∙ ap (append_known before.sink.bytes) (sym (report-one event));
-      counted = puts.counted ∙ ap (λ t. count_after before.sink.count (length t)) (sym (report-one event));
+      put = subst (λ (t : List ℕ). PutsWhole t before.sink after.sink) (sym (report-one event)) puts;
       painted = subst (λ (g : GlassState). ArePainted (event ∷ []) before.glass g) (sym same)
           (ArePainted-still event before.glass refl);
       each = λ blank done e rest split. ap (λ g. grid_with_paints g (paints (done ++ e ∷ []))) blank
@@ -83,11 +83,6 @@ module _ (page : List ℕ) (before after : Outside) (shelf : after.shelf ≡ bef
     page_not_too_long = short;
     script_not_too_long = omega arith;
     taken = λ name e. cc;
-    selected = λ name e. cc;
-    flushed = puts.flushed;
-    flushes = puts.flushes;
-    shelf_stays = ap (λ (s : ShelfState). s.faults) shelf;
-    sink_stays = puts.stays;
   }
 
   cut : PutsUnflushed page before.sink after.sink → IsReportCut bare before after
@@ -117,7 +112,8 @@ module _ (page : List ℕ) (before after : Outside) (shelf : after.shelf ≡ bef
 
   pub runs_put : (result : Result Bool Stop) → PutsEnd page false before.sink result after.sink
       → RunsCourse bare before after (status_at_end result)
-  runs_put (Ok false) puts = runs_bare statuses.Done (whole puts.0) (inr (refl, puts.0.room)) (omega (arith, puts.0.stays))
+  runs_put (Ok false) puts = runs_bare statuses.Done (whole puts.0) (λ other. puts.0.stays) (inr (refl, puts.0.room))
+      (omega (arith, puts.0.stays))
   runs_put (Ok true) puts =
       let no = puts.1 in
       cc
@@ -126,29 +122,31 @@ module _ (page : List ℕ) (before after : Outside) (shelf : after.shelf ≡ bef
       (runs_bare statuses.WriteFault (record {
         write_fault = puts.0.cause;
         cut = inl (cut puts.0);
-        shelf_stays = ap (λ (s : ShelfState). s.faults) shelf;
-      }) (inl (put_either page before.sink after.sink puts.0.put)) puts.0.later)
+      }) (λ other. absurd (other refl)) (inl (put_either page before.sink after.sink puts.0.put)) puts.0.later)
 
 -- ---- the page is read
 
 module _ (plan : Plan) (page : List ℕ) (before after : Outside) (shelf : after.shelf ≡ before.shelf)
     (short : length page ≤ 2 ^ 24) (alone : sequel_of plan ≡ nothing_more) where
-  abbrev asked : Asked
-  asked = plan.asked
+  abbrev options : ReportOptions
+  options = plan.options
 
   abbrev loaded : Course
-  loaded = reporting asked Scripts (Given page) (Given [])
+  loaded = report_course options Scripts (Given page) (Given [])
 
   abbrev shown_run : List Event
-  shown_run = the_run asked Scripts page [] after.glass.grid
+  shown_run = the_run options Scripts page [] after.glass.grid
 
   runs_loaded : (status : Status) → Ends loaded before after status
-      → (is_painted asked.way ≡ false → after.glass ≡ before.glass)
+      → (status ≢ statuses.WriteFault → after.sink.faults ≡ before.sink.faults)
+      → (is_painted options.way ≡ false → after.glass ≡ before.glass)
       → EndsPut status before.sink after.sink → before.sink.faults ≤ after.sink.faults
       → RunsCourse loaded before after status
-  runs_loaded status ends idle puts later = record {
+  runs_loaded status ends stays idle puts later = record {
     ends = ends;
     shelf = shelf;
+    shelf_stays = λ other. ap (λ (s : ShelfState). s.faults) shelf;
+    sink_stays = stays;
     bad_script = λ name script fault named given found. cc;
     unpainted = idle;
     unflushed = put_unless status before.sink after.sink puts;
@@ -159,12 +157,12 @@ module _ (plan : Plan) (page : List ℕ) (before after : Outside) (shelf : after
   no_lines : sequel_of plan ≡ sequel_in Scripts []
   no_lines = alone ∙ sym sequel-none
 
-  edited_is : edited_events asked (closed_items page) (sequel_of plan) ≡ item_events asked (closed_items page)
-  edited_is = ap (edited_events asked (closed_items page)) alone ∙ edited_events-none asked (closed_items page)
+  edited_is : edited_events options (closed_items page) (sequel_of plan) ≡ item_events options (closed_items page)
+  edited_is = ap (edited_events options (closed_items page)) alone ∙ edited_events-none options (closed_items page)
 
   -- the events where the glass shows what remains
   abbrev meant_run : List Event
-  meant_run = the_run asked Scripts page [] (grid (all asked Scripts page []))
+  meant_run = the_run options Scripts page [] (grid (all options Scripts page []))
 
   loaded_cut : AreCutOff shown_run (output before) (output after)
       ⊎ (AreMade shown_run (output before) (output after) × (before.sink.always_flushes ≡ false))
@@ -184,59 +182,58 @@ module _ (plan : Plan) (page : List ℕ) (before after : Outside) (shelf : after
 
   -- the sink failed at an event before the end
   pub loads_cut : (stop : Stop) → stop ≡ stops.WriteFault
-      → AreCutOff (edited_events asked (closed_items page) (sequel_of plan)) (output before) (output after)
+      → AreCutOff (edited_events options (closed_items page) (sequel_of plan)) (output before) (output after)
       → RunsCourse loaded before after (status_at_end (Err stop))
   loads_cut stop is off =
-      let own = subst (λ (s : Sequel). AreCutOff (edited_events asked (closed_items page) s) (output before)
+      let own = subst (λ (s : Sequel). AreCutOff (edited_events options (closed_items page) s) (output before)
       (output after)) no_lines off in
       subst (λ (s : Stop). RunsCourse loaded before after (status_at_end (Err s))) (sym is)
       (runs_loaded statuses.WriteFault (record {
         write_fault = off.cause;
-        cut = inl (loaded_cut (inl (AreCutOff-longer (edited asked Scripts page [])
-            (the_end asked Scripts page [] after.glass.grid ∷ []) shown_run (output before) (output after) refl own))
+        cut = inl (loaded_cut (inl (AreCutOff-longer (edited options Scripts page [])
+            (the_end options Scripts page [] after.glass.grid ∷ []) shown_run (output before) (output after) refl own))
             (λ blank. cut_front meant_run (output before) (output after)
-            (AreCutOff-longer (edited asked Scripts page [])
-            (the_end asked Scripts page [] (grid (all asked Scripts page [])) ∷ []) meant_run (output before)
+            (AreCutOff-longer (edited options Scripts page [])
+            (the_end options Scripts page [] (grid (all options Scripts page [])) ∷ []) meant_run (output before)
             (output after) refl own)));
-        shelf_stays = ap (λ (s : ShelfState). s.faults) shelf;
-      }) (λ idle. cut_untouched (edited_events asked (closed_items page) (sequel_of plan)) (output before) (output after)
-      (subst AreStill (sym edited_is) (still_idle asked (closed_items page) idle)) off)
-      (inl (put_cut (edited_events asked (closed_items page) (sequel_of plan)) (output before) (output after) off))
+      }) (λ other. absurd (other refl)) (λ idle. cut_untouched (edited_events options (closed_items page) (sequel_of plan)) (output before) (output after)
+      (subst AreStill (sym edited_is) (still_idle options (closed_items page) idle)) off)
+      (inl (put_cut (edited_events options (closed_items page) (sequel_of plan)) (output before) (output after) off))
       off.later)
 
   -- at an item
   pub loads_cut_at : (stop : Stop) → stop ≡ stops.WriteFault
-      → AreCutOff (item_events asked (closed_items page)) (output before) (output after)
+      → AreCutOff (item_events options (closed_items page)) (output before) (output after)
       → RunsCourse loaded before after (status_at_end (Err stop))
   loads_cut_at stop is off = loads_cut stop is
       (subst (λ (es : List Event). AreCutOff es (output before) (output after)) (sym edited_is) off)
 
   -- it was read to its end
   module _ (sink : SinkState)
-      (made_all : AreMade (edited_events asked (closed_items page) (sequel_of plan)) (output before)
+      (made_all : AreMade (edited_events options (closed_items page) (sequel_of plan)) (output before)
       (output_of sink after.glass)) (stays : sink.faults ≡ before.sink.faults)
       (restores : Restores (page_text (core (remaining_at_end plan (closed_items page))))
       (remaining_at_end plan (closed_items page))) where
-    all_is : remaining_at_end plan (closed_items page) ≡ all asked Scripts page []
-    all_is = ap (remaining_after (history asked (closed_items page))) no_lines
+    all_is : remaining_at_end plan (closed_items page) ≡ all options Scripts page []
+    all_is = ap (remaining_after (history options (closed_items page))) no_lines
 
-    made : AreMade (edited asked Scripts page []) (output before) (output_of sink after.glass)
-    made = subst (λ (s : Sequel). AreMade (edited_events asked (closed_items page) s) (output before)
+    made : AreMade (edited options Scripts page []) (output before) (output_of sink after.glass)
+    made = subst (λ (s : Sequel). AreMade (edited_events options (closed_items page) s) (output before)
         (output_of sink after.glass)) no_lines made_all
 
-    idle_run : is_painted asked.way ≡ false → after.glass ≡ before.glass
+    idle_run : is_painted options.way ≡ false → after.glass ≡ before.glass
     idle_run idle = made_all.painted.untouched
-        (subst AreStill (sym edited_is) (still_idle asked (closed_items page) idle))
+        (subst AreStill (sym edited_is) (still_idle options (closed_items page) idle))
 
     loaded_whole : (refused : Bool) → refused ≡ has_refusal (closed_items page)
-        → PutsWhole (text_at_end asked after.glass.grid page (all asked Scripts page [])) sink after.sink
+        → PutsWhole (text_at_end options after.glass.grid page (all options Scripts page [])) sink after.sink
         → EndsWhole loaded before after refused
     loaded_whole refused is puts = record {
       page = page;
       page_is = refl;
       script = [];
       script_is = refl;
-      reports = whole_report asked Scripts page [] before after sink made stays (Given page) (Given [])
+      reports = whole_report options Scripts page [] before after sink made stays (Given page) (Given [])
           (subst (λ (h : List Command). Restores (page_text (core h)) h) all_is restores) puts;
       refusals = is;
       readable = refl;
@@ -245,34 +242,29 @@ module _ (plan : Plan) (page : List ℕ) (before after : Outside) (shelf : after
       page_not_too_long = short;
       script_not_too_long = omega arith;
       taken = λ name e. cc;
-      selected = λ name e. cc;
-      flushed = puts.flushed;
-      flushes = puts.flushes ∙ ap one_more made.put.flushes;
-      shelf_stays = ap (λ (s : ShelfState). s.faults) shelf;
-      sink_stays = puts.stays ∙ stays;
     }
 
     by_end : (result : Result Bool Stop)
-        → PutsEnd (text_at_end asked after.glass.grid page (all asked Scripts page [])) (has_refusal (closed_items page)) sink
+        → PutsEnd (text_at_end options after.glass.grid page (all options Scripts page [])) (has_refusal (closed_items page)) sink
         result after.sink → RunsCourse loaded before after (status_at_end result)
-    by_end (Ok false) puts = runs_loaded statuses.Done (loaded_whole false puts.1 puts.0) idle_run (inr (refl, puts.0.room ∙ made.put.room))
+    by_end (Ok false) puts = runs_loaded statuses.Done (loaded_whole false puts.1 puts.0) (λ other. puts.0.stays ∙ stays)
+        idle_run (inr (refl, puts.0.room ∙ made.put.room))
         (omega (arith, puts.0.stays, stays))
-    by_end (Ok true) puts = runs_loaded statuses.Refusals (loaded_whole true puts.1 puts.0) idle_run
-        (inr (refl, puts.0.room ∙ made.put.room))
+    by_end (Ok true) puts = runs_loaded statuses.Refusals (loaded_whole true puts.1 puts.0) (λ other. puts.0.stays ∙ stays)
+        idle_run (inr (refl, puts.0.room ∙ made.put.room))
         (omega (arith, puts.0.stays, stays))
     by_end (Err stop) puts =
         subst (λ (s : Stop). RunsCourse loaded before after (status_at_end (Err s))) (sym puts.1)
         (runs_loaded statuses.WriteFault (record {
           write_fault = subst (λ n. Rose n after.sink.faults) stays puts.0.cause;
-          cut = inl (loaded_cut (cut_at_end asked Scripts page [] before after sink made stays puts.0)
-              (front_at_end asked Scripts page [] before after sink made stays puts.0));
-          shelf_stays = ap (λ (s : ShelfState). s.faults) shelf;
-        }) idle_run (inl (put_to_end asked Scripts page [] before after sink made stays puts.0))
+          cut = inl (loaded_cut (cut_at_end options Scripts page [] before after sink made stays puts.0)
+              (front_at_end options Scripts page [] before after sink made stays puts.0));
+        }) (λ other. absurd (other refl)) idle_run (inl (put_to_end options Scripts page [] before after sink made stays puts.0))
         (omega (arith, puts.0.later, stays)))
 
     pub loads_read : (result : Result Bool Stop)
-        → PutsEnd (text_at_end asked after.glass.grid page (remaining_at_end plan (closed_items page)))
+        → PutsEnd (text_at_end options after.glass.grid page (remaining_at_end plan (closed_items page)))
         (has_refusal (closed_items page)) sink result after.sink → RunsCourse loaded before after (status_at_end result)
     loads_read result puts = by_end result
-        (subst (λ (h : List Command). PutsEnd (text_at_end asked after.glass.grid page h)
+        (subst (λ (h : List Command). PutsEnd (text_at_end options after.glass.grid page h)
         (has_refusal (closed_items page)) sink result after.sink) all_is puts)

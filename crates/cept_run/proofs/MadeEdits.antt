@@ -1,6 +1,6 @@
 -- How a reporter stands after one edit line more.
 use Rattle.std.proofs.Common.{◌≡◌, ℕ, ◌==◌, Bool, true, cond, List, [], ◌∷◌, ◌++◌, length, map, Result, Ok, Err, refl, sym}
-use Rattle.std.proofs.Common.{ap, ◌∙◌, subst, arith}
+use Rattle.std.proofs.Common.{ap, ◌∙◌, subst, arith, OnOk, OnErr}
 use Rattle.std.proofs.lemmas.List.{length-map}
 use Rattle.std.proofs.lemmas.List.FromFn.{length-range_with_len}
 use Rattle.std.specs.List.{range_with_len}
@@ -24,11 +24,23 @@ use Rattle.cept_outside.specs.Causes.{HasCause}
 use Rattle.cept_outside.specs.SinkState.{SinkState, PutsText}
 use Rattle.cept_report.specs.Text.{nothing_line}
 use Rattle.cept_run.specs.Events.{script_events, kept_of, events_of_line}
-use Rattle.cept_run.specs.Reporting.{MakesLine, HasMadeLines}
+use Rattle.cept_run.specs.Reporting.{HasMadeLines}
 use Rattle.cept_run.proofs.EditedLines.{kept_of-none, kept_of-more}
 use Rattle.cept_run.proofs.EditedLines.{script_events-append, script_events-none, script_events-more}
 
 -- ---- one edit line
+
+-- an edit line is made after whatever page and kept edits an editor stands: exactly its events are made, or the sink
+-- failed at one
+pub record MakesLine {X E : Type 0} (listed : Bool) (edit : EditLine) (old : EditorState) (before : Output)
+    (result : Result X E) (new : EditorState) (after : Output) : Type 0 where
+  pub stands : OnOk result ((page : List Command) (k : KeptEdits) → StandsAfter old page k
+      → StandsAfter new page (kept_after k edit.step))
+  pub made : OnOk result ((page : List Command) (k : KeptEdits) → StandsAfter old page k
+      → AreMade (line_events listed edit.line page k edit.step) before after)
+  pub stays : OnOk result (after.sink.faults ≡ before.sink.faults)
+  pub cut : OnErr result ((page : List Command) (k : KeptEdits) → StandsAfter old page k
+      → AreCutOff (line_events listed edit.line page k edit.step) before after)
 
 -- where no state lies ahead, the turn finds nothing
 none_listed : (f : ℕ → State) (n : ℕ) → map f (range_with_len 0 n) ≡ [] → (n == 0) ≡ true

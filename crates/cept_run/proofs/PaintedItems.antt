@@ -10,7 +10,7 @@ use Rattle.cept_editor.proofs.Laws.{paints-append, paints-one, paints-none, no_p
 use Rattle.cept_profile.proofs.Laws.{grid_with_paints-append, changes_between-same}
 use Rattle.cept_profile.specs.Changes.{changes_between, changes, grid_with_paints}
 use Rattle.cept_profile.specs.Look.{grid}
-use Rattle.cept_run.specs.declared.words.Asked.{Asked}
+use Rattle.cept_run.specs.declared.words.ReportOptions.{ReportOptions}
 use Rattle.cept_run.specs.Events.{history, item_event, item_events}
 use Rattle.cept_run.specs.Words.{is_painted}
 use Rattle.cept_run.proofs.EventsOfItems.{events_after, item_events-after, history-none, history-command}
@@ -64,63 +64,63 @@ each_shown from to es done e rest chained split =
 
 -- ---- items
 
-items_chained : (asked : Asked) (earlier items : List Item)
-    → AreChained (history asked earlier) (events_after asked earlier items) (history asked (earlier ++ items))
+items_chained : (options : ReportOptions) (earlier items : List Item)
+    → AreChained (history options earlier) (events_after options earlier items) (history options (earlier ++ items))
 unfolding events_after AreChained
-items_chained asked earlier [] = ap (λ (xs : List Item). history asked xs) (append-nil earlier)
-items_chained asked earlier (i ∷ is) = (
+items_chained options earlier [] = ap (λ (xs : List Item). history options xs) (append-nil earlier)
+items_chained options earlier (i ∷ is) = (
   refl,
   subst
-      (λ (xs : List Item). AreChained (history asked (earlier ++ i ∷ [])) (events_after asked (earlier ++ i ∷ []) is)
-      (history asked xs)) (append_assoc earlier (i ∷ []) is) (items_chained asked (earlier ++ i ∷ []) is),
+      (λ (xs : List Item). AreChained (history options (earlier ++ i ∷ [])) (events_after options (earlier ++ i ∷ []) is)
+      (history options xs)) (append_assoc earlier (i ∷ []) is) (items_chained options (earlier ++ i ∷ []) is),
 )
 
-pub item_events-chained : (asked : Asked) (items : List Item)
-    → AreChained [] (item_events asked items) (history asked items)
-item_events-chained asked items =
-    subst (λ (es : List Event). AreChained [] es (history asked items)) (sym (item_events-after asked items))
-    (subst (λ (h : List Command). AreChained h (events_after asked [] items) (history asked items))
-    (history-none asked) (items_chained asked [] items))
+pub item_events-chained : (options : ReportOptions) (items : List Item)
+    → AreChained [] (item_events options items) (history options items)
+item_events-chained options items =
+    subst (λ (es : List Event). AreChained [] es (history options items)) (sym (item_events-after options items))
+    (subst (λ (h : List Command). AreChained h (events_after options [] items) (history options items))
+    (history-none options) (items_chained options [] items))
 
 -- a blank glass with the paints of items over it shows their meaning
-pub blank_painted : (asked : Asked) (items : List Item)
-    → grid_with_paints (grid []) (paints (item_events asked items)) ≡ grid (history asked items)
-blank_painted asked items =
-    chained_shown [] (history asked items) (item_events asked items) (item_events-chained asked items)
+pub blank_painted : (options : ReportOptions) (items : List Item)
+    → grid_with_paints (grid []) (paints (item_events options items)) ≡ grid (history options items)
+blank_painted options items =
+    chained_shown [] (history options items) (item_events options items) (item_events-chained options items)
 
 -- without painting nothing is changed
-still_after : (asked : Asked) (earlier items : List Item) → is_painted asked.way ≡ false
-    → AreStill (events_after asked earlier items)
+still_after : (options : ReportOptions) (earlier items : List Item) → is_painted options.way ≡ false
+    → AreStill (events_after options earlier items)
 unfolding events_after
-still_after asked earlier [] idle = tt
-still_after asked earlier (i ∷ is) idle = (
-  history-idle asked (earlier ++ i ∷ []) idle ∙ sym (history-idle asked earlier idle),
-  still_after asked (earlier ++ i ∷ []) is idle,
+still_after options earlier [] idle = tt
+still_after options earlier (i ∷ is) idle = (
+  history-idle options (earlier ++ i ∷ []) idle ∙ sym (history-idle options earlier idle),
+  still_after options (earlier ++ i ∷ []) is idle,
 )
 
-pub still_idle : (asked : Asked) (items : List Item) → is_painted asked.way ≡ false → AreStill (item_events asked items)
-still_idle asked items idle =
-    subst AreStill (sym (item_events-after asked items)) (still_after asked [] items idle)
+pub still_idle : (options : ReportOptions) (items : List Item) → is_painted options.way ≡ false → AreStill (item_events options items)
+still_idle options items idle =
+    subst AreStill (sym (item_events-after options items)) (still_after options [] items idle)
 
 -- ---- what one item changes
 
-pub applied_changes : (asked : Asked) (items : List Item) (i : Item) (command : Command)
-    → is_painted asked.way ≡ true → i.what ≡ said.Command command
-    → event_changes (item_event asked items i) ≡ changes (history asked items) command
-applied_changes asked items i command painting is =
-    ap (λ h. changes_between (grid (history asked items)) (grid h)) (history-command asked items i command painting is)
+pub applied_changes : (options : ReportOptions) (items : List Item) (i : Item) (command : Command)
+    → is_painted options.way ≡ true → i.what ≡ said.Command command
+    → event_changes (item_event options items i) ≡ changes (history options items) command
+applied_changes options items i command painting is =
+    ap (λ h. changes_between (grid (history options items)) (grid h)) (history-command options items i command painting is)
 
-unchanged : (asked : Asked) (items : List Item) (i : Item)
-    → history asked (items ++ i ∷ []) ≡ history asked items → event_changes (item_event asked items i) ≡ []
-unchanged asked items i same =
-    ap (λ h. changes_between (grid (history asked items)) (grid h)) same
-    ∙ changes_between-same (grid (history asked items))
+unchanged : (options : ReportOptions) (items : List Item) (i : Item)
+    → history options (items ++ i ∷ []) ≡ history options items → event_changes (item_event options items i) ≡ []
+unchanged options items i same =
+    ap (λ h. changes_between (grid (history options items)) (grid h)) same
+    ∙ changes_between-same (grid (history options items))
 
-pub refused_changes : (asked : Asked) (items : List Item) (i : Item) (reason : Reason)
-    → i.what ≡ said.Refused reason → event_changes (item_event asked items i) ≡ []
-refused_changes asked items i reason is = unchanged asked items i (history-refused asked items i reason is)
+pub refused_changes : (options : ReportOptions) (items : List Item) (i : Item) (reason : Reason)
+    → i.what ≡ said.Refused reason → event_changes (item_event options items i) ≡ []
+refused_changes options items i reason is = unchanged options items i (history-refused options items i reason is)
 
-pub checked_changes : (asked : Asked) (items : List Item) (i : Item) → is_painted asked.way ≡ false
-    → event_changes (item_event asked items i) ≡ []
-checked_changes asked items i idle =
-    unchanged asked items i (history-idle asked (items ++ i ∷ []) idle ∙ sym (history-idle asked items idle))
+pub checked_changes : (options : ReportOptions) (items : List Item) (i : Item) → is_painted options.way ≡ false
+    → event_changes (item_event options items i) ≡ []
+checked_changes options items i idle =
+    unchanged options items i (history-idle options (items ++ i ∷ []) idle ∙ sym (history-idle options items idle))

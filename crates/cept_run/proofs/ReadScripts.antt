@@ -1,5 +1,5 @@
 -- How the reading of a script or of a drawing ends, by what its parts did.
-use Rattle.std.proofs.Common.{◌≡◌, inl, ℕ, List, Option, Some, None, Ok, Err, refl, sym, ◌∙◌, subst, arith}
+use Rattle.std.proofs.Common.{◌≡◌, inl, ℕ, ◌^◌, List, Option, Some, None, Ok, Err, refl, sym, ◌∙◌, subst, arith}
 use Rattle.cept_editor.specs.declared.script.ScriptFault.{ScriptFault}
 use Rattle.cept_editor.specs.declared.script.ScriptFault.TheVariants as faults
 use Rattle.cept_editor.specs.Fault.{SaysFault}
@@ -12,14 +12,14 @@ use Rattle.cept_plot.specs.declared.drawing.DrawFault.TheVariants as draw_faults
 use Rattle.cept_plot.specs.Drawings.{SaysFault as SaysFaultOfDrawing}
 use Rattle.cept_run.specs.declared.page.Stop.{Stop}
 use Rattle.cept_run.specs.declared.page.Stop.TheVariants as stops
-use Rattle.cept_run.specs.Course.{Grammar, first_fault_in, sequel_in}
+use Rattle.cept_run.specs.Course.{File, Gives, Grammar, first_fault_in, sequel_in}
 use Rattle.cept_run.specs.Events.{Sequel}
 use Rattle.cept_run.specs.Page.{KeepsShelf}
-use Rattle.cept_run.specs.ScriptReading.{ScriptBad}
-use Rattle.cept_run.specs.inside.ScriptReading.{TakenWhole, TakingStops, FileWhole, FileStops, Refuses, StopsAt}
+use Rattle.cept_run.specs.Taking.{AreLeft, TakesWhole}
+use Rattle.cept_run.specs.inside.ScriptReading.{TakingStops, Refuses, StopsAt}
 use Rattle.cept_run.specs.ScriptReading.{ScriptStops, ScriptEnds, SelectsScript}
 use Rattle.cept_run.specs.inside.ScriptReading.{as_script_fault}
-use Rattle.cept_run.specs.Run.{fault_text}
+use Rattle.cept_run.specs.Run.{HasBadLine, fault_text}
 use Rattle.cept_run.proofs.PagesInPieces.{KeepsFiles-more}
 use Rattle.cept_run.proofs.Selections.{selected_is, given_left}
 
@@ -29,8 +29,8 @@ use Rattle.cept_run.proofs.Selections.{selected_is, given_left}
 module _ {X E : Type 0} (name : List ℕ) (before after : ShelfState) (f : E)
     (selects : Selects {X = X} {E = E} before name (Err f) after)
     (cause : HasCause {X = X} {E = E} before.faults after.faults (Err f)) where
-  pub unselected : FileStops name before stops.ReadFault after
-  unselected = record { cause = cause.failed; short = omega (arith, selects.taken); unended = selects.ended }
+  pub unselected : TakingStops (Gives before name) before stops.ReadFault after
+  unselected = record { cause = cause.failed; few = omega (arith, selects.taken); unended = selects.ended }
 
   pub nothing_selected_of : SelectsScript name before after
   nothing_selected_of = record {
@@ -53,10 +53,11 @@ module _ {X E : Type 0} (name : List ℕ) (before mid after : ShelfState) (x : X
   }
 
   -- it couldn't be taken to its end
-  pub file_untaken : (stop : Stop) → TakingStops mid stop after → FileStops name before stop after
+  pub file_untaken : (stop : Stop) → TakingStops (AreLeft mid) mid stop after
+      → TakingStops (Gives before name) before stop after
   file_untaken stops.ReadFault ends = record {
     cause = subst (λ n. Rose n after.faults) selected ends.cause;
-    short = ends.short;
+    few = ends.few;
     unended = ends.unended;
   }
   file_untaken stops.WriteFault ends = elim ends [ ]
@@ -70,11 +71,11 @@ module _ {X E : Type 0} (name : List ℕ) (before mid after : ShelfState) (x : X
   file_untaken stops.NotSeven ends = elim ends [ ]
 
   -- it was
-  pub file_taken : (bytes : List ℕ) → TakenWhole bytes mid after → FileWhole name bytes before after
+  pub file_taken : (bytes : List ℕ) → TakesWhole (AreLeft mid) (2 ^ 20) bytes mid after
+      → TakesWhole (Gives before name) (2 ^ 20) bytes before after
   file_taken bytes taken = record {
     known = λ script given. taken.known script (given_left before mid name script x selects given);
     taken = taken.taken;
-    ended = taken.ended;
     few = taken.few;
     stays = taken.stays ∙ selected;
   }
@@ -83,7 +84,7 @@ module _ {X E : Type 0} (name : List ℕ) (before mid after : ShelfState) (x : X
 
 module _ (grammar : Grammar) (name : List ℕ) (before after : ShelfState) where
   -- it wasn't taken to its end
-  pub script_unread : (stop : Stop) (old : SinkState) → FileStops name before stop after
+  pub script_unread : (stop : Stop) (old : SinkState) → TakingStops (Gives before name) before stop after
       → ScriptStops grammar name before old stop after old
   script_unread stops.ReadFault old ends = (ends, refl)
   script_unread stops.WriteFault old ends = elim ends [ ]
@@ -92,7 +93,7 @@ module _ (grammar : Grammar) (name : List ℕ) (before after : ShelfState) where
   script_unread stops.NoMemory old ends = (refl, ends)
   script_unread stops.NotSeven old ends = elim ends [ ]
 
-  module _ (bytes : List ℕ) (whole : FileWhole name bytes before after) where
+  module _ (bytes : List ℕ) (whole : TakesWhole (Gives before name) (2 ^ 20) bytes before after) where
     -- it is within the grammar
     pub script_good : {A : Type 0} (sequel : A → Sequel) (read : A) (old : SinkState)
         → first_fault_in grammar bytes ≡ None → sequel read ≡ sequel_in grammar bytes
@@ -100,34 +101,35 @@ module _ (grammar : Grammar) (name : List ℕ) (before after : ShelfState) where
     script_good sequel read old good are = (
       record {
         bytes = bytes;
-        known = whole.known;
-        few = whole.few;
+        takes = whole;
         good = good;
         are = are;
-        stays = whole.stays;
       },
       refl,
     )
 
-    abbrev bad_line : (fault : Fault) → first_fault_in grammar bytes ≡ Some fault → ScriptBad grammar name before after
+    abbrev bad_line : (fault : Fault) → first_fault_in grammar bytes ≡ Some fault
+        → HasBadLine (first_fault_in grammar) (File name) before after
     bad_line fault found = record {
-      bytes = bytes;
-      known = whole.known;
+      name = name;
+      named = refl;
+      script = bytes;
+      script_is = whole.known;
       fault = fault;
       found = found;
-      few = whole.few;
+      not_too_long = whole.few;
       taken = whole.taken;
-      ended = whole.ended;
-      stays = whole.stays;
     }
 
     -- it isn't
     script_bad : (fault : Fault) (stop : Stop) (old new : SinkState) → first_fault_in grammar bytes ≡ Some fault
         → Refuses (fault_text fault) old stop new → ScriptStops grammar name before old stop after new
     script_bad fault stops.ReadFault old new found refuses = elim refuses [ ]
-    script_bad fault stops.WriteFault old new found refuses = record { bad = bad_line fault found; put = refuses }
+    script_bad fault stops.WriteFault old new found refuses =
+        record { bad = bad_line fault found; put = refuses; stays = whole.stays }
     script_bad fault stops.TooLong old new found refuses = elim refuses [ ]
-    script_bad fault stops.Script old new found refuses = record { bad = bad_line fault found; put = refuses }
+    script_bad fault stops.Script old new found refuses =
+        record { bad = bad_line fault found; put = refuses; stays = whole.stays }
     script_bad fault stops.NoMemory old new found refuses = elim refuses [ ]
     script_bad fault stops.NotSeven old new found refuses = elim refuses [ ]
 

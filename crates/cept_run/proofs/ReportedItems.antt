@@ -31,19 +31,19 @@ use Rattle.cept_plot.specs.declared.figure.Figure.{Figure}
 use Rattle.cept_editor.specs.Made.{Output, output_of, IsMade, AreMade, AreCutOff}
 use Rattle.cept_editor.proofs.Laws.{paints-one, ArePainted-still, AreMade-none, AreMade-more, AreCutOff-here}
 use Rattle.cept_editor.proofs.Laws.{AreCutOff-longer}
-use Rattle.cept_run.specs.declared.easel.Easel.{Easel}
-use Rattle.cept_run.specs.declared.easel.Easel.TheVariants as easels
-use Rattle.cept_run.specs.declared.words.Asked.{Asked}
+use Rattle.cept_run.specs.declared.target.Target.{Target}
+use Rattle.cept_run.specs.declared.target.Target.TheVariants as targets
+use Rattle.cept_run.specs.declared.words.ReportOptions.{ReportOptions}
 use Rattle.cept_run.specs.Events.{history, event_between, listed_text, text_of_said, item_event, item_events, refused_count}
-use Rattle.cept_run.specs.Events.{named_text, painted_at, Sequel, Edits, Figures}
+use Rattle.cept_run.specs.Events.{named_text, painted_count, Sequel, Edits, Figures}
 use Rattle.cept_parser.specs.Items.{items, closed_items, reading_within, is_refusal}
 use Rattle.cept_parser.specs.State.{Leads}
 use Rattle.cept_run.specs.Reporting.{DecoderState, HasRead, ReadsOn, ReadsToEnd}
-use Rattle.cept_run.specs.Reporting.{Plan, ReporterState, painted_easel, easel_at, screen_of, sequel_at, Stands}
+use Rattle.cept_run.specs.Reporting.{Plan, ReporterState, painted_target, target_at, screen_of, sequel_at, Stands}
 use Rattle.cept_run.specs.Reporting.{HasReported}
 use Rattle.cept_run.specs.inside.Reporting.{Applies}
 use Rattle.cept_run.specs.Reporting.{AppliesOn, IsAppliedAfter}
-use Rattle.cept_run.specs.Reporting.{ReportsOn, counted_of}
+use Rattle.cept_run.specs.Reporting.{ReportsOn, counted_places}
 use Rattle.cept_run.specs.inside.Reporting.{IsListedAlone, command_event, is_quiet, refusal_text}
 use Rattle.cept_run.proofs.EventsOfItems.{history-none, history-command, history-refused, history-idle, item_events-more}
 use Rattle.cept_run.specs.declared.words.Way.{Way}
@@ -55,23 +55,23 @@ use Rattle.cept_run.proofs.EventsOfItems.{item_events-none, item_events-append, 
 
 -- ---- before the first item
 
-pub Stands-none : (plan : Plan) (reporter : ReporterState) → reporter.asked ≡ plan.asked
-    → reporter.easel ≡ easel_at plan [] → reporter.items ≡ 0 → reporter.refused ≡ 0 → reporter.painted ≡ 0
+pub Stands-none : (plan : Plan) (reporter : ReporterState) → reporter.options ≡ plan.options
+    → reporter.target ≡ target_at plan [] → reporter.items ≡ 0 → reporter.refused ≡ 0 → reporter.painted ≡ 0
     → Stands plan reporter []
 Stands-none plan reporter same is items refused painted = record {
-  asked_is = same;
-  valid = subst AllValid (sym (history-none plan.asked)) tt;
-  easel = is ∙ ap (easel_at plan) (sym (history-none plan.asked));
+  options_are = same;
+  valid = subst AllValid (sym (history-none plan.options)) tt;
+  target = is ∙ ap (target_at plan) (sym (history-none plan.options));
   items = items;
   refused = refused;
-  painted = painted ∙ sym (counted-none plan.asked);
+  painted = painted ∙ sym (counted-none plan.options);
 }
 
 pub HasReported-none : (plan : Plan) (reporter : ReporterState) (start : Output) → Stands plan reporter []
     → HasReported plan reporter [] start start
 HasReported-none plan reporter start stands = record {
   stands = stands;
-  made = subst (λ (es : List Event). AreMade es start start) (sym (item_events-none plan.asked)) (AreMade-none start);
+  made = subst (λ (es : List Event). AreMade es start start) (sym (item_events-none plan.options)) (AreMade-none start);
   stays = refl;
 }
 
@@ -81,37 +81,39 @@ module _ {X E : Type 0} (plan : Plan) (old new : ReporterState) (earlier : List 
     (start before after : Output) where
   pub reported_more : (x : X) → HasReported plan old earlier start before
       → Stands plan new (earlier ++ i ∷ [])
-      → IsMade {X = X} {E = E} (item_event plan.asked earlier i) before (Ok x) after
+      → IsMade {X = X} {E = E} (item_event plan.options earlier i) before (Ok x) after
       → HasReported plan new (earlier ++ i ∷ []) start after
   reported_more x has stands made = record {
     stands = stands;
-    made = subst (λ (es : List Event). AreMade es start after) (sym (item_events-more plan.asked earlier i))
-        (AreMade-more (item_events plan.asked earlier) (item_event plan.asked earlier i) start before after has.made made);
+    made = subst (λ (es : List Event). AreMade es start after) (sym (item_events-more plan.options earlier i))
+        (AreMade-more (item_events plan.options earlier) (item_event plan.options earlier i) start before after has.made made);
     stays = made.puts.cause.stays ∙ has.stays;
   }
 
   pub cut_more : (f : E) → HasReported plan old earlier start before
-      → IsMade {X = X} {E = E} (item_event plan.asked earlier i) before (Err f) after
-      → AreCutOff (item_events plan.asked (earlier ++ i ∷ [])) start after
+      → IsMade {X = X} {E = E} (item_event plan.options earlier i) before (Err f) after
+      → AreCutOff (item_events plan.options (earlier ++ i ∷ [])) start after
   cut_more f has made =
-      subst (λ (es : List Event). AreCutOff es start after) (sym (item_events-more plan.asked earlier i))
-      (AreCutOff-here (item_events plan.asked earlier) (item_event plan.asked earlier i) start before after has.made has.stays
+      subst (λ (es : List Event). AreCutOff es start after) (sym (item_events-more plan.options earlier i))
+      (AreCutOff-here (item_events plan.options earlier) (item_event plan.options earlier i) start before after has.made has.stays
       made)
 
 -- so it goes on, where it stands after the item, and its event was made
 reports_on : {X E : Type 0} (old new : ReporterState) (i : Item) (before after : Output) (result : Result X E)
-    → new.items ≤ old.items + 1
+    → new.options ≡ old.options → new.items ≤ old.items + 1
     → ((plan : Plan) (earlier : List Item) → Stands plan old earlier → Stands plan new (earlier ++ i ∷ []))
     → ((plan : Plan) (earlier : List Item) → Stands plan old earlier
-    → IsMade (item_event plan.asked earlier i) before result after)
+    → IsMade (item_event plan.options earlier i) before result after)
     → ReportsOn old (i ∷ []) before result new after
-reports_on old new i before after (Ok x) counted stands made = record {
+reports_on old new i before after (Ok x) options counted stands made = record {
+  options = options;
   counted = counted;
   reported = λ plan earlier start has. reported_more plan old new earlier i start before after x has
       (stands plan earlier has.stands) (made plan earlier has.stands);
   cut = tt;
 }
-reports_on old new i before after (Err f) counted stands made = record {
+reports_on old new i before after (Err f) options counted stands made = record {
+  options = options;
   counted = counted;
   reported = tt;
   cut = λ plan earlier start has. cut_more plan old new earlier i start before after f has
@@ -121,12 +123,12 @@ reports_on old new i before after (Err f) counted stands made = record {
 -- ---- where commands are painted, and where they aren't
 
 -- without painting nothing is applied
-idle_easel : (plan : Plan) (h : List Command) → is_painted plan.asked.way ≡ false → easel_at plan h ≡ easels.Nothing
-idle_easel plan h p = ap (λ b. cond b (painted_easel plan.sequel h) easels.Nothing) p
+idle_target : (plan : Plan) (h : List Command) → is_painted plan.options.way ≡ false → target_at plan h ≡ targets.Nothing
+idle_target plan h p = ap (λ b. cond b (painted_target plan.sequel h) targets.Nothing) p
 
-painted_at_plan : (plan : Plan) (h : List Command) → is_painted plan.asked.way ≡ true
-    → easel_at plan h ≡ painted_easel plan.sequel h
-painted_at_plan plan h p = ap (λ b. cond b (painted_easel plan.sequel h) easels.Nothing) p
+painted_at_plan : (plan : Plan) (h : List Command) → is_painted plan.options.way ≡ true
+    → target_at plan h ≡ painted_target plan.sequel h
+painted_at_plan plan h p = ap (λ b. cond b (painted_target plan.sequel h) targets.Nothing) p
 
 -- what is listed of an item, where commands are painted and where they aren't
 painted_lines : (way : Way) (i : Item) (xs : List (Place × Look)) → is_painted way ≡ true
@@ -156,7 +158,7 @@ length-more xs x = length-append xs (x ∷ [])
 -- the reporter when the item was counted
 abbrev pub counted_one : ReporterState → ReporterState
 counted_one r =
-    record { asked = r.asked; easel = r.easel; items = r.items + 1; refused = r.refused; painted = r.painted }
+    record { options = r.options; target = r.target; items = r.items + 1; refused = r.refused; painted = r.painted }
 
 refused_as : (items : List Item) (i : Item) (what : Said) → i.what ≡ what
     → refused_count (items ++ i ∷ []) ≡ refused_count items + cond (is_refusal what) 1 0
@@ -165,101 +167,101 @@ refused_as items i what is =
 
 module _ {X E : Type 0} (old new : ReporterState) (i : Item) (command : Command) (before after : Output)
     (result : Result X E) (is : i.what ≡ said.Command command) (valid : IsValidCommand command)
-    (paints : is_painted old.asked.way ≡ true)
+    (paints : is_painted old.options.way ≡ true)
     (applies : Applies (counted_one old) i command before result new after) where
-  plan_paints : (plan : Plan) (earlier : List Item) → Stands plan old earlier → is_painted plan.asked.way ≡ true
-  plan_paints plan earlier stands = ap (λ (a : Asked). is_painted a.way) (sym stands.asked_is) ∙ paints
+  plan_paints : (plan : Plan) (earlier : List Item) → Stands plan old earlier → is_painted plan.options.way ≡ true
+  plan_paints plan earlier stands = ap (λ (a : ReportOptions). is_painted a.way) (sym stands.options_are) ∙ paints
 
   painted_before : (plan : Plan) (earlier : List Item) (stands : Stands plan old earlier)
-      → old.easel ≡ painted_easel plan.sequel (history plan.asked earlier)
+      → old.target ≡ painted_target plan.sequel (history plan.options earlier)
   painted_before plan earlier stands =
-      stands.easel ∙ painted_at_plan plan (history plan.asked earlier) (plan_paints plan earlier stands)
+      stands.target ∙ painted_at_plan plan (history plan.options earlier) (plan_paints plan earlier stands)
 
   command_stands : (plan : Plan) (earlier : List Item) → Stands plan old earlier
       → Stands plan new (earlier ++ i ∷ [])
   command_stands plan earlier stands =
       let p = plan_paints plan earlier stands in
-      let more = history-command plan.asked earlier i command p is in
-      let h = history plan.asked earlier in
-      let at = painted_before plan earlier stands in
+      let more = history-command plan.options earlier i command p is in
+      let h = history plan.options earlier in
+      let applied = applies.applied plan.sequel h stands.valid (painted_before plan earlier stands) in
       record {
-        asked_is = applies.asked ∙ stands.asked_is;
+        options_are = applies.options ∙ stands.options_are;
         valid = subst AllValid (sym more) (AllValid-more h command stands.valid valid);
-        easel = applies.easel plan.sequel h stands.valid paints at
-            ∙ sym (painted_at_plan plan (h ++ command ∷ []) p) ∙ ap (easel_at plan) (sym more);
+        target = applied.0
+            ∙ sym (painted_at_plan plan (h ++ command ∷ []) p) ∙ ap (target_at plan) (sym more);
         items = applies.items ∙ ap (λ n. n + 1) stands.items ∙ sym (length-more earlier i);
         refused = applies.refused ∙ stands.refused
             ∙ sym (refused_as earlier i (said.Command command) is ∙ add-zero (refused_count earlier));
-        painted = applies.painted plan.sequel h stands.valid paints at
-            ∙ ap (λ n. n + counted_of old.asked (length (changes h command))) stands.painted
-            ∙ ap (λ (a : Asked). counted_of plan.asked (painted_at plan.asked earlier)
-            + counted_of a (length (changes h command))) stands.asked_is
-            ∙ sym (counted-command plan.asked earlier i command p is);
+        painted = applied.2
+            ∙ ap (λ n. n + counted_places old.options (length (changes h command))) stands.painted
+            ∙ ap (λ (a : ReportOptions). counted_places plan.options (painted_count plan.options earlier)
+            + counted_places a (length (changes h command))) stands.options_are
+            ∙ sym (counted-command plan.options earlier i command p is);
       }
 
   command_made : (plan : Plan) (earlier : List Item) → Stands plan old earlier
-      → IsMade (item_event plan.asked earlier i) before result after
+      → IsMade (item_event plan.options earlier i) before result after
   command_made plan earlier stands =
       let p = plan_paints plan earlier stands in
-      let h = history plan.asked earlier in
-      let event : item_event plan.asked earlier i ≡ command_event plan.asked i.at h command =
-      ap (λ hs. event_between plan.asked i h hs) (history-command plan.asked earlier i command p is)
+      let h = history plan.options earlier in
+      let event : item_event plan.options earlier i ≡ command_event plan.options i.at h command =
+      ap (λ hs. event_between plan.options i h hs) (history-command plan.options earlier i command p is)
       ∙ ap (λ (s : Said). record {
         before = h;
         after = h ++ command ∷ [];
-        text = text_of_said plan.asked i s (changes_between (grid h) (grid (h ++ command ∷ [])));
+        text = text_of_said plan.options i s (changes_between (grid h) (grid (h ++ command ∷ [])));
       }) is
       ∙ ap (λ (t : List ℕ). record { before = h; after = h ++ command ∷ []; text = t })
-      (painted_lines plan.asked.way i (changes h command) p) in
+      (painted_lines plan.options.way i (changes h command) p) in
       subst (λ (e : Event). IsMade e before result after) (sym event)
-      (subst (λ (a : Asked). IsMade (command_event a i.at h command) before result after) stands.asked_is
-      (applies.made plan.sequel h stands.valid paints (painted_before plan earlier stands)))
+      (subst (λ (a : ReportOptions). IsMade (command_event a i.at h command) before result after) stands.options_are
+      (applies.applied plan.sequel h stands.valid (painted_before plan earlier stands)).1)
 
   pub command_more : ReportsOn old (i ∷ []) before result new after
-  command_more = reports_on old new i before after result (omega (arith, applies.items)) command_stands command_made
+  command_more = reports_on old new i before after result applies.options (omega (arith, applies.items)) command_stands command_made
 
 -- ---- a command more that isn't applied
 
 module _ {X E : Type 0} (old : ReporterState) (i : Item) (command : Command) (sink now : SinkState) (glass : GlassState)
-    (result : Result X E) (is : i.what ≡ said.Command command) (idle : is_painted old.asked.way ≡ false)
-    (puts : PutsText sink (listed_text old.asked.way i []) result now) where
-  plan_idle : (plan : Plan) (earlier : List Item) → Stands plan old earlier → is_painted plan.asked.way ≡ false
-  plan_idle plan earlier stands = ap (λ (a : Asked). is_painted a.way) (sym stands.asked_is) ∙ idle
+    (result : Result X E) (is : i.what ≡ said.Command command) (idle : is_painted old.options.way ≡ false)
+    (puts : PutsText sink (listed_text old.options.way i []) result now) where
+  plan_idle : (plan : Plan) (earlier : List Item) → Stands plan old earlier → is_painted plan.options.way ≡ false
+  plan_idle plan earlier stands = ap (λ (a : ReportOptions). is_painted a.way) (sym stands.options_are) ∙ idle
 
   listed_stands : (plan : Plan) (earlier : List Item) → Stands plan old earlier
       → Stands plan (counted_one old) (earlier ++ i ∷ [])
   listed_stands plan earlier stands =
       let p = plan_idle plan earlier stands in
-      let none = stands.easel ∙ idle_easel plan (history plan.asked earlier) p in
+      let none = stands.target ∙ idle_target plan (history plan.options earlier) p in
       record {
-        asked_is = stands.asked_is;
-        valid = subst AllValid (sym (history-idle plan.asked (earlier ++ i ∷ []) p)) tt;
-        easel = none ∙ sym (idle_easel plan (history plan.asked (earlier ++ i ∷ [])) p);
+        options_are = stands.options_are;
+        valid = subst AllValid (sym (history-idle plan.options (earlier ++ i ∷ []) p)) tt;
+        target = none ∙ sym (idle_target plan (history plan.options (earlier ++ i ∷ [])) p);
         items = ap (λ n. n + 1) stands.items ∙ sym (length-more earlier i);
         refused = stands.refused
             ∙ sym (refused_as earlier i (said.Command command) is ∙ add-zero (refused_count earlier));
-        painted = stands.painted ∙ sym (counted-idle plan.asked earlier i p);
+        painted = stands.painted ∙ sym (counted-idle plan.options earlier i p);
       }
 
   listed_made : (plan : Plan) (earlier : List Item) → Stands plan old earlier
-      → IsMade (item_event plan.asked earlier i) (output_of sink glass) result (output_of now glass)
+      → IsMade (item_event plan.options earlier i) (output_of sink glass) result (output_of now glass)
   listed_made plan earlier stands =
       let p = plan_idle plan earlier stands in
-      let before = history plan.asked earlier in
-      let after = history plan.asked (earlier ++ i ∷ []) in
-      let text : listed_text old.asked.way i [] ≡ (item_event plan.asked earlier i).text =
-      ap (λ (a : Asked). listed_text a.way i []) stands.asked_is
-      ∙ unpainted_lines plan.asked.way i (changes_between (grid before) (grid after)) p
-      ∙ ap (λ w. text_of_said plan.asked i w (changes_between (grid before) (grid after))) (sym is) in
+      let before = history plan.options earlier in
+      let after = history plan.options (earlier ++ i ∷ []) in
+      let text : listed_text old.options.way i [] ≡ (item_event plan.options earlier i).text =
+      ap (λ (a : ReportOptions). listed_text a.way i []) stands.options_are
+      ∙ unpainted_lines plan.options.way i (changes_between (grid before) (grid after)) p
+      ∙ ap (λ w. text_of_said plan.options i w (changes_between (grid before) (grid after))) (sym is) in
       record {
         puts = subst (λ (t : List ℕ). PutsText sink t result now) text puts;
-        painted = ArePainted-still (item_event plan.asked earlier i) glass
-            (history-idle plan.asked (earlier ++ i ∷ []) p ∙ sym (history-idle plan.asked earlier p));
+        painted = ArePainted-still (item_event plan.options earlier i) glass
+            (history-idle plan.options (earlier ++ i ∷ []) p ∙ sym (history-idle plan.options earlier p));
       }
 
   pub listed_more : ReportsOn old (i ∷ []) (output_of sink glass) result (counted_one old) (output_of now glass)
-  listed_more = reports_on old (counted_one old) i (output_of sink glass) (output_of now glass) result (omega arith)
-      listed_stands listed_made
+  listed_more = reports_on old (counted_one old) i (output_of sink glass) (output_of now glass) result refl
+      (omega arith) listed_stands listed_made
 
 -- nothing was put
 pub PutsText-nothing : {X E : Type 0} {x : X} (s : SinkState) → PutsText {E = E} s [] (Ok x) s
@@ -277,10 +279,10 @@ quiet_lines ways.Paint i q = cc
 quiet_lines ways.PaintAndList i q = cc
 
 pub quiet_more : {X E : Type 0} (old : ReporterState) (i : Item) (command : Command) (sink : SinkState) (glass : GlassState)
-    (x : X) → i.what ≡ said.Command command → is_quiet old.asked.way ≡ true
+    (x : X) → i.what ≡ said.Command command → is_quiet old.options.way ≡ true
     → ReportsOn {E = E} old (i ∷ []) (output_of sink glass) (Ok x) (counted_one old) (output_of sink glass)
 quiet_more {X} {E} old i command sink glass x is quiet =
-    let none = quiet_lines old.asked.way i quiet in
+    let none = quiet_lines old.options.way i quiet in
     listed_more old i command sink sink glass (Ok x) is none.0
     (subst (λ (t : List ℕ). PutsText {E = E} sink t (Ok x) sink) none.1 (PutsText-nothing sink))
 
@@ -292,12 +294,12 @@ quiet_name ways.List i reason q = cc
 quiet_name ways.Paint i reason q = cc
 quiet_name ways.PaintAndList i reason q = cc
 
-pub quiet_refusal : {X E : Type 0} (asked : Asked) (i : Item) (reason : Reason) (sink now : SinkState) (result : Result X E)
-    → is_quiet asked.way ≡ true
-    → PutsText sink (cond asked.refusals (refusal_line i.at i.len reason) []) result now
-    → PutsText sink (refusal_text asked i reason) result now
-quiet_refusal asked i reason sink now result quiet =
-    subst (λ (t : List ℕ). PutsText sink (cond asked.refusals t []) result now) (quiet_name asked.way i reason quiet)
+pub quiet_refusal : {X E : Type 0} (options : ReportOptions) (i : Item) (reason : Reason) (sink now : SinkState) (result : Result X E)
+    → is_quiet options.way ≡ true
+    → PutsText sink (cond options.refusals (refusal_line i.at i.len reason) []) result now
+    → PutsText sink (refusal_text options i reason) result now
+quiet_refusal options i reason sink now result quiet =
+    subst (λ (t : List ℕ). PutsText sink (cond options.refusals t []) result now) (quiet_name options.way i reason quiet)
 
 -- and of one that isn't
 loud_lines : (way : Way) (i : Item) → is_quiet way ≡ false → is_painted way ≡ false → item_line i ≡ listed_text way i []
@@ -308,34 +310,34 @@ loud_lines ways.PaintAndList i q p = cc
 
 pub loud_more : {X E : Type 0} (old new : ReporterState) (i : Item) (command : Command) (sink now : SinkState)
     (glass shown : GlassState) (result : Result X E) → i.what ≡ said.Command command → IsValidCommand command
-    → is_quiet old.asked.way ≡ false
+    → is_quiet old.options.way ≡ false
     → Applies (counted_one old) i command (output_of sink glass) result new (output_of now shown)
     → ReportsOn old (i ∷ []) (output_of sink glass) result new (output_of now shown)
-loud_more old new i command sink now glass shown result is valid loud applies = by_flag (is_painted old.asked.way) refl
+loud_more old new i command sink now glass shown result is valid loud applies = by_flag (is_painted old.options.way) refl
   where
-    listed : is_painted old.asked.way ≡ false → (plan : Plan) (earlier : List Item) → Stands plan old earlier
+    listed : is_painted old.options.way ≡ false → (plan : Plan) (earlier : List Item) → Stands plan old earlier
         → IsListedAlone (counted_one old) i (output_of sink glass) result new (output_of now shown)
     listed idle plan earlier stands =
-        applies.listed (stands.easel ∙ idle_easel plan (history plan.asked earlier)
-        (ap (λ (a : Asked). is_painted a.way) (sym stands.asked_is) ∙ idle))
+        applies.listed (stands.target ∙ idle_target plan (history plan.options earlier)
+        (ap (λ (a : ReportOptions). is_painted a.way) (sym stands.options_are) ∙ idle))
 
-    text : is_painted old.asked.way ≡ false → PutsText sink (item_line i) result now
-        → PutsText sink (listed_text old.asked.way i []) result now
-    text idle puts = subst (λ (t : List ℕ). PutsText sink t result now) (loud_lines old.asked.way i loud idle) puts
+    text : is_painted old.options.way ≡ false → PutsText sink (item_line i) result now
+        → PutsText sink (listed_text old.options.way i []) result now
+    text idle puts = subst (λ (t : List ℕ). PutsText sink t result now) (loud_lines old.options.way i loud idle) puts
 
-    by_flag : (b : Bool) → is_painted old.asked.way ≡ b
+    by_flag : (b : Bool) → is_painted old.options.way ≡ b
         → ReportsOn old (i ∷ []) (output_of sink glass) result new (output_of now shown)
     by_flag true p =
         command_more old new i command (output_of sink glass) (output_of now shown) result is valid p applies
     by_flag false p =
-        reports_on old new i (output_of sink glass) (output_of now shown) result (omega (arith, applies.items))
+        reports_on old new i (output_of sink glass) (output_of now shown) result applies.options (omega (arith, applies.items))
         (λ plan earlier stands.
         let l = listed p plan earlier stands in
         subst (λ (r : ReporterState). Stands plan r (earlier ++ i ∷ [])) (sym l.stays)
         (listed_stands old i command sink now glass result is p (text p l.puts) plan earlier stands))
         (λ plan earlier stands.
         let l = listed p plan earlier stands in
-        subst (λ (s : GlassState). IsMade (item_event plan.asked earlier i) (output_of sink glass) result (output_of now s))
+        subst (λ (s : GlassState). IsMade (item_event plan.options earlier i) (output_of sink glass) result (output_of now s))
         (sym l.unpainted) (listed_made old i command sink now glass result is p (text p l.puts) plan earlier stands))
 
 -- ---- a refusal more
@@ -343,39 +345,39 @@ loud_more old new i command sink now glass shown result is valid loud applies = 
 -- the reporter when the item and its refusal were counted
 abbrev pub counted_refusal : ReporterState → ReporterState
 counted_refusal r =
-    record { asked = r.asked; easel = r.easel; items = r.items + 1; refused = r.refused + 1; painted = r.painted }
+    record { options = r.options; target = r.target; items = r.items + 1; refused = r.refused + 1; painted = r.painted }
 
 module _ {X E : Type 0} (old : ReporterState) (i : Item) (reason : Reason) (sink now : SinkState) (glass : GlassState)
     (result : Result X E) (is : i.what ≡ said.Refused reason)
-    (puts : PutsText sink (refusal_text old.asked i reason) result now) where
+    (puts : PutsText sink (refusal_text old.options i reason) result now) where
   refusal_stands : (plan : Plan) (earlier : List Item) → Stands plan old earlier
       → Stands plan (counted_refusal old) (earlier ++ i ∷ [])
   refusal_stands plan earlier stands =
-      let same = history-refused plan.asked earlier i reason is in
+      let same = history-refused plan.options earlier i reason is in
       record {
-        asked_is = stands.asked_is;
+        options_are = stands.options_are;
         valid = subst AllValid (sym same) stands.valid;
-        easel = stands.easel ∙ ap (easel_at plan) (sym same);
+        target = stands.target ∙ ap (target_at plan) (sym same);
         items = ap (λ n. n + 1) stands.items ∙ sym (length-more earlier i);
         refused = ap (λ n. n + 1) stands.refused ∙ sym (refused_as earlier i (said.Refused reason) is);
-        painted = stands.painted ∙ sym (counted-refused plan.asked earlier i reason is);
+        painted = stands.painted ∙ sym (counted-refused plan.options earlier i reason is);
       }
 
   refusal_made : (plan : Plan) (earlier : List Item) → Stands plan old earlier
-      → IsMade (item_event plan.asked earlier i) (output_of sink glass) result (output_of now glass)
+      → IsMade (item_event plan.options earlier i) (output_of sink glass) result (output_of now glass)
   refusal_made plan earlier stands =
-      let text : refusal_text old.asked i reason ≡ (item_event plan.asked earlier i).text =
-      ap (λ (a : Asked). refusal_text a i reason) stands.asked_is
-      ∙ ap (λ w. text_of_said plan.asked i w (changes_between (grid (history plan.asked earlier))
-      (grid (history plan.asked (earlier ++ i ∷ []))))) (sym is) in
+      let text : refusal_text old.options i reason ≡ (item_event plan.options earlier i).text =
+      ap (λ (a : ReportOptions). refusal_text a i reason) stands.options_are
+      ∙ ap (λ w. text_of_said plan.options i w (changes_between (grid (history plan.options earlier))
+      (grid (history plan.options (earlier ++ i ∷ []))))) (sym is) in
       record {
         puts = subst (λ (t : List ℕ). PutsText sink t result now) text puts;
-        painted = ArePainted-still (item_event plan.asked earlier i) glass (history-refused plan.asked earlier i reason is);
+        painted = ArePainted-still (item_event plan.options earlier i) glass (history-refused plan.options earlier i reason is);
       }
 
   pub refusal_more : ReportsOn old (i ∷ []) (output_of sink glass) result (counted_refusal old) (output_of now glass)
-  refusal_more = reports_on old (counted_refusal old) i (output_of sink glass) (output_of now glass) result (omega arith)
-      refusal_stands refusal_made
+  refusal_more = reports_on old (counted_refusal old) i (output_of sink glass) (output_of now glass) result refl
+      (omega arith) refusal_stands refusal_made
 
 -- ---- a command that is applied
 
@@ -384,20 +386,20 @@ append_other h c e = absurd (omega (arith, ap length e, length-append h (c ∷ [
 
 -- what a screen is, where it is what commands are painted on
 pub screen_painted : (sequel : Option Sequel) (screen : State) (h : List Command)
-    → easels.Screen screen ≡ painted_easel sequel h → (sequel ≡ None) × (screen ≡ state h)
+    → targets.Screen screen ≡ painted_target sequel h → (sequel ≡ None) × (screen ≡ state h)
 screen_painted None screen h e = (refl, same_Some screen (state h) (ap screen_of e))
 screen_painted (Some (Edits lines)) screen h e = cc
 screen_painted (Some (Figures figures)) screen h e = cc
 
-abbrev pub editor_in : EditorState → Easel → EditorState
-editor_in other easels.Nothing = other
-editor_in other (easels.Screen screen) = other
-editor_in other (easels.Editor editor lines) = editor
-editor_in other (easels.Drawing screen figures) = other
+abbrev pub editor_in : EditorState → Target → EditorState
+editor_in other targets.Nothing = other
+editor_in other (targets.Screen screen) = other
+editor_in other (targets.Editor editor lines) = editor
+editor_in other (targets.Drawing screen figures) = other
 
 -- and what an editor is
 pub editor_painted : (sequel : Option Sequel) (editor : EditorState) (lines : List EditLine) (h : List Command)
-    → easels.Editor editor lines ≡ painted_easel sequel h
+    → targets.Editor editor lines ≡ painted_target sequel h
     → (sequel ≡ Some (Edits lines)) × (editor ≡ record { screen = state h; past = []; future = [] })
 editor_painted None editor lines h e = cc
 editor_painted (Some (Edits others)) editor lines h e = (sym (ap sequel_at e), ap (editor_in editor) e)
@@ -405,7 +407,7 @@ editor_painted (Some (Figures figures)) editor lines h e = cc
 
 -- and what a screen with a drawing is
 pub drawing_painted : (sequel : Option Sequel) (screen : State) (figures : List Figure) (h : List Command)
-    → easels.Drawing screen figures ≡ painted_easel sequel h → (sequel ≡ Some (Figures figures)) × (screen ≡ state h)
+    → targets.Drawing screen figures ≡ painted_target sequel h → (sequel ≡ Some (Figures figures)) × (screen ≡ state h)
 drawing_painted None screen figures h e = cc
 drawing_painted (Some (Edits lines)) screen figures h e = cc
 drawing_painted (Some (Figures others)) screen figures h e =
@@ -416,7 +418,7 @@ editor_with : (editor : EditorState) (screen : State) (past future : List State)
 editor_with editor screen past future s p f = λ i. record { screen = s i; past = p i; future = f i }
 
 -- there is something to paint on
-pub not_idle : (sequel : Option Sequel) (h : List Command) → easels.Nothing ≡ painted_easel sequel h → ⊥
+pub not_idle : (sequel : Option Sequel) (h : List Command) → targets.Nothing ≡ painted_target sequel h → ⊥
 not_idle None h e = cc
 not_idle (Some (Edits lines)) h e = cc
 not_idle (Some (Figures figures)) h e = cc
@@ -424,16 +426,16 @@ not_idle (Some (Figures figures)) h e = cc
 -- what a command changes, where it leads a screen's state on
 module _ (screen new : State) (marks : List Bool) (command : Command) (glass shown : GlassState) (from to : ℕ)
     (is_applied : IsApplied screen command new marks glass shown from to) where
-  applied : (sequel : Option Sequel) (h : List Command) (easel : Easel) → screen ≡ state h
-      → new ≡ state (h ++ command ∷ []) → easel ≡ painted_easel sequel (h ++ command ∷ [])
-      → IsAppliedAfter sequel h command glass easel marks shown
-  applied sequel h easel before after at =
+  applied : (sequel : Option Sequel) (h : List Command) (target : Target) → screen ≡ state h
+      → new ≡ state (h ++ command ∷ []) → target ≡ painted_target sequel (h ++ command ∷ [])
+      → IsAppliedAfter sequel h command glass target marks shown
+  applied sequel h target before after at =
       let grids : (f : List (List Look) → List (List Look) → List (Place × Look))
       → f (looks_of (core_of screen)) (looks_of (core_of new)) ≡ f (grid h) (grid (h ++ command ∷ [])) =
       λ f. ap (λ (s : State). f (looks_of (core_of s)) (looks_of (core_of new))) before
       ∙ ap (λ (s : State). f (grid h) (looks_of (core_of s))) after in
       record {
-        easel_is = at;
+        target_is = at;
         marked = is_applied.repainted.marks ∙ ap (λ (s : State). differences (looks_of (core_of s)) (looks_of (core_of new))) before
             ∙ ap (λ (s : State). differences (grid h) (looks_of (core_of s))) after;
         told = subst (λ (xs : List (Place × Look)). Lists glass.paints xs shown.paints) (grids changes_between) is_applied.repainted.told;
@@ -441,80 +443,80 @@ module _ (screen new : State) (marks : List Bool) (command : Command) (glass sho
       }
 
   -- on a screen
-  pub applied_on_screen : AppliesOn (easels.Screen screen) command glass (easels.Screen new) marks shown
+  pub applied_on_screen : AppliesOn (targets.Screen screen) command glass (targets.Screen new) marks shown
   applied_on_screen = record {
     painted = λ sequel h valid e.
         let is = screen_painted sequel screen h e in
         let after = is_applied.goes_on h valid is.1 in
-        applied sequel h (easels.Screen new) is.1 after (ap easels.Screen after
-        ∙ ap (λ (o : Option Sequel). painted_easel o (h ++ command ∷ [])) (sym is.0));
+        applied sequel h (targets.Screen new) is.1 after (ap targets.Screen after
+        ∙ ap (λ (o : Option Sequel). painted_target o (h ++ command ∷ [])) (sym is.0));
     idle = λ none. cc;
   }
 
   -- on a screen with a drawing
   pub applied_before_drawing : (figures : List Figure)
-      → AppliesOn (easels.Drawing screen figures) command glass (easels.Drawing new figures) marks shown
+      → AppliesOn (targets.Drawing screen figures) command glass (targets.Drawing new figures) marks shown
   applied_before_drawing figures = record {
     painted = λ sequel h valid e.
         let is = drawing_painted sequel screen figures h e in
         let after = is_applied.goes_on h valid is.1 in
-        applied sequel h (easels.Drawing new figures) is.1 after (ap (λ (s : State). easels.Drawing s figures) after
-        ∙ ap (λ (o : Option Sequel). painted_easel o (h ++ command ∷ [])) (sym is.0));
+        applied sequel h (targets.Drawing new figures) is.1 after (ap (λ (s : State). targets.Drawing s figures) after
+        ∙ ap (λ (o : Option Sequel). painted_target o (h ++ command ∷ [])) (sym is.0));
     idle = λ none. cc;
   }
 
   -- on a screen whose edits can be taken back
   pub applied_in_editor : (editor after : EditorState) (lines : List EditLine) → editor.screen ≡ screen
       → after.screen ≡ new → after.past ≡ editor.past → after.future ≡ []
-      → AppliesOn (easels.Editor editor lines) command glass (easels.Editor after lines) marks shown
+      → AppliesOn (targets.Editor editor lines) command glass (targets.Editor after lines) marks shown
   applied_in_editor editor after lines was now past future = record {
     painted = λ sequel h valid e.
         let is = editor_painted sequel editor lines h e in
         let before = sym was ∙ ap (λ (s : EditorState). s.screen) is.1 in
         let next = is_applied.goes_on h valid before in
-        applied sequel h (easels.Editor after lines) before next
-        (ap (λ (s : EditorState). easels.Editor s lines)
+        applied sequel h (targets.Editor after lines) before next
+        (ap (λ (s : EditorState). targets.Editor s lines)
         (editor_with after (state (h ++ command ∷ [])) [] [] (now ∙ next)
         (past ∙ ap (λ (s : EditorState). s.past) is.1) future)
-        ∙ ap (λ (o : Option Sequel). painted_easel o (h ++ command ∷ [])) (sym is.0));
+        ∙ ap (λ (o : Option Sequel). painted_target o (h ++ command ∷ [])) (sym is.0));
     idle = λ none. cc;
   }
 
 -- where nothing is painted
 pub applied_nowhere : (command : Command) (glass : GlassState) (marks : List Bool)
-    → AppliesOn easels.Nothing command glass easels.Nothing marks glass
+    → AppliesOn targets.Nothing command glass targets.Nothing marks glass
 applied_nowhere command glass marks = record {
   painted = λ sequel h valid e. absurd (not_idle sequel h e);
   idle = λ none. (refl, refl);
 }
 
 -- the same by a reporter, which stays but for that
-abbrev pub with_easel : ReporterState → Easel → ℕ → ReporterState
-with_easel old easel painted = record {
-  asked = old.asked;
-  easel = easel;
+abbrev pub with_target : ReporterState → Target → ℕ → ReporterState
+with_target old target painted = record {
+  options = old.options;
+  target = target;
   items = old.items;
   refused = old.refused;
   painted = painted;
 }
 
-module _ (old : ReporterState) (easel : Easel) (item : Item) (command : Command) (marks : List Bool)
+module _ (old : ReporterState) (target : Target) (item : Item) (command : Command) (marks : List Bool)
     (sink : SinkState) (glass shown : GlassState)
-    (applies : AppliesOn old.easel command glass easel marks shown) where
+    (applies : AppliesOn old.target command glass target marks shown) where
   -- there is a screen
   module _ {X E : Type 0} (screen : State) (now : SinkState) (result : Result X E) (count : ℕ)
-      (at : screen_of easel ≡ Some screen)
-      (puts : PutsText sink (cond (lists_changes old.asked.way) (change_lines item.at (marked_looks marks (looks_of (core_of screen)))) [])
+      (at : screen_of target ≡ Some screen)
+      (puts : PutsText sink (cond (lists_changes old.options.way) (change_lines item.at (marked_looks marks (looks_of (core_of screen)))) [])
       result now)
-      (count_is : count ≡ cond (is_counted old.asked.end) (count_by (λ b. b) marks) 0) (few : count ≤ 960) where
+      (count_is : count ≡ cond (is_counted old.options.end) (count_by (λ b. b) marks) 0) (few : count ≤ 960) where
     -- the screen is that after the command
-    module _ (sequel : Option Sequel) (h : List Command) (is : IsAppliedAfter sequel h command glass easel marks shown)
+    module _ (sequel : Option Sequel) (h : List Command) (is : IsAppliedAfter sequel h command glass target marks shown)
       where
         screen_is : screen ≡ state (h ++ command ∷ [])
         screen_is = same_Some screen (state (h ++ command ∷ []))
-            (sym at ∙ ap screen_of is.easel_is ∙ of_painted sequel (h ++ command ∷ []))
+            (sym at ∙ ap screen_of is.target_is ∙ of_painted sequel (h ++ command ∷ []))
           where
-            of_painted : (o : Option Sequel) (k : List Command) → screen_of (painted_easel o k) ≡ Some (state k)
+            of_painted : (o : Option Sequel) (k : List Command) → screen_of (painted_target o k) ≡ Some (state k)
             of_painted None k = refl
             of_painted (Some (Edits lines)) k = refl
             of_painted (Some (Figures figures)) k = refl
@@ -523,13 +525,13 @@ module _ (old : ReporterState) (easel : Easel) (item : Item) (command : Command)
         listed_are = ap (λ m. marked_looks m (looks_of (core_of screen))) is.marked
             ∙ ap (λ (s : State). marked_looks (differences (grid h) (grid (h ++ command ∷ []))) (looks_of (core_of s))) screen_is
 
-        event_made : IsMade (command_event old.asked item.at h command) (output_of sink glass) result (output_of now shown)
+        event_made : IsMade (command_event old.options item.at h command) (output_of sink glass) result (output_of now shown)
         event_made =
-            let painted : changes h command ≡ paints (command_event old.asked item.at h command ∷ []) =
-            sym (paints-one (command_event old.asked item.at h command)) in
+            let painted : changes h command ≡ paints (command_event old.options item.at h command ∷ []) =
+            sym (paints-one (command_event old.options item.at h command)) in
             record {
               puts = subst (λ (t : List ℕ). PutsText sink t result now)
-                  (ap (λ (xs : List (Place × Look)). cond (lists_changes old.asked.way) (change_lines item.at xs) []) listed_are) puts;
+                  (ap (λ (xs : List (Place × Look)). cond (lists_changes old.options.way) (change_lines item.at xs) []) listed_are) puts;
               painted = record {
                 listed = subst (λ (xs : List (Place × Look)). Lists glass.paints xs shown.paints) painted is.told;
                 over = is.shown ∙ ap (grid_with_paints glass.grid) painted;
@@ -537,49 +539,47 @@ module _ (old : ReporterState) (easel : Easel) (item : Item) (command : Command)
               };
             }
 
-        counted : old.painted + count ≡ old.painted + counted_of old.asked (length (changes h command))
+        counted : old.painted + count ≡ old.painted + counted_places old.options (length (changes h command))
         counted = ap (λ n. old.painted + n) (count_is
-            ∙ ap (λ m. cond (is_counted old.asked.end) (count_by (λ b. b) m) 0) is.marked
-            ∙ ap (λ n. cond (is_counted old.asked.end) n 0) (changes_counted (grid h) (grid (h ++ command ∷ []))))
+            ∙ ap (λ m. cond (is_counted old.options.end) (count_by (λ b. b) m) 0) is.marked
+            ∙ ap (λ n. cond (is_counted old.options.end) n 0) (changes_counted (grid h) (grid (h ++ command ∷ []))))
 
     pub applied_painted : Applies old item command (output_of sink glass) result
-        (with_easel old easel (old.painted + count)) (output_of now shown)
+        (with_target old target (old.painted + count)) (output_of now shown)
     applied_painted = record {
-      asked = refl;
+      options = refl;
       items = refl;
       refused = refl;
-      easel = λ sequel h valid painting e. (applies.painted sequel h valid e).easel_is;
-      made = λ sequel h valid painting e. event_made sequel h (applies.painted sequel h valid e);
-      painted = λ sequel h valid painting e. counted sequel h (applies.painted sequel h valid e);
+      applied = λ sequel h valid e.
+          let is = applies.painted sequel h valid e in
+          (is.target_is, event_made sequel h is, counted sequel h is);
       few = omega (arith, few);
       listed = λ none. absurd (none-some screen (sym (ap screen_of (applies.idle none).0) ∙ at));
     }
 
   -- there is none
-  pub applied_idle : {X E : Type 0} (now : SinkState) (result : Result X E) → screen_of easel ≡ None
+  pub applied_idle : {X E : Type 0} (now : SinkState) (result : Result X E) → screen_of target ≡ None
       → PutsText sink (item_line item) result now
-      → Applies old item command (output_of sink glass) result (with_easel old easel old.painted) (output_of now shown)
+      → Applies old item command (output_of sink glass) result (with_target old target old.painted) (output_of now shown)
   applied_idle now result none puts = record {
-    asked = refl;
+    options = refl;
     items = refl;
     refused = refl;
-    easel = λ sequel h valid painting e. (applies.painted sequel h valid e).easel_is;
-    made = λ sequel h valid painting e. absurd (with_screen sequel h (applies.painted sequel h valid e));
-    painted = λ sequel h valid painting e. absurd (with_screen sequel h (applies.painted sequel h valid e));
+    applied = λ sequel h valid e. absurd (with_screen sequel h (applies.painted sequel h valid e));
     few = omega arith;
     listed = λ idle. record {
       puts = puts;
       unpainted = (applies.idle idle).1;
-      stays = ap (λ (e : Easel). with_easel old e old.painted) ((applies.idle idle).0 ∙ sym idle);
+      stays = ap (λ (e : Target). with_target old e old.painted) ((applies.idle idle).0 ∙ sym idle);
     };
   }
     where
       with_screen : (sequel : Option Sequel) (h : List Command)
-          → IsAppliedAfter sequel h command glass easel marks shown → ⊥
-      with_screen None h is = none-some (state (h ++ command ∷ [])) (sym none ∙ ap screen_of is.easel_is)
-      with_screen (Some (Edits lines)) h is = none-some (state (h ++ command ∷ [])) (sym none ∙ ap screen_of is.easel_is)
+          → IsAppliedAfter sequel h command glass target marks shown → ⊥
+      with_screen None h is = none-some (state (h ++ command ∷ [])) (sym none ∙ ap screen_of is.target_is)
+      with_screen (Some (Edits lines)) h is = none-some (state (h ++ command ∷ [])) (sym none ∙ ap screen_of is.target_is)
       with_screen (Some (Figures figures)) h is =
-          none-some (state (h ++ command ∷ [])) (sym none ∙ ap screen_of is.easel_is)
+          none-some (state (h ++ command ∷ [])) (sym none ∙ ap screen_of is.target_is)
 
 -- ---- lists that are gone through
 
@@ -617,10 +617,10 @@ AllByRecursion-rest P xs i h all = (AllByRecursion-next P xs i spare h all).1
 
 -- items at which the sink failed, among more
 pub cut_longer : (plan : Plan) (front rest whole : List Item) (start after : Output) → front ++ rest ≡ whole
-    → AreCutOff (item_events plan.asked front) start after → AreCutOff (item_events plan.asked whole) start after
+    → AreCutOff (item_events plan.options front) start after → AreCutOff (item_events plan.options whole) start after
 cut_longer plan front rest whole start after is off =
-    AreCutOff-longer (item_events plan.asked front) (events_after plan.asked front rest) (item_events plan.asked whole) start after
-    (ap (item_events plan.asked) (sym is) ∙ item_events-append plan.asked front rest) off
+    AreCutOff-longer (item_events plan.options front) (events_after plan.options front rest) (item_events plan.options whole) start after
+    (ap (item_events plan.options) (sym is) ∙ item_events-append plan.options front rest) off
 
 pub has_reported_same : (plan : Plan) (reporter : ReporterState) (xs ys : List Item) (start now : Output) → xs ≡ ys
     → HasReported plan reporter xs start now → HasReported plan reporter ys start now
@@ -630,8 +630,8 @@ has_reported_same plan reporter xs ys start now e has =
 -- ---- a decoder that reads on
 
 pub reads_as : (plan : Plan) (xs ys : List Item) (start after : Output) → xs ≡ ys
-    → AreCutOff (item_events plan.asked xs) start after → AreCutOff (item_events plan.asked ys) start after
-reads_as plan xs ys start after e off = subst (λ (l : List Item). AreCutOff (item_events plan.asked l) start after) e off
+    → AreCutOff (item_events plan.options xs) start after → AreCutOff (item_events plan.options ys) start after
+reads_as plan xs ys start after e off = subst (λ (l : List Item). AreCutOff (item_events plan.options l) start after) e off
 
 pub reads_on : {X E : Type 0} (old new : DecoderState) (more : List ℕ) (answer : List Item) (before after : Output)
     (result : Result X E) → new.parser.place ≡ old.parser.place + length more → new.parser.finished ≡ false
@@ -679,8 +679,8 @@ has_read_same plan decoder xs ys start now e has =
 -- bytes at which the sink failed, among more: a law of reading says which items these add
 pub cut_by_bytes : (plan : Plan) (front rest whole : List ℕ) (others : List Item) (start after : Output)
     → front ++ rest ≡ whole → items (front ++ rest) ≡ items front ++ others
-    → AreCutOff (item_events plan.asked (items front)) start after
-    → AreCutOff (item_events plan.asked (items whole)) start after
+    → AreCutOff (item_events plan.options (items front)) start after
+    → AreCutOff (item_events plan.options (items whole)) start after
 cut_by_bytes plan front rest whole others start after is law off =
     cut_longer plan (items front) others (items whole) start after (sym law ∙ ap items is) off
 

@@ -8,18 +8,18 @@ use Rattle.cept_editor.specs.Events.{Event, report, paints}
 use Rattle.cept_editor.specs.Made.{Output, output_of, AreMade, AreCutOff}
 use Rattle.cept_editor.proofs.Laws.{report-append, report-one, AreMade-end, AreCutOff-end, ArePainted-more}
 use Rattle.cept_editor.proofs.Laws.{ArePainted-still}
-use Rattle.cept_outside.specs.SinkState.{SinkState, HasPut, Gains, GainsPart, count_after}
+use Rattle.cept_outside.specs.SinkState.{SinkState, HasPut, Gains, GainsPart, count_after, one_more}
 use Rattle.cept_outside.proofs.Laws.{HasPut-more, append_known-append_known, count_after-more}
 use Rattle.cept_parser.specs.Items.{closed_items}
 use Rattle.cept_profile.specs.Changes.{grid_with_paints}
 use Rattle.cept_profile.specs.Look.{grid}
 use Rattle.cept_profile.specs.State.{core}
 use Rattle.cept_writer.specs.CompactCommands.{page_text}
-use Rattle.cept_run.specs.declared.words.Asked.{Asked}
+use Rattle.cept_run.specs.declared.words.ReportOptions.{ReportOptions}
 use Rattle.cept_run.specs.Events.{text_at_end, painted_end, end_event, edited_events, run_events, remaining_of, refused_count}
 use Rattle.cept_run.specs.Events.{Sequel, counts_text}
 use Rattle.cept_run.specs.Outside.{Outside, output, PutsWhole, PutsUnflushed, PutsFront}
-use Rattle.cept_run.specs.Course.{Source, Grammar, sequel_in, is_page, puts_page, reporting}
+use Rattle.cept_run.specs.Course.{Source, Grammar, sequel_in, is_page, puts_page, report_course}
 use Rattle.cept_run.specs.declared.words.End.{End}
 use Rattle.cept_run.specs.declared.words.End.TheVariants as ends
 use Rattle.cept_run.specs.Run.{Restores, ReportsWhole}
@@ -41,11 +41,11 @@ pub put_cut : (events : List Event) (before after : Output) → AreCutOff events
 put_cut events before after off = record { part = report off.done ++ take off.size off.cut.text; gains = off.put }
 
 -- nothing is put but the page
-pub record PutsPage (asked : Asked) : Type 0 where
-  pub way : asked.way ≡ ways.Paint
-  pub end : is_page asked.end ≡ true
-  pub refusals : asked.refusals ≡ false
-  pub edits_listed : asked.edits_listed ≡ false
+pub record PutsPage (options : ReportOptions) : Type 0 where
+  pub way : options.way ≡ ways.Paint
+  pub end : is_page options.end ≡ true
+  pub refusals : options.refusals ≡ false
+  pub edits_listed : options.edits_listed ≡ false
 
 -- a flag that isn't set
 unset : (b : Bool) → not b ≡ true → b ≡ false
@@ -58,56 +58,56 @@ painted_alone ways.List p l = cc
 painted_alone ways.Paint p l = refl
 painted_alone ways.PaintAndList p l = cc
 
-puts_page_by : (asked : Asked) → puts_page asked ≡ true → PutsPage asked
-puts_page_by asked is =
-    let four = and_parts _ (not asked.edits_listed) is in
-    let three = and_parts _ (not asked.refusals) four.0 in
-    let two = and_parts _ (not (lists_changes asked.way)) three.0 in
-    let one = and_parts (is_painted asked.way) (is_page asked.end) two.0 in
+puts_page_by : (options : ReportOptions) → puts_page options ≡ true → PutsPage options
+puts_page_by options is =
+    let four = and_parts _ (not options.edits_listed) is in
+    let three = and_parts _ (not options.refusals) four.0 in
+    let two = and_parts _ (not (lists_changes options.way)) three.0 in
+    let one = and_parts (is_painted options.way) (is_page options.end) two.0 in
     record {
-      way = painted_alone asked.way one.0 (unset (lists_changes asked.way) two.1);
+      way = painted_alone options.way one.0 (unset (lists_changes options.way) two.1);
       end = one.1;
-      refusals = unset asked.refusals three.1;
-      edits_listed = unset asked.edits_listed four.1;
+      refusals = unset options.refusals three.1;
+      edits_listed = unset options.edits_listed four.1;
     }
 
 -- the text at the end is the page then
-page_end : (end : End) (asked : Asked) (shown : List (List Look)) (page : List ℕ) (commands : List Command)
-    → is_page end ≡ true → painted_end end asked shown page commands ≡ page_text (core commands)
-page_end ends.Nothing asked shown page commands e = cc
-page_end ends.Screen asked shown page commands e = cc
-page_end ends.Cells asked shown page commands e = cc
-page_end ends.Page asked shown page commands e = refl
-page_end ends.Counts asked shown page commands e = cc
-page_end (ends.Phases turns) asked shown page commands e = cc
+page_end : (end : End) (options : ReportOptions) (shown : List (List Look)) (page : List ℕ) (commands : List Command)
+    → is_page end ≡ true → painted_end end options shown page commands ≡ page_text (core commands)
+page_end ends.Nothing options shown page commands e = cc
+page_end ends.Screen options shown page commands e = cc
+page_end ends.Cells options shown page commands e = cc
+page_end ends.Page options shown page commands e = refl
+page_end ends.Counts options shown page commands e = cc
+page_end (ends.Phases turns) options shown page commands e = cc
 
-written_text : (asked : Asked) (shown : List (List Look)) (page : List ℕ) (commands : List Command)
-    → PutsPage asked → text_at_end asked shown page commands ≡ page_text (core commands)
-written_text asked shown page commands puts =
-    ap (λ (w : Way). cond (is_painted w) (painted_end asked.end asked shown page commands)
+written_text : (options : ReportOptions) (shown : List (List Look)) (page : List ℕ) (commands : List Command)
+    → PutsPage options → text_at_end options shown page commands ≡ page_text (core commands)
+written_text options shown page commands puts =
+    ap (λ (w : Way). cond (is_painted w) (painted_end options.end options shown page commands)
     (counts_text w (length (closed_items page)) (refused_count (closed_items page)))) puts.way
-    ∙ page_end asked.end asked shown page commands puts.end
+    ∙ page_end options.end options shown page commands puts.end
 
 -- ---- a page, and what a script or a drawing says is done after it
 
-module _ (asked : Asked) (grammar : Grammar) (bytes script : List ℕ) where
+module _ (options : ReportOptions) (grammar : Grammar) (bytes script : List ℕ) where
   abbrev pub sequel : Sequel
   sequel = sequel_in grammar script
 
   abbrev pub all : List Command
-  all = remaining_of asked bytes sequel
+  all = remaining_of options bytes sequel
 
   abbrev pub edited : List Event
-  edited = edited_events asked (closed_items bytes) sequel
+  edited = edited_events options (closed_items bytes) sequel
 
   abbrev pub the_end : List (List Look) → Event
-  the_end shown = end_event asked shown bytes all
+  the_end shown = end_event options shown bytes all
 
   abbrev pub the_run : List (List Look) → List Event
-  the_run shown = run_events asked bytes sequel shown
+  the_run shown = run_events options bytes sequel shown
 
   to_all : AreChained [] edited all
-  to_all = edited_events-chained asked (closed_items bytes) sequel
+  to_all = edited_events-chained options (closed_items bytes) sequel
 
   run_chained : (shown : List (List Look)) → AreChained [] (the_run shown) all
   run_chained shown = chained-append [] all all edited (the_end shown ∷ []) to_all (chained-one (the_end shown))
@@ -119,7 +119,7 @@ module _ (asked : Asked) (grammar : Grammar) (bytes script : List ℕ) where
     middle = output_of sink after.glass
 
     abbrev pub the_text : List ℕ
-    the_text = text_at_end asked after.glass.grid bytes all
+    the_text = text_at_end options after.glass.grid bytes all
 
     abbrev last : Event
     last = the_end after.glass.grid
@@ -129,35 +129,41 @@ module _ (asked : Asked) (grammar : Grammar) (bytes script : List ℕ) where
     meaning_at_end blank = made.painted.over ∙ ap (λ g. grid_with_paints g (paints edited)) blank
         ∙ chained_shown [] all edited to_all
 
-    whole_text : PutsPage asked → report (the_run after.glass.grid) ≡ page_text (core all)
+    whole_text : PutsPage options → report (the_run after.glass.grid) ≡ page_text (core all)
     whole_text writes =
         report-append edited (last ∷ [])
         ∙ ap (λ t. t ++ report (last ∷ []))
-        (silent_edits asked (closed_items bytes) sequel writes.way writes.refusals writes.edits_listed)
-        ∙ report-one last ∙ written_text asked after.glass.grid bytes all writes
+        (silent_edits options (closed_items bytes) sequel writes.way writes.refusals writes.edits_listed)
+        ∙ report-one last ∙ written_text options after.glass.grid bytes all writes
 
     whole_is : report (the_run after.glass.grid) ≡ report edited ++ report (last ∷ [])
     whole_is = report-append edited (last ∷ [])
 
     -- it was put
     pub whole_report : (page source : Source) → Restores (page_text (core all)) all → PutsWhole the_text sink after.sink
-        → ReportsWhole (reporting asked grammar page source) bytes script before after
+        → ReportsWhole (report_course options grammar page source) bytes script before after
     whole_report page source restores puts = record {
-      put = puts.put ∙ ap (λ known. append_known known the_text) made.put.bytes
-          ∙ append_known-append_known before.sink.bytes (report edited) the_text
-          ∙ ap (λ t. append_known before.sink.bytes (report edited ++ t)) (sym (report-one last))
-          ∙ ap (append_known before.sink.bytes) (sym whole_is);
-      counted = puts.counted ∙ ap (λ n. count_after n (length the_text)) made.put.counted
-          ∙ count_after-more before.sink.count (length (report edited)) (length the_text)
-          ∙ ap (count_after before.sink.count) (sym (length-append (report edited) the_text))
-          ∙ ap (λ t. count_after before.sink.count (length (report edited ++ t))) (sym (report-one last))
-          ∙ ap (λ t. count_after before.sink.count (length t)) (sym whole_is);
+      put = record {
+        put = puts.put ∙ ap (λ known. append_known known the_text) made.put.bytes
+            ∙ append_known-append_known before.sink.bytes (report edited) the_text
+            ∙ ap (λ t. append_known before.sink.bytes (report edited ++ t)) (sym (report-one last))
+            ∙ ap (append_known before.sink.bytes) (sym whole_is);
+        counted = puts.counted ∙ ap (λ n. count_after n (length the_text)) made.put.counted
+            ∙ count_after-more before.sink.count (length (report edited)) (length the_text)
+            ∙ ap (count_after before.sink.count) (sym (length-append (report edited) the_text))
+            ∙ ap (λ t. count_after before.sink.count (length (report edited ++ t))) (sym (report-one last))
+            ∙ ap (λ t. count_after before.sink.count (length t)) (sym whole_is);
+        room = puts.room ∙ made.put.room;
+        flushed = puts.flushed;
+        flushes = puts.flushes ∙ ap one_more made.put.flushes;
+        stays = puts.stays ∙ sink_stays;
+      };
       painted = ArePainted-more edited (last ∷ []) before.glass after.glass after.glass made.painted
           (ArePainted-still last after.glass refl);
       each = λ blank done event rest split. ap (λ g. grid_with_paints g (paints (done ++ event ∷ []))) blank
           ∙ each_shown [] all (the_run after.glass.grid) done event rest (run_chained after.glass.grid) split;
       meaning = meaning_at_end;
-      written = λ writes. subst (λ (t : List ℕ). Restores t all) (sym (whole_text (puts_page_by asked writes))) restores;
+      written = λ writes. subst (λ (t : List ℕ). Restores t all) (sym (whole_text (puts_page_by options writes))) restores;
     }
 
     -- the sink failed

@@ -14,7 +14,7 @@ use Rattle.cept_editor.specs.Script.{EditLine}
 use Rattle.cept_editor.specs.Stepping.{event_from, nothing_event, edit_events, line_events}
 use Rattle.cept_plot.specs.declared.figure.Figure.{Figure}
 use Rattle.cept_editor.proofs.Laws.{report-append, report-one, report-none}
-use Rattle.cept_run.specs.declared.words.Asked.{Asked}
+use Rattle.cept_run.specs.declared.words.ReportOptions.{ReportOptions}
 use Rattle.cept_run.specs.Events.{listed_text, named_text}
 use Rattle.cept_run.specs.declared.words.Way.{Way}
 use Rattle.cept_run.specs.declared.words.Way.TheVariants as ways
@@ -32,18 +32,18 @@ silent_more : (xs ys : List Event) → report xs ≡ [] → report ys ≡ [] →
 silent_more xs ys first second = report-append xs ys ∙ ap (λ t. t ++ report ys) first ∙ second
 
 -- neither changes nor refusals are listed
-silent_said : (asked : Asked) (item : Item) (what : Said) (xs : List (Place × Look)) → asked.way ≡ ways.Paint
-    → asked.refusals ≡ false → text_of_said asked item what xs ≡ []
-silent_said asked item (said.Command command) xs c r = ap (λ (w : Way). listed_text w item xs) c
-silent_said asked item (said.Refused reason) xs c r = ap (λ b. cond b (named_text asked.way item reason) []) r
+silent_said : (options : ReportOptions) (item : Item) (what : Said) (xs : List (Place × Look)) → options.way ≡ ways.Paint
+    → options.refusals ≡ false → text_of_said options item what xs ≡ []
+silent_said options item (said.Command command) xs c r = ap (λ (w : Way). listed_text w item xs) c
+silent_said options item (said.Refused reason) xs c r = ap (λ b. cond b (named_text options.way item reason) []) r
 
-silent_items_after : (asked : Asked) (earlier items : List Item) → asked.way ≡ ways.Paint
-    → asked.refusals ≡ false → report (events_after asked earlier items) ≡ []
+silent_items_after : (options : ReportOptions) (earlier items : List Item) → options.way ≡ ways.Paint
+    → options.refusals ≡ false → report (events_after options earlier items) ≡ []
 unfolding events_after
-silent_items_after asked earlier [] c r = report-none
-silent_items_after asked earlier (i ∷ is) c r =
-    silent_one (item_event asked earlier i) (events_after asked (earlier ++ i ∷ []) is)
-    (silent_said asked i i.what _ c r) (silent_items_after asked (earlier ++ i ∷ []) is c r)
+silent_items_after options earlier [] c r = report-none
+silent_items_after options earlier (i ∷ is) c r =
+    silent_one (item_event options earlier i) (events_after options (earlier ++ i ∷ []) is)
+    (silent_said options i i.what _ c r) (silent_items_after options (earlier ++ i ∷ []) is c r)
 
 -- and no edits
 silent_edit : (line n : ℕ) (earlier whole rest : List Command)
@@ -92,9 +92,9 @@ silent_sequel listed page (Edits lines) t =
 silent_sequel listed page (Figures figures) t = silent_drawing listed page figures
 
 -- nothing is listed and named, so that nothing is put before the end
-pub silent_edits : (asked : Asked) (items : List Item) (sequel : Sequel) → asked.way ≡ ways.Paint
-    → asked.refusals ≡ false → asked.edits_listed ≡ false → report (edited_events asked items sequel) ≡ []
-silent_edits asked items sequel c r t =
-    silent_more (item_events asked items) (sequel_events asked.edits_listed (history asked items) sequel)
-    (ap report (item_events-after asked items) ∙ silent_items_after asked [] items c r)
-    (silent_sequel asked.edits_listed (history asked items) sequel t)
+pub silent_edits : (options : ReportOptions) (items : List Item) (sequel : Sequel) → options.way ≡ ways.Paint
+    → options.refusals ≡ false → options.edits_listed ≡ false → report (edited_events options items sequel) ≡ []
+silent_edits options items sequel c r t =
+    silent_more (item_events options items) (sequel_events options.edits_listed (history options items) sequel)
+    (ap report (item_events-after options items) ∙ silent_items_after options [] items c r)
+    (silent_sequel options.edits_listed (history options items) sequel t)

@@ -1,5 +1,5 @@
 -- A known page, whatever is selected at the end, and the whole run.
-use Rattle.std.proofs.Common.{◌≡◌, ◌⊎◌, inl, inr, ℕ, ◌^◌, ◌<◌, ◌≤◌, Bool, true, false, List, [], take}
+use Rattle.std.proofs.Common.{◌≡◌, ◌⊎◌, inl, inr, ℕ, ◌^◌, ◌<◌, ◌≤◌, Bool, true, false, List, take}
 use Rattle.std.proofs.Common.{Option, Some, None, is_some, Result, Ok, Err, refl, sym, ◌∙◌, ap, subst, arith}
 use Rattle.std.proofs.Common.{length}
 use Rattle.std.proofs.lemmas.Option.{none-some, same_Some}
@@ -9,13 +9,12 @@ use Rattle.cept_run.specs.declared.page.Stop.{Stop}
 use Rattle.cept_run.specs.declared.page.Stop.TheVariants as stops
 use Rattle.cept_run.specs.declared.run.Status.{Status}
 use Rattle.cept_run.specs.declared.run.Status.TheVariants as statuses
-use Rattle.cept_run.specs.Course.{Course, Source, File, Given, Gives, IsNamed, SelectsNoOther, course_of}
+use Rattle.cept_run.specs.Course.{Course, Source, File, Given, Gives, course_of}
 use Rattle.cept_run.specs.Outside.{Outside}
-use Rattle.cept_run.specs.Run.{is_early, is_whole, IsScriptUnread, EndsAtReadFault, IsPageTooLong, IsScriptTooLong, Ends, ReadsFiles}
+use Rattle.cept_run.specs.Run.{is_whole, ReportsFirst, EndsAtReadFault, IsPageTooLong, IsScriptTooLong, Ends, ReadsFiles}
 use Rattle.cept_run.specs.Run.{ReportsFront, TouchesShelf, RunsCourse, IsShortScript, IsUnreadable, Runs}
 use Rattle.cept_run.specs.Run.{status_at_end}
 use Rattle.cept_run.specs.Words.{Request, request_of}
-use Rattle.cept_run.proofs.PagesInPieces.{nil_from_length}
 use Rattle.cept_run.proofs.StoppedScripts.{name_in}
 
 -- ---- a known page, whatever is selected at the end
@@ -36,57 +35,40 @@ selected_at_end name before after (Some chosen) page is sound keeps holds select
     by_name (inl e) = inl (is ∙ ap Some e)
     by_name (inr e) = inr (is ∙ ap Some e)
 
--- without a script no other name is selected
-page_alone : (name own : List ℕ) (script : Source) (chosen : Option (List ℕ)) → script ≡ Given own
-    → (chosen ≡ None) ⊎ (chosen ≡ Some name) ⊎ IsNamed script chosen → (chosen ≡ None) ⊎ (chosen ≡ Some name)
-page_alone name own script chosen given (inl e) = inl e
-page_alone name own script chosen given (inr (inl e)) = inr e
-page_alone name own script chosen given (inr (inr named)) =
-    absurd (subst (λ (s : Source). IsNamed s chosen) given named)
-
 -- what the shelf does, where the page is in a file
 pub reads_files : (course : Course) (name : List ℕ) (before after : ShelfState) (status : Status) → course.page ≡ File name
     → TouchesShelf course course.page before after status → ReadsFiles course name before after status
 reads_files course name before after status is =
     subst (λ (s : Source). TouchesShelf course s before after status) is
 
-module _ (course : Course) (name own page : List ℕ) (before after : Outside) (status : Status)
-    (sound : IsSound before.shelf) (sound_after : IsSound after.shelf) (run : RunsCourse course before after status)
-    (touched : is_early status ≡ false) (paged : course.page ≡ File name) (holds : Holds before.shelf name page)
-    (alone : course.script ≡ Given own) where
-  at_end : (after.shelf.selected ≡ Some None) ⊎ (after.shelf.selected ≡ Some (Some name))
-  at_end =
-      let shelf = reads_files course name before.shelf after.shelf status paged run.shelf in
-      selected_at_end name before.shelf after.shelf after.shelf.selected page refl sound shelf.files holds
-      (λ chosen is. page_alone name own course.script chosen alone (shelf.selects touched chosen is))
+-- the first bytes of a known page are reported
+pub first_of : (course : Course) (name page : List ℕ) (before after : Outside) → course.page ≡ File name
+    → Holds before.shelf name page → (other : List ℕ) (size : ℕ) → ReportsFirst course other size before after
+    → ReportsFront course (take size page) before after
+first_of course name page before after paged holds other size first =
+    let same : other ≡ name = name_in other name (sym first.named ∙ paged) in
+    subst (λ (b : List ℕ). ReportsFront course b before after)
+    (first.front_is page (inl (subst (λ n. Holds before.shelf n page) (sym same) holds))) first.reports
 
-  unread_by : EndsAtReadFault course before after → (after.shelf.selected ≡ Some None)
-      ⊎ (after.shelf.selected ≡ Some (Some name)) → ReportsFront course (take after.shelf.taken page) before after
-  unread_by ends (inr is) =
-      let same : ends.name ≡ name = name_in ends.name name (sym ends.named ∙ paged) in
-      subst (λ (b : List ℕ). ReportsFront course b before after)
-      (ends.front_is page (subst (λ n. Holds before.shelf n page) (sym same) holds)
-      (is ∙ ap (λ n. Some (Some n)) (sym same))) ends.reports
-  unread_by ends (inl none) =
-      let nothing = (sound_after.nothing none).1 in
-      subst (λ (b : List ℕ). ReportsFront course b before after)
-      (by_count ends.counted nothing ∙ sym (ap (λ k. take k page) nothing)) ends.reports
-    where
-      by_count : ((after.shelf.taken ≡ length ends.front) × SelectsNoOther ends.name after.shelf)
-          ⊎ ((ends.front ≡ []) × IsScriptUnread course before after) → after.shelf.taken ≡ 0 → ends.front ≡ []
-      by_count (inl e) nothing = nil_from_length ends.front (sym e.0 ∙ nothing)
-      by_count (inr e) nothing = e.0
-
-  too_long_by : IsPageTooLong course before after ⊎ IsScriptTooLong course before after
-      → ReportsFront course (take (2 ^ 24) page) before after
-  too_long_by (inl ends) =
-      let same : ends.name ≡ name = name_in ends.name name (sym ends.named ∙ paged) in
-      subst (λ (b : List ℕ). ReportsFront course b before after)
-      (ends.front_is page (subst (λ n. Gives before.shelf n page) (sym same) (inl holds))) ends.reports
-  too_long_by (inr ends) = absurd (not_file own ends.name (sym alone ∙ ends.named))
+module _ (course : Course) (name own page : List ℕ) (before after : Outside) (paged : course.page ≡ File name)
+    (holds : Holds before.shelf name page) (alone : course.script ≡ Given own) where
+  not_script : (script : List ℕ) → course.script ≡ File script → ⊥
+  not_script script is = not_file own script (sym alone ∙ is)
     where
       not_file : (given other : List ℕ) → Given given ≡ File other → ⊥
       not_file given other e = cc
+
+  unread_by : EndsAtReadFault course before after → ReportsFront course (take after.shelf.taken page) before after
+  unread_by ends =
+      elim ends.which [
+        | inl unread ↦ first_of course name page before after paged holds ends.name after.shelf.taken unread.first
+        | inr script ↦ absurd (not_script script.0 script.1.named)
+      ]
+
+  too_long_by : IsPageTooLong course before after ⊎ IsScriptTooLong course before after
+      → ReportsFront course (take (2 ^ 24) page) before after
+  too_long_by (inl ends) = first_of course name page before after paged holds ends.name (2 ^ 24) ends.first
+  too_long_by (inr ends) = absurd (not_script ends.name ends.at.named)
 
 pub unread_reported : (words : List (List ℕ)) (request : Request) (name own page : List ℕ) (before after : Outside)
     → IsSound before.shelf → IsSound after.shelf → Runs words before after statuses.ReadFault
@@ -94,10 +76,7 @@ pub unread_reported : (words : List (List ℕ)) (request : Request) (name own pa
     → (course_of request).script ≡ Given own
     → ReportsFront (course_of request) (take after.shelf.taken page) before after
 unread_reported words request name own page before after sound sound_after runs asked paged holds alone =
-    let run = runs.request request asked in
-    unread_by (course_of request) name own page before after statuses.ReadFault sound sound_after run refl paged holds
-    alone run.ends
-    (at_end (course_of request) name own page before after statuses.ReadFault sound sound_after run refl paged holds alone)
+    unread_by (course_of request) name own page before after paged holds alone (runs.request request asked).ends
 
 pub too_long_reported : (words : List (List ℕ)) (request : Request) (name own page : List ℕ) (before after : Outside)
     → IsSound before.shelf → IsSound after.shelf → Runs words before after statuses.TooLong
@@ -105,9 +84,7 @@ pub too_long_reported : (words : List (List ℕ)) (request : Request) (name own 
     → (course_of request).script ≡ Given own
     → ReportsFront (course_of request) (take (2 ^ 24) page) before after
 too_long_reported words request name own page before after sound sound_after runs asked paged holds alone =
-    let run = runs.request request asked in
-    too_long_by (course_of request) name own page before after statuses.TooLong sound sound_after run refl paged holds
-    alone run.ends.which
+    too_long_by (course_of request) name own page before after paged holds alone (runs.request request asked).ends
 
 -- ---- the whole run
 
@@ -129,10 +106,10 @@ not_too_long course name page before after paged (inl ends) given few short = om
   arith,
   few,
   ends.longer page
-      (subst (λ n. Gives before.shelf n page) (name_in name ends.name (sym paged ∙ ends.named)) given),
+      (subst (λ n. Gives before.shelf n page) (name_in name ends.name (sym paged ∙ ends.first.named)) given),
 )
 not_too_long course name page before after paged (inr ends) given few short =
-    not_short before.shelf course.script ends.name ends.named ends.longer short
+    not_short before.shelf course.script ends.name ends.at.named ends.longer short
 
 -- it is read to its end, or there is a cause
 completes_by : (course : Course) (name page : List ℕ) (before after : Outside) (status : Status)
@@ -153,9 +130,9 @@ completes_by course name page before after statuses.WriteFault paged ends given 
 completes_by course name page before after statuses.NoMemory paged ends given few short shelf sink =
     inr (inr (inl (refl, ends.memory)))
 completes_by course name page before after statuses.TooLong paged ends given few short shelf sink =
-    absurd (not_too_long course name page before after paged ends.which given few short)
+    absurd (not_too_long course name page before after paged ends given few short)
 completes_by course name page before after statuses.NotSeven paged ends given few short shelf sink =
-    let same = name_in name ends.name (sym paged ∙ ends.named) in
+    let same = name_in name ends.name (sym paged ∙ ends.first.named) in
     inr (inr (inr (refl, ends.unreadable page (subst (λ n. Gives before.shelf n page) same given))))
 
 runs_by : (words : List (List ℕ)) (request : Request) (before after : Outside) (status : Status)

@@ -6,7 +6,7 @@ use Rattle.cept_run.specs.declared.words.NumberAction.TheVariants.{Generate, Loa
 use Rattle.cept_run.specs.declared.words.PageAction.TheVariants.{Cells, Changes, Check, List as ListItems, Show, Write}
 use Rattle.cept_run.specs.declared.words.ScriptAction.TheVariants.{Edit, Trace}
 use Rattle.cept_run.specs.Words.{Bytes, Drawing, Flash, Number, Page, Request, Script, request_of}
-use Rattle.cept_run.specs.Words.{asked_of_page, asked_of_phases, asked_of_script, asked_to_draw, asked_to_load}
+use Rattle.cept_run.specs.Words.{options_of_page, options_of_phases, options_of_script, options_to_draw, options_to_load}
 use Rattle.cept_run.specs.declared.words.Way.TheVariants as ways
 use Rattle.cept_run.specs.Words.{is_counted, is_painted, lists_changes, number_of}
 
@@ -101,7 +101,7 @@ turns = refl
 
 -- of a page: the changed cells and the refused items; the refused items and counts, or all items, and nothing is
 -- painted; the screen; its cells; the page
-of_pages : map asked_of_page (Changes ∷ Check ∷ ListItems ∷ Show ∷ Cells ∷ Write ∷ []) ≡
+of_pages : map options_of_page (Changes ∷ Check ∷ ListItems ∷ Show ∷ Cells ∷ Write ∷ []) ≡
     record { way = ways.PaintAndList; refusals = true; edits_listed = false; end = ends.Nothing }
     ∷ record { way = ways.Count; refusals = true; edits_listed = false; end = ends.Nothing }
     ∷ record { way = ways.List; refusals = true; edits_listed = false; end = ends.Nothing }
@@ -111,13 +111,13 @@ of_pages : map asked_of_page (Changes ∷ Check ∷ ListItems ∷ Show ∷ Cells
 of_pages = refl
 
 -- of a page and a script: the refused items and the changed cells of each edit; the page
-of_scripts : map asked_of_script (Trace ∷ Edit ∷ []) ≡
+of_scripts : map options_of_script (Trace ∷ Edit ∷ []) ≡
     record { way = ways.Paint; refusals = true; edits_listed = true; end = ends.Nothing }
     ∷ record { way = ways.Paint; refusals = false; edits_listed = false; end = ends.Page } ∷ []
 of_scripts = refl
 
 -- of a generated page the counts, of a page through turns its phases, of a page with a drawing the page
-of_others : asked_to_load ∷ asked_of_phases 0 ∷ asked_of_phases 600 ∷ asked_to_draw ∷ [] ≡
+of_others : options_to_load ∷ options_of_phases 0 ∷ options_of_phases 600 ∷ options_to_draw ∷ [] ≡
     record { way = ways.Paint; refusals = false; edits_listed = false; end = ends.Counts }
     ∷ record { way = ways.Paint; refusals = false; edits_listed = false; end = ends.Phases 0 }
     ∷ record { way = ways.Paint; refusals = false; edits_listed = false; end = ends.Phases 600 }

@@ -10,16 +10,16 @@ use Rattle.cept_generator.specs.Generated.{generated}
 use Rattle.cept_outside.specs.ShelfState.{ShelfState, Holds, Lacks}
 use Rattle.cept_parser.specs.Items.{items}
 use Rattle.cept_plot.specs.Drawings.{figures_of, first_fault as first_fault_of_drawing}
-use Rattle.cept_run.specs.declared.words.Asked.{Asked}
+use Rattle.cept_run.specs.declared.words.ReportOptions.{ReportOptions}
 use Rattle.cept_run.specs.declared.words.BytesAction.{BytesAction}
 use Rattle.cept_run.specs.declared.words.End.{End}
 use Rattle.cept_run.specs.declared.words.End.TheVariants as ends
 use Rattle.cept_run.specs.declared.words.NumberAction.{NumberAction}
 use Rattle.cept_run.specs.declared.words.NumberAction.TheVariants as numbers
 use Rattle.cept_run.specs.Events.{history, item_events, run_events, remaining_of, Sequel, Edits, Figures}
-use Rattle.cept_run.specs.Turned.{turned, turned_front, readable_front, can_end_there}
-use Rattle.cept_run.specs.Words.{Request, Page, Bytes, Script, Number, Flash, Drawing, asked_of_page, asked_of_script}
-use Rattle.cept_run.specs.Words.{asked_to_load, asked_of_phases, asked_to_draw, is_painted, lists_changes}
+use Rattle.cept_run.specs.Converted.{converted, converted_front, readable_front, can_end_there}
+use Rattle.cept_run.specs.Words.{Request, Page, Bytes, Script, Number, Flash, Drawing, options_of_page, options_of_script}
+use Rattle.cept_run.specs.Words.{options_to_load, options_of_phases, options_to_draw, is_painted, lists_changes}
 
 -- ---- what is read
 
@@ -37,11 +37,6 @@ Gives shelf name bytes =
 abbrev pub HasBytes : ShelfState → Source → List ℕ → Type 0
 HasBytes shelf (File name) bytes = (told : List ℕ) → Gives shelf name told → bytes ≡ told
 HasBytes shelf (Given own) bytes = bytes ≡ own
-
--- a source is the file of this name, if one is chosen
-abbrev pub IsNamed : Source → Option (List ℕ) → Type 0
-IsNamed (File name) chosen = chosen ≡ Some name
-IsNamed (Given own) chosen = ⊥
 
 -- no other name than this is selected, where that is told
 abbrev pub SelectsNoOther : List ℕ → ShelfState → Type 0
@@ -96,35 +91,35 @@ is_page ends.Page = true
 is_page _ = false
 
 -- nothing is put but the page, at the end
-abbrev pub puts_page : Asked → Bool
-puts_page asked =
-    is_painted asked.way && is_page asked.end && not (lists_changes asked.way) && not asked.refusals && not asked.edits_listed
+abbrev pub puts_page : ReportOptions → Bool
+puts_page options =
+    is_painted options.way && is_page options.end && not (lists_changes options.way) && not options.refusals && not options.edits_listed
 
 -- items are reported, and then what a script or a drawing says is done
-abbrev pub reporting : Asked → Grammar → Source → Source → Course
-reporting asked grammar page script = record {
+abbrev pub report_course : ReportOptions → Grammar → Source → Source → Course
+report_course options grammar page script = record {
   page = page;
   script = script;
   fault = first_fault_in grammar;
-  front_events = λ bytes. item_events asked (items bytes);
-  front_remaining = λ bytes. history asked (items bytes);
-  events = λ bytes lines shown. run_events asked bytes (sequel_in grammar lines) shown;
-  remaining = λ bytes lines. remaining_of asked bytes (sequel_in grammar lines);
+  front_events = λ bytes. item_events options (items bytes);
+  front_remaining = λ bytes. history options (items bytes);
+  events = λ bytes lines shown. run_events options bytes (sequel_in grammar lines) shown;
+  remaining = λ bytes lines. remaining_of options bytes (sequel_in grammar lines);
   readable_front = λ bytes. bytes;
   can_end = λ bytes. true;
   judged = true;
-  painting = is_painted asked.way;
-  written = puts_page asked;
+  painting = is_painted options.way;
+  written = puts_page options;
 }
 
 -- a text is put
 abbrev pub text_event : List ℕ → Event
 text_event text = record { before = []; after = []; text = text }
 
--- bytes are put as they are, whatever they say
-abbrev pub putting : List ℕ → Course
-putting page = record {
-  page = Given page;
+-- the bytes of a page are put as they are, whatever they say
+abbrev pub plain_course : Source → Course
+plain_course page = record {
+  page = page;
   script = Given [];
   fault = first_fault;
   front_events = λ bytes. text_event bytes ∷ [];
@@ -139,32 +134,24 @@ putting page = record {
 }
 
 -- a page of a file is put in seven bits, or in eight again
-abbrev pub turning : BytesAction → List ℕ → Course
-turning action page = record {
-  page = File page;
-  script = Given [];
-  fault = first_fault;
-  front_events = λ bytes. text_event (turned_front action bytes) ∷ [];
-  front_remaining = λ bytes. [];
-  events = λ bytes lines shown. text_event (turned action bytes) ∷ [];
-  remaining = λ bytes lines. [];
+abbrev pub conversion_course : BytesAction → List ℕ → Course
+conversion_course action page = record (plain_course (File page)) {
+  front_events = λ bytes. text_event (converted_front action bytes) ∷ [];
+  events = λ bytes lines shown. text_event (converted action bytes) ∷ [];
   readable_front = readable_front action;
   can_end = can_end_there action;
-  judged = false;
-  painting = false;
-  written = false;
 }
 
 -- of a generated page
 abbrev pub course_of_number : NumberAction → ℕ → Course
-course_of_number numbers.Generate number = putting (generated number)
-course_of_number numbers.Load number = reporting asked_to_load Scripts (Given (generated number)) (Given [])
+course_of_number numbers.Generate number = plain_course (Given (generated number))
+course_of_number numbers.Load number = report_course options_to_load Scripts (Given (generated number)) (Given [])
 
 -- the course of each request
 abbrev pub course_of : Request → Course
-course_of (Page action page) = reporting (asked_of_page action) Scripts (File page) (Given [])
-course_of (Bytes action page) = turning action page
-course_of (Script action page script) = reporting (asked_of_script action) Scripts (File page) (File script)
+course_of (Page action page) = report_course (options_of_page action) Scripts (File page) (Given [])
+course_of (Bytes action page) = conversion_course action page
+course_of (Script action page script) = report_course (options_of_script action) Scripts (File page) (File script)
 course_of (Number action number) = course_of_number action number
-course_of (Flash page turns) = reporting (asked_of_phases turns) Scripts (File page) (Given [])
-course_of (Drawing page drawing) = reporting asked_to_draw Drawings (File page) (File drawing)
+course_of (Flash page turns) = report_course (options_of_phases turns) Scripts (File page) (Given [])
+course_of (Drawing page drawing) = report_course options_to_draw Drawings (File page) (File drawing)

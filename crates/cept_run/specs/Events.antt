@@ -28,7 +28,7 @@ use Rattle.cept_editor.specs.Events.{Event, paints}
 use Rattle.cept_editor.specs.Kept.{KeptEdits, kept, remaining}
 use Rattle.cept_editor.specs.Script.{EditLine}
 use Rattle.cept_editor.specs.Stepping.{edit_events, line_events}
-use Rattle.cept_run.specs.declared.words.Asked.{Asked}
+use Rattle.cept_run.specs.declared.words.ReportOptions.{ReportOptions}
 use Rattle.cept_run.specs.declared.words.End.{End}
 use Rattle.cept_run.specs.declared.words.End.TheVariants as ends
 use Rattle.cept_run.specs.declared.words.Way.{Way}
@@ -38,8 +38,8 @@ use Rattle.cept_run.specs.Words.{is_painted}
 -- ---- items
 
 -- the commands that are applied of items
-abbrev pub history : Asked → List Item → List Command
-history asked items = if is_painted asked.way then commands_of items else []
+abbrev pub history : ReportOptions → List Item → List Command
+history options items = if is_painted options.way then commands_of items else []
 
 -- what is listed of an item whose command changes these places: its own line, or a line for each place
 abbrev pub listed_text : Way → Item → List (Place × Look) → List ℕ
@@ -53,27 +53,27 @@ named_text ways.List item reason = item_line item
 named_text _ item reason = refusal_line item.at item.len reason
 
 -- what is put of an item that changes these places
-abbrev pub text_of_said : Asked → Item → Said → List (Place × Look) → List ℕ
-text_of_said asked item (said.Command command) changes = listed_text asked.way item changes
-text_of_said asked item (said.Refused reason) changes = if asked.refusals then named_text asked.way item reason else []
+abbrev pub text_of_said : ReportOptions → Item → Said → List (Place × Look) → List ℕ
+text_of_said options item (said.Command command) changes = listed_text options.way item changes
+text_of_said options item (said.Refused reason) changes = if options.refusals then named_text options.way item reason else []
 
 -- an item that comes with these commands before it and these after it
-abbrev pub event_between : Asked → Item → List Command → List Command → Event
-event_between asked item before after = record {
+abbrev pub event_between : ReportOptions → Item → List Command → List Command → Event
+event_between options item before after = record {
   before = before;
   after = after;
-  text = text_of_said asked item item.what (changes_between (grid before) (grid after));
+  text = text_of_said options item item.what (changes_between (grid before) (grid after));
 }
 
 -- an item that comes after these
-abbrev pub item_event : Asked → List Item → Item → Event
-item_event asked earlier item =
-    event_between asked item (history asked earlier) (history asked (earlier ++ item ∷ []))
+abbrev pub item_event : ReportOptions → List Item → Item → Event
+item_event options earlier item =
+    event_between options item (history options earlier) (history options (earlier ++ item ∷ []))
 
 -- each of these items, after those before it
-unfoldable pub item_events : Asked → List Item → List Event
-item_events asked items =
-    map (λ numbered. item_event asked (take numbered.0 items) numbered.1) (enumerate_from 0 items)
+unfoldable pub item_events : ReportOptions → List Item → List Event
+item_events options items =
+    map (λ numbered. item_event options (take numbered.0 items) numbered.1) (enumerate_from 0 items)
 
 -- ---- refusals, and the end
 
@@ -90,18 +90,18 @@ abbrev pub rows_after : List Command → ℕ
 rows_after commands = (control commands).rows
 
 -- how many places are painted at these items
-abbrev pub painted_at : Asked → List Item → ℕ
-painted_at asked items = length (paints (item_events asked items))
+abbrev pub painted_count : ReportOptions → List Item → ℕ
+painted_count options items = length (paints (item_events options items))
 
 -- what is put at the end of a page that was painted, where these commands remain and the glass shows this grid
-abbrev pub painted_end : End → Asked → List (List Look) → List ℕ → List Command → List ℕ
-painted_end ends.Nothing asked shown page commands = []
-painted_end ends.Screen asked shown page commands = screen_text shown (rows_after commands)
-painted_end ends.Cells asked shown page commands = cells_text shown (rows_after commands)
-painted_end ends.Page asked shown page commands = page_text (core commands)
-painted_end ends.Counts asked shown page commands =
-    load_line (length page) (length (closed_items page)) (painted_at asked (closed_items page))
-painted_end (ends.Phases turns) asked shown page commands = phase_lines (grid commands) turns
+abbrev pub painted_end : End → ReportOptions → List (List Look) → List ℕ → List Command → List ℕ
+painted_end ends.Nothing options shown page commands = []
+painted_end ends.Screen options shown page commands = screen_text shown (rows_after commands)
+painted_end ends.Cells options shown page commands = cells_text shown (rows_after commands)
+painted_end ends.Page options shown page commands = page_text (core commands)
+painted_end ends.Counts options shown page commands =
+    load_line (length page) (length (closed_items page)) (painted_count options (closed_items page))
+painted_end (ends.Phases turns) options shown page commands = phase_lines (grid commands) turns
 
 -- what is put at the end of a page that wasn't painted: how many items there are and how many are refused, where these
 -- are counted
@@ -110,17 +110,17 @@ counts_text ways.Count items refused = check_line items refused
 counts_text _ items refused = []
 
 -- what is put at the end of a page
-abbrev pub text_at_end : Asked → List (List Look) → List ℕ → List Command → List ℕ
-text_at_end asked shown page commands =
-    if is_painted asked.way then painted_end asked.end asked shown page commands
-    else counts_text asked.way (length (closed_items page)) (refused_count (closed_items page))
+abbrev pub text_at_end : ReportOptions → List (List Look) → List ℕ → List Command → List ℕ
+text_at_end options shown page commands =
+    if is_painted options.way then painted_end options.end options shown page commands
+    else counts_text options.way (length (closed_items page)) (refused_count (closed_items page))
 
 -- the end of a page, where these commands remain and the glass shows this grid: it changes nothing
-abbrev pub end_event : Asked → List (List Look) → List ℕ → List Command → Event
-end_event asked shown page commands = record {
+abbrev pub end_event : ReportOptions → List (List Look) → List ℕ → List Command → Event
+end_event options shown page commands = record {
   before = commands;
   after = commands;
-  text = text_at_end asked shown page commands;
+  text = text_at_end options shown page commands;
 }
 
 -- ---- edit lines
@@ -168,17 +168,17 @@ remaining_after page (Figures figures) = page ++ drawing_commands page figures
 -- ---- a whole run
 
 -- the commands that remain after a page and what is done after it
-abbrev pub remaining_of : Asked → List ℕ → Sequel → List Command
-remaining_of asked page sequel = remaining_after (history asked (closed_items page)) sequel
+abbrev pub remaining_of : ReportOptions → List ℕ → Sequel → List Command
+remaining_of options page sequel = remaining_after (history options (closed_items page)) sequel
 
 -- the events of a page that is read to its end, and of what is done after it
-abbrev pub edited_events : Asked → List Item → Sequel → List Event
-edited_events asked items sequel =
-    item_events asked items ++ sequel_events asked.edits_listed (history asked items) sequel
+abbrev pub edited_events : ReportOptions → List Item → Sequel → List Event
+edited_events options items sequel =
+    item_events options items ++ sequel_events options.edits_listed (history options items) sequel
 
 -- all events of a run over a page that is read to its end, and over what is done after it, where the glass shows this grid
 -- at the end
-abbrev pub run_events : Asked → List ℕ → Sequel → List (List Look) → List Event
-run_events asked page sequel shown =
-    edited_events asked (closed_items page) sequel
-    ++ end_event asked shown page (remaining_of asked page sequel) ∷ []
+abbrev pub run_events : ReportOptions → List ℕ → Sequel → List (List Look) → List Event
+run_events options page sequel shown =
+    edited_events options (closed_items page) sequel
+    ++ end_event options shown page (remaining_of options page sequel) ∷ []

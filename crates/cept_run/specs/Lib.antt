@@ -1,7 +1,8 @@
 pub mod Words
-pub mod Turned
+pub mod Converted
 pub mod Events
 pub mod Outside
+pub mod Taking
 pub mod Course
 pub mod Run
 pub mod Reporting

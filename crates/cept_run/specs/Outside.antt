@@ -1,5 +1,5 @@
 -- What a run has from outside: a shelf to read, a sink to put into, and a glass to paint on. This project's own.
-use Rattle.std.specs.Prelude.{◌≡◌, ◌⊎◌, ◌<◌, ◌≤◌, ℕ, false, true, List, ◌++◌, length}
+use Rattle.std.specs.Prelude.{◌≡◌, ◌⊎◌, ◌≤◌, ℕ, false, true, List, length}
 use Rattle.std.specs.Io.KnownBytes.{append_known}
 use Rattle.cept_outside.specs.ShelfState.{ShelfState}
 use Rattle.cept_outside.specs.Causes.{Rose}
@@ -21,6 +21,11 @@ outside_of shelf sink glass = record { shelf = shelf; sink = sink; glass = glass
 abbrev pub output : Outside → Output
 output o = output_of o.sink o.glass
 
+-- all bytes of what is selected were taken, these, up to where the shelf said that there are no more
+pub record AreAllTaken (bytes : List ℕ) (shelf : ShelfState) : Type 0 where
+  pub taken : shelf.taken ≡ length bytes
+  pub ended : shelf.ended ≡ true
+
 -- a text was put whole and then flushed, once
 pub record PutsWhole (text : List ℕ) (before after : SinkState) : Type 0 where
   pub put : after.bytes ≡ append_known before.bytes text
@@ -30,17 +35,12 @@ pub record PutsWhole (text : List ℕ) (before after : SinkState) : Type 0 where
   pub flushes : after.flushes ≡ one_more before.flushes
   pub stays : after.faults ≡ before.faults
 
--- a text was put and the sink failed: a part of it was put, from its front on; or the whole, and the flush failed, as it
--- can
+-- a front of a text was put: a part of it, and not the whole; or all, where a flush can fail
+abbrev pub PutsFront : List ℕ → SinkState → SinkState → Type 0
+PutsFront text before after = GainsPart before text after ⊎ (Gains before text after × (before.always_flushes ≡ false))
+
+-- it was put, and the sink failed
 pub record PutsUnflushed (text : List ℕ) (before after : SinkState) : Type 0 where
   pub cause : Rose before.faults after.faults
   pub later : before.faults ≤ after.faults
-  pub put : GainsPart before text after ⊎ (Gains before text after × (before.always_flushes ≡ false))
-
--- a front of a text was put: a part of it; or all, where a flush can fail
-pub record PutsFront (text : List ℕ) (before after : SinkState) : Type 0 where
-  pub part : List ℕ
-  pub rest : List ℕ
-  pub is : part ++ rest ≡ text
-  pub short : before.always_flushes ≡ true → 0 < length rest
-  pub put : Gains before part after
+  pub put : PutsFront text before after

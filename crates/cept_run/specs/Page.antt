@@ -1,8 +1,7 @@
 -- How the reading of a selected page ends, and that of a generated one. The bytes that were read are those of the page,
 -- where the shelf tells it. This project's own. Private clauses alone cite this file.
-use Rattle.std.specs.Prelude.{◌≡◌, ◌⊎◌, ℕ, ◌^◌, ◌<◌, ◌≤◌, min, Bool, true, false, List, ◌++◌, length, take, Some, Result, Ok, Err}
+use Rattle.std.specs.Prelude.{◌≡◌, ◌⊎◌, ℕ, ◌^◌, ◌≤◌, min, Bool, List, ◌++◌, length, take, Result, Ok, Err}
 use Rattle.cept_codes.specs.declared.item.Item.{Item}
-use Rattle.cept_outside.specs.Causes.{Rose}
 use Rattle.cept_outside.specs.ShelfState.{ShelfState, KeepsFiles}
 use Rattle.cept_outside.specs.SinkState.{SinkState}
 use Rattle.cept_parser.specs.Items.{items, closed_items}
@@ -13,76 +12,56 @@ use Rattle.cept_editor.specs.Made.{Output, AreMade, AreCutOff}
 use Rattle.cept_generator.specs.Generated.{generated}
 use Rattle.cept_run.specs.Outside.{Outside, output, PutsWhole, PutsUnflushed}
 use Rattle.cept_run.specs.Reporting.{Plan, ReporterState, HasReported}
+use Rattle.cept_run.specs.Taking.{AreLeft, TakesWhole, TakesUnread, TakesTooMany, TakesFront}
 
 -- it was read to its end, and has so many bytes
 pub record PageWhole (plan : Plan) (count : ℕ) (reporter : ReporterState) (before after : Outside) : Type 0 where
   pub bytes : List ℕ
   pub count_is : count ≡ length bytes
-  pub known : (page : List ℕ) → before.shelf.left ≡ Some page → bytes ≡ page
+  pub takes : TakesWhole (AreLeft before.shelf) (2 ^ 24) bytes before.shelf after.shelf
   pub reported : HasReported plan reporter (closed_items bytes) (output before) (output after)
-  -- all were taken, at most 2^24, the shelf said that this is its end, and no fault was counted
-  pub taken : after.shelf.taken ≡ length bytes
-  pub ended : after.shelf.ended ≡ true
-  pub few : length bytes ≤ 2 ^ 24
-  pub stays : after.shelf.faults ≡ before.shelf.faults
 
 -- the shelf failed
 pub record PageUnread (plan : Plan) (before after : Outside) : Type 0 where
-  pub cause : Rose before.shelf.faults after.shelf.faults
+  pub takes : TakesUnread (2 ^ 24) before.shelf after.shelf
   pub bytes : List ℕ
   pub taken : after.shelf.taken ≡ length bytes
-  pub known : (page : List ℕ) → before.shelf.left ≡ Some page → bytes ≡ take after.shelf.taken page
-  pub made : AreMade (item_events plan.asked (items bytes)) (output before) (output after)
+  pub known : (page : List ℕ) → AreLeft before.shelf page → bytes ≡ take after.shelf.taken page
+  pub made : AreMade (item_events plan.options (items bytes)) (output before) (output after)
   pub stays : after.sink.faults ≡ before.sink.faults
-  -- at most 2^24 bytes were taken, and its end isn't known
-  pub few : length bytes ≤ 2 ^ 24
-  pub unended : after.shelf.ended ≡ false
 
 -- the sink failed at an item of the bytes that were taken, of which 2^24 are reported at most
 pub record PageUnput (plan : Plan) (before after : Outside) : Type 0 where
   pub bytes : List ℕ
-  pub taken : after.shelf.taken ≡ length bytes
+  pub takes : TakesFront bytes before.shelf after.shelf
   pub front : List Item
   pub front_is : front ≡ items (take (min after.shelf.taken (2 ^ 24)) bytes)
-  -- the bytes are those of the page, where it is told; these items begin those of the bytes, and those of the page
-  pub known : (page : List ℕ) → before.shelf.left ≡ Some page
-      → (after.shelf.taken ≤ length page) × (bytes ≡ take after.shelf.taken page)
+  -- these items begin those of the bytes, and those of the page, where it is told
   pub are : (others : List Item) × (closed_items bytes ≡ front ++ others)
-  pub there : (page : List ℕ) → before.shelf.left ≡ Some page → (others : List Item)
-      × (closed_items page ≡ front ++ others)
-  pub cut : AreCutOff (item_events plan.asked front) (output before) (output after)
-  pub unended : after.shelf.ended ≡ false
-  pub stays : after.shelf.faults ≡ before.shelf.faults
+  pub there : (page : List ℕ) → AreLeft before.shelf page → (others : List Item) × (closed_items page ≡ front ++ others)
+  pub cut : AreCutOff (item_events plan.options front) (output before) (output after)
 
 -- the sink failed at an item that the end of the page closes
 pub record PageUnputAtEnd (plan : Plan) (before after : Outside) : Type 0 where
   pub bytes : List ℕ
-  pub taken : after.shelf.taken ≡ length bytes
-  pub known : (page : List ℕ) → before.shelf.left ≡ Some page → bytes ≡ page
-  pub few : length bytes ≤ 2 ^ 24
-  pub cut : AreCutOff (item_events plan.asked (closed_items bytes)) (output before) (output after)
-  pub ended : after.shelf.ended ≡ true
-  pub stays : after.shelf.faults ≡ before.shelf.faults
+  pub takes : TakesWhole (AreLeft before.shelf) (2 ^ 24) bytes before.shelf after.shelf
+  pub cut : AreCutOff (item_events plan.options (closed_items bytes)) (output before) (output after)
 
 -- it has more than 2^24 bytes
 pub record PageTooLong (plan : Plan) (before after : Outside) : Type 0 where
-  pub cause : 2 ^ 24 < after.shelf.taken
+  pub takes : TakesTooMany (AreLeft before.shelf) (2 ^ 24) before.shelf after.shelf
   pub bytes : List ℕ
   pub count : length bytes ≡ 2 ^ 24
-  pub known : (page : List ℕ) → before.shelf.left ≡ Some page → (2 ^ 24 < length page) × (bytes ≡ take (2 ^ 24) page)
-  pub made : AreMade (item_events plan.asked (items bytes)) (output before) (output after)
-  -- no fault was counted
-  pub shelf_stays : after.shelf.faults ≡ before.shelf.faults
-  pub sink_stays : after.sink.faults ≡ before.sink.faults
+  pub known : (page : List ℕ) → AreLeft before.shelf page → bytes ≡ take (2 ^ 24) page
+  pub made : AreMade (item_events plan.options (items bytes)) (output before) (output after)
+  pub stays : after.sink.faults ≡ before.sink.faults
 
 -- it wasn't read to its end, for this reason
 abbrev pub PageStops : Plan → Outside → Stop → Outside → Type 0
 PageStops plan before stops.ReadFault after = PageUnread plan before after
 PageStops plan before stops.WriteFault after = PageUnput plan before after ⊎ PageUnputAtEnd plan before after
 PageStops plan before stops.TooLong after = PageTooLong plan before after
-PageStops plan before stops.Script after = ⊥
-PageStops plan before stops.NoMemory after = ⊥
-PageStops plan before stops.NotSeven after = ⊥
+PageStops plan before _ after = ⊥
 
 -- how its reading ends
 abbrev pub PageEnds : Plan → Outside → Result ℕ Stop → ReporterState → Outside → Type 0
@@ -94,7 +73,7 @@ abbrev pub ReadsGenerated : {E : Type 0} → Plan → ℕ → Output → Result 
 ReadsGenerated plan number before (Ok count) reporter after =
     (count ≡ length (generated number)) × HasReported plan reporter (closed_items (generated number)) before after
 ReadsGenerated plan number before (Err _) reporter after =
-    AreCutOff (item_events plan.asked (closed_items (generated number))) before after
+    AreCutOff (item_events plan.options (closed_items (generated number))) before after
 
 -- however it ends, the files and the selection stay, and no count of faults falls
 pub record KeepsShelf (before after : ShelfState) : Type 0 where

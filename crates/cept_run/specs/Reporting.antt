@@ -12,18 +12,17 @@ use Rattle.cept_profile.specs.Look.{grid}
 use Rattle.cept_profile.specs.State.{State, state}
 use Rattle.cept_profile.specs.Valid.{AllValid}
 use Rattle.cept_repaint.specs.GlassState.{GlassState, Lists}
-use Rattle.cept_editor.specs.Kept.{KeptEdits, none_kept, kept_after, EditorState, StandsAfter}
+use Rattle.cept_editor.specs.Kept.{none_kept, EditorState, StandsAfter}
 use Rattle.cept_editor.specs.Made.{Output, ArePainted, AreMade, AreCutOff}
 use Rattle.cept_editor.specs.Script.{EditLine}
-use Rattle.cept_editor.specs.Stepping.{line_events}
 use Rattle.cept_plot.specs.declared.figure.Figure.{Figure}
-use Rattle.cept_run.specs.declared.easel.Easel.{Easel}
-use Rattle.cept_run.specs.declared.easel.Easel.TheVariants as easels
-use Rattle.cept_run.specs.declared.words.Asked.{Asked}
+use Rattle.cept_run.specs.declared.target.Target.{Target}
+use Rattle.cept_run.specs.declared.target.Target.TheVariants as targets
+use Rattle.cept_run.specs.declared.words.ReportOptions.{ReportOptions}
 use Rattle.cept_run.specs.declared.words.End.{End}
 use Rattle.cept_run.specs.declared.words.End.TheVariants as ends
 use Rattle.cept_run.specs.Words.{is_counted, is_painted}
-use Rattle.cept_run.specs.Events.{history, item_events, refused_count, painted_at, kept_of, script_events}
+use Rattle.cept_run.specs.Events.{history, item_events, refused_count, painted_count, kept_of, script_events}
 use Rattle.cept_run.specs.Events.{edited_events}
 use Rattle.cept_run.specs.Events.{Sequel, Edits, Figures, nothing_more, drawing_commands, sequel_events}
 use Rattle.cept_run.specs.Events.{remaining_after}
@@ -35,9 +34,9 @@ abbrev pub HasBlink : End → Option FlashingGrid → Type 0
 HasBlink (ends.Phases turns) blink = IsSome blink
 HasBlink _ blink = Unit {0}
 
--- what is done with a page, and after it by the script or the drawing that is asked for beside it, if one is
+-- how a page is reported, and what is done after it by the script or the drawing, if there is one
 pub record Plan : Type 0 where
-  pub asked : Asked
+  pub options : ReportOptions
   pub sequel : Option Sequel
 
 -- what is done after it, if anything is
@@ -47,104 +46,92 @@ sequel_if_any (Some sequel) = sequel
 
 -- what is done after it: where nothing is painted, nothing
 abbrev pub sequel_of : Plan → Sequel
-sequel_of plan = if is_painted plan.asked.way then sequel_if_any plan.sequel else nothing_more
+sequel_of plan = if is_painted plan.options.way then sequel_if_any plan.sequel else nothing_more
 
--- what is asked for, what commands are applied to, how many items there were and were refused, and how many places were
+-- the options, what commands are applied to, how many items there were and were refused, and how many places were
 -- painted, where these are counted
 pub record ReporterState : Type 0 where
-  pub asked : Asked
-  pub easel : Easel
+  pub options : ReportOptions
+  pub target : Target
   pub items : ℕ
   pub refused : ℕ
   pub painted : ℕ
 
 -- what the commands of a page are applied to, after these: where there is a script, a screen whose edits can be taken back;
 -- where there is a drawing, a screen and the drawing
-abbrev pub painted_easel : Option Sequel → List Command → Easel
-painted_easel None commands = easels.Screen (state commands)
-painted_easel (Some (Edits lines)) commands =
-    easels.Editor (record { screen = state commands; past = []; future = [] }) lines
-painted_easel (Some (Figures figures)) commands = easels.Drawing (state commands) figures
+abbrev pub painted_target : Option Sequel → List Command → Target
+painted_target None commands = targets.Screen (state commands)
+painted_target (Some (Edits lines)) commands =
+    targets.Editor (record { screen = state commands; past = []; future = [] }) lines
+painted_target (Some (Figures figures)) commands = targets.Drawing (state commands) figures
 
 -- what commands are applied to, after these
-abbrev pub easel_at : Plan → List Command → Easel
-easel_at plan commands = if is_painted plan.asked.way then painted_easel plan.sequel commands else easels.Nothing
+abbrev pub target_at : Plan → List Command → Target
+target_at plan commands = if is_painted plan.options.way then painted_target plan.sequel commands else targets.Nothing
 
 -- the screen, where there is one
-abbrev pub screen_of : Easel → Option State
-screen_of easels.Nothing = None
-screen_of (easels.Screen screen) = Some screen
-screen_of (easels.Editor editor lines) = Some editor.screen
-screen_of (easels.Drawing screen figures) = Some screen
+abbrev pub screen_of : Target → Option State
+screen_of targets.Nothing = None
+screen_of (targets.Screen screen) = Some screen
+screen_of (targets.Editor editor lines) = Some editor.screen
+screen_of (targets.Drawing screen figures) = Some screen
 
 -- what is done after a page, where there is a script or a drawing
-abbrev pub sequel_at : Easel → Option Sequel
-sequel_at easels.Nothing = None
-sequel_at (easels.Screen screen) = None
-sequel_at (easels.Editor editor lines) = Some (Edits lines)
-sequel_at (easels.Drawing screen figures) = Some (Figures figures)
+abbrev pub sequel_at : Target → Option Sequel
+sequel_at (targets.Editor editor lines) = Some (Edits lines)
+sequel_at (targets.Drawing screen figures) = Some (Figures figures)
+sequel_at _ = None
 
 -- the plan by which it reports
 abbrev pub plan_in : ReporterState → Plan
-plan_in reporter = record { asked = reporter.asked; sequel = sequel_at reporter.easel }
+plan_in reporter = record { options = reporter.options; sequel = sequel_at reporter.target }
 
 -- what is counted of so many painted places
-abbrev pub counted_of : Asked → ℕ → ℕ
-counted_of asked places = if is_counted asked.end then places else 0
+abbrev pub counted_places : ReportOptions → ℕ → ℕ
+counted_places options places = if is_counted options.end then places else 0
 
--- it stands after these items, of which this is asked
+-- it stands after these items
 pub record Stands (plan : Plan) (reporter : ReporterState) (reported : List Item) : Type 0 where
-  pub asked_is : reporter.asked ≡ plan.asked
-  pub valid : AllValid (history plan.asked reported)
-  pub easel : reporter.easel ≡ easel_at plan (history plan.asked reported)
+  pub options_are : reporter.options ≡ plan.options
+  pub valid : AllValid (history plan.options reported)
+  pub target : reporter.target ≡ target_at plan (history plan.options reported)
   pub items : reporter.items ≡ length reported
   pub refused : reporter.refused ≡ refused_count reported
-  pub painted : reporter.painted ≡ counted_of plan.asked (painted_at plan.asked reported)
+  pub painted : reporter.painted ≡ counted_places plan.options (painted_count plan.options reported)
 
 -- from a start to now it has reported these items, and no fault was counted
 pub record HasReported (plan : Plan) (reporter : ReporterState) (reported : List Item) (start now : Output) : Type
     0 where
   pub stands : Stands plan reporter reported
-  pub made : AreMade (item_events plan.asked reported) start now
+  pub made : AreMade (item_events plan.options reported) start now
   pub stays : now.sink.faults ≡ start.sink.faults
 
 -- a command was applied after these, where they are painted
 pub record IsAppliedAfter (sequel : Option Sequel) (earlier : List Command) (command : Command) (before : GlassState)
-    (easel : Easel) (marks : List Bool) (after : GlassState) : Type 0 where
-  pub easel_is : easel ≡ painted_easel sequel (earlier ++ command ∷ [])
+    (target : Target) (marks : List Bool) (after : GlassState) : Type 0 where
+  pub target_is : target ≡ painted_target sequel (earlier ++ command ∷ [])
   pub marked : marks ≡ differences (grid earlier) (grid (earlier ++ command ∷ []))
   pub told : Lists before.paints (changes earlier command) after.paints
   pub shown : after.grid ≡ grid_with_paints before.grid (changes earlier command)
 
 -- a command is applied, where there is a screen
-pub record AppliesOn (old : Easel) (command : Command) (before : GlassState) (new : Easel) (marks : List Bool)
+pub record AppliesOn (old : Target) (command : Command) (before : GlassState) (new : Target) (marks : List Bool)
     (after : GlassState) : Type 0 where
   pub painted : (sequel : Option Sequel) (earlier : List Command) → AllValid earlier
-      → old ≡ painted_easel sequel earlier → IsAppliedAfter sequel earlier command before new marks after
-  pub idle : old ≡ easels.Nothing → (new ≡ easels.Nothing) × (after ≡ before)
+      → old ≡ painted_target sequel earlier → IsAppliedAfter sequel earlier command before new marks after
+  pub idle : old ≡ targets.Nothing → (new ≡ targets.Nothing) × (after ≡ before)
 
 -- it goes on by these items: all are reported, or the sink failed at one
 pub record ReportsOn {X E : Type 0} (old : ReporterState) (more : List Item) (before : Output) (result : Result X E)
     (new : ReporterState) (after : Output) : Type 0 where
+  pub options : new.options ≡ old.options
   pub counted : new.items ≤ old.items + length more
   pub reported : OnOk result ((plan : Plan) (earlier : List Item) (start : Output)
       → HasReported plan old earlier start before → HasReported plan new (earlier ++ more) start after)
   pub cut : OnErr result ((plan : Plan) (earlier : List Item) (start : Output)
-      → HasReported plan old earlier start before → AreCutOff (item_events plan.asked (earlier ++ more)) start after)
+      → HasReported plan old earlier start before → AreCutOff (item_events plan.options (earlier ++ more)) start after)
 
 -- ---- edits
-
--- an edit line is made after whatever page and kept edits an editor stands: exactly its events are made, or the sink
--- failed at one
-pub record MakesLine {X E : Type 0} (listed : Bool) (edit : EditLine) (old : EditorState) (before : Output)
-    (result : Result X E) (new : EditorState) (after : Output) : Type 0 where
-  pub stands : OnOk result ((page : List Command) (k : KeptEdits) → StandsAfter old page k
-      → StandsAfter new page (kept_after k edit.step))
-  pub made : OnOk result ((page : List Command) (k : KeptEdits) → StandsAfter old page k
-      → AreMade (line_events listed edit.line page k edit.step) before after)
-  pub stays : OnOk result (after.sink.faults ≡ before.sink.faults)
-  pub cut : OnErr result ((page : List Command) (k : KeptEdits) → StandsAfter old page k
-      → AreCutOff (line_events listed edit.line page k edit.step) before after)
 
 -- after a page these edit lines were made
 pub record HasMadeLines (listed : Bool) (page : List Command) (lines : List EditLine) (editor : EditorState)
@@ -179,23 +166,23 @@ Draws figures old before new after =
 
 -- the commands that remain at the end, after these items
 abbrev pub remaining_at_end : Plan → List Item → List Command
-remaining_at_end plan reported = remaining_after (history plan.asked reported) (sequel_of plan)
+remaining_at_end plan reported = remaining_after (history plan.options reported) (sequel_of plan)
 
 -- at the end these commands remain after these items
 pub record StandsAtEnd (plan : Plan) (reporter : ReporterState) (reported : List Item) : Type 0 where
-  pub asked_is : reporter.asked ≡ plan.asked
-  pub screen : screen_of reporter.easel
-      ≡ (if is_painted plan.asked.way then Some (state (remaining_at_end plan reported)) else None)
+  pub options_are : reporter.options ≡ plan.options
+  pub screen : screen_of reporter.target
+      ≡ (if is_painted plan.options.way then Some (state (remaining_at_end plan reported)) else None)
   pub items : reporter.items ≡ length reported
   pub refused : reporter.refused ≡ refused_count reported
-  pub painted : reporter.painted ≡ counted_of plan.asked (painted_at plan.asked reported)
+  pub painted : reporter.painted ≡ counted_places plan.options (painted_count plan.options reported)
 
 -- from a start to now it has reported these items and done all that comes after them, and no fault was counted
 pub record HasEdited (plan : Plan) (reporter : ReporterState) (reported : List Item) (start now : Output) : Type
     0 where
   pub stands : StandsAtEnd plan reporter reported
   pub valid : AllValid (remaining_at_end plan reported)
-  pub made : AreMade (edited_events plan.asked reported (sequel_of plan)) start now
+  pub made : AreMade (edited_events plan.options reported (sequel_of plan)) start now
   pub stays : now.sink.faults ≡ start.sink.faults
 
 -- it makes the edits, if there are some, or draws the drawing: all are made, or the sink failed at one
@@ -206,7 +193,7 @@ pub record EditsOn {X E : Type 0} (old : ReporterState) (before : Output) (resul
       → HasReported plan old reported start before → HasEdited plan new reported start after)
   pub cut : OnErr result ((plan : Plan) (reported : List Item) (start : Output)
       → HasReported plan old reported start before
-      → AreCutOff (edited_events plan.asked reported (sequel_of plan)) start after)
+      → AreCutOff (edited_events plan.options reported (sequel_of plan)) start after)
 
 -- ---- the decoder of bytes
 
@@ -228,7 +215,7 @@ pub record ReadsOn {X E : Type 0} (old : DecoderState) (more : List ℕ) (before
   pub read : OnOk result ((plan : Plan) (bytes : List ℕ) (start : Output)
       → HasRead plan old bytes start before → HasRead plan new (bytes ++ more) start after)
   pub cut : OnErr result ((plan : Plan) (bytes : List ℕ) (start : Output)
-      → HasRead plan old bytes start before → AreCutOff (item_events plan.asked (items (bytes ++ more))) start after)
+      → HasRead plan old bytes start before → AreCutOff (item_events plan.options (items (bytes ++ more))) start after)
 
 -- it ends: the item that is left is reported too, or the sink failed at it
 pub record ReadsToEnd {X E : Type 0} (old : DecoderState) (before : Output) (result : Result X E) (new : DecoderState)
@@ -236,4 +223,4 @@ pub record ReadsToEnd {X E : Type 0} (old : DecoderState) (before : Output) (res
   pub reported : OnOk result ((plan : Plan) (bytes : List ℕ) (start : Output)
       → HasRead plan old bytes start before → HasReported plan new.reporter (closed_items bytes) start after)
   pub cut : OnErr result ((plan : Plan) (bytes : List ℕ) (start : Output)
-      → HasRead plan old bytes start before → AreCutOff (item_events plan.asked (closed_items bytes)) start after)
+      → HasRead plan old bytes start before → AreCutOff (item_events plan.options (closed_items bytes)) start after)

@@ -9,7 +9,7 @@ use Rattle.cept_editor.specs.Made.{ArePainted, AreMade, AreCutOff}
 use Rattle.cept_words.specs.Faults.{Fault}
 use Rattle.cept_outside.specs.Causes.{Rose}
 use Rattle.cept_outside.specs.ShelfState.{ShelfState, Holds, KeepsFiles, bytes_under}
-use Rattle.cept_outside.specs.SinkState.{HasPut, count_after, one_more}
+use Rattle.cept_outside.specs.SinkState.{HasPut}
 use Rattle.cept_parser.specs.Items.{closed_items, commands, is_refusal}
 use Rattle.cept_profile.specs.Changes.{grid_with_paints}
 use Rattle.cept_profile.specs.Look.{grid}
@@ -19,9 +19,9 @@ use Rattle.cept_run.specs.declared.page.Stop.{Stop}
 use Rattle.cept_run.specs.declared.page.Stop.TheVariants as stops
 use Rattle.cept_run.specs.declared.run.Status.{Status}
 use Rattle.cept_run.specs.declared.run.Status.TheVariants as statuses
-use Rattle.cept_run.specs.Course.{Course, Source, File, Given, Gives, HasBytes, IsNamed, SelectsNoOther, course_of}
+use Rattle.cept_run.specs.Course.{Course, Source, File, Given, Gives, HasBytes, SelectsNoOther, course_of}
 use Rattle.cept_run.specs.Events.{has_refusal}
-use Rattle.cept_run.specs.Outside.{Outside, output, PutsUnflushed, PutsFront}
+use Rattle.cept_run.specs.Outside.{Outside, output, AreAllTaken, PutsWhole, PutsFront}
 use Rattle.cept_run.specs.Words.{Request, request_of}
 
 -- the page was read to its end
@@ -29,12 +29,6 @@ abbrev pub is_whole : Status → Bool
 is_whole statuses.Done = true
 is_whole statuses.Refusals = true
 is_whole _ = false
-
--- the run ended before the outside was touched, or with a script for which there is no memory
-abbrev pub is_early : Status → Bool
-is_early statuses.Usage = true
-is_early statuses.NoMemory = true
-is_early _ = false
 
 -- the run ended with a flush
 abbrev pub is_flushed : Status → Bool
@@ -55,12 +49,8 @@ report_of course page script = report (course.events page script (grid (course.r
 
 -- a page and a script that were read to their ends
 pub record ReportsWhole (course : Course) (page script : List ℕ) (before after : Outside) : Type 0 where
-  -- the whole report was put
-  pub put : after.sink.bytes
-      ≡ append_known before.sink.bytes (report (course.events page script after.glass.grid))
-  -- its bytes were counted
-  pub counted : after.sink.count
-      ≡ count_after before.sink.count (length (report (course.events page script after.glass.grid)))
+  -- the whole report was put, and then flushed
+  pub put : PutsWhole (report (course.events page script after.glass.grid)) before.sink after.sink
   -- exactly the changes of the events were painted, in their order
   pub painted : ArePainted (course.events page script after.glass.grid) before.glass after.glass
   -- so a glass that was blank shows after the paints of each event what the commands mean that remain after it
@@ -101,79 +91,68 @@ pub record EndsWhole (course : Course) (before after : Outside) (refused : Bool)
   pub good : course.fault script ≡ None
   pub page_not_too_long : length page ≤ 2 ^ 24
   pub script_not_too_long : length script ≤ 2 ^ 20
-  -- of a page in a file all bytes were taken, up to where the shelf said that there are no more, and no other is selected
-  pub taken : (name : List ℕ) → course.page ≡ File name
-      → (after.shelf.taken ≡ length page) × (after.shelf.ended ≡ true)
-  pub selected : (name : List ℕ) → course.page ≡ File name → SelectsNoOther name after.shelf
-  pub flushed : after.sink.unflushed ≡ false
-  pub flushes : after.sink.flushes ≡ one_more before.sink.flushes
-  -- no fault was counted on the way
-  pub shelf_stays : after.shelf.faults ≡ before.shelf.faults
-  pub sink_stays : after.sink.faults ≡ before.sink.faults
+  -- of a page in a file all bytes were taken, and no other is selected
+  pub taken : (name : List ℕ) → course.page ≡ File name → AreAllTaken page after.shelf × SelectsNoOther name after.shelf
 
--- a script of this name has a line outside the grammar
-pub record HasBadLine (course : Course) (shelf : ShelfState) : Type 0 where
+-- the script is in a file, and a line of it is outside the grammar: the first one has this fault
+pub record HasBadLine (fault_in : List ℕ → Option Fault) (source : Source) (before after : ShelfState) : Type 0 where
   pub name : List ℕ
-  pub named : course.script ≡ File name
+  pub named : source ≡ File name
   pub script : List ℕ
-  pub script_is : HasBytes shelf (File name) script
-  -- the first such line, and its reason
+  pub script_is : HasBytes before (File name) script
   pub fault : Fault
-  pub found : course.fault script ≡ Some fault
+  pub found : fault_in script ≡ Some fault
   pub not_too_long : length script ≤ 2 ^ 20
+  pub taken : AreAllTaken script after
 
 -- the line that says so
 abbrev pub fault_text : Fault → List ℕ
 fault_text fault = script_fault_line fault.line fault.reason
 
--- status 3: a line of the script is outside the grammar
+-- status 3: a line of the script is outside the grammar. The line that says so was put and flushed, and nothing else
 pub record EndsAtBadLine (course : Course) (before after : Outside) : Type 0 where
-  pub bad : HasBadLine course before.shelf
-  -- the line that says so was put, and nothing else
-  pub put : after.sink.bytes ≡ append_known before.sink.bytes (fault_text bad.fault)
-  pub counted : after.sink.count ≡ count_after before.sink.count (length (fault_text bad.fault))
+  pub bad : HasBadLine course.fault course.script before.shelf after.shelf
+  pub put : PutsWhole (fault_text bad.fault) before.sink after.sink
   pub unpainted : after.glass ≡ before.glass
-  pub flushed : after.sink.unflushed ≡ false
-  pub flushes : after.sink.flushes ≡ one_more before.sink.flushes
-  -- all bytes of the script were taken, up to where the shelf said that it ends, and no fault was counted on the way
-  pub taken : after.shelf.taken ≡ length bad.script
-  pub ended : after.shelf.ended ≡ true
-  pub shelf_stays : after.shelf.faults ≡ before.shelf.faults
-  pub sink_stays : after.sink.faults ≡ before.sink.faults
 
--- the script, which is in a file, can't be read on: at most 2^20 bytes of it were taken, nothing was put and nothing painted
-pub record IsScriptUnread (course : Course) (before after : Outside) : Type 0 where
-  pub name : List ℕ
+-- the run stands at the script, which is in a file: nothing was put and nothing painted
+pub record IsAtScript (course : Course) (name : List ℕ) (before after : Outside) : Type 0 where
   pub named : course.script ≡ File name
+  -- no other name is selected, nor is the page
   pub selected : SelectsNoOther name after.shelf
-  pub few : after.shelf.taken ≤ 2 ^ 20
+  pub unselected : (page : List ℕ) → course.page ≡ File page → after.shelf.selected ≢ Some (Some page)
   pub unput : after.sink ≡ before.sink
   pub unpainted : after.glass ≡ before.glass
 
--- status 4: the script or the page can't be read on
+-- of the page in the file of this name exactly the first bytes are reported, so many
+pub record ReportsFirst (course : Course) (name : List ℕ) (size : ℕ) (before after : Outside) : Type 0 where
+  pub named : course.page ≡ File name
+  pub front : List ℕ
+  pub counted : length front ≡ size
+  pub front_is : (page : List ℕ) → Gives before.shelf name page → front ≡ take size page
+  pub reports : ReportsFront course front before after
+  -- no other file is selected
+  pub selected : SelectsNoOther name after.shelf
+
+-- status 4, at the page: it can't be read on. Its bytes that were taken are reported
+pub record IsPageUnread (course : Course) (name : List ℕ) (before after : Outside) : Type 0 where
+  pub first : ReportsFirst course name after.shelf.taken before after
+  pub readable : course.readable_front first.front ≡ first.front
+  pub few : after.shelf.taken ≤ 2 ^ 24
+  -- before it is selected, nothing was put and nothing painted
+  pub early : after.shelf.selected ≡ Some None → (after.sink ≡ before.sink) × (after.glass ≡ before.glass)
+
+-- status 4: the page or the script can't be read on
 pub record EndsAtReadFault (course : Course) (before after : Outside) : Type 0 where
   -- the shelf counted a fault
   pub read_fault : Rose before.shelf.faults after.shelf.faults
-  -- the page is in a file. Exactly its bytes that were taken are reported; or the script can't be read on, and none is
-  pub name : List ℕ
-  pub named : course.page ≡ File name
-  pub front : List ℕ
-  pub counted : ((after.shelf.taken ≡ length front) × SelectsNoOther name after.shelf)
-      ⊎ ((front ≡ []) × IsScriptUnread course before after)
-  pub front_is : (page : List ℕ) → Holds before.shelf name page → after.shelf.selected ≡ Some (Some name)
-      → front ≡ take after.shelf.taken page
-  pub readable : course.readable_front front ≡ front
-  pub reports : ReportsFront course front before after
   -- no take had answered that there are no more bytes
   pub unended : after.shelf.ended ≡ false
-  -- before the page is selected, nothing was put and nothing painted
-  pub early : (chosen : Option (List ℕ)) → after.shelf.selected ≡ Some chosen → chosen ≢ Some name
-      → (after.sink ≡ before.sink) × (after.glass ≡ before.glass)
-  pub not_too_long : after.shelf.taken ≤ 2 ^ 24
-  pub script_not_too_long : (script : List ℕ) → course.script ≡ File script
-      → after.shelf.selected ≡ Some (Some script) → after.shelf.taken ≤ 2 ^ 20
-  -- the sink counted none
-  pub sink_stays : after.sink.faults ≡ before.sink.faults
+  -- the page is in a file
+  pub name : List ℕ
+  pub named : course.page ≡ File name
+  pub which : IsPageUnread course name before after
+      ⊎ ((script : List ℕ) × IsAtScript course script before after × (after.shelf.taken ≤ 2 ^ 20))
 
 -- the sink failed at an event of the bytes that were taken, a front of the page; of these 2^24 are reported at most
 pub record IsFrontCut (course : Course) (page : List ℕ) (before after : Outside) : Type 0 where
@@ -195,17 +174,14 @@ pub record IsReportCut (course : Course) (before after : Outside) : Type 0 where
       × (before.sink.always_flushes ≡ false))
   -- so where the glass was blank, a front of the report was put, and not the whole where no flush fails
   pub front : before.glass.grid ≡ grid [] → PutsFront (report_of course page script) before.sink after.sink
-  -- of a page in a file, beside which none is selected, all was taken, up to where the shelf said that it ends; or a front
+  -- of a page in a file, beside which none is selected, all was taken, or a front
   pub taken : (name : List ℕ) → course.page ≡ File name → SelectsNoOther name after.shelf
-      × (((after.shelf.taken ≡ length page) × (after.shelf.ended ≡ true) × (length page ≤ 2 ^ 24))
-      ⊎ IsFrontCut course page before after)
+      × ((AreAllTaken page after.shelf × (length page ≤ 2 ^ 24)) ⊎ IsFrontCut course page before after)
 
--- the sink failed at the line of a script's fault
+-- the sink failed at the line of a script's fault: a front of it was put, and nothing painted
 pub record IsFaultCut (course : Course) (before after : Outside) : Type 0 where
-  pub bad : HasBadLine course before.shelf
-  pub put : PutsUnflushed (fault_text bad.fault) before.sink after.sink
-  pub taken : after.shelf.taken ≡ length bad.script
-  pub ended : after.shelf.ended ≡ true
+  pub bad : HasBadLine course.fault course.script before.shelf after.shelf
+  pub put : PutsFront (fault_text bad.fault) before.sink after.sink
   pub unpainted : after.glass ≡ before.glass
 
 -- status 5: the sink failed
@@ -213,66 +189,33 @@ pub record EndsAtWriteFault (course : Course) (before after : Outside) : Type 0 
   -- the sink counted a fault
   pub write_fault : Rose before.sink.faults after.sink.faults
   pub cut : IsReportCut course before after ⊎ IsFaultCut course before after
-  -- the shelf counted none
-  pub shelf_stays : after.shelf.faults ≡ before.shelf.faults
 
 -- status 6: there is no memory
 pub record EndsWithoutMemory (course : Course) (before after : Outside) : Type 0 where
   -- what paints nothing takes none
   pub memory : course.painting ≡ true
-  -- nothing was put and nothing painted; and without a script nothing was touched
-  pub unput : after.sink ≡ before.sink
-  pub unpainted : after.glass ≡ before.glass
-  pub untouched : (own : List ℕ) → course.script ≡ Given own → after.shelf ≡ before.shelf
-  -- the page wasn't selected
-  pub early : (after.shelf ≡ before.shelf) ⊎ ((chosen : Option (List ℕ)) → after.shelf.selected ≡ Some chosen
-      → (chosen ≡ None) ⊎ IsNamed course.script chosen)
-  -- no fault was counted on the way
-  pub shelf_stays : after.shelf.faults ≡ before.shelf.faults
+  -- nothing was touched; or the script was being read
+  pub early : (after ≡ before) ⊎ ((script : List ℕ) × IsAtScript course script before after)
 
 -- status 7, at the page: it has more than 2^24 bytes
 pub record IsPageTooLong (course : Course) (before after : Outside) : Type 0 where
   pub name : List ℕ
-  pub named : course.page ≡ File name
   -- more were taken, of the page
   pub too_long : 2 ^ 24 < after.shelf.taken
-  pub selected : (chosen : Option (List ℕ)) → after.shelf.selected ≡ Some chosen → chosen ≡ Some name
+  pub selected : after.shelf.selected ≢ Some None
   -- so a page within the limit, that is told, never ends so
   pub longer : (page : List ℕ) → Gives before.shelf name page → 2 ^ 24 < length page
-  -- exactly its first 2^24 bytes are reported
-  pub front : List ℕ
-  pub counted : length front ≡ 2 ^ 24
-  pub front_is : (page : List ℕ) → Gives before.shelf name page → front ≡ take (2 ^ 24) page
-  pub readable : course.readable_front front ≡ front
-  pub reports : ReportsFront course front before after
+  pub first : ReportsFirst course name (2 ^ 24) before after
+  pub readable : course.readable_front first.front ≡ first.front
 
 -- status 7, at the script: it has more than 2^20 bytes
 pub record IsScriptTooLong (course : Course) (before after : Outside) : Type 0 where
   pub name : List ℕ
-  pub named : course.script ≡ File name
   -- more were taken, of the script
   pub too_long : 2 ^ 20 < after.shelf.taken
-  pub selected : (chosen : Option (List ℕ)) → after.shelf.selected ≡ Some chosen → chosen ≡ Some name
+  pub selected : after.shelf.selected ≢ Some None
   pub longer : (script : List ℕ) → Gives before.shelf name script → 2 ^ 20 < length script
-  -- the page isn't selected
-  pub unselected : (page : List ℕ) → course.page ≡ File page → after.shelf.selected ≡ Some (Some page) → ⊥
-  -- nothing was put and nothing painted
-  pub unput : after.sink ≡ before.sink
-  pub unpainted : after.glass ≡ before.glass
-
--- status 7: the page has more than 2^24 bytes, or the script more than 2^20
-pub record EndsTooLong (course : Course) (before after : Outside) : Type 0 where
-  pub which : IsPageTooLong course before after ⊎ IsScriptTooLong course before after
-  -- no fault was counted on the way
-  pub shelf_stays : after.shelf.faults ≡ before.shelf.faults
-  pub sink_stays : after.sink.faults ≡ before.sink.faults
-
--- the whole page was read, and it can't end where it does
-pub record IsEndOpen (course : Course) (page : List ℕ) (shelf : ShelfState) : Type 0 where
-  pub readable : course.readable_front page ≡ page
-  pub unclosed : course.can_end page ≡ false
-  pub taken : shelf.taken ≡ length page
-  pub ended : shelf.ended ≡ true
+  pub at : IsAtScript course name before after
 
 -- a page can't be read to its end, or can't end there
 abbrev pub IsUnreadable : Course → List ℕ → Type 0
@@ -281,21 +224,13 @@ IsUnreadable course page = (course.readable_front page ≢ page) ⊎ (course.can
 -- status 8: a byte of the page can't be read from seven bits, or the page can't end where it does
 pub record EndsNotSeven (course : Course) (before after : Outside) : Type 0 where
   pub name : List ℕ
-  pub named : course.page ≡ File name
-  -- the bytes of the page that were taken, but 2^24 at most
-  pub front : List ℕ
-  pub counted : length front ≡ min after.shelf.taken (2 ^ 24)
-  pub front_is : (page : List ℕ) → Gives before.shelf name page → front ≡ take (min after.shelf.taken (2 ^ 24)) page
+  -- the bytes of the page that were taken are reported, but 2^24 at most
+  pub first : ReportsFirst course name (min after.shelf.taken (2 ^ 24)) before after
   -- one of these can't be read, or they are the whole page, which can't end there
-  pub cause : (course.readable_front front ≢ front) ⊎ IsEndOpen course front after.shelf
+  pub cause : (course.readable_front first.front ≢ first.front)
+      ⊎ (AreAllTaken first.front after.shelf × (course.can_end first.front ≡ false))
   -- so a page that can be read, and is told, never ends so
   pub unreadable : (page : List ℕ) → Gives before.shelf name page → IsUnreadable course page
-  -- exactly what comes before is reported
-  pub reports : ReportsFront course front before after
-  pub selected : SelectsNoOther name after.shelf
-  -- no fault was counted on the way
-  pub shelf_stays : after.shelf.faults ≡ before.shelf.faults
-  pub sink_stays : after.sink.faults ≡ before.sink.faults
 
 -- how a run ends, by its status
 abbrev pub Ends : Course → Outside → Outside → Status → Type 0
@@ -306,37 +241,25 @@ Ends course before after statuses.Script = EndsAtBadLine course before after
 Ends course before after statuses.ReadFault = EndsAtReadFault course before after
 Ends course before after statuses.WriteFault = EndsAtWriteFault course before after
 Ends course before after statuses.NoMemory = EndsWithoutMemory course before after
-Ends course before after statuses.TooLong = EndsTooLong course before after
+Ends course before after statuses.TooLong = IsPageTooLong course before after ⊎ IsScriptTooLong course before after
 Ends course before after statuses.NotSeven = EndsNotSeven course before after
 
 -- ---- however a run ends
 
--- a known script stops the run: it is too long, or a line of it is outside the grammar
-pub record HasStopper (course : Course) (shelf : ShelfState) : Type 0 where
-  pub name : List ℕ
-  pub named : course.script ≡ File name
-  pub script : List ℕ
-  pub holds : Holds shelf name script
-  pub stops : (2 ^ 20 < length script) ⊎ IsSome (course.fault script)
-
--- nothing was painted, and nothing was put but a text or a part of it, from its front on
-pub record PutsAtMost (text : List ℕ) (before after : Outside) : Type 0 where
-  pub unpainted : after.glass ≡ before.glass
-  pub size : ℕ
-  pub put : after.sink.bytes ≡ append_known before.sink.bytes (take size text)
-
 -- what holds of the shelf, where the page is in the file of this name
 pub record ReadsFiles (course : Course) (page : List ℕ) (before after : ShelfState) (status : Status) : Type 0 where
-  -- the script comes first: where a known one stops the run, no file is missed, and the page isn't selected
-  pub script_first : HasStopper course before → (after.missed ≡ before.missed)
-      × (is_early status ≡ false → after.selected ≡ Some (Some page) → ⊥)
+  -- the script comes first: where a known one is too long, or a line of it is outside the grammar, no file is missed, and
+  -- the page isn't selected
+  pub script_first : (name script : List ℕ) → course.script ≡ File name → Holds before name script
+      → (2 ^ 20 < length script) ⊎ IsSome (course.fault script)
+      → (after.missed ≡ before.missed) × (status ≢ statuses.NoMemory → after.selected ≢ Some (Some page))
   -- where the shelf has the page and the script no file is missed
   pub missed : IsSome (bytes_under before page)
       → ((name : List ℕ) → course.script ≡ File name → IsSome (bytes_under before name))
       → after.missed ≡ before.missed
-  -- at the end no other name than the page's and the script's is selected
-  pub selects : is_early status ≡ false → (chosen : Option (List ℕ)) → after.selected ≡ Some chosen
-      → (chosen ≡ None) ⊎ (chosen ≡ Some page) ⊎ IsNamed course.script chosen
+  -- at the end no other name than the page's is selected, or no other than the script's
+  pub selects : status ≢ statuses.NoMemory → SelectsNoOther page after
+      ⊎ ((name : List ℕ) × (course.script ≡ File name) × SelectsNoOther name after)
   -- the files stay, and the count of faults doesn't fall
   pub files : KeepsFiles before after
   pub faults : before.faults ≤ after.faults
@@ -351,9 +274,14 @@ pub record RunsCourse (course : Course) (before after : Outside) (status : Statu
   -- each status has its cause, and says what was reported
   pub ends : Ends course before after status
   pub shelf : TouchesShelf course course.page before.shelf after.shelf status
-  -- where a line of the script is outside the grammar, nothing is painted, and only the line that says so is put
+  -- a fault of the shelf is counted at status 4 alone, and one of the sink at status 5 alone
+  pub shelf_stays : status ≢ statuses.ReadFault → after.shelf.faults ≡ before.shelf.faults
+  pub sink_stays : status ≢ statuses.WriteFault → after.sink.faults ≡ before.sink.faults
+  -- where a line of the script is outside the grammar, nothing is painted, and nothing put but the line that says so, or a
+  -- front of it
   pub bad_script : (name script : List ℕ) (fault : Fault) → course.script ≡ File name → Gives before.shelf name script
-      → course.fault script ≡ Some fault → PutsAtMost (fault_text fault) before after
+      → course.fault script ≡ Some fault → (after.glass ≡ before.glass)
+      × (size : ℕ) × (after.sink.bytes ≡ append_known before.sink.bytes (take size (fault_text fault)))
   -- what paints nothing doesn't touch the glass
   pub unpainted : course.painting ≡ false → after.glass ≡ before.glass
   -- no early end flushes, but that at a script's bad line: where bytes are put, no flush succeeds

@@ -6,7 +6,7 @@ use Rattle.std.specs.List.{list_all}
 use Rattle.std.specs.Option.{option_map, option_and_then}
 use Rattle.std.specs.Str.{bytes_eq}
 use Rattle.std.specs.Str.Parse.{digits_value}
-use Rattle.cept_run.specs.declared.words.Asked.{Asked}
+use Rattle.cept_run.specs.declared.words.ReportOptions.{ReportOptions}
 use Rattle.cept_run.specs.declared.words.BytesAction.{BytesAction}
 use Rattle.cept_run.specs.declared.words.BytesAction.TheVariants as bytes
 use Rattle.cept_run.specs.declared.words.End.{End}
@@ -72,21 +72,16 @@ number_of word =
     && nat_lt (digits_value 10 word) (2 ^ 32)
     then Some (digits_value 10 word) else None
 
--- the name of a page, which isn't empty
-abbrev pub page_request : PageAction → List (List ℕ) → Option Request
-page_request action ((a ∷ name) ∷ []) = Some (Page action (a ∷ name))
-page_request action _ = None
+-- the name of a file, which isn't empty
+abbrev pub request_of_file : (List ℕ → Request) → List (List ℕ) → Option Request
+request_of_file request ((a ∷ name) ∷ []) = Some (request (a ∷ name))
+request_of_file request _ = None
 
--- the same, of whose bytes it is asked
-abbrev pub bytes_request : BytesAction → List (List ℕ) → Option Request
-bytes_request action ((a ∷ name) ∷ []) = Some (Bytes action (a ∷ name))
-bytes_request action _ = None
-
--- the names of a page and of a script: neither is empty, and the two differ
-abbrev pub script_request : ScriptAction → List (List ℕ) → Option Request
-script_request action ((a ∷ name) ∷ (b ∷ script) ∷ []) =
-    if bytes_eq (a ∷ name) (b ∷ script) then None else Some (Script action (a ∷ name) (b ∷ script))
-script_request action _ = None
+-- the names of two files: neither is empty, and the two differ
+abbrev pub request_of_files : (List ℕ → List ℕ → Request) → List (List ℕ) → Option Request
+request_of_files request ((a ∷ name) ∷ (b ∷ other) ∷ []) =
+    if bytes_eq (a ∷ name) (b ∷ other) then None else Some (request (a ∷ name) (b ∷ other))
+request_of_files request _ = None
 
 -- the number of a generated page
 abbrev pub number_request : NumberAction → List (List ℕ) → Option Request
@@ -102,20 +97,14 @@ abbrev pub flash_request : List (List ℕ) → Option Request
 flash_request ((a ∷ name) ∷ number ∷ []) = option_map (Flash (a ∷ name)) (turns_of number)
 flash_request _ = None
 
--- the names of a page and of a drawing: neither is empty, and the two differ
-abbrev pub drawing_request : List (List ℕ) → Option Request
-drawing_request ((a ∷ name) ∷ (b ∷ drawing) ∷ []) =
-    if bytes_eq (a ∷ name) (b ∷ drawing) then None else Some (Drawing (a ∷ name) (b ∷ drawing))
-drawing_request _ = None
-
 -- what a first word asks for with the words after it
 abbrev pub request_with : Word → List (List ℕ) → Option Request
-request_with (words.Page action) after = page_request action after
-request_with (words.Bytes action) after = bytes_request action after
-request_with (words.Script action) after = script_request action after
+request_with (words.Page action) after = request_of_file (Page action) after
+request_with (words.Bytes action) after = request_of_file (Bytes action) after
+request_with (words.Script action) after = request_of_files (Script action) after
 request_with (words.Number action) after = number_request action after
 request_with words.Flash after = flash_request after
-request_with words.Plot after = drawing_request after
+request_with words.Plot after = request_of_files Drawing after
 
 -- what the words ask for
 unfoldable pub request_of : List (List ℕ) → Option Request
@@ -124,18 +113,15 @@ request_of (word ∷ after) = option_and_then (λ w. request_with w after) (word
 
 -- the names of two files differ
 abbrev pub HasTwoNames : Request → Type 0
-HasTwoNames (Page action page) = Unit {0}
-HasTwoNames (Bytes action page) = Unit {0}
 HasTwoNames (Script action page script) = script ≢ page
-HasTwoNames (Number action number) = Unit {0}
-HasTwoNames (Flash page turns) = Unit {0}
 HasTwoNames (Drawing page drawing) = drawing ≢ page
+HasTwoNames _ = Unit {0}
 
--- ---- what each action asks for
+-- ---- the report options of each action
 
--- a page that is painted, and of which nothing is put
-abbrev pub painted_alone : Asked
-painted_alone = record {
+-- of a page that is painted, and of which nothing is put
+abbrev pub painting_options : ReportOptions
+painting_options = record {
   way = ways.Paint;
   refusals = false;
   edits_listed = false;
@@ -143,30 +129,30 @@ painted_alone = record {
 }
 
 -- of a page
-abbrev pub asked_of_page : PageAction → Asked
-asked_of_page pages.Changes = record painted_alone { way = ways.PaintAndList; refusals = true }
-asked_of_page pages.Check = record painted_alone { way = ways.Count; refusals = true }
-asked_of_page pages.List = record painted_alone { way = ways.List; refusals = true }
-asked_of_page pages.Show = record painted_alone { end = ends.Screen }
-asked_of_page pages.Cells = record painted_alone { end = ends.Cells }
-asked_of_page pages.Write = record painted_alone { end = ends.Page }
+abbrev pub options_of_page : PageAction → ReportOptions
+options_of_page pages.Changes = record painting_options { way = ways.PaintAndList; refusals = true }
+options_of_page pages.Check = record painting_options { way = ways.Count; refusals = true }
+options_of_page pages.List = record painting_options { way = ways.List; refusals = true }
+options_of_page pages.Show = record painting_options { end = ends.Screen }
+options_of_page pages.Cells = record painting_options { end = ends.Cells }
+options_of_page pages.Write = record painting_options { end = ends.Page }
 
 -- of a page and a script
-abbrev pub asked_of_script : ScriptAction → Asked
-asked_of_script scripts.Trace = record painted_alone { refusals = true; edits_listed = true }
-asked_of_script scripts.Edit = record painted_alone { end = ends.Page }
+abbrev pub options_of_script : ScriptAction → ReportOptions
+options_of_script scripts.Trace = record painting_options { refusals = true; edits_listed = true }
+options_of_script scripts.Edit = record painting_options { end = ends.Page }
 
 -- of a generated page that is read and painted
-abbrev pub asked_to_load : Asked
-asked_to_load = record painted_alone { end = ends.Counts }
+abbrev pub options_to_load : ReportOptions
+options_to_load = record painting_options { end = ends.Counts }
 
 -- of a page and a drawing
-abbrev pub asked_to_draw : Asked
-asked_to_draw = record painted_alone { end = ends.Page }
+abbrev pub options_to_draw : ReportOptions
+options_to_draw = record painting_options { end = ends.Page }
 
 -- of a page that flashes through so many turns
-abbrev pub asked_of_phases : ℕ → Asked
-asked_of_phases turns = record painted_alone { end = ends.Phases turns }
+abbrev pub options_of_phases : ℕ → ReportOptions
+options_of_phases turns = record painting_options { end = ends.Phases turns }
 
 -- commands are applied and painted
 abbrev pub is_painted : Way → Bool

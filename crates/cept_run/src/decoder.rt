@@ -7,9 +7,9 @@ ghost use Rattle.cept_outside.specs.SinkState.{PutsText};
 ghost use Rattle.cept_run.specs.Events.{text_at_end};
 ghost use Rattle.cept_editor.specs.Made.{Output, output_of};
 
-use crate::easel::Easel;
 use crate::reporter::Reporter;
-use crate::words::Asked;
+use crate::target::Target;
+use crate::words::ReportOptions;
 use cept_flash::Blink;
 use cept_outside::{Sink, Steps, WriteFault};
 use cept_parser::laws::reading_goes_on;
@@ -40,18 +40,18 @@ impl Model for Decoder {
 
 impl Decoder {
     ghost use Rattle.cept_run.specs.Reporting.{Plan, StandsAtEnd, HasRead, ReadsOn, ReadsToEnd};
-    ghost use Rattle.cept_run.specs.Reporting.{EditsOn, HasBlink, easel_at, remaining_at_end};
+    ghost use Rattle.cept_run.specs.Reporting.{EditsOn, HasBlink, target_at, remaining_at_end};
 
-    /// A decoder before the first byte, of what is asked for, with what commands are applied to.
-    pub fn new(asked: Asked, easel: Easel) -> Decoder
-        ensures asked { result.reporter.asked ≡ asked }
-        ensures easel { result.reporter.easel ≡ easel }
-        ensures read { (plan : Plan) → plan.asked ≡ asked → easel ≡ easel_at plan []
+    /// A decoder before the first byte, with its options and what commands are applied to.
+    pub fn new(options: ReportOptions, target: Target) -> Decoder
+        ensures options { result.reporter.options ≡ options }
+        ensures target { result.reporter.target ≡ target }
+        ensures read { (plan : Plan) → plan.options ≡ options → target ≡ target_at plan []
             → (start : Output) → HasRead plan result [] start start }
     {
         Decoder {
             parser: Parser::new(),
-            reporter: Reporter::new(asked, easel),
+            reporter: Reporter::new(options, target),
         }
     }
 
@@ -140,8 +140,8 @@ impl Decoder {
     ) -> Result<(), WriteFault>
         ensures { (plan : Plan) (page : List ℕ)
             → StandsAtEnd plan self.now.reporter (closed_items page)
-            → HasBlink plan.asked.end blink.old → bytes ≡ length page
-            → PutsText (T.state sink.old) (text_at_end plan.asked (G.state glass.now).grid page
+            → HasBlink plan.options.end blink.old → bytes ≡ length page
+            → PutsText (T.state sink.old) (text_at_end plan.options (G.state glass.now).grid page
             (remaining_at_end plan (closed_items page))) result (T.state sink.new) }
     {
         self.reporter.put_end(bytes, blink, sink, glass)

@@ -9,7 +9,7 @@ ghost use Rattle.cept_outside.specs.ShelfState.{Holds, IsSound};
 ghost use Rattle.cept_profile.specs.Changes.{changes, grid_with_paints};
 ghost use Rattle.cept_profile.specs.Look.{grid};
 ghost use Rattle.cept_run.specs.declared.run.Status.TheVariants as statuses;
-ghost use Rattle.cept_run.specs.declared.words.Asked.{Asked};
+ghost use Rattle.cept_run.specs.declared.words.ReportOptions.{ReportOptions};
 ghost use Rattle.cept_codes.specs.declared.look.Look.{Look};
 ghost use Rattle.cept_editor.specs.Events.{Event, event_changes, paints};
 ghost use Rattle.cept_editor.specs.Made.{Output, AreCutOff};
@@ -30,36 +30,36 @@ ghost use Rattle.cept_run.specs.Words.{Request, is_painted, request_of};
 /// after them. A command that is applied comes after the commands before it, and changes what it
 /// changes after these; a refused item, and any item of a page that isn't painted, changes nothing.
 pub fn each_item_after_those_before_it()
-    ensures none { (asked : Asked) → item_events asked [] ≡ [] }
-    ensures more { (asked : Asked) (items : List Item) (item : Item)
-        → item_events asked (items ++ item ∷ [])
-        ≡ item_events asked items ++ item_event asked items item ∷ [] }
-    ensures applied { (asked : Asked) (items : List Item) (item : Item) (command : Command)
-        → is_painted asked.way ≡ true → item.what ≡ said.Command command
-        → event_changes (item_event asked items item)
-        ≡ changes (history asked items) command }
-    ensures refused { (asked : Asked) (items : List Item) (item : Item) (reason : Reason)
-        → item.what ≡ said.Refused reason → event_changes (item_event asked items item) ≡ [] }
-    ensures idle { (asked : Asked) (items : List Item) (item : Item)
-        → is_painted asked.way ≡ false → event_changes (item_event asked items item) ≡ [] }
+    ensures none { (options : ReportOptions) → item_events options [] ≡ [] }
+    ensures more { (options : ReportOptions) (items : List Item) (item : Item)
+        → item_events options (items ++ item ∷ [])
+        ≡ item_events options items ++ item_event options items item ∷ [] }
+    ensures applied { (options : ReportOptions) (items : List Item) (item : Item) (command : Command)
+        → is_painted options.way ≡ true → item.what ≡ said.Command command
+        → event_changes (item_event options items item)
+        ≡ changes (history options items) command }
+    ensures refused { (options : ReportOptions) (items : List Item) (item : Item) (reason : Reason)
+        → item.what ≡ said.Refused reason → event_changes (item_event options items item) ≡ [] }
+    ensures idle { (options : ReportOptions) (items : List Item) (item : Item)
+        → is_painted options.way ≡ false → event_changes (item_event options items item) ≡ [] }
 {}
 
 /// A blank glass with the paints of items over it shows their meaning.
 pub fn a_blank_glass_shows_the_meaning()
-    ensures { (asked : Asked) (items : List Item)
-        → grid_with_paints (grid []) (paints (item_events asked items))
-        ≡ grid (history asked items) }
+    ensures { (options : ReportOptions) (items : List Item)
+        → grid_with_paints (grid []) (paints (item_events options items))
+        ≡ grid (history options items) }
 {}
 
 /// After the paints of each event of a run a glass that was blank shows what the commands mean that
 /// remain after it. So it does at the end of a run whose sink failed at that event.
 pub fn a_blank_glass_shows_each_event()
-    ensures each { (asked : Asked) (page : List ℕ) (sequel : Sequel) (shown : List (List Look))
+    ensures each { (options : ReportOptions) (page : List ℕ) (sequel : Sequel) (shown : List (List Look))
         (done : List Event) (event : Event) (rest : List Event)
-        → run_events asked page sequel shown ≡ done ++ event ∷ rest
+        → run_events options page sequel shown ≡ done ++ event ∷ rest
         → grid_with_paints (grid []) (paints (done ++ event ∷ [])) ≡ grid event.after }
-    ensures cut { (asked : Asked) (page : List ℕ) (sequel : Sequel) (shown : List (List Look))
-        (before after : Output) (off : AreCutOff (run_events asked page sequel shown) before after)
+    ensures cut { (options : ReportOptions) (page : List ℕ) (sequel : Sequel) (shown : List (List Look))
+        (before after : Output) (off : AreCutOff (run_events options page sequel shown) before after)
         → before.glass.grid ≡ grid [] → after.glass.grid ≡ grid off.cut.after }
 {}
 

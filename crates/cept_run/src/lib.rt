@@ -2,8 +2,8 @@
 //! screen, and puts the report. It knows no real file, output or display.
 #![tactic(auto)]
 
+mod converting;
 mod decoder;
-mod easel;
 mod edits;
 mod generated;
 pub mod laws;
@@ -11,5 +11,5 @@ mod page;
 mod reporter;
 pub mod run;
 mod script;
-mod turning;
+mod target;
 mod words;

@@ -13,9 +13,9 @@ ghost use Rattle.cept_profile.specs.State.{state};
 ghost use Rattle.cept_run.specs.Events.{counts_text, painted_end, text_at_end};
 ghost use Rattle.cept_editor.specs.Made.{output_of};
 
-use crate::easel::Easel;
 use crate::edits::{draw, make_lines};
-use crate::words::{Asked, End, Way};
+use crate::target::Target;
+use crate::words::{End, ReportOptions, Way};
 use cept_codes::{Command, Item, Reason, Said};
 use cept_flash::Blink;
 use cept_listing::put_item;
@@ -28,13 +28,13 @@ use cept_writer::write_page;
 use std::marker::Model;
 use std::sync::ledger::Ledger;
 
-/// Reports items one after the other, and then edits or a drawing: what is asked for, what commands
-/// are applied to with the places that the last one changed, how many items there were and were
+/// Reports items one after the other, and then edits or a drawing: the options, what commands are
+/// applied to with the places that the last one changed, how many items there were and were
 /// refused, and how many places were painted, where these are counted.
 #[derive(Drop)]
 pub struct Reporter {
-    asked: Asked,
-    easel: Easel,
+    options: ReportOptions,
+    target: Target,
     marks: Marks,
     items: u64,
     refused: u64,
@@ -48,8 +48,8 @@ impl Model for Reporter {
     ghost Value = { ReporterState };
 
     ghost view = { λ r. record {
-      asked = r.asked;
-      easel = r.easel;
+      options = r.options;
+      target = r.target;
       items = r.items;
       refused = r.refused;
       painted = r.painted;
@@ -83,22 +83,22 @@ impl Reporter {
     ghost use Rattle.cept_run.specs.inside.Reporting.{Applies};
     ghost use Rattle.cept_run.specs.Reporting.{remaining_at_end, HasBlink};
     ghost use Rattle.cept_run.specs.inside.Reporting.{is_quiet, refusal_text};
-    ghost use Rattle.std.specs.Prelude.{true};
+    ghost use Rattle.std.specs.Prelude.{true, false};
     ghost use Rattle.cept_repaint.specs.GlassState.{GlassState};
 
-    /// A reporter before the first item, of what is asked for, with what commands are applied to.
-    pub fn new(asked: Asked, easel: Easel) -> Reporter
+    /// A reporter before the first item, with its options and what commands are applied to.
+    pub fn new(options: ReportOptions, target: Target) -> Reporter
         ensures { result ≡ record {
-          asked = asked;
-          easel = easel;
+          options = options;
+          target = target;
           items = 0;
           refused = 0;
           painted = 0;
         } }
     {
         Reporter {
-            asked,
-            easel,
+            options,
+            target,
             marks: Marks::new(),
             items: 0,
             refused: 0,
@@ -126,13 +126,13 @@ impl Reporter {
             (output_of (T.state sink.old) (G.state glass.old)) result self.new
             (output_of (T.state sink.new) (G.state glass.new)) }
     {
-        self.easel.apply(command, glass, &mut self.marks, steps);
-        let Some(screen) = self.easel.screen() else {
+        self.target.apply(command, glass, &mut self.marks, steps);
+        let Some(screen) = self.target.screen() else {
             return list_item(item, sink);
         };
-        self.painted += count_marked(self.asked.end.is_counted(), &self.marks);
+        self.painted += count_marked(self.options.end.is_counted(), &self.marks);
         put_changes_if(
-            self.asked.way.lists_changes(),
+            self.options.way.lists_changes(),
             sink,
             item.at,
             &self.marks,
@@ -149,13 +149,13 @@ impl Reporter {
         sink: &mut T,
     ) -> Result<(), WriteFault>
         requires valid { IsValidItem item.now }
-        ensures { PutsText (T.state sink.old) (refusal_text self.now.asked item.now reason) result
+        ensures { PutsText (T.state sink.old) (refusal_text self.now.options item.now reason) result
             (T.state sink.new) }
     {
-        if !self.asked.refusals {
+        if !self.options.refusals {
             Ok(())
         } else {
-            match self.asked.way {
+            match self.options.way {
                 Way::List => put_item(sink, item),
                 _ => put_refusal(sink, item.at, item.len, reason),
             }
@@ -173,17 +173,17 @@ impl Reporter {
         sink: &mut T,
     ) -> Result<(), WriteFault>
         ensures { PutsText (T.state sink.old)
-            (if self.now.asked.refusals then refusal_line at len reason else []) result
+            (if self.now.options.refusals then refusal_line at len reason else []) result
             (T.state sink.new) }
     {
-        if self.asked.refusals {
+        if self.options.refusals {
             put_refusal(sink, at, len, reason)
         } else {
             Ok(())
         }
     }
 
-    /// Reports an item.
+    /// Reports an item, where not all are counted alone.
     #[inline(always)]
     fn report_item<T: Sink, G: Glass, L: Ledger>(
         &mut self,
@@ -193,6 +193,7 @@ impl Reporter {
         steps: &mut Steps<L>,
     ) -> Result<(), WriteFault>
         requires valid { IsValidSaid item.now.what }
+        requires loud { is_quiet self.old.options.way ≡ false }
         requires few { self.old.items + 1 < 2 ^ 54 }
         ensures { ReportsOn self.old (item.now ∷ [])
             (output_of (T.state sink.old) (G.state glass.old)) result self.new
@@ -200,13 +201,7 @@ impl Reporter {
     {
         self.items += 1;
         match &item.what {
-            Said::Command(command) => {
-                if self.asked.way.is_quiet() {
-                    Ok(())
-                } else {
-                    self.apply(item, command, sink, glass, steps)
-                }
-            }
+            Said::Command(command) => self.apply(item, command, sink, glass, steps),
             Said::Refused(reason) => {
                 self.refused += 1;
                 self.name_refusal(item, *reason, sink)
@@ -217,11 +212,10 @@ impl Reporter {
     /// Counts an item, and names it where it is refused and that is asked for.
     #[inline(always)]
     fn count_item<T: Sink>(&mut self, item: &Item, sink: &mut T) -> Result<(), WriteFault>
-        requires quiet { is_quiet self.old.asked.way ≡ true }
+        requires quiet { is_quiet self.old.options.way ≡ true }
         requires few { self.old.items + 1 < 2 ^ 54 }
-        ensures reports { (glass : GlassState) → ReportsOn self.old (item.now ∷ [])
+        ensures { (glass : GlassState) → ReportsOn self.old (item.now ∷ [])
             (output_of (T.state sink.old) glass) result self.new (output_of (T.state sink.new) glass) }
-        ensures asked { self.new.asked ≡ self.old.asked }
     {
         self.items += 1;
         match &item.what {
@@ -237,7 +231,7 @@ impl Reporter {
     // A loop of its own, which asks once what is done with items, and hands none on.
     #[inline(always)]
     fn count_items<T: Sink>(&mut self, items: &[Item], sink: &mut T) -> Result<(), WriteFault>
-        requires quiet { is_quiet self.old.asked.way ≡ true }
+        requires quiet { is_quiet self.old.options.way ≡ true }
         requires few { self.old.items + length items.now < 2 ^ 54 }
         ensures { (glass : GlassState) → ReportsOn self.old items.now
             (output_of (T.state sink.old) glass) result self.new (output_of (T.state sink.new) glass) }
@@ -264,7 +258,7 @@ impl Reporter {
             (output_of (T.state sink.old) (G.state glass.old)) result self.new
             (output_of (T.state sink.new) (G.state glass.new)) }
     {
-        if self.asked.way.is_quiet() {
+        if self.options.way.is_quiet() {
             return self.count_items(items, sink);
         }
         for item in items {
@@ -283,14 +277,14 @@ impl Reporter {
         ensures { EditsOn self.old (output_of (T.state sink.old) (G.state glass.old)) result
             self.new (output_of (T.state sink.new) (G.state glass.new)) }
     {
-        let listed = self.asked.edits_listed;
-        match &mut self.easel {
-            Easel::Nothing => Ok(()),
-            Easel::Screen(_) => Ok(()),
-            Easel::Editor(editor, script) => {
+        let listed = self.options.edits_listed;
+        match &mut self.target {
+            Target::Nothing => Ok(()),
+            Target::Screen(_) => Ok(()),
+            Target::Editor(editor, script) => {
                 make_lines(editor, script, listed, &mut self.marks, sink, glass, steps)
             }
-            Easel::Drawing(screen, drawing) => {
+            Target::Drawing(screen, drawing) => {
                 draw(screen, drawing, &mut self.marks, glass, steps);
                 Ok(())
             }
@@ -308,14 +302,14 @@ impl Reporter {
     ) -> Result<(), WriteFault>
         ensures { (plan : Plan) (page : List ℕ)
             → StandsAtEnd plan self.now (closed_items page)
-            → HasBlink plan.asked.end blink.old
+            → HasBlink plan.options.end blink.old
             → screen.now ≡ state (remaining_at_end plan (closed_items page))
             → bytes ≡ length page
-            → PutsText (T.state sink.old) (painted_end plan.asked.end plan.asked
+            → PutsText (T.state sink.old) (painted_end plan.options.end plan.options
             (G.state glass.now).grid page (remaining_at_end plan (closed_items page)))
             result (T.state sink.new) }
     {
-        match self.asked.end {
+        match self.options.end {
             End::Nothing => Ok(()),
             End::Screen => put_screen(sink, glass, screen.rows()),
             End::Cells => put_cells(sink, glass, screen.rows()),
@@ -332,10 +326,10 @@ impl Reporter {
     /// Puts how many items there were and were refused, where they were counted alone.
     fn put_counts<T: Sink>(&self, sink: &mut T) -> Result<(), WriteFault>
         ensures { PutsText (T.state sink.old)
-            (counts_text self.now.asked.way self.now.items self.now.refused) result
+            (counts_text self.now.options.way self.now.items self.now.refused) result
             (T.state sink.new) }
     {
-        match self.asked.way {
+        match self.options.way {
             Way::Count => put_check(sink, self.items, self.refused),
             _ => Ok(()),
         }
@@ -351,11 +345,11 @@ impl Reporter {
     ) -> Result<(), WriteFault>
         ensures { (plan : Plan) (page : List ℕ)
             → StandsAtEnd plan self.now (closed_items page)
-            → HasBlink plan.asked.end blink.old → bytes ≡ length page
-            → PutsText (T.state sink.old) (text_at_end plan.asked (G.state glass.now).grid page
+            → HasBlink plan.options.end blink.old → bytes ≡ length page
+            → PutsText (T.state sink.old) (text_at_end plan.options (G.state glass.now).grid page
             (remaining_at_end plan (closed_items page))) result (T.state sink.new) }
     {
-        match self.easel.screen() {
+        match self.target.screen() {
             None => self.put_counts(sink),
             Some(screen) => self.put_painted(screen, bytes, blink, sink, glass),
         }

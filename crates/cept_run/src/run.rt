@@ -7,7 +7,7 @@ ghost use Rattle.cept_outside.specs.QuietShelf.{quiet_shelf_state};
 ghost use Rattle.cept_outside.specs.QuietSink.{quiet_sink_state};
 ghost use Rattle.cept_outside.specs.ShelfState.{ShelfState};
 ghost use Rattle.cept_parser.specs.Items.{closed_items};
-ghost use Rattle.cept_run.specs.Course.{Source, File, Given, Grammar, Scripts, reporting};
+ghost use Rattle.cept_run.specs.Course.{Source, File, Given, Grammar, Scripts, report_course};
 ghost use Rattle.cept_run.specs.Course.{course_of, sequel_in};
 ghost use Rattle.cept_run.specs.Events.{text_at_end, has_refusal, nothing_more};
 ghost use Rattle.cept_run.specs.Outside.{outside_of};
@@ -17,17 +17,18 @@ ghost use Rattle.cept_run.specs.Reporting.{HasBlink, remaining_at_end};
 ghost use Rattle.cept_run.specs.Run.{Runs, RunsCourse, Asks, IsShortScript};
 ghost use Rattle.cept_run.specs.Run.{status_number, status_of, status_at_end};
 ghost use Rattle.cept_run.specs.inside.ScriptReading.{ScriptKnown};
-ghost use Rattle.cept_run.specs.Words.{Request as Asked, HasTwoNames, Page, Script as OfScript};
+ghost use Rattle.cept_run.specs.Words.{Request as RequestOfWords, HasTwoNames, Page, Script as OfScript};
 ghost use Rattle.cept_run.specs.Words.{Flash, Number, Drawing as OfDrawing, request_by, request_of};
 
+use crate::converting::put_bytes;
 use crate::decoder::Decoder;
-use crate::easel::Easel;
 use crate::generated::{put_generated, read_generated};
 use crate::page::{Stop, read_page};
 use crate::script::{read_drawing, read_script};
-use crate::turning::put_bytes;
+use crate::target::Target;
 use crate::words::{
-    BytesAction, DRAWN, LOADED, NumberAction, PageAction, ScriptAction, asked_of_phases, request_of,
+    BytesAction, DRAW_OPTIONS, LOAD_OPTIONS, NumberAction, PageAction, ScriptAction,
+    options_of_phases, request_of,
 };
 pub use crate::words::{Request, request_with};
 
@@ -137,9 +138,9 @@ fn end_report<T: Sink, G: Glass>(
 ) -> Result<bool, Stop>
     ensures { (plan : Plan) (page : List ℕ)
         → StandsAtEnd plan decoder.now.reporter (closed_items page)
-        → HasBlink plan.asked.end blink.old
+        → HasBlink plan.options.end blink.old
         → bytes ≡ length page
-        → PutsEnd (text_at_end plan.asked (G.state glass.now).grid page
+        → PutsEnd (text_at_end plan.options (G.state glass.now).grid page
         (remaining_at_end plan (closed_items page)))
         (has_refusal (closed_items page)) (T.state sink.old) result (T.state sink.new) }
 {
@@ -163,13 +164,13 @@ fn report_stored<F: Shelf, T: Sink, G: Glass, L: Ledger>(
 ) -> Result<bool, Stop>
     requires fresh { (start : Output)
         → HasRead (plan_in decoder.old.reporter) decoder.old [] start start }
-    requires blink { HasBlink decoder.old.reporter.asked.end blink.old }
+    requires blink { HasBlink decoder.old.reporter.options.end blink.old }
     requires blank { IsBlankOf L.name L.parts blank.name blank.parts }
     ensures { (grammar : Grammar) (script : Source) (bytes : List ℕ) (start : ShelfState)
         → ScriptKnown grammar page.now.text.now script bytes start (F.state shelf.old)
         → sequel_of (plan_in decoder.old.reporter) ≡ sequel_in grammar bytes
         → RunsCourse
-        (reporting decoder.old.reporter.asked grammar (File page.now.text.now) script)
+        (report_course decoder.old.reporter.options grammar (File page.now.text.now) script)
         (outside_of start (T.state sink.old) (G.state glass.old))
         (outside_of (F.state shelf.new) (T.state sink.new) (G.state glass.new))
         (status_at_end result) }
@@ -201,9 +202,9 @@ fn report_page<F: Shelf, T: Sink, G: Glass>(
         (outside_of (F.state shelf.new) (T.state sink.new) (G.state glass.new))
         (status_at_end result) }
 {
-    let asked = action.asked();
-    let easel = Easel::new(alloc, asked.way)?;
-    let mut decoder = Decoder::new(asked, easel);
+    let options = action.options();
+    let target = Target::new(alloc, options.way)?;
+    let mut decoder = Decoder::new(options, target);
     // No step is counted: the ledger is a blank one.
     let blank = Blank::new(1);
     report_stored::<F, T, G, Brand>(
@@ -236,7 +237,7 @@ fn report_edited<F: Shelf, T: Sink, G: Glass>(
 {
     let editor = Editor::new(alloc)?;
     let script = read_script(alloc, script, shelf, sink)?;
-    let mut decoder = Decoder::new(action.asked(), Easel::Editor(editor, script));
+    let mut decoder = Decoder::new(action.options(), Target::Editor(editor, script));
     // No step is counted: the ledger is a blank one.
     let blank = Blank::new(1);
     report_stored::<F, T, G, Brand>(
@@ -268,7 +269,7 @@ fn report_drawn<F: Shelf, T: Sink, G: Glass>(
 {
     let screen = Screen::new(alloc)?;
     let drawing = read_drawing(alloc, drawing, shelf, sink)?;
-    let mut decoder = Decoder::new(DRAWN, Easel::Drawing(screen, drawing));
+    let mut decoder = Decoder::new(DRAW_OPTIONS, Target::Drawing(screen, drawing));
     // No step is counted: the ledger is a blank one.
     let blank = Blank::new(1);
     report_stored::<F, T, G, Brand>(
@@ -297,9 +298,9 @@ fn report_phases<F: Shelf, T: Sink, G: Glass>(
         (status_at_end result) }
 {
     let mut blink = Some(Blink::new(alloc)?);
-    let asked = asked_of_phases(turns);
-    let easel = Easel::new(alloc, asked.way)?;
-    let mut decoder = Decoder::new(asked, easel);
+    let options = options_of_phases(turns);
+    let target = Target::new(alloc, options.way)?;
+    let mut decoder = Decoder::new(options, target);
     // No step is counted: the ledger is a blank one.
     let blank = Blank::new(1);
     report_stored::<F, T, G, Brand>(
@@ -325,11 +326,11 @@ fn report_generated<T: Sink, G: Glass, L: Ledger>(
     requires fresh { (start : Output)
         → HasRead (plan_in decoder.old.reporter) decoder.old [] start start }
     requires alone { sequel_of (plan_in decoder.old.reporter) ≡ nothing_more }
-    requires blink { HasBlink decoder.old.reporter.asked.end None }
+    requires blink { HasBlink decoder.old.reporter.options.end None }
     requires blank { IsBlankOf L.name L.parts blank.name blank.parts }
     ensures { (shelf : ShelfState)
         → RunsCourse
-        (reporting decoder.old.reporter.asked Scripts (Given (generated number)) (Given []))
+        (report_course decoder.old.reporter.options Scripts (Given (generated number)) (Given []))
         (outside_of shelf (T.state sink.old) (G.state glass.old))
         (outside_of shelf (T.state sink.new) (G.state glass.new)) (status_at_end result) }
 {
@@ -357,8 +358,8 @@ fn load<T: Sink, G: Glass>(
         (outside_of shelf (T.state sink.old) (G.state glass.old))
         (outside_of shelf (T.state sink.new) (G.state glass.new)) (status_at_end result) }
 {
-    let easel = Easel::new(alloc, LOADED.way)?;
-    let mut decoder = Decoder::new(LOADED, easel);
+    let target = Target::new(alloc, LOAD_OPTIONS.way)?;
+    let mut decoder = Decoder::new(LOAD_OPTIONS, target);
     // No step is counted: the ledger is a blank one.
     let blank = Blank::new(1);
     report_generated::<T, G, Brand>(&mut decoder, number, sink, glass, blank)
@@ -488,7 +489,7 @@ pub fn run_quietly<G: Glass>(
         result }
     ensures read_fault { result ≢ Status.ReadFault }
     ensures write_fault { result ≢ Status.WriteFault }
-    ensures too_long { (request : Asked) (page : List ℕ)
+    ensures too_long { (request : RequestOfWords) (page : List ℕ)
         → Asks (map string_bytes words.now.items) (quiet_shelf_state shelf.old) request page
         → length page ≤ 2 ^ 24
         → IsShortScript (quiet_shelf_state shelf.old) (course_of request).script

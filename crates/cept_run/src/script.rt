@@ -1,14 +1,14 @@
 //! Takes a script from the shelf and reads its edits, or a drawing and reads its figures.
 
-ghost use Rattle.std.specs.Prelude.{◌≡◌, IfOk, IfErr, false};
-ghost use Rattle.cept_run.specs.Course.{Scripts, Drawings};
+ghost use Rattle.std.specs.Prelude.{◌≡◌, ◌^◌, IfOk, IfErr, false};
+ghost use Rattle.cept_run.specs.Course.{Gives, Scripts, Drawings};
 ghost use Rattle.cept_run.specs.Events.{Edits, Figures};
 ghost use Rattle.cept_run.specs.Page.{KeepsShelf};
 ghost use Rattle.cept_report.specs.Text.{script_fault_line};
 ghost use Rattle.cept_run.specs.ScriptReading.{ScriptEnds};
-ghost use Rattle.cept_run.specs.inside.ScriptReading.{TakenWhole, TakingStops, Refuses, StopsAt};
 ghost use Rattle.cept_run.specs.ScriptReading.{SelectsScript};
-ghost use Rattle.cept_run.specs.inside.ScriptReading.{FileWhole, FileStops, as_script_fault};
+ghost use Rattle.cept_run.specs.Taking.{AreLeft, TakesWhole};
+ghost use Rattle.cept_run.specs.inside.ScriptReading.{TakingStops, Refuses, StopsAt, as_script_fault};
 
 use crate::page::Stop;
 use cept_codes::LineReason;
@@ -28,10 +28,10 @@ const PIECE: usize = 4096;
 fn take_script<F: Shelf>(alloc: Global, shelf: &mut F) -> Result<Vec<u8>, Stop>
     requires selected { (F.state shelf.old).taken ≡ 0 }
     requires unended { (F.state shelf.old).ended ≡ false }
-    ensures whole { IfOk result (λ bytes. TakenWhole bytes.items (F.state shelf.old)
-        (F.state shelf.new)) }
-    ensures stopped { IfErr result (λ stop. TakingStops (F.state shelf.old) stop
-        (F.state shelf.new)) }
+    ensures whole { IfOk result (λ bytes. TakesWhole (AreLeft (F.state shelf.old)) (2 ^ 20)
+        bytes.items (F.state shelf.old) (F.state shelf.new)) }
+    ensures stopped { IfErr result (λ stop. TakingStops (AreLeft (F.state shelf.old))
+        (F.state shelf.old) stop (F.state shelf.new)) }
     ensures shelf { KeepsShelf (F.state shelf.old) (F.state shelf.new) }
 {
     let mut script = Vec::new(alloc);
@@ -54,10 +54,10 @@ fn take_script<F: Shelf>(alloc: Global, shelf: &mut F) -> Result<Vec<u8>, Stop>
 
 /// Selects a script or a drawing and takes it.
 fn take_file<F: Shelf>(alloc: Global, name: &str, shelf: &mut F) -> Result<Vec<u8>, Stop>
-    ensures whole { IfOk result (λ bytes. FileWhole name.now bytes.items
-        (F.state shelf.old) (F.state shelf.new)) }
-    ensures stopped { IfErr result (λ stop. FileStops name.now (F.state shelf.old)
-        stop (F.state shelf.new)) }
+    ensures whole { IfOk result (λ bytes. TakesWhole (Gives (F.state shelf.old) name.now) (2 ^ 20)
+        bytes.items (F.state shelf.old) (F.state shelf.new)) }
+    ensures stopped { IfErr result (λ stop. TakingStops (Gives (F.state shelf.old) name.now)
+        (F.state shelf.old) stop (F.state shelf.new)) }
     ensures shelf { SelectsScript name.now (F.state shelf.old) (F.state shelf.new) }
 {
     let Ok(()) = shelf.select(name) else {

@@ -4,12 +4,13 @@ ghost use Rattle.std.specs.Prelude.{◌≡◌, ◌≢◌, ◌∷◌, [], map, co
 ghost use Rattle.std.specs.Char.{is_ascii_digit};
 ghost use Rattle.std.specs.List.{list_all};
 ghost use Rattle.std.specs.Option.{option_map};
-ghost use Rattle.cept_run.specs.Words.{asked_of_page, asked_of_phases, asked_of_script};
-ghost use Rattle.cept_run.specs.Words.{asked_to_draw, asked_to_load, flash_request, number_of};
-ghost use Rattle.cept_run.specs.Words.{drawing_request, turns_of};
-ghost use Rattle.cept_run.specs.Words.{bytes_request, is_counted, request_by, request_of, page_request};
+ghost use Rattle.cept_run.specs.Words.{options_of_page, options_of_phases, options_of_script};
+ghost use Rattle.cept_run.specs.Words.{options_to_draw, options_to_load, flash_request, number_of};
+ghost use Rattle.cept_run.specs.Words.{Page as OfPage, Bytes as OfBytes, Script as OfScript};
+ghost use Rattle.cept_run.specs.Words.{Drawing as OfDrawing, request_of_file, request_of_files};
+ghost use Rattle.cept_run.specs.Words.{is_counted, request_by, request_of, turns_of};
 ghost use Rattle.cept_run.specs.inside.Reporting.{is_quiet};
-ghost use Rattle.cept_run.specs.Words.{is_painted, lists_changes, script_request};
+ghost use Rattle.cept_run.specs.Words.{is_painted, lists_changes};
 ghost use Rattle.cept_run.specs.Words.{number_request, word_of, HasTwoNames};
 
 /// What is asked for of a page.
@@ -124,9 +125,9 @@ impl Way {
     }
 }
 
-/// What is done with a page.
+/// How a page is reported.
 #[derive(Clone, Copy, Debug, PartialEq, Eq)]
-pub struct Asked {
+pub struct ReportOptions {
     /// What is done with its items.
     pub way: Way,
     /// Its refused items are named.
@@ -137,8 +138,8 @@ pub struct Asked {
     pub end: End,
 }
 
-/// A page that is painted, and of which something is put at the end alone.
-const PAINTED: Asked = Asked {
+/// The options of a page that is painted, and of which nothing is put.
+const PAINT_OPTIONS: ReportOptions = ReportOptions {
     way: Way::Paint,
     refusals: false,
     edits_listed: false,
@@ -146,84 +147,84 @@ const PAINTED: Asked = Asked {
 };
 
 impl PageAction {
-    /// What it asks for.
-    pub fn asked(self) -> Asked
-        ensures { result ≡ asked_of_page self }
+    /// Its report options.
+    pub fn options(self) -> ReportOptions
+        ensures { result ≡ options_of_page self }
     {
         match self {
-            PageAction::Changes => Asked {
+            PageAction::Changes => ReportOptions {
                 way: Way::PaintAndList,
                 refusals: true,
-                ..PAINTED
+                ..PAINT_OPTIONS
             },
-            PageAction::Check => Asked {
+            PageAction::Check => ReportOptions {
                 way: Way::Count,
                 refusals: true,
-                ..PAINTED
+                ..PAINT_OPTIONS
             },
-            PageAction::List => Asked {
+            PageAction::List => ReportOptions {
                 way: Way::List,
                 refusals: true,
-                ..PAINTED
+                ..PAINT_OPTIONS
             },
-            PageAction::Show => Asked {
+            PageAction::Show => ReportOptions {
                 end: End::Screen,
-                ..PAINTED
+                ..PAINT_OPTIONS
             },
-            PageAction::Cells => Asked {
+            PageAction::Cells => ReportOptions {
                 end: End::Cells,
-                ..PAINTED
+                ..PAINT_OPTIONS
             },
-            PageAction::Write => Asked {
+            PageAction::Write => ReportOptions {
                 end: End::Page,
-                ..PAINTED
+                ..PAINT_OPTIONS
             },
         }
     }
 }
 
 impl ScriptAction {
-    /// What it asks for.
-    pub fn asked(self) -> Asked
-        ensures { result ≡ asked_of_script self }
+    /// Its report options.
+    pub fn options(self) -> ReportOptions
+        ensures { result ≡ options_of_script self }
     {
         match self {
-            ScriptAction::Trace => Asked {
+            ScriptAction::Trace => ReportOptions {
                 refusals: true,
                 edits_listed: true,
-                ..PAINTED
+                ..PAINT_OPTIONS
             },
-            ScriptAction::Edit => Asked {
+            ScriptAction::Edit => ReportOptions {
                 end: End::Page,
-                ..PAINTED
+                ..PAINT_OPTIONS
             },
         }
     }
 }
 
-/// What is asked for where a generated page is loaded.
-pub const LOADED: Asked = Asked {
+/// The options where a generated page is loaded.
+pub const LOAD_OPTIONS: ReportOptions = ReportOptions {
     way: Way::Paint,
     refusals: false,
     edits_listed: false,
     end: End::Counts,
 };
 
-/// What is asked for of a page and a drawing.
-pub const DRAWN: Asked = Asked {
+/// The options of a page and a drawing.
+pub const DRAW_OPTIONS: ReportOptions = ReportOptions {
     way: Way::Paint,
     refusals: false,
     edits_listed: false,
     end: End::Page,
 };
 
-/// What is asked for of a page that flashes through so many turns.
-pub fn asked_of_phases(turns: u16) -> Asked
-    ensures { result ≡ asked_of_phases turns }
+/// The options of a page that flashes through so many turns.
+pub fn options_of_phases(turns: u16) -> ReportOptions
+    ensures { result ≡ options_of_phases turns }
 {
-    Asked {
+    ReportOptions {
         end: End::Phases(turns),
-        ..PAINTED
+        ..PAINT_OPTIONS
     }
 }
 
@@ -318,7 +319,8 @@ fn number_of(word: &str) -> Option<u32>
 
 /// An action and the one word after it, the name of a page.
 fn page_request<'a>(action: PageAction, words: &[&'a str]) -> Option<Request<'a>>
-    ensures { option_map request_by result ≡ page_request action (map (λ w. w.now) words.now) }
+    ensures { option_map request_by result
+        ≡ request_of_file (OfPage action) (map (λ w. w.now) words.now) }
 {
     match words {
         [page] if !page.is_empty() => Some(Request::Page(action, page)),
@@ -328,7 +330,8 @@ fn page_request<'a>(action: PageAction, words: &[&'a str]) -> Option<Request<'a>
 
 /// An action and the one word after it, the name of a page.
 fn bytes_request<'a>(action: BytesAction, words: &[&'a str]) -> Option<Request<'a>>
-    ensures { option_map request_by result ≡ bytes_request action (map (λ w. w.now) words.now) }
+    ensures { option_map request_by result
+        ≡ request_of_file (OfBytes action) (map (λ w. w.now) words.now) }
 {
     match words {
         [page] if !page.is_empty() => Some(Request::Bytes(action, page)),
@@ -339,7 +342,7 @@ fn bytes_request<'a>(action: BytesAction, words: &[&'a str]) -> Option<Request<'
 /// An action and the two words after it, the names of a page and of a script.
 fn script_request<'a>(action: ScriptAction, words: &[&'a str]) -> Option<Request<'a>>
     ensures request { option_map request_by result
-        ≡ script_request action (map (λ w. w.now) words.now) }
+        ≡ request_of_files (OfScript action) (map (λ w. w.now) words.now) }
     ensures differ { IfSome result (λ request. HasTwoNames (request_by request)) }
 {
     match words {
@@ -384,7 +387,8 @@ fn flash_request<'a>(words: &[&'a str]) -> Option<Request<'a>>
 
 /// The two words after the first, the names of a page and of a drawing.
 fn drawing_request<'a>(words: &[&'a str]) -> Option<Request<'a>>
-    ensures request { option_map request_by result ≡ drawing_request (map (λ w. w.now) words.now) }
+    ensures request { option_map request_by result
+        ≡ request_of_files OfDrawing (map (λ w. w.now) words.now) }
     ensures differ { IfSome result (λ request. HasTwoNames (request_by request)) }
 {
     match words {

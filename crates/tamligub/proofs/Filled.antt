@@ -1,8 +1,8 @@
 -- A run over a shelf of two files and a slice, as a call, and what is no run.
-use Rattle.std.proofs.Common.{◌≡◌, inl, inr, ℕ, ◌<◌, Bool, true, false, cond, List, [], ◌∷◌, ◌++◌, Some, None, codes}
+use Rattle.std.proofs.Common.{◌≡◌, ℕ, ◌<◌, Bool, true, false, cond, List, [], ◌∷◌, ◌++◌, Some, None, codes}
 use Rattle.std.proofs.Common.{option_map, is_some, length, take, drop, refl, sym, ap, subst, ◌∙◌, arith, length-take}
 use Rattle.std.proofs.Common.{take-append-drop, bytes_eq}
-use Rattle.std.proofs.lemmas.Option.{none-some, same_Some}
+use Rattle.std.proofs.lemmas.Option.{none-some}
 use Rattle.cept_outside.specs.ShelfState.{ShelfState, bytes_under, empty_shelf}
 use Rattle.cept_outside.specs.SinkState.{SinkState, empty_sink}
 use Rattle.cept_outside.specs.SliceSink.{IsFilled}

@@ -1,4 +1,6 @@
+mod BlankGrids
 mod BlockValues
+mod Loads
 mod NoticesRead
 mod Taken
 mod Unasked

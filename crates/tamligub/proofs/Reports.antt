@@ -10,6 +10,7 @@ use Rattle.cept_outside.specs.SinkState.{SinkState, Gains, GainsPart}
 use Rattle.cept_parser.specs.Items.{closed_items}
 use Rattle.cept_run.specs.Course.{Course, Source, File, Given, HasBytes, course_of}
 use Rattle.cept_run.specs.Events.{has_refusal}
+use Rattle.cept_run.specs.Outside.{PutsFront}
 use Rattle.cept_run.specs.Run.{EndsWhole, EndsAtWriteFault, IsReportCut, IsFaultCut, Ends, RunsCourse, ReadsFiles}
 use Rattle.cept_run.specs.Run.{TouchesShelf, fault_text, report_of, status_number}
 use Rattle.cept_run.specs.declared.run.Status.{Status}
@@ -43,7 +44,7 @@ module _ (word : List ℕ) (given number : ℕ) (page script old new : List ℕ)
       supplied page script on.before.shelf on.has_page on.has_script course.script e.script lines e.script_is lines_are in
       let shown = e.reports.meaning on.blank in
       let told : Some run.text ≡ Some (report (course.events e.page e.script on.after.glass.grid)) =
-      sym run.is ∙ ap (λ s. s.bytes) (sym on.after_sink) ∙ e.reports.put
+      sym run.is ∙ ap (λ s. s.bytes) (sym on.after_sink) ∙ e.reports.put.put
       ∙ ap (λ s. append_known s.bytes (report (course.events e.page e.script on.after.glass.grid))) on.before_sink in
       same_Some run.text _ told ∙ ap (λ g. report (course.events e.page e.script g)) shown
       ∙ ap (λ p. report_of course p e.script) same_page ∙ ap (λ l. report_of course read l) same_lines
@@ -109,21 +110,9 @@ module _ (word : List ℕ) (given number : ℕ) (page script old new : List ℕ)
       same source bytes other =
           supplied page script run.runs.before.shelf run.runs.has_page run.runs.has_script source bytes other
 
-      of_cut : (c : IsReportCut course run.runs.before run.runs.after)
-          → IsFront run.text (report_of course c.page c.script)
-      of_cut c =
-          let front = c.front run.runs.blank in
-          record {
-            rest = front.rest;
-            is = sym front.is ∙ ap (λ t. t ++ front.rest) (sym (put_is front.part front.put));
-            short = omega (
-              arith,
-              front.short flushes_always,
-              ap length (put_is front.part front.put),
-              ap length front.is,
-              length-append front.part front.rest,
-            );
-          }
+      of_front : (whole : List ℕ) → PutsFront whole run.runs.before.sink run.runs.after.sink → IsFront run.text whole
+      of_front whole (inl part) = part_is whole part
+      of_front whole (inr all) = let no : false ≡ true = sym all.1 ∙ flushes_always in cc
 
       by_cut : IsReportCut course run.runs.before run.runs.after ⊎ IsFaultCut course run.runs.before run.runs.after
           → IsCutOff course read lines run.text
@@ -131,20 +120,14 @@ module _ (word : List ℕ) (given number : ℕ) (page script old new : List ℕ)
           inl (subst (λ l. IsFront run.text (report_of course read l))
           (same course.script c.script lines c.script_is lines_are)
           (subst (λ p. IsFront run.text (report_of course p c.script))
-          (same course.page c.page read c.page_is page_is) (of_cut c)))
+          (same course.page c.page read c.page_is page_is)
+          (of_front (report_of course c.page c.script) (c.front run.runs.blank))))
       by_cut (inr c) =
           let bad = c.bad in
           let named = same course.script bad.script lines
           (subst (λ (s : Source). HasBytes run.runs.before.shelf s bad.script) (sym bad.named) bad.script_is)
           lines_are in
-          inr (bad.fault, subst (λ l. course.fault l ≡ Some bad.fault) named bad.found, of_fault c.put.put)
-        where
-          of_fault : GainsPart run.runs.before.sink (fault_text c.bad.fault) run.runs.after.sink
-              ⊎ (Gains run.runs.before.sink (fault_text c.bad.fault) run.runs.after.sink
-              × (run.runs.before.sink.always_flushes ≡ false))
-              → IsFront run.text (fault_text c.bad.fault)
-          of_fault (inl part) = part_is _ part
-          of_fault (inr all) = let no : false ≡ true = sym all.1 ∙ flushes_always in cc
+          inr (bad.fault, subst (λ l. course.fault l ≡ Some bad.fault) named bad.found, of_front (fault_text bad.fault) c.put)
 
   front_by : (s : Status) → answer ≡ status_number s → RunsCourse course run.runs.before run.runs.after s
       → answer ≡ 5 → IsFrontReported course read lines old new put
@@ -177,7 +160,7 @@ module _ (word : List ℕ) (given number : ℕ) (page script old new : List ℕ)
       supplied page script on.before.shelf on.has_page on.has_script course.script bad.script lines
       (subst (λ (s : Source). HasBytes on.before.shelf s bad.script) (sym bad.named) bad.script_is) lines_are in
       let told : Some run.text ≡ Some (fault_text bad.fault) =
-      sym run.is ∙ ap (λ (s : SinkState). s.bytes) (sym on.after_sink) ∙ e.put
+      sym run.is ∙ ap (λ (s : SinkState). s.bytes) (sym on.after_sink) ∙ e.put.put
       ∙ ap (λ (s : SinkState). append_known s.bytes (fault_text bad.fault)) on.before_sink in
       record {
         fault = bad.fault;

@@ -19,16 +19,16 @@ use Rattle.cept_live.specs.Lines.{item_lines, line_of, lines_after, lines_of, sa
 use Rattle.cept_live.specs.Live.{Ends, HasFed, LiveState, TellsAll}
 use Rattle.cept_live.specs.Notices.{Saying, notice_of, sayings_after}
 use Rattle.cept_live.proofs.Laws.{commands_of-more, lines_of-items, sayings_after-append}
-use Rattle.cept_run.specs.declared.words.Asked.{Asked}
+use Rattle.cept_run.specs.declared.words.ReportOptions.{ReportOptions}
 use Rattle.cept_run.specs.declared.words.PageAction.TheVariants as pages
 use Rattle.cept_run.specs.Events.{end_event, history, item_event, item_events, nothing_more, remaining_of, run_events}
 use Rattle.cept_run.specs.Events.{script_events, text_of_said}
-use Rattle.cept_run.specs.Words.{asked_of_page}
+use Rattle.cept_run.specs.Words.{options_of_page}
 use Rattle.tamligub.specs.Told.{lines_in}
 use Rattle.tamligub.proofs.NoticesRead.{saying_read}
 
-abbrev asked : Asked
-asked = asked_of_page pages.Changes
+abbrev asked : ReportOptions
+asked = options_of_page pages.Changes
 
 -- ---- of items
 

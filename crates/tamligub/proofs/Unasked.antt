@@ -1,6 +1,6 @@
 -- Words that are no request, and a call that puts nothing.
 use Rattle.std.proofs.Common.{◌≡◌, inl, inr, ℕ, List, [], ◌++◌, Option, Some, None, true, length, drop}
-use Rattle.std.proofs.Common.{refl, sym, ap, subst, ◌∙◌, arith}
+use Rattle.std.proofs.Common.{refl, sym, ap, subst, ◌∙◌}
 use Rattle.std.proofs.lemmas.Option.{same_Some}
 use Rattle.cept_outside.specs.SinkState.{SinkState}
 use Rattle.cept_run.specs.Outside.{Outside}
@@ -75,7 +75,11 @@ unput_run word given number page script old new put status run same =
 
 unput_by : (words : List (List ℕ)) (before after : Outside) (asked : Option Request) → request_of words ≡ asked
     → Runs words before after statuses.NoMemory → after.sink ≡ before.sink
-unput_by words before after (Some request) is runs = (runs.request request is).ends.unput
+unput_by words before after (Some request) is runs =
+    elim (runs.request request is).ends.early [
+      | inl same ↦ ap (λ (o : Outside). o.sink) same
+      | inr script ↦ script.1.unput
+    ]
 unput_by words before after None is runs = ap (λ (o : Outside). o.sink) (runs.untouched (runs.usage.1 is))
 
 pub nothing_put : (word : List ℕ) (given number : ℕ) (page script old new : List ℕ) (put answer : ℕ) (status : Status)

@@ -4,3 +4,5 @@ pub mod Decoders
 pub mod EditLines
 pub mod Owned
 pub mod Told
+pub mod LateGlass
+pub mod inside

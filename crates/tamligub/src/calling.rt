@@ -1,19 +1,62 @@
 //! A call: the run over a shelf that has the page and the script, a sink over the room for the text, and a
-//! blank glass, which takes no memory.
-ghost use Rattle.std.specs.Prelude.{◌≡◌, IfSome};
+//! blank glass.
+ghost use Rattle.std.specs.Prelude.{◌≡◌, IfSome, Some, true};
 ghost use Rattle.std.specs.Option.{option_map};
+ghost use Rattle.cept_run.specs.Course.{course_of};
 ghost use Rattle.cept_run.specs.Words.{HasTwoNames, request_by, request_of};
 ghost use Rattle.tamligub.specs.Called.{HasRun, RunsOn};
 ghost use Rattle.tamligub.specs.Words.{words_for};
+ghost use Rattle.tamligub.specs.inside.Blank.{RunsOverBlank};
 
+use crate::late_glass::LateGlass;
 use crate::words::{PAGE, SCRIPT, request_for};
-use cept_outside::{Filled, Lent, Sink, SliceFile, SliceShelf, SliceSink};
+use cept_outside::{Filled, Lent, Shelf, Sink, SliceFile, SliceShelf, SliceSink};
 use cept_profile::the_first_grid;
-use cept_repaint::ArrayGlass;
+use cept_repaint::GridGlass;
 use cept_run::run::{Request, Status, run_request};
 use itoa::Buffer;
 use std::alloc::Global;
 use std::marker::Brand;
+
+/// Runs the program on a request that paints, over a glass in memory, where there is any.
+#[inline(never)]
+fn run_in_memory<F: Shelf, T: Sink>(
+    alloc: Global,
+    request: Request<'_>,
+    shelf: &mut F,
+    sink: &mut T,
+) -> Status
+    requires names { HasTwoNames (request_by request) }
+    requires painting { (course_of (request_by request)).painting ≡ true }
+    ensures { RunsOverBlank (request_by request.entry) (F.state shelf.old) (T.state sink.old)
+        (F.state shelf.new) (T.state sink.new) result }
+{
+    // A law: before any command each place has the blank look.
+    the_first_grid();
+    let Ok(mut glass) = GridGlass::new(alloc) else {
+        return Status::NoMemory;
+    };
+    run_request(alloc, request, shelf, sink, &mut glass)
+}
+
+/// Runs the program on a request over a glass that takes no memory.
+// The glass stands on the stack of this call alone.
+#[inline(never)]
+fn run_late<F: Shelf, T: Sink>(
+    alloc: Global,
+    request: Request<'_>,
+    shelf: &mut F,
+    sink: &mut T,
+) -> Status
+    requires { HasTwoNames (request_by request) }
+    ensures { RunsOverBlank (request_by request.entry) (F.state shelf.old) (T.state sink.old)
+        (F.state shelf.new) (T.state sink.new) result }
+{
+    // A law: before any command each place has the blank look.
+    the_first_grid();
+    let mut glass = LateGlass::new();
+    run_request(alloc, request, shelf, sink, &mut glass)
+}
 
 /// What is asked of the program: a word and what is given after it, with the page and the script.
 #[derive(Clone, Copy)]
@@ -26,6 +69,21 @@ pub struct Call<'a> {
 }
 
 impl<'a> Call<'a> {
+    /// Whether the request that the words are paints.
+    fn paints(&self, request: &Request<'_>) -> bool
+        requires { request_of (words_for self.now.word.now self.now.given self.now.number)
+            ≡ Some (request_by request.now) }
+        ensures { result ≡ true → (course_of (request_by request.now)).painting ≡ true }
+    {
+        match request {
+            Request::Page(action, _) => action.options().way.is_painted(),
+            Request::Script(action, _, _) => action.options().way.is_painted(),
+            Request::Flash(_, _) | Request::Drawing(_, _) => true,
+            Request::Number(_, _) => self.word == b"load".as_slice(),
+            Request::Bytes(_, _) => false,
+        }
+    }
+
     /// Runs the program on the request that the words are, with the page and the script. Where they are
     /// none it does nothing.
     fn run_on<T: Sink>(&self, alloc: Global, request: Option<Request<'_>>, sink: &mut T) -> Status
@@ -35,8 +93,6 @@ impl<'a> Call<'a> {
         ensures { RunsOn self.now.word.now self.now.given self.now.number self.now.page.now
             self.now.script.now (T.state sink.old) (T.state sink.new) result }
     {
-        // A law: before any command each place has the blank look.
-        the_first_grid();
         let files = [
             SliceFile {
                 name: PAGE,
@@ -48,12 +104,13 @@ impl<'a> Call<'a> {
             },
         ];
         let mut shelf = SliceShelf::new(&files);
-        match request {
-            Some(request) => {
-                let mut glass = ArrayGlass::new();
-                run_request(alloc, request, &mut shelf, sink, &mut glass)
-            }
-            None => Status::Usage,
+        let Some(request) = request else {
+            return Status::Usage;
+        };
+        if self.paints(&request) {
+            run_in_memory(alloc, request, &mut shelf, sink)
+        } else {
+            run_late(alloc, request, &mut shelf, sink)
         }
     }
 

@@ -7,6 +7,7 @@ mod answer;
 mod block;
 mod calling;
 mod handle;
+mod late_glass;
 mod law;
 mod lines;
 mod live;

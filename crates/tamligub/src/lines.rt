@@ -1,7 +1,7 @@
 //! Lines of a script made on a decoder after its page has ended, as C calls it.
-ghost use Rattle.std.specs.Prelude.{◌≡◌, ◌≤◌, ◌⊎◌, true, false, length};
+ghost use Rattle.std.specs.Prelude.{◌≡◌, true, false};
 ghost use Rattle.cept_live.specs.Colours.{colour_entries};
-ghost use Rattle.tamligub.specs.Decoders.{IsKept, IsRefused};
+ghost use Rattle.tamligub.specs.Decoders.{CountsOf, IsClosed, IsRefused, ToldOrRefused};
 ghost use Rattle.tamligub.specs.EditLines.{AnswersLine, fault_number, line_answer, line_fault};
 ghost use Rattle.tamligub.specs.EditLines.{line_notices};
 
@@ -94,10 +94,7 @@ pub extern "C" fn tamligub_line(
 /// How many edits can be taken back, at most 64; none where no decoder is open.
 #[unsafe(no_mangle)]
 pub extern "C" fn tamligub_kept(alloc: Global, decoder: &mut Decoder) -> u32
-    ensures edits { decoder.old.is_open ≡ true → result ≡ length decoder.old.block.value.past }
-    ensures closed { decoder.old.is_open ≡ false → result ≡ 0 }
-    ensures at_most_64 { result ≤ 64 }
-    ensures kept { IsKept decoder.old decoder.new }
+    ensures { CountsOf (λ live. live.past) decoder.old decoder.new result }
 {
     let Some(live) = decoder.take(alloc) else {
         return 0;
@@ -110,10 +107,7 @@ pub extern "C" fn tamligub_kept(alloc: Global, decoder: &mut Decoder) -> u32
 /// How many edits were taken back and can be made again, at most 64; none where no decoder is open.
 #[unsafe(no_mangle)]
 pub extern "C" fn tamligub_undone(alloc: Global, decoder: &mut Decoder) -> u32
-    ensures edits { decoder.old.is_open ≡ true → result ≡ length decoder.old.block.value.future }
-    ensures closed { decoder.old.is_open ≡ false → result ≡ 0 }
-    ensures at_most_64 { result ≤ 64 }
-    ensures kept { IsKept decoder.old decoder.new }
+    ensures { CountsOf (λ live. live.future) decoder.old decoder.new result }
 {
     let Some(live) = decoder.take(alloc) else {
         return 0;
@@ -130,11 +124,8 @@ pub extern "C" fn tamligub_colours(
     decoder: &mut Decoder,
     colours: &mut ColourEntries,
 ) -> u32
-    ensures told { result ≡ 0 → (decoder.old.is_open ≡ true)
-        × (colours.new ≡ colour_entries decoder.old.block.value.screen.page) }
-    ensures refused { (result ≡ 0) ⊎ ((result ≡ 1) × (colours.new ≡ colours.old)) }
-    ensures cause { result ≡ 1 → decoder.old.is_open ≡ false }
-    ensures kept { IsKept decoder.old decoder.new }
+    ensures { ToldOrRefused (λ live. colour_entries live.screen.page) IsClosed decoder.old
+        decoder.new colours.old colours.new result }
 {
     let Some(live) = decoder.take(alloc) else {
         return 1;

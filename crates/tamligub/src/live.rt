@@ -2,12 +2,11 @@
 //! that isn't open, whose page has ended or that was closed before, too: it takes the decoder out of what C
 //! keeps, and puts it back.
 ghost use Rattle.std.specs.Prelude.{◌≡◌, ◌≤◌, ◌⊎◌, [], true, false, length, take};
-ghost use Rattle.cept_live.specs.Live.{Ends, Feeds, HasFed, Stops};
-ghost use Rattle.cept_live.specs.Shown.{Begins, phase_after, shown};
+ghost use Rattle.cept_live.specs.Live.{Feeds, HasFed, Stops};
 ghost use Rattle.cept_live.specs.States.{state_record};
-ghost use Rattle.tamligub.specs.Decoders.{blank_display, notice_at};
-ghost use Rattle.tamligub.specs.Decoders.{CannotEnd, CannotFlash, HasNoLook, IsKept, IsRefused};
-ghost use Rattle.tamligub.specs.Decoders.{IsClosed, PutsTextOf, TakesNone, page_of};
+ghost use Rattle.tamligub.specs.Decoders.{CannotEnd, CannotFlash, DoneOrRefused, FlashStarts};
+ghost use Rattle.tamligub.specs.Decoders.{FlashTurns, HasNoLook, IsClosed, IsRefused, PageEnds};
+ghost use Rattle.tamligub.specs.Decoders.{PutsTextOf, TakesNone, ToldOrRefused, notice_at, page_of};
 
 use crate::answer::answer_of;
 use crate::handle::Decoder;
@@ -77,12 +76,8 @@ pub extern "C" fn tamligub_finish(
     list: &mut [Notice],
     notices: &mut u64,
 ) -> u32
-    ensures ended { result ≡ 0 → (decoder.old.is_open ≡ true) × Ends decoder.old.block.value
-        list.old 0 decoder.new.block.value notices.new list.new }
-    ensures refused { (result ≡ 0) ⊎ ((result ≡ 1)
-        × IsRefused decoder.old decoder.new list.old list.new notices.new) }
-    ensures causes { result ≡ 1 → CannotEnd decoder.old list.old }
-    ensures is_open { decoder.new.is_open ≡ decoder.old.is_open }
+    ensures { DoneOrRefused PageEnds CannotEnd decoder.old decoder.new list.old list.new
+        notices.new result }
 {
     *notices = 0;
     let Some(mut live) = decoder.take(alloc) else {
@@ -107,11 +102,9 @@ pub extern "C" fn tamligub_look(
     column: u8,
     notice: &mut Notice,
 ) -> u32
-    ensures look { result ≡ 0 → (decoder.old.is_open ≡ true) × (notice.new
-        ≡ notice_at decoder.old.block.value (record { row = row; column = column })) }
-    ensures refused { (result ≡ 0) ⊎ ((result ≡ 1) × (notice.new ≡ notice.old)) }
-    ensures causes { result ≡ 1 → HasNoLook decoder.old (record { row = row; column = column }) }
-    ensures kept { IsKept decoder.old decoder.new }
+    ensures { ToldOrRefused (notice_at (record { row = row; column = column }))
+        (HasNoLook (record { row = row; column = column })) decoder.old decoder.new notice.old
+        notice.new result }
 {
     let Some(at) = Pos::new(row, column) else {
         return 1;
@@ -131,11 +124,8 @@ pub extern "C" fn tamligub_state(
     decoder: &mut Decoder,
     state: &mut DecoderState,
 ) -> u32
-    ensures told { result ≡ 0 → (decoder.old.is_open ≡ true)
-        × (state.new ≡ state_record decoder.old.block.value) }
-    ensures refused { (result ≡ 0) ⊎ ((result ≡ 1) × (state.new ≡ state.old)) }
-    ensures cause { result ≡ 1 → decoder.old.is_open ≡ false }
-    ensures kept { IsKept decoder.old decoder.new }
+    ensures { ToldOrRefused state_record IsClosed decoder.old decoder.new state.old state.new
+        result }
 {
     let Some(live) = decoder.take(alloc) else {
         return 1;
@@ -154,8 +144,7 @@ pub extern "C" fn tamligub_write(
     out: &mut [u8],
     put: &mut u64,
 ) -> u32
-    ensures page { PutsTextOf page_of IsClosed decoder.old out.old out.new put.new result }
-    ensures kept { IsKept decoder.old decoder.new }
+    ensures { PutsTextOf page_of IsClosed decoder.old decoder.new out.old out.new put.new result }
 {
     *put = 0;
     let Some(live) = decoder.take(alloc) else {
@@ -176,12 +165,8 @@ pub extern "C" fn tamligub_flash_start(
     list: &mut [Notice],
     notices: &mut u64,
 ) -> u32
-    ensures begun { result ≡ 0 → (decoder.old.is_open ≡ true) × Begins decoder.old.block.value
-        blank_display 0 list.old decoder.new.block.value notices.new list.new }
-    ensures refused { (result ≡ 0) ⊎ ((result ≡ 1)
-        × IsRefused decoder.old decoder.new list.old list.new notices.new) }
-    ensures causes { result ≡ 1 → CannotFlash decoder.old list.old }
-    ensures is_open { decoder.new.is_open ≡ decoder.old.is_open }
+    ensures { DoneOrRefused FlashStarts CannotFlash decoder.old decoder.new list.old list.new
+        notices.new result }
 {
     *notices = 0;
     let Some(mut live) = decoder.take(alloc) else {
@@ -205,13 +190,8 @@ pub extern "C" fn tamligub_flash_turn(
     list: &mut [Notice],
     notices: &mut u64,
 ) -> u32
-    ensures begun { result ≡ 0 → (decoder.old.is_open ≡ true) × Begins decoder.old.block.value
-        (shown decoder.old.block.value) (phase_after decoder.old.block.value.phase) list.old
-        decoder.new.block.value notices.new list.new }
-    ensures refused { (result ≡ 0) ⊎ ((result ≡ 1)
-        × IsRefused decoder.old decoder.new list.old list.new notices.new) }
-    ensures causes { result ≡ 1 → CannotFlash decoder.old list.old }
-    ensures is_open { decoder.new.is_open ≡ decoder.old.is_open }
+    ensures { DoneOrRefused FlashTurns CannotFlash decoder.old decoder.new list.old list.new
+        notices.new result }
 {
     *notices = 0;
     let Some(mut live) = decoder.take(alloc) else {

@@ -2,7 +2,7 @@
 ghost use Rattle.std.specs.Prelude.{◌≡◌, ◌⊎◌, ℕ, List, false, true};
 ghost use Rattle.cept_live.specs.Live.{HasFed, IsPhase, LiveState};
 ghost use Rattle.cept_live.specs.Snapshots.{snapshot_of};
-ghost use Rattle.tamligub.specs.Decoders.{HasNoSnapshot, IsKept, IsRestored, PutsTextOf};
+ghost use Rattle.tamligub.specs.Decoders.{HasNoSnapshot, IsRestored, PutsTextOf};
 
 use crate::answer::answer_of;
 use crate::handle::Decoder;
@@ -19,11 +19,9 @@ pub extern "C" fn tamligub_snapshot(
     out: &mut [u8],
     put: &mut u64,
 ) -> u32
-    ensures snapshot { PutsTextOf snapshot_of HasNoSnapshot decoder.old out.old out.new put.new
-        result }
-    ensures running { result ≡ 0 → decoder.old.block.value.parser.finished ≡ false }
+    ensures snapshot { PutsTextOf snapshot_of HasNoSnapshot decoder.old decoder.new out.old out.new
+        put.new result }
     ensures phase { result ≡ 0 → IsPhase decoder.old.block.value.phase }
-    ensures kept { IsKept decoder.old decoder.new }
 {
     *put = 0;
     let Some(live) = decoder.take(alloc) else {

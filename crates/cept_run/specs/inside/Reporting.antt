@@ -12,19 +12,19 @@ use Rattle.cept_listing.specs.Listing.{item_line}
 use Rattle.cept_report.specs.Text.{change_lines}
 use Rattle.cept_editor.specs.Events.{Event}
 use Rattle.cept_editor.specs.Made.{Output, IsMade}
-use Rattle.cept_run.specs.declared.easel.Easel.TheVariants as easels
-use Rattle.cept_run.specs.declared.words.Asked.{Asked}
+use Rattle.cept_run.specs.declared.target.Target.TheVariants as targets
+use Rattle.cept_run.specs.declared.words.ReportOptions.{ReportOptions}
 use Rattle.cept_run.specs.declared.words.Way.{Way}
 use Rattle.cept_run.specs.declared.words.Way.TheVariants as ways
-use Rattle.cept_run.specs.Words.{is_painted, lists_changes}
+use Rattle.cept_run.specs.Words.{lists_changes}
 use Rattle.cept_run.specs.Events.{named_text}
 use Rattle.cept_run.specs.Events.{Sequel}
-use Rattle.cept_run.specs.Reporting.{ReporterState, painted_easel, counted_of}
+use Rattle.cept_run.specs.Reporting.{ReporterState, painted_target, counted_places}
 
 -- what is put of refused bytes
-abbrev pub refusal_text : Asked → Item → Reason → List ℕ
-refusal_text asked item reason =
-    if asked.refusals then named_text asked.way item reason else []
+abbrev pub refusal_text : ReportOptions → Item → Reason → List ℕ
+refusal_text options item reason =
+    if options.refusals then named_text options.way item reason else []
 
 -- nothing is done with commands but that they are counted
 abbrev pub is_quiet : Way → Bool
@@ -32,11 +32,11 @@ is_quiet ways.Count = true
 is_quiet _ = false
 
 -- a command at this place, after these
-abbrev pub command_event : Asked → ℕ → List Command → Command → Event
-command_event asked place earlier command = record {
+abbrev pub command_event : ReportOptions → ℕ → List Command → Command → Event
+command_event options place earlier command = record {
   before = earlier;
   after = earlier ++ command ∷ [];
-  text = if lists_changes asked.way then change_lines place (changes earlier command) else [];
+  text = if lists_changes options.way then change_lines place (changes earlier command) else [];
 }
 
 -- an item's line was put, or the sink failed; nothing else happened
@@ -49,17 +49,13 @@ pub record IsListedAlone {X E : Type 0} (old : ReporterState) (item : Item) (bef
 -- it applies the command of an item: where commands are painted, the command's event is made; else the item is listed
 pub record Applies {X E : Type 0} (old : ReporterState) (item : Item) (command : Command) (before : Output)
     (result : Result X E) (new : ReporterState) (after : Output) : Type 0 where
-  pub asked : new.asked ≡ old.asked
+  pub options : new.options ≡ old.options
   pub items : new.items ≡ old.items
   pub refused : new.refused ≡ old.refused
-  pub easel : (sequel : Option Sequel) (earlier : List Command) → AllValid earlier
-      → is_painted old.asked.way ≡ true → old.easel ≡ painted_easel sequel earlier
-      → new.easel ≡ painted_easel sequel (earlier ++ command ∷ [])
-  pub made : (sequel : Option Sequel) (earlier : List Command) → AllValid earlier
-      → is_painted old.asked.way ≡ true → old.easel ≡ painted_easel sequel earlier
-      → IsMade (command_event old.asked item.at earlier command) before result after
-  pub painted : (sequel : Option Sequel) (earlier : List Command) → AllValid earlier
-      → is_painted old.asked.way ≡ true → old.easel ≡ painted_easel sequel earlier
-      → new.painted ≡ old.painted + counted_of old.asked (length (changes earlier command))
+  pub applied : (sequel : Option Sequel) (earlier : List Command) → AllValid earlier
+      → old.target ≡ painted_target sequel earlier
+      → (new.target ≡ painted_target sequel (earlier ++ command ∷ []))
+      × IsMade (command_event old.options item.at earlier command) before result after
+      × (new.painted ≡ old.painted + counted_places old.options (length (changes earlier command)))
   pub few : new.painted ≤ old.painted + 960
-  pub listed : old.easel ≡ easels.Nothing → IsListedAlone old item before result new after
+  pub listed : old.target ≡ targets.Nothing → IsListedAlone old item before result new after

@@ -1,8 +1,7 @@
 -- What private clauses say beside `ScriptReading` (this project's own).
-use Rattle.std.specs.Prelude.{◌≡◌, ◌≢◌, ℕ, ◌^◌, ◌<◌, ◌≤◌, true, false, List, length, Some, None, IsSome}
+use Rattle.std.specs.Prelude.{◌≡◌, ◌≢◌, ℕ, ◌^◌, ◌≤◌, List, length, None, IsSome}
 use Rattle.cept_editor.specs.declared.script.ScriptFault.{ScriptFault}
 use Rattle.cept_editor.specs.declared.script.ScriptFault.TheVariants as faults
-use Rattle.cept_outside.specs.Causes.{Rose}
 use Rattle.cept_outside.specs.ShelfState.{ShelfState, KeepsFiles, bytes_under}
 use Rattle.cept_outside.specs.SinkState.{SinkState}
 use Rattle.cept_plot.specs.declared.drawing.DrawFault.{DrawFault}
@@ -12,66 +11,20 @@ use Rattle.cept_run.specs.declared.page.Stop.{Stop}
 use Rattle.cept_run.specs.declared.page.Stop.TheVariants as stops
 use Rattle.cept_run.specs.Outside.{PutsWhole, PutsUnflushed}
 use Rattle.cept_run.specs.Course.{Source, File, HasBytes, Grammar, first_fault_in}
-use Rattle.cept_run.specs.ScriptReading.{ScriptUnread, ScriptTooLong}
+use Rattle.cept_run.specs.Taking.{TakesUnread, TakesTooMany}
 
--- ---- the bytes that are selected are taken
-
--- all were taken, up to where the shelf said that there are no more
-pub record TakenWhole (bytes : List ℕ) (before after : ShelfState) : Type 0 where
-  pub known : (script : List ℕ) → before.left ≡ Some script → bytes ≡ script
-  pub taken : after.taken ≡ length bytes
-  pub ended : after.ended ≡ true
-  pub few : length bytes ≤ 2 ^ 20
-  pub stays : after.faults ≡ before.faults
-
--- the shelf failed
-pub record Untaken (before after : ShelfState) : Type 0 where
-  pub cause : Rose before.faults after.faults
-  pub short : after.taken ≤ 2 ^ 20
-  pub unended : after.ended ≡ false
-
--- there are more than 2^20
-pub record TakenTooLong (before after : ShelfState) : Type 0 where
-  pub cause : 2 ^ 20 < after.taken
-  pub longer : (script : List ℕ) → before.left ≡ Some script → 2 ^ 20 < length script
-  pub stays : after.faults ≡ before.faults
-
--- they weren't taken to the end, for this reason
-abbrev pub TakingStops : ShelfState → Stop → ShelfState → Type 0
-TakingStops before stops.ReadFault after = Untaken before after
-TakingStops before stops.WriteFault after = ⊥
-TakingStops before stops.TooLong after = TakenTooLong before after
-TakingStops before stops.Script after = ⊥
-TakingStops before stops.NoMemory after = after.faults ≡ before.faults
-TakingStops before stops.NotSeven after = ⊥
-
--- ---- a file of this name is taken
-
--- these are its bytes, and all were taken
-pub record FileWhole (name bytes : List ℕ) (before after : ShelfState) : Type 0 where
-  pub known : HasBytes before (File name) bytes
-  pub taken : after.taken ≡ length bytes
-  pub ended : after.ended ≡ true
-  pub few : length bytes ≤ 2 ^ 20
-  pub stays : after.faults ≡ before.faults
-
--- it wasn't taken to its end, for this reason
-abbrev pub FileStops : List ℕ → ShelfState → Stop → ShelfState → Type 0
-FileStops name before stops.ReadFault after = ScriptUnread before after
-FileStops name before stops.WriteFault after = ⊥
-FileStops name before stops.TooLong after = ScriptTooLong name before after
-FileStops name before stops.Script after = ⊥
-FileStops name before stops.NoMemory after = after.faults ≡ before.faults
-FileStops name before stops.NotSeven after = ⊥
+-- why the taking of a script stops
+abbrev pub TakingStops : (List ℕ → Type 0) → ShelfState → Stop → ShelfState → Type 0
+TakingStops Told before stops.ReadFault after = TakesUnread (2 ^ 20) before after
+TakingStops Told before stops.TooLong after = TakesTooMany Told (2 ^ 20) before after
+TakingStops Told before stops.NoMemory after = after.faults ≡ before.faults
+TakingStops Told before _ after = ⊥
 
 -- the line of a fault was put, whole and flushed, or the sink failed
 abbrev pub Refuses : List ℕ → SinkState → Stop → SinkState → Type 0
-Refuses text old stops.ReadFault new = ⊥
 Refuses text old stops.WriteFault new = PutsUnflushed text old new
-Refuses text old stops.TooLong new = ⊥
 Refuses text old stops.Script new = PutsWhole text old new
-Refuses text old stops.NoMemory new = ⊥
-Refuses text old stops.NotSeven new = ⊥
+Refuses text old _ new = ⊥
 
 -- what is answered and put by the fault of a script
 abbrev pub StopsAt : ScriptFault → SinkState → Stop → SinkState → Type 0

@@ -75,14 +75,16 @@ returns-in_default-clause-ends g c =
     let come = c.loop-count.invariant.come in
     let taken = c.in_default.ensures.takes.failed.1 ∙ c.loop-count.invariant.taken in
     record {
-      cause = Rose-since _ _ _ c.loop-count.invariant.stays c.in_default.ensures.cause.failed;
+      takes = record {
+        cause = Rose-since _ _ _ c.loop-count.invariant.stays c.in_default.ensures.cause.failed;
+        few = omega (arith, taken, c.loop-count.invariant.few);
+        unended = c.in_default.ensures.takes.failed.2 ∙ c.loop-count.invariant.unended;
+      };
       bytes = come.bytes;
       known = λ page is. (come.known page is).0 ∙ ap (λ k. take k page) (sym taken);
       made = come.read.reported.made;
       stays = come.read.reported.stays;
       taken = taken ∙ sym come.count;
-      few = omega (arith, come.count, c.loop-count.invariant.few);
-      unended = c.in_default.ensures.takes.failed.2 ∙ c.loop-count.invariant.unended;
     }
 
 pub returns-in_err-finish-clause-ends : goal.returns-in_err-finish-clause-ends
@@ -91,14 +93,18 @@ returns-in_err-finish-clause-ends g c =
     let p = err_from_is_err_and c.from_residual.result c.from_residual.ensures.1 in
     rw (p.1, p.2) (inr (record {
       bytes = come.bytes;
-      taken = omega (arith, c.in-Ok.ensures.takes.taken, come.count, c.loop-count.invariant.taken, c.if-count-eq0.true, c.loop-count.invariant.few);
-      known = λ page is.
-          let known = come.known page is in
-          known.0 ∙ all_taken page c.loop-count.place (c.in-Ok.ensures.takes.end c.if-count-eq0.true _ known.1);
-      few = omega (arith, come.count, c.loop-count.invariant.few);
+      takes = record {
+        taken = record {
+          taken = omega (arith, c.in-Ok.ensures.takes.taken, come.count, c.loop-count.invariant.taken, c.if-count-eq0.true, c.loop-count.invariant.few);
+          ended = c.in-Ok.ensures.takes.ended c.if-count-eq0.true;
+        };
+        known = λ page is.
+            let known = come.known page is in
+            known.0 ∙ all_taken page c.loop-count.place (c.in-Ok.ensures.takes.end c.if-count-eq0.true _ known.1);
+        few = omega (arith, come.count, c.loop-count.invariant.few);
+        stays = c.in-Ok.ensures.cause.stays ∙ c.loop-count.invariant.stays;
+      };
       cut = c.in_err-finish.ensures.cut _ come.bytes _ come.read;
-      ended = c.in-Ok.ensures.takes.ended c.if-count-eq0.true;
-      stays = c.in-Ok.ensures.cause.stays ∙ c.loop-count.invariant.stays;
     }))
 
 pub returns-then-count-eq0-clause-ends : goal.returns-then-count-eq0-clause-ends
@@ -107,14 +113,18 @@ returns-then-count-eq0-clause-ends g c =
     record {
       bytes = come.bytes;
       count_is = sym come.count;
-      known = λ page is.
-          let known = come.known page is in
-          known.0 ∙ all_taken page c.loop-count.place (c.in-Ok.ensures.takes.end c.if-count-eq0.true _ known.1);
+      takes = record {
+        taken = record {
+          taken = omega (arith, c.in-Ok.ensures.takes.taken, come.count, c.loop-count.invariant.taken, c.if-count-eq0.true, c.loop-count.invariant.few);
+          ended = c.in-Ok.ensures.takes.ended c.if-count-eq0.true;
+        };
+        known = λ page is.
+            let known = come.known page is in
+            known.0 ∙ all_taken page c.loop-count.place (c.in-Ok.ensures.takes.end c.if-count-eq0.true _ known.1);
+        few = omega (arith, come.count, c.loop-count.invariant.few);
+        stays = c.in-Ok.ensures.cause.stays ∙ c.loop-count.invariant.stays;
+      };
       reported = c.in_ok-finish.ensures.reported _ come.bytes _ come.read;
-      taken = omega (arith, c.in-Ok.ensures.takes.taken, come.count, c.loop-count.invariant.taken, c.if-count-eq0.true, c.loop-count.invariant.few);
-      stays = c.in-Ok.ensures.cause.stays ∙ c.loop-count.invariant.stays;
-      few = omega (arith, come.count, c.loop-count.invariant.few);
-      ended = c.in-Ok.ensures.takes.ended c.if-count-eq0.true;
     }
 
 pub returns-in_err-read_piece-clause-ends : goal.returns-in_err-read_piece-clause-ends
@@ -136,29 +146,33 @@ returns-in_err-read_piece-clause-ends g c =
     in
     rw (p.1, p.2) (inl (record {
       bytes = bytes;
-      taken = omega (
-        arith,
-        taken,
-        length-append come.bytes (take c.in-Ok.count c.take.new.into),
-        come.count,
-        length-take-le c.in-Ok.count c.take.new.into within,
-      );
+      takes = record {
+        taken = omega (
+          arith,
+          taken,
+          length-append come.bytes (take c.in-Ok.count c.take.new.into),
+          come.count,
+          length-take-le c.in-Ok.count c.take.new.into within,
+        );
+        known = λ page is.
+            let known = come.known page is in
+            let moved = sym known.1 ∙ c.in-Ok.ensures.takes.moved in (
+              omega (
+                arith,
+                taken,
+                taken_there page c.take.new.into c.loop-count.place c.in-Ok.count _ moved c.in-Ok.ensures.takes.within,
+                c.if-count-eq0.false,
+              ),
+              front_with page c.take.new.into come.bytes c.loop-count.place c.in-Ok.count c.in-Ok.count _ known.0 moved
+                  c.in-Ok.ensures.takes.within (omega arith) ∙ ap (λ m. take m page) (sym taken),
+            );
+        unended = c.in-Ok.ensures.takes.goes_on (omega (arith, c.if-count-eq0.false)) ∙ so_far.unended;
+        stays = c.in-Ok.ensures.cause.stays ∙ so_far.stays;
+      };
       front = items front;
       front_is = ap items (part ∙ ap (λ m. take m bytes) (sym limit));
       are = more_items front (drop k bytes) bytes _ (ap (λ b. b ++ drop k bytes) part ∙ take-append-drop k bytes)
           (c.reading_goes_on.ensures.bytes front (drop k bytes));
-      known = λ page is.
-          let known = come.known page is in
-          let moved = sym known.1 ∙ c.in-Ok.ensures.takes.moved in (
-            omega (
-              arith,
-              taken,
-              taken_there page c.take.new.into c.loop-count.place c.in-Ok.count _ moved c.in-Ok.ensures.takes.within,
-              c.if-count-eq0.false,
-            ),
-            front_with page c.take.new.into come.bytes c.loop-count.place c.in-Ok.count c.in-Ok.count _ known.0 moved
-                c.in-Ok.ensures.takes.within (omega arith) ∙ ap (λ m. take m page) (sym taken),
-          );
       there = λ page is.
           let known = come.known page is in
           let told = front_with page c.take.new.into come.bytes c.loop-count.place c.in-Ok.count c.min-fitting.result _
@@ -166,8 +180,6 @@ returns-in_err-read_piece-clause-ends g c =
           more_items front (drop k page) page _ (ap (λ b. b ++ drop k page) told ∙ take-append-drop k page)
           (c.reading_goes_on.ensures.bytes front (drop k page));
       cut = c.in_err-read_piece.ensures.cut _ come.bytes _ come.read;
-      unended = c.in-Ok.ensures.takes.goes_on (omega (arith, c.if-count-eq0.false)) ∙ so_far.unended;
-      stays = c.in-Ok.ensures.cause.stays ∙ so_far.stays;
     }))
 
 pub returns-then-fitting-count-clause-ends : goal.returns-then-fitting-count-clause-ends
@@ -177,7 +189,17 @@ returns-then-fitting-count-clause-ends g c =
     let within : c.min-fitting.result ≤ length c.take.new.into = omega (arith, c.in-Ok.ensures.takes.within) in
     let read = c.in_ok-read_piece.ensures.read _ come.bytes _ come.read in
     record {
-      cause = omega (arith, c.in-Ok.ensures.takes.taken);
+      takes = record {
+        cause = omega (arith, c.in-Ok.ensures.takes.taken);
+        longer = λ page is.
+            let known = come.known page is in
+            omega (
+              arith,
+              taken_there page c.take.new.into c.loop-count.place c.in-Ok.count _
+                  (sym known.1 ∙ c.in-Ok.ensures.takes.moved) c.in-Ok.ensures.takes.within,
+            );
+        stays = c.in-Ok.ensures.cause.stays ∙ c.loop-count.invariant.stays;
+      };
       bytes = come.bytes ++ take c.min-fitting.result c.take.new.into;
       count = omega (
         arith,
@@ -188,15 +210,9 @@ returns-then-fitting-count-clause-ends g c =
       );
       known = λ page is.
           let known = come.known page is in
-          let moved = sym known.1 ∙ c.in-Ok.ensures.takes.moved in (
-            omega (
-              arith,
-              taken_there page c.take.new.into c.loop-count.place c.in-Ok.count _ moved c.in-Ok.ensures.takes.within,
-            ),
-            front_with page c.take.new.into come.bytes c.loop-count.place c.in-Ok.count c.min-fitting.result _
-                known.0 moved c.in-Ok.ensures.takes.within (omega arith) ∙ ap (λ k. take k page) limit,
-          );
+          front_with page c.take.new.into come.bytes c.loop-count.place c.in-Ok.count c.min-fitting.result _ known.0
+          (sym known.1 ∙ c.in-Ok.ensures.takes.moved) c.in-Ok.ensures.takes.within (omega arith)
+          ∙ ap (λ k. take k page) limit;
       made = read.reported.made;
-      shelf_stays = c.in-Ok.ensures.cause.stays ∙ c.loop-count.invariant.stays;
-      sink_stays = read.reported.stays;
+      stays = read.reported.stays;
     }

@@ -1,6 +1,6 @@
 use Rattle.std.proofs.Common.{[], refl, sym, ◌∙◌, ap, subst}
-use Rattle.cept_run.specs.declared.words.Asked.{Asked}
-use Rattle.cept_run.specs.Course.{File, Given, Scripts, reporting}
+use Rattle.cept_run.specs.declared.words.ReportOptions.{ReportOptions}
+use Rattle.cept_run.specs.Course.{File, Given, Scripts, report_course}
 use Rattle.cept_run.specs.Outside.{outside_of}
 use Rattle.cept_run.specs.Reporting.{sequel_of}
 use Rattle.cept_run.specs.Run.{RunsCourse, status_at_end}
@@ -10,18 +10,18 @@ use Rattle.cept_run.proofs.run.report_phases.Goals as goal
 
 pub report_stored-requires-clause-fresh : goal.report_stored-requires-clause-fresh
 report_stored-requires-clause-fresh g c = λ start.
-    let asked = c.asked_of_phases-asked.result in
-    fresh_by _ (alone asked) start (plan_alone c.new-decoder.result.reporter asked _ c.new-decoder.ensures.asked c.new-decoder.ensures.easel
-    c.in_ok-easel.ensures.start) (c.new-decoder.ensures.read (alone asked) refl c.in_ok-easel.ensures.start start)
+    let options = c.options_of_phases-options.result in
+    fresh_by _ (alone options) start (plan_alone c.new-decoder.result.reporter options _ c.new-decoder.ensures.options c.new-decoder.ensures.target
+    c.in_ok-target.ensures.start) (c.new-decoder.ensures.read (alone options) refl c.in_ok-target.ensures.start start)
 
 pub returns : goal.returns
 returns g c =
-    let asked = c.asked_of_phases-asked.result in
-    let plan = plan_alone c.new-decoder.result.reporter asked _ c.new-decoder.ensures.asked c.new-decoder.ensures.easel c.in_ok-easel.ensures.start in
-    subst (λ (a : Asked). RunsCourse (reporting a Scripts (File c.args.page.now) (Given []))
+    let options = c.options_of_phases-options.result in
+    let plan = plan_alone c.new-decoder.result.reporter options _ c.new-decoder.ensures.options c.new-decoder.ensures.target c.in_ok-target.ensures.start in
+    subst (λ (a : ReportOptions). RunsCourse (report_course a Scripts (File c.args.page.now) (Given []))
     (outside_of (g.F.Shelf.state c.args.shelf.now) (g.T.Sink.state c.args.sink.now) (g.G.Glass.state c.args.glass.now))
     (outside_of (g.F.Shelf.state c.report_stored.new.shelf) (g.T.Sink.state c.report_stored.new.sink)
     (g.G.Glass.state c.report_stored.new.glass)) (status_at_end c.report_stored.result))
-    (c.new-decoder.ensures.asked ∙ c.asked_of_phases-asked.ensures)
+    (c.new-decoder.ensures.options ∙ c.options_of_phases-options.ensures)
     (c.report_stored.ensures Scripts (Given []) [] _ (no_script _ _)
-    (ap sequel_of plan ∙ nothing_alone asked ∙ sym sequel-none))
+    (ap sequel_of plan ∙ nothing_alone options ∙ sym sequel-none))

@@ -30,7 +30,7 @@ returns-in_err-make_edits g c = λ grammar script bytes start known sequel.
     let read = c.in_ok-bytes.ensures.ends in
     rw (p.1, p.2) (ends_unedited plan grammar _ script bytes _ _ known (g.F.Shelf.state c.select.new.self) _ _
     (g.met.F.Shelf.sound c.args.shelf.now) c.in-Ok.ensures.selects
-    c.in-Ok.ensures.cause.stays c.read_page.ensures.shelf read.bytes read.known (read.taken, read.ended) read.stays read.few sequel _ refl
+    c.in-Ok.ensures.cause.stays c.read_page.ensures.shelf read.bytes read.takes sequel _ refl
     (c.in_err-make_edits.ensures.cut plan (closed_items read.bytes) _ read.reported))
 
 -- it was reported to its end
@@ -42,7 +42,7 @@ returns g c = λ grammar script bytes start known sequel.
     let h = remaining_at_end plan (closed_items read.bytes) in
     ends_put plan grammar _ script bytes _ _ known (g.F.Shelf.state c.select.new.self) _ _
     (g.met.F.Shelf.sound c.args.shelf.now) c.in-Ok.ensures.selects
-    c.in-Ok.ensures.cause.stays c.read_page.ensures.shelf read.bytes read.known (read.taken, read.ended) read.stays read.few sequel _
+    c.in-Ok.ensures.cause.stays c.read_page.ensures.shelf read.bytes read.takes sequel _
     edited.made edited.stays
     (restores h (c.compact_pages_are_spelled.ensures.none (core h) (c.validity_is_kept.ensures.core (state h)
     (c.validity_is_kept.ensures.always h edited.valid))) (c.compact_texts_bring_pages_back.ensures.always h edited.valid))

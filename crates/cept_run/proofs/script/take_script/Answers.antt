@@ -53,7 +53,7 @@ returns-in_default-clause-stopped g c =
     let taken = c.in_default.ensures.takes.failed.1 ∙ c.loop-count.invariant.taken in
     record {
       cause = Rose-since _ _ _ c.loop-count.invariant.stays c.in_default.ensures.cause.failed;
-      short = omega (arith, taken, c.loop-count.invariant.few);
+      few = omega (arith, taken, c.loop-count.invariant.few);
       unended = c.in_default.ensures.takes.failed.2 ∙ c.loop-count.invariant.unended;
     }
 
@@ -65,8 +65,10 @@ returns-then-count-eq0-clause-whole g c =
           let known = so_far.come.known script is in
           known.0 ∙ all_taken script (length c.loop-count.script.items)
           (c.in-Ok.ensures.takes.end c.if-count-eq0.true _ known.1);
-      taken = omega (arith, c.in-Ok.ensures.takes.taken, so_far.taken, so_far.few);
-      ended = c.in-Ok.ensures.takes.ended c.if-count-eq0.true;
+      taken = record {
+        taken = omega (arith, c.in-Ok.ensures.takes.taken, so_far.taken, so_far.few);
+        ended = c.in-Ok.ensures.takes.ended c.if-count-eq0.true;
+      };
       few = so_far.few;
       stays = c.in-Ok.ensures.cause.stays ∙ so_far.stays;
     }

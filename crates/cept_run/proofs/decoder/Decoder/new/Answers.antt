@@ -5,7 +5,7 @@ use Rattle.cept_run.proofs.decoder.Decoder.new.Goals as goal
 
 pub returns-clause-read : goal.returns-clause-read
 returns-clause-read c = λ plan same is start. HasRead-none plan _ start c.new.ensures
-    (Stands-none plan _ (ap (λ (r : ReporterState). r.asked) c.new-2.ensures ∙ sym same)
-    (ap (λ (r : ReporterState). r.easel) c.new-2.ensures ∙ is)
+    (Stands-none plan _ (ap (λ (r : ReporterState). r.options) c.new-2.ensures ∙ sym same)
+    (ap (λ (r : ReporterState). r.target) c.new-2.ensures ∙ is)
     (ap (λ (r : ReporterState). r.items) c.new-2.ensures) (ap (λ (r : ReporterState). r.refused) c.new-2.ensures)
     (ap (λ (r : ReporterState). r.painted) c.new-2.ensures))

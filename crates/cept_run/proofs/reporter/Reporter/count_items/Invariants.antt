@@ -10,7 +10,7 @@ use Rattle.cept_run.proofs.reporter.Reporter.count_items.Given as goal
 abbrev pub invariant-loop-item : goal.invariant-loop-item
 invariant-loop-item g l = record {
   counted : l.self.items ≤ l.fn.self.items + l.item-index;
-  asked : l.self.asked ≡ l.fn.self.asked;
+  options : l.self.options ≡ l.fn.self.options;
   reported : (glass : GlassState) (plan : Plan) (earlier : List Item) (start : Output)
       → HasReported plan l.fn.self earlier start (output_of (g.T.Sink.state l.fn.sink) glass)
       → HasReported plan l.self (earlier ++ take l.item-index l.items) start (output_of (g.T.Sink.state l.sink) glass);

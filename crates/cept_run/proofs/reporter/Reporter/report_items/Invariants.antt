@@ -1,5 +1,5 @@
 use Rattle.cept_run.specs.Reporting.{Plan}
-use Rattle.std.proofs.Common.{◌≤◌, ◌+◌, List, ◌++◌, take, drop}
+use Rattle.std.proofs.Common.{◌≡◌, ◌≤◌, ◌+◌, List, ◌++◌, take, drop}
 use Rattle.std.specs.List.{AllByRecursion}
 use Rattle.cept_codes.specs.Command.{IsValidSaid}
 use Rattle.cept_codes.specs.declared.item.Item.{Item}
@@ -11,6 +11,7 @@ use Rattle.cept_run.proofs.reporter.Reporter.report_items.Given as goal
 abbrev pub invariant-loop-item : goal.invariant-loop-item
 invariant-loop-item g l = record {
   counted : l.self.items ≤ l.fn.self.items + l.item-index;
+  options : l.self.options ≡ l.fn.self.options;
   valid : AllByRecursion (λ (i : Item). IsValidSaid i.what) (drop l.item-index l.items);
   reported : (plan : Plan) (earlier : List Item) (start : Output)
       → HasReported plan l.fn.self earlier start (output_of (g.T.Sink.state l.fn.sink) (g.G.Glass.state l.fn.glass))

@@ -1,0 +1,2 @@
+-- Definitions that private clauses alone cite: a reader of the contracts passes them over.
+pub mod Blank
