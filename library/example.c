@@ -9,9 +9,13 @@ static uint8_t page[1 << 24], text[1 << 16];
 
 int main(int count, char **words)
 {
-    FILE *file = count == 2 ? fopen(words[1], "rb") : NULL;
-    if (file == NULL) {
+    if (count != 2) {
         fputs("usage: example PAGE\n", stderr);
+        return EXIT_FAILURE;
+    }
+    FILE *file = fopen(words[1], "rb");
+    if (file == NULL) {
+        perror(words[1]);
         return EXIT_FAILURE;
     }
     size_t length = fread(page, 1, sizeof page, file);
